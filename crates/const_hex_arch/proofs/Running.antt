@@ -1,0 +1,70 @@
+-- Runs of steps over pieces, and the room that they leave.
+use Rattle.std.proofs.Common.{◌≡◌, ℕ, ◌+◌, ◌*◌, List, [], ◌∷◌, ◌++◌, length, refl, sym, ap, subst, ◌∙◌, arith, length-append}
+use Rattle.std.specs.Prelude.{Option, Some, None}
+use Rattle.std.specs.List.{FoldsTo, concat}
+use Rattle.std.proofs.lemmas.List.{append-nil}
+use Rattle.std.proofs.lemmas.List.Elements.{All-nil, All-cons, All-append}
+use Rattle.std.proofs.lemmas.List.Folds.{concat-append}
+use Rattle.const_hex_arch.specs.Runs.{HasRoom, less_room, IsKernelPiece, Writes}
+
+-- no bytes take no room
+less_room-zero : (room : Option ℕ) → less_room room 0 ≡ room
+less_room-zero (Some r) = ap Some (omega arith)
+less_room-zero None = refl
+
+-- bytes and then bytes
+pub less_room-add : (room : Option ℕ) (m n : ℕ) → less_room (less_room room m) n ≡ less_room room (m + n)
+less_room-add (Some r) m n = ap Some (omega arith)
+less_room-add None m n = refl
+
+-- what is left of the room after m bytes
+pub HasRoom-less : (room : Option ℕ) (m n : ℕ) → HasRoom room (m + n) → HasRoom (less_room room m) n
+HasRoom-less (Some r) m n h = omega arith
+HasRoom-less None m n h = omega arith
+
+module _ {S : Type 0} (step : S → List ℕ → S → Type 0) (room : S → Option ℕ) (shrinks : (s : S) (piece : List ℕ) (t : S) → step s piece t → room t ≡ less_room (room s) (length piece)) where
+  -- a run takes the room of its pieces together
+  pub run_shrinks : (s : S) (ps : List (List ℕ)) (t : S) → FoldsTo step s ps t → room t ≡ less_room (room s) (length (concat ps))
+  run_shrinks s [] t h = ap room (sym h) ∙ sym (less_room-zero (room s))
+  run_shrinks s (p ∷ ps) t (j, h, k) =
+      run_shrinks j ps t k ∙ ap (λ r. less_room r (length (concat ps))) (shrinks s p j h)
+      ∙ less_room-add (room s) (length p) (length (concat ps)) ∙ ap (less_room (room s)) (sym (length-append p (concat ps)))
+
+  -- two bytes leave room for the pairs that are left
+  pub room_after_two : (s : S) (a b : ℕ) (m t : S) (k : ℕ) → step s (a ∷ []) m → step m (b ∷ []) t → (n : ℕ) → n ≡ k + 1 → HasRoom (room s) (2 * n) → HasRoom (room t) (2 * k)
+  room_after_two s a b m t k h i n e r =
+      rw (shrinks m (b ∷ []) t i, shrinks s (a ∷ []) m h, less_room-add)
+      (HasRoom-less (room s) 2 (2 * k) (subst (λ m. HasRoom (room s) m) (let q : 2 * n ≡ 2 + 2 * k = omega arith in q) r))
+
+  -- what was written leaves room for the rest
+  pub Writes_room : (s : S) (text : List ℕ) (t : S) (n : ℕ) → Writes step s text t → HasRoom (room s) (length text + n) → HasRoom (room t) n
+  Writes_room s text t n w h =
+      rw (run_shrinks s w.pieces t w.run, w.whole) (HasRoom-less (room s) (length text) n h)
+
+module _ {S : Type 0} (step : S → List ℕ → S → Type 0) where
+  -- one run and then another
+  pub run_append : (s : S) (ps : List (List ℕ)) (m : S) (qs : List (List ℕ)) (t : S) → FoldsTo step s ps m → FoldsTo step m qs t → FoldsTo step s (ps ++ qs) t
+  run_append s [] m qs t h k = subst (λ (x : S). FoldsTo step x qs t) (sym h) k
+  run_append s (p ∷ ps) m qs t (j, h, r) k = (j, h, run_append j ps m qs t r k)
+
+  -- no write
+  pub Writes-none : (s : S) → Writes step s [] s
+  Writes-none s = record { pieces = []; run = refl; whole = refl; sizes = All-nil IsKernelPiece }
+
+  -- one piece more
+  pub Writes-more : (s : S) (text : List ℕ) (m : S) (piece : List ℕ) (t : S) → Writes step s text m → step m piece t → IsKernelPiece piece → Writes step s (text ++ piece) t
+  Writes-more s text m piece t h k i = record {
+    pieces = h.pieces ++ piece ∷ [];
+    run = run_append s h.pieces m (piece ∷ []) t h.run (t, k, refl);
+    whole = concat-append h.pieces (piece ∷ []) ∙ ap (λ x. x ++ (piece ++ [])) h.whole ∙ ap (λ x. text ++ x) (append-nil piece);
+    sizes = All-append IsKernelPiece h.pieces (piece ∷ []) h.sizes (All-cons IsKernelPiece piece [] i (All-nil IsKernelPiece));
+  }
+
+  -- one text and then another
+  pub Writes-append : (s : S) (first : List ℕ) (m : S) (second : List ℕ) (t : S) → Writes step s first m → Writes step m second t → Writes step s (first ++ second) t
+  Writes-append s first m second t h k = record {
+    pieces = h.pieces ++ k.pieces;
+    run = run_append s h.pieces m k.pieces t h.run k.run;
+    whole = concat-append h.pieces k.pieces ∙ ap (λ x. x ++ concat k.pieces) h.whole ∙ ap (λ x. first ++ x) k.whole;
+    sizes = All-append IsKernelPiece h.pieces k.pieces h.sizes k.sizes;
+  }

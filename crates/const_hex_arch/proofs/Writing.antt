@@ -1,0 +1,74 @@
+-- The text of bytes.
+use Rattle.std.proofs.Common.{◌≡◌, ℕ, zero, suc, ◌+◌, ◌*◌, ◌/◌, ◌%◌, ◌<◌, Bool, true, false, List, [], ◌∷◌, ◌++◌, length, take, get_or, slice_index, Some, refl, ap, ◌∙◌, sym, arith, length-append}
+use Rattle.std.specs.Str.{IsAscii}
+use Rattle.std.proofs.lemmas.Bool.Decides.{nat_tests}
+use Rattle.std.proofs.lemmas.List.{append_assoc, take_more}
+use Rattle.std.proofs.lemmas.Str.Ascii.{IsAscii-nil, IsAscii-cons}
+use Rattle.const_hex_arch.specs.Digits.{hex_value, hex_digit}
+use Rattle.const_hex_arch.specs.Texts.{hex_text, prefix_of, full_text, Spells}
+
+-- no bytes
+pub hex_text-nil : (up : Bool) → hex_text up [] ≡ []
+unfolding hex_text
+hex_text-nil up = refl
+
+-- the text of two lists
+pub hex_text-append : (up : Bool) (xs ys : List ℕ) → hex_text up (xs ++ ys) ≡ hex_text up xs ++ hex_text up ys
+unfolding hex_text
+hex_text-append up [] ys = refl
+hex_text-append up (x ∷ xs) ys = let e = hex_text-append up xs ys in rw e refl
+
+pub length-hex_text : (up : Bool) (bs : List ℕ) → length (hex_text up bs) ≡ 2 * length bs
+unfolding hex_text
+length-hex_text up [] = refl
+length-hex_text up (b ∷ bs) = let e = length-hex_text up bs in omega (arith, e)
+
+pub length-full_text : (prefix up : Bool) (bs : List ℕ) → length (full_text prefix up bs) ≡ length (prefix_of prefix) + 2 * length bs
+length-full_text prefix up bs = length-append (prefix_of prefix) (hex_text up bs) ∙ ap (λ n. length (prefix_of prefix) + n) (length-hex_text up bs)
+
+-- the text of one byte more
+pub hex_text-more : (up : Bool) (bs : List ℕ) (i : ℕ) → i < length bs
+    → hex_text up (take (i + 1) bs) ≡ hex_text up (take i bs) ++ hex_digit up (get_or bs i 0 / 16) ∷ [] ++ hex_digit up (get_or bs i 0 % 16) ∷ []
+unfolding hex_text
+hex_text-more up bs i h =
+    ap (hex_text up) (take_more bs i 0 h) ∙ hex_text-append up (take i bs) (get_or bs i 0 ∷ []) ∙ sym (append_assoc (hex_text up (take i bs)) _ _)
+
+-- ---- the text is ASCII
+
+hex_digit-ascii : (up : Bool) (v : ℕ) → v < 16 → hex_digit up v < 128
+hex_digit-ascii up v h = grind (arith, nat_tests)
+
+pub IsAscii-hex_text : (up : Bool) (bs : List ℕ) → ((k : ℕ) → slice_index bs k < 256) → IsAscii (hex_text up bs)
+unfolding hex_text
+IsAscii-hex_text up [] h = IsAscii-nil
+IsAscii-hex_text up (b ∷ bs) h =
+    let small : b < 256 = h 0 in
+    IsAscii-cons (hex_digit up (b / 16)) (hex_digit up (b % 16) ∷ hex_text up bs) (hex_digit-ascii up (b / 16) (omega arith))
+    (IsAscii-cons (hex_digit up (b % 16)) (hex_text up bs) (hex_digit-ascii up (b % 16) (omega arith)) (IsAscii-hex_text up bs (λ k. h (suc k))))
+
+pub IsAscii-full_text : (prefix up : Bool) (bs : List ℕ) → ((k : ℕ) → slice_index bs k < 256) → IsAscii (full_text prefix up bs)
+IsAscii-full_text true up bs h =
+    IsAscii-cons 48 (120 ∷ hex_text up bs) (omega arith) (IsAscii-cons 120 (hex_text up bs) (omega arith) (IsAscii-hex_text up bs h))
+IsAscii-full_text false up bs h = IsAscii-hex_text up bs h
+
+-- ---- the text spells the bytes
+
+-- a digit has its value
+hex_value-hex_digit : (up : Bool) (v : ℕ) → v < 16 → hex_value (hex_digit up v) ≡ Some v
+hex_value-hex_digit true v h = grind (arith, nat_tests)
+hex_value-hex_digit false v h = grind (arith, nat_tests)
+
+pub Spells-hex_text : (up : Bool) (bs : List ℕ) → ((k : ℕ) → slice_index bs k < 256) → Spells (hex_text up bs) bs
+unfolding hex_text
+Spells-hex_text up [] h = tt
+Spells-hex_text up (b ∷ bs) h =
+    let small : b < 256 = h 0 in (
+      record {
+        high = b / 16;
+        low = b % 16;
+        high_is = hex_value-hex_digit up (b / 16) (omega arith);
+        low_is = hex_value-hex_digit up (b % 16) (omega arith);
+        byte_is = omega arith;
+      },
+      Spells-hex_text up bs (λ k. h (suc k)),
+    )

@@ -1,0 +1,54 @@
+-- The text of bytes, and the bytes that a text spells.
+use Rattle.std.specs.Prelude.{◌≡◌, ℕ, ◌+◌, ◌*◌, ◌/◌, ◌%◌, ◌<◌, ◌≤◌, Bool, if◌then◌else◌, List, [], ◌∷◌, ◌++◌, length, take, drop, slice_index, Some, IsNone}
+use Rattle.std.specs.List.{All}
+use Rattle.const_hex_arch.specs.Digits.{hex_value, hex_digit, IsDigit}
+
+-- two digits for each byte, in order: the high four bits, and then the low four
+unfoldable pub hex_text : Bool → List ℕ → List ℕ
+hex_text up [] = []
+hex_text up (b ∷ bs) = hex_digit up (b / 16) ∷ hex_digit up (b % 16) ∷ hex_text up bs
+
+-- `0x`, or nothing
+abbrev pub prefix_of : Bool → List ℕ
+prefix_of prefix = if prefix then 48 ∷ 120 ∷ [] else []
+
+-- the text, with `0x` in front where a prefix is wanted
+abbrev pub full_text : Bool → Bool → List ℕ → List ℕ
+full_text prefix up bs = prefix_of prefix ++ hex_text up bs
+
+-- two digits spell one byte: 16 times the first value, and the second
+pub record IsPair (c d b : ℕ) : Type 0 where
+  pub high : ℕ
+  pub low : ℕ
+  pub high_is : hex_value c ≡ Some high
+  pub low_is : hex_value d ≡ Some low
+  pub byte_is : b ≡ 16 * high + low
+
+-- the text is two digits for each of the bytes, in order
+abbrev pub Spells : List ℕ → List ℕ → Type 0
+Spells [] [] = Unit {0}
+Spells [] (b ∷ bs) = ⊥
+Spells (c ∷ []) bs = ⊥
+Spells (c ∷ d ∷ u) [] = ⊥
+Spells (c ∷ d ∷ u) (b ∷ bs) = IsPair c d b × Spells u bs
+
+-- every byte is a digit
+abbrev pub AllDigits : List ℕ → Type 0
+AllDigits u = All IsDigit u
+
+-- the first byte that is no digit stands at p
+pub record FirstBad (u : List ℕ) (p : ℕ) : Type 0 where
+  pub within : p < length u
+  pub before : AllDigits (take p u)
+  pub here : IsNone (hex_value (slice_index u p))
+
+-- what a refused text u leaves of an output: a front of it, no longer than the pairs before the
+-- first bad byte, holds the bytes that are spelled there, and the rest is as before
+pub record Partial (old u new : List ℕ) : Type 0 where
+  pub bad : ℕ
+  pub done : ℕ
+  pub first_bad : FirstBad u bad
+  pub not_past : done ≤ bad / 2
+  pub same_length : length new ≡ length old
+  pub front : Spells (take (2 * done) u) (take done new)
+  pub rest : drop done new ≡ drop done old

@@ -1,0 +1,18 @@
+//! The lower half of a hexadecimal codec: tables, outputs and kernels.
+//!
+//! A kernel turns bytes into digits and digits into bytes, and an output takes the digits. The
+//! words of their contracts are defined in `specs/`: digits and values in `Digits.antt`, texts and
+//! what they spell in `Texts.antt`, pieces that are written in `Runs.antt`.
+#![tactic(auto)]
+
+pub mod arch;
+pub mod output;
+pub mod tables;
+
+pub use crate::arch::plain::Plain;
+pub use crate::arch::{FixedKernel, Kernel, encode_full};
+pub use crate::output::Output;
+pub use crate::output::slice::SliceOutput;
+pub use crate::tables::{
+    HEX_CHARS_LOWER, HEX_CHARS_UPPER, HEX_DECODE_LUT, NIL, digit_at, value_at,
+};

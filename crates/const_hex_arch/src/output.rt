@@ -1,0 +1,42 @@
+//! What text is written to.
+
+ghost use Rattle.std.specs.Prelude.{◌≡◌, ℕ, ◌+◌, ◌<◌, ◌≤◌, List, [], ◌∷◌, length, Option};
+ghost use Rattle.std.specs.Str.{IsAscii};
+ghost use Rattle.const_hex_arch.specs.Runs.{HasRoom, less_room};
+
+pub mod slice;
+
+/// What text is written to, a piece at a time.
+///
+/// Each type says by its `step` what a write does. A caller writes ASCII alone, and no more than
+/// [`remaining`](Output::remaining) says.
+pub trait Output {
+    /// What a write of a piece does: the state before, the piece, and the state after.
+    ghost step: { Self → List ℕ → Self → Type 0 };
+
+    /// How many bytes it still takes, or `None` where there is no limit.
+    ghost room: { Self → Option ℕ };
+
+    /// How many bytes it still takes, or `None` where there is no limit.
+    fn remaining(&self) -> Option<usize>
+        ensures { result ≡ room self.now };
+
+    /// Writes a piece of ASCII text that fits.
+    fn write(&mut self, bytes: &[u8])
+        requires ascii { IsAscii bytes.now }
+        requires fits { HasRoom (room self.old) (length bytes.now) }
+        ensures { step self.old bytes.now self.new };
+
+    /// Writes a piece of one byte.
+    #[inline(always)]
+    fn write_byte(&mut self, byte: u8)
+        requires ascii { byte < 128 }
+        requires fits { HasRoom (room self.old) 1 }
+        ensures { step self.old (byte ∷ []) self.new }
+    {
+        self.write(&[byte])
+    }
+
+    /// The room goes down by what is written.
+    ghost shrinks: { (s : Self) (piece : List ℕ) (t : Self) → step s piece t → room t ≡ less_room (room s) (length piece) };
+}

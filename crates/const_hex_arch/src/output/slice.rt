@@ -1,0 +1,62 @@
+//! An output into a slice.
+
+ghost use Rattle.std.specs.Prelude.{◌≡◌, ℕ, ◌+◌, ◌-◌, ◌<◌, ◌≤◌, List, [], ◌∷◌, ◌++◌, length, take, drop, Some};
+ghost use Rattle.std.specs.Str.{IsAscii};
+ghost use Rattle.const_hex_arch.specs.SliceOutputs.{SliceStep, slice_bytes, slice_written, slice_name};
+
+use crate::output::Output;
+
+/// Writes into a slice, from its start on.
+///
+/// A write puts the piece behind what was written, and leaves the rest of the slice as it was.
+///
+/// ```rust
+/// let mut text = [b'.'; 4];
+/// let mut output = SliceOutput::new(&mut text);
+/// output.write(b"abc");
+/// assert_eq!(rt; output.remaining(), Some(1));
+/// ```
+#[derive(Drop)]
+pub struct SliceOutput<'a> {
+    slice: &'a mut [u8],
+    count: usize,
+}
+
+impl<'a> SliceOutput<'a> {
+    /// An output into that slice, of which nothing is written yet.
+    #[inline(always)]
+    pub fn new(slice: &'a mut [u8]) -> SliceOutput<'a>
+        ensures same_slice { slice_name result ≡ slice.entry.ghost_name }
+        ensures bytes { slice_bytes result ≡ slice.old }
+        ensures written { slice_written result ≡ 0 }
+    {
+        SliceOutput { slice, count: 0 }
+    }
+}
+
+impl Output for SliceOutput<'_> {
+    ghost step = { SliceStep };
+
+    ghost room = { λ s. Some (length (slice_bytes s) - slice_written s) };
+
+    /// The bytes of the slice that are not written yet.
+    #[inline(always)]
+    fn remaining(&self) -> Option<usize> {
+        Some(self.slice.len().saturating_sub(self.count))
+    }
+
+    #[inline(always)]
+    fn write(&mut self, bytes: &[u8]) {
+        if bytes.is_empty() {
+            return;
+        }
+        let end = self.count + bytes.len();
+        let slice = &mut *self.slice;
+        slice[self.count..end].copy_from_slice(bytes);
+        self.count = end;
+    }
+
+    ghost use Rattle.std.proofs.Common.{arith};
+
+    ghost shrinks = { λ s piece t h. Prim.grind (arith) };
+}
