@@ -1,0 +1,4 @@
+pub mod Appending
+pub mod Lowering
+pub mod Reading
+pub mod RoundTrip
