@@ -6,6 +6,7 @@ ghost use Rattle.const_hex_arch.specs.Texts.{hex_text, prefix_of, full_text, All
 
 mod lanes;
 pub mod lanes16;
+pub mod lanes32;
 pub mod plain;
 
 use crate::arch::plain::Plain;
