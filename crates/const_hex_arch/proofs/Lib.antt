@@ -5,4 +5,5 @@ pub mod LaneValues
 pub mod Running
 pub mod SliceRuns
 pub mod Spelling
+pub mod Stepping
 pub mod Writing

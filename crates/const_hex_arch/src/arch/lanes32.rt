@@ -2,6 +2,7 @@
 
 ghost use Rattle.std.specs.Prelude.{◌≡◌, ◌↔◌, [], ◌∷◌, ◌++◌, length, map, IsTrue};
 ghost use Rattle.std.specs.List.{AllZip, concat};
+ghost use Rattle.std.specs.Str.{IsAscii};
 ghost use Rattle.const_hex_arch.specs.Digits.{hex_value};
 ghost use Rattle.const_hex_arch.specs.Lanes.{AllNibbles, low_digit, byte_pairs};
 ghost use Rattle.const_hex_arch.specs.Nibbles.{as_value, IsValueOf};
@@ -63,7 +64,8 @@ fn low_digits<const UPPER: bool>(v: u8x32) -> u8x32
 /// The text of a step, as one piece.
 #[inline(always)]
 pub(crate) fn encode_piece<const UPPER: bool>(v: u8x32) -> [u8; 64]
-    ensures { result ≡ hex_text UPPER v }
+    ensures text { result ≡ hex_text UPPER v }
+    ensures ascii { IsAscii result }
 {
     let text = encode_chunk::<UPPER>(v);
     let mut piece = [0; 64];
