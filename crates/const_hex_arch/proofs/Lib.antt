@@ -1,5 +1,9 @@
 pub mod Computed
+pub mod LaneBytes
+pub mod LaneText
+pub mod LaneValues
 pub mod Running
 pub mod SliceRuns
 pub mod Spelling
+pub mod Stepping
 pub mod Writing
