@@ -1,4 +1,9 @@
 pub mod Digits
+pub mod Gathering
+pub mod Laws
+pub mod Pieces
 pub mod Runs
+pub mod Sinks
 pub mod SliceOutputs
+pub mod Streams
 pub mod Texts
