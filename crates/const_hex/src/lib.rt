@@ -6,10 +6,12 @@
 //! which `specs/Lib.antt` passes on.
 #![tactic(auto)]
 
+mod buffer;
 mod codec;
 pub mod error;
 mod fill;
 
+pub use crate::buffer::{Buffer, const_encode};
 pub use crate::codec::checks::{check, check_raw, check_with, const_check, const_check_raw};
 pub use crate::codec::decoders::{
     const_decode_to_array, decode, decode_to_array, decode_to_slice, decode_to_slice_with,
