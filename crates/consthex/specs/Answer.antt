@@ -1,8 +1,8 @@
 -- What the program answers to an input.
-use Rattle.std.specs.Prelude.{◌≡◌, ℕ, ◌<◌, ◌≤◌, true, false, List, [], ◌∷◌, ◌++◌, length, Result, Ok, Err, codes}
+use Rattle.std.specs.Prelude.{◌≡◌, ⊤, ℕ, ◌<◌, ◌≤◌, true, false, List, [], ◌∷◌, ◌++◌, length, Result, Ok, Err, codes}
 use Rattle.std.specs.Io.BufRead.{strip_last}
 use Rattle.const_hex.specs.Texts.{full_text}
-use Rattle.const_hex.specs.Answers.{Reads, Checks}
+use Rattle.const_hex.specs.Answers.{IsEven, Reads, Checks}
 use Rattle.const_hex.specs.declared.error.FromHexError.{FromHexError}
 use Rattle.consthex.specs.declared.mode.Mode.{Mode}
 use Rattle.consthex.specs.declared.mode.Mode.TheVariants.{Encode, EncodeUpper, EncodePrefixed, EncodeUpperPrefixed, Decode, Check}
@@ -46,3 +46,13 @@ Answer m x (Err TooLong) = limit < length x
 Answer m x (Err ReadFailed) = ⊥
 Answer m x (Err WriteFailed) = ⊥
 Answer m x (Err NoMemory) = ⊥
+
+-- the answer of the mode to the input x takes memory: of a text, only once it is not refused
+-- without it
+abbrev pub TakesMemory : Mode → List ℕ → Type 0
+TakesMemory Encode x = ⊤
+TakesMemory EncodeUpper x = ⊤
+TakesMemory EncodePrefixed x = ⊤
+TakesMemory EncodeUpperPrefixed x = ⊤
+TakesMemory Decode x = IsEven (length (without_newline x))
+TakesMemory Check x = Checks (without_newline x) (Ok tt)

@@ -2,7 +2,7 @@
 
 ghost use Rattle.std.specs.Prelude.{◌≡◌, ◌≢◌, ◌≤◌, ◌<◌, ◌++◌, ◌*◌, ◌+◌, ◌↔◌, length, IfOk, IfErr, Ok, Err};
 ghost use Rattle.const_hex.specs.Texts.{hex_text, full_text};
-ghost use Rattle.consthex.specs.Answer.{Answer, without_newline, newline, limit};
+ghost use Rattle.consthex.specs.Answer.{Answer, TakesMemory, without_newline, newline, limit};
 ghost use Rattle.consthex.specs.declared.error.RunError.TheVariants.{TooLong, NoMemory};
 
 use crate::error::RunError;
@@ -26,6 +26,7 @@ pub fn answer(alloc: Global, mode: Mode, input: &[u8]) -> Result<Vec<u8>, RunErr
     ensures ok { IfOk result (λ v. Answer mode input.now (Ok v.items)) }
     ensures err { IfErr result (λ e. e ≢ NoMemory → Answer mode input.now (Err e)) }
     ensures too_long { (result ≡ Err TooLong) ↔ (limit < length input.now) }
+    ensures no_memory { result ≡ Err NoMemory → TakesMemory mode input.now }
 {
     if input.len() > LIMIT {
         return Err(RunError::TooLong);

@@ -1,9 +1,11 @@
 //! A whole run over any reader and writer.
 
-ghost use Rattle.std.specs.Prelude.{◌≡◌, ◌≢◌, ◌≤◌, ◌<◌, ◌+◌, ℕ, List, length, take, vec_len, OnOk, OnErr, IfOk, IfErr, MatchResult, Ok, Err};
-ghost use Rattle.std.specs.Io.KnownBytes.{Appends, Consumes, IsAtEnd, Keeps};
-ghost use Rattle.consthex.specs.Answer.{Answer, limit};
-ghost use Rattle.consthex.specs.Outcome.{WasRead, ReadRefuses, WriteRefuses, Outcome};
+ghost use Rattle.std.specs.Prelude.{◌≡◌, ◌≢◌, ◌≤◌, ◌<◌, ◌+◌, List, ℕ, take, vec_len, OnOk, OnErr, IfOk, Ok, Err};
+ghost use Rattle.std.specs.Io.KnownBytes.{Appends, Keeps};
+ghost use Rattle.const_hex.specs.declared.error.FromHexError.{FromHexError};
+ghost use Rattle.consthex.specs.Answer.{limit};
+ghost use Rattle.consthex.specs.Outcome.{ReadsAll, Answers, ReadsTooMuch, WritesBeginning};
+ghost use Rattle.consthex.specs.declared.error.RunError.TheVariants.{Text, WriteFailed, TooLong};
 
 use crate::answer::{LIMIT, answer};
 use crate::error::RunError;
@@ -31,8 +33,21 @@ pub fn run<R: Read, W: Write>(
     input: &mut R,
     output: &mut W,
 ) -> Result<(), RunError>
-    ensures { Outcome mode (R.remaining input.old) (R.remaining input.new)
-        (W.contents output.old) (W.contents output.new) result }
+    // All that the reader had was read, and the answer to it was written.
+    ensures ok { OnOk result ((bs : List ℕ)
+        × Answers mode (R.remaining input.old) (R.remaining input.new) (Ok bs)
+        × Appends (W.contents output.old) (W.contents output.new) bs) }
+    // All that the reader had was read, and the answer to it is this refusal.
+    ensures text { (e : FromHexError) → result ≡ Err (Text e)
+        → Answers mode (R.remaining input.old) (R.remaining input.new) (Err (Text e)) }
+    ensures too_long { result ≡ Err TooLong
+        → ReadsTooMuch (R.remaining input.old) (R.remaining input.new) }
+    // All that the reader had was read, and a beginning of the answer to it was written.
+    ensures write_failed { result ≡ Err WriteFailed → (bs : List ℕ)
+        × Answers mode (R.remaining input.old) (R.remaining input.new) (Ok bs)
+        × WritesBeginning (W.contents output.old) (W.contents output.new) bs }
+    ensures nothing_written { OnErr result (result ≢ Err WriteFailed
+        → Keeps (W.contents output.old) (W.contents output.new)) }
 {
     let bytes = read_all(alloc, input)?;
     let answered = answer(alloc, mode, &bytes)?;
@@ -41,9 +56,12 @@ pub fn run<R: Read, W: Write>(
 
 /// All that the reader has.
 fn read_all<R: Read>(alloc: Global, input: &mut R) -> Result<Vec<u8>, RunError>
-    ensures { MatchResult result
-        (λ v. WasRead (R.remaining input.old) (R.remaining input.new) v.items)
-        (λ e. ReadRefuses (R.remaining input.old) (R.remaining input.new) e) }
+    ensures ok { IfOk result
+        (λ v. ReadsAll (R.remaining input.old) (R.remaining input.new) v.items) }
+    ensures too_long { result ≡ Err TooLong
+        → ReadsTooMuch (R.remaining input.old) (R.remaining input.new) }
+    ensures not_text { (e : FromHexError) → result ≢ Err (Text e) }
+    ensures not_written { result ≢ Err WriteFailed }
 {
     let mut bytes: Vec<u8> = Vec::new(alloc);
     let mut count = 0;
@@ -79,9 +97,10 @@ fn make_room(bytes: &mut Vec<u8>, count: usize) -> Result<(), AllocError>
 
 /// Writes all the bytes, and flushes.
 fn write_all<W: Write>(bytes: &[u8], output: &mut W) -> Result<(), RunError>
-    ensures { MatchResult result
-        (λ _. Appends (W.contents output.old) (W.contents output.new) bytes.now)
-        (λ e. WriteRefuses (W.contents output.old) (W.contents output.new) bytes.now e) }
+    ensures ok { OnOk result (Appends (W.contents output.old) (W.contents output.new) bytes.now) }
+    ensures err { OnErr result (result ≡ Err WriteFailed) }
+    ensures begun { OnErr result
+        (WritesBeginning (W.contents output.old) (W.contents output.new) bytes.now) }
 {
     let mut done = 0;
     'writes: while done < bytes.len() {
