@@ -3,3 +3,4 @@ pub mod Buffering
 pub mod Lowering
 pub mod Reading
 pub mod RoundTrip
+pub mod Stepping

@@ -6,6 +6,7 @@ use Rattle.const_hex_arch.specs.Texts.{Spells, AllDigits, FirstBad}
 use Rattle.const_hex_arch.proofs.Spelling.{Spells-same, Spells-digits, Spells-some, FirstBad-same, digits_no_bad, digits_or_bad}
 use Rattle.const_hex.specs.Bodies.{body_of, NamesFirstBad}
 use Rattle.const_hex.specs.Answers.{Reads, ReadsSized, Checks, ChecksBody, IsEven, IsOdd}
+use Rattle.const_hex.specs.TypeLaws.{body-even}
 use Rattle.const_hex.specs.declared.error.FromHexError.{FromHexError}
 use Rattle.const_hex.specs.declared.error.FromHexError.TheVariants.{OddLength, InvalidStringLength, InvalidHexCharacter, NoMemory}
 
@@ -55,30 +56,6 @@ Reads-same t (Err NoMemory) s h k = absurd h
 -- no text is read as bytes and refused
 pub Reads-not_both : (t bs : List ℕ) (e : FromHexError) → Reads t (Ok bs) → Reads t (Err e) → ⊥
 Reads-not_both t bs e h k = let same = Reads-same t (Ok bs) (Err e) h k in cc same
-
--- the length of the body is even where that of the text is
-pub body-even : (t : List ℕ) → IsEven (length t) → IsEven (length (body_of t))
-body-even [] h = h
-body-even (c ∷ []) h = h
-body-even (c ∷ d ∷ u) h =
-    let P : List ℕ → Type 0 = λ v. IsEven (length v) in
-    elim ((c == 48) && (d == 120 || d == 88)) as (λ b. P (if b then u else c ∷ d ∷ u)) [
-      | true ↦ omega arith
-      | false ↦ h
-    ]
-
--- reading leaves an answer
-pub Reads-some : (t : List ℕ) → (r : Result (List ℕ) FromHexError) × Reads t r
-Reads-some t =
-    elim (cases_eq (length t % 2) 1) [
-      | inl odd ↦ (Err OddLength, odd)
-      | inr not_odd ↦
-          let even : IsEven (length t) = omega arith in
-          elim (digits_or_bad (body_of t)) [
-            | inl a ↦ let s = Spells-some (body_of t) (body-even t even) a in (Ok s.0, (even, s.1))
-            | inr b ↦ (Err (InvalidHexCharacter (slice_index (body_of t) b.0) b.0), (even, (b.1, refl)))
-          ]
-    ]
 
 -- reading as n bytes leaves one answer
 pub ReadsSized-same : (t : List ℕ) (n : ℕ) (r s : Result (List ℕ) FromHexError) → ReadsSized t n r → ReadsSized t n s → r ≡ s

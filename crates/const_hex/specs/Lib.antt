@@ -3,4 +3,8 @@ pub use Rattle.const_hex_arch.specs.Texts
 pub mod Answers
 pub mod Bodies
 pub mod Buffers
+pub mod Chars
+pub mod Elements
 pub mod Messages
+pub mod TypeLaws
+pub mod Types

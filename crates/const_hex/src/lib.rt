@@ -10,6 +10,7 @@ mod buffer;
 mod codec;
 pub mod error;
 mod fill;
+pub mod traits;
 
 pub use crate::buffer::{Buffer, const_encode};
 pub use crate::codec::checks::{check, check_raw, check_with, const_check, const_check_raw};
@@ -22,6 +23,7 @@ pub use crate::codec::encoders::{
     encode_upper_prefixed, encode_with,
 };
 pub use crate::error::FromHexError;
+pub use crate::traits::{FromHex, ToHex, ToHexExt};
 pub use const_hex_arch::{
     FixedKernel, HEX_CHARS_LOWER, HEX_CHARS_UPPER, HEX_DECODE_LUT, Kernel, NIL, Output, Plain,
     SliceOutput, digit_at, encode_full, value_at,
