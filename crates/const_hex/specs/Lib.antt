@@ -1,5 +1,3 @@
-pub use Rattle.const_hex_arch.specs.Digits
-pub use Rattle.const_hex_arch.specs.Texts
 pub mod Answers
 pub mod Bodies
 pub mod Buffers
@@ -8,3 +6,14 @@ pub mod Elements
 pub mod Messages
 pub mod TypeLaws
 pub mod Types
+pub use Rattle.const_hex_arch.specs.Digits
+pub use Rattle.const_hex_arch.specs.Gathering
+pub use Rattle.const_hex_arch.specs.Lanes
+pub use Rattle.const_hex_arch.specs.Laws
+pub use Rattle.const_hex_arch.specs.Nibbles
+pub use Rattle.const_hex_arch.specs.Pieces
+pub use Rattle.const_hex_arch.specs.Runs
+pub use Rattle.const_hex_arch.specs.Sinks
+pub use Rattle.const_hex_arch.specs.SliceOutputs
+pub use Rattle.const_hex_arch.specs.Streams
+pub use Rattle.const_hex_arch.specs.Texts

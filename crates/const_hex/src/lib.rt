@@ -25,6 +25,7 @@ pub use crate::codec::encoders::{
 pub use crate::error::FromHexError;
 pub use crate::traits::{FromHex, ToHex, ToHexExt};
 pub use const_hex_arch::{
-    FixedKernel, HEX_CHARS_LOWER, HEX_CHARS_UPPER, HEX_DECODE_LUT, Kernel, NIL, Output, Plain,
-    SliceOutput, digit_at, encode_full, value_at,
+    BufferedHex, BufferedOutput, CheckFirst, FixedKernel, HEX_CHARS_LOWER, HEX_CHARS_UPPER,
+    HEX_DECODE_LUT, Kernel, Lanes16, Lanes32, NIL, Output, PieceSink, Plain, Sink, SinkError,
+    SinkOutput, SliceOutput, digit_at, encode_full, lanes16, lanes32, value_at,
 };

@@ -4,10 +4,7 @@ pub mod LaneBytes
 pub mod LaneText
 pub mod LaneValues
 pub mod Running
-pub mod Running
 pub mod SliceRuns
-pub mod SliceRuns
-pub mod Spelling
 pub mod Spelling
 pub mod Stepping
 pub mod Streaming
