@@ -17,7 +17,7 @@ use Rattle.const_hex_arch.proofs.Spelling.{IsPair-of, digits_append}
 -- ---- two values in a lane of twice the width
 
 abbrev pub merge : ℕ → ℕ
-merge pair = bit_or (pair * 4096 % 65536) pair / 256
+merge pair = pair * 4097 % 65536 / 256
 
 merge_at : (h l : ℕ) → h ≤ 15 → l ≤ 15 → merge (h + 256 * l) ≡ 16 * h + l
 merge_at h l p q = eqb→eq _ _ (every_below (λ l. eqb (merge (h + 256 * l)) (16 * h + l)) 16 (every_below (λ h. all_below (λ l. eqb (merge (h + 256 * l)) (16 * h + l)) 16) 16 tt h (omega arith)) l (omega arith))

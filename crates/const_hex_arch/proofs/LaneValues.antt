@@ -1,12 +1,10 @@
 -- The values of digits, in vectors of any number of lanes.
-use Rattle.std.proofs.Common.{◌≡◌, ℕ, zero, suc, ◌+◌, ◌-◌, ◌%◌, ◌^◌, ◌<◌, ◌≤◌, ◌↔◌, Bool, true, false, not, cond, eqb, ltb, T, ◌||◌, List, [], ◌∷◌, map, length, replicate, drop, get_or, bit_and, refl, sym, ap, subst, ◌∙◌, inl, inr, arith, w8, Fits, Option, Some, None, IsSome, IsTrue, eqb→eq, eqb-true, eq-eqb, le-ltb, lt-ltb}
+use Rattle.std.proofs.Common.{◌≡◌, ℕ, zero, suc, ◌+◌, ◌-◌, ◌%◌, ◌^◌, ◌<◌, ◌≤◌, ◌↔◌, Bool, true, false, not, cond, eqb, ltb, T, ◌||◌, List, [], ◌∷◌, map, length, replicate, drop, get_or, bit_and, bit_or, leb, leb→le, refl, sym, ap, subst, ◌∙◌, inl, inr, arith, w8, Fits, Option, Some, None, IsSome, IsTrue, eqb→eq, eqb-true, eq-eqb, le-ltb, lt-ltb}
 use Rattle.std.specs.List.{AllZip}
-use Rattle.std.proofs.lemmas.Bool.{cases_lt}
 use Rattle.std.proofs.lemmas.Bool.Decides.{nat_tests}
-use Rattle.std.proofs.lemmas.List.{length-map}
 use Rattle.std.proofs.lemmas.List.Elements.{All-nil, All-head, All-tail, All-cons}
-use Rattle.std.proofs.lemmas.Simd.{mask_l-mod, tops_compared, length-zip2, length-replicate}
-use lib.Lanes.{zip2, sel_l, mask_l, top, Each1}
+use Rattle.std.proofs.lemmas.Nat.{le_or_l, le_or_r}
+use lib.Lanes.{zip2, sel_l, top, fold_l, Each1}
 use Rattle.const_hex_arch.specs.Digits.{hex_value, IsDigit}
 use Rattle.const_hex_arch.specs.Texts.{AllDigits}
 use Rattle.const_hex_arch.specs.Lanes.{AllNibbles}
@@ -111,32 +109,31 @@ values_of_digits (b ∷ v) (n ∷ ns) z d =
 
 -- ---- the test of all lanes
 
-abbrev pub above_l : ℕ → List ℕ → ℕ
-above_l n xs = mask_l (map (top 7) (zip2 below_mask (replicate n 15) xs)) % 2 ^ 64
+-- a byte is a value where its high half is 0
+high_half-zero : (x : ℕ) → x ≤ 15 → bit_and x 240 ≡ 0
+high_half-zero x h = eqb→eq _ _ (every_below (λ x. eqb (bit_and x 240) 0) 16 tt x (omega arith))
 
-flags : (n : ℕ) (xs : List ℕ) → length xs ≡ n → n ≤ 64 → above_l n xs ≡ mask_l (zip2 ltb (replicate n 15) xs)
-flags n xs e h =
-    let r = replicate n 15 in
-    let long : length r ≡ n = length-replicate n 15 in
-    mask_l-mod _ 64 (omega (arith, length-map (zip2 below_mask r xs) (top 7), length-zip2 below_mask r xs (long ∙ sym e))) ∙ ap mask_l (tops_compared w8 ltb r xs)
+high_half-some : (x : ℕ) → x < 256 → bit_and x 240 ≡ 0 → x ≤ 15
+high_half-some x h e = leb→le _ _ (subst (λ a. T (ltb 0 a || leb x 15)) e (every_below (λ x. ltb 0 (bit_and x 240) || leb x 15) 256 tt x h))
 
-none_above : (xs : List ℕ) → (mask_l (zip2 ltb (replicate (length xs) 15) xs) ≡ 0) ↔ AllNibbles xs
-none_above [] = (λ _. tt, λ _. refl)
-none_above (x ∷ xs) =
-    let more = none_above xs in
-    elim (cases_lt 15 x) [
-      | inl l ↦ (rw (lt-ltb 15 x l) ((λ e. absurd (omega arith), λ a. absurd (omega (arith, a.0)))))
-      | inr g ↦ (rw (le-ltb 15 x g) ((λ e. (omega arith, more.0 (omega arith)), λ a. omega (arith, more.1 a.1))))
-    ]
+high_halves : (a : ℕ) (xs : List ℕ) → Each1 (Fits w8) xs → (fold_l bit_or a (zip2 bit_and xs (replicate (length xs) 240)) ≡ 0) ↔ ((a ≡ 0) × AllNibbles xs)
+high_halves a [] f = (λ e. (e, tt), λ h. h.0)
+high_halves a (x ∷ xs) f =
+    let high = bit_and x 240 in
+    let more = high_halves (bit_or a high) xs f.1 in (
+      λ e. (
+        let none = (more.0 e).0 in (omega (arith, none, le_or_l a high), (high_half-some x f.0.fits (omega (arith, none, le_or_r a high)), (more.0 e).1))
+      ),
+      λ h. (let none : high ≡ 0 = high_half-zero x h.1.0 in more.1 (rw (none, h.0) refl, h.1.1)),
+    )
 
-not_not : (b : Bool) → IsTrue (not (not b)) → b ≡ true
-not_not true t = refl
-not_not false t = t
-
-pub are_nibbles : (n : ℕ) (xs : List ℕ) → length xs ≡ n → n ≤ 64 → IsTrue (not (not (eqb (above_l n xs) 0))) ↔ AllNibbles xs
-are_nibbles n xs e h =
-    let same : above_l n xs ≡ mask_l (zip2 ltb (replicate (length xs) 15) xs) = flags n xs e h ∙ ap (λ n. mask_l (zip2 ltb (replicate n 15) xs)) (sym e) in
-    (λ t. (none_above xs).0 (sym same ∙ eqb-true _ _ (not_not _ t)), λ a. rw (eq-eqb _ _ (same ∙ (none_above xs).1 a)) refl)
+pub are_nibbles : (n : ℕ) (xs : List ℕ) → (length xs ≡ n) × Each1 (Fits w8) xs → IsTrue (eqb (fold_l bit_or 0 (zip2 bit_and xs (replicate n 240))) 0) ↔ AllNibbles xs
+are_nibbles n xs f =
+    let all = high_halves 0 xs f.1 in
+    let as_many = λ (n : ℕ). fold_l bit_or 0 (zip2 bit_and xs (replicate n 240)) in
+    let zero_is_zero : zero ≡ 0 = refl in
+    subst (λ n. IsTrue (eqb (as_many n) 0) ↔ AllNibbles xs) f.0
+    (λ t. (all.0 (eqb-true (as_many (length xs)) 0 t)).1, λ a. eq-eqb (as_many (length xs)) 0 (all.1 (zero_is_zero, a)))
 
 one_digit : (n x : ℕ) → as_value n ≡ hex_value x → (n ≤ 15) ↔ IsDigit x
 one_digit n x e = rw (← e) (λ h. grind (arith, nat_tests), λ s. grind (arith, nat_tests))

@@ -26,10 +26,9 @@ pub(crate) fn nibbles<const N: usize>(v: Simd<u8, N>) -> Simd<u8, N>
 /// Whether no lane is above 15.
 #[inline(always)]
 pub(crate) fn are_nibbles<const N: usize>(nibbles: Simd<u8, N>) -> bool
-    requires { N ≤ 64 }
     ensures { IsTrue result ↔ AllNibbles nibbles.entry }
 {
-    !nibbles.simd_gt(Simd::splat(15)).any()
+    (nibbles & Simd::splat(0xF0)).reduce_or() == 0
 }
 
 /// The value of each lane that is a digit.

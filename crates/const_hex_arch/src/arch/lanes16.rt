@@ -123,5 +123,5 @@ fn bytes_of(nibbles: u8x32) -> u8x16
     ensures { AllNibbles nibbles → result ≡ byte_pairs nibbles }
 {
     let pairs = u16x16::from_le_bytes(nibbles);
-    (((pairs << u16x16::splat(12)) | pairs) >> u16x16::splat(8)).cast()
+    ((pairs * u16x16::splat(4097)) >> u16x16::splat(8)).cast()
 }

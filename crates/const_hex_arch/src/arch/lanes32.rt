@@ -125,5 +125,5 @@ fn bytes_of(nibbles: u8x64) -> u8x32
     ensures { AllNibbles nibbles → result ≡ byte_pairs nibbles }
 {
     let pairs = u16x32::from_le_bytes(nibbles);
-    (((pairs << u16x32::splat(12)) | pairs) >> u16x32::splat(8)).cast()
+    ((pairs * u16x32::splat(4097)) >> u16x32::splat(8)).cast()
 }

@@ -1,4 +1,4 @@
-use Rattle.std.proofs.Common.{◌+◌, ◌*◌, length, arith, length-append}
+use Rattle.std.proofs.Common.{◌*◌, length}
 use Rattle.const_hex_arch.specs.Texts.{prefix_of}
 use Rattle.const_hex_arch.proofs.Running.{Writes-append, Writes_room}
 use Rattle.const_hex_arch.proofs.Writing.{length-full_text}

@@ -1,4 +1,3 @@
-use Rattle.std.proofs.Common.{ap, ◌∙◌, ◌++◌, take, drop}
 use Rattle.std.proofs.lemmas.List.{append-nil}
 use Rattle.const_hex_arch.proofs.LaneBytes.{in_two}
 use Rattle.const_hex_arch.proofs.arch.kernel16.two_vectors.Goals as goal

@@ -1,4 +1,4 @@
-use Rattle.std.proofs.Common.{◌≡◌, refl, ◌∙◌, replicate}
+use Rattle.std.proofs.Common.{refl, ◌∙◌, replicate}
 use Rattle.const_hex_arch.proofs.LaneText.{stored_piece, IsAscii-lanes}
 use Rattle.const_hex_arch.proofs.arch.lanes32.encode_piece.Goals as goal
 

@@ -1,4 +1,4 @@
-use Rattle.std.proofs.Common.{refl, sym, arith}
+use Rattle.std.proofs.Common.{refl, arith}
 use Rattle.const_hex_arch.proofs.Spelling.{false_is_true}
 use Rattle.const_hex_arch.proofs.Stepping.{decoded_step, refused_step, spells_rest, partial_rest}
 use Rattle.const_hex_arch.proofs.arch.steps.decode_checked.Goals as goal

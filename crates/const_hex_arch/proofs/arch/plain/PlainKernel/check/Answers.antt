@@ -1,4 +1,4 @@
-use Rattle.std.proofs.Common.{get_or, refl, sym, ◌∙◌, arith}
+use Rattle.std.proofs.Common.{get_or, refl, arith}
 use Rattle.std.proofs.lemmas.List.{take_all}
 use Rattle.std.proofs.lemmas.List.Elements.{All-more}
 use Rattle.const_hex_arch.specs.Digits.{IsDigit}
