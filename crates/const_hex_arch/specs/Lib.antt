@@ -1,6 +1,8 @@
 pub mod Digits
 pub mod Gathering
+pub mod Lanes
 pub mod Laws
+pub mod Nibbles
 pub mod Pieces
 pub mod Runs
 pub mod Sinks

@@ -11,8 +11,11 @@ pub mod sink;
 pub mod stream;
 pub mod tables;
 
+pub use crate::arch::check_first::CheckFirst;
+pub use crate::arch::kernel16::Lanes16;
+pub use crate::arch::kernel32::Lanes32;
 pub use crate::arch::plain::Plain;
-pub use crate::arch::{FixedKernel, Kernel, encode_full};
+pub use crate::arch::{FixedKernel, Kernel, encode_full, lanes16, lanes32};
 pub use crate::output::Output;
 pub use crate::output::buffered::BufferedOutput;
 pub use crate::output::slice::SliceOutput;

@@ -1,0 +1,115 @@
+-- Reading a text is a function: it has one answer, and never two.
+use Rattle.std.proofs.Common.{◌≡◌, ◌≢◌, ℕ, ◌+◌, ◌-◌, ◌*◌, ◌%◌, List, [], ◌∷◌, length, ◌==◌, ◌&&◌, ◌||◌, true, false, if◌then◌else◌, Result, Ok, Err, inl, inr, refl, sym, ap, ◌∙◌, arith, slice_index}
+use Rattle.std.specs.Prelude.{IsOk, ◌↔◌, MatchResult, IfErr}
+use Rattle.std.proofs.lemmas.Bool.{cases_eq}
+use Rattle.const_hex_arch.specs.Texts.{Spells, AllDigits, FirstBad}
+use Rattle.const_hex_arch.proofs.Spelling.{Spells-same, Spells-digits, Spells-some, FirstBad-same, digits_no_bad, digits_or_bad}
+use Rattle.const_hex.specs.Bodies.{body_of, NamesFirstBad}
+use Rattle.const_hex.specs.Answers.{Reads, ReadsSized, Checks, ChecksBody, IsEven, IsOdd}
+use Rattle.const_hex.specs.TypeLaws.{body-even}
+use Rattle.const_hex.specs.declared.error.FromHexError.{FromHexError}
+use Rattle.const_hex.specs.declared.error.FromHexError.TheVariants.{OddLength, InvalidStringLength, InvalidHexCharacter, NoMemory}
+
+-- no length is even and odd
+pub even_not_odd : (n : ℕ) → IsEven n → IsOdd n → ⊥
+even_not_odd n e o = omega (arith, e, o)
+
+-- no text spells bytes and has a bad byte
+pub Spells-no_bad : (u bs : List ℕ) (p : ℕ) → Spells u bs → FirstBad u p → ⊥
+Spells-no_bad u bs p s f = digits_no_bad u p (Spells-digits u bs s) f
+
+-- two refusals that name the first bad byte are the same
+pub NamesFirstBad-same : (u : List ℕ) (e f : FromHexError) → NamesFirstBad u e → NamesFirstBad u f → e ≡ f
+NamesFirstBad-same u OddLength f h k = absurd h
+NamesFirstBad-same u InvalidStringLength f h k = absurd h
+NamesFirstBad-same u NoMemory f h k = absurd h
+NamesFirstBad-same u (InvalidHexCharacter c i) OddLength h k = absurd k
+NamesFirstBad-same u (InvalidHexCharacter c i) InvalidStringLength h k = absurd k
+NamesFirstBad-same u (InvalidHexCharacter c i) NoMemory h k = absurd k
+NamesFirstBad-same u (InvalidHexCharacter c i) (InvalidHexCharacter d j) h k =
+    let e = FirstBad-same u i j h.0 k.0 in
+    let ec : c ≡ slice_index u i = h.1 in
+    let ed : d ≡ slice_index u j = k.1 in
+    cc (e, ec, ed)
+
+-- reading leaves one answer
+pub Reads-same : (t : List ℕ) (r s : Result (List ℕ) FromHexError) → Reads t r → Reads t s → r ≡ s
+Reads-same t (Ok a) (Ok b) h k = ap Ok (Spells-same (body_of t) a b h.1 k.1)
+Reads-same t (Ok a) (Err OddLength) h k = absurd (even_not_odd (length t) h.0 k)
+Reads-same t (Ok a) (Err InvalidStringLength) h k = absurd k
+Reads-same t (Ok a) (Err (InvalidHexCharacter c i)) h k = absurd (Spells-no_bad (body_of t) a i h.1 k.1.0)
+Reads-same t (Ok a) (Err NoMemory) h k = absurd k
+Reads-same t (Err OddLength) (Ok b) h k = absurd (even_not_odd (length t) k.0 h)
+Reads-same t (Err OddLength) (Err OddLength) h k = refl
+Reads-same t (Err OddLength) (Err InvalidStringLength) h k = absurd k
+Reads-same t (Err OddLength) (Err (InvalidHexCharacter c i)) h k = absurd (even_not_odd (length t) k.0 h)
+Reads-same t (Err OddLength) (Err NoMemory) h k = absurd k
+Reads-same t (Err InvalidStringLength) s h k = absurd h
+Reads-same t (Err (InvalidHexCharacter c i)) (Ok b) h k = absurd (Spells-no_bad (body_of t) b i k.1 h.1.0)
+Reads-same t (Err (InvalidHexCharacter c i)) (Err OddLength) h k = absurd (even_not_odd (length t) h.0 k)
+Reads-same t (Err (InvalidHexCharacter c i)) (Err InvalidStringLength) h k = absurd k
+Reads-same t (Err (InvalidHexCharacter c i)) (Err (InvalidHexCharacter d j)) h k =
+    ap Err (NamesFirstBad-same (body_of t) (InvalidHexCharacter c i) (InvalidHexCharacter d j) h.1 k.1)
+Reads-same t (Err (InvalidHexCharacter c i)) (Err NoMemory) h k = absurd k
+Reads-same t (Err NoMemory) s h k = absurd h
+
+-- no text is read as bytes and refused
+pub Reads-not_both : (t bs : List ℕ) (e : FromHexError) → Reads t (Ok bs) → Reads t (Err e) → ⊥
+Reads-not_both t bs e h k = let same = Reads-same t (Ok bs) (Err e) h k in cc same
+
+-- reading as n bytes leaves one answer
+pub ReadsSized-same : (t : List ℕ) (n : ℕ) (r s : Result (List ℕ) FromHexError) → ReadsSized t n r → ReadsSized t n s → r ≡ s
+ReadsSized-same t n (Ok a) (Ok b) h k = Reads-same t (Ok a) (Ok b) h.1 k.1
+ReadsSized-same t n (Ok a) (Err OddLength) h k = Reads-same t (Ok a) (Err OddLength) h.1 k
+ReadsSized-same t n (Ok a) (Err InvalidStringLength) h k = absurd (k.1 h.0)
+ReadsSized-same t n (Ok a) (Err (InvalidHexCharacter c i)) h k = Reads-same t (Ok a) (Err (InvalidHexCharacter c i)) h.1 k.1
+ReadsSized-same t n (Ok a) (Err NoMemory) h k = absurd k
+ReadsSized-same t n (Err OddLength) (Ok b) h k = Reads-same t (Err OddLength) (Ok b) h k.1
+ReadsSized-same t n (Err OddLength) (Err OddLength) h k = refl
+ReadsSized-same t n (Err OddLength) (Err InvalidStringLength) h k = absurd (even_not_odd (length t) k.0 h)
+ReadsSized-same t n (Err OddLength) (Err (InvalidHexCharacter c i)) h k = Reads-same t (Err OddLength) (Err (InvalidHexCharacter c i)) h k.1
+ReadsSized-same t n (Err OddLength) (Err NoMemory) h k = absurd k
+ReadsSized-same t n (Err InvalidStringLength) (Ok b) h k = absurd (h.1 k.0)
+ReadsSized-same t n (Err InvalidStringLength) (Err OddLength) h k = absurd (even_not_odd (length t) h.0 k)
+ReadsSized-same t n (Err InvalidStringLength) (Err InvalidStringLength) h k = refl
+ReadsSized-same t n (Err InvalidStringLength) (Err (InvalidHexCharacter c i)) h k = absurd (h.1 k.0)
+ReadsSized-same t n (Err InvalidStringLength) (Err NoMemory) h k = absurd k
+ReadsSized-same t n (Err (InvalidHexCharacter c i)) (Ok b) h k = Reads-same t (Err (InvalidHexCharacter c i)) (Ok b) h.1 k.1
+ReadsSized-same t n (Err (InvalidHexCharacter c i)) (Err OddLength) h k = Reads-same t (Err (InvalidHexCharacter c i)) (Err OddLength) h.1 k
+ReadsSized-same t n (Err (InvalidHexCharacter c i)) (Err InvalidStringLength) h k = absurd (k.1 h.0)
+ReadsSized-same t n (Err (InvalidHexCharacter c i)) (Err (InvalidHexCharacter d j)) h k =
+    Reads-same t (Err (InvalidHexCharacter c i)) (Err (InvalidHexCharacter d j)) h.1 k.1
+ReadsSized-same t n (Err (InvalidHexCharacter c i)) (Err NoMemory) h k = absurd k
+ReadsSized-same t n (Err NoMemory) s h k = absurd h
+
+-- ---- what the calls answer
+
+-- a refusal by the first bad byte is what reading answers
+pub Reads-refused : (t : List ℕ) (e : FromHexError) → IsEven (length t) → NamesFirstBad (body_of t) e → Reads t (Err e)
+Reads-refused t OddLength even h = absurd h
+Reads-refused t InvalidStringLength even h = absurd h
+Reads-refused t (InvalidHexCharacter c i) even h = (even, h)
+Reads-refused t NoMemory even h = absurd h
+
+pub ReadsSized-refused : (t : List ℕ) (n : ℕ) (e : FromHexError) → IsEven (length t) → length (body_of t) ≡ 2 * n → NamesFirstBad (body_of t) e → ReadsSized t n (Err e)
+ReadsSized-refused t n OddLength even len h = absurd h
+ReadsSized-refused t n InvalidStringLength even len h = absurd h
+ReadsSized-refused t n (InvalidHexCharacter c i) even len h = (len, (even, h))
+ReadsSized-refused t n NoMemory even len h = absurd h
+
+-- digits alone, and an even length, are read as bytes
+pub Reads-digits : (t : List ℕ) → IsEven (length t) → AllDigits (body_of t) → (bs : List ℕ) × Reads t (Ok bs)
+Reads-digits t even a = let s = Spells-some (body_of t) (body-even t even) a in (s.0, (even, s.1))
+
+-- a check is Ok exactly where reading gives bytes
+pub ChecksBody-accepts : (t : List ℕ) (r : Result Unit FromHexError) → ChecksBody t r → IsOk r ↔ ((bs : List ℕ) × Reads t (Ok bs))
+ChecksBody-accepts t (Ok u) h = (λ _. h, λ _. refl)
+ChecksBody-accepts t (Err e) h = (λ gone. absurd (cc gone), λ b. absurd (Reads-not_both t b.0 e b.1 h))
+
+pub Checks-accepts : (t : List ℕ) (r : Result Unit FromHexError) → Checks t r → IsOk r ↔ ((bs : List ℕ) × Reads t (Ok bs))
+Checks-accepts t (Ok u) h = (λ _. h, λ _. refl)
+Checks-accepts t (Err OddLength) h = (λ gone. absurd (cc gone), λ b. absurd (Reads-not_both t b.0 OddLength b.1 h))
+Checks-accepts t (Err InvalidStringLength) h = absurd h
+Checks-accepts t (Err (InvalidHexCharacter c i)) h =
+    (λ gone. absurd (cc gone), λ b. absurd (Reads-not_both t b.0 (InvalidHexCharacter c h.0) b.1 h.1))
+Checks-accepts t (Err NoMemory) h = absurd h

@@ -1,0 +1,48 @@
+-- Reading what was written.
+use Rattle.std.proofs.Common.{◌≡◌, ℕ, ◌*◌, ◌/◌, ◌%◌, ◌+◌, ◌<◌, ◌==◌, ◌&&◌, ◌||◌, Bool, true, false, List, [], ◌∷◌, length, Result, Ok, Err, refl, sym, arith}
+use Rattle.std.specs.Prelude.{MatchResult, IfOk, IfErr, ◌≢◌}
+use Rattle.std.proofs.lemmas.Bool.Decides.{nat_tests}
+use Rattle.const_hex_arch.specs.Digits.{hex_digit}
+use Rattle.const_hex_arch.specs.Texts.{hex_text, full_text, prefix_of}
+use Rattle.const_hex_arch.proofs.Writing.{Spells-hex_text, length-full_text}
+use Rattle.const_hex.specs.Bodies.{body_of}
+use Rattle.const_hex.specs.Answers.{Reads, IsEven, AreBytes}
+use Rattle.const_hex.specs.declared.error.FromHexError.{FromHexError}
+use Rattle.const_hex.specs.declared.error.FromHexError.TheVariants.{OddLength, InvalidStringLength, InvalidHexCharacter, NoMemory}
+use Rattle.const_hex.proofs.Reading.{Reads-same}
+
+-- the second byte of a text is no `x`
+no_prefix : (up : Bool) (c v : ℕ) → v < 16 → ((c == 48) && (hex_digit up v == 120 || hex_digit up v == 88)) ≡ false
+no_prefix true c v h = grind (arith, nat_tests)
+no_prefix false c v h = grind (arith, nat_tests)
+
+-- the body of a full text is its text
+pub body-full_text : (prefix up : Bool) (bs : List ℕ) → body_of (full_text prefix up bs) ≡ hex_text up bs
+unfolding hex_text
+body-full_text true up bs = refl
+body-full_text false up [] = refl
+body-full_text false up (b ∷ bs) = rw (no_prefix up (hex_digit up (b / 16)) (b % 16) (omega arith)) refl
+
+even-full_text : (prefix up : Bool) (bs : List ℕ) → IsEven (length (full_text prefix up bs))
+even-full_text true up bs = let l = length-full_text true up bs in omega (arith, l)
+even-full_text false up bs = let l = length-full_text false up bs in omega (arith, l)
+
+-- what was written reads as its bytes
+pub Reads-full_text : (prefix up : Bool) (bs : List ℕ) → AreBytes bs → Reads (full_text prefix up bs) (Ok bs)
+Reads-full_text prefix up bs h = (even-full_text prefix up bs, rw (body-full_text prefix up bs) (Spells-hex_text up bs h))
+
+-- so a decoder that answers as reading does, or for memory, gives these bytes
+pub round_trip : {V : Type 0} (items : V → List ℕ) (t : List ℕ) (r : Result V FromHexError)
+    → IfOk r (λ v. Reads t (Ok (items v))) → IfErr r (λ e. e ≢ NoMemory → Reads t (Err e))
+    → (prefix up : Bool) (bs : List ℕ) → AreBytes bs → t ≡ full_text prefix up bs
+    → MatchResult r (λ v. items v ≡ bs) (λ e. e ≡ NoMemory)
+round_trip {V} items t r ok err prefix up bs h e =
+    let read : Reads t (Ok bs) = rw e (Reads-full_text prefix up bs h) in go r ok err read
+  where
+    go : (r' : Result V FromHexError) → IfOk r' (λ v. Reads t (Ok (items v))) → IfErr r' (λ e. e ≢ NoMemory → Reads t (Err e)) → Reads t (Ok bs)
+        → MatchResult r' (λ v. items v ≡ bs) (λ f. f ≡ NoMemory)
+    go (Ok v) ok err read = let same = Reads-same t (Ok (items v)) (Ok bs) ok read in cc same
+    go (Err OddLength) ok err read = let same = Reads-same t (Ok bs) (Err OddLength) read (err (λ e. cc e)) in cc same
+    go (Err InvalidStringLength) ok err read = absurd (err (λ e. cc e))
+    go (Err (InvalidHexCharacter c i)) ok err read = let same = Reads-same t (Ok bs) (Err (InvalidHexCharacter c i)) read (err (λ e. cc e)) in cc same
+    go (Err NoMemory) ok err read = refl

@@ -1,0 +1,56 @@
+-- The answers that a text has.
+use Rattle.std.specs.Prelude.{◌≡◌, ℕ, ◌+◌, ◌-◌, ◌*◌, ◌%◌, ◌≢◌, ◌<◌, List, length, slice_index, Result, Ok, Err}
+use Rattle.const_hex_arch.specs.Texts.{Spells, FirstBad, Partial}
+use Rattle.const_hex.specs.Bodies.{body_of, NamesFirstBad}
+use Rattle.const_hex.specs.declared.error.FromHexError.{FromHexError}
+use Rattle.const_hex.specs.declared.error.FromHexError.TheVariants.{OddLength, InvalidStringLength, InvalidHexCharacter, NoMemory}
+
+abbrev pub IsOdd : ℕ → Type 0
+IsOdd n = n % 2 ≡ 1
+
+abbrev pub IsEven : ℕ → Type 0
+IsEven n = n % 2 ≡ 0
+
+-- every element is a byte
+abbrev pub AreBytes : List ℕ → Type 0
+AreBytes bs = (k : ℕ) → slice_index bs k < 256
+
+-- the answer of reading the text t: the bytes that its body spells; else oddness of the whole text
+-- comes first, and then the first bad byte, whose place counts from the start of the body
+abbrev pub Reads : List ℕ → Result (List ℕ) FromHexError → Type 0
+Reads t (Ok bs) = IsEven (length t) × Spells (body_of t) bs
+Reads t (Err OddLength) = IsOdd (length t)
+Reads t (Err InvalidStringLength) = ⊥
+Reads t (Err (InvalidHexCharacter c i)) = IsEven (length t) × NamesFirstBad (body_of t) (InvalidHexCharacter c i)
+Reads t (Err NoMemory) = ⊥
+
+-- the answer of reading t as n bytes: a body of another length is refused after oddness, and
+-- before any of its bytes is looked at
+abbrev pub ReadsSized : List ℕ → ℕ → Result (List ℕ) FromHexError → Type 0
+ReadsSized t n (Ok bs) = (length (body_of t) ≡ 2 * n) × Reads t (Ok bs)
+ReadsSized t n (Err OddLength) = IsOdd (length t)
+ReadsSized t n (Err InvalidStringLength) = IsEven (length t) × (length (body_of t) ≢ 2 * n)
+ReadsSized t n (Err (InvalidHexCharacter c i)) =
+    (length (body_of t) ≡ 2 * n) × Reads t (Err (InvalidHexCharacter c i))
+ReadsSized t n (Err NoMemory) = ⊥
+
+-- the answer of checking t, where the place of the first bad byte counts from the start of the body
+abbrev pub ChecksBody : List ℕ → Result Unit FromHexError → Type 0
+ChecksBody t (Ok u) = (bs : List ℕ) × Reads t (Ok bs)
+ChecksBody t (Err e) = Reads t (Err e)
+
+-- the answer of checking t, where that place counts from the start of the whole text
+abbrev pub Checks : List ℕ → Result Unit FromHexError → Type 0
+Checks t (Ok u) = (bs : List ℕ) × Reads t (Ok bs)
+Checks t (Err OddLength) = IsOdd (length t)
+Checks t (Err InvalidStringLength) = ⊥
+Checks t (Err (InvalidHexCharacter c i)) =
+    (p : ℕ) × Reads t (Err (InvalidHexCharacter c p)) × (i ≡ p + (length t - length (body_of t)))
+Checks t (Err NoMemory) = ⊥
+
+-- what a refused reading of t leaves of an output that held old
+abbrev pub Leaves : List ℕ → List ℕ → List ℕ → FromHexError → Type 0
+Leaves t old new OddLength = new ≡ old
+Leaves t old new InvalidStringLength = new ≡ old
+Leaves t old new (InvalidHexCharacter c i) = Partial old (body_of t) new
+Leaves t old new NoMemory = ⊥

@@ -1,0 +1,17 @@
+-- The characters that an iterator over the text of bytes has left.
+use Rattle.std.specs.Prelude.{ℕ, Bool, List, ◌∷◌, Option, Some, None}
+use Rattle.const_hex_arch.specs.Texts.{hex_text}
+use Rattle.const_hex.specs.declared.traits.chars.BytesToHexChars.{BytesToHexChars}
+
+-- the second character of a byte that was begun, if there is one, and then the others
+abbrev pub with_low : Option ℕ → List ℕ → List ℕ
+with_low None xs = xs
+with_low (Some c) xs = c ∷ xs
+
+-- the characters still to come
+abbrev pub chars_left : {upper : ℕ} → Bool → BytesToHexChars upper → List ℕ
+chars_left up s = with_low s.low (hex_text up s.bytes.now)
+
+-- the bounds on a count of items that is known
+abbrev pub exactly : ℕ → ℕ × Option ℕ
+exactly n = (n, Some n)

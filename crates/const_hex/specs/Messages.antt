@@ -1,0 +1,10 @@
+-- What a refusal prints, where its contract says so.
+use Rattle.std.specs.Prelude.{ℕ, List, Option, Some, None, codes}
+use Rattle.const_hex.specs.declared.error.FromHexError.{FromHexError}
+use Rattle.const_hex.specs.declared.error.FromHexError.TheVariants.{OddLength, InvalidStringLength, InvalidHexCharacter, NoMemory}
+
+abbrev pub message_of : FromHexError → Option (List ℕ)
+message_of OddLength = Some (codes "odd number of digits")
+message_of InvalidStringLength = Some (codes "invalid string length")
+message_of (InvalidHexCharacter c i) = None
+message_of NoMemory = Some (codes "out of memory")

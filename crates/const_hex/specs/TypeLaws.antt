@@ -1,0 +1,103 @@
+-- Lemmas that the laws of types that are read rest on.
+use Rattle.std.specs.Prelude.{◌≡◌, ℕ, suc, ◌-◌, ◌*◌, ◌%◌, ◌<◌, ◌≢◌, ◌==◌, nat_lt, ◌&&◌, ◌||◌, if◌then◌else◌, Bool, true, false, List, [], ◌∷◌, length, map, ℤ, pos, negsuc, slice_index, Result, Ok, Err, refl}
+use Rattle.std.proofs.Common.{inl, inr, sym, ap, subst, ◌∙◌, arith}
+use Rattle.std.proofs.lemmas.Bool.{cases_eq}
+use Rattle.const_hex_arch.proofs.Spelling.{Spells-length, Spells-bytes, Spells-some, digits_or_bad}
+use Rattle.const_hex.specs.Bodies.{body_of}
+use Rattle.const_hex.specs.Answers.{Reads, ReadsSized, AreBytes, IsEven}
+use Rattle.const_hex.specs.Elements.{signed_of, byte_of}
+use Rattle.const_hex.specs.Types.{is_no_memory, AnyCount, IsCount, Refuses, IsFaithful, ReadsOwned, ReadsSigned, ReadsThrough}
+use Rattle.const_hex.specs.declared.error.FromHexError.{FromHexError}
+use Rattle.const_hex.specs.declared.error.FromHexError.TheVariants.{OddLength, InvalidStringLength, InvalidHexCharacter, NoMemory}
+
+-- ---- reading leaves an answer
+
+-- the length of the body is even where that of the text is
+pub body-even : (t : List ℕ) → IsEven (length t) → IsEven (length (body_of t))
+body-even [] h = h
+body-even (c ∷ []) h = h
+body-even (c ∷ d ∷ u) h =
+    let P : List ℕ → Type 0 = λ v. IsEven (length v) in
+    elim ((c == 48) && (d == 120 || d == 88)) as (λ b. P (if b then u else c ∷ d ∷ u)) [
+      | true ↦ omega arith
+      | false ↦ h
+    ]
+
+-- every text has an answer
+Reads-some : (t : List ℕ) → (r : Result (List ℕ) FromHexError) × Reads t r
+Reads-some t =
+    elim (cases_eq (length t % 2) 1) [
+      | inl odd ↦ (Err OddLength, odd)
+      | inr not_odd ↦
+          let even : IsEven (length t) = omega arith in
+          elim (digits_or_bad (body_of t)) [
+            | inl a ↦ let s = Spells-some (body_of t) (body-even t even) a in (Ok s.0, (even, s.1))
+            | inr b ↦ (Err (InvalidHexCharacter (slice_index (body_of t) b.0) b.0), (even, (b.1, refl)))
+          ]
+    ]
+
+-- ---- owned bytes
+
+pub ReadsOwned-faithful : {V : Type 0} (bytes : V → List ℕ) (t : List ℕ) (r : Result V FromHexError)
+    → ReadsOwned bytes t r → IsFaithful bytes AnyCount is_no_memory t r
+ReadsOwned-faithful bytes t (Ok v) h = (h, tt)
+ReadsOwned-faithful bytes t (Err OddLength) h = λ _. inl (OddLength, h)
+ReadsOwned-faithful bytes t (Err InvalidStringLength) h = absurd h
+ReadsOwned-faithful bytes t (Err (InvalidHexCharacter c i)) h = λ _. inl (InvalidHexCharacter c i, h)
+ReadsOwned-faithful bytes t (Err NoMemory) h = λ no. cc no
+
+-- ---- arrays
+
+-- a body of another length is refused, or its bytes do not fit
+unfit : (n : ℕ) (t : List ℕ) → length (body_of t) ≢ 2 * n → (r : Result (List ℕ) FromHexError) × Reads t r → Refuses (IsCount n) t
+unfit n t other (Ok bs, h) =
+    inr (bs, h, λ same. let len = Spells-length (body_of t) bs h.1 in other (omega (arith, len, same)))
+unfit n t other (Err e, h) = inl (e, h)
+
+pub ReadsSized-faithful : (n : ℕ) (t : List ℕ) (r : Result (List ℕ) FromHexError)
+    → ReadsSized t n r → IsFaithful (λ bs. bs) (IsCount n) is_no_memory t r
+ReadsSized-faithful n t (Ok bs) h =
+    (h.1, let len = Spells-length (body_of t) bs h.1.1 in let twice = h.0 in omega (arith, len, twice))
+ReadsSized-faithful n t (Err OddLength) h = λ _. inl (OddLength, h)
+ReadsSized-faithful n t (Err InvalidStringLength) h = λ _. unfit n t h.1 (Reads-some t)
+ReadsSized-faithful n t (Err (InvalidHexCharacter c i)) h = λ _. inl (InvalidHexCharacter c i, h.1)
+ReadsSized-faithful n t (Err NoMemory) h = absurd h
+
+-- ---- signed elements
+
+-- a byte comes back from its signed number
+byte_of-signed_of : (b : ℕ) → b < 256 → byte_of (signed_of b) ≡ b
+byte_of-signed_of b h = go (nat_lt b 128) refl
+  where
+    go : (low : Bool) → low ≡ nat_lt b 128 → byte_of (if low then pos b else negsuc (255 - b)) ≡ b
+    go true e = refl
+    go false e = omega arith
+
+bytes_back : (bs : List ℕ) → AreBytes bs → map byte_of (map signed_of bs) ≡ bs
+bytes_back [] h = refl
+bytes_back (b ∷ bs) h =
+    let first = byte_of-signed_of b (h 0) in
+    let others = bytes_back bs (λ k. h (suc k)) in
+    rw (first, others) refl
+
+module _ {V : Type 0} (items : V → List ℤ) (fits : ℕ → Type 0) (answers : List ℕ → Result (List ℕ) FromHexError → Type 0) where
+  -- the law at signed elements is that of the bytes
+  pub ReadsSigned-faithful : ((t : List ℕ) (r : Result (List ℕ) FromHexError) → answers t r → IsFaithful (λ bs. bs) fits is_no_memory t r)
+      → (t : List ℕ) (r : Result V FromHexError) → ReadsSigned items answers t r
+      → IsFaithful (λ v. map byte_of (items v)) fits is_no_memory t r
+  ReadsSigned-faithful law t (Ok v) h =
+      let of_bytes = law t (Ok h.0) h.1 in
+      let P : List ℕ → Type 0 = λ bs. Reads t (Ok bs) × fits (length bs) in
+      subst P (sym (bytes_back h.0 (Spells-bytes (body_of t) h.0 of_bytes.0.1)) ∙ ap (map byte_of) (sym h.2)) of_bytes
+  ReadsSigned-faithful law t (Err e) h = law t (Err e) h
+
+-- ---- pointers
+
+pub ReadsThrough-faithful : {W V E : Type 0} (target : W → V) (bytes : V → List ℕ) (fits : ℕ → Type 0) (is_memory : E → Bool)
+    (answers : List ℕ → Result V E → Type 0)
+    → ((t : List ℕ) (r : Result V E) → answers t r → IsFaithful bytes fits is_memory t r)
+    → (t : List ℕ) (r : Result W E) → ReadsThrough target is_memory answers t r
+    → IsFaithful (λ w. bytes (target w)) fits is_memory t r
+ReadsThrough-faithful target bytes fits is_memory answers law t (Ok w) h = law t (Ok (target w)) h
+ReadsThrough-faithful target bytes fits is_memory answers law t (Err e) (inl h) = law t (Err e) h
+ReadsThrough-faithful target bytes fits is_memory answers law t (Err e) (inr h) = λ no. cc (sym h.0 ∙ no)

@@ -1,0 +1,145 @@
+//! From text to bytes.
+
+ghost use Rattle.std.specs.Prelude.{◌≡◌, ℕ, List, Bool, ◌≢◌, ◌*◌, ◌↔◌, true, false, length, OnErr, IfOk, IfErr, MatchResult, Result, Ok, Err};
+ghost use Rattle.const_hex_arch.specs.Texts.{hex_text, full_text};
+ghost use Rattle.const_hex.specs.Bodies.{body_of, lowered};
+ghost use Rattle.const_hex.specs.Answers.{IsOdd, AreBytes, Reads, ReadsSized, Leaves};
+ghost use Rattle.const_hex.specs.declared.error.FromHexError.{FromHexError};
+ghost use Rattle.const_hex.specs.declared.error.FromHexError.TheVariants.{OddLength, NoMemory};
+
+use crate::codec::body::{decode_body, strip_prefix};
+use crate::error::FromHexError;
+use const_hex_arch::{FixedKernel, Kernel};
+use std::alloc::Global;
+
+/// The bytes that a text spells, with or without a prefix, in either case.
+///
+/// Refused, in this order: with [`FromHexError::OddLength`], which takes no memory;
+/// with [`FromHexError::NoMemory`], where memory is refused; with
+/// [`FromHexError::InvalidHexCharacter`], which names the first byte behind the prefix that is no
+/// digit.
+///
+/// ```rust
+/// let bytes = const_hex::decode(rt.alloc(), b"0x6b697769")?;
+/// assert_eq!(rt; bytes.as_slice(), b"kiwi");
+/// ```
+pub fn decode(alloc: Global, input: &[u8]) -> Result<Vec<u8>, FromHexError>
+    ensures ok { IfOk result (λ v. Reads input.now (Ok v.items)) }
+    ensures err { IfErr result (λ e. e ≢ NoMemory → Reads input.now (Err e)) }
+    ensures odd { (result ≡ Err OddLength) ↔ IsOdd (length input.now) }
+
+    // What was encoded is decoded to the same bytes.
+    ensures round_trip { (prefix up : Bool) (bs : List ℕ) → AreBytes bs
+        → input.now ≡ full_text prefix up bs
+        → MatchResult result (λ v. v.items ≡ bs) (λ e. e ≡ NoMemory) }
+    // The text of the bytes is the body with lower letters.
+    ensures canonical { IfOk result (λ v. hex_text false v.items ≡ lowered (body_of input.now)) }
+    // Another text gives the same bytes exactly where the bodies differ in case alone.
+    ensures agree { (t bs : List ℕ) → Reads t (Ok bs)
+        → IfOk result (λ v. (bs ≡ v.items) ↔ (lowered (body_of t) ≡ lowered (body_of input.now))) }
+{
+    decode_with::<FixedKernel>(alloc, input)
+}
+
+/// As [`decode`], by a kernel of the caller's choice.
+///
+/// ```rust
+/// let bytes = const_hex::decode_with::<Plain>(rt.alloc(), b"6B697769")?;
+/// assert_eq!(rt; bytes.as_slice(), b"kiwi");
+/// ```
+#[inline]
+pub fn decode_with<K: Kernel>(alloc: Global, input: &[u8]) -> Result<Vec<u8>, FromHexError>
+    ensures ok { IfOk result (λ v. Reads input.now (Ok v.items)) }
+    ensures err { IfErr result (λ e. e ≢ NoMemory → Reads input.now (Err e)) }
+    ensures odd { (result ≡ Err OddLength) ↔ IsOdd (length input.now) }
+{
+    if input.len() % 2 != 0 {
+        return Err(FromHexError::OddLength);
+    }
+    let body = strip_prefix(input);
+    let mut bytes = vec![in alloc; 0u8; body.len() / 2]?;
+    decode_body::<K>(body, &mut bytes)?;
+    Ok(bytes)
+}
+
+/// Fills the output with the bytes that a text spells, with or without a prefix, in either case.
+///
+/// Refused, in this order: with [`FromHexError::OddLength`] or
+/// [`FromHexError::InvalidStringLength`], which leave the output unchanged; with
+/// [`FromHexError::InvalidHexCharacter`], which may leave a front of the output decoded, no longer
+/// than the pairs before the bad byte, and the rest as it was. Takes no memory.
+///
+/// ```rust
+/// let mut bytes = [0; 4];
+/// const_hex::decode_to_slice(b"6b697769", &mut bytes)?;
+/// assert_eq!(rt; &bytes, b"kiwi");
+/// ```
+#[inline]
+pub fn decode_to_slice(input: &[u8], output: &mut [u8]) -> Result<(), FromHexError>
+    ensures ok { IfOk result (λ _. ReadsSized input.now (length output.old) (Ok output.new)) }
+    ensures err { IfErr result (λ e. ReadsSized input.now (length output.old) (Err e)) }
+    ensures left { IfErr result (λ e. Leaves input.now output.old output.new e) }
+{
+    decode_to_slice_with::<FixedKernel>(input, output)
+}
+
+/// As [`decode_to_slice`], by a kernel of the caller's choice. Where the kernel checks a text
+/// before it decodes, every refusal leaves the output unchanged.
+///
+/// ```rust
+/// let mut bytes = [0; 4];
+/// const_hex::decode_to_slice_with::<Plain>(b"0X6B697769", &mut bytes)?;
+/// assert_eq!(rt; &bytes, b"kiwi");
+/// ```
+#[inline]
+pub fn decode_to_slice_with<K: Kernel>(input: &[u8], output: &mut [u8]) -> Result<(), FromHexError>
+    ensures ok { IfOk result (λ _. ReadsSized input.now (length output.old) (Ok output.new)) }
+    ensures err { IfErr result (λ e. ReadsSized input.now (length output.old) (Err e)) }
+    ensures left { IfErr result (λ e. Leaves input.now output.old output.new e) }
+    ensures unchanged { K.USE_CHECK_FN ≡ true → OnErr result (output.new ≡ output.old) }
+{
+    if input.len() % 2 != 0 {
+        return Err(FromHexError::OddLength);
+    }
+    let body = strip_prefix(input);
+    if body.len() / 2 != output.len() {
+        return Err(FromHexError::InvalidStringLength);
+    }
+    decode_body::<K>(body, output)
+}
+
+/// The N bytes that a text spells, with or without a prefix, in either case.
+///
+/// Refused, in this order, with [`FromHexError::OddLength`],
+/// [`FromHexError::InvalidStringLength`] where the text behind the prefix has not 2 * N bytes, and
+/// [`FromHexError::InvalidHexCharacter`]. Takes no memory.
+///
+/// ```rust
+/// let bytes = const_hex::decode_to_array::<4>(b"0x6b697769")?;
+/// assert_eq!(rt; &bytes, b"kiwi");
+/// ```
+#[inline]
+pub fn decode_to_array<const N: usize>(input: &[u8]) -> Result<[u8; N], FromHexError>
+    ensures { ReadsSized input.now N result }
+{
+    let mut bytes = [0; N];
+    match decode_to_slice(input, &mut bytes) {
+        Ok(()) => Ok(bytes),
+        Err(refusal) => Err(refusal),
+    }
+}
+
+/// As [`decode_to_array`], with the same answer on every text.
+///
+/// ```rust
+/// let bytes = const_hex::const_decode_to_array::<4>(b"6B697769")?;
+/// assert_eq!(rt; &bytes, b"kiwi");
+/// ```
+#[inline]
+pub fn const_decode_to_array<const N: usize>(input: &[u8]) -> Result<[u8; N], FromHexError>
+    ensures answer { ReadsSized input.now N result }
+    // No other answer is one of the text's.
+    ensures alone { (r : Result (List ℕ) FromHexError) → ReadsSized input.now N r → r ≡ result }
+{
+    decode_to_array(input)
+}

@@ -1,0 +1,153 @@
+//! From bytes to text.
+
+ghost use Rattle.std.specs.Prelude.{◌≡◌, ◌*◌, ◌+◌, ◌++◌, ℕ, List, true, false, length, IsOk, OnOk, OnErr, IfOk, Err, ◌↔◌, string_bytes};
+ghost use Rattle.const_hex_arch.specs.Texts.{hex_text, full_text};
+ghost use Rattle.const_hex.specs.declared.error.FromHexError.TheVariants.{InvalidStringLength};
+
+use crate::error::FromHexError;
+use crate::fill::fill;
+use const_hex_arch::{FixedKernel, Kernel};
+use std::alloc::{AllocError, Global};
+
+/// The text, owned. Memory is asked for once, of the text's length.
+#[inline(always)]
+fn owned<K: Kernel>(
+    alloc: Global,
+    input: &[u8],
+    prefix: bool,
+    upper: bool,
+) -> Result<String, AllocError>
+    ensures { IfOk result (λ s. string_bytes s ≡ full_text prefix upper input.now) }
+{
+    if input.len() > (usize::MAX - 2) / 2 {
+        return Err(AllocError);
+    }
+    let digits = 2 * input.len();
+    let mut text = vec![in alloc; 0u8; if prefix { 2 + digits } else { digits }]?;
+    fill::<K>(input, prefix, upper, &mut text);
+    Ok(unsafe { String::from_utf8_unchecked(text) })
+}
+
+/// Two digits for each byte, in order, with lower letters.
+///
+/// Answers `AllocError` where memory is refused.
+///
+/// ```rust
+/// let text = const_hex::encode(rt.alloc(), b"Hello world!")?;
+/// assert_eq!(rt; text.as_str(), "48656c6c6f20776f726c6421");
+/// ```
+pub fn encode(alloc: Global, input: &[u8]) -> Result<String, AllocError>
+    ensures text { IfOk result (λ s. string_bytes s ≡ hex_text false input.now) }
+    ensures append { (xs ys : List ℕ) → input.now ≡ xs ++ ys
+        → IfOk result (λ s. string_bytes s ≡ hex_text false xs ++ hex_text false ys) }
+{
+    encode_with::<FixedKernel, false>(alloc, input)
+}
+
+/// As [`encode`], with upper letters.
+///
+/// ```rust
+/// let text = const_hex::encode_upper(rt.alloc(), b"kiwi")?;
+/// assert_eq!(rt; text.as_str(), "6B697769");
+/// ```
+pub fn encode_upper(alloc: Global, input: &[u8]) -> Result<String, AllocError>
+    ensures text { IfOk result (λ s. string_bytes s ≡ hex_text true input.now) }
+    ensures append { (xs ys : List ℕ) → input.now ≡ xs ++ ys
+        → IfOk result (λ s. string_bytes s ≡ hex_text true xs ++ hex_text true ys) }
+{
+    encode_with::<FixedKernel, true>(alloc, input)
+}
+
+/// `0x`, and then the text of [`encode`].
+///
+/// ```rust
+/// let text = const_hex::encode_prefixed(rt.alloc(), b"kiwi")?;
+/// assert_eq!(rt; text.as_str(), "0x6b697769");
+/// ```
+pub fn encode_prefixed(alloc: Global, input: &[u8]) -> Result<String, AllocError>
+    ensures { IfOk result (λ s. string_bytes s ≡ full_text true false input.now) }
+{
+    owned::<FixedKernel>(alloc, input, true, false)
+}
+
+/// `0x`, and then the text of [`encode_upper`]. The prefix is small here too.
+///
+/// ```rust
+/// let text = const_hex::encode_upper_prefixed(rt.alloc(), b"kiwi")?;
+/// assert_eq!(rt; text.as_str(), "0x6B697769");
+/// ```
+pub fn encode_upper_prefixed(alloc: Global, input: &[u8]) -> Result<String, AllocError>
+    ensures { IfOk result (λ s. string_bytes s ≡ full_text true true input.now) }
+{
+    owned::<FixedKernel>(alloc, input, true, true)
+}
+
+/// As [`encode`] or [`encode_upper`], by a kernel of the caller's choice.
+///
+/// ```rust
+/// let text = const_hex::encode_with::<Plain, true>(rt.alloc(), b"kiwi")?;
+/// assert_eq!(rt; text.as_str(), "6B697769");
+/// ```
+#[inline]
+pub fn encode_with<K: Kernel, const UPPER: bool>(
+    alloc: Global,
+    input: &[u8],
+) -> Result<String, AllocError>
+    ensures text { IfOk result (λ s. string_bytes s ≡ hex_text UPPER input.now) }
+    ensures append { (xs ys : List ℕ) → input.now ≡ xs ++ ys
+        → IfOk result (λ s. string_bytes s ≡ hex_text UPPER xs ++ hex_text UPPER ys) }
+{
+    owned::<K>(alloc, input, false, UPPER)
+}
+
+/// Fills a slice with the text, where it has just the text's length.
+#[inline(always)]
+fn into_slice(input: &[u8], upper: bool, output: &mut [u8]) -> Result<(), FromHexError>
+    ensures fits { IsOk result ↔ (length output.old ≡ 2 * length input.now) }
+    ensures text { OnOk result (output.new ≡ hex_text upper input.now) }
+    ensures refusal { OnErr result (result ≡ Err InvalidStringLength) }
+    ensures unchanged { OnErr result (output.new ≡ output.old) }
+{
+    if output.len() % 2 != 0 || output.len() / 2 != input.len() {
+        return Err(FromHexError::InvalidStringLength);
+    }
+    fill::<FixedKernel>(input, false, upper, output);
+    Ok(())
+}
+
+/// Fills the output with the text of the input, with lower letters.
+///
+/// Refused with [`FromHexError::InvalidStringLength`] unless the output has exactly two bytes for
+/// each of the input; it is then unchanged. Takes no memory.
+///
+/// ```rust
+/// let mut text = [0; 8];
+/// const_hex::encode_to_slice(b"kiwi", &mut text)?;
+/// assert_eq!(rt; &text, b"6b697769");
+/// ```
+#[inline]
+pub fn encode_to_slice(input: &[u8], output: &mut [u8]) -> Result<(), FromHexError>
+    ensures fits { IsOk result ↔ (length output.old ≡ 2 * length input.now) }
+    ensures text { OnOk result (output.new ≡ hex_text false input.now) }
+    ensures refusal { OnErr result (result ≡ Err InvalidStringLength) }
+    ensures unchanged { OnErr result (output.new ≡ output.old) }
+{
+    into_slice(input, false, output)
+}
+
+/// As [`encode_to_slice`], with upper letters.
+///
+/// ```rust
+/// let mut text = [0; 8];
+/// const_hex::encode_to_slice_upper(b"kiwi", &mut text)?;
+/// assert_eq!(rt; &text, b"6B697769");
+/// ```
+#[inline]
+pub fn encode_to_slice_upper(input: &[u8], output: &mut [u8]) -> Result<(), FromHexError>
+    ensures fits { IsOk result ↔ (length output.old ≡ 2 * length input.now) }
+    ensures text { OnOk result (output.new ≡ hex_text true input.now) }
+    ensures refusal { OnErr result (result ≡ Err InvalidStringLength) }
+    ensures unchanged { OnErr result (output.new ≡ output.old) }
+{
+    into_slice(input, true, output)
+}

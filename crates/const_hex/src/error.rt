@@ -1,0 +1,69 @@
+//! Why a text is refused.
+
+ghost use Rattle.std.specs.Prelude.{◌≡◌};
+ghost use Rattle.const_hex.specs.Messages.{message_of};
+ghost use Rattle.const_hex.specs.declared.error.FromHexError.TheVariants.{NoMemory};
+
+use std::alloc::{AllocError, AllocFailed};
+use std::{error, fmt};
+
+/// Why a text is refused.
+///
+/// A text is judged in this order: oddness, then the length that a sized call wants, then the
+/// characters.
+///
+/// ```rust
+/// let refusal = const_hex::check(b"0xzz").unwrap_err();
+/// assert_eq!(rt; refusal, FromHexError::InvalidHexCharacter { c: 'z', index: 2 });
+/// ```
+#[derive(Clone, Copy, PartialEq, Eq, Debug)]
+pub enum FromHexError {
+    /// The text, its prefix included, has an odd number of bytes.
+    OddLength,
+    /// The text without its prefix has not two digits for each byte that is wanted, or the output
+    /// has not two bytes for each byte of the input.
+    InvalidStringLength,
+    /// A byte is no digit. The first such byte is named.
+    InvalidHexCharacter {
+        /// The character whose number is that byte, so a byte past 127 gives U+0080 to U+00FF.
+        c: char,
+        /// The byte's place, counted from the start of the text behind its prefix; in `check`
+        /// alone from the start of the whole text.
+        index: usize,
+    },
+    /// A request for memory was refused.
+    NoMemory,
+}
+
+impl fmt::Display for FromHexError {
+    ghost output = { λ e. message_of e };
+
+    fn fmt<W: fmt::Write>(&self, f: &mut fmt::Formatter<W>) -> fmt::Result {
+        match *self {
+            FromHexError::OddLength => f.write_str("odd number of digits"),
+            FromHexError::InvalidStringLength => f.write_str("invalid string length"),
+            FromHexError::InvalidHexCharacter { c, index } => {
+                write!(f, "invalid character {c:?} at position {index}")
+            }
+            FromHexError::NoMemory => f.write_str("out of memory"),
+        }
+    }
+}
+
+impl error::Error for FromHexError {}
+
+impl From<AllocError> for FromHexError {
+    ghost from_gives = { λ _ e. e ≡ NoMemory };
+
+    fn from(_refused: AllocError) -> FromHexError {
+        FromHexError::NoMemory
+    }
+}
+
+impl<T: Drop> From<AllocFailed<T>> for FromHexError {
+    ghost from_gives = { λ _ e. e ≡ NoMemory };
+
+    fn from(_refused: AllocFailed<T>) -> FromHexError {
+        FromHexError::NoMemory
+    }
+}

@@ -1,0 +1,27 @@
+//! Reading into arrays.
+
+ghost use Rattle.const_hex.specs.Answers.{ReadsSized};
+ghost use Rattle.const_hex.specs.Types.{IsCount};
+ghost use Rattle.const_hex.specs.TypeLaws.{ReadsSized-faithful};
+
+use crate::codec::decoders::decode_to_array;
+use crate::error::FromHexError;
+use crate::traits::reading::FromHex;
+use std::alloc::Global;
+
+/// N bytes, by the answers of [`decode_to_array`](crate::decode_to_array). No memory is asked for.
+impl<const N: usize> FromHex for [u8; N] {
+    type Error = FromHexError;
+
+    ghost bytes = { λ bytes. bytes };
+
+    ghost fits = { IsCount N };
+
+    ghost answers = { λ t r. ReadsSized t N r };
+
+    ghost faithful = { ReadsSized-faithful N };
+
+    fn from_hex(_alloc: Global, hex: &[u8]) -> Result<[u8; N], FromHexError> {
+        decode_to_array(hex)
+    }
+}

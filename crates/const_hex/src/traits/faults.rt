@@ -1,0 +1,47 @@
+//! Which errors are of memory.
+
+ghost use Rattle.std.specs.Prelude.{◌≡◌, Bool, true};
+ghost use Rattle.const_hex.specs.Types.{is_no_memory};
+ghost use Rattle.const_hex.specs.declared.error.FromHexError.TheVariants.{NoMemory};
+
+use crate::error::FromHexError;
+
+/// An error type that names which of its errors are of memory.
+///
+/// What generic code may rest on: an error that [`of_memory`](HexFault::of_memory) gives is one
+/// that [`is_memory`](HexFault::is_memory) is true of.
+pub trait HexFault: Sized {
+    /// Which errors are of memory.
+    ghost is_of_memory: { Self → Bool };
+
+    /// An error of memory.
+    ///
+    /// ```rust
+    /// assert_eq!(rt; <FromHexError as HexFault>::of_memory(), FromHexError::NoMemory);
+    /// ```
+    fn of_memory() -> Self
+        ensures { is_of_memory result ≡ true };
+
+    /// Whether this is an error of memory.
+    ///
+    /// ```rust
+    /// assert!(rt; !FromHexError::OddLength.is_memory());
+    /// ```
+    fn is_memory(&self) -> bool
+        ensures { result ≡ is_of_memory self.now };
+}
+
+/// [`FromHexError::NoMemory`] alone is of memory.
+impl HexFault for FromHexError {
+    ghost is_of_memory = { is_no_memory };
+
+    fn of_memory() -> FromHexError
+        ensures { result ≡ NoMemory }
+    {
+        FromHexError::NoMemory
+    }
+
+    fn is_memory(&self) -> bool {
+        matches!(self, FromHexError::NoMemory)
+    }
+}

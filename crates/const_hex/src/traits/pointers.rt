@@ -1,0 +1,55 @@
+//! Reading into what a pointer owns.
+
+ghost use Rattle.const_hex.specs.Types.{ReadsThrough};
+ghost use Rattle.const_hex.specs.TypeLaws.{ReadsThrough-faithful};
+
+use crate::traits::faults::HexFault;
+use crate::traits::reading::FromHex;
+use std::alloc::Global;
+use std::rc::Rc;
+
+/// A value behind a pointer. An error of the value is handed through.
+impl<T: FromHex + Drop> FromHex for Box<T> {
+    type Error = T::Error;
+
+    ghost bytes = { λ b. T.bytes b.value };
+
+    ghost fits = { T.fits };
+
+    ghost answers = { ReadsThrough (λ b. b.value) T.Error.is_of_memory T.answers };
+
+    ghost faithful = { ReadsThrough-faithful (λ b. b.value) T.bytes T.fits T.Error.is_of_memory T.answers T.faithful };
+
+    fn from_hex(alloc: Global, hex: &[u8]) -> Result<Box<T>, T::Error> {
+        match T::from_hex(alloc, hex) {
+            Ok(value) => match Box::new(alloc, value) {
+                Ok(boxed) => Ok(boxed),
+                Err(_refused) => Err(T::Error::of_memory()),
+            },
+            Err(fault) => Err(fault),
+        }
+    }
+}
+
+/// A value behind a shared pointer. An error of the value is handed through.
+impl<T: FromHex + Drop> FromHex for Rc<T> {
+    type Error = T::Error;
+
+    ghost bytes = { λ b. T.bytes b.value };
+
+    ghost fits = { T.fits };
+
+    ghost answers = { ReadsThrough (λ b. b.value) T.Error.is_of_memory T.answers };
+
+    ghost faithful = { ReadsThrough-faithful (λ b. b.value) T.bytes T.fits T.Error.is_of_memory T.answers T.faithful };
+
+    fn from_hex(alloc: Global, hex: &[u8]) -> Result<Rc<T>, T::Error> {
+        match T::from_hex(alloc, hex) {
+            Ok(value) => match Rc::new(alloc, value) {
+                Ok(shared) => Ok(shared),
+                Err(_refused) => Err(T::Error::of_memory()),
+            },
+            Err(fault) => Err(fault),
+        }
+    }
+}

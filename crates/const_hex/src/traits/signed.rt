@@ -1,0 +1,96 @@
+//! Reading into signed elements, which have the bits of the bytes.
+
+ghost use Rattle.std.specs.Prelude.{◌≡◌, ◌^◌, ◌<◌, length, map, IfOk};
+ghost use Rattle.std.specs.Box.{boxed_slice_items};
+ghost use Rattle.const_hex.specs.Answers.{ReadsSized};
+ghost use Rattle.const_hex.specs.Elements.{signed_of, byte_of};
+ghost use Rattle.const_hex.specs.Types.{AnyCount, IsCount, ReadsOwned, ReadsSigned};
+ghost use Rattle.const_hex.specs.TypeLaws.{ReadsOwned-faithful, ReadsSized-faithful, ReadsSigned-faithful};
+
+use crate::codec::decoders::{decode, decode_to_array};
+use crate::error::FromHexError;
+use crate::traits::reading::FromHex;
+use std::alloc::{AllocError, Global};
+use std::boxed::BoxedSlice;
+
+/// The number with the bits of a byte.
+#[inline(always)]
+fn signed(byte: u8) -> i8
+    ensures { result ≡ signed_of byte }
+{
+    byte.cast_signed()
+}
+
+/// The numbers with the bits of the bytes, owned.
+fn signed_vector(alloc: Global, bytes: &[u8]) -> Result<Vec<i8>, AllocError>
+    ensures { IfOk result (λ v. v.items ≡ map signed_of bytes.now) }
+{
+    bytes.iter().map(|byte| signed(*byte)).collect(alloc)
+}
+
+/// The numbers with the bits of the bytes.
+fn signed_array<const N: usize>(bytes: [u8; N]) -> [i8; N]
+    ensures { result ≡ map signed_of bytes.entry }
+{
+    let mut numbers = [0i8; N];
+    'bytes: for i in 0..N {
+        numbers[i] = signed(bytes[i]);
+    }
+    numbers
+}
+
+/// The numbers with the bits of the bytes, by the answers of [`decode`](crate::decode).
+impl FromHex for Vec<i8> {
+    type Error = FromHexError;
+
+    ghost bytes = { λ v. map byte_of v.items };
+
+    ghost fits = { AnyCount };
+
+    ghost answers = { ReadsSigned (λ v. v.items) (ReadsOwned (λ bs. bs)) };
+
+    ghost faithful = { ReadsSigned-faithful (λ v. v.items) AnyCount (ReadsOwned (λ bs. bs)) (ReadsOwned-faithful (λ bs. bs)) };
+
+    fn from_hex(alloc: Global, hex: &[u8]) -> Result<Vec<i8>, FromHexError> {
+        let bytes = decode(alloc, hex)?;
+        let numbers = signed_vector(alloc, &bytes)?;
+        Ok(numbers)
+    }
+}
+
+/// The numbers with the bits of the bytes, by the answers of [`decode`](crate::decode).
+impl FromHex for BoxedSlice<i8> {
+    type Error = FromHexError;
+
+    ghost bytes = { λ b. map byte_of (boxed_slice_items b) };
+
+    ghost fits = { AnyCount };
+
+    ghost answers = { ReadsSigned boxed_slice_items (ReadsOwned (λ bs. bs)) };
+
+    ghost faithful = { ReadsSigned-faithful boxed_slice_items AnyCount (ReadsOwned (λ bs. bs)) (ReadsOwned-faithful (λ bs. bs)) };
+
+    fn from_hex(alloc: Global, hex: &[u8]) -> Result<BoxedSlice<i8>, FromHexError> {
+        let numbers = <Vec<i8> as FromHex>::from_hex(alloc, hex)?;
+        Ok(numbers.into_boxed_slice())
+    }
+}
+
+/// The N numbers with the bits of the bytes, by the answers of
+/// [`decode_to_array`](crate::decode_to_array). No memory is asked for.
+impl<const N: usize> FromHex for [i8; N] {
+    type Error = FromHexError;
+
+    ghost bytes = { λ numbers. map byte_of numbers };
+
+    ghost fits = { IsCount N };
+
+    ghost answers = { ReadsSigned (λ numbers. numbers) (λ t r. ReadsSized t N r) };
+
+    ghost faithful = { ReadsSigned-faithful (λ numbers. numbers) (IsCount N) (λ t r. ReadsSized t N r) (ReadsSized-faithful N) };
+
+    fn from_hex(_alloc: Global, hex: &[u8]) -> Result<[i8; N], FromHexError> {
+        let bytes = decode_to_array::<N>(hex)?;
+        Ok(signed_array(bytes))
+    }
+}

@@ -1,0 +1,47 @@
+//! Reading into vectors and boxed slices.
+
+ghost use Rattle.std.specs.Prelude.{◌≡◌, ℤ, map, IfOk};
+ghost use Rattle.std.specs.Box.{boxed_slice_items};
+ghost use Rattle.const_hex.specs.Elements.{signed_of, byte_of};
+ghost use Rattle.const_hex.specs.Types.{AnyCount, ReadsOwned, ReadsSigned};
+ghost use Rattle.const_hex.specs.TypeLaws.{ReadsOwned-faithful, ReadsSigned-faithful};
+
+use crate::codec::decoders::decode;
+use crate::error::FromHexError;
+use crate::traits::reading::FromHex;
+use std::alloc::{AllocError, Global};
+use std::boxed::BoxedSlice;
+
+/// The bytes, by the answers of [`decode`](crate::decode).
+impl FromHex for Vec<u8> {
+    type Error = FromHexError;
+
+    ghost bytes = { λ v. v.items };
+
+    ghost fits = { AnyCount };
+
+    ghost answers = { ReadsOwned (λ v. v.items) };
+
+    ghost faithful = { ReadsOwned-faithful (λ v. v.items) };
+
+    fn from_hex(alloc: Global, hex: &[u8]) -> Result<Vec<u8>, FromHexError> {
+        decode(alloc, hex)
+    }
+}
+
+/// The bytes, by the answers of [`decode`](crate::decode).
+impl FromHex for BoxedSlice<u8> {
+    type Error = FromHexError;
+
+    ghost bytes = { boxed_slice_items };
+
+    ghost fits = { AnyCount };
+
+    ghost answers = { ReadsOwned boxed_slice_items };
+
+    ghost faithful = { ReadsOwned-faithful boxed_slice_items };
+
+    fn from_hex(alloc: Global, hex: &[u8]) -> Result<BoxedSlice<u8>, FromHexError> {
+        Ok(decode(alloc, hex)?.into_boxed_slice())
+    }
+}

@@ -1,0 +1,142 @@
+//! Writing a value's bytes as text.
+
+ghost use Rattle.std.specs.Prelude.{◌≡◌, ℕ, List, true, false, IfOk, string_bytes};
+ghost use Rattle.const_hex_arch.specs.Texts.{hex_text, full_text};
+
+use crate::codec::encoders::{encode, encode_prefixed, encode_upper, encode_upper_prefixed};
+use std::alloc::{AllocError, Global};
+
+/// A type that holds bytes.
+trait HoldsBytes {
+    /// The bytes.
+    ghost held_bytes: { Self → List ℕ };
+
+    fn held_bytes(&self) -> &[u8]
+        ensures { result.now ≡ held_bytes self.now };
+}
+
+impl HoldsBytes for Vec<u8> {
+    ghost held_bytes = { λ v. v.items };
+
+    fn held_bytes(&self) -> &[u8] {
+        self
+    }
+}
+
+impl HoldsBytes for String {
+    ghost held_bytes = { string_bytes };
+
+    fn held_bytes(&self) -> &[u8] {
+        self.as_bytes()
+    }
+}
+
+impl<const N: usize> HoldsBytes for [u8; N] {
+    ghost held_bytes = { λ bytes. bytes };
+
+    fn held_bytes(&self) -> &[u8] {
+        self
+    }
+}
+
+/// A type whose bytes are written as hexadecimal text: `Vec<u8>`, `String` and `[u8; N]`.
+///
+/// Each call answers `AllocError` where memory is refused.
+pub trait ToHex {
+    /// The bytes that are written.
+    ghost written_bytes: { Self → List ℕ };
+
+    /// The text with lower letters.
+    ///
+    /// ```rust
+    /// let text = ToHex::encode_hex(b"kiwi", rt.alloc())?;
+    /// assert_eq!(rt; text.as_str(), "6b697769");
+    /// ```
+    fn encode_hex(&self, alloc: Global) -> Result<String, AllocError>
+        ensures { IfOk result (λ s. string_bytes s ≡ hex_text false (written_bytes self.now)) };
+
+    /// The text with upper letters.
+    ///
+    /// ```rust
+    /// let text = ToHex::encode_hex_upper(b"kiwi", rt.alloc())?;
+    /// assert_eq!(rt; text.as_str(), "6B697769");
+    /// ```
+    fn encode_hex_upper(&self, alloc: Global) -> Result<String, AllocError>
+        ensures { IfOk result (λ s. string_bytes s ≡ hex_text true (written_bytes self.now)) };
+}
+
+impl<T: HoldsBytes> ToHex for T {
+    ghost written_bytes = { T.held_bytes };
+
+    fn encode_hex(&self, alloc: Global) -> Result<String, AllocError> {
+        encode(alloc, self.held_bytes())
+    }
+
+    fn encode_hex_upper(&self, alloc: Global) -> Result<String, AllocError> {
+        encode_upper(alloc, self.held_bytes())
+    }
+}
+
+/// As [`ToHex`], with and without `0x` in front.
+///
+/// Each call answers `AllocError` where memory is refused.
+pub trait ToHexExt {
+    /// The bytes that are written.
+    ghost written_bytes: { Self → List ℕ };
+
+    /// The text with lower letters.
+    ///
+    /// ```rust
+    /// let text = ToHexExt::encode_hex(b"kiwi", rt.alloc())?;
+    /// assert_eq!(rt; text.as_str(), "6b697769");
+    /// ```
+    fn encode_hex(&self, alloc: Global) -> Result<String, AllocError>
+        ensures { IfOk result (λ s. string_bytes s ≡ hex_text false (written_bytes self.now)) };
+
+    /// The text with upper letters.
+    ///
+    /// ```rust
+    /// let text = ToHexExt::encode_hex_upper(b"kiwi", rt.alloc())?;
+    /// assert_eq!(rt; text.as_str(), "6B697769");
+    /// ```
+    fn encode_hex_upper(&self, alloc: Global) -> Result<String, AllocError>
+        ensures { IfOk result (λ s. string_bytes s ≡ hex_text true (written_bytes self.now)) };
+
+    /// `0x`, and then the text with lower letters.
+    ///
+    /// ```rust
+    /// let text = b"kiwi".encode_hex_with_prefix(rt.alloc())?;
+    /// assert_eq!(rt; text.as_str(), "0x6b697769");
+    /// ```
+    fn encode_hex_with_prefix(&self, alloc: Global) -> Result<String, AllocError>
+        ensures { IfOk result (λ s. string_bytes s ≡ full_text true false (written_bytes self.now)) };
+
+    /// `0x`, and then the text with upper letters. The prefix is small here too.
+    ///
+    /// ```rust
+    /// let text = b"kiwi".encode_hex_upper_with_prefix(rt.alloc())?;
+    /// assert_eq!(rt; text.as_str(), "0x6B697769");
+    /// ```
+    fn encode_hex_upper_with_prefix(&self, alloc: Global) -> Result<String, AllocError>
+        ensures { IfOk result (λ s. string_bytes s ≡ full_text true true (written_bytes self.now)) };
+}
+
+impl<T: HoldsBytes> ToHexExt for T {
+    ghost written_bytes = { T.held_bytes };
+
+    fn encode_hex(&self, alloc: Global) -> Result<String, AllocError> {
+        encode(alloc, self.held_bytes())
+    }
+
+    fn encode_hex_upper(&self, alloc: Global) -> Result<String, AllocError> {
+        encode_upper(alloc, self.held_bytes())
+    }
+
+    fn encode_hex_with_prefix(&self, alloc: Global) -> Result<String, AllocError> {
+        encode_prefixed(alloc, self.held_bytes())
+    }
+
+    fn encode_hex_upper_with_prefix(&self, alloc: Global) -> Result<String, AllocError> {
+        encode_upper_prefixed(alloc, self.held_bytes())
+    }
+}
