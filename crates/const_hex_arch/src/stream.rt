@@ -22,7 +22,7 @@ const GATHERED: usize = 4096;
 /// let mut sink = PieceSink::new(rt.alloc(), 0);
 /// let hex = BufferedHex::<false, true>::new(b"kiwi");
 /// assert!(rt; hex.write_to(&mut sink).is_ok());
-/// assert_eq!(rt; sink.pieces()[0], "0x6b697769");
+/// assert_eq!(rt; sink.pieces()[0].as_str(), "0x6b697769");
 /// ```
 #[derive(Drop)]
 pub struct BufferedHex<'a, const UPPER: bool, const PREFIX: bool> {
@@ -75,3 +75,6 @@ impl<'a, const UPPER: bool, const PREFIX: bool> BufferedHex<'a, UPPER, PREFIX> {
         refusal_of(sink)
     }
 }
+
+#[cfg(test)]
+mod tests;

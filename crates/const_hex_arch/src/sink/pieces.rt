@@ -14,7 +14,7 @@ use std::marker::Model;
 /// ```rust
 /// let mut sink = PieceSink::new(rt.alloc(), 0);
 /// assert!(rt; sink.write_str("one").is_ok());
-/// assert_eq!(rt; sink.pieces()[0], "one");
+/// assert_eq!(rt; sink.pieces()[0].as_str(), "one");
 /// assert_eq!(rt; sink.calls(), 1);
 /// ```
 #[derive(Drop)]
