@@ -1,8 +1,10 @@
 //! A buffer that holds the text of a fixed count of bytes.
 
 ghost use Rattle.std.specs.Prelude.{◌≡◌, length, true, false, IfOk, string_bytes};
+ghost use Rattle.std.specs.Borrow.{sem};
 ghost use Rattle.const_hex_arch.specs.Texts.{full_text};
 ghost use Rattle.const_hex.specs.Buffers.{text_length, blank_text, buffer_text};
+ghost use Rattle.const_hex.specs.Loans.{EndsHolding};
 
 mod ascii;
 
@@ -128,6 +130,30 @@ impl<const N: usize, const PREFIX: bool, const LEN: usize> Buffer<N, PREFIX, LEN
         buffer
     }
 
+    /// Writes the whole text over what the buffer holds, and lends the buffer.
+    #[inline]
+    fn formatted(&mut self, input: &[u8], upper: bool) -> &Self
+        requires fits { LEN ≡ text_length PREFIX N }
+        requires size { length input.now ≡ N }
+        ensures lends { buffer_text result.now ≡ full_text PREFIX upper input.now }
+        ensures* after { sem 𝓛 (EndsHolding N.row PREFIX.row LEN.row self.entry
+            (full_text PREFIX upper input.now)) }
+    {
+        self.write(input, upper);
+        self
+    }
+
+    /// As `formatted`, of an array.
+    #[inline]
+    fn formatted_array(&mut self, input: &[u8; N], upper: bool) -> &Self
+        requires { LEN ≡ text_length PREFIX N }
+        ensures lends { buffer_text result.now ≡ full_text PREFIX upper input.now }
+        ensures* after { sem 𝓛 (EndsHolding N.row PREFIX.row LEN.row self.entry
+            (full_text PREFIX upper input.now)) }
+    {
+        self.formatted(input, upper)
+    }
+
     /// Writes the text of the input, with lower letters, and lends it.
     ///
     /// LEN has to be `2 * N`, and 2 more where PREFIX.
@@ -139,10 +165,11 @@ impl<const N: usize, const PREFIX: bool, const LEN: usize> Buffer<N, PREFIX, LEN
     #[inline]
     pub fn format(&mut self, input: &[u8; N]) -> &str
         requires { LEN ≡ text_length PREFIX N }
-        ensures { result.now ≡ full_text PREFIX false input.now }
+        ensures lends { result.now ≡ full_text PREFIX false input.now }
+        ensures* after { sem 𝓛 (EndsHolding N.row PREFIX.row LEN.row self.entry
+            (full_text PREFIX false input.now)) }
     {
-        self.write(input, false);
-        self.as_str()
+        self.formatted_array(input, false).as_str()
     }
 
     /// As [`format`](Self::format), with upper letters. The prefix is small here too.
@@ -154,10 +181,11 @@ impl<const N: usize, const PREFIX: bool, const LEN: usize> Buffer<N, PREFIX, LEN
     #[inline]
     pub fn format_upper(&mut self, input: &[u8; N]) -> &str
         requires { LEN ≡ text_length PREFIX N }
-        ensures { result.now ≡ full_text PREFIX true input.now }
+        ensures lends { result.now ≡ full_text PREFIX true input.now }
+        ensures* after { sem 𝓛 (EndsHolding N.row PREFIX.row LEN.row self.entry
+            (full_text PREFIX true input.now)) }
     {
-        self.write(input, true);
-        self.as_str()
+        self.formatted_array(input, true).as_str()
     }
 
     /// As [`format`](Self::format), of a slice. It has to have exactly N bytes.
@@ -170,10 +198,11 @@ impl<const N: usize, const PREFIX: bool, const LEN: usize> Buffer<N, PREFIX, LEN
     pub fn format_slice(&mut self, input: &[u8]) -> &str
         requires fits { LEN ≡ text_length PREFIX N }
         requires size { length input.now ≡ N }
-        ensures { result.now ≡ full_text PREFIX false input.now }
+        ensures lends { result.now ≡ full_text PREFIX false input.now }
+        ensures* after { sem 𝓛 (EndsHolding N.row PREFIX.row LEN.row self.entry
+            (full_text PREFIX false input.now)) }
     {
-        self.write(input, false);
-        self.as_str()
+        self.formatted(input, false).as_str()
     }
 
     /// As [`format_slice`](Self::format_slice), with upper letters. The prefix is small here too.
@@ -186,10 +215,11 @@ impl<const N: usize, const PREFIX: bool, const LEN: usize> Buffer<N, PREFIX, LEN
     pub fn format_slice_upper(&mut self, input: &[u8]) -> &str
         requires fits { LEN ≡ text_length PREFIX N }
         requires size { length input.now ≡ N }
-        ensures { result.now ≡ full_text PREFIX true input.now }
+        ensures lends { result.now ≡ full_text PREFIX true input.now }
+        ensures* after { sem 𝓛 (EndsHolding N.row PREFIX.row LEN.row self.entry
+            (full_text PREFIX true input.now)) }
     {
-        self.write(input, true);
-        self.as_str()
+        self.formatted(input, true).as_str()
     }
 
     /// The contents, as text.
