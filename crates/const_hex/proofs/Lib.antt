@@ -1,5 +1,6 @@
 pub mod Appending
 pub mod Buffering
+pub mod LentText
 pub mod Lowering
 pub mod Reading
 pub mod RoundTrip

@@ -1,8 +1,10 @@
 //! A buffer that holds the text of a fixed count of bytes.
 
 ghost use Rattle.std.specs.Prelude.{◌≡◌, length, true, false, IfOk, string_bytes};
+ghost use Rattle.std.specs.Borrow.{sem};
 ghost use Rattle.const_hex_arch.specs.Texts.{full_text};
 ghost use Rattle.const_hex.specs.Buffers.{text_length, blank_text, buffer_text};
+ghost use Rattle.const_hex.specs.Loans.{EndsHolding};
 
 mod ascii;
 
@@ -13,8 +15,8 @@ use std::fmt;
 /// The text of N bytes, behind `0x` where PREFIX, in an array of its own.
 ///
 /// LEN has to be the length of that text: `2 * N`, and 2 more where PREFIX. Each call that writes
-/// asks for that, and writes the prefix anew. No call takes memory but [`to_string`](Self::to_string)
-/// and [`to_vec`](Self::to_vec).
+/// asks for that, and writes the prefix anew. No call but [`to_string`](Self::to_string) and
+/// [`to_vec`](Self::to_vec) takes memory.
 ///
 /// ```rust
 /// let mut buffer = Buffer::<4, true, 10>::new();
@@ -103,13 +105,12 @@ impl<const N: usize, const PREFIX: bool, const LEN: usize> Buffer<N, PREFIX, LEN
     /// assert_eq!(rt; buffer.as_str(), "6b697769");
     /// ```
     #[inline]
-    pub fn const_format(self, input: &[u8; N]) -> Self
+    pub fn const_format(mut self, input: &[u8; N]) -> Self
         requires { LEN ≡ text_length PREFIX N }
         ensures { buffer_text result ≡ full_text PREFIX false input.now }
     {
-        let mut buffer = self;
-        buffer.write(input, false);
-        buffer
+        self.write(input, false);
+        self
     }
 
     /// As [`const_format`](Self::const_format), with upper letters. The prefix is small here too.
@@ -119,13 +120,36 @@ impl<const N: usize, const PREFIX: bool, const LEN: usize> Buffer<N, PREFIX, LEN
     /// assert_eq!(rt; buffer.as_str(), "0x6B697769");
     /// ```
     #[inline]
-    pub fn const_format_upper(self, input: &[u8; N]) -> Self
+    pub fn const_format_upper(mut self, input: &[u8; N]) -> Self
         requires { LEN ≡ text_length PREFIX N }
         ensures { buffer_text result ≡ full_text PREFIX true input.now }
     {
-        let mut buffer = self;
-        buffer.write(input, true);
-        buffer
+        self.write(input, true);
+        self
+    }
+
+    /// Writes the whole text over what the buffer holds, and lends the buffer.
+    #[inline]
+    fn formatted(&mut self, input: &[u8], upper: bool) -> &Self
+        requires fits { LEN ≡ text_length PREFIX N }
+        requires size { length input.now ≡ N }
+        ensures lends { buffer_text result.now ≡ full_text PREFIX upper input.now }
+        ensures* after { sem 𝓛 (EndsHolding N.row PREFIX.row LEN.row self.entry
+            (full_text PREFIX upper input.now)) }
+    {
+        self.write(input, upper);
+        self
+    }
+
+    /// As `formatted`, of an array.
+    #[inline]
+    fn formatted_array(&mut self, input: &[u8; N], upper: bool) -> &Self
+        requires { LEN ≡ text_length PREFIX N }
+        ensures lends { buffer_text result.now ≡ full_text PREFIX upper input.now }
+        ensures* after { sem 𝓛 (EndsHolding N.row PREFIX.row LEN.row self.entry
+            (full_text PREFIX upper input.now)) }
+    {
+        self.formatted(input, upper)
     }
 
     /// Writes the text of the input, with lower letters, and lends it.
@@ -139,10 +163,11 @@ impl<const N: usize, const PREFIX: bool, const LEN: usize> Buffer<N, PREFIX, LEN
     #[inline]
     pub fn format(&mut self, input: &[u8; N]) -> &str
         requires { LEN ≡ text_length PREFIX N }
-        ensures { result.now ≡ full_text PREFIX false input.now }
+        ensures lends { result.now ≡ full_text PREFIX false input.now }
+        ensures* after { sem 𝓛 (EndsHolding N.row PREFIX.row LEN.row self.entry
+            (full_text PREFIX false input.now)) }
     {
-        self.write(input, false);
-        self.as_str()
+        self.formatted_array(input, false).as_str()
     }
 
     /// As [`format`](Self::format), with upper letters. The prefix is small here too.
@@ -154,10 +179,11 @@ impl<const N: usize, const PREFIX: bool, const LEN: usize> Buffer<N, PREFIX, LEN
     #[inline]
     pub fn format_upper(&mut self, input: &[u8; N]) -> &str
         requires { LEN ≡ text_length PREFIX N }
-        ensures { result.now ≡ full_text PREFIX true input.now }
+        ensures lends { result.now ≡ full_text PREFIX true input.now }
+        ensures* after { sem 𝓛 (EndsHolding N.row PREFIX.row LEN.row self.entry
+            (full_text PREFIX true input.now)) }
     {
-        self.write(input, true);
-        self.as_str()
+        self.formatted_array(input, true).as_str()
     }
 
     /// As [`format`](Self::format), of a slice. It has to have exactly N bytes.
@@ -170,10 +196,11 @@ impl<const N: usize, const PREFIX: bool, const LEN: usize> Buffer<N, PREFIX, LEN
     pub fn format_slice(&mut self, input: &[u8]) -> &str
         requires fits { LEN ≡ text_length PREFIX N }
         requires size { length input.now ≡ N }
-        ensures { result.now ≡ full_text PREFIX false input.now }
+        ensures lends { result.now ≡ full_text PREFIX false input.now }
+        ensures* after { sem 𝓛 (EndsHolding N.row PREFIX.row LEN.row self.entry
+            (full_text PREFIX false input.now)) }
     {
-        self.write(input, false);
-        self.as_str()
+        self.formatted(input, false).as_str()
     }
 
     /// As [`format_slice`](Self::format_slice), with upper letters. The prefix is small here too.
@@ -186,10 +213,11 @@ impl<const N: usize, const PREFIX: bool, const LEN: usize> Buffer<N, PREFIX, LEN
     pub fn format_slice_upper(&mut self, input: &[u8]) -> &str
         requires fits { LEN ≡ text_length PREFIX N }
         requires size { length input.now ≡ N }
-        ensures { result.now ≡ full_text PREFIX true input.now }
+        ensures lends { result.now ≡ full_text PREFIX true input.now }
+        ensures* after { sem 𝓛 (EndsHolding N.row PREFIX.row LEN.row self.entry
+            (full_text PREFIX true input.now)) }
     {
-        self.write(input, true);
-        self.as_str()
+        self.formatted(input, true).as_str()
     }
 
     /// The contents, as text.
@@ -207,7 +235,7 @@ impl<const N: usize, const PREFIX: bool, const LEN: usize> Buffer<N, PREFIX, LEN
     /// The contents, as bytes.
     ///
     /// ```rust
-    /// assert_eq!(rt; Buffer::<0, true, 2>::new().as_bytes(), b"0x");
+    /// assert_eq!(rt; Buffer::<0, true, 2>::new().as_bytes(), b"0x".as_slice());
     /// ```
     #[inline]
     pub fn as_bytes(&self) -> &[u8]
@@ -248,7 +276,7 @@ impl<const N: usize, const PREFIX: bool, const LEN: usize> Buffer<N, PREFIX, LEN
     ///
     /// ```rust
     /// let bytes = Buffer::<0, true, 2>::new().to_vec(rt.alloc())?;
-    /// assert_eq!(rt; bytes.as_slice(), b"0x");
+    /// assert_eq!(rt; bytes.as_slice(), b"0x".as_slice());
     /// ```
     pub fn to_vec(&self, alloc: Global) -> Result<Vec<u8>, AllocError>
         ensures { IfOk result (λ v. v.items ≡ buffer_text self.now) }
@@ -273,5 +301,101 @@ impl<const N: usize, const PREFIX: bool, const LEN: usize> Clone for Buffer<N, P
 impl<const N: usize, const PREFIX: bool, const LEN: usize> fmt::Debug for Buffer<N, PREFIX, LEN> {
     fn fmt<W: fmt::Write>(&self, f: &mut fmt::Formatter<W>) -> fmt::Result {
         f.debug_tuple("Buffer").field(&self.as_str()).finish()
+    }
+}
+
+#[cfg(test)]
+mod tests {
+    use super::*;
+    use std::process::Abort;
+    use std::test::Fail;
+
+    #[test]
+    fn formats_over_what_stood_there(rt: HostRuntime) -> Result<(), Fail> {
+        let mut prefixed = Buffer::<4, true, 10>::new();
+        assert_eq!(rt; prefixed.as_str(), "0x\0\0\0\0\0\0\0\0");
+        assert_eq!(rt; prefixed.format(b"kiwi"), "0x6b697769");
+        assert_eq!(rt; prefixed.format_upper(b"kiwi"), "0x6B697769");
+        assert_eq!(rt; prefixed.format_slice(b"1234"), "0x31323334");
+        assert_eq!(rt; prefixed.as_str(), "0x31323334");
+
+        let mut bare = Buffer::<4, false, 8>::default();
+        assert_eq!(rt; bare.as_str(), "\0\0\0\0\0\0\0\0");
+        assert_eq!(rt; bare.format(b"1234"), "31323334");
+        assert_eq!(rt; bare.clone()?.as_str(), "31323334");
+        assert_eq!(rt;
+            bare.const_format_upper(b"kiwi").as_byte_array(),
+            b"6B697769"
+        );
+        assert_eq!(rt; const_encode::<4, false, 8>(b"kiwi").as_str(), "6b697769");
+        assert_eq!(rt;
+            Buffer::<2, true, 6>::new().format_slice_upper(&[0xAB, 0x0C]),
+            "0xAB0C"
+        );
+        Ok(())
+    }
+
+    #[test]
+    fn holds_a_prefix_alone(rt: HostRuntime) -> Result<(), Fail> {
+        let buffer = const_encode::<0, true, 2>(&[]);
+        assert_eq!(rt; buffer.to_vec(rt.alloc())?.as_slice(), [48, 120].as_slice());
+        assert_eq!(rt; buffer.to_string(rt.alloc())?.as_str(), "0x");
+        assert_eq!(rt; Buffer::<0, false, 0>::new().as_str(), "");
+        assert_eq!(rt; Buffer::<0, true, 2>::new().as_str(), "0x");
+        Ok(())
+    }
+
+    #[test]
+    fn shows_the_text(rt: HostRuntime) -> Result<(), Fail> {
+        let mut buffer = Buffer::<1, false, 2>::new();
+        assert_eq!(rt;
+            format!(in rt.alloc(); "{buffer:?}")?.as_str(),
+            "Buffer(\"\\0\\0\")"
+        );
+        buffer.format(&[0xAB]);
+        assert_eq!(rt;
+            format!(in rt.alloc(); "{buffer:?}")?.as_str(),
+            "Buffer(\"ab\")"
+        );
+        Ok(())
+    }
+
+    // The text of N bytes is what std prints with two digits a byte, behind `0x` where PREFIX.
+    fn agrees_with_std<const N: usize, const PREFIX: bool, const LEN: usize>(
+        rt: &impl Abort,
+        alloc: Global,
+        mut buffer: Buffer<N, PREFIX, LEN>,
+    ) -> Result<(), Fail>
+        requires { LEN ≡ text_length PREFIX N }
+    {
+        let mut bytes = [0; N];
+        let mut text = String::new(alloc);
+        if PREFIX {
+            text.push_str("0x")?;
+        }
+        for i in 0..N {
+            bytes[i] = ((37 * (i % 256) + 11) % 256) as u8;
+            text.push_str(&format!(in alloc; "{:02x}", bytes[i])?)?;
+        }
+        assert_eq!(rt; buffer.format(&bytes), text.as_str());
+        assert_eq!(rt; buffer.as_str(), text.as_str());
+        assert_eq!(rt; buffer.as_byte_array().as_slice(), text.as_bytes());
+        assert_eq!(rt; buffer.to_string(alloc)?.as_str(), text.as_str());
+        assert_eq!(rt; Buffer::<N, PREFIX, LEN>::LEN, text.len());
+        Ok(())
+    }
+
+    #[test]
+    fn agrees_at_many_sizes(rt: HostRuntime) -> Result<(), Fail> {
+        agrees_with_std(&rt, rt.alloc(), Buffer::<8, false, 16>::new())?;
+        agrees_with_std(&rt, rt.alloc(), Buffer::<8, true, 18>::new())?;
+        agrees_with_std(&rt, rt.alloc(), Buffer::<20, false, 40>::new())?;
+        agrees_with_std(&rt, rt.alloc(), Buffer::<20, true, 42>::new())?;
+        agrees_with_std(&rt, rt.alloc(), Buffer::<32, false, 64>::new())?;
+        agrees_with_std(&rt, rt.alloc(), Buffer::<32, true, 66>::new())?;
+        agrees_with_std(&rt, rt.alloc(), Buffer::<64, false, 128>::new())?;
+        agrees_with_std(&rt, rt.alloc(), Buffer::<64, true, 130>::new())?;
+        agrees_with_std(&rt, rt.alloc(), Buffer::<128, false, 256>::new())?;
+        agrees_with_std(&rt, rt.alloc(), Buffer::<128, true, 258>::new())
     }
 }
