@@ -10,6 +10,8 @@ mod answer;
 mod error;
 mod mode;
 mod run;
+#[cfg(test)]
+mod tests;
 
 use crate::error::RunError;
 use crate::mode::{USAGE, mode_of};
