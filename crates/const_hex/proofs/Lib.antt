@@ -1,4 +1,5 @@
 pub mod Appending
+pub mod Buffering
 pub mod Lowering
 pub mod Reading
 pub mod RoundTrip

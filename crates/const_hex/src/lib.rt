@@ -6,11 +6,13 @@
 //! which `specs/Lib.antt` passes on.
 #![tactic(auto)]
 
+mod buffer;
 mod codec;
 pub mod error;
 mod fill;
 pub mod traits;
 
+pub use crate::buffer::{Buffer, const_encode};
 pub use crate::codec::checks::{check, check_raw, check_with, const_check, const_check_raw};
 pub use crate::codec::decoders::{
     const_decode_to_array, decode, decode_to_array, decode_to_slice, decode_to_slice_with,
@@ -23,6 +25,7 @@ pub use crate::codec::encoders::{
 pub use crate::error::FromHexError;
 pub use crate::traits::{FromHex, ToHex, ToHexExt};
 pub use const_hex_arch::{
-    FixedKernel, HEX_CHARS_LOWER, HEX_CHARS_UPPER, HEX_DECODE_LUT, Kernel, NIL, Output, Plain,
-    SliceOutput, digit_at, encode_full, value_at,
+    BufferedHex, BufferedOutput, CheckFirst, FixedKernel, HEX_CHARS_LOWER, HEX_CHARS_UPPER,
+    HEX_DECODE_LUT, Kernel, Lanes16, Lanes32, NIL, Output, PieceSink, Plain, Sink, SinkError,
+    SinkOutput, SliceOutput, digit_at, encode_full, lanes16, lanes32, value_at,
 };

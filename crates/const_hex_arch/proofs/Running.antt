@@ -1,21 +1,12 @@
 -- Runs of steps over pieces, and the room that they leave.
-use Rattle.std.proofs.Common.{◌≡◌, ℕ, ◌+◌, ◌*◌, List, [], ◌∷◌, ◌++◌, length, refl, sym, ap, subst, ◌∙◌, arith, length-append}
+use Rattle.std.proofs.Common.{◌≡◌, ℕ, ◌+◌, ◌*◌, List, [], ◌∷◌, ◌++◌, length, refl, sym, ap, subst, ◌∙◌, arith}
 use Rattle.std.specs.Prelude.{Option, Some, None}
 use Rattle.std.specs.List.{FoldsTo, concat}
 use Rattle.std.proofs.lemmas.List.{append-nil}
 use Rattle.std.proofs.lemmas.List.Elements.{All-nil, All-cons, All-append}
 use Rattle.std.proofs.lemmas.List.Folds.{concat-append}
 use Rattle.const_hex_arch.specs.Runs.{HasRoom, less_room, IsKernelPiece, Writes}
-
--- no bytes take no room
-less_room-zero : (room : Option ℕ) → less_room room 0 ≡ room
-less_room-zero (Some r) = ap Some (omega arith)
-less_room-zero None = refl
-
--- bytes and then bytes
-pub less_room-add : (room : Option ℕ) (m n : ℕ) → less_room (less_room room m) n ≡ less_room room (m + n)
-less_room-add (Some r) m n = ap Some (omega arith)
-less_room-add None m n = refl
+pub use Rattle.const_hex_arch.specs.Laws.{less_room-add, run_shrinks}
 
 -- what is left of the room after m bytes
 pub HasRoom-less : (room : Option ℕ) (m n : ℕ) → HasRoom room (m + n) → HasRoom (less_room room m) n
@@ -23,13 +14,6 @@ HasRoom-less (Some r) m n h = omega arith
 HasRoom-less None m n h = omega arith
 
 module _ {S : Type 0} (step : S → List ℕ → S → Type 0) (room : S → Option ℕ) (shrinks : (s : S) (piece : List ℕ) (t : S) → step s piece t → room t ≡ less_room (room s) (length piece)) where
-  -- a run takes the room of its pieces together
-  pub run_shrinks : (s : S) (ps : List (List ℕ)) (t : S) → FoldsTo step s ps t → room t ≡ less_room (room s) (length (concat ps))
-  run_shrinks s [] t h = ap room (sym h) ∙ sym (less_room-zero (room s))
-  run_shrinks s (p ∷ ps) t (j, h, k) =
-      run_shrinks j ps t k ∙ ap (λ r. less_room r (length (concat ps))) (shrinks s p j h)
-      ∙ less_room-add (room s) (length p) (length (concat ps)) ∙ ap (less_room (room s)) (sym (length-append p (concat ps)))
-
   -- two bytes leave room for the pairs that are left
   pub room_after_two : (s : S) (a b : ℕ) (m t : S) (k : ℕ) → step s (a ∷ []) m → step m (b ∷ []) t → (n : ℕ) → n ≡ k + 1 → HasRoom (room s) (2 * n) → HasRoom (room t) (2 * k)
   room_after_two s a b m t k h i n e r =
@@ -39,7 +23,7 @@ module _ {S : Type 0} (step : S → List ℕ → S → Type 0) (room : S → Opt
   -- what was written leaves room for the rest
   pub Writes_room : (s : S) (text : List ℕ) (t : S) (n : ℕ) → Writes step s text t → HasRoom (room s) (length text + n) → HasRoom (room t) n
   Writes_room s text t n w h =
-      rw (run_shrinks s w.pieces t w.run, w.whole) (HasRoom-less (room s) (length text) n h)
+      rw (run_shrinks step room shrinks s w.pieces t w.run, w.whole) (HasRoom-less (room s) (length text) n h)
 
 module _ {S : Type 0} (step : S → List ℕ → S → Type 0) where
   -- one run and then another

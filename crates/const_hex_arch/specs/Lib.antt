@@ -1,4 +1,11 @@
 pub mod Digits
+pub mod Gathering
+pub mod Lanes
+pub mod Laws
+pub mod Nibbles
+pub mod Pieces
 pub mod Runs
+pub mod Sinks
 pub mod SliceOutputs
+pub mod Streams
 pub mod Texts

@@ -4,7 +4,14 @@ ghost use Rattle.std.specs.Prelude.{◌≡◌, ℕ, Bool, ◌+◌, ◌*◌, ◌<
 ghost use Rattle.const_hex_arch.specs.Runs.{HasRoom, Writes};
 ghost use Rattle.const_hex_arch.specs.Texts.{hex_text, prefix_of, full_text, AllDigits, Spells, Partial};
 
+pub mod check_first;
+pub mod kernel16;
+pub mod kernel32;
+mod lanes;
+pub mod lanes16;
+pub mod lanes32;
 pub mod plain;
+mod steps;
 
 use crate::arch::plain::Plain;
 use crate::output::Output;

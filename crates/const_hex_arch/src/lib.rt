@@ -7,12 +7,22 @@
 
 pub mod arch;
 pub mod output;
+pub mod sink;
+pub mod stream;
 pub mod tables;
 
+pub use crate::arch::check_first::CheckFirst;
+pub use crate::arch::kernel16::Lanes16;
+pub use crate::arch::kernel32::Lanes32;
 pub use crate::arch::plain::Plain;
-pub use crate::arch::{FixedKernel, Kernel, encode_full};
+pub use crate::arch::{FixedKernel, Kernel, encode_full, lanes16, lanes32};
 pub use crate::output::Output;
+pub use crate::output::buffered::BufferedOutput;
 pub use crate::output::slice::SliceOutput;
+pub use crate::sink::output::SinkOutput;
+pub use crate::sink::pieces::PieceSink;
+pub use crate::sink::{Sink, SinkError};
+pub use crate::stream::BufferedHex;
 pub use crate::tables::{
     HEX_CHARS_LOWER, HEX_CHARS_UPPER, HEX_DECODE_LUT, NIL, digit_at, value_at,
 };

@@ -4,6 +4,7 @@ ghost use Rattle.std.specs.Prelude.{◌≡◌, ℕ, ◌+◌, ◌<◌, ◌≤◌,
 ghost use Rattle.std.specs.Str.{IsAscii};
 ghost use Rattle.const_hex_arch.specs.Runs.{HasRoom, less_room};
 
+pub mod buffered;
 pub mod slice;
 
 /// What text is written to, a piece at a time.

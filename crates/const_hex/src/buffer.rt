@@ -1,0 +1,277 @@
+//! A buffer that holds the text of a fixed count of bytes.
+
+ghost use Rattle.std.specs.Prelude.{◌≡◌, length, true, false, IfOk, string_bytes};
+ghost use Rattle.const_hex_arch.specs.Texts.{full_text};
+ghost use Rattle.const_hex.specs.Buffers.{text_length, blank_text, buffer_text};
+
+mod ascii;
+
+use crate::buffer::ascii::AsciiArray;
+use std::alloc::{AllocError, Global};
+use std::fmt;
+
+/// The text of N bytes, behind `0x` where PREFIX, in an array of its own.
+///
+/// LEN has to be the length of that text: `2 * N`, and 2 more where PREFIX. Each call that writes
+/// asks for that, and writes the prefix anew. No call takes memory but [`to_string`](Self::to_string)
+/// and [`to_vec`](Self::to_vec).
+///
+/// ```rust
+/// let mut buffer = Buffer::<4, true, 10>::new();
+/// assert_eq!(rt; buffer.format(b"kiwi"), "0x6b697769");
+/// ```
+#[derive(Drop)]
+pub struct Buffer<const N: usize, const PREFIX: bool, const LEN: usize> {
+    text: AsciiArray<LEN>,
+}
+
+/// A buffer that holds the text of the input, with lower letters.
+///
+/// LEN has to be `2 * N`, and 2 more where PREFIX. Takes no memory.
+///
+/// ```rust
+/// let buffer = const_hex::const_encode::<4, false, 8>(b"kiwi");
+/// assert_eq!(rt; buffer.as_str(), "6b697769");
+/// ```
+#[inline]
+pub fn const_encode<const N: usize, const PREFIX: bool, const LEN: usize>(
+    input: &[u8; N],
+) -> Buffer<N, PREFIX, LEN>
+    requires { LEN ≡ text_length PREFIX N }
+    ensures { buffer_text result ≡ full_text PREFIX false input.now }
+{
+    Buffer::new().const_format(input)
+}
+
+impl<const N: usize, const PREFIX: bool, const LEN: usize> Buffer<N, PREFIX, LEN> {
+    /// The length of the text, with its prefix.
+    ///
+    /// ```rust
+    /// assert_eq!(rt; Buffer::<4, true, 10>::LEN, 10);
+    /// ```
+    pub const LEN: usize = LEN;
+
+    /// A buffer that holds `0x` where PREFIX, and then `2 * N` NUL bytes.
+    ///
+    /// LEN has to be `2 * N`, and 2 more where PREFIX.
+    ///
+    /// ```rust
+    /// assert_eq!(rt; Buffer::<1, true, 4>::new().as_str(), "0x\0\0");
+    /// ```
+    #[inline]
+    pub fn new() -> Self
+        requires { LEN ≡ text_length PREFIX N }
+        ensures { buffer_text result ≡ blank_text PREFIX N }
+    {
+        let mut text = AsciiArray::new();
+        if PREFIX {
+            text.put(0, b'0');
+            text.put(1, b'x');
+        }
+        Buffer { text }
+    }
+
+    /// As [`new`](Self::new).
+    ///
+    /// ```rust
+    /// assert_eq!(rt; Buffer::<1, false, 2>::default().as_str(), "\0\0");
+    /// ```
+    #[inline]
+    pub fn default() -> Self
+        requires { LEN ≡ text_length PREFIX N }
+        ensures { buffer_text result ≡ blank_text PREFIX N }
+    {
+        Self::new()
+    }
+
+    /// Writes the whole text over what the buffer holds.
+    #[inline]
+    fn write(&mut self, input: &[u8], upper: bool)
+        requires fits { LEN ≡ text_length PREFIX N }
+        requires size { length input.now ≡ N }
+        ensures { buffer_text self.new ≡ full_text PREFIX upper input.now }
+    {
+        self.text.fill(input, PREFIX, upper);
+    }
+
+    /// The buffer with the text of the input, with lower letters.
+    ///
+    /// LEN has to be `2 * N`, and 2 more where PREFIX.
+    ///
+    /// ```rust
+    /// let buffer = Buffer::<4, false, 8>::new().const_format(b"kiwi");
+    /// assert_eq!(rt; buffer.as_str(), "6b697769");
+    /// ```
+    #[inline]
+    pub fn const_format(self, input: &[u8; N]) -> Self
+        requires { LEN ≡ text_length PREFIX N }
+        ensures { buffer_text result ≡ full_text PREFIX false input.now }
+    {
+        let mut buffer = self;
+        buffer.write(input, false);
+        buffer
+    }
+
+    /// As [`const_format`](Self::const_format), with upper letters. The prefix is small here too.
+    ///
+    /// ```rust
+    /// let buffer = Buffer::<4, true, 10>::new().const_format_upper(b"kiwi");
+    /// assert_eq!(rt; buffer.as_str(), "0x6B697769");
+    /// ```
+    #[inline]
+    pub fn const_format_upper(self, input: &[u8; N]) -> Self
+        requires { LEN ≡ text_length PREFIX N }
+        ensures { buffer_text result ≡ full_text PREFIX true input.now }
+    {
+        let mut buffer = self;
+        buffer.write(input, true);
+        buffer
+    }
+
+    /// Writes the text of the input, with lower letters, and lends it.
+    ///
+    /// LEN has to be `2 * N`, and 2 more where PREFIX.
+    ///
+    /// ```rust
+    /// let mut buffer = Buffer::<4, true, 10>::new();
+    /// assert_eq!(rt; buffer.format(b"kiwi"), "0x6b697769");
+    /// ```
+    #[inline]
+    pub fn format(&mut self, input: &[u8; N]) -> &str
+        requires { LEN ≡ text_length PREFIX N }
+        ensures { result.now ≡ full_text PREFIX false input.now }
+    {
+        self.write(input, false);
+        self.as_str()
+    }
+
+    /// As [`format`](Self::format), with upper letters. The prefix is small here too.
+    ///
+    /// ```rust
+    /// let mut buffer = Buffer::<4, true, 10>::new();
+    /// assert_eq!(rt; buffer.format_upper(b"kiwi"), "0x6B697769");
+    /// ```
+    #[inline]
+    pub fn format_upper(&mut self, input: &[u8; N]) -> &str
+        requires { LEN ≡ text_length PREFIX N }
+        ensures { result.now ≡ full_text PREFIX true input.now }
+    {
+        self.write(input, true);
+        self.as_str()
+    }
+
+    /// As [`format`](Self::format), of a slice. It has to have exactly N bytes.
+    ///
+    /// ```rust
+    /// let mut buffer = Buffer::<4, false, 8>::new();
+    /// assert_eq!(rt; buffer.format_slice(b"kiwi"), "6b697769");
+    /// ```
+    #[inline]
+    pub fn format_slice(&mut self, input: &[u8]) -> &str
+        requires fits { LEN ≡ text_length PREFIX N }
+        requires size { length input.now ≡ N }
+        ensures { result.now ≡ full_text PREFIX false input.now }
+    {
+        self.write(input, false);
+        self.as_str()
+    }
+
+    /// As [`format_slice`](Self::format_slice), with upper letters. The prefix is small here too.
+    ///
+    /// ```rust
+    /// let mut buffer = Buffer::<4, false, 8>::new();
+    /// assert_eq!(rt; buffer.format_slice_upper(b"kiwi"), "6B697769");
+    /// ```
+    #[inline]
+    pub fn format_slice_upper(&mut self, input: &[u8]) -> &str
+        requires fits { LEN ≡ text_length PREFIX N }
+        requires size { length input.now ≡ N }
+        ensures { result.now ≡ full_text PREFIX true input.now }
+    {
+        self.write(input, true);
+        self.as_str()
+    }
+
+    /// The contents, as text.
+    ///
+    /// ```rust
+    /// assert_eq!(rt; Buffer::<0, true, 2>::new().as_str(), "0x");
+    /// ```
+    #[inline]
+    pub fn as_str(&self) -> &str
+        ensures { result.now ≡ buffer_text self.now }
+    {
+        self.text.as_str()
+    }
+
+    /// The contents, as bytes.
+    ///
+    /// ```rust
+    /// assert_eq!(rt; Buffer::<0, true, 2>::new().as_bytes(), b"0x");
+    /// ```
+    #[inline]
+    pub fn as_bytes(&self) -> &[u8]
+        ensures { result.now ≡ buffer_text self.now }
+    {
+        self.as_byte_array()
+    }
+
+    /// The contents, as an array.
+    ///
+    /// ```rust
+    /// assert_eq!(rt; Buffer::<0, true, 2>::new().as_byte_array(), b"0x");
+    /// ```
+    #[inline]
+    pub fn as_byte_array(&self) -> &[u8; LEN]
+        ensures { result.now ≡ buffer_text self.now }
+    {
+        self.text.as_array()
+    }
+
+    /// A copy of the contents, as text.
+    ///
+    /// Answers `AllocError` where memory is refused.
+    ///
+    /// ```rust
+    /// let text = Buffer::<0, true, 2>::new().to_string(rt.alloc())?;
+    /// assert_eq!(rt; text.as_str(), "0x");
+    /// ```
+    pub fn to_string(&self, alloc: Global) -> Result<String, AllocError>
+        ensures { IfOk result (λ s. string_bytes s ≡ buffer_text self.now) }
+    {
+        String::from_str(alloc, self.as_str())
+    }
+
+    /// A copy of the contents, as bytes.
+    ///
+    /// Answers `AllocError` where memory is refused.
+    ///
+    /// ```rust
+    /// let bytes = Buffer::<0, true, 2>::new().to_vec(rt.alloc())?;
+    /// assert_eq!(rt; bytes.as_slice(), b"0x");
+    /// ```
+    pub fn to_vec(&self, alloc: Global) -> Result<Vec<u8>, AllocError>
+        ensures { IfOk result (λ v. v.items ≡ buffer_text self.now) }
+    {
+        Vec::from_slice(alloc, self.as_bytes())
+    }
+}
+
+/// An equal buffer. Takes no memory, and never fails.
+impl<const N: usize, const PREFIX: bool, const LEN: usize> Clone for Buffer<N, PREFIX, LEN> {
+    ghost is_clone = { λ x y. buffer_text y ≡ buffer_text x };
+
+    ghost is_infallible = { λ _. Unit {0} };
+
+    #[inline]
+    fn clone(&self) -> Result<Self, AllocError> {
+        Ok(Buffer { text: self.text })
+    }
+}
+
+/// `Buffer("..")`, with the debug form of the text.
+impl<const N: usize, const PREFIX: bool, const LEN: usize> fmt::Debug for Buffer<N, PREFIX, LEN> {
+    fn fmt<W: fmt::Write>(&self, f: &mut fmt::Formatter<W>) -> fmt::Result {
+        f.debug_tuple("Buffer").field(&self.as_str()).finish()
+    }
+}

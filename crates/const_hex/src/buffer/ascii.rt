@@ -1,0 +1,62 @@
+//! An array of ASCII bytes, which is lent as text.
+
+ghost use Rattle.std.specs.Prelude.{◌≡◌, ◌<◌, length, replicate, slice_set};
+ghost use Rattle.std.specs.Str.{IsAscii};
+ghost use Rattle.const_hex_arch.specs.Texts.{full_text};
+
+use crate::fill::fill;
+use const_hex_arch::FixedKernel;
+
+/// An array of LEN bytes, all of them ASCII.
+#[derive(Clone, Copy)]
+pub(crate) struct AsciiArray<const LEN: usize> {
+    bytes: [u8; LEN],
+    ghost sized: { length bytes ≡ LEN },
+    ghost ascii: { IsAscii bytes },
+}
+
+impl<const LEN: usize> AsciiArray<LEN> {
+    /// NUL bytes alone.
+    #[inline]
+    pub(crate) fn new() -> Self
+        ensures { result.bytes ≡ replicate LEN 0 }
+    {
+        AsciiArray { bytes: [0; LEN] }
+    }
+
+    /// Puts an ASCII byte at one place.
+    #[inline]
+    pub(crate) fn put(&mut self, index: usize, byte: u8)
+        requires within { index < LEN }
+        requires ascii { byte < 128 }
+        ensures { self.new.bytes ≡ slice_set self.old.bytes index byte }
+    {
+        self.bytes[index] = byte;
+    }
+
+    /// Fills the array with the text of the input, behind `0x` where a prefix is wanted. The array
+    /// has to have the length of that text.
+    #[inline]
+    pub(crate) fn fill(&mut self, input: &[u8], prefix: bool, upper: bool)
+        requires { LEN ≡ length (full_text prefix upper input.now) }
+        ensures { self.new.bytes ≡ full_text prefix upper input.now }
+    {
+        fill::<FixedKernel>(input, prefix, upper, &mut self.bytes);
+    }
+
+    /// The bytes.
+    #[inline]
+    pub(crate) fn as_array(&self) -> &[u8; LEN]
+        ensures { result.now ≡ self.now.bytes }
+    {
+        &self.bytes
+    }
+
+    /// The text, with no copy and no test.
+    #[inline]
+    pub(crate) fn as_str(&self) -> &str
+        ensures { result.now ≡ self.now.bytes }
+    {
+        unsafe { str::from_utf8_unchecked(&self.bytes) }
+    }
+}

@@ -1,0 +1,120 @@
+-- From the values of two vectors of text to the bytes that it spells.
+use Rattle.std.proofs.Common.{◌≡◌, ℕ, zero, suc, ◌+◌, ◌*◌, ◌%◌, ◌/◌, ◌≤◌, ◌↔◌, leb, eqb, List, [], ◌∷◌, ◌++◌, map, length, take, drop, get_or, bit_or, refl, sym, ap, subst, ◌∙◌, arith, Some, None, leb→le, eqb→eq, le-leb, length-append, length-drop, take-add, take-append-drop, drop-drop}
+use Rattle.std.specs.List.{range_with_len}
+use Rattle.std.proofs.lemmas.Grind.{common_steps}
+use Rattle.std.proofs.lemmas.List.{map-append}
+use Rattle.std.proofs.lemmas.Nat.{le_or_l, le_or_r}
+use Rattle.std.proofs.lemmas.Simd.{length-zip2, pick_l_whole}
+use lib.Lanes.{zip2, number_l, digits_l, pick_l}
+use Rattle.const_hex_arch.specs.Digits.{hex_value}
+use Rattle.const_hex_arch.specs.Lanes.{AllNibbles, byte_pairs}
+use Rattle.const_hex_arch.specs.Nibbles.{as_value}
+use Rattle.const_hex_arch.specs.Texts.{AllDigits, Spells}
+use Rattle.const_hex_arch.proofs.Computed.{all_below, every_below}
+use Rattle.const_hex_arch.proofs.LaneValues.{nibbles_are_digits}
+use Rattle.const_hex_arch.proofs.Spelling.{IsPair-of, digits_append}
+
+-- ---- two values in a lane of twice the width
+
+abbrev pub merge : ℕ → ℕ
+merge pair = bit_or (pair * 4096 % 65536) pair / 256
+
+merge_at : (h l : ℕ) → h ≤ 15 → l ≤ 15 → merge (h + 256 * l) ≡ 16 * h + l
+merge_at h l p q = eqb→eq _ _ (every_below (λ l. eqb (merge (h + 256 * l)) (16 * h + l)) 16 (every_below (λ h. all_below (λ l. eqb (merge (h + 256 * l)) (16 * h + l)) 16) 16 tt h (omega arith)) l (omega arith))
+
+pub merge_all : (k : ℕ) (ns : List ℕ) → length ns ≡ 2 * k → AllNibbles ns → map merge (digits_l 65536 k (number_l 256 ns)) ≡ byte_pairs ns
+merge_all zero [] e a = refl
+merge_all zero (h ∷ ns) e a = absurd (omega arith)
+merge_all (suc k) [] e a = absurd (omega arith)
+merge_all (suc k) (h ∷ []) e a = absurd (omega arith)
+merge_all (suc k) (h ∷ l ∷ ns) e a =
+    let x = number_l 256 ns in
+    let low : (h + 256 * (l + 256 * x)) % 65536 ≡ h + 256 * l = omega (arith, a.0, a.1.0) in
+    let high : (h + 256 * (l + 256 * x)) / 65536 ≡ x = omega (arith, a.0, a.1.0) in
+    let here = merge_at h l a.0 a.1.0 in
+    let rest = merge_all k ns (omega arith) a.1.1 in
+    rw (low, high, here, rest) refl
+
+pub join_are : (n : ℕ) (a b : List ℕ) → length a ≡ n → length b ≡ n → pick_l 0 (a ++ b) (range_with_len 0 (n + n)) ≡ a ++ b
+join_are n a b p q = pick_l_whole 0 (a ++ b) (n + n) (omega (arith, length-append a b))
+
+-- ---- one test for two vectors
+
+or_small : (a b : ℕ) → a ≤ 15 → b ≤ 15 → bit_or a b ≤ 15
+or_small a b p q = leb→le _ _ (every_below (λ b. leb (bit_or a b) 15) 16 (every_below (λ a. all_below (λ b. leb (bit_or a b) 15) 16) 16 tt a (omega arith)) b (omega arith))
+
+pub both_nibbles : (xs ys : List ℕ) → length xs ≡ length ys → AllNibbles (zip2 bit_or xs ys) ↔ (AllNibbles xs × AllNibbles ys)
+both_nibbles [] [] e = (λ h. (tt, tt), λ h. tt)
+both_nibbles [] (y ∷ ys) e = absurd (omega arith)
+both_nibbles (x ∷ xs) [] e = absurd (omega arith)
+both_nibbles (x ∷ xs) (y ∷ ys) e =
+    let more = both_nibbles xs ys (omega arith) in
+    (λ h. ((omega (arith, h.0, le_or_l x y), (more.0 h.1).0), (omega (arith, h.0, le_or_r x y), (more.0 h.1).1)), λ h. (or_small x y h.0.0 h.1.0, more.1 (h.0.1, h.1.1)))
+
+nibbles_append : (xs ys : List ℕ) → AllNibbles (xs ++ ys) ↔ (AllNibbles xs × AllNibbles ys)
+nibbles_append [] ys = (λ h. (tt, h), λ h. h.1)
+nibbles_append (x ∷ xs) ys =
+    let more = nibbles_append xs ys in
+    (λ h. ((h.0, (more.0 h.1).0), (more.0 h.1).1), λ h. (h.0.0, more.1 (h.0.1, h.1)))
+
+-- ---- the bytes that values spell
+
+value_is : (n b : ℕ) → as_value n ≡ hex_value b → n ≤ 15 → hex_value b ≡ Some n
+value_is n b e h = sym e ∙ rw (le-leb n 15 h) refl
+
+Spells-byte_pairs : (k : ℕ) (ns u : List ℕ) → length ns ≡ 2 * k → map as_value ns ≡ map hex_value u → AllNibbles ns → Spells u (byte_pairs ns)
+Spells-byte_pairs zero [] [] l e a = tt
+Spells-byte_pairs zero [] (x ∷ u) l e a = absurd (let q : zero ≡ suc (length (map hex_value u)) = ap length e in omega arith)
+Spells-byte_pairs zero (h ∷ ns) u l e a = absurd (omega arith)
+Spells-byte_pairs (suc k) [] u l e a = absurd (omega arith)
+Spells-byte_pairs (suc k) (h ∷ []) u l e a = absurd (omega arith)
+Spells-byte_pairs (suc k) (h ∷ m ∷ ns) [] l e a = absurd (let q : suc (suc (length (map as_value ns))) ≡ zero = ap length e in omega arith)
+Spells-byte_pairs (suc k) (h ∷ m ∷ ns) (x ∷ []) l e a = absurd (let q : suc (suc (length (map as_value ns))) ≡ 1 = ap length e in omega arith)
+Spells-byte_pairs (suc k) (h ∷ m ∷ ns) (x ∷ y ∷ u) l e a =
+    let high = value_is h x (ap (λ l. get_or l 0 None) e) a.0 in
+    let low = value_is m y (ap (λ l. get_or l 1 None) e) a.1.0 in
+    (IsPair-of x y h m (16 * h + m) high low refl, Spells-byte_pairs k ns u (omega arith) (ap (drop 2) e) a.1.1)
+
+-- ---- two vectors of n lanes: w is their text, t and u its parts, a and b the values
+module _ (n : ℕ) (w t u a b : List ℕ) (whole : w ≡ t ++ u) (long_a : length a ≡ n) (long_b : length b ≡ n) (values_a : map as_value a ≡ map hex_value t) (values_b : map as_value b ≡ map hex_value u) where
+  values : map as_value (a ++ b) ≡ map hex_value w
+  values = map-append as_value a b ∙ rw (values_a, values_b) refl ∙ sym (map-append hex_value t u) ∙ ap (map hex_value) (sym whole)
+
+  -- one test of both
+  pub one_test : AllNibbles (zip2 bit_or a b) ↔ AllDigits w
+  one_test =
+      let both = both_nibbles a b (long_a ∙ sym long_b) in
+      let parts = nibbles_append a b in
+      let same = nibbles_are_digits (a ++ b) w values in
+      (λ h. same.0 (parts.1 (both.0 h)), λ d. both.1 (parts.0 (same.1 d)))
+
+  -- of digits
+  pub merge_spells : (r : List ℕ) → (AllNibbles (a ++ b) → r ≡ byte_pairs (a ++ b)) → AllDigits w → Spells w r
+  merge_spells r is d =
+      let h = (nibbles_are_digits (a ++ b) w values).1 d in
+      subst (Spells w) (sym (is h)) (Spells-byte_pairs n (a ++ b) w (omega (arith, length-append a b)) values h)
+
+-- ---- the vectors of a slice
+
+pub in_two : (n : ℕ) (u : List ℕ) → length u ≡ 2 * n → take n u ++ take n (drop n u) ≡ u
+in_two n u e = grind (arith, common_steps)
+
+-- one test of four vectors
+pub four_tests : (n : ℕ) (u a b c d : List ℕ) → length u ≡ 4 * n → length a ≡ n → length b ≡ n → length c ≡ n → length d ≡ n
+    → map as_value a ≡ map hex_value (take n u) → map as_value b ≡ map hex_value (take n (drop n u)) → map as_value c ≡ map hex_value (take n (drop (2 * n) u)) → map as_value d ≡ map hex_value (take n (drop (3 * n) u))
+    → AllNibbles (zip2 bit_or (zip2 bit_or a b) (zip2 bit_or c d)) ↔ AllDigits u
+four_tests n u a b c d size long_a long_b long_c long_d values_a values_b values_c values_d =
+    let front : take (2 * n) u ≡ take n u ++ take n (drop n u) = let q : 2 * n ≡ n + n = omega arith in rw q (take-add n n u) in
+    let back : drop (2 * n) u ≡ take n (drop (2 * n) u) ++ take n (drop (3 * n) u) =
+    let long : length (drop (2 * n) u) ≡ 2 * n = omega (arith, length-drop (2 * n) u) in
+    let q : 2 * n + n ≡ 3 * n = omega arith in
+    sym (in_two n (drop (2 * n) u) long) ∙ rw (drop-drop n (2 * n) u, q) refl in
+    let first = one_test n (take (2 * n) u) _ _ a b front long_a long_b values_a values_b in
+    let second = one_test n (drop (2 * n) u) _ _ c d back long_c long_d values_c values_d in
+    let long_ab : length (zip2 bit_or a b) ≡ n = length-zip2 bit_or a b (long_a ∙ sym long_b) ∙ long_a in
+    let long_cd : length (zip2 bit_or c d) ≡ n = length-zip2 bit_or c d (long_c ∙ sym long_d) ∙ long_c in
+    let all = both_nibbles (zip2 bit_or a b) (zip2 bit_or c d) (long_ab ∙ sym long_cd) in
+    let parts = digits_append (take (2 * n) u) (drop (2 * n) u) in (
+      λ h. subst AllDigits (take-append-drop (2 * n) u) (parts.1 (first.0 (all.0 h).0, second.0 (all.0 h).1)),
+      λ h. (let p = parts.0 (subst AllDigits (sym (take-append-drop (2 * n) u)) h) in all.1 (first.1 p.0, second.1 p.1)),
+    )

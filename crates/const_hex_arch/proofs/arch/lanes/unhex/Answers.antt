@@ -1,0 +1,5 @@
+use Rattle.const_hex_arch.proofs.LaneValues.{unhex_are}
+use Rattle.const_hex_arch.proofs.arch.lanes.unhex.Goals as goal
+
+pub returns : goal.returns
+returns g c = unhex_are g.row.N c.args.v c.fits-v

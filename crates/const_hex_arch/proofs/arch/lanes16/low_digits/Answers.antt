@@ -1,0 +1,25 @@
+use Rattle.std.proofs.Common.{refl, true, false, rules, ◌≡◌}
+use denote.Param.{number}
+use Rattle.const_hex_arch.specs.contracts.arch.lanes16.low_digits.{UPPER-type}
+use Rattle.const_hex_arch.specs.declared.tables.TheConstants.{HEX_CHARS_LOWER, HEX_CHARS_UPPER}
+use Rattle.const_hex_arch.proofs.LaneText.{low_halves_ok, low_digits_are}
+use Rattle.const_hex_arch.proofs.arch.lanes16.low_digits.Goals as goal
+use Rattle.const_hex_arch.proofs.arch.lanes16.low_digits.Goals.{then-this-ne0, else-this-ne0}
+
+pub swizzle : goal.swizzle
+swizzle g c = low_halves_ok 1 16 c.args.v refl c.fits-v.0
+
+pub returns : goal.returns
+returns g c =
+    elim c.if-this-ne0.branch [
+      | then-this-ne0 w ↦
+          let test = w.if-this-ne0.true in
+          let table = w.digits-is in
+          let upper : UPPER-type (number g.row.UPPER) ≡ true = search rules in
+          rw (table, upper) (low_digits_are true HEX_CHARS_UPPER.now c.args.v 16 c.fits-v.0 tt)
+      | else-this-ne0 w ↦
+          let test = w.if-this-ne0.false in
+          let table = w.digits-is in
+          let lower : UPPER-type (number g.row.UPPER) ≡ false = search rules in
+          rw (table, lower) (low_digits_are false HEX_CHARS_LOWER.now c.args.v 16 c.fits-v.0 tt)
+    ]

@@ -1,0 +1,43 @@
+//! A kernel that checks a text before it decodes.
+
+ghost use Rattle.std.specs.Prelude.{◌≡◌, ◌*◌, length, true, false};
+
+use crate::arch::Kernel;
+use crate::output::Output;
+use std::marker::PhantomData;
+
+/// Another kernel, but one that decodes a text only once all of it is checked. So it leaves the
+/// output as it is where a text is refused.
+pub struct CheckFirst<K> {
+    kernel: PhantomData<K>,
+}
+
+impl<K: Kernel> Kernel for CheckFirst<K> {
+    ghost USE_CHECK_FN = { true };
+
+    const USE_CHECK_FN: bool = true;
+
+    #[inline(always)]
+    fn encode<O: Output>(input: &[u8], upper: bool, output: &mut O) {
+        K::encode(input, upper, output);
+    }
+
+    #[inline(always)]
+    fn check(input: &[u8]) -> bool {
+        K::check(input)
+    }
+
+    #[inline(always)]
+    fn decode_checked(input: &[u8], output: &mut [u8]) -> bool {
+        if !K::check(input) {
+            return false;
+        }
+        K::decode_unchecked(input, output);
+        true
+    }
+
+    #[inline(always)]
+    fn decode_unchecked(input: &[u8], output: &mut [u8]) {
+        K::decode_unchecked(input, output);
+    }
+}

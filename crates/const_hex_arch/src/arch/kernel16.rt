@@ -1,0 +1,97 @@
+//! The kernel of 16 lanes.
+
+ghost use Rattle.std.specs.Prelude.{◌≡◌, ◌*◌, ◌↔◌, IsTrue, false, length};
+ghost use Rattle.std.specs.List.{concat};
+ghost use Rattle.const_hex_arch.specs.Texts.{AllDigits, Spells};
+
+use crate::arch::plain::Plain;
+use crate::arch::steps::{self, Steps};
+use crate::arch::{Kernel, lanes, lanes16};
+use crate::output::Output;
+use std::simd::prelude::*;
+
+/// 16 lanes at a time, and byte by byte what follows the last whole step.
+pub struct Lanes16;
+
+impl Kernel for Lanes16 {
+    ghost USE_CHECK_FN = { false };
+
+    const USE_CHECK_FN: bool = false;
+
+    #[inline(always)]
+    fn encode<O: Output>(input: &[u8], upper: bool, output: &mut O) {
+        steps::encode::<Lanes16, Plain, O>(input, upper, output);
+    }
+
+    #[inline(always)]
+    fn check(input: &[u8]) -> bool {
+        steps::check::<Lanes16, Plain>(input)
+    }
+
+    #[inline(always)]
+    fn decode_checked(input: &[u8], output: &mut [u8]) -> bool {
+        steps::decode_checked::<Lanes16, Plain>(input, output)
+    }
+
+    #[inline(always)]
+    fn decode_unchecked(input: &[u8], output: &mut [u8]) {
+        steps::decode_unchecked::<Lanes16, Plain>(input, output);
+    }
+}
+
+impl Steps for Lanes16 {
+    ghost LANES = { 16 };
+
+    const LANES: usize = 16;
+
+    #[inline(always)]
+    fn encode_step<O: Output>(bytes: &[u8], upper: bool, output: &mut O) {
+        let lanes = u8x16::from_slice(bytes);
+        if upper {
+            output.write(&lanes16::encode_piece::<true>(lanes));
+        } else {
+            output.write(&lanes16::encode_piece::<false>(lanes));
+        }
+    }
+
+    #[inline(always)]
+    fn check_step(text: &[u8]) -> bool {
+        lanes16::check_chunk(u8x16::from_slice(text))
+    }
+
+    #[inline(always)]
+    fn check_four_steps(text: &[u8]) -> bool {
+        let first = lanes16::nibbles(u8x16::from_slice(text));
+        let second = lanes16::nibbles(u8x16::from_slice(&text[16..]));
+        let third = lanes16::nibbles(u8x16::from_slice(&text[32..]));
+        let fourth = lanes16::nibbles(u8x16::from_slice(&text[48..]));
+        lanes::are_nibbles((first | second) | (third | fourth))
+    }
+
+    #[inline(always)]
+    fn decode_step(text: &[u8], output: &mut [u8]) -> bool {
+        let (bytes, are_digits) = lanes16::decode_pair(two_vectors(text));
+        if are_digits {
+            bytes.copy_to_slice(output);
+        }
+        are_digits
+    }
+
+    #[inline(always)]
+    fn decode_digits_step(text: &[u8], output: &mut [u8]) {
+        lanes16::decode_digits(two_vectors(text)).copy_to_slice(output);
+    }
+
+    ghost use Rattle.std.proofs.Common.{arith};
+
+    ghost sizes = { (Prim.omega arith, Prim.omega arith) };
+}
+
+/// The text of a step.
+#[inline(always)]
+fn two_vectors(text: &[u8]) -> [u8x16; 2]
+    requires { length text.now ≡ 32 }
+    ensures { concat result ≡ text.now }
+{
+    [u8x16::from_slice(text), u8x16::from_slice(&text[16..])]
+}

@@ -1,0 +1,100 @@
+//! The kernel of 32 lanes.
+
+ghost use Rattle.std.specs.Prelude.{◌≡◌, ◌*◌, ◌↔◌, IsTrue, false, length};
+ghost use Rattle.std.specs.List.{concat};
+ghost use Rattle.const_hex_arch.specs.Texts.{AllDigits, Spells};
+
+use crate::arch::kernel16::Lanes16;
+use crate::arch::plain::Plain;
+use crate::arch::steps::{self, Steps};
+use crate::arch::{Kernel, lanes, lanes32};
+use crate::output::Output;
+use std::simd::prelude::*;
+
+/// 32 lanes at a time, then at most one step of 16 lanes, and byte by byte what is left.
+///
+/// What decodes without tests has no step of 16 lanes.
+pub struct Lanes32;
+
+impl Kernel for Lanes32 {
+    ghost USE_CHECK_FN = { false };
+
+    const USE_CHECK_FN: bool = false;
+
+    #[inline(always)]
+    fn encode<O: Output>(input: &[u8], upper: bool, output: &mut O) {
+        steps::encode::<Lanes32, Lanes16, O>(input, upper, output);
+    }
+
+    #[inline(always)]
+    fn check(input: &[u8]) -> bool {
+        steps::check::<Lanes32, Lanes16>(input)
+    }
+
+    #[inline(always)]
+    fn decode_checked(input: &[u8], output: &mut [u8]) -> bool {
+        steps::decode_checked::<Lanes32, Lanes16>(input, output)
+    }
+
+    #[inline(always)]
+    fn decode_unchecked(input: &[u8], output: &mut [u8]) {
+        steps::decode_unchecked::<Lanes32, Plain>(input, output);
+    }
+}
+
+impl Steps for Lanes32 {
+    ghost LANES = { 32 };
+
+    const LANES: usize = 32;
+
+    #[inline(always)]
+    fn encode_step<O: Output>(bytes: &[u8], upper: bool, output: &mut O) {
+        let lanes = u8x32::from_slice(bytes);
+        if upper {
+            output.write(&lanes32::encode_piece::<true>(lanes));
+        } else {
+            output.write(&lanes32::encode_piece::<false>(lanes));
+        }
+    }
+
+    #[inline(always)]
+    fn check_step(text: &[u8]) -> bool {
+        lanes32::check_chunk(u8x32::from_slice(text))
+    }
+
+    #[inline(always)]
+    fn check_four_steps(text: &[u8]) -> bool {
+        let first = lanes32::nibbles(u8x32::from_slice(text));
+        let second = lanes32::nibbles(u8x32::from_slice(&text[32..]));
+        let third = lanes32::nibbles(u8x32::from_slice(&text[64..]));
+        let fourth = lanes32::nibbles(u8x32::from_slice(&text[96..]));
+        lanes::are_nibbles((first | second) | (third | fourth))
+    }
+
+    #[inline(always)]
+    fn decode_step(text: &[u8], output: &mut [u8]) -> bool {
+        let (bytes, are_digits) = lanes32::decode_pair(two_vectors(text));
+        if are_digits {
+            bytes.copy_to_slice(output);
+        }
+        are_digits
+    }
+
+    #[inline(always)]
+    fn decode_digits_step(text: &[u8], output: &mut [u8]) {
+        lanes32::decode_digits(two_vectors(text)).copy_to_slice(output);
+    }
+
+    ghost use Rattle.std.proofs.Common.{arith};
+
+    ghost sizes = { (Prim.omega arith, Prim.omega arith) };
+}
+
+/// The text of a step.
+#[inline(always)]
+fn two_vectors(text: &[u8]) -> [u8x32; 2]
+    requires { length text.now ≡ 64 }
+    ensures { concat result ≡ text.now }
+{
+    [u8x32::from_slice(text), u8x32::from_slice(&text[32..])]
+}

@@ -1,0 +1,42 @@
+//! The values of digits, at any number of lanes.
+
+ghost use Rattle.std.specs.Prelude.{◌≡◌, ◌≤◌, ◌↔◌, map, IsTrue};
+ghost use Rattle.std.specs.List.{AllZip};
+ghost use Rattle.const_hex_arch.specs.Digits.{hex_value};
+ghost use Rattle.const_hex_arch.specs.Lanes.{AllNibbles};
+ghost use Rattle.const_hex_arch.specs.Nibbles.{as_value, IsValueOf};
+
+use std::simd::prelude::*;
+
+/// The value of each lane that is a digit, and more than 15 for every other lane.
+///
+/// Algorithm 3 of Wojciech Muła and Geoff Langdale, "Validating hexadecimal", 2022-01-17.
+#[inline(always)]
+pub(crate) fn nibbles<const N: usize>(v: Simd<u8, N>) -> Simd<u8, N>
+    ensures { map as_value result ≡ map hex_value v.entry }
+{
+    let decimal = (v + Simd::splat(0xC6)).saturating_sub(Simd::splat(6)) - Simd::splat(0xF0);
+    let letter = (v & Simd::splat(0xDF)) - Simd::splat(0x41);
+    // The sum of a byte and 10 that stops at 255 is min(byte, 245) + 10: equal on every byte, and
+    // one instruction less.
+    let letter = letter.simd_min(Simd::splat(245)) + Simd::splat(10);
+    decimal.simd_min(letter)
+}
+
+/// Whether no lane is above 15.
+#[inline(always)]
+pub(crate) fn are_nibbles<const N: usize>(nibbles: Simd<u8, N>) -> bool
+    requires { N ≤ 64 }
+    ensures { IsTrue result ↔ AllNibbles nibbles.entry }
+{
+    !nibbles.simd_gt(Simd::splat(15)).any()
+}
+
+/// The value of each lane that is a digit.
+#[inline(always)]
+pub(crate) fn unhex<const N: usize>(v: Simd<u8, N>) -> Simd<u8, N>
+    ensures { AllZip IsValueOf v.entry result }
+{
+    let nine = Simd::splat(9);
+    (v & Simd::splat(15)) + v.simd_gt(Simd::splat(64)).select(nine, Simd::splat(0))
+}

@@ -1,0 +1,127 @@
+//! Steps of 16 lanes.
+
+ghost use Rattle.std.specs.Prelude.{◌≡◌, ◌↔◌, [], ◌∷◌, ◌++◌, length, map, IsTrue};
+ghost use Rattle.std.specs.List.{AllZip, concat};
+ghost use Rattle.std.specs.Str.{IsAscii};
+ghost use Rattle.const_hex_arch.specs.Digits.{hex_value};
+ghost use Rattle.const_hex_arch.specs.Lanes.{AllNibbles, low_digit, byte_pairs};
+ghost use Rattle.const_hex_arch.specs.Nibbles.{as_value, IsValueOf};
+ghost use Rattle.const_hex_arch.specs.Texts.{hex_text, AllDigits, Spells};
+
+use crate::arch::lanes;
+use crate::tables::{HEX_CHARS_LOWER, HEX_CHARS_UPPER};
+use std::simd::prelude::*;
+
+/// Two digits for each lane, in order: the text of the first 8 lanes, and that of the last 8.
+#[inline(always)]
+pub fn encode_chunk<const UPPER: bool>(v: u8x16) -> [u8x16; 2]
+    ensures text { concat result ≡ hex_text UPPER v }
+    ensures lanes { map length result ≡ 16 ∷ 16 ∷ [] }
+{
+    let high = low_digits::<UPPER>(v >> u8x16::splat(4));
+    let (first, second) = high.interleave(low_digits::<UPPER>(v));
+    [first, second]
+}
+
+/// Whether every lane is a digit.
+#[inline(always)]
+pub fn check_chunk(v: u8x16) -> bool
+    ensures { IsTrue result ↔ AllDigits v }
+{
+    lanes::are_nibbles(nibbles(v))
+}
+
+/// The value of each lane that is a digit, and more than 15 for every other lane.
+#[inline(always)]
+pub fn nibbles(v: u8x16) -> u8x16
+    ensures { map as_value result ≡ map hex_value v }
+{
+    lanes::nibbles(v)
+}
+
+/// The value of each lane that is a digit. Of the other lanes nothing is said.
+#[inline(always)]
+pub fn unhex(v: u8x16) -> u8x16
+    ensures { AllZip IsValueOf v result }
+{
+    lanes::unhex(v)
+}
+
+/// The digit of the low half of each lane.
+#[inline(always)]
+fn low_digits<const UPPER: bool>(v: u8x16) -> u8x16
+    ensures { result ≡ map (low_digit UPPER) v }
+{
+    let digits = if UPPER {
+        *HEX_CHARS_UPPER
+    } else {
+        *HEX_CHARS_LOWER
+    };
+    u8x16::from_array(digits).swizzle_dyn(v & u8x16::splat(15))
+}
+
+/// The text of a step, as one piece.
+#[inline(always)]
+pub(crate) fn encode_piece<const UPPER: bool>(v: u8x16) -> [u8; 32]
+    ensures text { result ≡ hex_text UPPER v }
+    ensures ascii { IsAscii result }
+{
+    let text = encode_chunk::<UPPER>(v);
+    let mut piece = [0; 32];
+    text[0].copy_to_slice(&mut piece[..16]);
+    text[1].copy_to_slice(&mut piece[16..]);
+    piece
+}
+
+/// The bytes that the lanes of a text spell, and whether each of these lanes is a digit. Where one
+/// is not, the bytes mean nothing.
+#[inline(always)]
+pub(crate) fn decode_pair(text: [u8x16; 2]) -> (u8x16, bool)
+    ensures digits { IsTrue result.1 ↔ AllDigits (concat text) }
+    ensures spells { IsTrue result.1 → Spells (concat text) result.0 }
+{
+    let first = nibbles(text[0]);
+    let second = nibbles(text[1]);
+    (merge(first, second), lanes::are_nibbles(first | second))
+}
+
+/// The bytes that the lanes of a text spell, which have to be digits.
+#[inline(always)]
+pub(crate) fn decode_digits(text: [u8x16; 2]) -> u8x16
+    requires { AllDigits (concat text) }
+    ensures { Spells (concat text) result }
+{
+    merge(unhex(text[0]), unhex(text[1]))
+}
+
+/// One byte of each two values, the higher half first.
+#[inline(always)]
+fn merge(first: u8x16, second: u8x16) -> u8x16
+    ensures { AllNibbles (first ++ second) → result ≡ byte_pairs (first ++ second) }
+{
+    bytes_of(join(first, second))
+}
+
+/// The lanes of both.
+#[inline(always)]
+fn join(first: u8x16, second: u8x16) -> u8x32
+    ensures { result ≡ first ++ second }
+{
+    first.shuffle(
+        second,
+        [
+            0, 1, 2, 3, 4, 5, 6, 7, 8, 9, 10, 11, 12, 13, 14, 15, 16, 17, 18, 19, 20, 21, 22, 23,
+            24, 25, 26, 27, 28, 29, 30, 31,
+        ],
+    )
+}
+
+/// One byte of each two lanes, which have to be values.
+// Two lanes are one of 16 bits, high + 256 * low. Times 4097 its upper byte is 16 * high + low.
+#[inline(always)]
+fn bytes_of(nibbles: u8x32) -> u8x16
+    ensures { AllNibbles nibbles → result ≡ byte_pairs nibbles }
+{
+    let pairs = u16x16::from_le_bytes(nibbles);
+    (((pairs << u16x16::splat(12)) | pairs) >> u16x16::splat(8)).cast()
+}

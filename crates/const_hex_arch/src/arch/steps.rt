@@ -1,0 +1,130 @@
+//! Kernels by steps of lanes, with another kernel for what is left.
+
+ghost use Rattle.std.specs.Prelude.{◌≡◌, ℕ, ◌+◌, ◌*◌, ◌<◌, ◌≤◌, ◌↔◌, IsTrue, false, length};
+ghost use Rattle.const_hex_arch.specs.Runs.{HasRoom, Writes};
+ghost use Rattle.const_hex_arch.specs.Texts.{hex_text, AllDigits, Spells, Partial};
+
+use crate::arch::Kernel;
+use crate::output::Output;
+
+/// What a kernel does with as many bytes as it has lanes.
+pub(crate) trait Steps {
+    /// The same as the constant, for contracts.
+    ghost LANES: { ℕ };
+
+    /// How many bytes a step takes to encode or to check, and gives where it decodes.
+    const LANES: usize;
+
+    /// Writes two digits for each byte, as one piece.
+    fn encode_step<O: Output>(bytes: &[u8], upper: bool, output: &mut O)
+        requires size { length bytes.now ≡ LANES }
+        requires room { HasRoom (O.room output.old) (2 * LANES) }
+        ensures { O.step output.old (hex_text upper bytes.now) output.new };
+
+    /// Whether every byte is a digit.
+    fn check_step(text: &[u8]) -> bool
+        requires { length text.now ≡ LANES }
+        ensures { IsTrue result ↔ AllDigits text.now };
+
+    /// The same of four steps, under one test.
+    fn check_four_steps(text: &[u8]) -> bool
+        requires { length text.now ≡ 4 * LANES }
+        ensures { IsTrue result ↔ AllDigits text.now };
+
+    /// Fills the output with the bytes that the text spells, or leaves it as it is where some byte
+    /// is no digit, and tells which.
+    fn decode_step(text: &[u8], output: &mut [u8]) -> bool
+        requires text { length text.now ≡ 2 * LANES }
+        requires output { length output.old ≡ LANES }
+        ensures digits { IsTrue result ↔ AllDigits text.now }
+        ensures spells { IsTrue result → Spells text.now output.new }
+        ensures unchanged { result ≡ false → output.new ≡ output.old };
+
+    /// Fills the output with the bytes that digits spell.
+    fn decode_digits_step(text: &[u8], output: &mut [u8])
+        requires text { length text.now ≡ 2 * LANES }
+        requires output { length output.old ≡ LANES }
+        requires digits { AllDigits text.now }
+        ensures { Spells text.now output.new };
+
+    /// A step has some bytes, and its text is no longer than a piece.
+    ghost sizes: { (1 ≤ LANES) × (LANES ≤ 32) };
+}
+
+/// Encodes by steps, and the rest by another kernel.
+#[inline(always)]
+pub(crate) fn encode<S: Steps, R: Kernel, O: Output>(input: &[u8], upper: bool, output: &mut O)
+    requires { HasRoom (O.room output.old) (2 * length input.now) }
+    ensures { Writes O.step output.old (hex_text upper input.now) output.new }
+{
+    let mut at = 0;
+    while input.len() - at >= S::LANES {
+        S::encode_step(&input[at..at + S::LANES], upper, output);
+        at += S::LANES;
+    }
+    R::encode(&input[at..], upper, output);
+}
+
+/// Checks by four steps at a time, then by steps, and the rest by another kernel.
+#[inline(always)]
+pub(crate) fn check<S: Steps, R: Kernel>(input: &[u8]) -> bool
+    ensures { IsTrue result ↔ AllDigits input.now }
+{
+    let mut at = 0;
+    while input.len() - at >= 4 * S::LANES {
+        if !S::check_four_steps(&input[at..at + 4 * S::LANES]) {
+            return false;
+        }
+        at += 4 * S::LANES;
+    }
+    check_steps::<S, R>(&input[at..])
+}
+
+/// Checks by steps, and the rest by another kernel.
+#[inline(always)]
+fn check_steps<S: Steps, R: Kernel>(input: &[u8]) -> bool
+    ensures { IsTrue result ↔ AllDigits input.now }
+{
+    let mut at = 0;
+    while input.len() - at >= S::LANES {
+        if !S::check_step(&input[at..at + S::LANES]) {
+            return false;
+        }
+        at += S::LANES;
+    }
+    R::check(&input[at..])
+}
+
+/// Decodes by steps, and the rest by another kernel. A step that is refused ends it.
+#[inline(always)]
+pub(crate) fn decode_checked<S: Steps, R: Kernel>(input: &[u8], output: &mut [u8]) -> bool
+    requires { length input.now ≡ 2 * length output.old }
+    ensures spells { IsTrue result → Spells input.now output.new }
+    ensures refused { result ≡ false → Partial output.old input.now output.new }
+{
+    let mut at = 0;
+    while output.len() - at >= S::LANES {
+        let end = at + S::LANES;
+        if !S::decode_step(&input[2 * at..2 * end], &mut output[at..end]) {
+            return false;
+        }
+        at = end;
+    }
+    R::decode_checked(&input[2 * at..], &mut output[at..])
+}
+
+/// Decodes digits by steps, and the rest by another kernel.
+#[inline(always)]
+pub(crate) fn decode_unchecked<S: Steps, R: Kernel>(input: &[u8], output: &mut [u8])
+    requires size { length input.now ≡ 2 * length output.old }
+    requires digits { AllDigits input.now }
+    ensures { Spells input.now output.new }
+{
+    let mut at = 0;
+    while output.len() - at >= S::LANES {
+        let end = at + S::LANES;
+        S::decode_digits_step(&input[2 * at..2 * end], &mut output[at..end]);
+        at = end;
+    }
+    R::decode_unchecked(&input[2 * at..], &mut output[at..]);
+}

@@ -1,0 +1,150 @@
+//! An output that gathers small pieces into large ones.
+
+ghost use Rattle.std.specs.Prelude.{◌≡◌, ℕ, ◌+◌, ◌-◌, ◌<◌, ◌≤◌, List, [], ◌∷◌, ◌++◌, length, take};
+ghost use Rattle.std.specs.List.{FoldsTo};
+ghost use Rattle.std.specs.Str.{IsAscii};
+ghost use Rattle.const_hex_arch.specs.Runs.{HasRoom, less_room};
+ghost use Rattle.const_hex_arch.specs.Gathering.{Gathers, piece_of};
+
+use crate::output::Output;
+use std::marker::Model;
+
+/// Gathers up to `N` bytes before it hands them on to an output.
+///
+/// Contracts see it as a pair: the output, and the text that is pending. A piece that does not fit
+/// behind what is pending has that handed on first; then a piece of at least `N` bytes is handed
+/// straight on, and a shorter one is kept. Where nothing is pending, nothing is handed on. What is
+/// pending is lost where it is dropped without [`finish`](BufferedOutput::finish).
+///
+/// ```rust
+/// let mut text = [0u8; 6];
+/// let mut output = BufferedOutput::<SliceOutput<'_>, 4>::new(SliceOutput::new(&mut text));
+/// output.write(b"abc");
+/// output.write(b"def");
+/// let _ = output.finish();
+/// assert_eq!(rt; text, *b"abcdef");
+/// ```
+#[derive(Drop)]
+pub struct BufferedOutput<O: Output, const N: usize> {
+    output: O,
+    buffer: [u8; N],
+    count: usize,
+}
+
+impl<O: Output, const N: usize> Model for BufferedOutput<O, N> {
+    ghost Value = { O × List ℕ };
+
+    ghost view = { λ s. (s.output, take s.count s.buffer) };
+
+    ghost invariant = { λ s. (0 < N) × (s.count ≤ N) × IsAscii (take s.count s.buffer)
+        × HasRoom (O.room s.output) (length (take s.count s.buffer)) };
+}
+
+impl<O: Output, const N: usize> BufferedOutput<O, N> {
+    /// A gathering output over that output, with nothing pending.
+    #[inline]
+    pub fn new(output: O) -> BufferedOutput<O, N>
+        requires { 0 < N }
+        ensures { result ≡ (output, []) }
+    {
+        BufferedOutput {
+            output,
+            buffer: [0; N],
+            count: 0,
+        }
+    }
+
+    /// Hands on what is pending, if anything, and gives the output back.
+    #[inline]
+    pub fn finish(self) -> O
+        ensures { FoldsTo O.step self.0 (piece_of self.1) result }
+    {
+        let mut this = self;
+        this.flush();
+        let BufferedOutput {
+            output,
+            buffer: _,
+            count: _,
+        } = this;
+        output
+    }
+
+    /// Hands on what is pending, if anything.
+    #[inline]
+    fn flush(&mut self)
+        ensures run { FoldsTo O.step self.old.0 (piece_of self.old.1) self.new.0 }
+        ensures room { O.room self.new.0 ≡ less_room (O.room self.old.0) (length self.old.1) }
+        ensures empty { self.new.1 ≡ [] }
+    {
+        if self.count != 0 {
+            self.output.write(&self.buffer[..self.count]);
+            self.count = 0;
+        }
+    }
+
+    /// Keeps a piece for which there is space.
+    #[inline(always)]
+    fn keep(&mut self, bytes: &[u8])
+        requires ascii { IsAscii bytes.now }
+        requires space { length self.old.1 + length bytes.now ≤ N }
+        requires room { HasRoom (O.room self.old.0) (length self.old.1 + length bytes.now) }
+        ensures output { self.new.0 ≡ self.old.0 }
+        ensures pending { self.new.1 ≡ self.old.1 ++ bytes.now }
+    {
+        let start = self.count;
+        let end = start + bytes.len();
+        let buffer = &mut self.buffer[..];
+        buffer[start..end].copy_from_slice(bytes);
+        self.count = end;
+    }
+
+    /// How many bytes are pending.
+    #[inline(always)]
+    fn pending(&self) -> usize
+        ensures count { result ≡ length self.now.1 }
+        ensures bound { result ≤ N }
+        ensures positive { 0 < N }
+        ensures room { HasRoom (O.room self.now.0) (length self.now.1) }
+    {
+        self.count
+    }
+}
+
+impl<O: Output, const N: usize> Output for BufferedOutput<O, N> {
+    ghost step = { λ s piece t. Gathers O.step O.room N s.0 s.1 piece t.0 t.1 };
+
+    ghost room = { λ s. less_room (O.room s.0) (length s.1) };
+
+    /// What the output still takes, less what is pending.
+    #[inline]
+    fn remaining(&self) -> Option<usize> {
+        match self.output.remaining() {
+            Some(room) => Some(room - self.count),
+            None => None,
+        }
+    }
+
+    #[inline(always)]
+    fn write(&mut self, bytes: &[u8]) {
+        if bytes.len() > N - self.pending() {
+            self.flush();
+        }
+        if bytes.len() >= N {
+            self.output.write(bytes);
+        } else {
+            self.keep(bytes);
+        }
+    }
+
+    #[inline(always)]
+    fn write_byte(&mut self, byte: u8) {
+        if self.pending() == N {
+            self.flush();
+        }
+        self.keep(&[byte]);
+    }
+
+    ghost use Rattle.const_hex_arch.specs.Laws.{Gathers_room};
+
+    ghost shrinks = { λ s piece t h. Gathers_room O.step O.room O.shrinks N s.0 s.1 piece t.0 t.1 h };
+}

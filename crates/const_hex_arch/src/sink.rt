@@ -1,0 +1,65 @@
+//! What takes text piece by piece, and may refuse.
+
+ghost use Rattle.std.specs.Prelude.{◌≡◌, ℕ, Bool, true, false, not, List, [], ◌∷◌, ◌++◌, is_ok, Option, Some, if◌then◌else◌, codes};
+ghost use Rattle.const_hex_arch.specs.Sinks.{told_after};
+
+pub mod output;
+pub mod pieces;
+
+use std::error::Error;
+use std::fmt;
+
+/// A sink refused a piece. Any two are equal.
+#[derive(Clone, Copy, Debug, PartialEq, Eq)]
+pub struct SinkError;
+
+impl fmt::Display for SinkError {
+    ghost output = { λ _. Some (codes "sink refused") };
+
+    fn fmt<W: fmt::Write>(&self, f: &mut fmt::Formatter<W>) -> fmt::Result {
+        write!(f, "sink refused")
+    }
+}
+
+impl Error for SinkError {}
+
+/// What takes text piece by piece, until it refuses one.
+///
+/// Each type says by its `step` what a call does. A sink that has refused takes no further call.
+pub trait Sink {
+    /// What a call does: the state before, the piece that is offered, and the state after.
+    ghost step: { Self → List ℕ → Self → Type 0 };
+
+    /// Whether it has refused a piece.
+    ghost is_refused: { Self → Bool };
+
+    /// The pieces that it accepted, in order, where it tells them.
+    ghost told: { Self → Option (List (List ℕ)) };
+
+    /// Whether it has refused a piece.
+    fn refused(&self) -> bool
+        ensures { result ≡ is_refused self.now };
+
+    /// Offers a piece: `Ok` where it is accepted, and an error where it is refused. The sink must
+    /// not have refused before.
+    fn write_str(&mut self, s: &str) -> Result<(), SinkError>
+        requires { is_refused self.old ≡ false }
+        ensures step { step self.old s.now self.new }
+        ensures flag { is_ok result ≡ not (is_refused self.new) };
+
+    /// A piece that is accepted is told last, and a refusal leaves what is told.
+    ghost tells: { (s : Self) (piece : List ℕ) (t : Self) → step s piece t
+        → told t ≡ told_after (told s) (if is_refused t then [] else piece ∷ []) };
+}
+
+/// An error where the sink has refused.
+#[inline]
+pub(crate) fn refusal_of<S: Sink>(sink: &S) -> Result<(), SinkError>
+    ensures { is_ok result ≡ not (S.is_refused sink.now) }
+{
+    if sink.refused() {
+        Err(SinkError)
+    } else {
+        Ok(())
+    }
+}

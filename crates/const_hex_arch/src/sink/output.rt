@@ -1,0 +1,78 @@
+//! An output over a sink.
+
+ghost use Rattle.std.specs.Prelude.{◌≡◌, ℕ, ◌≤◌, List, [], ◌∷◌, length, true, false, not, is_ok, None};
+ghost use Rattle.const_hex_arch.specs.Sinks.{SinkStep, output_sink, sink_name};
+
+use crate::output::Output;
+use crate::sink::{Sink, SinkError, refusal_of};
+
+/// Writes to a sink, and skips what comes after the first refusal.
+///
+/// ```rust
+/// let mut sink = PieceSink::new(rt.alloc(), 2);
+/// let mut output = SinkOutput::new(&mut sink);
+/// output.write(b"one");
+/// output.write(b"two");
+/// output.write(b"three");
+/// assert_eq!(rt; output.finish(), Err(SinkError));
+/// assert_eq!(rt; sink.calls(), 2);
+/// ```
+#[derive(Drop)]
+pub struct SinkOutput<'a, S> {
+    sink: &'a mut S,
+}
+
+impl<'a, S: Sink> SinkOutput<'a, S> {
+    /// An output to that sink, which must not have refused.
+    #[inline]
+    pub fn new(sink: &'a mut S) -> SinkOutput<'a, S>
+        requires { S.is_refused sink.old ≡ false }
+        ensures same_sink { sink_name result ≡ sink.entry.ghost_name }
+        ensures sink { output_sink result ≡ sink.old }
+    {
+        SinkOutput { sink }
+    }
+
+    /// `Ok` where the sink accepted all that was written, and an error where it refused.
+    pub fn finish(self) -> Result<(), SinkError>
+        ensures flag { is_ok result ≡ not (S.is_refused (output_sink self.entry)) }
+        ensures unchanged { self.exit.0.now ≡ output_sink self.entry }
+    {
+        refusal_of(&*self.sink)
+    }
+
+    /// The sink, lent again.
+    #[inline]
+    pub(crate) fn into_inner(self) -> &'a mut S
+        ensures same_sink { result.ghost_name ≡ sink_name self.entry }
+        ensures sink { result.now ≡ output_sink self.entry }
+    {
+        self.sink
+    }
+}
+
+impl<S: Sink> Output for SinkOutput<'_, S> {
+    ghost step = { SinkStep S.step S.is_refused };
+
+    ghost room = { λ _. None };
+
+    /// A sink has no limit.
+    #[inline]
+    fn remaining(&self) -> Option<usize> {
+        None
+    }
+
+    #[inline]
+    fn write(&mut self, bytes: &[u8]) {
+        if self.sink.refused() {
+            return;
+        }
+        let _ = self
+            .sink
+            .write_str(unsafe { str::from_utf8_unchecked(bytes) });
+    }
+
+    ghost use Rattle.std.proofs.Common.{refl};
+
+    ghost shrinks = { λ s piece t h. refl };
+}

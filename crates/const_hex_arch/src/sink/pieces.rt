@@ -1,0 +1,112 @@
+//! A sink that keeps its pieces.
+
+ghost use Rattle.std.specs.Prelude.{◌≡◌, ◌≢◌, ℕ, ◌+◌, ◌≤◌, ◌↔◌, List, [], ◌∷◌, ◌++◌, Bool, true, false, not, map, length, string_bytes, is_ok, IsTrue, OnOk, OnErr, Some};
+ghost use Rattle.const_hex_arch.specs.Pieces.{PieceState, PieceStep, count_of_calls};
+
+use crate::sink::{Sink, SinkError};
+use std::alloc::{AllocError, Global};
+use std::marker::Model;
+
+/// Keeps a copy of each piece, and refuses at a call of a given number, or for want of memory.
+///
+/// Contracts see it as the pieces that it accepted, that number, and whether it refused.
+///
+/// ```rust
+/// let mut sink = PieceSink::new(rt.alloc(), 0);
+/// assert!(rt; sink.write_str("one").is_ok());
+/// assert_eq!(rt; sink.pieces()[0], "one");
+/// assert_eq!(rt; sink.calls(), 1);
+/// ```
+#[derive(Drop)]
+pub struct PieceSink {
+    alloc: Global,
+    pieces: Vec<String>,
+    refuse_at: usize,
+    refused: bool,
+}
+
+impl Model for PieceSink {
+    ghost use Rattle.std.specs.Prelude.{map, string_bytes};
+    ghost use Rattle.const_hex_arch.specs.Pieces.{PieceState};
+
+    ghost Value = { PieceState };
+
+    ghost view = { λ s. record {
+      pieces = map (λ p. string_bytes p) s.pieces.items;
+      refuse_at = s.refuse_at;
+      refused = s.refused;
+    } };
+}
+
+impl PieceSink {
+    /// A sink with no pieces, which refuses at the call of that number, counted from 1, or at 0
+    /// never. It takes no memory, and keeps the allocator for the pieces.
+    pub fn new(alloc: Global, refuse_at: usize) -> PieceSink
+        ensures { result ≡ record { pieces = []; refuse_at = refuse_at; refused = false } }
+    {
+        PieceSink {
+            alloc,
+            pieces: Vec::new(alloc),
+            refuse_at,
+            refused: false,
+        }
+    }
+
+    /// The pieces that it accepted, in order.
+    pub fn pieces(&self) -> &[String]
+        ensures { map (λ p. string_bytes p) result.now ≡ self.now.pieces }
+    {
+        self.pieces.as_slice()
+    }
+
+    /// How many calls there were: one for each piece, and the one that it refused.
+    pub fn calls(&self) -> usize
+        ensures { result ≡ count_of_calls self.now }
+    {
+        self.pieces.len() + usize::from(self.refused)
+    }
+
+    /// Whether it refused, and not at the call of the given number: so for want of memory.
+    pub fn no_memory(&self) -> bool
+        ensures { IsTrue result
+            ↔ ((self.now.refused ≡ true) × (count_of_calls self.now ≢ self.now.refuse_at)) }
+    {
+        self.refused && self.calls() != self.refuse_at
+    }
+
+    /// Keeps a copy of a piece. Memory for the copy and for its place is asked for before anything
+    /// is added.
+    fn keep(&mut self, piece: &str) -> Result<(), AllocError>
+        ensures ok { OnOk result
+            (self.new ≡ record self.old { pieces = self.old.pieces ++ piece.now ∷ [] }) }
+        ensures err { OnErr result (self.new ≡ self.old) }
+    {
+        let copy = String::from_str(self.alloc, piece)?;
+        self.pieces.push(copy)?;
+        Ok(())
+    }
+}
+
+impl Sink for PieceSink {
+    ghost step = { PieceStep };
+
+    ghost is_refused = { λ s. s.refused };
+
+    ghost told = { λ s. Some s.pieces };
+
+    fn refused(&self) -> bool {
+        self.refused
+    }
+
+    fn write_str(&mut self, s: &str) -> Result<(), SinkError> {
+        if self.pieces.len() + 1 == self.refuse_at || self.keep(s).is_err() {
+            self.refused = true;
+            return Err(SinkError);
+        }
+        Ok(())
+    }
+
+    ghost use Rattle.const_hex_arch.specs.Laws.{PieceStep-tells};
+
+    ghost tells = { PieceStep-tells };
+}

@@ -1,0 +1,77 @@
+//! The text of bytes, handed to a sink in large pieces.
+
+ghost use Rattle.std.specs.Prelude.{◌≡◌, ◌≤◌, false, not, is_ok};
+ghost use Rattle.const_hex_arch.specs.Texts.{full_text};
+ghost use Rattle.const_hex_arch.specs.Streams.{Streams, TellsCut, hex_bytes};
+
+use crate::arch::{FixedKernel, Kernel, encode_full};
+use crate::output::buffered::BufferedOutput;
+use crate::sink::output::SinkOutput;
+use crate::sink::{Sink, SinkError, refusal_of};
+
+/// How many bytes are gathered for one call of a sink.
+const GATHERED: usize = 4096;
+
+/// Bytes that are written as text, in upper or lower digits, with or without `0x` in front.
+///
+/// The text goes to a sink in pieces of at most 4096 bytes, each but the last of at least 4033, and
+/// no call follows a refusal. No bytes without a prefix make no call. Nothing takes memory but what
+/// the sink takes.
+///
+/// ```rust
+/// let mut sink = PieceSink::new(rt.alloc(), 0);
+/// let hex = BufferedHex::<false, true>::new(b"kiwi");
+/// assert!(rt; hex.write_to(&mut sink).is_ok());
+/// assert_eq!(rt; sink.pieces()[0], "0x6b697769");
+/// ```
+#[derive(Drop)]
+pub struct BufferedHex<'a, const UPPER: bool, const PREFIX: bool> {
+    bytes: &'a [u8],
+}
+
+impl<'a, const UPPER: bool, const PREFIX: bool> BufferedHex<'a, UPPER, PREFIX> {
+    /// Those bytes, to be written as text.
+    #[inline]
+    pub fn new(bytes: &'a [u8]) -> BufferedHex<'a, UPPER, PREFIX>
+        ensures { hex_bytes result ≡ bytes.now }
+    {
+        BufferedHex { bytes }
+    }
+
+    /// Writes the text to a sink that has not refused, by the fixed kernel: `Ok` where the sink
+    /// accepted all of it, and an error where it refused a piece.
+    pub fn write_to<S: Sink>(&self, sink: &mut S) -> Result<(), SinkError>
+        requires { S.is_refused sink.old ≡ false }
+        ensures streams { Streams S.step S.is_refused sink.old
+            (full_text PREFIX UPPER (hex_bytes self.now)) sink.new }
+        ensures flag { is_ok result ≡ not (S.is_refused sink.new) }
+        ensures told { S.is_refused sink.new ≡ false
+            → TellsCut (S.told sink.old) (full_text PREFIX UPPER (hex_bytes self.now))
+            (S.told sink.new) }
+    {
+        self.write_with::<FixedKernel, S>(sink)
+    }
+
+    /// The same by a kernel of the caller's choice.
+    pub fn write_with<K: Kernel, S: Sink>(&self, sink: &mut S) -> Result<(), SinkError>
+        requires { S.is_refused sink.old ≡ false }
+        ensures streams { Streams S.step S.is_refused sink.old
+            (full_text PREFIX UPPER (hex_bytes self.now)) sink.new }
+        ensures flag { is_ok result ≡ not (S.is_refused sink.new) }
+        ensures told { S.is_refused sink.new ≡ false
+            → TellsCut (S.told sink.old) (full_text PREFIX UPPER (hex_bytes self.now))
+            (S.told sink.new) }
+    {
+        let mut output = BufferedOutput::<SinkOutput<'_, S>, GATHERED>::new(SinkOutput::new(sink));
+        encode_full::<K, BufferedOutput<SinkOutput<'_, S>, GATHERED>>(
+            self.bytes,
+            PREFIX,
+            UPPER,
+            &mut output,
+        );
+        let back = output.finish().into_inner();
+        // Without effect: the proof reads here what is left behind the loan.
+        let _ = &*back;
+        refusal_of(sink)
+    }
+}

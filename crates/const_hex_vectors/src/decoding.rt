@@ -1,0 +1,109 @@
+//! Worked examples of checking and decoding.
+
+use const_hex::{
+    FromHexError, check, check_raw, const_check, const_check_raw, const_decode_to_array, decode,
+    decode_to_array, decode_to_slice,
+};
+use std::test::Fail;
+
+const HELLO: &str = "48656c6c6f20776f726c6421";
+
+fn bad(c: char, index: usize) -> FromHexError {
+    FromHexError::InvalidHexCharacter { c, index }
+}
+
+#[test]
+fn accepted_texts(rt: HostRuntime) -> Result<(), Fail> {
+    let rows: [(&[u8], &[u8]); 6] = [
+        (b"", b""),
+        (b"0x", b""),
+        (b"0X6B697769", b"kiwi"),
+        (b"6b697769", b"kiwi"),
+        (b"0x48656c6c6f20776f726c6421", b"Hello world!"),
+        (b"48656C6C6F20776f726c6421", b"Hello world!"),
+    ];
+    for (text, bytes) in rows {
+        assert_eq!(rt; decode(rt.alloc(), text)?.as_slice(), bytes);
+        assert_eq!(rt; check(text), Ok(()));
+        assert_eq!(rt; const_check(text), Ok(()));
+    }
+    Ok(())
+}
+
+#[test]
+fn odd_texts(rt: HostRuntime) {
+    let texts: [&[u8]; 4] = [b"0x1", b"foo", b"123", b"48656c6c6f20776f726c642"];
+    for text in texts {
+        let odd = FromHexError::OddLength;
+        assert_eq!(rt; decode(rt.alloc(), text).err(), Some(odd));
+        assert_eq!(rt; check(text), Err(odd));
+        assert_eq!(rt; const_check(text), Err(odd));
+        assert_eq!(rt; decode_to_array::<1>(text), Err(odd));
+        assert_eq!(rt; const_decode_to_array::<1>(text), Err(odd));
+    }
+}
+
+#[test]
+fn bad_characters(rt: HostRuntime) {
+    let rows: [(&[u8], char, usize, usize); 4] = [
+        (b"0x0x", 'x', 1, 3),
+        (b"0xzz", 'z', 0, 2),
+        (b"Hello world!", 'H', 0, 0),
+        (&[0xFF, 0x30], '\u{FF}', 0, 0),
+    ];
+    for (text, c, in_body, in_text) in rows {
+        assert_eq!(rt; decode(rt.alloc(), text).err(), Some(bad(c, in_body)));
+        assert_eq!(rt; const_check(text), Err(bad(c, in_body)));
+        assert_eq!(rt; check(text), Err(bad(c, in_text)));
+    }
+    assert_eq!(rt; decode_to_array::<1>(b"0xzz"), Err(bad('z', 0)));
+    assert_eq!(rt; const_decode_to_array::<1>(b"0xzz"), Err(bad('z', 0)));
+}
+
+#[test]
+fn raw_checks(rt: HostRuntime) {
+    let rows: [(&[u8], bool); 5] = [
+        (b"48656c6c6f20776f726c642", true),
+        (HELLO.as_bytes(), true),
+        (b"0x48656c6c6f20776f726c6421", false),
+        (b"Hello world!", false),
+        (b"", true),
+    ];
+    for (text, want) in rows {
+        assert_eq!(rt; check_raw(text), want);
+        assert_eq!(rt; const_check_raw(text), want);
+    }
+}
+
+#[test]
+fn sized_outputs(rt: HostRuntime) {
+    let mut bytes = [0xEE; 3];
+    let refused = Err(FromHexError::InvalidStringLength);
+    assert_eq!(rt; decode_to_slice(b"6b697769", &mut bytes), refused);
+    assert_eq!(rt; decode_to_slice(b"zz", &mut bytes), refused);
+    assert_eq!(rt;
+        decode_to_slice(b"zzz", &mut bytes),
+        Err(FromHexError::OddLength)
+    );
+    assert_eq!(rt; bytes, [0xEE; 3]);
+    assert_eq!(rt; decode_to_slice(b"0x", &mut []), Ok(()));
+    let mut byte = [0xEE];
+    assert_eq!(rt; decode_to_slice(b"0x", &mut byte), refused);
+    assert_eq!(rt; byte, [0xEE]);
+    let mut kiwi = [0; 4];
+    assert_eq!(rt; decode_to_slice(b"6b697769", &mut kiwi), Ok(()));
+    assert_eq!(rt; &kiwi, b"kiwi");
+}
+
+#[test]
+fn arrays(rt: HostRuntime) {
+    let texts: [&[u8]; 3] = [b"0X6B697769", b"0x6b697769", b"6b697769"];
+    for text in texts {
+        assert_eq!(rt; decode_to_array::<4>(text), Ok(*b"kiwi"));
+        assert_eq!(rt; const_decode_to_array::<4>(text), Ok(*b"kiwi"));
+    }
+    let refused = Err(FromHexError::InvalidStringLength);
+    assert_eq!(rt; decode_to_array::<2>(b"ff"), refused);
+    assert_eq!(rt; const_decode_to_array::<2>(b"ff"), refused);
+    assert_eq!(rt; decode_to_array::<0>(b"0X"), Ok([]));
+}

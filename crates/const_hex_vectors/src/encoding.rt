@@ -1,0 +1,69 @@
+//! Worked examples of encoding.
+
+use const_hex::{
+    FromHexError, encode, encode_prefixed, encode_to_slice, encode_to_slice_upper, encode_upper,
+    encode_upper_prefixed,
+};
+use std::test::Fail;
+
+#[test]
+fn owned_texts(rt: HostRuntime) -> Result<(), Fail> {
+    let alloc = rt.alloc();
+    let rows: [(&[u8], &str, &str); 4] = [
+        (b"", "", ""),
+        (b"kiwi", "6b697769", "6B697769"),
+        (
+            b"Hello world!",
+            "48656c6c6f20776f726c6421",
+            "48656C6C6F20776F726C6421",
+        ),
+        (&[1, 2, 3, 15, 16], "0102030f10", "0102030F10"),
+    ];
+    for (bytes, lower, upper) in rows {
+        assert_eq!(rt; encode(alloc, bytes)?.as_str(), lower);
+        assert_eq!(rt; encode_upper(alloc, bytes)?.as_str(), upper);
+        let prefixed = format!(in alloc; "0x{lower}")?;
+        assert_eq!(rt; encode_prefixed(alloc, bytes)?.as_str(), prefixed.as_str());
+        let prefixed = format!(in alloc; "0x{upper}")?;
+        assert_eq!(rt;
+            encode_upper_prefixed(alloc, bytes)?.as_str(),
+            prefixed.as_str()
+        );
+    }
+    Ok(())
+}
+
+#[test]
+fn texts_in_slices(rt: HostRuntime) -> Result<(), Fail> {
+    let mut text = [0xEE; 8];
+    assert_eq!(rt; encode_to_slice(b"kiwi", &mut text), Ok(()));
+    assert_eq!(rt; &text, b"6b697769");
+    assert_eq!(rt; encode_to_slice_upper(b"kiwi", &mut text), Ok(()));
+    assert_eq!(rt; &text, b"6B697769");
+    assert_eq!(rt; encode_to_slice(b"", &mut []), Ok(()));
+    Ok(())
+}
+
+#[test]
+fn other_lengths_are_refused(rt: HostRuntime) -> Result<(), Fail> {
+    let untouched = [0xEE; 20];
+    for len in 0..=20usize {
+        if len == 10 {
+            continue;
+        }
+        let mut output = untouched;
+        let refused = Err(FromHexError::InvalidStringLength);
+        assert_eq!(rt;
+            encode_to_slice(b"12345", &mut output[..len]),
+            refused,
+            "at {len}"
+        );
+        assert_eq!(rt;
+            encode_to_slice_upper(b"12345", &mut output[..len]),
+            refused,
+            "at {len}"
+        );
+        assert_eq!(rt; output, untouched, "at {len}");
+    }
+    Ok(())
+}

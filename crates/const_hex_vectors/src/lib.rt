@@ -1,0 +1,13 @@
+//! Tests of `const_hex` from outside: worked examples, tables, and every kernel.
+//!
+//! Expected values come from the codec's written rules or from what std prints.
+#![tactic(auto)]
+
+#[cfg(test)]
+mod decoding;
+#[cfg(test)]
+mod encoding;
+#[cfg(test)]
+mod refusals;
+#[cfg(test)]
+mod tables;

@@ -1,0 +1,43 @@
+-- Steps of the loops that read and write pieces.
+use borrow.Rule.Slice.PartMut.{put_mid, post_of}
+use Rattle.std.proofs.Common.{◌≡◌, ℕ, ◌+◌, ◌-◌, ◌≤◌, List, ◌++◌, length, take, drop, Option, ap, ◌∙◌, append_assoc, arith}
+use Rattle.std.proofs.KnownBytes.{Appends-trans, Consumes-trans}
+use Rattle.std.proofs.Math.Seq.{take-add, take-append-add}
+use Rattle.std.proofs.lemmas.List.{take_all, take-append-le, length-drop, length-take, length-take-le, take-take}
+use Rattle.std.specs.Io.KnownBytes.{Appends, Consumes}
+
+pub write_step : (o a b : Option (List ℕ)) (bytes : List ℕ) (done n : ℕ)
+    → Appends o a (take done bytes)
+    → Appends a b (take n (take (length bytes - done) (drop done bytes)))
+    → Appends o b (take (done + n) bytes)
+write_step o a b bytes done n p q =
+    let all = take_all (length bytes - done) (drop done bytes) (simp length-drop (omega arith)) in
+    rw (take-add done n bytes) (Appends-trans o a b (take done bytes) (take n (drop done bytes)) p (rw all at q))
+
+pub write_within : (bytes : List ℕ) (done n : ℕ) → done ≤ length bytes
+    → n ≤ length (take (length bytes - done) (drop done bytes)) → done + n ≤ length bytes
+write_within bytes done n h k =
+    let m = simp (length-take, length-drop) at k in omega (arith, m)
+
+take_two : (front piece rest : List ℕ) (n : ℕ) → n ≤ length piece
+    → take (length front + n) (front ++ (piece ++ rest)) ≡ front ++ take n piece
+take_two front piece rest n inside =
+    take-append-add front (piece ++ rest) n ∙ ap (λ l. front ++ l) (take-append-le n piece rest inside)
+
+pub read_within : (xs piece : List ℕ) (count n : ℕ) → count ≤ length xs
+    → length piece ≡ length (take (length xs - count) (drop count xs)) → n ≤ length piece → count + n ≤ length xs
+read_within xs piece count n started sized inside =
+    let m = simp (length-take, length-drop) at sized in omega (arith, m)
+
+-- n bytes were read behind the first count of what a vector held, into a part that then holds piece
+pub read_step : (o a b : Option (List ℕ)) (held xs piece : List ℕ) (count n len : ℕ)
+    → n ≤ length piece → count + n ≤ len → count ≤ length xs
+    → Consumes o a (take count xs) → Consumes a b (take n piece)
+    → let put = put_mid count (length xs - count) xs piece in
+    Consumes o b (take (count + n) (take len (put ++ drop (length put) held)))
+read_step o a b held xs piece count n len inside within started p q =
+    let after = post_of count (length xs - count) xs in
+    let rest = drop (length (put_mid count (length xs - count) xs piece)) held in
+    let front = length-take-le count xs started in
+    let two = take_two (take count xs) piece (after ++ rest) n inside in
+    rw (take-take (count + n) len _ within, append_assoc, append_assoc) (rw (rw front at two) (Consumes-trans o a b (take count xs) (take n piece) p q))

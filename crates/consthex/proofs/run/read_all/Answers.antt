@@ -1,0 +1,18 @@
+use Rattle.std.proofs.Common.{◌≤◌, length, arith}
+use Rattle.consthex.proofs.Pieces.{read_step, read_within}
+use Rattle.consthex.proofs.run.read_all.Goals as goal
+
+pub reads-preserved : goal.reads-preserved
+reads-preserved g c =
+    let had = c.deref_mut.result.now in
+    let made = c.in_ok-make_room.ensures in
+    let inside = c.in-Ok.ensures.bound.0 in
+    let started : c.reads.count ≤ length had = omega (arith, made.room, c.deref_mut.ensures.len) in
+    let within = read_within had c.read.new.buf c.reads.count c.in-Ok.read started c.read.auto.buf inside in
+    record {
+      within = omega (arith, within, c.deref_mut.ensures.len);
+      bound = made.bound;
+      read = read_step _ _ _ c.make_room.new.bytes.items had c.read.new.buf c.reads.count c.in-Ok.read c.make_room.new.bytes.len inside
+          (omega (arith, within, c.deref_mut.ensures.len)) started
+          (rw (c.deref_mut.ensures.value, made.kept c.reads.invariant.within) c.reads.invariant.read) c.in-Ok.ensures.bytes.0;
+    }

@@ -1,0 +1,4 @@
+pub mod Answer
+pub mod Errors
+pub mod Outcome
+pub mod Words
