@@ -13,3 +13,6 @@ pub use crate::traits::chars::BytesToHexChars;
 pub use crate::traits::faults::HexFault;
 pub use crate::traits::reading::FromHex;
 pub use crate::traits::writing::{ToHex, ToHexExt};
+
+#[cfg(test)]
+mod tests;

@@ -1,6 +1,6 @@
 //! Reading into signed elements, which have the bits of the bytes.
 
-ghost use Rattle.std.specs.Prelude.{◌≡◌, ◌^◌, ◌<◌, length, map, IfOk};
+ghost use Rattle.std.specs.Prelude.{◌≡◌, length, map};
 ghost use Rattle.std.specs.Box.{boxed_slice_items};
 ghost use Rattle.const_hex.specs.Answers.{ReadsSized};
 ghost use Rattle.const_hex.specs.Elements.{signed_of, byte_of};
@@ -10,33 +10,18 @@ ghost use Rattle.const_hex.specs.TypeLaws.{ReadsOwned-faithful, ReadsSized-faith
 use crate::codec::decoders::{decode, decode_to_array};
 use crate::error::FromHexError;
 use crate::traits::reading::FromHex;
-use std::alloc::{AllocError, Global};
+use std::alloc::Global;
 use std::boxed::BoxedSlice;
 
-/// The number with the bits of a byte.
+/// Fills the numbers with the bits of the bytes, of which there have to be as many.
 #[inline(always)]
-fn signed(byte: u8) -> i8
-    ensures { result ≡ signed_of byte }
+fn fill_signed(bytes: &[u8], numbers: &mut [i8])
+    requires { length numbers.old ≡ length bytes.now }
+    ensures { numbers.new ≡ map signed_of bytes.now }
 {
-    byte.cast_signed()
-}
-
-/// The numbers with the bits of the bytes, owned.
-fn signed_vector(alloc: Global, bytes: &[u8]) -> Result<Vec<i8>, AllocError>
-    ensures { IfOk result (λ v. v.items ≡ map signed_of bytes.now) }
-{
-    bytes.iter().map(|byte| signed(*byte)).collect(alloc)
-}
-
-/// The numbers with the bits of the bytes.
-fn signed_array<const N: usize>(bytes: [u8; N]) -> [i8; N]
-    ensures { result ≡ map signed_of bytes.entry }
-{
-    let mut numbers = [0i8; N];
-    'bytes: for i in 0..N {
-        numbers[i] = signed(bytes[i]);
+    'bytes: for i in 0..bytes.len() {
+        numbers[i] = bytes[i].cast_signed();
     }
-    numbers
 }
 
 /// The numbers with the bits of the bytes, by the answers of [`decode`](crate::decode).
@@ -53,7 +38,8 @@ impl FromHex for Vec<i8> {
 
     fn from_hex(alloc: Global, hex: &[u8]) -> Result<Vec<i8>, FromHexError> {
         let bytes = decode(alloc, hex)?;
-        let numbers = signed_vector(alloc, &bytes)?;
+        let mut numbers = vec![in alloc; 0i8; bytes.len()]?;
+        fill_signed(&bytes, &mut numbers);
         Ok(numbers)
     }
 }
@@ -91,6 +77,8 @@ impl<const N: usize> FromHex for [i8; N] {
 
     fn from_hex(_alloc: Global, hex: &[u8]) -> Result<[i8; N], FromHexError> {
         let bytes = decode_to_array::<N>(hex)?;
-        Ok(signed_array(bytes))
+        let mut numbers = [0i8; N];
+        fill_signed(&bytes, &mut numbers);
+        Ok(numbers)
     }
 }

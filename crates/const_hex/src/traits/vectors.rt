@@ -1,15 +1,13 @@
 //! Reading into vectors and boxed slices.
 
-ghost use Rattle.std.specs.Prelude.{◌≡◌, ℤ, map, IfOk};
 ghost use Rattle.std.specs.Box.{boxed_slice_items};
-ghost use Rattle.const_hex.specs.Elements.{signed_of, byte_of};
-ghost use Rattle.const_hex.specs.Types.{AnyCount, ReadsOwned, ReadsSigned};
-ghost use Rattle.const_hex.specs.TypeLaws.{ReadsOwned-faithful, ReadsSigned-faithful};
+ghost use Rattle.const_hex.specs.Types.{AnyCount, ReadsOwned};
+ghost use Rattle.const_hex.specs.TypeLaws.{ReadsOwned-faithful};
 
 use crate::codec::decoders::decode;
 use crate::error::FromHexError;
 use crate::traits::reading::FromHex;
-use std::alloc::{AllocError, Global};
+use std::alloc::Global;
 use std::boxed::BoxedSlice;
 
 /// The bytes, by the answers of [`decode`](crate::decode).

@@ -19,7 +19,7 @@ impl HoldsBytes for Vec<u8> {
     ghost held_bytes = { λ v. v.items };
 
     fn held_bytes(&self) -> &[u8] {
-        self
+        self.as_slice()
     }
 }
 
@@ -35,7 +35,7 @@ impl<const N: usize> HoldsBytes for [u8; N] {
     ghost held_bytes = { λ bytes. bytes };
 
     fn held_bytes(&self) -> &[u8] {
-        self
+        &self[..]
     }
 }
 
@@ -69,11 +69,11 @@ impl<T: HoldsBytes> ToHex for T {
     ghost written_bytes = { T.held_bytes };
 
     fn encode_hex(&self, alloc: Global) -> Result<String, AllocError> {
-        encode(alloc, self.held_bytes())
+        ToHexExt::encode_hex(self, alloc)
     }
 
     fn encode_hex_upper(&self, alloc: Global) -> Result<String, AllocError> {
-        encode_upper(alloc, self.held_bytes())
+        ToHexExt::encode_hex_upper(self, alloc)
     }
 }
 
