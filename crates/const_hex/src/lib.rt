@@ -19,8 +19,8 @@ pub use crate::codec::decoders::{
     decode_with,
 };
 pub use crate::codec::encoders::{
-    encode, encode_prefixed, encode_to_slice, encode_to_slice_upper, encode_upper,
-    encode_upper_prefixed, encode_with,
+    encode, encode_prefixed, encode_to_slice, encode_to_slice_upper, encode_to_str,
+    encode_to_str_upper, encode_upper, encode_upper_prefixed, encode_with,
 };
 pub use crate::error::FromHexError;
 pub use crate::traits::{FromHex, ToHex, ToHexExt};

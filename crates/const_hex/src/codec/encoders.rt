@@ -1,6 +1,6 @@
 //! From bytes to text.
 
-ghost use Rattle.std.specs.Prelude.{◌≡◌, ◌*◌, ◌+◌, ◌++◌, ℕ, List, true, false, length, IsOk, OnOk, OnErr, IfOk, Err, ◌↔◌, string_bytes};
+ghost use Rattle.std.specs.Prelude.{◌≡◌, ◌*◌, ◌+◌, ◌++◌, ℕ, List, true, false, length, IsOk, OnOk, OnErr, IfOk, IfErr, Err, ◌↔◌, string_bytes};
 ghost use Rattle.const_hex_arch.specs.Texts.{hex_text, full_text};
 ghost use Rattle.const_hex.specs.declared.error.FromHexError.TheVariants.{InvalidStringLength};
 
@@ -150,4 +150,75 @@ pub fn encode_to_slice_upper(input: &[u8], output: &mut [u8]) -> Result<(), From
     ensures unchanged { OnErr result (output.new ≡ output.old) }
 {
     into_slice(input, true, output)
+}
+
+/// Fills a slice with the text, where it has just the text's length, and lends it as text.
+#[inline(always)]
+fn into_str<'a>(input: &[u8], upper: bool, output: &'a mut [u8]) -> Result<&'a str, FromHexError>
+    ensures fits { IsOk result ↔ (length output.entry.now ≡ 2 * length input.now) }
+    ensures lends { IfOk result (λ text. text.now ≡ hex_text upper input.now) }
+    ensures refusal { IfErr result (λ e. e ≡ InvalidStringLength) }
+{
+    into_slice(input, upper, output)?;
+    Ok(unsafe { str::from_utf8_unchecked(output) })
+}
+
+/// Fills the output with the text of the input, with lower letters, and lends it as text.
+///
+/// Refused with [`FromHexError::InvalidStringLength`] unless the output has exactly two bytes for
+/// each of the input; it is then unchanged. Takes no memory.
+///
+/// ```rust
+/// let mut output = [0; 8];
+/// assert_eq!(rt; const_hex::encode_to_str(b"kiwi", &mut output)?, "6b697769");
+/// ```
+#[inline]
+pub fn encode_to_str<'a>(input: &[u8], output: &'a mut [u8]) -> Result<&'a str, FromHexError>
+    ensures fits { IsOk result ↔ (length output.entry.now ≡ 2 * length input.now) }
+    ensures lends { IfOk result (λ text. text.now ≡ hex_text false input.now) }
+    ensures refusal { IfErr result (λ e. e ≡ InvalidStringLength) }
+{
+    into_str(input, false, output)
+}
+
+/// As [`encode_to_str`], with upper letters.
+///
+/// ```rust
+/// let mut output = [0; 8];
+/// assert_eq!(rt; const_hex::encode_to_str_upper(b"kiwi", &mut output)?, "6B697769");
+/// ```
+#[inline]
+pub fn encode_to_str_upper<'a>(input: &[u8], output: &'a mut [u8]) -> Result<&'a str, FromHexError>
+    ensures fits { IsOk result ↔ (length output.entry.now ≡ 2 * length input.now) }
+    ensures lends { IfOk result (λ text. text.now ≡ hex_text true input.now) }
+    ensures refusal { IfErr result (λ e. e ≡ InvalidStringLength) }
+{
+    into_str(input, true, output)
+}
+
+#[cfg(test)]
+mod tests {
+    use super::*;
+    use std::test::Fail;
+
+    #[test]
+    fn lends_the_text_where_it_fits(rt: HostRuntime) -> Result<(), Fail> {
+        let refused = Err(FromHexError::InvalidStringLength);
+        let mut output = [0xEE; 8];
+        assert_eq!(rt; encode_to_str(b"kiwi", &mut output), Ok("6b697769"));
+        assert_eq!(rt; &output, b"6b697769");
+        assert_eq!(rt; encode_to_str_upper(b"kiwi", &mut output), Ok("6B697769"));
+        assert_eq!(rt; &output, b"6B697769");
+        assert_eq!(rt; encode_to_str(b"", &mut []), Ok(""));
+        for length in [0, 6, 7] {
+            assert_eq!(rt; encode_to_str(b"wiki", &mut output[..length]), refused);
+            assert_eq!(rt;
+                encode_to_str_upper(b"wiki", &mut output[..length]),
+                refused
+            );
+        }
+        assert_eq!(rt; encode_to_str(b"kiw", &mut output), refused);
+        assert_eq!(rt; &output, b"6B697769");
+        Ok(())
+    }
 }
