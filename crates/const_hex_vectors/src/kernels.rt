@@ -4,6 +4,7 @@ mod fronts;
 mod places;
 mod suite;
 mod texts;
+mod worked;
 
 use crate::kernels::fronts::Front;
 use crate::kernels::suite::run;
