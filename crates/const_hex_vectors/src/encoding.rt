@@ -22,13 +22,26 @@ fn owned_texts(rt: HostRuntime) -> Result<(), Fail> {
     for (bytes, lower, upper) in rows {
         assert_eq!(rt; encode(alloc, bytes)?.as_str(), lower);
         assert_eq!(rt; encode_upper(alloc, bytes)?.as_str(), upper);
-        let prefixed = format!(in alloc; "0x{lower}")?;
-        assert_eq!(rt; encode_prefixed(alloc, bytes)?.as_str(), prefixed.as_str());
-        let prefixed = format!(in alloc; "0x{upper}")?;
-        assert_eq!(rt;
-            encode_upper_prefixed(alloc, bytes)?.as_str(),
-            prefixed.as_str()
-        );
+    }
+    Ok(())
+}
+
+#[test]
+fn owned_texts_with_prefix(rt: HostRuntime) -> Result<(), Fail> {
+    let alloc = rt.alloc();
+    let rows: [(&[u8], &str, &str); 4] = [
+        (b"", "0x", "0x"),
+        (b"kiwi", "0x6b697769", "0x6B697769"),
+        (
+            b"Hello world!",
+            "0x48656c6c6f20776f726c6421",
+            "0x48656C6C6F20776F726C6421",
+        ),
+        (&[1, 2, 3, 15, 16], "0x0102030f10", "0x0102030F10"),
+    ];
+    for (bytes, lower, upper) in rows {
+        assert_eq!(rt; encode_prefixed(alloc, bytes)?.as_str(), lower);
+        assert_eq!(rt; encode_upper_prefixed(alloc, bytes)?.as_str(), upper);
     }
     Ok(())
 }

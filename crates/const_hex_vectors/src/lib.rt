@@ -8,6 +8,8 @@ mod decoding;
 #[cfg(test)]
 mod encoding;
 #[cfg(test)]
+mod kernels;
+#[cfg(test)]
 mod refusals;
 #[cfg(test)]
 mod tables;

@@ -1,0 +1,57 @@
+//! Texts and bytes to try, and what std makes of them.
+
+use std::alloc::{AllocError, Global};
+
+const DIGITS: &[u8; 22] = b"0123456789abcdefABCDEF";
+
+/// A text of that length, of digits in either case.
+pub fn digits(alloc: Global, length: usize) -> Result<Vec<u8>, AllocError> {
+    (0..length).map(|i| DIGITS[i % 22 * 7 % 22]).collect(alloc)
+}
+
+/// That many bytes, of all values in turn.
+pub fn bytes(alloc: Global, count: usize) -> Result<Vec<u8>, AllocError> {
+    (0..count)
+        .map(|i| ((i % 256 * 37 + 11) % 256) as u8)
+        .collect(alloc)
+}
+
+/// What std prints for each byte with two digits.
+pub fn printed(alloc: Global, bytes: &[u8], upper: bool) -> Result<String, AllocError> {
+    let mut text = String::new(alloc);
+    for byte in bytes {
+        let pair = if upper {
+            format!(in alloc; "{byte:02X}")?
+        } else {
+            format!(in alloc; "{byte:02x}")?
+        };
+        text.push_str(&pair)?;
+    }
+    Ok(text)
+}
+
+/// The bytes that std reads from the first pairs of a text, and 0xEE for each further pair.
+pub fn read_front(alloc: Global, text: &[u8], pairs: usize) -> Result<Vec<u8>, AllocError> {
+    let mut bytes = Vec::new(alloc);
+    for pair in text.as_chunks::<2>().0 {
+        let byte = if bytes.len() < pairs {
+            value(pair[0]) << 4 | value(pair[1])
+        } else {
+            0xEE
+        };
+        bytes.push(byte)?;
+    }
+    Ok(bytes)
+}
+
+/// The bytes that std reads from a text.
+pub fn read(alloc: Global, text: &[u8]) -> Result<Vec<u8>, AllocError> {
+    read_front(alloc, text, text.len())
+}
+
+fn value(digit: u8) -> u8 {
+    match char::from(digit).to_digit(16) {
+        Some(value) => value as u8,
+        None => 0,
+    }
+}

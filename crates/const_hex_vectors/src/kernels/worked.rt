@@ -1,0 +1,98 @@
+//! Worked examples of what each kernel writes and leaves.
+
+use const_hex::{
+    CheckFirst, FromHexError, Kernel, Lanes16, Lanes32, Plain, decode_to_slice_with, decode_with,
+    encode_with,
+};
+use std::alloc::Global;
+use std::process::Abort;
+use std::test::Fail;
+
+// Lengths of texts of letters, and the place of the one that is no digit.
+const PLACES: [(usize, usize); 5] = [(64, 31), (64, 32), (100, 98), (96, 63), (96, 70)];
+
+#[test]
+fn decoded_fronts(rt: HostRuntime) -> Result<(), Fail> {
+    let alloc = rt.alloc();
+    leave::<Plain>(&rt, alloc, [15, 16, 49, 31, 35])?;
+    leave::<Lanes16>(&rt, alloc, [0, 16, 49, 16, 32])?;
+    leave::<Lanes32>(&rt, alloc, [0, 0, 49, 0, 32])?;
+    leave::<CheckFirst<Plain>>(&rt, alloc, [0; 5])?;
+    leave::<CheckFirst<Lanes16>>(&rt, alloc, [0; 5])?;
+    leave::<CheckFirst<Lanes32>>(&rt, alloc, [0; 5])
+}
+
+fn leave<K: Kernel>(rt: &impl Abort, alloc: Global, counts: [usize; 5]) -> Result<(), Fail> {
+    for ((length, place), count) in PLACES.into_iter().zip(counts) {
+        let text = replaced(alloc, length, place)?;
+        let mut output = vec![in alloc; 0xEEu8; length / 2]?;
+        let refusal = FromHexError::InvalidHexCharacter {
+            c: 'g',
+            index: place,
+        };
+        assert_eq!(rt; decode_to_slice_with::<K>(&text, &mut output), Err(refusal));
+        assert_eq!(rt; output, front_of(alloc, length / 2, count)?, "at {place}");
+    }
+    Ok(())
+}
+
+/// Letters `a`, and `g` at one place.
+fn replaced(alloc: Global, length: usize, place: usize) -> Result<Vec<u8>, Fail> {
+    let text = (0..length)
+        .map(|i| if i == place { b'g' } else { b'a' })
+        .collect(alloc)?;
+    Ok(text)
+}
+
+/// That many bytes 0xAA, and then 0xEE.
+fn front_of(alloc: Global, length: usize, count: usize) -> Result<Vec<u8>, Fail> {
+    let bytes = (0..length)
+        .map(|i| if i < count { 0xAA } else { 0xEE })
+        .collect(alloc)?;
+    Ok(bytes)
+}
+
+#[test]
+fn counted_bytes(rt: HostRuntime) -> Result<(), Fail> {
+    let alloc = rt.alloc();
+    counted::<Plain>(&rt, alloc)?;
+    counted::<Lanes16>(&rt, alloc)?;
+    counted::<Lanes32>(&rt, alloc)?;
+    counted::<CheckFirst<Plain>>(&rt, alloc)?;
+    counted::<CheckFirst<Lanes16>>(&rt, alloc)?;
+    counted::<CheckFirst<Lanes32>>(&rt, alloc)
+}
+
+// The bytes 0, 1 and so on, up to about one step of each kernel and to two.
+fn counted<K: Kernel>(rt: &impl Abort, alloc: Global) -> Result<(), Fail> {
+    let rows: [(usize, &str); 12] = [
+        (15, "0e"),
+        (16, "0f"),
+        (17, "10"),
+        (31, "1e"),
+        (32, "1f"),
+        (33, "20"),
+        (47, "2e"),
+        (48, "2f"),
+        (49, "30"),
+        (63, "3e"),
+        (64, "3f"),
+        (65, "40"),
+    ];
+    for (count, last) in rows {
+        let bytes: Vec<u8> = (0..count).map(|i| (i % 256) as u8).collect(alloc)?;
+        let text = encode_with::<K, false>(alloc, &bytes)?;
+        assert_eq!(rt; text.len(), 2 * count);
+        assert!(rt; text.ends_with(last), "{count} bytes");
+        assert_eq!(rt; text, encode_with::<Plain, false>(alloc, &bytes)?);
+        assert_eq!(rt; decode_with::<K>(alloc, text.as_bytes())?, bytes);
+    }
+    seventeen::<K>(rt, alloc)
+}
+
+fn seventeen<K: Kernel>(rt: &impl Abort, alloc: Global) -> Result<(), Fail> {
+    let bytes = [0, 1, 2, 3, 4, 5, 6, 7, 8, 9, 10, 11, 12, 13, 14, 15, 16];
+    let text = encode_with::<K, false>(alloc, &bytes)?;
+    assert_eq!(rt; text.as_str(), "000102030405060708090a0b0c0d0e0f10");
+    Ok(())
+}
