@@ -12,10 +12,12 @@ ghost use Rattle.const_hex.specs.Json.{ReadsInside};
 ghost use Rattle.const_hex.specs.declared.serde.error.JsonError.TheVariants.{NotText};
 
 mod error;
+mod inner;
 pub mod no_prefix;
 
 use crate::codec::encoders::{encode_prefixed, encode_upper_prefixed};
 pub use crate::serde::error::JsonError;
+pub use crate::serde::inner::serialize_inner;
 use crate::traits::FromHex;
 use serde_json::Value;
 use std::alloc::{AllocError, Global};
