@@ -4,6 +4,7 @@ pub mod Buffers
 pub mod Chars
 pub mod Elements
 pub mod Loans
+pub mod Json
 pub mod Messages
 pub mod TypeLaws
 pub mod Types

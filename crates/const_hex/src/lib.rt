@@ -10,6 +10,7 @@ mod buffer;
 mod codec;
 pub mod error;
 mod fill;
+pub mod serde;
 pub mod traits;
 
 pub use crate::buffer::{Buffer, const_encode};
@@ -23,6 +24,7 @@ pub use crate::codec::encoders::{
     encode_to_str_upper, encode_upper, encode_upper_prefixed, encode_with,
 };
 pub use crate::error::FromHexError;
+pub use crate::serde::{deserialize, serialize, serialize_upper};
 pub use crate::traits::{FromHex, ToHex, ToHexExt};
 pub use const_hex_arch::{
     BufferedHex, BufferedOutput, CheckFirst, FixedKernel, HEX_CHARS_LOWER, HEX_CHARS_UPPER,

@@ -1,0 +1,71 @@
+//! Hexadecimal text in JSON values.
+//!
+//! [`serialize`] and [`deserialize`] write and read a text with `0x` in front, as JSON-RPC has its
+//! byte strings, and [`no_prefix`] writes one without.
+
+ghost use Rattle.std.specs.Prelude.{◌≡◌, ◌↔◌, true, false, Err, None, IfOk, IfSome};
+ghost use Rattle.serde_json.specs.Data.{string};
+ghost use Rattle.serde_json.specs.Find.{as_str};
+ghost use Rattle.serde_json.specs.View.{view};
+ghost use Rattle.const_hex_arch.specs.Texts.{full_text};
+ghost use Rattle.const_hex.specs.Json.{ReadsInside};
+ghost use Rattle.const_hex.specs.declared.serde.error.JsonError.TheVariants.{NotText};
+
+mod error;
+mod inner;
+pub mod no_prefix;
+
+use crate::codec::encoders::{encode_prefixed, encode_upper_prefixed};
+pub use crate::serde::error::JsonError;
+pub use crate::serde::inner::serialize_inner;
+use crate::traits::FromHex;
+use serde_json::Value;
+use std::alloc::{AllocError, Global};
+
+/// A JSON text of `0x` and two digits for each byte, with lower letters.
+///
+/// Answers `AllocError` where memory is refused.
+///
+/// ```rust
+/// let value = const_hex::serialize(rt.alloc(), &[0xde, 0xad])?;
+/// assert_eq!(rt; value.as_str(), Some("0xdead"));
+/// ```
+pub fn serialize(alloc: Global, bytes: &[u8]) -> Result<Value, AllocError>
+    ensures { IfOk result (λ v. view v ≡ string (full_text true false bytes.now)) }
+{
+    Ok(Value::String(encode_prefixed(alloc, bytes)?))
+}
+
+/// As [`serialize`], with upper letters. The prefix is small here too.
+///
+/// ```rust
+/// let value = const_hex::serialize_upper(rt.alloc(), &[0xde, 0xad])?;
+/// assert_eq!(rt; value.as_str(), Some("0xDEAD"));
+/// ```
+pub fn serialize_upper(alloc: Global, bytes: &[u8]) -> Result<Value, AllocError>
+    ensures { IfOk result (λ v. view v ≡ string (full_text true true bytes.now)) }
+{
+    Ok(Value::String(encode_upper_prefixed(alloc, bytes)?))
+}
+
+/// The value that a JSON text spells, with or without a prefix, in either case.
+///
+/// Answers [`JsonError::NotText`] where the JSON value is no text, without a look at its contents
+/// and without memory, and else the type's refusal of the text inside [`JsonError::Hex`].
+///
+/// ```rust
+/// let value = const_hex::serialize(rt.alloc(), b"kiwi")?;
+/// assert_eq!(rt; const_hex::deserialize::<[u8; 4]>(rt.alloc(), &value), Ok(*b"kiwi"));
+/// ```
+pub fn deserialize<T: FromHex>(alloc: Global, value: &Value) -> Result<T, JsonError<T::Error>>
+    ensures not_text { (result ≡ Err NotText) ↔ (as_str (view value.now) ≡ None) }
+    ensures text { IfSome (as_str (view value.now)) (λ t. ReadsInside T.answers t result) }
+{
+    match value.as_str() {
+        None => Err(JsonError::NotText),
+        Some(text) => match T::from_hex(alloc, text.as_bytes()) {
+            Ok(read) => Ok(read),
+            Err(refusal) => Err(JsonError::Hex(refusal)),
+        },
+    }
+}

@@ -1,0 +1,32 @@
+//! Why a JSON value has no value of a type.
+
+ghost use Rattle.const_hex.specs.Json.{json_message};
+
+use std::fmt;
+
+/// Why a JSON value has no value of a type that is read from text.
+///
+/// It prints as the refusal of the text does, where that prints.
+///
+/// ```rust
+/// let refusal = const_hex::deserialize::<[u8; 2]>(rt.alloc(), &Value::Null).unwrap_err();
+/// assert_eq!(rt; refusal, JsonError::NotText);
+/// ```
+#[derive(PartialEq, Eq, Debug, Drop)]
+pub enum JsonError<E> {
+    /// The JSON value is no text: it is null, a truth value, a number, a list or an object.
+    NotText,
+    /// The type's refusal of the text.
+    Hex(E),
+}
+
+impl<E: fmt::Display> fmt::Display for JsonError<E> {
+    ghost output = { json_message E.output };
+
+    fn fmt<W: fmt::Write>(&self, f: &mut fmt::Formatter<W>) -> fmt::Result {
+        match self {
+            JsonError::NotText => f.write_str("expected a hex encoded string"),
+            JsonError::Hex(refusal) => write!(f, "{refusal}"),
+        }
+    }
+}

@@ -1,0 +1,57 @@
+//! Hexadecimal text for a sink, short text in one call.
+
+ghost use Rattle.std.specs.Prelude.{◌≡◌, ◌+◌, ◌*◌, ◌<◌, ◌≤◌, false, not, is_ok, length};
+ghost use Rattle.const_hex_arch.specs.Texts.{full_text};
+ghost use Rattle.const_hex_arch.specs.Streams.{Streams};
+ghost use Rattle.const_hex.specs.Json.{TellsWhole};
+
+use crate::fill::fill;
+use const_hex_arch::{BufferedHex, FixedKernel, Sink, SinkError};
+
+/// How many bytes are handed over in one call.
+const AT_ONCE: usize = 128;
+
+/// Hands the text of some bytes to a sink that has not refused: of at most 128 bytes in one call,
+/// the empty text too, and of more as [`BufferedHex`] does.
+///
+/// Answers [`SinkError`] where the sink refused a piece. No memory is asked for but what the sink
+/// asks for.
+///
+/// ```rust
+/// let mut sink = PieceSink::new(rt.alloc(), 0);
+/// assert!(rt; const_hex::serde::serialize_inner::<false, true, _>(b"kiwi", &mut sink).is_ok());
+/// assert_eq!(rt; sink.pieces()[0].as_str(), "0x6b697769");
+/// ```
+pub fn serialize_inner<const UPPER: bool, const PREFIX: bool, S: Sink>(
+    bytes: &[u8],
+    sink: &mut S,
+) -> Result<(), SinkError>
+    requires { S.is_refused sink.old ≡ false }
+    ensures short { length bytes.now ≤ 128
+        → S.step sink.old (full_text PREFIX UPPER bytes.now) sink.new }
+    ensures long { 128 < length bytes.now
+        → Streams S.step S.is_refused sink.old (full_text PREFIX UPPER bytes.now) sink.new }
+    ensures flag { is_ok result ≡ not (S.is_refused sink.new) }
+    // The pieces that a sink tells are together the text, where it accepted all of them.
+    ensures told { S.is_refused sink.new ≡ false
+        → TellsWhole (S.told sink.old) (full_text PREFIX UPPER bytes.now) (S.told sink.new) }
+{
+    if bytes.len() > AT_ONCE {
+        return BufferedHex::<UPPER, PREFIX>::new(bytes).write_to(sink);
+    }
+    let mut buffer = [0; 2 + 2 * AT_ONCE];
+    sink.write_str(text_in(&mut buffer, bytes, PREFIX, UPPER))
+}
+
+/// The text, at the start of a buffer that has room for it and a prefix.
+#[inline(always)]
+fn text_in<'a>(buffer: &'a mut [u8], bytes: &[u8], prefix: bool, upper: bool) -> &'a str
+    requires { 2 + 2 * length bytes.now ≤ length buffer.old }
+    ensures { result.now ≡ full_text prefix upper bytes.now }
+{
+    let digits = 2 * bytes.len();
+    let text = &mut buffer[..if prefix { 2 + digits } else { digits }];
+    fill::<FixedKernel>(bytes, prefix, upper, text);
+    let text: &'a [u8] = text;
+    unsafe { str::from_utf8_unchecked(text) }
+}

@@ -1,0 +1,37 @@
+//! Hexadecimal text without a prefix in JSON values.
+
+ghost use Rattle.std.specs.Prelude.{◌≡◌, true, false, IfOk};
+ghost use Rattle.serde_json.specs.Data.{string};
+ghost use Rattle.serde_json.specs.View.{view};
+ghost use Rattle.const_hex_arch.specs.Texts.{full_text};
+
+use crate::codec::encoders::{encode, encode_upper};
+pub use crate::serde::deserialize;
+use serde_json::Value;
+use std::alloc::{AllocError, Global};
+
+/// A JSON text of two digits for each byte, with lower letters.
+///
+/// Answers `AllocError` where memory is refused.
+///
+/// ```rust
+/// let value = const_hex::serde::no_prefix::serialize(rt.alloc(), &[0xde, 0xad])?;
+/// assert_eq!(rt; value.as_str(), Some("dead"));
+/// ```
+pub fn serialize(alloc: Global, bytes: &[u8]) -> Result<Value, AllocError>
+    ensures { IfOk result (λ v. view v ≡ string (full_text false false bytes.now)) }
+{
+    Ok(Value::String(encode(alloc, bytes)?))
+}
+
+/// As [`serialize`], with upper letters.
+///
+/// ```rust
+/// let value = const_hex::serde::no_prefix::serialize_upper(rt.alloc(), &[0xde, 0xad])?;
+/// assert_eq!(rt; value.as_str(), Some("DEAD"));
+/// ```
+pub fn serialize_upper(alloc: Global, bytes: &[u8]) -> Result<Value, AllocError>
+    ensures { IfOk result (λ v. view v ≡ string (full_text false true bytes.now)) }
+{
+    Ok(Value::String(encode_upper(alloc, bytes)?))
+}
