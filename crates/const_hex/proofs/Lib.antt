@@ -1,6 +1,7 @@
 pub mod Appending
 pub mod Buffering
 pub mod Lowering
+pub mod Printing
 pub mod Reading
 pub mod RoundTrip
 pub mod Stepping

@@ -3,6 +3,7 @@ pub mod Bodies
 pub mod Buffers
 pub mod Chars
 pub mod Elements
+pub mod Formatting
 pub mod Messages
 pub mod TypeLaws
 pub mod Types

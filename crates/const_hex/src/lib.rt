@@ -10,6 +10,7 @@ mod buffer;
 mod codec;
 pub mod error;
 mod fill;
+pub mod formatting;
 pub mod traits;
 
 pub use crate::buffer::{Buffer, const_encode};
@@ -23,6 +24,8 @@ pub use crate::codec::encoders::{
     encode_upper_prefixed, encode_with,
 };
 pub use crate::error::FromHexError;
+pub use crate::formatting::display;
+pub use crate::formatting::text::Display;
 pub use crate::traits::{FromHex, ToHex, ToHexExt};
 pub use const_hex_arch::{
     BufferedHex, BufferedOutput, CheckFirst, FixedKernel, HEX_CHARS_LOWER, HEX_CHARS_UPPER,
