@@ -3,6 +3,7 @@ pub mod Bodies
 pub mod Buffers
 pub mod Chars
 pub mod Elements
+pub mod Formatting
 pub mod Json
 pub mod Loans
 pub mod Messages
