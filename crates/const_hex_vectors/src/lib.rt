@@ -9,6 +9,7 @@ mod decoding;
 mod encoding;
 #[cfg(test)]
 mod kernels;
+pub mod noting;
 #[cfg(test)]
 mod refusals;
 #[cfg(test)]
