@@ -25,12 +25,9 @@ pub use crate::codec::encoders::{
     encode_to_str_upper, encode_upper, encode_upper_prefixed, encode_with,
 };
 pub use crate::error::FromHexError;
-<<<<<<< HEAD
-pub use crate::serde::{deserialize, serialize, serialize_upper};
-=======
 pub use crate::formatting::display;
 pub use crate::formatting::text::Display;
->>>>>>> 1d44d79a78d330308484218d28957abafdd401c8
+pub use crate::serde::{deserialize, serialize, serialize_upper};
 pub use crate::traits::{FromHex, ToHex, ToHexExt};
 pub use const_hex_arch::{
     BufferedHex, BufferedOutput, CheckFirst, FixedKernel, HEX_CHARS_LOWER, HEX_CHARS_UPPER,
