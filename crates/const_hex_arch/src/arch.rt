@@ -12,6 +12,8 @@ pub mod lanes16;
 pub mod lanes32;
 pub mod plain;
 mod steps;
+#[cfg(test)]
+mod tests;
 
 use crate::arch::plain::Plain;
 use crate::output::Output;
