@@ -3,7 +3,6 @@
 mod fronts;
 mod places;
 mod suite;
-mod texts;
 mod worked;
 
 use crate::kernels::fronts::Front;

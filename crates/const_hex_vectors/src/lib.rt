@@ -13,4 +13,8 @@ pub mod noting;
 #[cfg(test)]
 mod refusals;
 #[cfg(test)]
+mod streaming;
+#[cfg(test)]
 mod tables;
+#[cfg(test)]
+mod texts;
