@@ -10,6 +10,7 @@ mod encoding;
 #[cfg(test)]
 mod kernels;
 pub mod noting;
+pub mod own_kernel;
 #[cfg(test)]
 mod refusals;
 #[cfg(test)]
