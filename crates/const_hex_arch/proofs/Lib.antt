@@ -6,4 +6,5 @@ pub mod Running
 pub mod SliceRuns
 pub mod Spelling
 pub mod Stepping
+pub mod Walks
 pub mod Writing
