@@ -11,6 +11,7 @@ mod encoding;
 mod kernels;
 pub mod noting;
 pub mod own_kernel;
+pub mod readers;
 #[cfg(test)]
 mod refusals;
 #[cfg(test)]

@@ -3,6 +3,7 @@
 ghost use Rattle.std.specs.Prelude.{◌≡◌, false};
 
 use crate::noting::NotingSink;
+use crate::own_kernel::Backward;
 use crate::texts::{bytes, cut, printed};
 use const_hex::{
     BufferedHex, CheckFirst, Kernel, Lanes16, Lanes32, Output, PieceSink, Plain, Sink, SinkError,
@@ -64,6 +65,12 @@ fn lanes16(rt: HostRuntime) -> Result<(), Fail> {
 fn lanes32(rt: HostRuntime) -> Result<(), Fail> {
     streams::<Lanes32>(&rt, rt.alloc(), LANES32)?;
     streams::<CheckFirst<Lanes32>>(&rt, rt.alloc(), LANES32)
+}
+
+// Pieces of two digits fill each call, as single digits do.
+#[test]
+fn own_kernel(rt: HostRuntime) -> Result<(), Fail> {
+    streams::<Backward>(&rt, rt.alloc(), PLAIN)
 }
 
 /// Each row in both cases, with a sink that never refuses, that refuses at each call, and that is

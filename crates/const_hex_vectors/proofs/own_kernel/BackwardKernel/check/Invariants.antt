@@ -1,4 +1,4 @@
-use Rattle.std.proofs.Common.{ℕ, ◌≤◌, length, drop}
+use Rattle.std.proofs.Common.{◌≤◌, length, drop}
 use Rattle.const_hex_arch.specs.Texts.{AllDigits}
 use Rattle.const_hex_vectors.proofs.own_kernel.BackwardKernel.check.Given as goal
 
