@@ -1,7 +1,11 @@
 pub mod Appending
 pub mod Buffering
+pub mod EncodedStr
+pub mod Flags
+pub mod LentSlice
 pub mod LentText
 pub mod Lowering
+pub mod Printing
 pub mod Reading
 pub mod RoundTrip
 pub mod Stepping

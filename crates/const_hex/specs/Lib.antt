@@ -3,8 +3,9 @@ pub mod Bodies
 pub mod Buffers
 pub mod Chars
 pub mod Elements
-pub mod Loans
+pub mod Formatting
 pub mod Json
+pub mod Loans
 pub mod Messages
 pub mod TypeLaws
 pub mod Types

@@ -1,15 +1,17 @@
 //! Hexadecimal text: encoding, checking and decoding, after the Rust crate `const-hex`.
 //!
 //! The words of the contracts are defined in `specs/`: the body of a text and its prefix rule in
-//! `Bodies.antt`, the answers of reading and checking a text in `Answers.antt`, what a refusal
-//! prints in `Messages.antt`. Digits, texts and what they spell are those of `const_hex_arch`,
-//! which `specs/Lib.antt` passes on.
+//! `Bodies.antt`, the answers of reading and checking a text in `Answers.antt`, those of reading it
+//! into a type, with the law that generic code may rest on, in `Types.antt`, those of reading a
+//! JSON value in `Json.antt`, what a refusal prints in `Messages.antt`. Digits, texts and what they
+//! spell are those of `const_hex_arch`, which `specs/Lib.antt` passes on.
 #![tactic(auto)]
 
 mod buffer;
 mod codec;
 pub mod error;
 mod fill;
+mod formatting;
 pub mod serde;
 pub mod traits;
 
@@ -24,6 +26,8 @@ pub use crate::codec::encoders::{
     encode_to_str_upper, encode_upper, encode_upper_prefixed, encode_with,
 };
 pub use crate::error::FromHexError;
+pub use crate::formatting::display;
+pub use crate::formatting::text::Display;
 pub use crate::serde::{deserialize, serialize, serialize_upper};
 pub use crate::traits::{FromHex, ToHex, ToHexExt};
 pub use const_hex_arch::{

@@ -69,3 +69,6 @@ pub fn deserialize<T: FromHex>(alloc: Global, value: &Value) -> Result<T, JsonEr
         },
     }
 }
+
+#[cfg(test)]
+mod tests;

@@ -122,8 +122,8 @@ high_halves a (x ∷ xs) f =
     let high = bit_and x 240 in
     let more = high_halves (bit_or a high) xs f.1 in (
       λ e. (
-        let none = (more.0 e).0 in (omega (arith, none, le_or_l a high), (high_half-some x f.0.fits (omega (arith, none, le_or_r a high)), (more.0 e).1))
-      ),
+          let none = (more.0 e).0 in (omega (arith, none, le_or_l a high), (high_half-some x f.0.fits (omega (arith, none, le_or_r a high)), (more.0 e).1))
+          ),
       λ h. (let none : high ≡ 0 = high_half-zero x h.1.0 in more.1 (rw (none, h.0) refl, h.1.1)),
     )
 

@@ -1,10 +1,14 @@
 //! The program `consthex`: hexadecimal text of its standard input, and back.
 //!
 //! The words of the contracts are defined in `specs/`: what each mode answers to an input in
-//! `Answer.antt`, what a whole run reads and writes in `Outcome.antt`, the word of each mode in
-//! `Words.antt`, the line and the exit status of each error in `Errors.antt`. What a text spells is
-//! defined in `const_hex`.
+//! `Answer.antt`, what a run reads and writes in `Outcome.antt`, the word of each mode in
+//! `Words.antt`, the line and the exit status of each error in `Errors.antt`. What a text spells
+//! is defined in `const_hex`.
 #![tactic(auto)]
+
+ghost use Rattle.std.specs.Prelude.{◌≡◌};
+ghost use Rattle.std.specs.Process.{exit_status};
+ghost use Rattle.consthex.specs.Errors.{status_of};
 
 mod answer;
 mod error;
@@ -46,14 +50,18 @@ fn words(rt: &(impl Env + AllocGlobal)) -> io::Result<Vec<String>> {
     Ok(words)
 }
 
-/// Prints the usage. A failure of standard error is ignored.
-fn misused(rt: &impl Eprint) -> ExitCode {
+/// Prints the usage, and gives its status. A failure of standard error is ignored.
+fn misused(rt: &impl Eprint) -> ExitCode
+    ensures { exit_status result ≡ WRONG_USAGE }
+{
     let _ = eprintln!(rt; "{USAGE}");
     ExitCode::from(WRONG_USAGE)
 }
 
-/// Prints the error. A failure of standard error is ignored.
-fn refused(rt: &impl Eprint, error: RunError) -> ExitCode {
+/// Prints the error, and gives its status. A failure of standard error is ignored.
+fn refused(rt: &impl Eprint, error: RunError) -> ExitCode
+    ensures { exit_status result ≡ status_of error }
+{
     let _ = eprintln!(rt; "{error}");
     ExitCode::from(error.status())
 }

@@ -1,0 +1,28 @@
+-- Printing bytes through a formatter.
+use Rattle.std.specs.Prelude.{◌≡◌, ℕ, Bool, false, List}
+use Rattle.std.specs.Borrow.{GName}
+use Rattle.std.specs.Fmt.{IsFlush, HasWrittenStyled}
+use Rattle.std.specs.declared.fmt.Formatter.{Formatter}
+use Rattle.const_hex_arch.specs.Texts.{full_text}
+use Rattle.const_hex.specs.declared.formatting.sink.FormatterSink.{FormatterSink}
+use Rattle.const_hex.specs.declared.formatting.text.Display.{Display}
+
+-- the bytes that are printed
+abbrev pub display_bytes : Display → List ℕ
+display_bytes d = d.input.now
+
+-- their text, with `0x` in front where a prefix is wanted: `#` alone of a formatter's options asks for it
+abbrev pub printed_text : Bool → Bool → Display → List ℕ
+printed_text prefix up d = full_text prefix up (display_bytes d)
+
+-- the formatter of a sink, and which loan of it that is
+abbrev pub sink_formatter : {W : Type 0} → FormatterSink W → Formatter W
+sink_formatter s = s.formatter.now
+
+abbrev pub formatter_name : {W : Type 0} → FormatterSink W → GName
+formatter_name s = s.formatter.ghost_name
+
+-- the same formatter writes the piece, whatever its options, where that doesn't fail
+pub record FormatterStep {W : Type 0} (took : W → List ℕ → W → Type 0) (s : FormatterSink W) (piece : List ℕ) (t : FormatterSink W) : Type 0 where
+  pub same_formatter : formatter_name t ≡ formatter_name s
+  pub writes : t.failed ≡ false → IsFlush (sink_formatter s) → HasWrittenStyled took (sink_formatter s) piece (sink_formatter t)

@@ -1,0 +1,24 @@
+//! Printing bytes as text.
+
+ghost use Rattle.std.specs.Prelude.{◌≡◌};
+ghost use Rattle.const_hex.specs.Formatting.{display_bytes};
+
+mod sink;
+pub mod text;
+
+use crate::formatting::text::Display;
+
+/// What prints those bytes as text: `{}` in lower digits. It takes no memory.
+///
+/// ```rust
+/// println!(rt; "{}", display(b"kiwi"))?; // 6b697769
+/// ```
+#[inline]
+pub fn display(input: &[u8]) -> Display<'_>
+    ensures { display_bytes result ≡ input.now }
+{
+    Display::new(input)
+}
+
+#[cfg(test)]
+mod tests;

@@ -1,0 +1,84 @@
+//! The type that `display` answers.
+
+ghost use Rattle.std.specs.Prelude.{◌≡◌, Some, true, false};
+ghost use Rattle.std.specs.Fmt.{WritesStyledOnOk, formatter_spec, spec_alternate};
+ghost use Rattle.const_hex_arch.specs.Texts.{hex_text};
+ghost use Rattle.const_hex.specs.Formatting.{display_bytes, printed_text};
+
+use crate::formatting::sink::FormatterSink;
+use const_hex_arch::BufferedHex;
+use std::fmt;
+
+/// Bytes that are printed as text: two digits for each.
+///
+/// `{}` and `{:x}` print lower digits and `{:X}` upper ones; with `#` they put `0x` in front. Width
+/// and fill are ignored. Where the formatter fails, nothing more is written, and the error is the
+/// answer.
+#[derive(Drop)]
+pub struct Display<'a> {
+    input: &'a [u8],
+}
+
+impl<'a> Display<'a> {
+    #[inline]
+    pub(crate) fn new(input: &'a [u8]) -> Display<'a>
+        ensures { display_bytes result ≡ input.now }
+    {
+        Display { input }
+    }
+
+    /// Writes the text, with `0x` in front where the formatter has `#`.
+    fn write<const UPPER: bool, W: fmt::Write>(&self, f: &mut fmt::Formatter<W>) -> fmt::Result
+        ensures { WritesStyledOnOk W.write_str_gives f.old result
+            (printed_text (spec_alternate (formatter_spec f.old)) UPPER self.now) f.new }
+    {
+        if f.alternate() {
+            self.write_full::<UPPER, true, W>(f)
+        } else {
+            self.write_full::<UPPER, false, W>(f)
+        }
+    }
+
+    /// Writes the text, with or without `0x` in front.
+    fn write_full<const UPPER: bool, const PREFIX: bool, W: fmt::Write>(
+        &self,
+        f: &mut fmt::Formatter<W>,
+    ) -> fmt::Result
+        ensures { WritesStyledOnOk W.write_str_gives f.old result
+            (printed_text PREFIX UPPER self.now) f.new }
+    {
+        let mut sink = FormatterSink::new(f);
+        match BufferedHex::<UPPER, PREFIX>::new(self.input).write_to(&mut sink) {
+            Ok(()) => Ok(()),
+            Err(_) => Err(fmt::Error),
+        }
+    }
+}
+
+impl fmt::Display for Display<'_> {
+    ghost output = { λ d. Some (hex_text false (display_bytes d)) };
+
+    ghost styled_output = { λ d spec. Some (printed_text (spec_alternate spec) false d) };
+
+    fn fmt<W: fmt::Write>(&self, f: &mut fmt::Formatter<W>) -> fmt::Result {
+        fmt::LowerHex::fmt(self, f)
+    }
+}
+
+impl fmt::LowerHex for Display<'_> {
+    fn fmt<W: fmt::Write>(&self, f: &mut fmt::Formatter<W>) -> fmt::Result
+        ensures { WritesStyledOnOk W.write_str_gives f.old result
+            (printed_text (spec_alternate (formatter_spec f.old)) false self.now) f.new }
+    {
+        self.write::<false, W>(f)
+    }
+}
+
+impl fmt::UpperHex for Display<'_> {
+    fn fmt<W: fmt::Write>(&self, f: &mut fmt::Formatter<W>) -> fmt::Result
+        ensures { WritesStyledOnOk W.write_str_gives f.old result
+            (printed_text (spec_alternate (formatter_spec f.old)) true self.now) f.new }
+    {
+        self.write::<true, W>(f)
+    }
+}

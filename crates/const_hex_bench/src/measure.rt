@@ -1,0 +1,154 @@
+//! How long a call takes.
+
+ghost use Rattle.std.specs.Prelude.{◌≡◌, ◌+◌, ◌<◌, ◌≤◌, length};
+
+use crate::calls::{self, Call, KernelCall};
+use const_hex::{Lanes32, Plain};
+use std::alloc::Global;
+use std::rt::Clock;
+use std::time::Instant;
+use std::{fmt, io};
+
+/// How many bytes of input go through a call in one batch, where one call takes fewer.
+const BATCH_BYTES: usize = 32_768;
+
+/// The most turns of a batch.
+const MOST_TURNS: usize = 1024;
+
+/// How many bytes of a source lie behind an input.
+pub(crate) const SLACK: usize = 192;
+
+/// How many batches are timed. The fastest counts.
+const BATCHES: u32 = 1000;
+
+/// The time of a call, in hundredths of a nanosecond.
+#[derive(Clone, Copy)]
+pub(crate) struct Time {
+    hundredths: u64,
+}
+
+/// How many times longer one time is than another, in hundredths.
+#[derive(Clone, Copy)]
+pub(crate) struct Ratio {
+    hundredths: u64,
+}
+
+impl Time {
+    /// How many times longer this time is.
+    pub(crate) fn over(self, other: Time) -> Ratio {
+        Ratio {
+            hundredths: self.hundredths.saturating_mul(100) / other.hundredths.max(1),
+        }
+    }
+}
+
+impl fmt::Display for Time {
+    fn fmt<W: fmt::Write>(&self, f: &mut fmt::Formatter<W>) -> fmt::Result {
+        let whole = self.hundredths / 100;
+        let tenths = self.hundredths % 100 / 10;
+        write!(f, "{whole:>10}.{tenths}")
+    }
+}
+
+impl fmt::Display for Ratio {
+    fn fmt<W: fmt::Write>(&self, f: &mut fmt::Formatter<W>) -> fmt::Result {
+        let whole = self.hundredths / 100;
+        let part = self.hundredths % 100;
+        write!(f, "{whole:>6}.{part:02}")
+    }
+}
+
+/// The times of a call as it stands, and by the kernels `Plain` and `Lanes32`, where it goes by a
+/// kernel of the caller's choice.
+#[derive(Clone, Copy)]
+pub(crate) struct Times {
+    pub(crate) own: Time,
+    pub(crate) kernels: Option<(Time, Time)>,
+}
+
+/// Measures calls, and sums up what they answer, so that no call can be left out.
+#[derive(Drop)]
+pub(crate) struct Meter<'a, R> {
+    rt: &'a R,
+    sum: u64,
+}
+
+impl<'a, R: Clock + AllocGlobal + Drop> Meter<'a, R> {
+    pub(crate) fn new(rt: &'a R) -> Meter<'a, R> {
+        Meter { rt, sum: 0 }
+    }
+
+    /// The sum of what all calls answered.
+    pub(crate) fn sum(&self) -> u64 {
+        self.sum
+    }
+
+    /// Measures a copy of as many bytes.
+    pub(crate) fn copy(&mut self, size: usize) -> io::Result<Time>
+        requires { size + SLACK < usize.MAX }
+    {
+        let source = vec![in self.rt.alloc(); 0u8; size + SLACK]?;
+        self.least(calls::copy, &source, size, size)
+    }
+
+    /// Measures a call as it stands.
+    pub(crate) fn own<C: Call>(
+        &mut self,
+        source: &[u8],
+        size: usize,
+        written: usize,
+    ) -> io::Result<Times>
+        requires { size + SLACK ≤ length source.now }
+    {
+        let call = |alloc, input: &[u8], output: &mut [u8]| C::own(alloc, input, output);
+        let own = self.least(call, source, size, written)?;
+        Ok(Times { own, kernels: None })
+    }
+
+    /// Measures a call as it stands and by two kernels.
+    pub(crate) fn by_kernels<C: KernelCall>(
+        &mut self,
+        source: &[u8],
+        size: usize,
+        written: usize,
+    ) -> io::Result<Times>
+        requires { size + SLACK ≤ length source.now }
+    {
+        let call = |alloc, input: &[u8], output: &mut [u8]| C::own(alloc, input, output);
+        let own = self.least(call, source, size, written)?;
+        let call = |alloc, input: &[u8], output: &mut [u8]| C::by::<Plain>(alloc, input, output);
+        let plain = self.least(call, source, size, written)?;
+        let call = |alloc, input: &[u8], output: &mut [u8]| C::by::<Lanes32>(alloc, input, output);
+        let lanes = self.least(call, source, size, written)?;
+        Ok(Times {
+            own,
+            kernels: Some((plain, lanes)),
+        })
+    }
+
+    /// The least time of a call on inputs of one length, which start at four places of the source,
+    /// with an output of so many bytes. The call answers a byte of what it made, or `None` where it
+    /// was refused, which ends the measurement.
+    fn least<F>(&mut self, call: F, source: &[u8], size: usize, written: usize) -> io::Result<Time>
+    where
+        F: Fn(Global, &[u8], &mut [u8]) -> Option<u8>,
+        requires call { F.IsAlwaysCallable call }
+        requires source { size + SLACK ≤ length source.now }
+    {
+        let mut output = vec![in self.rt.alloc(); 0u8; written]?;
+        let turns = (BATCH_BYTES / size.max(1)).clamp(1, MOST_TURNS);
+        let mut least = u64::MAX;
+        for _ in 0..BATCHES {
+            let start = Instant::now(self.rt)?;
+            for turn in 0..turns {
+                let input = &source[64 * (turn % 4)..][..size];
+                let answer = call(self.rt.alloc(), input, &mut output);
+                let byte = answer.ok_or(io::ErrorKind::Other)?;
+                self.sum = self.sum.wrapping_add(u64::from(byte));
+            }
+            let passed = u64::try_from(start.elapsed(self.rt)?.as_nanos()).unwrap_or(u64::MAX);
+            least = least.min(passed.saturating_mul(100) / turns as u64);
+        }
+        Ok(Time { hundredths: least })
+    }
+}
