@@ -9,6 +9,8 @@ mod decoding;
 mod encoding;
 #[cfg(test)]
 mod kernels;
+#[cfg(test)]
+mod memory;
 pub mod noting;
 pub mod own_kernel;
 pub mod readers;
