@@ -3,6 +3,7 @@
 //! Expected values come from the codec's written rules or from what std prints.
 #![tactic(auto)]
 
+pub mod addresses;
 #[cfg(test)]
 mod decoding;
 #[cfg(test)]
