@@ -11,12 +11,12 @@ pub use contract.Running.{tables}
 pub use denote.Array.{array_vals, Array-Tells, Array-Lawful}
 pub use denote.Builtin.{u8, bool, Simd, SimdOf, ArrayOf}
 pub use denote.Exit.{yes}
-pub use denote.Laws.{Is, Tells, Typed, shows}
+pub use denote.Laws.{Is, Tells, Lawful, shows}
 pub use denote.Plain.{uint_Makes, uint_Lawful, uint_vals, uint_Tells}
 pub use denote.RattleType.{RattleType}
 pub use denote.Signature.{Slot, plain}
 pub use denote.Simd.{Simd-Tells, Simd-Lawful, Simd-Makes}
-pub use denote.Steps.{nothing, owned, facts, heard, only}
+pub use denote.Steps.{nothing, owned, facts, peeks, heard, only}
 pub use denote.Struct.Struct.{as_fields}
 pub use denote.Struct.Tuple.{Tuple}
 pub use denote.Triple.Call.{calls_at}
@@ -27,12 +27,19 @@ pub use denote.Triple.Walked.{Stays, walk_of, stay_dropped, Goes-dropped, ends_a
 pub use mir.Syntax.{ty_array, ty_int, ty_bool}
 pub use mir.Val.{Val, vint, vbool, vstruct, of_list, has_ty, WT}
 pub use types.ByLocal.{alloc_all, pass_all, free_all, look_at, get, get_in, sets, sets_last, lands_as, env}
-pub use types.Kit.{‵, raw, ◌⊛◌, some, later, at_ret, ◌$◌, ◌∵◌, !, qed, done, drop, use0, use1, split, join, pick, await, suffices, group}
+pub use types.Kit.{‵, raw, ◌⊛◌, some, later, at_ret, ◌$◌, ◌∵◌, !, qed, done, move, keep, drop, use0, use1, split, join, pick, await, suffices, group}
 pub use types.Logic.{Logic}
 pub use types.Match.{live}
 pub use types.Part.{agg, whole, sub}
 pub use types.Run.{enter, of_opd, lit, fld, stop, no_more, and_then, first, branches, exec, returns}
+use denote.Enum.Loose.{loose_lawful}
+use denote.Param.Laws.{simd_laws, of_field}
+use denote.Param.Shared.{copy_shared}
+use denote.Struct.Field.{u8-field}
+use denote.Struct.Laws.{u8-laws, u8-copy}
 use seplogic.Ra.Ura.{Ura}
+use Rattle.std.proofs.option.Option.TheLaws.{the_loose}
+use Rattle.std.specs.contracts.option.Option as OP
 use Rattle.const_hex_arch.specs.Texts.{AllDigits, Spells}
 
 -- ---- what is told of a flag
@@ -97,3 +104,10 @@ module _ (n : ℕ) where
 
   pub flagged_lanes : (r : List ℕ × Bool) (v : Val) → Is Flagged r (v ∷ []) → Is Lanes r.0 (only (lanes_vals r.0) ∷ [])
   flagged_lanes r v is = subst (λ us. Is Lanes r.0 us) (lanes_Tells r.0 is.0.0 is.1.1.0) is.1.1.0
+
+  -- what `decode_chunk` answers
+  abbrev pub Answer : RattleType
+  Answer = OP.the_row Lanes
+
+  pub Answer-Lawful : {M : Type 1} {𝓤 : Ura M} (𝓛 : Logic 𝓤) → Lawful 𝓛 Answer
+  Answer-Lawful 𝓛 = loose_lawful (OP.the_type Lanes) (the_loose Lanes (simd_laws u8 (of_field u8-field u8-laws refl (copy_shared u8-field u8-copy)) n)) tt 𝓛
