@@ -1,22 +1,22 @@
 -- A function that writes a buffer's text by one call, and lends it as text by another: one walk
 -- for every such function.
-use Rattle.std.proofs.Common.{◌≡◌, ℕ, length, ◌<◌, ◌^◌, Bool, true, false, List, [], ◌∷◌, refl, ◌∙◌, Bor, T}
+use Rattle.std.proofs.Common.{◌≡◌, ℕ, length, ◌<◌, ◌^◌, Bool, List, [], ◌∷◌, refl, ◌∙◌, Bor, T}
 use Rattle.std.proofs.raw_atomic.Walks.{proved}
 use base.Logic.{SProp, sep, id⊢, emp}
 use base.Fml.{ftrue, flft}
 use seplogic.Ra.Ura.{Ura}
-use mir.Syntax.{Ty, Lifetime, Fn, Callee, Args, local, value_local, ty_ref, ty_int, ty_struct, tcons, tnil, imm, mut, erased, deref, place, copy, addr_of, assign, call, return as end, seq, opd_true, opd_false, Opd as Operand, a_number, named, w8, w64}
-use mir.Val.{Val, vptr, vbool, WT, has_ty}
+use mir.Syntax.{Ty, Lifetime, Fn, Callee, Args, local, value_local, ty_ref, ty_int, ty_struct, tcons, tnil, imm, mut, erased, deref, place, copy, addr_of, assign, call, return as end, seq, a_number, named, w8, w64}
+use mir.Val.{Val, vptr, WT, has_ty}
 use contract.BorrowLft.{◌⊑◌}
 use contract.Lifetimes.{Lfts, lft_at}
 use contract.Monad.{fact, fact_i}
 use contract.Running.{Running, tables}
 use prog.Memory.{size}
 use prog.Model.{Model}
-use prog.Wp.{Closed, Env}
+use prog.Wp.{Closed}
 use types.Logic.{Logic, sem}
-use types.Kit.{Item, ‵, raw, ◌⊛◌, some, later, ◌$◌, ◌∵◌, !, qed, done, move, drop, use0, use1, use2, split, join, pick, await, suffices, frame, group}
-use types.Run.{Opd, enter, addr, stop, true_lit, false_lit, no_more, and_then, returns}
+use types.Kit.{‵, raw, ◌⊛◌, some, later, ◌$◌, ◌∵◌, !, qed, done, move, drop, use0, use1, use2, split, join, pick, await, suffices, frame, group}
+use types.Run.{enter, addr, stop, no_more, and_then, returns}
 use types.ByLocal.{alloc_all, pass_all, free_all, look_at, get, through, sets, lands_as, env}
 use denote.Builtin.{u8, bool, RefOf, SliceRefOf, RefMutOf}
 use denote.Exit.{yes, no, Last, left}
@@ -41,6 +41,7 @@ use Rattle.const_hex.specs.Buffers.{text_length, buffer_text}
 use Rattle.const_hex.specs.Loans.{EndsHolding}
 use Rattle.const_hex.specs.contracts.buffer.Buffer.{the_row}
 use Rattle.const_hex.specs.contracts.buffer.Buffer.as_str as h
+use Rattle.const_hex.proofs.Flags.{flag, flag_lit}
 
 -- the parameter that names the bytes: its type, its machine value, its bytes, and what is asked of it
 pub record Input : Type 2 where
@@ -96,14 +97,6 @@ module _ (n p len : ℕ) where
     bytes = λ κs x. x.now;
     asks = λ 𝓤 κs x. sep 𝓤 (fact 𝓤 fitting) (fact 𝓤 (length x.now ≡ h.N-type (number n) (number p) (number len)));
   }
-
-abbrev flag : Bool → Operand
-flag true = opd_true
-flag false = opd_false
-
-flag_lit : {M : Type 1} {𝓤 : Ura M} {𝓛 : Logic 𝓤} {K : Type 0} {Γ : List (Item 𝓤)} {E : Env 𝓤 𝓛.H} (up : Bool) → K → Opd K 𝓛 Γ E (flag up) (vbool up)
-flag_lit true = true_lit
-flag_lit false = false_lit
 
 module _ (n p len : ℕ) (I : Input) where
   abbrev N : RattleType

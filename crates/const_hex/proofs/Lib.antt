@@ -1,5 +1,8 @@
 pub mod Appending
 pub mod Buffering
+pub mod EncodedStr
+pub mod Flags
+pub mod LentSlice
 pub mod LentText
 pub mod Lowering
 pub mod Printing

@@ -1,9 +1,8 @@
 -- Reading a text is a function: it has one answer, and never two.
-use Rattle.std.proofs.Common.{◌≡◌, ◌≢◌, ℕ, ◌+◌, ◌-◌, ◌*◌, ◌%◌, List, [], ◌∷◌, length, ◌==◌, ◌&&◌, ◌||◌, true, false, if◌then◌else◌, Result, Ok, Err, inl, inr, refl, sym, ap, ◌∙◌, arith, slice_index}
-use Rattle.std.specs.Prelude.{IsOk, ◌↔◌, MatchResult, IfErr}
-use Rattle.std.proofs.lemmas.Bool.{cases_eq}
+use Rattle.std.proofs.Common.{◌≡◌, ℕ, ◌*◌, List, length, Result, Ok, Err, refl, ap, arith, slice_index}
+use Rattle.std.specs.Prelude.{IsOk, ◌↔◌}
 use Rattle.const_hex_arch.specs.Texts.{Spells, AllDigits, FirstBad}
-use Rattle.const_hex_arch.proofs.Spelling.{Spells-same, Spells-digits, Spells-some, FirstBad-same, digits_no_bad, digits_or_bad}
+use Rattle.const_hex_arch.proofs.Spelling.{Spells-same, Spells-digits, Spells-some, FirstBad-same, digits_no_bad}
 use Rattle.const_hex.specs.Bodies.{body_of, NamesFirstBad}
 use Rattle.const_hex.specs.Answers.{Reads, ReadsSized, Checks, ChecksBody, IsEven, IsOdd}
 use Rattle.const_hex.specs.TypeLaws.{body-even}

@@ -90,7 +90,7 @@ impl<const N: usize, const PREFIX: bool, const LEN: usize> Buffer<N, PREFIX, LEN
     #[inline]
     fn write(&mut self, input: &[u8], upper: bool)
         requires fits { LEN ≡ text_length PREFIX N }
-        requires exact { length input.now ≡ N }
+        requires size { length input.now ≡ N }
         ensures { buffer_text self.new ≡ full_text PREFIX upper input.now }
     {
         self.text.fill(input, PREFIX, upper);
@@ -132,7 +132,7 @@ impl<const N: usize, const PREFIX: bool, const LEN: usize> Buffer<N, PREFIX, LEN
     #[inline]
     fn formatted(&mut self, input: &[u8], upper: bool) -> &Self
         requires fits { LEN ≡ text_length PREFIX N }
-        requires size { length input.now ≡ N }
+        requires exact { length input.now ≡ N }
         ensures lends { buffer_text result.now ≡ full_text PREFIX upper input.now }
         ensures* after { sem 𝓛 (EndsHolding N.row PREFIX.row LEN.row self.entry
             (full_text PREFIX upper input.now)) }

@@ -1,9 +1,10 @@
 //! Hexadecimal text: encoding, checking and decoding, after the Rust crate `const-hex`.
 //!
 //! The words of the contracts are defined in `specs/`: the body of a text and its prefix rule in
-//! `Bodies.antt`, the answers of reading and checking a text in `Answers.antt`, what a refusal
-//! prints in `Messages.antt`. Digits, texts and what they spell are those of `const_hex_arch`,
-//! which `specs/Lib.antt` passes on.
+//! `Bodies.antt`, the answers of reading and checking a text in `Answers.antt`, those of reading it
+//! into a type, with the law that generic code may rest on, in `Types.antt`, those of reading a
+//! JSON value in `Json.antt`, what a refusal prints in `Messages.antt`. Digits, texts and what they
+//! spell are those of `const_hex_arch`, which `specs/Lib.antt` passes on.
 #![tactic(auto)]
 
 mod buffer;

@@ -8,4 +8,5 @@ pub mod SliceRuns
 pub mod Spelling
 pub mod Stepping
 pub mod Streaming
+pub mod Walks
 pub mod Writing

@@ -12,12 +12,14 @@ pub mod lanes16;
 pub mod lanes32;
 pub mod plain;
 mod steps;
+#[cfg(test)]
+mod tests;
 
-use crate::arch::plain::Plain;
+use crate::arch::kernel32::Lanes32;
 use crate::output::Output;
 
 /// The kernel of every call that does not name one. It is named here and nowhere else.
-pub type FixedKernel = Plain;
+pub type FixedKernel = Lanes32;
 
 /// How bytes become digits, and digits bytes.
 ///

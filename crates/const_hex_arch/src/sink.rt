@@ -1,6 +1,6 @@
 //! What takes text piece by piece, and may refuse.
 
-ghost use Rattle.std.specs.Prelude.{◌≡◌, ℕ, Bool, true, false, not, List, [], ◌∷◌, ◌++◌, is_ok, Option, Some, if◌then◌else◌, codes};
+ghost use Rattle.std.specs.Prelude.{◌≡◌, ℕ, Bool, false, not, List, [], ◌∷◌, is_ok, Option, Some, if◌then◌else◌, codes};
 ghost use Rattle.const_hex_arch.specs.Sinks.{told_after};
 
 pub mod output;
@@ -63,3 +63,6 @@ pub(crate) fn refusal_of<S: Sink>(sink: &S) -> Result<(), SinkError>
         Ok(())
     }
 }
+
+#[cfg(test)]
+mod tests;

@@ -1,6 +1,6 @@
 //! The text of bytes, handed to a sink in large pieces.
 
-ghost use Rattle.std.specs.Prelude.{◌≡◌, ◌≤◌, false, not, is_ok};
+ghost use Rattle.std.specs.Prelude.{◌≡◌, false, not, is_ok};
 ghost use Rattle.const_hex_arch.specs.Texts.{full_text};
 ghost use Rattle.const_hex_arch.specs.Streams.{Streams, TellsCut, hex_bytes};
 

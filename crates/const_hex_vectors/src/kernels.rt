@@ -3,11 +3,11 @@
 mod fronts;
 mod places;
 mod suite;
-mod texts;
 mod worked;
 
 use crate::kernels::fronts::Front;
 use crate::kernels::suite::run;
+use crate::own_kernel::Backward;
 use const_hex::{CheckFirst, Lanes16, Lanes32, Plain};
 use std::test::Fail;
 
@@ -39,4 +39,14 @@ fn check_first_lanes16(rt: HostRuntime) -> Result<(), Fail> {
 #[test]
 fn check_first_lanes32(rt: HostRuntime) -> Result<(), Fail> {
     run::<CheckFirst<Lanes32>>(&rt, rt.alloc(), Front::Nothing)
+}
+
+#[test]
+fn own_kernel(rt: HostRuntime) -> Result<(), Fail> {
+    run::<Backward>(&rt, rt.alloc(), Front::Nothing)
+}
+
+#[test]
+fn check_first_own_kernel(rt: HostRuntime) -> Result<(), Fail> {
+    run::<CheckFirst<Backward>>(&rt, rt.alloc(), Front::Nothing)
 }

@@ -9,8 +9,16 @@ mod decoding;
 mod encoding;
 #[cfg(test)]
 mod kernels;
+#[cfg(test)]
+mod memory;
 pub mod noting;
+pub mod own_kernel;
+pub mod readers;
 #[cfg(test)]
 mod refusals;
 #[cfg(test)]
+mod streaming;
+#[cfg(test)]
 mod tables;
+#[cfg(test)]
+mod texts;

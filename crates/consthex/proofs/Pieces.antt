@@ -6,6 +6,13 @@ use Rattle.std.proofs.Math.Seq.{take-add, take-append-add}
 use Rattle.std.proofs.lemmas.List.{take_all, take-append-le, length-drop, length-take, length-take-le, take-take}
 use Rattle.std.specs.Io.KnownBytes.{Appends, Consumes}
 
+-- n bytes of what lies behind the first count end inside the whole
+pub step_within : (xs : List ℕ) (count n : ℕ) → count ≤ length xs
+    → n ≤ length (take (length xs - count) (drop count xs)) → count + n ≤ length xs
+step_within xs count n started inside =
+    let m = simp (length-take, length-drop) at inside in omega (arith, m)
+
+-- n bytes of the rest were written, after the first done
 pub write_step : (o a b : Option (List ℕ)) (bytes : List ℕ) (done n : ℕ)
     → Appends o a (take done bytes)
     → Appends a b (take n (take (length bytes - done) (drop done bytes)))
@@ -14,20 +21,10 @@ write_step o a b bytes done n p q =
     let all = take_all (length bytes - done) (drop done bytes) (simp length-drop (omega arith)) in
     rw (take-add done n bytes) (Appends-trans o a b (take done bytes) (take n (drop done bytes)) p (rw all at q))
 
-pub write_within : (bytes : List ℕ) (done n : ℕ) → done ≤ length bytes
-    → n ≤ length (take (length bytes - done) (drop done bytes)) → done + n ≤ length bytes
-write_within bytes done n h k =
-    let m = simp (length-take, length-drop) at k in omega (arith, m)
-
 take_two : (front piece rest : List ℕ) (n : ℕ) → n ≤ length piece
     → take (length front + n) (front ++ (piece ++ rest)) ≡ front ++ take n piece
 take_two front piece rest n inside =
     take-append-add front (piece ++ rest) n ∙ ap (λ l. front ++ l) (take-append-le n piece rest inside)
-
-pub read_within : (xs piece : List ℕ) (count n : ℕ) → count ≤ length xs
-    → length piece ≡ length (take (length xs - count) (drop count xs)) → n ≤ length piece → count + n ≤ length xs
-read_within xs piece count n started sized inside =
-    let m = simp (length-take, length-drop) at sized in omega (arith, m)
 
 -- n bytes were read behind the first count of what a vector held, into a part that then holds piece
 pub read_step : (o a b : Option (List ℕ)) (held xs piece : List ℕ) (count n len : ℕ)

@@ -52,6 +52,26 @@ pub fn decode_with<K: Kernel>(alloc: Global, input: &[u8]) -> Result<Vec<u8>, Fr
     ensures ok { IfOk result (λ v. Reads input.now (Ok v.items)) }
     ensures err { IfErr result (λ e. e ≢ NoMemory → Reads input.now (Err e)) }
     ensures odd { (result ≡ Err OddLength) ↔ IsOdd (length input.now) }
+
+    // What was encoded is decoded to the same bytes.
+    ensures round_trip { (prefix up : Bool) (bs : List ℕ) → AreBytes bs
+        → input.now ≡ full_text prefix up bs
+        → MatchResult result (λ v. v.items ≡ bs) (λ e. e ≡ NoMemory) }
+    // The text of the bytes is the body with lower letters.
+    ensures canonical { IfOk result (λ v. hex_text false v.items ≡ lowered (body_of input.now)) }
+    // Another text gives the same bytes exactly where the bodies differ in case alone.
+    ensures agree { (t bs : List ℕ) → Reads t (Ok bs)
+        → IfOk result (λ v. (bs ≡ v.items) ↔ (lowered (body_of t) ≡ lowered (body_of input.now))) }
+{
+    read::<K>(alloc, input)
+}
+
+/// The bytes that a text spells. Memory is asked for once, of their count.
+#[inline(always)]
+fn read<K: Kernel>(alloc: Global, input: &[u8]) -> Result<Vec<u8>, FromHexError>
+    ensures ok { IfOk result (λ v. Reads input.now (Ok v.items)) }
+    ensures err { IfErr result (λ e. e ≢ NoMemory → Reads input.now (Err e)) }
+    ensures odd { (result ≡ Err OddLength) ↔ IsOdd (length input.now) }
 {
     if input.len() % 2 != 0 {
         return Err(FromHexError::OddLength);

@@ -1,7 +1,10 @@
 //! From bytes to text.
 
-ghost use Rattle.std.specs.Prelude.{◌≡◌, ◌*◌, ◌+◌, ◌++◌, ℕ, List, true, false, length, IsOk, OnOk, OnErr, IfOk, IfErr, Err, ◌↔◌, string_bytes};
+ghost use Rattle.std.specs.Prelude.{◌≡◌, ◌*◌, ◌+◌, ◌++◌, ℕ, List, true, false, length, IsTrue, IsOk, OnOk, OnErr, IfOk, IfErr, Err, ◌↔◌, string_bytes};
+ghost use Rattle.std.specs.Borrow.{sem};
+ghost use Rattle.std.specs.Str.{IsAscii};
 ghost use Rattle.const_hex_arch.specs.Texts.{hex_text, full_text};
+ghost use Rattle.const_hex.specs.Loans.{EndsEncoded};
 ghost use Rattle.const_hex.specs.declared.error.FromHexError.TheVariants.{InvalidStringLength};
 
 use crate::error::FromHexError;
@@ -100,6 +103,26 @@ pub fn encode_with<K: Kernel, const UPPER: bool>(
     owned::<K>(alloc, input, false, UPPER)
 }
 
+/// Whether an output of one length has exactly two bytes for each of an input of another.
+#[inline(always)]
+fn fits(input_length: usize, output_length: usize) -> bool
+    ensures { IsTrue result ↔ (output_length ≡ 2 * input_length) }
+{
+    output_length % 2 == 0 && output_length / 2 == input_length
+}
+
+/// Fills an output of the text's length with the text, and gives it back.
+#[inline(always)]
+fn filled<'a>(input: &[u8], upper: bool, output: &'a mut [u8]) -> &'a mut [u8]
+    requires { length output.now ≡ 2 * length input.now }
+    ensures same_slice { result.ghost_name ≡ output.entry.ghost_name }
+    ensures text { result.now ≡ hex_text upper input.now }
+    ensures ascii { IsAscii result.now }
+{
+    fill::<FixedKernel>(input, false, upper, output);
+    output
+}
+
 /// Fills a slice with the text, where it has just the text's length.
 #[inline(always)]
 fn into_slice(input: &[u8], upper: bool, output: &mut [u8]) -> Result<(), FromHexError>
@@ -108,11 +131,12 @@ fn into_slice(input: &[u8], upper: bool, output: &mut [u8]) -> Result<(), FromHe
     ensures refusal { OnErr result (result ≡ Err InvalidStringLength) }
     ensures unchanged { OnErr result (output.new ≡ output.old) }
 {
-    if output.len() % 2 != 0 || output.len() / 2 != input.len() {
-        return Err(FromHexError::InvalidStringLength);
+    if fits(input.len(), output.len()) {
+        filled(input, upper, output);
+        Ok(())
+    } else {
+        Err(FromHexError::InvalidStringLength)
     }
-    fill::<FixedKernel>(input, false, upper, output);
-    Ok(())
 }
 
 /// Fills the output with the text of the input, with lower letters.
@@ -152,15 +176,13 @@ pub fn encode_to_slice_upper(input: &[u8], output: &mut [u8]) -> Result<(), From
     into_slice(input, true, output)
 }
 
-/// Fills a slice with the text, where it has just the text's length, and lends it as text.
+/// ASCII bytes, as text, with no copy and no test.
 #[inline(always)]
-fn into_str<'a>(input: &[u8], upper: bool, output: &'a mut [u8]) -> Result<&'a str, FromHexError>
-    ensures fits { IsOk result ↔ (length output.entry.now ≡ 2 * length input.now) }
-    ensures lends { IfOk result (λ text. text.now ≡ hex_text upper input.now) }
-    ensures refusal { IfErr result (λ e. e ≡ InvalidStringLength) }
+fn lent_text(bytes: &[u8]) -> &str
+    requires { IsAscii bytes.now }
+    ensures { result.now ≡ bytes.now }
 {
-    into_slice(input, upper, output)?;
-    Ok(unsafe { str::from_utf8_unchecked(output) })
+    unsafe { str::from_utf8_unchecked(bytes) }
 }
 
 /// Fills the output with the text of the input, with lower letters, and lends it as text.
@@ -177,8 +199,12 @@ pub fn encode_to_str<'a>(input: &[u8], output: &'a mut [u8]) -> Result<&'a str, 
     ensures fits { IsOk result ↔ (length output.entry.now ≡ 2 * length input.now) }
     ensures lends { IfOk result (λ text. text.now ≡ hex_text false input.now) }
     ensures refusal { IfErr result (λ e. e ≡ InvalidStringLength) }
+    ensures* after { sem 𝓛 (EndsEncoded false input.now output.entry result) }
 {
-    into_str(input, false, output)
+    if !fits(input.len(), output.len()) {
+        return Err(FromHexError::InvalidStringLength);
+    }
+    Ok(lent_text(filled(input, false, output)))
 }
 
 /// As [`encode_to_str`], with upper letters.
@@ -192,8 +218,12 @@ pub fn encode_to_str_upper<'a>(input: &[u8], output: &'a mut [u8]) -> Result<&'a
     ensures fits { IsOk result ↔ (length output.entry.now ≡ 2 * length input.now) }
     ensures lends { IfOk result (λ text. text.now ≡ hex_text true input.now) }
     ensures refusal { IfErr result (λ e. e ≡ InvalidStringLength) }
+    ensures* after { sem 𝓛 (EndsEncoded true input.now output.entry result) }
 {
-    into_str(input, true, output)
+    if !fits(input.len(), output.len()) {
+        return Err(FromHexError::InvalidStringLength);
+    }
+    Ok(lent_text(filled(input, true, output)))
 }
 
 #[cfg(test)]

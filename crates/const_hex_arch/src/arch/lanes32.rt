@@ -1,6 +1,6 @@
 //! Steps of 32 lanes.
 
-ghost use Rattle.std.specs.Prelude.{◌≡◌, ◌↔◌, [], ◌∷◌, ◌++◌, length, map, IsTrue};
+ghost use Rattle.std.specs.Prelude.{◌≡◌, ◌↔◌, [], ◌∷◌, ◌++◌, length, map, IsTrue, IsNone, IfSome};
 ghost use Rattle.std.specs.List.{AllZip, concat};
 ghost use Rattle.std.specs.Str.{IsAscii};
 ghost use Rattle.const_hex_arch.specs.Digits.{hex_value};
@@ -42,6 +42,16 @@ pub fn nibbles(v: u8x32) -> u8x32
     ensures { map as_value result ≡ map hex_value v }
 {
     lanes::nibbles(v)
+}
+
+/// The bytes that the lanes of a text spell, or `None` where one of these lanes is no digit.
+#[inline(always)]
+pub fn decode_chunk(text: [u8x32; 2]) -> Option<u8x32>
+    ensures none { IsNone result ↔ ¬ AllDigits (concat text) }
+    ensures spells { IfSome result (Spells (concat text)) }
+{
+    let (bytes, are_digits) = decode_pair(text);
+    if are_digits { Some(bytes) } else { None }
 }
 
 /// The value of each lane that is a digit. Of the other lanes nothing is said.

@@ -1,6 +1,6 @@
 //! An output over a sink.
 
-ghost use Rattle.std.specs.Prelude.{◌≡◌, ℕ, ◌≤◌, List, [], ◌∷◌, length, true, false, not, is_ok, None};
+ghost use Rattle.std.specs.Prelude.{◌≡◌, false, not, is_ok, None};
 ghost use Rattle.const_hex_arch.specs.Sinks.{SinkStep, output_sink, sink_name};
 
 use crate::output::Output;

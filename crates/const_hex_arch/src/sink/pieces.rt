@@ -1,6 +1,6 @@
 //! A sink that keeps its pieces.
 
-ghost use Rattle.std.specs.Prelude.{◌≡◌, ◌≢◌, ℕ, ◌+◌, ◌≤◌, ◌↔◌, List, [], ◌∷◌, ◌++◌, Bool, true, false, not, map, length, string_bytes, is_ok, IsTrue, OnOk, OnErr, Some};
+ghost use Rattle.std.specs.Prelude.{◌≡◌, ◌≢◌, ◌+◌, ◌↔◌, [], ◌∷◌, ◌++◌, true, false, map, string_bytes, IsTrue, OnOk, OnErr, Some};
 ghost use Rattle.const_hex_arch.specs.Pieces.{PieceState, PieceStep, count_of_calls};
 
 use crate::sink::{Sink, SinkError};

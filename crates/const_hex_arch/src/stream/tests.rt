@@ -32,10 +32,10 @@ fn sizes_of_calls(rt: HostRuntime) -> Result<(), Fail> {
     calls_for::<true>(&rt, rt.alloc(), 0, &[2])?;
     calls_for::<true>(&rt, rt.alloc(), 2047, &[4096])?;
     calls_for::<false>(&rt, rt.alloc(), 2048, &[4096])?;
-    calls_for::<true>(&rt, rt.alloc(), 2048, &[4096, 2])?;
+    calls_for::<true>(&rt, rt.alloc(), 2048, &[4034, 64])?;
     calls_for::<false>(&rt, rt.alloc(), 4096, &[4096, 4096])?;
     calls_for::<false>(&rt, rt.alloc(), 4097, &[4096, 4096, 2])?;
-    calls_for::<true>(&rt, rt.alloc(), 4097, &[4096, 4096, 4])
+    calls_for::<true>(&rt, rt.alloc(), 4097, &[4034, 4096, 66])
 }
 
 #[test]

@@ -1,7 +1,7 @@
 //! Bad bytes at each place of a text.
 
 use crate::kernels::fronts::Front;
-use crate::kernels::texts::{read, read_front};
+use crate::texts::{read, read_front};
 use const_hex::{FromHexError, Kernel, check_raw, check_with, decode_to_slice_with, decode_with};
 use std::alloc::Global;
 use std::process::Abort;

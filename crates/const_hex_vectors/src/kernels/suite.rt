@@ -2,7 +2,7 @@
 
 use crate::kernels::fronts::Front;
 use crate::kernels::places::{bad_bytes, each_value, later_prefixes, letters_with_a_bad_byte};
-use crate::kernels::texts::{bytes, digits, printed, read};
+use crate::texts::{bytes, digits, printed, read};
 use const_hex::{
     FromHexError, Kernel, Plain, check_with, decode_to_slice_with, decode_with, encode_with,
 };
@@ -53,8 +53,8 @@ fn even_text<K: Kernel>(rt: &impl Abort, alloc: Global, text: &[u8]) -> Result<(
 fn encoded<K: Kernel>(rt: &impl Abort, alloc: Global, bytes: &[u8]) -> Result<(), Fail> {
     let lower = encode_with::<K, false>(alloc, bytes)?;
     let upper = encode_with::<K, true>(alloc, bytes)?;
-    assert_eq!(rt; lower, printed(alloc, bytes, false)?);
-    assert_eq!(rt; upper, printed(alloc, bytes, true)?);
+    assert_eq!(rt; lower, printed(alloc, bytes, false, false)?);
+    assert_eq!(rt; upper, printed(alloc, bytes, false, true)?);
     assert_eq!(rt; lower, encode_with::<Plain, false>(alloc, bytes)?);
     assert_eq!(rt;
         decode_with::<K>(alloc, lower.as_bytes())?.as_slice(),

@@ -1,5 +1,6 @@
 //! Worked examples of what each kernel writes and leaves.
 
+use crate::own_kernel::Backward;
 use const_hex::{
     CheckFirst, FromHexError, Kernel, Lanes16, Lanes32, Plain, decode_to_slice_with, decode_with,
     encode_with,
@@ -19,7 +20,8 @@ fn decoded_fronts(rt: HostRuntime) -> Result<(), Fail> {
     leave::<Lanes32>(&rt, alloc, [0, 0, 49, 0, 32])?;
     leave::<CheckFirst<Plain>>(&rt, alloc, [0; 5])?;
     leave::<CheckFirst<Lanes16>>(&rt, alloc, [0; 5])?;
-    leave::<CheckFirst<Lanes32>>(&rt, alloc, [0; 5])
+    leave::<CheckFirst<Lanes32>>(&rt, alloc, [0; 5])?;
+    leave::<Backward>(&rt, alloc, [0; 5])
 }
 
 fn leave<K: Kernel>(rt: &impl Abort, alloc: Global, counts: [usize; 5]) -> Result<(), Fail> {
@@ -60,7 +62,8 @@ fn counted_bytes(rt: HostRuntime) -> Result<(), Fail> {
     counted::<Lanes32>(&rt, alloc)?;
     counted::<CheckFirst<Plain>>(&rt, alloc)?;
     counted::<CheckFirst<Lanes16>>(&rt, alloc)?;
-    counted::<CheckFirst<Lanes32>>(&rt, alloc)
+    counted::<CheckFirst<Lanes32>>(&rt, alloc)?;
+    counted::<Backward>(&rt, alloc)
 }
 
 // The bytes 0, 1 and so on, up to about one step of each kernel and to two.

@@ -1,5 +1,5 @@
 use Rattle.std.proofs.Common.{◌≤◌, length, arith}
-use Rattle.consthex.proofs.Pieces.{read_step, read_within}
+use Rattle.consthex.proofs.Pieces.{read_step, step_within}
 use Rattle.consthex.proofs.run.read_all.Goals as goal
 
 pub reads-preserved : goal.reads-preserved
@@ -8,7 +8,7 @@ reads-preserved g c =
     let made = c.in_ok-make_room.ensures in
     let inside = c.in-Ok.ensures.bound.0 in
     let started : c.reads.count ≤ length had = omega (arith, made.room, c.deref_mut.ensures.len) in
-    let within = read_within had c.read.new.buf c.reads.count c.in-Ok.read started c.read.auto.buf inside in
+    let within = step_within had c.reads.count c.in-Ok.read started (rw c.read.auto.buf at inside) in
     record {
       within = omega (arith, within, c.deref_mut.ensures.len);
       bound = made.bound;

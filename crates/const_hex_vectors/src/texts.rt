@@ -16,9 +16,17 @@ pub fn bytes(alloc: Global, count: usize) -> Result<Vec<u8>, AllocError> {
         .collect(alloc)
 }
 
-/// What std prints for each byte with two digits.
-pub fn printed(alloc: Global, bytes: &[u8], upper: bool) -> Result<String, AllocError> {
+/// `0x` where a prefix is wanted, and what std prints for each byte with two digits.
+pub fn printed(
+    alloc: Global,
+    bytes: &[u8],
+    prefix: bool,
+    upper: bool,
+) -> Result<String, AllocError> {
     let mut text = String::new(alloc);
+    if prefix {
+        text.push_str("0x")?;
+    }
     for byte in bytes {
         let pair = if upper {
             format!(in alloc; "{byte:02X}")?
@@ -28,6 +36,19 @@ pub fn printed(alloc: Global, bytes: &[u8], upper: bool) -> Result<String, Alloc
         text.push_str(&pair)?;
     }
     Ok(text)
+}
+
+/// A text in pieces of these sizes, as far as it goes.
+pub fn cut(alloc: Global, text: &str, sizes: &[usize]) -> Result<Vec<String>, AllocError> {
+    let mut pieces = Vec::new(alloc);
+    let mut rest = text;
+    for size in sizes {
+        if let Some((piece, after)) = rest.split_at_checked(*size) {
+            pieces.push(piece.to_string(alloc)?)?;
+            rest = after;
+        }
+    }
+    Ok(pieces)
 }
 
 /// The bytes that std reads from the first pairs of a text, and 0xEE for each further pair.

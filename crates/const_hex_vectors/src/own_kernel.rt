@@ -1,0 +1,84 @@
+//! A kernel of one's own, put under the codec.
+
+ghost use Rattle.std.specs.Prelude.{◌≡◌, ◌≢◌, ◌*◌, ◌↔◌, IsTrue, true, false, length, string_bytes, IfOk, IfErr, Ok, Err};
+ghost use Rattle.const_hex.specs.Answers.{Reads};
+ghost use Rattle.const_hex.specs.Texts.{full_text, hex_text};
+ghost use Rattle.const_hex.specs.declared.error.FromHexError.TheVariants.{NoMemory};
+
+use const_hex::{
+    CheckFirst, FromHexError, Kernel, NIL, Output, decode_with, digit_at, encode_with, value_at,
+};
+use std::alloc::{AllocError, Global};
+
+/// Goes from the last byte to the first where it checks and decodes, and writes the two digits of
+/// a byte at once where it encodes.
+///
+/// The author of a kernel proves four contracts: that what `encode` writes is the text of the
+/// bytes, in pieces of 1 to 64 bytes; that `check` is true exactly where every byte is a digit;
+/// that `decode_checked` leaves the bytes that are spelled, or answers false where some byte is no
+/// digit, and then leaves no more than a decoded front; and that `decode_unchecked` leaves the
+/// bytes that digits spell. The codec's calls by that kernel then keep all that they promise by
+/// any kernel: [`encoded`] and [`decoded`] have no proof of their own.
+///
+/// ```rust
+/// let text = const_hex::encode_with::<Backward, true>(rt.alloc(), b"kiwi")?;
+/// assert_eq!(rt; text.as_str(), "6B697769");
+/// let mut bytes = [0; 4];
+/// const_hex::decode_to_slice_with::<CheckFirst<Backward>>(text.as_bytes(), &mut bytes)?;
+/// assert_eq!(rt; &bytes, b"kiwi");
+/// ```
+pub struct Backward;
+
+impl Kernel for Backward {
+    ghost USE_CHECK_FN = { false };
+
+    const USE_CHECK_FN: bool = false;
+
+    fn encode<O: Output>(input: &[u8], upper: bool, output: &mut O) {
+        for byte in input {
+            output.write(&[digit_at(upper, *byte / 16), digit_at(upper, *byte % 16)]);
+        }
+    }
+
+    fn check(input: &[u8]) -> bool {
+        let mut left = input.len();
+        while left > 0 {
+            left -= 1;
+            if value_at(input[left]) == NIL {
+                return false;
+            }
+        }
+        true
+    }
+
+    fn decode_checked(input: &[u8], output: &mut [u8]) -> bool {
+        if !Backward::check(input) {
+            return false;
+        }
+        Backward::decode_unchecked(input, output);
+        true
+    }
+
+    fn decode_unchecked(input: &[u8], output: &mut [u8]) {
+        let mut left = output.len();
+        while left > 0 {
+            left -= 1;
+            output[left] = value_at(input[2 * left]) * 16 + value_at(input[2 * left + 1]);
+        }
+    }
+}
+
+/// The text of bytes, by this kernel.
+pub fn encoded(alloc: Global, bytes: &[u8]) -> Result<String, AllocError>
+    ensures { IfOk result (λ s. string_bytes s ≡ hex_text false bytes.now) }
+{
+    encode_with::<Backward, false>(alloc, bytes)
+}
+
+/// The bytes that a text spells, by this kernel behind a check.
+pub fn decoded(alloc: Global, text: &[u8]) -> Result<Vec<u8>, FromHexError>
+    ensures ok { IfOk result (λ v. Reads text.now (Ok v.items)) }
+    ensures err { IfErr result (λ e. e ≢ NoMemory → Reads text.now (Err e)) }
+{
+    decode_with::<CheckFirst<Backward>>(alloc, text)
+}

@@ -1,0 +1,171 @@
+//! The text of bytes, handed to a sink by each kernel, also to one that refuses.
+
+ghost use Rattle.std.specs.Prelude.{◌≡◌, false};
+
+use crate::noting::NotingSink;
+use crate::own_kernel::Backward;
+use crate::texts::{bytes, cut, printed};
+use const_hex::{
+    BufferedHex, CheckFirst, Kernel, Lanes16, Lanes32, Output, PieceSink, Plain, Sink, SinkError,
+    SinkOutput,
+};
+use std::alloc::Global;
+use std::process::Abort;
+use std::test::Fail;
+
+// A count of bytes, whether a prefix is written, and the sizes of the calls.
+type Row<'a> = (usize, bool, &'a [usize]);
+
+const PLAIN: [Row<'_>; 8] = [
+    (0, false, &[]),
+    (0, true, &[2]),
+    (2047, true, &[4096]),
+    (2048, false, &[4096]),
+    (2048, true, &[4096, 2]),
+    (4096, false, &[4096, 4096]),
+    (4097, false, &[4096, 4096, 2]),
+    (4097, true, &[4096, 4096, 4]),
+];
+
+const LANES16: [Row<'_>; 8] = [
+    (0, false, &[]),
+    (0, true, &[2]),
+    (2047, true, &[4096]),
+    (2048, false, &[4096]),
+    (2048, true, &[4066, 32]),
+    (4096, false, &[4096, 4096]),
+    (4097, false, &[4096, 4096, 2]),
+    (4097, true, &[4066, 4096, 34]),
+];
+
+const LANES32: [Row<'_>; 8] = [
+    (0, false, &[]),
+    (0, true, &[2]),
+    (2047, true, &[4096]),
+    (2048, false, &[4096]),
+    (2048, true, &[4034, 64]),
+    (4096, false, &[4096, 4096]),
+    (4097, false, &[4096, 4096, 2]),
+    (4097, true, &[4034, 4096, 66]),
+];
+
+#[test]
+fn plain(rt: HostRuntime) -> Result<(), Fail> {
+    streams::<Plain>(&rt, rt.alloc(), PLAIN)?;
+    streams::<CheckFirst<Plain>>(&rt, rt.alloc(), PLAIN)
+}
+
+#[test]
+fn lanes16(rt: HostRuntime) -> Result<(), Fail> {
+    streams::<Lanes16>(&rt, rt.alloc(), LANES16)?;
+    streams::<CheckFirst<Lanes16>>(&rt, rt.alloc(), LANES16)
+}
+
+#[test]
+fn lanes32(rt: HostRuntime) -> Result<(), Fail> {
+    streams::<Lanes32>(&rt, rt.alloc(), LANES32)?;
+    streams::<CheckFirst<Lanes32>>(&rt, rt.alloc(), LANES32)
+}
+
+// Pieces of two digits fill each call, as single digits do.
+#[test]
+fn own_kernel(rt: HostRuntime) -> Result<(), Fail> {
+    streams::<Backward>(&rt, rt.alloc(), PLAIN)
+}
+
+/// Each row in both cases, with a sink that never refuses, that refuses at each call, and that is
+/// set to refuse at the call after the last.
+fn streams<K: Kernel>(rt: &impl Abort, alloc: Global, rows: [Row<'_>; 8]) -> Result<(), Fail> {
+    for (count, prefix, sizes) in rows {
+        let data = bytes(alloc, count)?;
+        for upper in [false, true] {
+            let pieces = cut(alloc, &printed(alloc, &data, prefix, upper)?, sizes)?;
+            for refuse_at in 0..pieces.len() + 2 {
+                refused_at::<K>(rt, alloc, &data, (prefix, upper), &pieces, refuse_at);
+            }
+        }
+    }
+    Ok(())
+}
+
+fn refused_at<K: Kernel>(
+    rt: &impl Abort,
+    alloc: Global,
+    data: &[u8],
+    form: (bool, bool),
+    pieces: &[String],
+    refuse_at: usize,
+) {
+    let mut sink = NotingSink::new(alloc, refuse_at);
+    let answer = write::<K, NotingSink>(data, form, &mut sink);
+    assert!(rt; !sink.no_memory());
+    if refuse_at == 0 || refuse_at > pieces.len() {
+        assert_eq!(rt; answer, Ok(()));
+        assert_eq!(rt; sink.noted(), pieces);
+        assert_eq!(rt; sink.accepted(), pieces);
+    } else {
+        assert_eq!(rt; answer, Err(SinkError));
+        assert_eq!(rt; sink.noted(), &pieces[..refuse_at]);
+        assert_eq!(rt; sink.accepted(), &pieces[..refuse_at - 1]);
+    }
+}
+
+/// Writes the text to a sink, by a prefix or not, and in upper letters or not.
+fn write<K: Kernel, S: Sink>(data: &[u8], form: (bool, bool), sink: &mut S) -> Result<(), SinkError>
+    requires { S.is_refused sink.old ≡ false }
+{
+    match form {
+        (false, false) => BufferedHex::<false, false>::new(data).write_with::<K, S>(sink),
+        (false, true) => BufferedHex::<true, false>::new(data).write_with::<K, S>(sink),
+        (true, false) => BufferedHex::<false, true>::new(data).write_with::<K, S>(sink),
+        (true, true) => BufferedHex::<true, true>::new(data).write_with::<K, S>(sink),
+    }
+}
+
+#[test]
+fn kept_pieces(rt: HostRuntime) -> Result<(), Fail> {
+    let alloc = rt.alloc();
+    keeps::<Plain>(&rt, alloc, [4096, 4096, 4])?;
+    keeps::<CheckFirst<Plain>>(&rt, alloc, [4096, 4096, 4])?;
+    keeps::<Lanes16>(&rt, alloc, [4066, 4096, 34])?;
+    keeps::<CheckFirst<Lanes16>>(&rt, alloc, [4066, 4096, 34])?;
+    keeps::<Lanes32>(&rt, alloc, [4034, 4096, 66])?;
+    keeps::<CheckFirst<Lanes32>>(&rt, alloc, [4034, 4096, 66])
+}
+
+fn keeps<K: Kernel>(rt: &impl Abort, alloc: Global, sizes: [usize; 3]) -> Result<(), Fail> {
+    let data = [0xAB; 4097];
+    let pieces = cut(alloc, &printed(alloc, &data, true, false)?, &sizes)?;
+    assert_eq!(rt; pieces.len(), 3);
+    for refuse_at in 0..4usize {
+        let mut sink = PieceSink::new(alloc, refuse_at);
+        let answer = write::<K, PieceSink>(&data, (true, false), &mut sink);
+        assert_eq!(rt; answer.is_err(), refuse_at > 0);
+        let (calls, kept) = if refuse_at > 0 {
+            (refuse_at, refuse_at - 1)
+        } else {
+            (3, 3)
+        };
+        assert_eq!(rt; sink.calls(), calls);
+        assert_eq!(rt; sink.pieces(), &pieces[..kept]);
+        assert!(rt; !sink.no_memory());
+    }
+    Ok(())
+}
+
+#[test]
+fn writes_after_a_refusal(rt: HostRuntime) -> Result<(), Fail> {
+    for refuse_at in 1..3usize {
+        let mut sink = NotingSink::new(rt.alloc(), refuse_at);
+        let mut output = SinkOutput::new(&mut sink);
+        for piece in ["one", "two", "three", "four", "five"] {
+            assert!(rt; piece.is_ascii());
+            output.write(piece.as_bytes());
+        }
+        assert_eq!(rt; output.finish(), Err(SinkError));
+        assert_eq!(rt; sink.noted().len(), refuse_at);
+        assert_eq!(rt; sink.accepted().len(), refuse_at - 1);
+        assert_eq!(rt; sink.noted()[0].as_str(), "one");
+    }
+    Ok(())
+}
