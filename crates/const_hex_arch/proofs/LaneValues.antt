@@ -1,5 +1,5 @@
 -- The values of digits, in vectors of any number of lanes.
-use Rattle.std.proofs.Common.{◌≡◌, ℕ, zero, suc, ◌+◌, ◌-◌, ◌%◌, ◌^◌, ◌<◌, ◌≤◌, ◌↔◌, Bool, true, false, not, cond, eqb, ltb, T, ◌||◌, List, [], ◌∷◌, map, length, replicate, drop, get_or, bit_and, bit_or, leb, leb→le, refl, sym, ap, subst, ◌∙◌, inl, inr, arith, w8, Fits, Option, Some, None, IsSome, IsTrue, eqb→eq, eqb-true, eq-eqb, le-ltb, lt-ltb}
+use Rattle.std.proofs.Common.{◌≡◌, ℕ, zero, suc, ◌+◌, ◌-◌, ◌%◌, ◌^◌, ◌<◌, ◌≤◌, ◌↔◌, Bool, true, false, cond, eqb, ltb, T, ◌||◌, List, [], ◌∷◌, map, length, replicate, drop, get_or, bit_and, bit_or, leb, leb→le, refl, ap, subst, arith, w8, Fits, Option, Some, None, IsSome, IsTrue, eqb→eq, eqb-true, eq-eqb}
 use Rattle.std.specs.List.{AllZip}
 use Rattle.std.proofs.lemmas.Bool.Decides.{nat_tests}
 use Rattle.std.proofs.lemmas.List.Elements.{All-nil, All-head, All-tail, All-cons}
@@ -10,7 +10,7 @@ use Rattle.const_hex_arch.specs.Texts.{AllDigits}
 use Rattle.const_hex_arch.specs.Lanes.{AllNibbles}
 use Rattle.const_hex_arch.specs.Nibbles.{as_value, IsValueOf}
 use Rattle.const_hex_arch.proofs.Computed.{every_below}
-use Rattle.const_hex_arch.proofs.Spelling.{false_is_true, digit_found, hex_value-small}
+use Rattle.const_hex_arch.proofs.Spelling.{false_is_true, hex_value-small}
 
 -- ---- values that are compared by computing
 

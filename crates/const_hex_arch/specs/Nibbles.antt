@@ -1,5 +1,5 @@
 -- Values of digits, in lanes.
-use Rattle.std.specs.Prelude.{◌≡◌, ℕ, ◌≤◌, nat_le, if◌then◌else◌, Option, Some, None}
+use Rattle.std.specs.Prelude.{◌≡◌, ℕ, nat_le, if◌then◌else◌, Option, Some, None}
 use Rattle.const_hex_arch.specs.Digits.{hex_value, IsDigit}
 
 -- a lane of at most 15 is a value, and any other is none

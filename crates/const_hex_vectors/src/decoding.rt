@@ -1,8 +1,9 @@
 //! Worked examples of checking and decoding.
 
+use crate::texts::digits;
 use const_hex::{
-    FromHexError, check, check_raw, const_check, const_check_raw, const_decode_to_array, decode,
-    decode_to_array, decode_to_slice,
+    FromHexError, Plain, check, check_raw, const_check, const_check_raw, const_decode_to_array,
+    decode, decode_to_array, decode_to_slice, decode_to_slice_with,
 };
 use std::test::Fail;
 
@@ -14,13 +15,15 @@ fn bad(c: char, index: usize) -> FromHexError {
 
 #[test]
 fn accepted_texts(rt: HostRuntime) -> Result<(), Fail> {
-    let rows: [(&[u8], &[u8]); 6] = [
+    let rows: [(&[u8], &[u8]); 8] = [
         (b"", b""),
         (b"0x", b""),
         (b"0X6B697769", b"kiwi"),
         (b"6b697769", b"kiwi"),
         (b"0x48656c6c6f20776f726c6421", b"Hello world!"),
         (b"48656C6C6F20776f726c6421", b"Hello world!"),
+        (HELLO.as_bytes(), b"Hello world!"),
+        (b"0X48656C6C6F20776F726C6421", b"Hello world!"),
     ];
     for (text, bytes) in rows {
         assert_eq!(rt; decode(rt.alloc(), text)?.as_slice(), bytes);
@@ -90,9 +93,46 @@ fn sized_outputs(rt: HostRuntime) {
     let mut byte = [0xEE];
     assert_eq!(rt; decode_to_slice(b"0x", &mut byte), refused);
     assert_eq!(rt; byte, [0xEE]);
+    let mut two = [0xEE; 2];
+    assert_eq!(rt;
+        decode_to_slice_with::<Plain>(b"6bzz", &mut two),
+        Err(bad('z', 2))
+    );
+    assert_eq!(rt; two, [0x6B, 0xEE]);
     let mut kiwi = [0; 4];
     assert_eq!(rt; decode_to_slice(b"6b697769", &mut kiwi), Ok(()));
     assert_eq!(rt; &kiwi, b"kiwi");
+    assert_eq!(rt; decode_to_slice(b"0x6B697769", &mut kiwi), Ok(()));
+    assert_eq!(rt; &kiwi, b"kiwi");
+}
+
+// What the fixed kernel leaves of 48 bytes: the front that its steps have decoded.
+#[test]
+fn decoded_fronts(rt: HostRuntime) {
+    for (place, front) in [(63, 0), (70, 32)] {
+        let mut text = [b'a'; 96];
+        if place < 96 {
+            text[place] = b'g';
+        }
+        let mut output = [0xEE; 48];
+        assert_eq!(rt; decode_to_slice(&text, &mut output), Err(bad('g', place)));
+        assert!(rt; output[..front].iter().all(|byte| *byte == 0xAA));
+        assert!(rt; output[front..].iter().all(|byte| *byte == 0xEE));
+    }
+}
+
+#[test]
+fn digits_of_each_length(rt: HostRuntime) -> Result<(), Fail> {
+    for length in 1..=130usize {
+        let text = digits(rt.alloc(), length)?;
+        assert!(rt; check_raw(&text), "at {length}");
+        assert!(rt; const_check_raw(&text), "at {length}");
+        if length % 2 == 0 {
+            assert_eq!(rt; check(&text), Ok(()), "at {length}");
+            assert_eq!(rt; const_check(&text), Ok(()), "at {length}");
+        }
+    }
+    Ok(())
 }
 
 #[test]

@@ -1,8 +1,9 @@
 //! Worked examples of encoding.
 
+use crate::texts::{bytes, printed};
 use const_hex::{
-    FromHexError, encode, encode_prefixed, encode_to_slice, encode_to_slice_upper, encode_upper,
-    encode_upper_prefixed,
+    FromHexError, decode, encode, encode_prefixed, encode_to_slice, encode_to_slice_upper,
+    encode_upper, encode_upper_prefixed,
 };
 use std::test::Fail;
 
@@ -54,6 +55,10 @@ fn texts_in_slices(rt: HostRuntime) -> Result<(), Fail> {
     assert_eq!(rt; encode_to_slice_upper(b"kiwi", &mut text), Ok(()));
     assert_eq!(rt; &text, b"6B697769");
     assert_eq!(rt; encode_to_slice(b"", &mut []), Ok(()));
+    let mut short = [0xEE; 7];
+    let refused = Err(FromHexError::InvalidStringLength);
+    assert_eq!(rt; encode_to_slice(b"kiwi", &mut short), refused);
+    assert_eq!(rt; short, [0xEE; 7]);
     Ok(())
 }
 
@@ -77,6 +82,20 @@ fn other_lengths_are_refused(rt: HostRuntime) -> Result<(), Fail> {
             "at {len}"
         );
         assert_eq!(rt; output, untouched, "at {len}");
+    }
+    Ok(())
+}
+
+// The bytes that the Rust crate's own tests go through.
+#[test]
+fn there_and_back(rt: HostRuntime) -> Result<(), Fail> {
+    for count in [1usize, 8, 20, 32, 64, 128] {
+        let bytes = bytes(rt.alloc(), count)?;
+        let text = encode(rt.alloc(), &bytes)?;
+        let want = printed(rt.alloc(), &bytes, false, false)?;
+        assert_eq!(rt; text.as_str(), want.as_str(), "at {count}");
+        let back = decode(rt.alloc(), text.as_bytes())?;
+        assert_eq!(rt; back.as_slice(), bytes.as_slice(), "at {count}");
     }
     Ok(())
 }

@@ -3,12 +3,15 @@
 //! Expected values come from the codec's written rules or from what std prints.
 #![tactic(auto)]
 
+pub mod addresses;
 #[cfg(test)]
 mod decoding;
 #[cfg(test)]
 mod encoding;
 #[cfg(test)]
 mod kernels;
+#[cfg(test)]
+mod memory;
 pub mod noting;
 pub mod own_kernel;
 pub mod readers;

@@ -8,6 +8,12 @@ use std::marker::PhantomData;
 
 /// Another kernel, but one that decodes a text only once all of it is checked. So it leaves the
 /// output as it is where a text is refused.
+///
+/// ```rust
+/// let mut bytes = [0; 2];
+/// assert!(rt; !CheckFirst::<Plain>::decode_checked(b"6bzz", &mut bytes));
+/// assert_eq!(rt; bytes, [0; 2]);
+/// ```
 pub struct CheckFirst<K> {
     kernel: PhantomData<K>,
 }

@@ -10,7 +10,14 @@ use crate::arch::{Kernel, lanes, lanes16};
 use crate::output::Output;
 use std::simd::prelude::*;
 
-/// 16 lanes at a time, and byte by byte what follows the last whole step.
+/// Steps of 16 bytes, or of 32 bytes of text where it decodes, and byte by byte what follows the
+/// last whole step.
+///
+/// ```rust
+/// let mut bytes = [0; 4];
+/// assert!(rt; Lanes16::decode_checked(b"6b697769", &mut bytes));
+/// assert_eq!(rt; bytes, *b"kiwi");
+/// ```
 pub struct Lanes16;
 
 impl Kernel for Lanes16 {

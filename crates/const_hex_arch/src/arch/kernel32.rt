@@ -11,9 +11,14 @@ use crate::arch::{Kernel, lanes, lanes32};
 use crate::output::Output;
 use std::simd::prelude::*;
 
-/// 32 lanes at a time, then at most one step of 16 lanes, and byte by byte what is left.
+/// Steps of 32 bytes, or of 64 bytes of text where it decodes, then at most one step of half that
+/// size by 16 lanes, and byte by byte what is left. `decode_unchecked` alone has no half step.
 ///
-/// What decodes without tests has no step of 16 lanes.
+/// ```rust
+/// let mut bytes = [0; 4];
+/// assert!(rt; Lanes32::decode_checked(b"6b697769", &mut bytes));
+/// assert_eq!(rt; bytes, *b"kiwi");
+/// ```
 pub struct Lanes32;
 
 impl Kernel for Lanes32 {

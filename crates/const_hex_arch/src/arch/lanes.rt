@@ -1,4 +1,4 @@
-//! The values of digits, at any number of lanes.
+//! The values of digits, for vectors of any number of lanes.
 
 ghost use Rattle.std.specs.Prelude.{◌≡◌, ◌≤◌, ◌↔◌, map, IsTrue};
 ghost use Rattle.std.specs.List.{AllZip};
@@ -10,20 +10,20 @@ use std::simd::prelude::*;
 
 /// The value of each lane that is a digit, and more than 15 for every other lane.
 ///
-/// Algorithm 3 of Wojciech Muła and Geoff Langdale, "Validating hexadecimal", 2022-01-17.
+/// This is algorithm 3 of Wojciech Muła and Geoff Langdale, "Validating hexadecimal", 2022-01-17.
 #[inline(always)]
 pub(crate) fn nibbles<const N: usize>(v: Simd<u8, N>) -> Simd<u8, N>
     ensures { map as_value result ≡ map hex_value v.entry }
 {
     let decimal = (v + Simd::splat(0xC6)).saturating_sub(Simd::splat(6)) - Simd::splat(0xF0);
     let letter = (v & Simd::splat(0xDF)) - Simd::splat(0x41);
-    // The sum of a byte and 10 that stops at 255 is min(byte, 245) + 10: equal on every byte, and
-    // one instruction less.
+    // The algorithm adds 10 with a sum that stops at 255. That is min(byte, 245) + 10 for every
+    // byte, and is compiled to one instruction, where a saturating sum of lanes takes three.
     let letter = letter.simd_min(Simd::splat(245)) + Simd::splat(10);
     decimal.simd_min(letter)
 }
 
-/// Whether no lane is above 15.
+/// Whether no lane is above 15, that is, whether the high half of each lane is 0.
 #[inline(always)]
 pub(crate) fn are_nibbles<const N: usize>(nibbles: Simd<u8, N>) -> bool
     ensures { IsTrue result ↔ AllNibbles nibbles.entry }

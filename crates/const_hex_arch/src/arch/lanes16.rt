@@ -1,4 +1,7 @@
-//! Steps of 16 lanes.
+//! What a vector of 16 lanes makes of as many bytes at once.
+//!
+//! Five calls take the lanes apart and put them together, each with its contract for every vector:
+//! [`encode_chunk`], [`check_chunk`], [`decode_chunk`], [`nibbles`] and [`unhex`].
 
 ghost use Rattle.std.specs.Prelude.{◌≡◌, ◌↔◌, [], ◌∷◌, ◌++◌, length, map, IsTrue, IsNone, IfSome};
 ghost use Rattle.std.specs.List.{AllZip, concat};
@@ -13,6 +16,11 @@ use crate::tables::{HEX_CHARS_LOWER, HEX_CHARS_UPPER};
 use std::simd::prelude::*;
 
 /// Two digits for each lane, in order: the text of the first 8 lanes, and that of the last 8.
+///
+/// ```rust
+/// let [first, _] = lanes16::encode_chunk::<false>(u8x16::splat(0xAF));
+/// assert_eq!(rt; first.to_array(), *b"afafafafafafafaf");
+/// ```
 #[inline(always)]
 pub fn encode_chunk<const UPPER: bool>(v: u8x16) -> [u8x16; 2]
     ensures text { concat result ≡ hex_text UPPER v }
@@ -24,6 +32,11 @@ pub fn encode_chunk<const UPPER: bool>(v: u8x16) -> [u8x16; 2]
 }
 
 /// Whether every lane is a digit.
+///
+/// ```rust
+/// assert!(rt; lanes16::check_chunk(u8x16::splat(b'f')));
+/// assert!(rt; !lanes16::check_chunk(u8x16::splat(b'g')));
+/// ```
 #[inline(always)]
 pub fn check_chunk(v: u8x16) -> bool
     ensures { IsTrue result ↔ AllDigits v }
@@ -32,6 +45,13 @@ pub fn check_chunk(v: u8x16) -> bool
 }
 
 /// The value of each lane that is a digit, and more than 15 for every other lane.
+///
+/// This is algorithm 3 of Wojciech Muła and Geoff Langdale, "Validating hexadecimal", 2022-01-17.
+///
+/// ```rust
+/// let values = lanes16::nibbles(u8x16::splat(b'B'));
+/// assert_eq!(rt; values.to_array(), [11; 16]);
+/// ```
 #[inline(always)]
 pub fn nibbles(v: u8x16) -> u8x16
     ensures { map as_value result ≡ map hex_value v }
@@ -40,6 +60,12 @@ pub fn nibbles(v: u8x16) -> u8x16
 }
 
 /// The bytes that the lanes of a text spell, or `None` where one of these lanes is no digit.
+///
+/// ```rust
+/// let text = [u8x16::splat(b'7'), u8x16::splat(b'7')];
+/// let bytes = lanes16::decode_chunk(text).map(|bytes| bytes.to_array());
+/// assert_eq!(rt; bytes, Some([0x77; 16]));
+/// ```
 #[inline(always)]
 pub fn decode_chunk(text: [u8x16; 2]) -> Option<u8x16>
     ensures none { IsNone result ↔ ¬ AllDigits (concat text) }
@@ -50,6 +76,11 @@ pub fn decode_chunk(text: [u8x16; 2]) -> Option<u8x16>
 }
 
 /// The value of each lane that is a digit. Of the other lanes nothing is said.
+///
+/// ```rust
+/// let values = lanes16::unhex(u8x16::splat(b'B'));
+/// assert_eq!(rt; values.to_array(), [11; 16]);
+/// ```
 #[inline(always)]
 pub fn unhex(v: u8x16) -> u8x16
     ensures { AllZip IsValueOf v result }

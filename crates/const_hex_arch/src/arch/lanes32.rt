@@ -1,4 +1,7 @@
-//! Steps of 32 lanes.
+//! What a vector of 32 lanes makes of as many bytes at once.
+//!
+//! Five calls take the lanes apart and put them together, each with its contract for every vector:
+//! [`encode_chunk`], [`check_chunk`], [`decode_chunk`], [`nibbles`] and [`unhex`].
 
 ghost use Rattle.std.specs.Prelude.{◌≡◌, ◌↔◌, [], ◌∷◌, ◌++◌, length, map, IsTrue, IsNone, IfSome};
 ghost use Rattle.std.specs.List.{AllZip, concat};
@@ -18,6 +21,11 @@ const DIGITS_LOWER: [u8; 32] = *b"0123456789abcdef0123456789abcdef";
 const DIGITS_UPPER: [u8; 32] = *b"0123456789ABCDEF0123456789ABCDEF";
 
 /// Two digits for each lane, in order: the text of the first 16 lanes, and that of the last 16.
+///
+/// ```rust
+/// let [first, _] = lanes32::encode_chunk::<true>(u8x32::splat(0xAF));
+/// assert_eq!(rt; first.to_array(), *b"AFAFAFAFAFAFAFAFAFAFAFAFAFAFAFAF");
+/// ```
 #[inline(always)]
 pub fn encode_chunk<const UPPER: bool>(v: u8x32) -> [u8x32; 2]
     ensures text { concat result ≡ hex_text UPPER v }
@@ -29,6 +37,11 @@ pub fn encode_chunk<const UPPER: bool>(v: u8x32) -> [u8x32; 2]
 }
 
 /// Whether every lane is a digit.
+///
+/// ```rust
+/// assert!(rt; lanes32::check_chunk(u8x32::splat(b'f')));
+/// assert!(rt; !lanes32::check_chunk(u8x32::splat(b'g')));
+/// ```
 #[inline(always)]
 pub fn check_chunk(v: u8x32) -> bool
     ensures { IsTrue result ↔ AllDigits v }
@@ -37,6 +50,13 @@ pub fn check_chunk(v: u8x32) -> bool
 }
 
 /// The value of each lane that is a digit, and more than 15 for every other lane.
+///
+/// This is algorithm 3 of Wojciech Muła and Geoff Langdale, "Validating hexadecimal", 2022-01-17.
+///
+/// ```rust
+/// let values = lanes32::nibbles(u8x32::splat(b'B'));
+/// assert_eq!(rt; values.to_array(), [11; 32]);
+/// ```
 #[inline(always)]
 pub fn nibbles(v: u8x32) -> u8x32
     ensures { map as_value result ≡ map hex_value v }
@@ -45,6 +65,12 @@ pub fn nibbles(v: u8x32) -> u8x32
 }
 
 /// The bytes that the lanes of a text spell, or `None` where one of these lanes is no digit.
+///
+/// ```rust
+/// let text = [u8x32::splat(b'7'), u8x32::splat(b'7')];
+/// let bytes = lanes32::decode_chunk(text).map(|bytes| bytes.to_array());
+/// assert_eq!(rt; bytes, Some([0x77; 32]));
+/// ```
 #[inline(always)]
 pub fn decode_chunk(text: [u8x32; 2]) -> Option<u8x32>
     ensures none { IsNone result ↔ ¬ AllDigits (concat text) }
@@ -55,6 +81,11 @@ pub fn decode_chunk(text: [u8x32; 2]) -> Option<u8x32>
 }
 
 /// The value of each lane that is a digit. Of the other lanes nothing is said.
+///
+/// ```rust
+/// let values = lanes32::unhex(u8x32::splat(b'B'));
+/// assert_eq!(rt; values.to_array(), [11; 32]);
+/// ```
 #[inline(always)]
 pub fn unhex(v: u8x32) -> u8x32
     ensures { AllZip IsValueOf v result }

@@ -26,7 +26,7 @@ pub(crate) trait Steps {
         requires { length text.now ≡ LANES }
         ensures { IsTrue result ↔ AllDigits text.now };
 
-    /// The same of four steps, under one test.
+    /// The same of the text of four steps: their values are joined, and tested once.
     fn check_four_steps(text: &[u8]) -> bool
         requires { length text.now ≡ 4 * LANES }
         ensures { IsTrue result ↔ AllDigits text.now };

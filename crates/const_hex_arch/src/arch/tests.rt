@@ -80,6 +80,62 @@ fn encodes_a_chunk(rt: HostRuntime) {
     assert_eq!(rt; second.to_array(), *b"AFAFAFAFAFAFAFAFAFAFAFAFAFAFAFAF");
 }
 
+/// What decodes a chunk of vectors `V`. Generated proofs cover an option of a type parameter, and
+/// none of a vector, so the calls of `decode_chunk` stand in impls of this trait, which are proved
+/// by hand, and all else is generic.
+trait DecodeChunk<V> {
+    fn decode_chunk(text: [V; 2]) -> Option<V>;
+}
+
+impl DecodeChunk<u8x16> for Lanes16 {
+    fn decode_chunk(text: [u8x16; 2]) -> Option<u8x16> {
+        lanes16::decode_chunk(text)
+    }
+}
+
+impl DecodeChunk<u8x32> for Lanes32 {
+    fn decode_chunk(text: [u8x32; 2]) -> Option<u8x32> {
+        lanes32::decode_chunk(text)
+    }
+}
+
+/// The bytes that a chunk spells, or `other` where it is refused.
+fn decoded_or<V, D: DecodeChunk<V>>(text: [V; 2], other: V) -> V
+where
+    V: Copy,
+{
+    match D::decode_chunk(text) {
+        Some(bytes) => bytes,
+        None => other,
+    }
+}
+
+#[test]
+fn decodes_a_chunk(rt: HostRuntime) {
+    let other = u8x16::splat(0xEE);
+    let first = u8x16::from_array(*b"0011223344556677");
+    let second = u8x16::from_array(*b"8899aAbBcCdDeEfF");
+    let bytes = decoded_or::<u8x16, Lanes16>([first, second], other);
+    let spelled = [
+        0x00, 0x11, 0x22, 0x33, 0x44, 0x55, 0x66, 0x77, 0x88, 0x99, 0xAA, 0xBB, 0xCC, 0xDD, 0xEE,
+        0xFF,
+    ];
+    assert_eq!(rt; bytes.to_array(), spelled);
+    let bad = u8x16::from_array(*b"001\x10223344556677");
+    let refused = decoded_or::<u8x16, Lanes16>([bad, second], other);
+    assert_eq!(rt; refused.to_array(), [0xEE; 16]);
+    let other = u8x32::splat(0xEE);
+    let text = u8x32::from_array(*b"0123456789abcdef0123456789ABCDEF");
+    let bytes = decoded_or::<u8x32, Lanes32>([text, text], other);
+    let half = [0x01, 0x23, 0x45, 0x67, 0x89, 0xAB, 0xCD, 0xEF];
+    for (i, byte) in bytes.to_array().iter().enumerate() {
+        assert_eq!(rt; *byte, half[i % 8]);
+    }
+    let bad = u8x32::from_array(*b"0123456789abcdef0123456789ABCDEG");
+    let refused = decoded_or::<u8x32, Lanes32>([text, bad], other);
+    assert_eq!(rt; refused.to_array(), [0xEE; 32]);
+}
+
 /// 49 bytes are one step of 32 lanes, one of 16 and one byte more.
 fn reads_back<K: Kernel>(rt: &impl Abort) {
     let mut bytes = [0; 49];

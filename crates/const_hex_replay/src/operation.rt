@@ -1,0 +1,154 @@
+//! What a question asks.
+
+use crate::fault::Fault;
+use std::str::FromStr;
+
+/// What a question asks.
+#[derive(Clone, Copy, Debug, PartialEq, Eq)]
+pub(crate) enum Operation {
+    /// The text of bytes, owned.
+    Encode(Form),
+    /// The text of bytes, printed.
+    Display,
+    /// The bytes of a text, owned.
+    Decode,
+    /// What the refusal of `decode` prints.
+    DecodeMessage,
+    /// Whether a text can be decoded.
+    Check,
+    /// The same, by the call for constants.
+    ConstCheck,
+    /// Whether a text has digits alone.
+    CheckRaw,
+    /// The same, by the call for constants.
+    ConstCheckRaw,
+    /// The bytes of a text, in a slice of so many bytes.
+    DecodeToSlice,
+    /// The text of bytes, in a slice of so many bytes.
+    EncodeToSlice(Case),
+    /// The same, lent as text.
+    EncodeToStr(Case),
+    /// The bytes of a text, in an array of that length.
+    DecodeToArray(usize),
+    /// The same, by the call for constants.
+    ConstDecodeToArray(usize),
+    /// The signed numbers of a text, owned.
+    SignedVec,
+    /// The four signed numbers of a text.
+    SignedArray,
+    /// The text of bytes, in a buffer.
+    BufferFormat(Form),
+    /// How a buffer prints for programmers, new and formatted.
+    BufferDebug,
+    /// The text of bytes, by the call for constants.
+    ConstEncode(Form),
+    /// The text of bytes, in a JSON value.
+    Serialize(Form),
+    /// The bytes of a JSON text.
+    Deserialize,
+    /// The sizes of the pieces in which a text is handed to a sink.
+    SerializeInner(Prefix),
+}
+
+/// The case of letters.
+#[derive(Clone, Copy, Debug, PartialEq, Eq)]
+pub(crate) enum Case {
+    Lower,
+    Upper,
+}
+
+/// Whether `0x` stands in front.
+#[derive(Clone, Copy, Debug, PartialEq, Eq)]
+pub(crate) enum Prefix {
+    Absent,
+    Present,
+}
+
+/// The form of a text.
+#[derive(Clone, Copy, Debug, PartialEq, Eq)]
+pub(crate) struct Form {
+    pub(crate) prefix: Prefix,
+    pub(crate) case: Case,
+}
+
+/// Lower letters.
+const PLAIN: Form = Form {
+    prefix: Prefix::Absent,
+    case: Case::Lower,
+};
+
+/// Upper letters.
+const UPPER: Form = Form {
+    prefix: Prefix::Absent,
+    case: Case::Upper,
+};
+
+/// `0x`, and lower letters.
+pub(crate) const PREFIXED: Form = Form {
+    prefix: Prefix::Present,
+    case: Case::Lower,
+};
+
+/// `0x`, and upper letters.
+const UPPER_PREFIXED: Form = Form {
+    prefix: Prefix::Present,
+    case: Case::Upper,
+};
+
+impl FromStr for Operation {
+    type Err = Fault;
+
+    fn from_str(word: &str) -> Result<Operation, Fault> {
+        if let Some(size) = word.strip_prefix("decode_to_array") {
+            return Ok(Operation::DecodeToArray(size_of(size)?));
+        }
+        if let Some(size) = word.strip_prefix("const_decode_to_array") {
+            return Ok(Operation::ConstDecodeToArray(size_of(size)?));
+        }
+        named(word).ok_or(Fault::UnknownOperation)
+    }
+}
+
+/// The length behind the name of an operation on arrays.
+fn size_of(digits: &str) -> Result<usize, Fault> {
+    digits.parse::<usize>().map_err(|_| Fault::UnknownOperation)
+}
+
+/// The operation of that name, but for those on arrays.
+fn named(word: &str) -> Option<Operation> {
+    Some(match word {
+        "encode" => Operation::Encode(PLAIN),
+        "encode_upper" => Operation::Encode(UPPER),
+        "encode_prefixed" => Operation::Encode(PREFIXED),
+        "encode_upper_prefixed" => Operation::Encode(UPPER_PREFIXED),
+        "display" => Operation::Display,
+        "decode" => Operation::Decode,
+        "msg_decode" => Operation::DecodeMessage,
+        "check" => Operation::Check,
+        "const_check" => Operation::ConstCheck,
+        "check_raw" => Operation::CheckRaw,
+        "const_check_raw" => Operation::ConstCheckRaw,
+        "decode_to_slice" => Operation::DecodeToSlice,
+        "encode_to_slice" => Operation::EncodeToSlice(Case::Lower),
+        "encode_to_slice_upper" => Operation::EncodeToSlice(Case::Upper),
+        "encode_to_str" => Operation::EncodeToStr(Case::Lower),
+        "encode_to_str_upper" => Operation::EncodeToStr(Case::Upper),
+        "from_hex_i8_vec" => Operation::SignedVec,
+        "from_hex_i8_array4" => Operation::SignedArray,
+        "buffer_format" => Operation::BufferFormat(PLAIN),
+        "buffer_format_upper" => Operation::BufferFormat(UPPER),
+        "buffer_format_prefixed" => Operation::BufferFormat(PREFIXED),
+        "buffer_format_upper_prefixed" => Operation::BufferFormat(UPPER_PREFIXED),
+        "buffer_debug" => Operation::BufferDebug,
+        "const_encode" => Operation::ConstEncode(PLAIN),
+        "const_encode_prefixed" => Operation::ConstEncode(PREFIXED),
+        "serialize" => Operation::Serialize(PREFIXED),
+        "serialize_upper" => Operation::Serialize(UPPER_PREFIXED),
+        "no_prefix_serialize" => Operation::Serialize(PLAIN),
+        "no_prefix_serialize_upper" => Operation::Serialize(UPPER),
+        "deserialize_json" => Operation::Deserialize,
+        "serialize_inner" => Operation::SerializeInner(Prefix::Absent),
+        "serialize_inner_prefixed" => Operation::SerializeInner(Prefix::Present),
+        _ => return None,
+    })
+}
