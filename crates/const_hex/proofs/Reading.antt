@@ -1,11 +1,12 @@
 -- Reading a text is a function: it has one answer, and never two.
-use Rattle.std.proofs.Common.{◌≡◌, ℕ, ◌*◌, List, length, Result, Ok, Err, refl, ap, arith, slice_index}
-use Rattle.std.specs.Prelude.{IsOk, ◌↔◌}
+use Rattle.std.proofs.Common.{◌≡◌, ℕ, ◌*◌, List, length, Result, Ok, Err, refl, ap, arith, slice_index, inl, inr}
+use Rattle.std.proofs.lemmas.Bool.{cases_eq}
+use Rattle.std.specs.Prelude.{IsOk, ◌↔◌, ◌⊎◌, ◌≢◌}
 use Rattle.const_hex_arch.specs.Texts.{Spells, AllDigits, FirstBad}
 use Rattle.const_hex_arch.proofs.Spelling.{Spells-same, Spells-digits, Spells-some, FirstBad-same, digits_no_bad}
 use Rattle.const_hex.specs.Bodies.{body_of, NamesFirstBad}
 use Rattle.const_hex.specs.Answers.{Reads, ReadsSized, Checks, ChecksBody, IsEven, IsOdd}
-use Rattle.const_hex.specs.TypeLaws.{body-even}
+use Rattle.const_hex.specs.TypeLaws.{body-even, Reads-some}
 use Rattle.const_hex.specs.declared.error.FromHexError.{FromHexError}
 use Rattle.const_hex.specs.declared.error.FromHexError.TheVariants.{OddLength, InvalidStringLength, InvalidHexCharacter, NoMemory}
 
@@ -80,6 +81,57 @@ ReadsSized-same t n (Err (InvalidHexCharacter c i)) (Err (InvalidHexCharacter d 
     Reads-same t (Err (InvalidHexCharacter c i)) (Err (InvalidHexCharacter d j)) h.1 k.1
 ReadsSized-same t n (Err (InvalidHexCharacter c i)) (Err NoMemory) h k = absurd k
 ReadsSized-same t n (Err NoMemory) s h k = absurd h
+
+-- every text has an answer as n bytes
+pub ReadsSized-some : (t : List ℕ) (n : ℕ) → (r : Result (List ℕ) FromHexError) × ReadsSized t n r
+ReadsSized-some t n = go (Reads-some t) (cases_eq (length (body_of t)) (2 * n))
+  where
+    go : (r : Result (List ℕ) FromHexError) × Reads t r → (length (body_of t) ≡ 2 * n) ⊎ (length (body_of t) ≢ 2 * n)
+        → (r : Result (List ℕ) FromHexError) × ReadsSized t n r
+    go (Err OddLength, h) sized = (Err OddLength, h)
+    go (Err InvalidStringLength, h) sized = absurd h
+    go (Err NoMemory, h) sized = absurd h
+    go (Ok bs, h) (inl same) = (Ok bs, (same, h))
+    go (Ok bs, h) (inr other) = (Err InvalidStringLength, (h.0, other))
+    go (Err (InvalidHexCharacter c i), h) (inl same) = (Err (InvalidHexCharacter c i), (same, h))
+    go (Err (InvalidHexCharacter c i), h) (inr other) = (Err InvalidStringLength, (h.0, other))
+
+-- checking leaves one answer
+pub ChecksBody-same : (t : List ℕ) (r s : Result Unit FromHexError) → ChecksBody t r → ChecksBody t s → r ≡ s
+ChecksBody-same t (Ok u) (Ok v) h k = refl
+ChecksBody-same t (Ok u) (Err f) h k = absurd (Reads-not_both t h.0 f h.1 k)
+ChecksBody-same t (Err e) (Ok v) h k = absurd (Reads-not_both t k.0 e k.1 h)
+ChecksBody-same t (Err e) (Err f) h k = let same = Reads-same t (Err e) (Err f) h k in cc same
+
+-- a check that refuses a text has read a refusal of it
+refusal_read : (t : List ℕ) (e : FromHexError) → Checks t (Err e) → (f : FromHexError) × Reads t (Err f)
+refusal_read t OddLength h = (OddLength, h)
+refusal_read t InvalidStringLength h = absurd h
+refusal_read t (InvalidHexCharacter c i) h = (InvalidHexCharacter c h.0, h.1)
+refusal_read t NoMemory h = absurd h
+
+accepts_or_refuses : (t bs : List ℕ) (e : FromHexError) → Reads t (Ok bs) → Checks t (Err e) → ⊥
+accepts_or_refuses t bs e h k = let read = refusal_read t e k in Reads-not_both t bs read.0 h read.1
+
+-- and so it does where places count from the start of the whole text
+pub Checks-same : (t : List ℕ) (r s : Result Unit FromHexError) → Checks t r → Checks t s → r ≡ s
+Checks-same t (Ok u) (Ok v) h k = refl
+Checks-same t (Ok u) (Err f) h k = absurd (accepts_or_refuses t h.0 f h.1 k)
+Checks-same t (Err e) (Ok v) h k = absurd (accepts_or_refuses t k.0 e k.1 h)
+Checks-same t (Err OddLength) (Err OddLength) h k = refl
+Checks-same t (Err OddLength) (Err InvalidStringLength) h k = absurd k
+Checks-same t (Err OddLength) (Err (InvalidHexCharacter c i)) h k = absurd (even_not_odd (length t) k.1.0 h)
+Checks-same t (Err OddLength) (Err NoMemory) h k = absurd k
+Checks-same t (Err InvalidStringLength) (Err f) h k = absurd h
+Checks-same t (Err (InvalidHexCharacter c i)) (Err OddLength) h k = absurd (even_not_odd (length t) h.1.0 k)
+Checks-same t (Err (InvalidHexCharacter c i)) (Err InvalidStringLength) h k = absurd k
+Checks-same t (Err (InvalidHexCharacter c i)) (Err (InvalidHexCharacter d j)) h k =
+    let same = Reads-same t (Err (InvalidHexCharacter c h.0)) (Err (InvalidHexCharacter d k.0)) h.1 k.1 in
+    let ei = h.2 in
+    let ej = k.2 in
+    cc (same, ei, ej)
+Checks-same t (Err (InvalidHexCharacter c i)) (Err NoMemory) h k = absurd k
+Checks-same t (Err NoMemory) (Err f) h k = absurd h
 
 -- ---- what the calls answer
 

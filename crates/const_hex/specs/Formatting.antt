@@ -15,10 +15,11 @@ display_bytes d = d.input.now
 abbrev pub printed_text : Bool → Bool → Display → List ℕ
 printed_text prefix up d = full_text prefix up (display_bytes d)
 
--- the formatter of a sink, and which loan of it that is
+-- the formatter of a sink
 abbrev pub sink_formatter : {W : Type 0} → FormatterSink W → Formatter W
 sink_formatter s = s.formatter.now
 
+-- which loan of a formatter a sink has
 abbrev pub formatter_name : {W : Type 0} → FormatterSink W → GName
 formatter_name s = s.formatter.ghost_name
 

@@ -6,7 +6,7 @@ use Rattle.const_hex_arch.proofs.Spelling.{Spells-length, Spells-bytes, Spells-s
 use Rattle.const_hex.specs.Bodies.{body_of}
 use Rattle.const_hex.specs.Answers.{Reads, ReadsSized, AreBytes, IsEven}
 use Rattle.const_hex.specs.Elements.{signed_of, byte_of}
-use Rattle.const_hex.specs.Types.{is_no_memory, AnyCount, IsCount, Refuses, IsFaithful, ReadsOwned, ReadsSigned, ReadsThrough}
+use Rattle.const_hex.specs.Types.{is_no_memory, AnyCount, IsCount, RefusesOrMisfits, IsFaithful, ReadsOwned, ReadsSigned, ReadsThrough}
 use Rattle.const_hex.specs.declared.error.FromHexError.{FromHexError}
 use Rattle.const_hex.specs.declared.error.FromHexError.TheVariants.{OddLength, InvalidStringLength, InvalidHexCharacter, NoMemory}
 
@@ -24,7 +24,7 @@ body-even (c ∷ d ∷ u) h =
     ]
 
 -- every text has an answer
-Reads-some : (t : List ℕ) → (r : Result (List ℕ) FromHexError) × Reads t r
+pub Reads-some : (t : List ℕ) → (r : Result (List ℕ) FromHexError) × Reads t r
 Reads-some t =
     elim (cases_eq (length t % 2) 1) [
       | inl odd ↦ (Err OddLength, odd)
@@ -49,7 +49,7 @@ ReadsOwned-faithful bytes t (Err NoMemory) h = λ no. cc no
 -- ---- arrays
 
 -- a body of another length is refused, or its bytes do not fit
-unfit : (n : ℕ) (t : List ℕ) → length (body_of t) ≢ 2 * n → (r : Result (List ℕ) FromHexError) × Reads t r → Refuses (IsCount n) t
+unfit : (n : ℕ) (t : List ℕ) → length (body_of t) ≢ 2 * n → (r : Result (List ℕ) FromHexError) × Reads t r → RefusesOrMisfits (IsCount n) t
 unfit n t other (Ok bs, h) =
     inr (bs, h, λ same. let len = Spells-length (body_of t) bs h.1 in other (omega (arith, len, same)))
 unfit n t other (Err e, h) = inl (e, h)

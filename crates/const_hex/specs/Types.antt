@@ -21,8 +21,8 @@ abbrev pub IsCount : ℕ → ℕ → Type 0
 IsCount n count = count ≡ n
 
 -- the text t is refused, or spells a count of bytes that does not fit
-abbrev pub Refuses : (ℕ → Type 0) → List ℕ → Type 0
-Refuses fits t =
+abbrev pub RefusesOrMisfits : (ℕ → Type 0) → List ℕ → Type 0
+RefusesOrMisfits fits t =
     ((e : FromHexError) × Reads t (Err e))
     ⊎ ((bs : List ℕ) × Reads t (Ok bs) × (fits (length bs) → ⊥))
 
@@ -31,7 +31,7 @@ Refuses fits t =
 -- not fit
 abbrev pub IsFaithful : {V E : Type 0} → (V → List ℕ) → (ℕ → Type 0) → (E → Bool) → List ℕ → Result V E → Type 0
 IsFaithful bytes fits is_memory t (Ok v) = Reads t (Ok (bytes v)) × fits (length (bytes v))
-IsFaithful bytes fits is_memory t (Err e) = is_memory e ≡ false → Refuses fits t
+IsFaithful bytes fits is_memory t (Err e) = is_memory e ≡ false → RefusesOrMisfits fits t
 
 -- the answers of a type that owns its bytes: the text's answer, or no memory where its length is even
 abbrev pub ReadsOwned : {V : Type 0} → (V → List ℕ) → List ℕ → Result V FromHexError → Type 0

@@ -307,6 +307,7 @@ impl<const N: usize, const PREFIX: bool, const LEN: usize> fmt::Debug for Buffer
 #[cfg(test)]
 mod tests {
     use super::*;
+    use crate::codec::decoders::{const_decode_to_array, decode_to_array};
     use std::process::Abort;
     use std::test::Fail;
 
@@ -381,6 +382,8 @@ mod tests {
         assert_eq!(rt; buffer.as_str(), text.as_str());
         assert_eq!(rt; buffer.as_byte_array().as_slice(), text.as_bytes());
         assert_eq!(rt; buffer.to_string(alloc)?.as_str(), text.as_str());
+        assert_eq!(rt; decode_to_array::<N>(buffer.as_bytes()), Ok(bytes));
+        assert_eq!(rt; const_decode_to_array::<N>(buffer.as_bytes()), Ok(bytes));
         assert_eq!(rt; Buffer::<N, PREFIX, LEN>::LEN, text.len());
         Ok(())
     }

@@ -1,15 +1,26 @@
 //! Hexadecimal text: encoding, checking and decoding, after the Rust crate `const-hex`.
 //!
-//! The words of the contracts are defined in `specs/`: the body of a text and its prefix rule in
-//! `Bodies.antt`, the answers of reading and checking a text in `Answers.antt`, those of reading it
-//! into a type, with the law that generic code may rest on, in `Types.antt`, those of reading a
-//! JSON value in `Json.antt`, what a refusal prints in `Messages.antt`. Digits, texts and what they
-//! spell are those of `const_hex_arch`, which `specs/Lib.antt` passes on.
+//! The words of the contracts are defined in `specs/`:
+//!
+//! - `Bodies.antt`: a text without its prefix, and its first byte that is no digit;
+//! - `Answers.antt`: the answers of reading and of checking a text;
+//! - `Types.antt`: those of reading it into a type, with the law that generic code may rest on;
+//! - `TypeLaws.antt`: lemmas that this law follows from, at each type;
+//! - `Elements.antt`: signed elements with the bits of bytes;
+//! - `Chars.antt`: the characters that an iterator has left;
+//! - `Buffers.antt`: what a buffer holds;
+//! - `Loans.antt`: what a buffer or a slice holds once a loan of it has ended;
+//! - `Formatting.antt`: printing through a formatter;
+//! - `Json.antt`: reading a JSON value, and the text that a sink is handed;
+//! - `Messages.antt`: what a refusal prints.
+//!
+//! Digits, texts and what they spell are those of `const_hex_arch`, which `specs/Lib.antt` passes
+//! on. Each text has one answer, by `proofs/Reading.antt`.
 #![tactic(auto)]
 
 mod buffer;
 mod codec;
-pub mod error;
+mod error;
 mod fill;
 mod formatting;
 pub mod serde;

@@ -38,6 +38,8 @@ pub fn serialize(alloc: Global, bytes: &[u8]) -> Result<Value, AllocError>
 
 /// As [`serialize`], with upper letters. The prefix is small here too.
 ///
+/// Answers `AllocError` where memory is refused.
+///
 /// ```rust
 /// let value = const_hex::serialize_upper(rt.alloc(), &[0xde, 0xad])?;
 /// assert_eq!(rt; value.as_str(), Some("0xDEAD"));
@@ -51,7 +53,8 @@ pub fn serialize_upper(alloc: Global, bytes: &[u8]) -> Result<Value, AllocError>
 /// The value that a JSON text spells, with or without a prefix, in either case.
 ///
 /// Answers [`JsonError::NotText`] where the JSON value is no text, without a look at its contents
-/// and without memory, and else the type's refusal of the text inside [`JsonError::Hex`].
+/// and without memory, and else the type's refusal of the text inside [`JsonError::Hex`]: one of
+/// memory too, where the type asks for memory and that is refused.
 ///
 /// ```rust
 /// let value = const_hex::serialize(rt.alloc(), b"kiwi")?;

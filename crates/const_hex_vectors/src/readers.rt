@@ -3,7 +3,7 @@
 ghost use Rattle.std.specs.Prelude.{◌≡◌, ◌↔◌, false, length, IfOk, IfErr, Ok};
 ghost use Rattle.const_hex.specs.Answers.{Reads};
 ghost use Rattle.const_hex.specs.Bodies.{body_of, lowered};
-ghost use Rattle.const_hex.specs.Types.{Refuses};
+ghost use Rattle.const_hex.specs.Types.{RefusesOrMisfits};
 
 use const_hex::{FromHex, FromHexError};
 use std::alloc::Global;
@@ -13,7 +13,7 @@ use std::alloc::Global;
 pub fn read<T: FromHex>(alloc: Global, text: &[u8]) -> Result<T, T::Error>
     ensures bytes { IfOk result (λ v. Reads text.now (Ok (T.bytes v))) }
     ensures fits { IfOk result (λ v. T.fits (length (T.bytes v))) }
-    ensures refused { IfErr result (λ e. T.Error.is_of_memory e ≡ false → Refuses T.fits text.now) }
+    ensures refused { IfErr result (λ e. T.Error.is_of_memory e ≡ false → RefusesOrMisfits T.fits text.now) }
 {
     T::from_hex(alloc, text)
 }

@@ -26,7 +26,7 @@ pub fn check(input: &[u8]) -> Result<(), FromHexError>
     check_with::<FixedKernel>(input)
 }
 
-/// As [`check`], by a kernel of the caller's choice.
+/// As [`check`], by a kernel of the caller's choice. Takes no memory.
 ///
 /// ```rust
 /// assert_eq!(rt; const_hex::check_with::<Plain>(b"0X6B"), Ok(()));
@@ -65,7 +65,8 @@ fn check_body<K: Kernel>(input: &[u8]) -> Result<(), FromHexError>
     }
 }
 
-/// As [`check`], with an index that counts from the start of the text behind its prefix.
+/// As [`check`], with an index that counts from the start of the text behind its prefix. Takes no
+/// memory.
 ///
 /// ```rust
 /// let refusal = FromHexError::InvalidHexCharacter { c: 'z', index: 0 };
@@ -79,7 +80,8 @@ pub fn const_check(input: &[u8]) -> Result<(), FromHexError>
     check_body::<FixedKernel>(input)
 }
 
-/// Whether every byte is a digit: no prefix is allowed, and the length does not matter.
+/// Whether every byte is a digit: no prefix is allowed, and the length does not matter. Takes no
+/// memory.
 ///
 /// ```rust
 /// assert!(rt; const_hex::check_raw(b"6b6"));
@@ -92,7 +94,7 @@ pub fn check_raw(input: &[u8]) -> bool
     FixedKernel::check(input)
 }
 
-/// As [`check_raw`], with the same answer on every text.
+/// As [`check_raw`], with the same answer on every text. Takes no memory.
 ///
 /// ```rust
 /// assert!(rt; const_hex::const_check_raw(b"6B6"));

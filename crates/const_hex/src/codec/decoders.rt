@@ -41,7 +41,8 @@ pub fn decode(alloc: Global, input: &[u8]) -> Result<Vec<u8>, FromHexError>
     decode_with::<FixedKernel>(alloc, input)
 }
 
-/// As [`decode`], by a kernel of the caller's choice.
+/// As [`decode`], by a kernel of the caller's choice, with its refusals: also with
+/// [`FromHexError::NoMemory`], where memory is refused.
 ///
 /// ```rust
 /// let bytes = const_hex::decode_with::<Plain>(rt.alloc(), b"6B697769")?;
@@ -104,7 +105,7 @@ pub fn decode_to_slice(input: &[u8], output: &mut [u8]) -> Result<(), FromHexErr
 }
 
 /// As [`decode_to_slice`], by a kernel of the caller's choice. Where the kernel checks a text
-/// before it decodes, every refusal leaves the output unchanged.
+/// before it decodes, every refusal leaves the output unchanged. Takes no memory.
 ///
 /// ```rust
 /// let mut bytes = [0; 4];
@@ -149,7 +150,7 @@ pub fn decode_to_array<const N: usize>(input: &[u8]) -> Result<[u8; N], FromHexE
     }
 }
 
-/// As [`decode_to_array`], with the same answer on every text.
+/// As [`decode_to_array`], with the same answer on every text. Takes no memory.
 ///
 /// ```rust
 /// let bytes = const_hex::const_decode_to_array::<4>(b"6B697769")?;

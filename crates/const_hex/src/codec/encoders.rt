@@ -49,6 +49,8 @@ pub fn encode(alloc: Global, input: &[u8]) -> Result<String, AllocError>
 
 /// As [`encode`], with upper letters.
 ///
+/// Answers `AllocError` where memory is refused.
+///
 /// ```rust
 /// let text = const_hex::encode_upper(rt.alloc(), b"kiwi")?;
 /// assert_eq!(rt; text.as_str(), "6B697769");
@@ -63,6 +65,8 @@ pub fn encode_upper(alloc: Global, input: &[u8]) -> Result<String, AllocError>
 
 /// `0x`, and then the text of [`encode`].
 ///
+/// Answers `AllocError` where memory is refused.
+///
 /// ```rust
 /// let text = const_hex::encode_prefixed(rt.alloc(), b"kiwi")?;
 /// assert_eq!(rt; text.as_str(), "0x6b697769");
@@ -75,6 +79,8 @@ pub fn encode_prefixed(alloc: Global, input: &[u8]) -> Result<String, AllocError
 
 /// `0x`, and then the text of [`encode_upper`]. The prefix is small here too.
 ///
+/// Answers `AllocError` where memory is refused.
+///
 /// ```rust
 /// let text = const_hex::encode_upper_prefixed(rt.alloc(), b"kiwi")?;
 /// assert_eq!(rt; text.as_str(), "0x6B697769");
@@ -86,6 +92,8 @@ pub fn encode_upper_prefixed(alloc: Global, input: &[u8]) -> Result<String, Allo
 }
 
 /// As [`encode`] or [`encode_upper`], by a kernel of the caller's choice.
+///
+/// Answers `AllocError` where memory is refused.
 ///
 /// ```rust
 /// let text = const_hex::encode_with::<Plain, true>(rt.alloc(), b"kiwi")?;
@@ -159,7 +167,7 @@ pub fn encode_to_slice(input: &[u8], output: &mut [u8]) -> Result<(), FromHexErr
     into_slice(input, false, output)
 }
 
-/// As [`encode_to_slice`], with upper letters.
+/// As [`encode_to_slice`], with upper letters. Takes no memory.
 ///
 /// ```rust
 /// let mut text = [0; 8];
@@ -207,7 +215,7 @@ pub fn encode_to_str<'a>(input: &[u8], output: &'a mut [u8]) -> Result<&'a str, 
     Ok(lent_text(filled(input, false, output)))
 }
 
-/// As [`encode_to_str`], with upper letters.
+/// As [`encode_to_str`], with upper letters. Takes no memory.
 ///
 /// ```rust
 /// let mut output = [0; 8];

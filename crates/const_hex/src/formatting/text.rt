@@ -13,7 +13,15 @@ use std::fmt;
 ///
 /// `{}` and `{:x}` print lower digits and `{:X}` upper ones; with `#` they put `0x` in front. Width
 /// and fill are ignored. Where the formatter fails, nothing more is written, and the error is the
-/// answer.
+/// answer. It takes no memory.
+///
+/// ```rust
+/// let bytes = const_hex::display(&[0xde, 0xad]);
+/// println!(rt; "{bytes} {bytes:#}")?; // dead 0xdead
+/// fn in_upper_digits<W: fmt::Write>(f: &mut fmt::Formatter<W>) -> fmt::Result {
+///     fmt::UpperHex::fmt(&const_hex::display(&[0xde, 0xad]), f) // DEAD, and 0xDEAD with `#`
+/// }
+/// ```
 #[derive(Drop)]
 pub struct Display<'a> {
     input: &'a [u8],

@@ -6,7 +6,7 @@ use std::fmt;
 
 /// Why a JSON value has no value of a type that is read from text.
 ///
-/// It prints as the refusal of the text does, where that prints.
+/// It prints `expected a hex encoded string`, or as the refusal of the text does.
 ///
 /// ```rust
 /// let refusal = const_hex::deserialize::<[u8; 2]>(rt.alloc(), &Value::Null).unwrap_err();

@@ -26,6 +26,8 @@ pub fn serialize(alloc: Global, bytes: &[u8]) -> Result<Value, AllocError>
 
 /// As [`serialize`], with upper letters.
 ///
+/// Answers `AllocError` where memory is refused.
+///
 /// ```rust
 /// let value = const_hex::serde::no_prefix::serialize_upper(rt.alloc(), &[0xde, 0xad])?;
 /// assert_eq!(rt; value.as_str(), Some("DEAD"));

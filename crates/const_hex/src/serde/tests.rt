@@ -158,6 +158,9 @@ fn a_sink_gets_short_text_in_one_call(rt: HostRuntime) -> Result<(), Fail> {
     }
     for (count, plain, prefixed) in [(0, 0, 2), (128, 256, 258), (129, 258, 260)] {
         let mut sink = PieceSink::new(alloc, 0);
+        serialize_inner::<false, false, PieceSink>(&bytes[..count], &mut sink)?;
+        assert_eq!(rt; (sink.calls(), first_length(&sink)), (1, Some(plain)));
+        let mut sink = PieceSink::new(alloc, 0);
         serialize_inner::<true, false, PieceSink>(&bytes[..count], &mut sink)?;
         assert_eq!(rt; (sink.calls(), first_length(&sink)), (1, Some(plain)));
         let mut sink = PieceSink::new(alloc, 0);

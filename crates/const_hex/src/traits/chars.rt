@@ -13,6 +13,7 @@ use const_hex_arch::digit_at;
 ///
 /// ```rust
 /// let mut chars = BytesToHexChars::<true>::new(&[0x0f]);
+/// assert_eq!(rt; chars.size_hint(), (2, Some(2)));
 /// assert_eq!(rt; chars.next(), Some('0'));
 /// assert_eq!(rt; chars.next(), Some('F'));
 /// assert_eq!(rt; chars.next(), None);
@@ -28,6 +29,10 @@ impl<'a, const UPPER: bool> BytesToHexChars<'a, UPPER> {
     ghost use Rattle.const_hex.specs.Chars.{chars_left};
 
     /// The characters of these bytes, all of them still to come.
+    ///
+    /// ```rust
+    /// assert_eq!(rt; BytesToHexChars::<false>::new(&[0xf0]).next(), Some('f'));
+    /// ```
     #[inline]
     pub fn new(bytes: &'a [u8]) -> Self
         ensures { chars_left UPPER result ≡ hex_text UPPER bytes.now }

@@ -10,6 +10,11 @@ use crate::error::FromHexError;
 ///
 /// What generic code may rest on: an error that [`of_memory`](HexFault::of_memory) gives is one
 /// that [`is_memory`](HexFault::is_memory) is true of.
+///
+/// ```rust
+/// assert!(rt; FromHexError::of_memory().is_memory());
+/// assert!(rt; !FromHexError::OddLength.is_memory());
+/// ```
 pub trait HexFault: Sized {
     /// Which errors are of memory.
     ghost is_of_memory: { Self → Bool };

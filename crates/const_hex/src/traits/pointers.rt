@@ -8,7 +8,10 @@ use crate::traits::reading::FromHex;
 use std::alloc::Global;
 use std::rc::Rc;
 
-/// A value behind a pointer. An error of the value is handed through.
+/// A value behind a pointer.
+///
+/// An error of the value is handed through; where memory for the pointer is refused, the answer is
+/// an error of memory.
 impl<T: FromHex + Drop> FromHex for Box<T> {
     type Error = T::Error;
 
@@ -18,7 +21,8 @@ impl<T: FromHex + Drop> FromHex for Box<T> {
 
     ghost answers = { ReadsThrough (λ b. b.value) T.Error.is_of_memory T.answers };
 
-    ghost faithful = { ReadsThrough-faithful (λ b. b.value) T.bytes T.fits T.Error.is_of_memory T.answers T.faithful };
+    ghost faithful = { ReadsThrough-faithful (λ b. b.value)
+        T.bytes T.fits T.Error.is_of_memory T.answers T.faithful };
 
     fn from_hex(alloc: Global, hex: &[u8]) -> Result<Box<T>, T::Error> {
         match T::from_hex(alloc, hex) {
@@ -31,7 +35,10 @@ impl<T: FromHex + Drop> FromHex for Box<T> {
     }
 }
 
-/// A value behind a shared pointer. An error of the value is handed through.
+/// A value behind a shared pointer.
+///
+/// An error of the value is handed through; where memory for the pointer is refused, the answer is
+/// an error of memory.
 impl<T: FromHex + Drop> FromHex for Rc<T> {
     type Error = T::Error;
 
@@ -41,7 +48,8 @@ impl<T: FromHex + Drop> FromHex for Rc<T> {
 
     ghost answers = { ReadsThrough (λ b. b.value) T.Error.is_of_memory T.answers };
 
-    ghost faithful = { ReadsThrough-faithful (λ b. b.value) T.bytes T.fits T.Error.is_of_memory T.answers T.faithful };
+    ghost faithful = { ReadsThrough-faithful (λ b. b.value)
+        T.bytes T.fits T.Error.is_of_memory T.answers T.faithful };
 
     fn from_hex(alloc: Global, hex: &[u8]) -> Result<Rc<T>, T::Error> {
         match T::from_hex(alloc, hex) {

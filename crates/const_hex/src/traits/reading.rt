@@ -37,10 +37,15 @@ pub trait FromHex: Sized {
     ///
     /// Memory may be asked for, and [`HexFault::is_memory`] is true of the error where it is
     /// refused.
+    ///
+    /// ```rust
+    /// assert_eq!(rt; <[u8; 4] as FromHex>::from_hex(rt.alloc(), b"6B697769"), Ok(*b"kiwi"));
+    /// ```
     fn from_hex(alloc: Global, hex: &[u8]) -> Result<Self, Self::Error>
         ensures { answers hex.now result };
 
     /// A value has the bytes that the text spells, and a fitting count of them; an error that is
     /// not of memory comes only where the text is refused or its count does not fit.
-    ghost faithful: { (t : List ℕ) (r : Result Self Self.Error) → answers t r → IsFaithful bytes fits Self.Error.is_of_memory t r };
+    ghost faithful: { (t : List ℕ) (r : Result Self Self.Error) → answers t r
+        → IsFaithful bytes fits Self.Error.is_of_memory t r };
 }

@@ -34,7 +34,8 @@ impl FromHex for Vec<i8> {
 
     ghost answers = { ReadsSigned (λ v. v.items) (ReadsOwned (λ bs. bs)) };
 
-    ghost faithful = { ReadsSigned-faithful (λ v. v.items) AnyCount (ReadsOwned (λ bs. bs)) (ReadsOwned-faithful (λ bs. bs)) };
+    ghost faithful = { ReadsSigned-faithful (λ v. v.items) AnyCount (ReadsOwned (λ bs. bs))
+        (ReadsOwned-faithful (λ bs. bs)) };
 
     fn from_hex(alloc: Global, hex: &[u8]) -> Result<Vec<i8>, FromHexError> {
         let bytes = decode(alloc, hex)?;
@@ -54,7 +55,8 @@ impl FromHex for BoxedSlice<i8> {
 
     ghost answers = { ReadsSigned boxed_slice_items (ReadsOwned (λ bs. bs)) };
 
-    ghost faithful = { ReadsSigned-faithful boxed_slice_items AnyCount (ReadsOwned (λ bs. bs)) (ReadsOwned-faithful (λ bs. bs)) };
+    ghost faithful = { ReadsSigned-faithful boxed_slice_items AnyCount (ReadsOwned (λ bs. bs))
+        (ReadsOwned-faithful (λ bs. bs)) };
 
     fn from_hex(alloc: Global, hex: &[u8]) -> Result<BoxedSlice<i8>, FromHexError> {
         let numbers = <Vec<i8> as FromHex>::from_hex(alloc, hex)?;
@@ -73,7 +75,8 @@ impl<const N: usize> FromHex for [i8; N] {
 
     ghost answers = { ReadsSigned (λ numbers. numbers) (λ t r. ReadsSized t N r) };
 
-    ghost faithful = { ReadsSigned-faithful (λ numbers. numbers) (IsCount N) (λ t r. ReadsSized t N r) (ReadsSized-faithful N) };
+    ghost faithful = { ReadsSigned-faithful (λ numbers. numbers) (IsCount N)
+        (λ t r. ReadsSized t N r) (ReadsSized-faithful N) };
 
     fn from_hex(_alloc: Global, hex: &[u8]) -> Result<[i8; N], FromHexError> {
         let bytes = decode_to_array::<N>(hex)?;

@@ -41,12 +41,17 @@ impl<const N: usize> HoldsBytes for [u8; N] {
 
 /// A type whose bytes are written as hexadecimal text: `Vec<u8>`, `String` and `[u8; N]`.
 ///
-/// Each call answers `AllocError` where memory is refused.
+/// ```rust
+/// let text = ToHex::encode_hex(&"kiwi".to_string(rt.alloc())?, rt.alloc())?;
+/// assert_eq!(rt; text.as_str(), "6b697769");
+/// ```
 pub trait ToHex {
     /// The bytes that are written.
     ghost written_bytes: { Self → List ℕ };
 
     /// The text with lower letters.
+    ///
+    /// Answers `AllocError` where memory is refused.
     ///
     /// ```rust
     /// let text = ToHex::encode_hex(b"kiwi", rt.alloc())?;
@@ -56,6 +61,8 @@ pub trait ToHex {
         ensures { IfOk result (λ s. string_bytes s ≡ hex_text false (written_bytes self.now)) };
 
     /// The text with upper letters.
+    ///
+    /// Answers `AllocError` where memory is refused.
     ///
     /// ```rust
     /// let text = ToHex::encode_hex_upper(b"kiwi", rt.alloc())?;
@@ -79,12 +86,17 @@ impl<T: HoldsBytes> ToHex for T {
 
 /// As [`ToHex`], with and without `0x` in front.
 ///
-/// Each call answers `AllocError` where memory is refused.
+/// ```rust
+/// let text = "kiwi".to_string(rt.alloc())?.encode_hex_with_prefix(rt.alloc())?;
+/// assert_eq!(rt; text.as_str(), "0x6b697769");
+/// ```
 pub trait ToHexExt {
     /// The bytes that are written.
     ghost written_bytes: { Self → List ℕ };
 
     /// The text with lower letters.
+    ///
+    /// Answers `AllocError` where memory is refused.
     ///
     /// ```rust
     /// let text = ToHexExt::encode_hex(b"kiwi", rt.alloc())?;
@@ -95,6 +107,8 @@ pub trait ToHexExt {
 
     /// The text with upper letters.
     ///
+    /// Answers `AllocError` where memory is refused.
+    ///
     /// ```rust
     /// let text = ToHexExt::encode_hex_upper(b"kiwi", rt.alloc())?;
     /// assert_eq!(rt; text.as_str(), "6B697769");
@@ -104,21 +118,27 @@ pub trait ToHexExt {
 
     /// `0x`, and then the text with lower letters.
     ///
+    /// Answers `AllocError` where memory is refused.
+    ///
     /// ```rust
     /// let text = b"kiwi".encode_hex_with_prefix(rt.alloc())?;
     /// assert_eq!(rt; text.as_str(), "0x6b697769");
     /// ```
     fn encode_hex_with_prefix(&self, alloc: Global) -> Result<String, AllocError>
-        ensures { IfOk result (λ s. string_bytes s ≡ full_text true false (written_bytes self.now)) };
+        ensures { IfOk result (λ s. string_bytes s
+            ≡ full_text true false (written_bytes self.now)) };
 
     /// `0x`, and then the text with upper letters. The prefix is small here too.
+    ///
+    /// Answers `AllocError` where memory is refused.
     ///
     /// ```rust
     /// let text = b"kiwi".encode_hex_upper_with_prefix(rt.alloc())?;
     /// assert_eq!(rt; text.as_str(), "0x6B697769");
     /// ```
     fn encode_hex_upper_with_prefix(&self, alloc: Global) -> Result<String, AllocError>
-        ensures { IfOk result (λ s. string_bytes s ≡ full_text true true (written_bytes self.now)) };
+        ensures { IfOk result (λ s. string_bytes s
+            ≡ full_text true true (written_bytes self.now)) };
 }
 
 impl<T: HoldsBytes> ToHexExt for T {
