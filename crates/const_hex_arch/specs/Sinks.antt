@@ -8,10 +8,11 @@ abbrev pub told_after : Option (List (List ℕ)) → List (List ℕ) → Option 
 told_after (Some told) more = Some (told ++ more)
 told_after None more = None
 
--- the sink that an output writes to, and which loan of it that is
+-- the sink that an output writes to
 abbrev pub output_sink : {S : Type 0} → SinkOutput S → S
 output_sink o = o.sink.now
 
+-- which loan of a sink that is
 abbrev pub sink_name : {S : Type 0} → SinkOutput S → GName
 sink_name o = o.sink.ghost_name
 

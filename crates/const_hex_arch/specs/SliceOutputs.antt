@@ -3,13 +3,15 @@ use Rattle.std.specs.Prelude.{◌≡◌, ℕ, ◌+◌, List, ◌++◌, length, t
 use Rattle.std.specs.Borrow.{GName}
 use Rattle.const_hex_arch.specs.declared.output.slice.SliceOutput.{SliceOutput}
 
--- the slice that is written into, how much of it is written, and which loan it is
+-- the slice that is written into
 abbrev pub slice_bytes : SliceOutput → List ℕ
 slice_bytes o = o.slice.now
 
+-- how much of it is written
 abbrev pub slice_written : SliceOutput → ℕ
 slice_written o = o.count
 
+-- which loan of a slice it is
 abbrev pub slice_name : SliceOutput → GName
 slice_name o = o.slice.ghost_name
 

@@ -8,13 +8,15 @@ use Rattle.const_hex_arch.specs.declared.stream.BufferedHex.{BufferedHex}
 abbrev pub hex_bytes : {upper prefix : ℕ} → BufferedHex upper prefix → List ℕ
 hex_bytes h = h.bytes.now
 
--- the size of every piece, and that of each but the last
+-- the size of every piece
 abbrev pub IsCallPiece : List ℕ → Type 0
 IsCallPiece piece = (1 ≤ length piece) × (length piece ≤ 4096)
 
+-- the size of every piece but the last
 abbrev pub IsLargePiece : List ℕ → Type 0
 IsLargePiece piece = 4033 ≤ length piece
 
+-- all pieces but the last
 abbrev pub all_but_last : List (List ℕ) → List (List ℕ)
 all_but_last pieces = take (length pieces - 1) pieces
 

@@ -19,12 +19,25 @@ use crate::arch::kernel32::Lanes32;
 use crate::output::Output;
 
 /// The kernel of every call that does not name one. It is named here and nowhere else.
+///
+/// ```rust
+/// assert!(rt; FixedKernel::check(b"6b697769"));
+/// ```
 pub type FixedKernel = Lanes32;
 
 /// How bytes become digits, and digits bytes.
 ///
 /// What stands above a kernel rests on the contracts of these four calls alone, so any type that
-/// meets them may be put under the codec.
+/// meets them may be put under the codec. None of them takes memory.
+///
+/// ```rust
+/// fn read<K: Kernel>(text: &[u8; 8]) -> Option<[u8; 4]> {
+///     let mut bytes = [0; 4];
+///     if K::decode_checked(text, &mut bytes) { Some(bytes) } else { None }
+/// }
+/// assert_eq!(rt; read::<Plain>(b"6b697769"), Some(*b"kiwi"));
+/// assert_eq!(rt; read::<Lanes16>(b"6b69776g"), None);
+/// ```
 pub trait Kernel {
     /// The same as the constant, for contracts.
     ghost USE_CHECK_FN: { Bool };
@@ -35,16 +48,33 @@ pub trait Kernel {
 
     /// Writes two digits for each byte, in order, in pieces of 1 to 64 bytes. The output has to
     /// have room for them.
+    ///
+    /// ```rust
+    /// let mut text = [0; 8];
+    /// FixedKernel::encode(b"kiwi", false, &mut SliceOutput::new(&mut text));
+    /// assert_eq!(rt; text, *b"6b697769");
+    /// ```
     fn encode<O: Output>(input: &[u8], upper: bool, output: &mut O)
         requires { HasRoom (O.room output.old) (2 * length input.now) }
         ensures { Writes O.step output.old (hex_text upper input.now) output.new };
 
     /// Whether every byte is a digit.
+    ///
+    /// ```rust
+    /// assert!(rt; FixedKernel::check(b"6B6"));
+    /// assert!(rt; !FixedKernel::check(b"0x6b"));
+    /// ```
     fn check(input: &[u8]) -> bool
         ensures { IsTrue result ↔ AllDigits input.now };
 
     /// Fills the output with the bytes that the input spells, or answers false where some byte is
     /// no digit. The input has to have two bytes for each of the output.
+    ///
+    /// ```rust
+    /// let mut bytes = [0; 4];
+    /// assert!(rt; FixedKernel::decode_checked(b"6B697769", &mut bytes));
+    /// assert_eq!(rt; bytes, *b"kiwi");
+    /// ```
     fn decode_checked(input: &[u8], output: &mut [u8]) -> bool
         requires { length input.now ≡ 2 * length output.old }
         ensures spells { IsTrue result → Spells input.now output.new }
@@ -53,13 +83,27 @@ pub trait Kernel {
 
     /// Fills the output with the bytes that the input spells. The input has to have two bytes for
     /// each of the output, and digits alone.
+    ///
+    /// ```rust
+    /// let mut bytes = [0; 4];
+    /// FixedKernel::decode_unchecked(b"6b697769", &mut bytes);
+    /// assert_eq!(rt; bytes, *b"kiwi");
+    /// ```
     fn decode_unchecked(input: &[u8], output: &mut [u8])
         requires size { length input.now ≡ 2 * length output.old }
         requires digits { AllDigits input.now }
         ensures { Spells input.now output.new };
 }
 
-/// Writes `0x` where a prefix is wanted, and then two digits for each byte, by a kernel.
+/// Writes `0x` where a prefix is wanted, and then two digits for each byte, by a kernel. The output
+/// has to have room for them. Takes no memory but what the output takes.
+///
+/// ```rust
+/// let mut text = [0; 10];
+/// let mut output = SliceOutput::new(&mut text);
+/// encode_full::<Plain, SliceOutput>(b"kiwi", true, false, &mut output);
+/// assert_eq!(rt; text, *b"0x6b697769");
+/// ```
 #[inline(always)]
 pub fn encode_full<K: Kernel, O: Output>(input: &[u8], prefix: bool, upper: bool, output: &mut O)
     requires { HasRoom (O.room output.old) (length (full_text prefix upper input.now)) }

@@ -1,8 +1,19 @@
 //! The lower half of a hexadecimal codec: tables, outputs and kernels.
 //!
 //! A kernel turns bytes into digits and digits into bytes, and an output takes the digits. The
-//! words of their contracts are defined in `specs/`: digits and values in `Digits.antt`, texts and
-//! what they spell in `Texts.antt`, pieces that are written in `Runs.antt`.
+//! words of their contracts are defined in `specs/`:
+//!
+//! - `Digits.antt`: digits and their values;
+//! - `Texts.antt`: the text of bytes, and the bytes that a text spells;
+//! - `Lanes.antt`: what the parts of a step make of lanes;
+//! - `Nibbles.antt`: values of digits, in lanes;
+//! - `Runs.antt`: pieces that are written one after another, and the room that they leave;
+//! - `SliceOutputs.antt`: a write into a slice;
+//! - `Gathering.antt`: a write to an output that gathers;
+//! - `Sinks.antt`: what sinks tell of their pieces, and what an output over a sink does;
+//! - `Pieces.antt`: a sink that keeps its pieces;
+//! - `Streams.antt`: a text that is handed to a sink in large pieces;
+//! - `Laws.antt`: lemmas that the laws of outputs and sinks follow from.
 #![tactic(auto)]
 
 pub mod arch;

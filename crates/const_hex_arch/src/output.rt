@@ -11,6 +11,15 @@ pub mod slice;
 ///
 /// Each type says by its `step` what a write does. A caller writes ASCII alone, and no more than
 /// [`remaining`](Output::remaining) says.
+///
+/// ```rust
+/// fn greet<O: Output>(output: &mut O) {
+///     if output.remaining().is_none_or(|room| room >= 3) {
+///         output.write(b"hi");
+///         output.write_byte(b'!');
+///     }
+/// }
+/// ```
 pub trait Output {
     /// What a write of a piece does: the state before, the piece, and the state after.
     ghost step: { Self → List ℕ → Self → Type 0 };
@@ -19,6 +28,10 @@ pub trait Output {
     ghost room: { Self → Option ℕ };
 
     /// How many bytes it still takes, or `None` where there is no limit.
+    ///
+    /// ```rust
+    /// assert_eq!(rt; SliceOutput::new(&mut [0; 4]).remaining(), Some(4));
+    /// ```
     fn remaining(&self) -> Option<usize>
         ensures { result ≡ room self.now };
 
@@ -39,5 +52,6 @@ pub trait Output {
     }
 
     /// The room goes down by what is written.
-    ghost shrinks: { (s : Self) (piece : List ℕ) (t : Self) → step s piece t → room t ≡ less_room (room s) (length piece) };
+    ghost shrinks: { (s : Self) (piece : List ℕ) (t : Self) → step s piece t
+        → room t ≡ less_room (room s) (length piece) };
 }

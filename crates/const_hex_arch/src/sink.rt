@@ -10,6 +10,11 @@ use std::error::Error;
 use std::fmt;
 
 /// A sink refused a piece. Any two are equal.
+///
+/// ```rust
+/// let mut sink = PieceSink::new(rt.alloc(), 1);
+/// assert_eq!(rt; sink.write_str("one"), Err(SinkError));
+/// ```
 #[derive(Clone, Copy, Debug, PartialEq, Eq)]
 pub struct SinkError;
 
@@ -26,6 +31,14 @@ impl Error for SinkError {}
 /// What takes text piece by piece, until it refuses one.
 ///
 /// Each type says by its `step` what a call does. A sink that has refused takes no further call.
+///
+/// ```rust
+/// fn offer<S: Sink>(sink: &mut S, piece: &str) {
+///     if !sink.refused() {
+///         let _ = sink.write_str(piece);
+///     }
+/// }
+/// ```
 pub trait Sink {
     /// What a call does: the state before, the piece that is offered, and the state after.
     ghost step: { Self → List ℕ → Self → Type 0 };
@@ -37,11 +50,19 @@ pub trait Sink {
     ghost told: { Self → Option (List (List ℕ)) };
 
     /// Whether it has refused a piece.
+    ///
+    /// ```rust
+    /// assert!(rt; !PieceSink::new(rt.alloc(), 1).refused());
+    /// ```
     fn refused(&self) -> bool
         ensures { result ≡ is_refused self.now };
 
     /// Offers a piece: `Ok` where it is accepted, and an error where it is refused. The sink must
     /// not have refused before.
+    ///
+    /// ```rust
+    /// assert!(rt; PieceSink::new(rt.alloc(), 0).write_str("one").is_ok());
+    /// ```
     fn write_str(&mut self, s: &str) -> Result<(), SinkError>
         requires { is_refused self.old ≡ false }
         ensures step { step self.old s.now self.new }

@@ -31,6 +31,12 @@ pub struct BufferedHex<'a, const UPPER: bool, const PREFIX: bool> {
 
 impl<'a, const UPPER: bool, const PREFIX: bool> BufferedHex<'a, UPPER, PREFIX> {
     /// Those bytes, to be written as text.
+    ///
+    /// ```rust
+    /// let mut sink = PieceSink::new(rt.alloc(), 0);
+    /// assert!(rt; BufferedHex::<true, false>::new(&[0xab]).write_to(&mut sink).is_ok());
+    /// assert_eq!(rt; sink.pieces()[0].as_str(), "AB");
+    /// ```
     #[inline]
     pub fn new(bytes: &'a [u8]) -> BufferedHex<'a, UPPER, PREFIX>
         ensures { hex_bytes result ≡ bytes.now }
@@ -40,6 +46,12 @@ impl<'a, const UPPER: bool, const PREFIX: bool> BufferedHex<'a, UPPER, PREFIX> {
 
     /// Writes the text to a sink that has not refused, by the fixed kernel: `Ok` where the sink
     /// accepted all of it, and an error where it refused a piece.
+    ///
+    /// ```rust
+    /// let mut sink = PieceSink::new(rt.alloc(), 1);
+    /// let hex = BufferedHex::<false, false>::new(b"kiwi");
+    /// assert_eq!(rt; hex.write_to(&mut sink), Err(SinkError));
+    /// ```
     pub fn write_to<S: Sink>(&self, sink: &mut S) -> Result<(), SinkError>
         requires { S.is_refused sink.old ≡ false }
         ensures streams { Streams S.step S.is_refused sink.old
@@ -53,6 +65,13 @@ impl<'a, const UPPER: bool, const PREFIX: bool> BufferedHex<'a, UPPER, PREFIX> {
     }
 
     /// The same by a kernel of the caller's choice.
+    ///
+    /// ```rust
+    /// let mut sink = PieceSink::new(rt.alloc(), 0);
+    /// let hex = BufferedHex::<false, false>::new(b"kiwi");
+    /// assert!(rt; hex.write_with::<Plain, PieceSink>(&mut sink).is_ok());
+    /// assert_eq!(rt; sink.pieces()[0].as_str(), "6b697769");
+    /// ```
     pub fn write_with<K: Kernel, S: Sink>(&self, sink: &mut S) -> Result<(), SinkError>
         requires { S.is_refused sink.old ≡ false }
         ensures streams { Streams S.step S.is_refused sink.old

@@ -4,15 +4,31 @@ ghost use Rattle.std.specs.Prelude.{◌≡◌, ◌<◌};
 ghost use Rattle.const_hex_arch.specs.Digits.{hex_digit, hex_value, value_or_nil};
 
 /// The digit of each value, with lower letters.
+///
+/// ```rust
+/// assert_eq!(rt; HEX_CHARS_LOWER[11], b'b');
+/// ```
 pub const HEX_CHARS_LOWER: &[u8; 16] = b"0123456789abcdef";
 
 /// The digit of each value, with upper letters.
+///
+/// ```rust
+/// assert_eq!(rt; HEX_CHARS_UPPER[11], b'B');
+/// ```
 pub const HEX_CHARS_UPPER: &[u8; 16] = b"0123456789ABCDEF";
 
 /// What [`HEX_DECODE_LUT`] has for a byte that is no digit.
+///
+/// ```rust
+/// assert_eq!(rt; HEX_DECODE_LUT[usize::from(b'g')], NIL);
+/// ```
 pub const NIL: u8 = 255;
 
 /// The value of each byte that is a digit, in either case, and [`NIL`] for every other byte.
+///
+/// ```rust
+/// assert_eq!(rt; HEX_DECODE_LUT[usize::from(b'B')], 11);
+/// ```
 pub const HEX_DECODE_LUT: &[u8; 256] = &[
     NIL, NIL, NIL, NIL, NIL, NIL, NIL, NIL, NIL, NIL, NIL, NIL, NIL, NIL, NIL, NIL, NIL, NIL, NIL,
     NIL, NIL, NIL, NIL, NIL, NIL, NIL, NIL, NIL, NIL, NIL, NIL, NIL, NIL, NIL, NIL, NIL, NIL, NIL,

@@ -13,7 +13,8 @@ use std::alloc::Global;
 pub fn read<T: FromHex>(alloc: Global, text: &[u8]) -> Result<T, T::Error>
     ensures bytes { IfOk result (λ v. Reads text.now (Ok (T.bytes v))) }
     ensures fits { IfOk result (λ v. T.fits (length (T.bytes v))) }
-    ensures refused { IfErr result (λ e. T.Error.is_of_memory e ≡ false → RefusesOrMisfits T.fits text.now) }
+    ensures refused { IfErr result (λ e. T.Error.is_of_memory e ≡ false
+        → RefusesOrMisfits T.fits text.now) }
 {
     T::from_hex(alloc, text)
 }

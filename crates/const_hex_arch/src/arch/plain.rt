@@ -7,6 +7,12 @@ use crate::output::Output;
 use crate::tables::{NIL, digit_at, value_at};
 
 /// A byte at a time, by the tables.
+///
+/// ```rust
+/// let mut bytes = [0; 2];
+/// assert!(rt; !Plain::decode_checked(b"6bzz", &mut bytes));
+/// assert_eq!(rt; bytes, [0x6b, 0]);
+/// ```
 pub struct Plain;
 
 impl Kernel for Plain {

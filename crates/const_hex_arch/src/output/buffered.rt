@@ -41,7 +41,13 @@ impl<O: Output, const N: usize> Model for BufferedOutput<O, N> {
 }
 
 impl<O: Output, const N: usize> BufferedOutput<O, N> {
-    /// A gathering output over that output, with nothing pending.
+    /// A gathering output over that output, with nothing pending. N must not be 0.
+    ///
+    /// ```rust
+    /// let mut text = [0; 6];
+    /// let output = BufferedOutput::<SliceOutput<'_>, 4>::new(SliceOutput::new(&mut text));
+    /// assert_eq!(rt; output.remaining(), Some(6));
+    /// ```
     #[inline]
     pub fn new(output: O) -> BufferedOutput<O, N>
         requires { 0 < N }
@@ -55,6 +61,13 @@ impl<O: Output, const N: usize> BufferedOutput<O, N> {
     }
 
     /// Hands on what is pending, if anything, and gives the output back.
+    ///
+    /// ```rust
+    /// let mut text = [0; 6];
+    /// let mut output = BufferedOutput::<SliceOutput<'_>, 4>::new(SliceOutput::new(&mut text));
+    /// output.write(b"abc");
+    /// assert_eq!(rt; output.finish().remaining(), Some(3));
+    /// ```
     #[inline]
     pub fn finish(self) -> O
         ensures { FoldsTo O.step self.0 (piece_of self.1) result }
@@ -146,7 +159,8 @@ impl<O: Output, const N: usize> Output for BufferedOutput<O, N> {
 
     ghost use Rattle.const_hex_arch.specs.Laws.{Gathers_room};
 
-    ghost shrinks = { λ s piece t h. Gathers_room O.step O.room O.shrinks N s.0 s.1 piece t.0 t.1 h };
+    ghost shrinks = { λ s piece t h.
+        Gathers_room O.step O.room O.shrinks N s.0 s.1 piece t.0 t.1 h };
 }
 
 #[cfg(test)]

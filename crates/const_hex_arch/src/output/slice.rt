@@ -24,6 +24,10 @@ pub struct SliceOutput<'a> {
 
 impl<'a> SliceOutput<'a> {
     /// An output into that slice, of which nothing is written yet.
+    ///
+    /// ```rust
+    /// assert_eq!(rt; SliceOutput::new(&mut [0; 4]).remaining(), Some(4));
+    /// ```
     #[inline(always)]
     pub fn new(slice: &'a mut [u8]) -> SliceOutput<'a>
         ensures same_slice { slice_name result ≡ slice.entry.ghost_name }

@@ -18,12 +18,17 @@ use crate::sink::{Sink, SinkError, refusal_of};
 /// assert_eq!(rt; sink.calls(), 2);
 /// ```
 #[derive(Drop)]
-pub struct SinkOutput<'a, S> {
+pub struct SinkOutput<'a, S: Sink> {
     sink: &'a mut S,
 }
 
 impl<'a, S: Sink> SinkOutput<'a, S> {
     /// An output to that sink, which must not have refused.
+    ///
+    /// ```rust
+    /// let mut sink = PieceSink::new(rt.alloc(), 0);
+    /// assert_eq!(rt; SinkOutput::new(&mut sink).remaining(), None);
+    /// ```
     #[inline]
     pub fn new(sink: &'a mut S) -> SinkOutput<'a, S>
         requires { S.is_refused sink.old ≡ false }
@@ -34,6 +39,13 @@ impl<'a, S: Sink> SinkOutput<'a, S> {
     }
 
     /// `Ok` where the sink accepted all that was written, and an error where it refused.
+    ///
+    /// ```rust
+    /// let mut sink = PieceSink::new(rt.alloc(), 0);
+    /// let mut output = SinkOutput::new(&mut sink);
+    /// output.write(b"one");
+    /// assert!(rt; output.finish().is_ok());
+    /// ```
     pub fn finish(self) -> Result<(), SinkError>
         ensures flag { is_ok result ≡ not (S.is_refused (output_sink self.entry)) }
         ensures unchanged { self.exit.0.now ≡ output_sink self.entry }

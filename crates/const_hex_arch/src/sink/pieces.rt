@@ -41,6 +41,12 @@ impl Model for PieceSink {
 impl PieceSink {
     /// A sink with no pieces, which refuses at the call of that number, counted from 1, or at 0
     /// never. It takes no memory, and keeps the allocator for the pieces.
+    ///
+    /// ```rust
+    /// let mut sink = PieceSink::new(rt.alloc(), 2);
+    /// assert!(rt; sink.write_str("one").is_ok());
+    /// assert_eq!(rt; sink.write_str("two"), Err(SinkError));
+    /// ```
     pub fn new(alloc: Global, refuse_at: usize) -> PieceSink
         ensures { result ≡ record { pieces = []; refuse_at = refuse_at; refused = false } }
     {
@@ -53,6 +59,10 @@ impl PieceSink {
     }
 
     /// The pieces that it accepted, in order.
+    ///
+    /// ```rust
+    /// assert!(rt; PieceSink::new(rt.alloc(), 0).pieces().is_empty());
+    /// ```
     pub fn pieces(&self) -> &[String]
         ensures { map (λ p. string_bytes p) result.now ≡ self.now.pieces }
     {
@@ -60,6 +70,12 @@ impl PieceSink {
     }
 
     /// How many calls there were: one for each piece, and the one that it refused.
+    ///
+    /// ```rust
+    /// let mut sink = PieceSink::new(rt.alloc(), 1);
+    /// assert!(rt; sink.write_str("one").is_err());
+    /// assert_eq!(rt; (sink.calls(), sink.pieces().len()), (1, 0));
+    /// ```
     pub fn calls(&self) -> usize
         ensures { result ≡ count_of_calls self.now }
     {
@@ -67,6 +83,12 @@ impl PieceSink {
     }
 
     /// Whether it refused, and not at the call of the given number: so for want of memory.
+    ///
+    /// ```rust
+    /// let mut sink = PieceSink::new(rt.alloc(), 1);
+    /// assert!(rt; sink.write_str("one").is_err());
+    /// assert!(rt; !sink.no_memory());
+    /// ```
     pub fn no_memory(&self) -> bool
         ensures { IsTrue result
             ↔ ((self.now.refused ≡ true) × (count_of_calls self.now ≢ self.now.refuse_at)) }
