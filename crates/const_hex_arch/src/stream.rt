@@ -88,7 +88,9 @@ impl<'a, const UPPER: bool, const PREFIX: bool> BufferedHex<'a, UPPER, PREFIX> {
             UPPER,
             &mut output,
         );
-        let back = output.finish().into_inner();
+        // Flushed in place, since `finish` would move the buffer first.
+        output.flush();
+        let back = output.into_output().into_inner();
         // Without effect: the proof reads here what is left behind the loan.
         let _ = &*back;
         refusal_of(sink)

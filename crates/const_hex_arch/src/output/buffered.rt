@@ -74,17 +74,25 @@ impl<O: Output, const N: usize> BufferedOutput<O, N> {
     {
         let mut this = self;
         this.flush();
+        this.into_output()
+    }
+
+    /// The output. What is pending is lost.
+    #[inline]
+    pub(crate) fn into_output(self) -> O
+        ensures { result ≡ self.0 }
+    {
         let BufferedOutput {
             output,
             buffer: _,
             count: _,
-        } = this;
+        } = self;
         output
     }
 
     /// Hands on what is pending, if anything.
     #[inline]
-    fn flush(&mut self)
+    pub(crate) fn flush(&mut self)
         ensures run { FoldsTo O.step self.old.0 (piece_of self.old.1) self.new.0 }
         ensures room { O.room self.new.0 ≡ less_room (O.room self.old.0) (length self.old.1) }
         ensures empty { self.new.1 ≡ [] }
