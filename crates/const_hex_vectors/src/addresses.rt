@@ -2,7 +2,7 @@
 //!
 //! They meet the conditions of [`Buffer`] with no proof of their own.
 
-ghost use Rattle.std.specs.Prelude.{◌≡◌, true, false};
+ghost use Rattle.std.specs.Prelude.{◌≡◌, true, false, []};
 ghost use Rattle.const_hex.specs.Buffers.{buffer_text};
 ghost use Rattle.const_hex.specs.Texts.{full_text};
 
@@ -46,10 +46,10 @@ pub fn prefixed_digest_text(digest: &[u8; 32]) -> Buffer<32, true, 66>
 /// ```rust
 /// assert_eq!(rt; empty_text().as_str(), "0x");
 /// ```
-pub fn empty_text() -> Buffer<0, true, 2> {
-    let mut buffer = Buffer::new();
-    let _text = buffer.format(&[]);
-    buffer
+pub fn empty_text() -> Buffer<0, true, 2>
+    ensures { buffer_text result ≡ full_text true false [] }
+{
+    const_encode::<0, true, 2>(&[])
 }
 
 #[cfg(test)]

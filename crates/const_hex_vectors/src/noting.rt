@@ -38,8 +38,13 @@ impl NotingSink {
     /// A sink that was not called, which refuses at the call of that number, counted from 1, or at
     /// 0 never.
     pub fn new(alloc: Global, refuse_at: usize) -> NotingSink
-        ensures { result ≡ record { noted = []; accepted = []; refuse_at = refuse_at;
-            refused = false; no_memory = false } }
+        ensures { result ≡ record {
+          noted = [];
+          accepted = [];
+          refuse_at = refuse_at;
+          refused = false;
+          no_memory = false;
+        } }
     {
         NotingSink {
             alloc,
