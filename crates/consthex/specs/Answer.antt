@@ -13,6 +13,7 @@ use Rattle.consthex.specs.declared.error.RunError.TheVariants.{Text, ReadFailed,
 abbrev pub limit : ℕ
 limit = 1048576
 
+-- one newline
 abbrev pub newline : List ℕ
 newline = 10 ∷ []
 

@@ -20,7 +20,7 @@ pub(crate) const LIMIT: usize = 1_048_576;
 ///
 /// ```rust
 /// let line = answer(rt.alloc(), Mode::EncodeUpper, b"kiwi")?;
-/// assert_eq!(rt; line.as_slice(), b"6B697769\n");
+/// assert_eq!(rt; line.as_slice(), b"6B697769\n".as_slice());
 /// ```
 pub fn answer(alloc: Global, mode: Mode, input: &[u8]) -> Result<Vec<u8>, RunError>
     ensures ok { IfOk result (λ v. Answer mode input.now (Ok v.items)) }

@@ -9,6 +9,12 @@ use std::alloc::AllocError;
 use std::fmt;
 
 /// Why a run does not succeed.
+///
+/// ```rust
+/// let mut output = Vec::new(rt.alloc());
+/// let outcome = run(rt.alloc(), Mode::Decode, &mut b"123".as_slice(), &mut output);
+/// assert_eq!(rt; outcome, Err(RunError::Text(FromHexError::OddLength)));
+/// ```
 #[derive(Clone, Copy, PartialEq, Eq, Debug)]
 pub enum RunError {
     /// The text is refused. [`FromHexError::NoMemory`] never stands inside.

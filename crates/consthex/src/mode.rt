@@ -5,6 +5,12 @@ ghost use Rattle.consthex.specs.declared.mode.Mode.{Mode};
 ghost use Rattle.consthex.specs.Words.{word_of};
 
 /// What a run makes of its input.
+///
+/// ```rust
+/// let mut output = Vec::new(rt.alloc());
+/// run(rt.alloc(), Mode::Check, &mut b"0x6b\n".as_slice(), &mut output)?;
+/// assert_eq!(rt; output.as_slice(), b"ok\n".as_slice());
+/// ```
 #[derive(Clone, Copy, PartialEq, Eq, Debug)]
 pub enum Mode {
     /// Two lower digits for each byte, and a newline.
@@ -22,6 +28,10 @@ pub enum Mode {
 }
 
 /// The line that is printed where the arguments name no mode.
+///
+/// ```rust
+/// assert!(rt; USAGE.starts_with("usage: consthex encode|"));
+/// ```
 pub const USAGE: &str = "usage: consthex \
     encode|encode-upper|encode-prefixed|encode-upper-prefixed|decode|check";
 

@@ -25,7 +25,7 @@ use std::io::{Read, Write};
 /// ```rust
 /// let mut output = Vec::new(rt.alloc());
 /// run(rt.alloc(), Mode::Encode, &mut b"kiwi".as_slice(), &mut output)?;
-/// assert_eq!(rt; output.as_slice(), b"6b697769\n");
+/// assert_eq!(rt; output.as_slice(), b"6b697769\n".as_slice());
 /// ```
 pub fn run<R: Read, W: Write>(
     alloc: Global,

@@ -10,10 +10,11 @@ use const_hex::FromHexError;
 use std::alloc::AllocError;
 use std::io;
 use std::io::Read;
+use std::process::Abort;
 use std::test::Fail;
 
 /// What a run with ample memory writes.
-fn written(rt: &HostRuntime, mode: Mode, input: &[u8]) -> Result<Vec<u8>, RunError> {
+fn written(rt: &impl AllocGlobal, mode: Mode, input: &[u8]) -> Result<Vec<u8>, RunError> {
     let mut input = input;
     let mut output = Vec::new(rt.alloc());
     run(rt.alloc(), mode, &mut input, &mut output)?;
@@ -46,53 +47,51 @@ fn writes_the_answer(rt: HostRuntime) -> Result<(), Fail> {
     Ok(())
 }
 
+/// A run on that input is refused with that error, prints that line and has the status 1.
+fn refuses(
+    rt: &(impl Abort + AllocGlobal),
+    mode: Mode,
+    input: &[u8],
+    refusal: FromHexError,
+    line: &str,
+) -> Result<(), Fail> {
+    let Err(error) = written(rt, mode, input) else {
+        return Err(Fail::new("a text was not refused"));
+    };
+    assert_eq!(rt; error, RunError::Text(refusal), "{mode:?} of {input:?}");
+    assert_eq!(rt; format!(in rt.alloc(); "{error}")?.as_str(), line);
+    assert_eq!(rt; error.status(), 1);
+    Ok(())
+}
+
 #[test]
-fn names_the_refusal(rt: HostRuntime) -> Result<(), Fail> {
-    let bad = |c, index| FromHexError::InvalidHexCharacter { c, index };
-    let odd = "odd number of digits";
-    let cases: [(Mode, &[u8], FromHexError, &str); 9] = [
-        (Mode::Decode, b"0x1\n", FromHexError::OddLength, odd),
-        (Mode::Decode, b"6b\n\n", FromHexError::OddLength, odd),
-        (Mode::Decode, b"123", FromHexError::OddLength, odd),
-        (Mode::Check, b"123\n", FromHexError::OddLength, odd),
-        (
-            Mode::Decode,
-            b"0xzz\n",
-            bad('z', 0),
-            "invalid character 'z' at position 0",
-        ),
-        (
-            Mode::Check,
-            b"0xzz\n",
-            bad('z', 2),
-            "invalid character 'z' at position 2",
-        ),
-        (
-            Mode::Decode,
-            b"6b\r\n6b",
-            bad('\r', 2),
-            "invalid character '\\r' at position 2",
-        ),
-        (
-            Mode::Decode,
-            b"6b\n\n\n",
-            bad('\n', 2),
-            "invalid character '\\n' at position 2",
-        ),
-        (
-            Mode::Check,
-            b"6b\xff0",
-            bad('\u{ff}', 2),
-            "invalid character 'ÿ' at position 2",
-        ),
+fn names_oddness(rt: HostRuntime) -> Result<(), Fail> {
+    let odd = FromHexError::OddLength;
+    let cases: [(Mode, &[u8]); 4] = [
+        (Mode::Decode, b"0x1\n"),
+        (Mode::Decode, b"6b\n\n"),
+        (Mode::Decode, b"123"),
+        (Mode::Check, b"123\n"),
     ];
-    for (mode, input, refusal, line) in cases {
-        let Err(error) = written(&rt, mode, input) else {
-            return Err(Fail::new("a text was not refused"));
-        };
-        assert_eq!(rt; error, RunError::Text(refusal), "{mode:?} of {input:?}");
-        assert_eq!(rt; format!(in rt.alloc(); "{error}")?.as_str(), line);
-        assert_eq!(rt; error.status(), 1);
+    for (mode, input) in cases {
+        refuses(&rt, mode, input, odd, "odd number of digits")?;
+    }
+    Ok(())
+}
+
+#[test]
+fn names_the_first_bad_byte(rt: HostRuntime) -> Result<(), Fail> {
+    let cases: [(Mode, &[u8], char, usize, &str); 5] = [
+        (Mode::Decode, b"0xzz\n", 'z', 0, "'z' at position 0"),
+        (Mode::Check, b"0xzz\n", 'z', 2, "'z' at position 2"),
+        (Mode::Decode, b"6b\r\n6b", '\r', 2, "'\\r' at position 2"),
+        (Mode::Decode, b"6b\n\n\n", '\n', 2, "'\\n' at position 2"),
+        (Mode::Check, b"6b\xff0", '\u{ff}', 2, "'ÿ' at position 2"),
+    ];
+    for (mode, input, c, index, named) in cases {
+        let refusal = FromHexError::InvalidHexCharacter { c, index };
+        let line = format!(in rt.alloc(); "invalid character {named}")?;
+        refuses(&rt, mode, input, refusal, line.as_str())?;
     }
     Ok(())
 }

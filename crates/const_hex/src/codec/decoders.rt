@@ -21,7 +21,7 @@ use std::alloc::Global;
 ///
 /// ```rust
 /// let bytes = const_hex::decode(rt.alloc(), b"0x6b697769")?;
-/// assert_eq!(rt; bytes.as_slice(), b"kiwi");
+/// assert_eq!(rt; bytes.as_slice(), b"kiwi".as_slice());
 /// ```
 pub fn decode(alloc: Global, input: &[u8]) -> Result<Vec<u8>, FromHexError>
     ensures ok { IfOk result (λ v. Reads input.now (Ok v.items)) }
@@ -46,7 +46,7 @@ pub fn decode(alloc: Global, input: &[u8]) -> Result<Vec<u8>, FromHexError>
 ///
 /// ```rust
 /// let bytes = const_hex::decode_with::<Plain>(rt.alloc(), b"6B697769")?;
-/// assert_eq!(rt; bytes.as_slice(), b"kiwi");
+/// assert_eq!(rt; bytes.as_slice(), b"kiwi".as_slice());
 /// ```
 #[inline]
 pub fn decode_with<K: Kernel>(alloc: Global, input: &[u8]) -> Result<Vec<u8>, FromHexError>
