@@ -98,23 +98,3 @@ module _ (n : ℕ) (w t u a b : List ℕ) (whole : w ≡ t ++ u) (long_a : lengt
 
 pub in_two : (n : ℕ) (u : List ℕ) → length u ≡ 2 * n → take n u ++ take n (drop n u) ≡ u
 in_two n u e = grind (arith, common_steps)
-
--- one test of four vectors
-pub four_tests : (n : ℕ) (u a b c d : List ℕ) → length u ≡ 4 * n → length a ≡ n → length b ≡ n → length c ≡ n → length d ≡ n
-    → map as_value a ≡ map hex_value (take n u) → map as_value b ≡ map hex_value (take n (drop n u)) → map as_value c ≡ map hex_value (take n (drop (2 * n) u)) → map as_value d ≡ map hex_value (take n (drop (3 * n) u))
-    → AllNibbles (zip2 bit_or (zip2 bit_or a b) (zip2 bit_or c d)) ↔ AllDigits u
-four_tests n u a b c d size long_a long_b long_c long_d values_a values_b values_c values_d =
-    let front : take (2 * n) u ≡ take n u ++ take n (drop n u) = let q : 2 * n ≡ n + n = omega arith in rw q (take-add n n u) in
-    let back : drop (2 * n) u ≡ take n (drop (2 * n) u) ++ take n (drop (3 * n) u) =
-    let long : length (drop (2 * n) u) ≡ 2 * n = omega (arith, length-drop (2 * n) u) in
-    let q : 2 * n + n ≡ 3 * n = omega arith in
-    sym (in_two n (drop (2 * n) u) long) ∙ rw (drop-drop n (2 * n) u, q) refl in
-    let first = one_test n (take (2 * n) u) _ _ a b front long_a long_b values_a values_b in
-    let second = one_test n (drop (2 * n) u) _ _ c d back long_c long_d values_c values_d in
-    let long_ab : length (zip2 bit_or a b) ≡ n = length-zip2 bit_or a b (long_a ∙ sym long_b) ∙ long_a in
-    let long_cd : length (zip2 bit_or c d) ≡ n = length-zip2 bit_or c d (long_c ∙ sym long_d) ∙ long_c in
-    let all = both_nibbles (zip2 bit_or a b) (zip2 bit_or c d) (long_ab ∙ sym long_cd) in
-    let parts = digits_append (take (2 * n) u) (drop (2 * n) u) in (
-      λ h. subst AllDigits (take-append-drop (2 * n) u) (parts.1 (first.0 (all.0 h).0, second.0 (all.0 h).1)),
-      λ h. (let p = parts.0 (subst AllDigits (sym (take-append-drop (2 * n) u)) h) in all.1 (first.1 p.0, second.1 p.1)),
-    )

@@ -42,16 +42,16 @@ cons_same e f = rw (e, f) refl
 abbrev add8 : ℕ → ℕ → ℕ
 add8 a b = (a + b) % 2 ^ 8
 
-abbrev sub8 : ℕ → ℕ → ℕ
+abbrev pub sub8 : ℕ → ℕ → ℕ
 sub8 a b = (a + (2 ^ 8 - b)) % 2 ^ 8
 
-abbrev below_mask : ℕ → ℕ → ℕ
+abbrev pub below_mask : ℕ → ℕ → ℕ
 below_mask a b = cond (ltb a b) 255 0
 
-abbrev min_l : List ℕ → List ℕ → List ℕ
+abbrev pub min_l : List ℕ → List ℕ → List ℕ
 min_l xs ys = sel_l (map (top 7) (zip2 below_mask xs ys)) xs ys
 
-abbrev satsub_l : List ℕ → List ℕ → List ℕ
+abbrev pub satsub_l : List ℕ → List ℕ → List ℕ
 satsub_l xs ys = zip2 sub8 (sel_l (map (top 7) (zip2 below_mask xs ys)) ys xs) ys
 
 -- what `nibbles` computes of n lanes

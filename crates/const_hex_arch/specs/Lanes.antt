@@ -7,6 +7,10 @@ use Rattle.const_hex_arch.specs.Digits.{hex_digit}
 abbrev pub AllNibbles : List ℕ → Type 0
 AllNibbles = AllByRecursion (λ n. n ≤ 15)
 
+-- every lane is a rank
+abbrev pub AllRanks : List ℕ → Type 0
+AllRanks = AllByRecursion (λ n. n ≤ 5)
+
 -- the digit of the low half of a byte
 abbrev pub low_digit : Bool → ℕ → ℕ
 low_digit up b = hex_digit up (b % 16)

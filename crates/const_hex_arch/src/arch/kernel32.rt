@@ -69,11 +69,11 @@ impl Steps for Lanes32 {
 
     #[inline(always)]
     fn check_four_steps(text: &[u8]) -> bool {
-        let first = lanes32::nibbles(u8x32::from_slice(text));
-        let second = lanes32::nibbles(u8x32::from_slice(&text[32..]));
-        let third = lanes32::nibbles(u8x32::from_slice(&text[64..]));
-        let fourth = lanes32::nibbles(u8x32::from_slice(&text[96..]));
-        lanes::are_nibbles((first | second) | (third | fourth))
+        let first = lanes::ranks(u8x32::from_slice(text));
+        let second = lanes::ranks(u8x32::from_slice(&text[32..]));
+        let third = lanes::ranks(u8x32::from_slice(&text[64..]));
+        let fourth = lanes::ranks(u8x32::from_slice(&text[96..]));
+        lanes::are_ranks(first.simd_max(second).simd_max(third.simd_max(fourth)))
     }
 
     #[inline(always)]

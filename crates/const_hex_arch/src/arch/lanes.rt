@@ -3,8 +3,8 @@
 ghost use Rattle.std.specs.Prelude.{◌≡◌, ◌≤◌, ◌↔◌, map, IsTrue};
 ghost use Rattle.std.specs.List.{AllZip};
 ghost use Rattle.const_hex_arch.specs.Digits.{hex_value};
-ghost use Rattle.const_hex_arch.specs.Lanes.{AllNibbles};
-ghost use Rattle.const_hex_arch.specs.Nibbles.{as_value, IsValueOf};
+ghost use Rattle.const_hex_arch.specs.Lanes.{AllNibbles, AllRanks};
+ghost use Rattle.const_hex_arch.specs.Nibbles.{as_value, IsValueOf, IsRankOf};
 
 use std::simd::prelude::*;
 
@@ -29,6 +29,27 @@ pub(crate) fn are_nibbles<const N: usize>(nibbles: Simd<u8, N>) -> bool
     ensures { IsTrue result ↔ AllNibbles nibbles.entry }
 {
     (nibbles & Simd::splat(0xF0)).reduce_or() == 0
+}
+
+/// At most 5 for each lane that is a digit, and more for every other lane.
+///
+/// It tells less than [`nibbles`], by fewer instructions: the digits `0` to `4` are 0, and up to
+/// `9` they are 1 to 5; the letters are 0 to 5.
+#[inline(always)]
+pub(crate) fn ranks<const N: usize>(v: Simd<u8, N>) -> Simd<u8, N>
+    ensures { AllZip IsRankOf v.entry result }
+{
+    let decimal = (v - Simd::splat(b'0')).saturating_sub(Simd::splat(4));
+    let letter = (v | Simd::splat(0x20)) - Simd::splat(b'a');
+    decimal.simd_min(letter)
+}
+
+/// Whether no lane is above 5.
+#[inline(always)]
+pub(crate) fn are_ranks<const N: usize>(ranks: Simd<u8, N>) -> bool
+    ensures { IsTrue result ↔ AllRanks ranks.entry }
+{
+    ranks.saturating_sub(Simd::splat(5)).reduce_or() == 0
 }
 
 /// The value of each lane that is a digit.
