@@ -1,8 +1,8 @@
 -- Texts that are worked through by steps, and then by another kernel.
-use Rattle.std.proofs.Common.{◌≡◌, ℕ, ◌+◌, ◌-◌, ◌*◌, ◌≤◌, ◌↔◌, Bool, List, [], ◌++◌, length, take, drop, sym, ap, subst, ◌∙◌, arith, take-add, take-append-drop, drop-drop, length-take, length-drop, length-append, Option}
+use Rattle.std.proofs.Common.{◌≡◌, ℕ, ◌+◌, ◌-◌, ◌*◌, ◌≤◌, ◌↔◌, Bool, List, [], ◌++◌, length, take, drop, refl, sym, ap, subst, ◌∙◌, arith, take-add, take-append-drop, drop-drop, length-take, length-drop, length-append, Option}
 use Rattle.std.proofs.lemmas.Grind.{common_steps}
-use Rattle.std.proofs.lemmas.List.{append-nil, take_at, drop_at}
-use Rattle.std.proofs.lemmas.List.Elements.{All-take, All-drop}
+use Rattle.std.proofs.lemmas.List.{append-nil, append_assoc, take_at, drop_at}
+use Rattle.std.proofs.lemmas.List.Elements.{All-nil, All-take}
 use Rattle.std.proofs.lemmas.Slice.{take-put_mid, drop-put_mid}
 use borrow.Rule.Slice.PartMut.{put_mid}
 use Rattle.const_hex_arch.specs.Digits.{IsDigit}
@@ -16,54 +16,66 @@ use Rattle.const_hex_arch.proofs.Writing.{hex_text-nil, hex_text-append, length-
 all_of : (m : ℕ) (u : List ℕ) → take (length u - m) (drop m u) ≡ drop m u
 all_of m u = grind (arith, common_steps)
 
--- ---- a test of m bytes from place i on
+-- two parts of a list
+pub parts : (n : ℕ) (u front back : List ℕ) → front ≡ take n u → back ≡ drop n u → front ++ back ≡ u
+parts n u front back f b = rw (f, b) (take-append-drop n u)
 
-pub digits_part : (u : List ℕ) (i m : ℕ) → AllDigits u → AllDigits (take m (drop i u))
-digits_part u i m d = All-take IsDigit m (drop i u) (All-drop IsDigit i u d)
+-- ---- the bytes in front of what is left are digits
+pub record IsChecked (u left : List ℕ) : Type 0 where
+  pub front : List ℕ
+  pub whole : front ++ left ≡ u
+  pub digits : AllDigits front
 
-pub digits_step : (u : List ℕ) (i m end : ℕ) → end ≡ i + m → AllDigits (take i u) → AllDigits (take m (drop i u)) → AllDigits (take end u)
-digits_step u i m end e front part = rw (e, take-add i m u) ((digits_append (take i u) (take m (drop i u))).1 (front, part))
+pub none_checked : (u : List ℕ) → IsChecked u u
+none_checked u = record { front = []; whole = refl; digits = All-nil IsDigit }
 
-pub digits_rest : (u : List ℕ) (i : ℕ) → AllDigits (take i u) → AllDigits (take (length u - i) (drop i u)) ↔ AllDigits u
-digits_rest u i front = (
-  λ d. subst AllDigits (take-append-drop i u) ((digits_append (take i u) (drop i u)).1 (front, rw all_of at d)),
-  λ d. digits_part u i (length u - i) d,
+-- some bytes more
+pub checked_step : (u left part rest : List ℕ) → IsChecked u left → part ++ rest ≡ left → AllDigits part → IsChecked u rest
+checked_step u left part rest d e digits = record {
+  front = d.front ++ part;
+  whole = append_assoc d.front part rest ∙ ap (λ x. d.front ++ x) e ∙ d.whole;
+  digits = (digits_append d.front part).1 (d.digits, digits);
+}
+
+-- of all bytes, by the rest
+pub digits_rest : (u left : List ℕ) → IsChecked u left → AllDigits left ↔ AllDigits u
+digits_rest u left d = (
+  λ part. rw (← d.whole) ((digits_append d.front left).1 (d.digits, part)),
+  λ whole. ((digits_append d.front left).0 (rw d.whole whole)).1,
 )
 
--- ---- the text of the first i bytes is written, and there is room for the rest
-pub record IsWritten {S : Type 0} (step : S → List ℕ → S → Type 0) (room : S → Option ℕ) (up : Bool) (u : List ℕ) (old new : S) (i : ℕ) : Type 0 where
-  pub within : i ≤ length u
-  pub text : Writes step old (hex_text up (take i u)) new
-  pub has_room : HasRoom (room new) (2 * (length u - i))
+-- and of what is left, the first bytes
+pub digits_left : (u left part rest : List ℕ) → IsChecked u left → part ++ rest ≡ left → AllDigits u → AllDigits part
+digits_left u left part rest d e whole = ((digits_append part rest).0 (rw e ((digits_rest u left d).1 whole))).0
+
+-- ---- the text of the bytes in front of what is left is written, and there is room for the rest
+pub record IsWritten {S : Type 0} (step : S → List ℕ → S → Type 0) (room : S → Option ℕ) (up : Bool) (u : List ℕ) (old new : S) (left : List ℕ) : Type 0 where
+  pub front : List ℕ
+  pub whole : front ++ left ≡ u
+  pub text : Writes step old (hex_text up front) new
+  pub has_room : HasRoom (room new) (2 * length left)
 
 module _ {S : Type 0} (step : S → List ℕ → S → Type 0) (room : S → Option ℕ) (shrinks : (s : S) (piece : List ℕ) (t : S) → step s piece t → room t ≡ less_room (room s) (length piece)) (up : Bool) (u : List ℕ) where
-  pub none_written : (old : S) → HasRoom (room old) (2 * length u) → IsWritten step room up u old old 0
-  none_written old h = record {
-    within = omega arith;
-    text = rw (hex_text-nil up) (Writes-none step old);
-    has_room = let all : length u - 0 ≡ length u = omega arith in rw all h;
-  }
+  pub none_written : (old : S) → HasRoom (room old) (2 * length u) → IsWritten step room up u old old u
+  none_written old h = record { front = []; whole = refl; text = rw (hex_text-nil up) (Writes-none step old); has_room = h }
 
-  -- the text of m bytes more, as one piece
-  pub written_step : (old mid new : S) (i m end : ℕ) → IsWritten step room up u old mid i → step mid (hex_text up (take m (drop i u))) new → end ≡ i + m → end ≤ length u → 1 ≤ m → m ≤ 32 → IsWritten step room up u old new end
-  written_step old mid new i m end d h e within some few =
-      let piece = hex_text up (take m (drop i u)) in
-      let sized = length-hex_text up (take m (drop i u)) in
-      let part = length-take m (drop i u) in
-      let rest = length-drop i u in
-      let long : length piece ≡ 2 * m = omega (arith, sized, part, rest) in
-      let more : hex_text up (take end u) ≡ hex_text up (take i u) ++ piece = rw (e, take-add i m u) (hex_text-append up (take i u) (take m (drop i u))) in
-      let left : 2 * (length u - i) ≡ length piece + 2 * (length u - end) = omega (arith, long) in record {
-        within = within;
-        text = rw more (Writes-more step _ _ _ _ _ d.text h (omega (arith, long), omega (arith, long)));
-        has_room = rw (shrinks mid piece new h) (HasRoom-less (room mid) (length piece) (2 * (length u - end)) (subst (HasRoom (room mid)) left d.has_room));
+  -- the text of some bytes more, as one piece
+  pub written_step : (old mid new : S) (left part rest : List ℕ) → IsWritten step room up u old mid left → part ++ rest ≡ left → step mid (hex_text up part) new → 1 ≤ length part → length part ≤ 32 → IsWritten step room up u old new rest
+  written_step old mid new left part rest d e h some few =
+      let piece = hex_text up part in
+      let long = length-hex_text up part in
+      let sizes = length-append part rest in
+      let all = ap length e in
+      let room_left : 2 * length left ≡ length piece + 2 * length rest = omega (arith, long, sizes, all) in record {
+        front = d.front ++ part;
+        whole = append_assoc d.front part rest ∙ ap (λ x. d.front ++ x) e ∙ d.whole;
+        text = rw (hex_text-append up d.front part) (Writes-more step _ _ _ _ _ d.text h (omega (arith, long), omega (arith, long)));
+        has_room = rw (shrinks mid piece new h) (HasRoom-less (room mid) (length piece) (2 * length rest) (subst (HasRoom (room mid)) room_left d.has_room));
       }
 
   -- the rest by another kernel
-  pub written_rest : (old mid new : S) (i : ℕ) → IsWritten step room up u old mid i → Writes step mid (hex_text up (take (length u - i) (drop i u))) new → Writes step old (hex_text up u) new
-  written_rest old mid new i d w =
-      let text : hex_text up u ≡ hex_text up (take i u) ++ hex_text up (take (length u - i) (drop i u)) = rw all_of (ap (hex_text up) (sym (take-append-drop i u)) ∙ hex_text-append up (take i u) (drop i u)) in
-      rw text (Writes-append step _ _ _ _ _ d.text w)
+  pub written_rest : (old mid new : S) (left : List ℕ) → IsWritten step room up u old mid left → Writes step mid (hex_text up left) new → Writes step old (hex_text up u) new
+  written_rest old mid new left d w = rw (← d.whole, hex_text-append up d.front left) (Writes-append step _ _ _ _ _ d.text w)
 
 -- ---- what the first bytes of an output hold is spelled by the first pairs of a text, and the rest is as before
 pub record IsDecoded (u old new : List ℕ) (i : ℕ) : Type 0 where

@@ -1,6 +1,6 @@
 //! The text of bytes, handed to a sink in large pieces.
 
-ghost use Rattle.std.specs.Prelude.{◌≡◌, false, not, is_ok};
+ghost use Rattle.std.specs.Prelude.{◌≡◌, ◌<◌, ◌≤◌, false, not, is_ok, length};
 ghost use Rattle.const_hex_arch.specs.Texts.{full_text};
 ghost use Rattle.const_hex_arch.specs.Streams.{Streams, TellsCut, hex_bytes};
 
@@ -11,6 +11,9 @@ use crate::sink::{Sink, SinkError, refusal_of};
 
 /// How many bytes are gathered for one call of a sink.
 const GATHERED: usize = 4096;
+
+/// How many bytes are gathered where the whole text is no longer, so that less is set to zero.
+const SHORT: usize = 256;
 
 /// Bytes that are written as text, in upper or lower digits, with or without `0x` in front.
 ///
@@ -72,6 +75,7 @@ impl<'a, const UPPER: bool, const PREFIX: bool> BufferedHex<'a, UPPER, PREFIX> {
     /// assert!(rt; hex.write_with::<Plain, PieceSink>(&mut sink).is_ok());
     /// assert_eq!(rt; sink.pieces()[0].as_str(), "6b697769");
     /// ```
+    #[tactic(auto, using(crate::proofs::Writing::short_text))]
     pub fn write_with<K: Kernel, S: Sink>(&self, sink: &mut S) -> Result<(), SinkError>
         requires { S.is_refused sink.old ≡ false }
         ensures streams { Streams S.step S.is_refused sink.old
@@ -81,8 +85,27 @@ impl<'a, const UPPER: bool, const PREFIX: bool> BufferedHex<'a, UPPER, PREFIX> {
             → TellsCut (S.told sink.old) (full_text PREFIX UPPER (hex_bytes self.now))
             (S.told sink.new) }
     {
-        let mut output = BufferedOutput::<SinkOutput<'_, S>, GATHERED>::new(SinkOutput::new(sink));
-        encode_full::<K, BufferedOutput<SinkOutput<'_, S>, GATHERED>>(
+        if self.bytes.len() < SHORT / 2 {
+            self.gather::<K, S, SHORT>(sink)
+        } else {
+            self.gather::<K, S, GATHERED>(sink)
+        }
+    }
+
+    /// The same by gathering up to `N` bytes: 4096, or fewer where the text is no longer than that.
+    fn gather<K: Kernel, S: Sink, const N: usize>(&self, sink: &mut S) -> Result<(), SinkError>
+        requires accepting { S.is_refused sink.old ≡ false }
+        requires size { (65 ≤ N) × (N ≤ 4096) }
+        requires fits { N < 4096 → length (full_text PREFIX UPPER (hex_bytes self.now)) ≤ N }
+        ensures streams { Streams S.step S.is_refused sink.old
+            (full_text PREFIX UPPER (hex_bytes self.now)) sink.new }
+        ensures flag { is_ok result ≡ not (S.is_refused sink.new) }
+        ensures told { S.is_refused sink.new ≡ false
+            → TellsCut (S.told sink.old) (full_text PREFIX UPPER (hex_bytes self.now))
+            (S.told sink.new) }
+    {
+        let mut output = BufferedOutput::<SinkOutput<'_, S>, N>::new(SinkOutput::new(sink));
+        encode_full::<K, BufferedOutput<SinkOutput<'_, S>, N>>(
             self.bytes,
             PREFIX,
             UPPER,

@@ -26,7 +26,7 @@ pub(crate) trait Steps {
         requires { length text.now ≡ LANES }
         ensures { IsTrue result ↔ AllDigits text.now };
 
-    /// The same of the text of four steps: their values are joined, and tested once.
+    /// The same of the text of four steps, by one test.
     fn check_four_steps(text: &[u8]) -> bool
         requires { length text.now ≡ 4 * LANES }
         ensures { IsTrue result ↔ AllDigits text.now };
@@ -57,12 +57,13 @@ pub(crate) fn encode<S: Steps, R: Kernel, O: Output>(input: &[u8], upper: bool, 
     requires { HasRoom (O.room output.old) (2 * length input.now) }
     ensures { Writes O.step output.old (hex_text upper input.now) output.new }
 {
-    let mut at = 0;
-    while input.len() - at >= S::LANES {
-        S::encode_step(&input[at..at + S::LANES], upper, output);
-        at += S::LANES;
+    let mut left = input;
+    while left.len() >= S::LANES {
+        let (bytes, rest) = left.split_at(S::LANES);
+        S::encode_step(bytes, upper, output);
+        left = rest;
     }
-    R::encode(&input[at..], upper, output);
+    R::encode(left, upper, output);
 }
 
 /// Checks by four steps at a time, then by steps, and the rest by another kernel.
@@ -70,14 +71,15 @@ pub(crate) fn encode<S: Steps, R: Kernel, O: Output>(input: &[u8], upper: bool, 
 pub(crate) fn check<S: Steps, R: Kernel>(input: &[u8]) -> bool
     ensures { IsTrue result ↔ AllDigits input.now }
 {
-    let mut at = 0;
-    while input.len() - at >= 4 * S::LANES {
-        if !S::check_four_steps(&input[at..at + 4 * S::LANES]) {
+    let mut left = input;
+    while left.len() >= 4 * S::LANES {
+        let (text, rest) = left.split_at(4 * S::LANES);
+        if !S::check_four_steps(text) {
             return false;
         }
-        at += 4 * S::LANES;
+        left = rest;
     }
-    check_steps::<S, R>(&input[at..])
+    check_steps::<S, R>(left)
 }
 
 /// Checks by steps, and the rest by another kernel.
@@ -85,14 +87,15 @@ pub(crate) fn check<S: Steps, R: Kernel>(input: &[u8]) -> bool
 fn check_steps<S: Steps, R: Kernel>(input: &[u8]) -> bool
     ensures { IsTrue result ↔ AllDigits input.now }
 {
-    let mut at = 0;
-    while input.len() - at >= S::LANES {
-        if !S::check_step(&input[at..at + S::LANES]) {
+    let mut left = input;
+    while left.len() >= S::LANES {
+        let (text, rest) = left.split_at(S::LANES);
+        if !S::check_step(text) {
             return false;
         }
-        at += S::LANES;
+        left = rest;
     }
-    R::check(&input[at..])
+    R::check(left)
 }
 
 /// Decodes by steps, and the rest by another kernel. A step that is refused ends it.
