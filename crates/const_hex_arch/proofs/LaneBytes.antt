@@ -1,10 +1,10 @@
 -- From the values of two vectors of text to the bytes that it spells.
-use Rattle.std.proofs.Common.{◌≡◌, ℕ, zero, suc, ◌+◌, ◌*◌, ◌%◌, ◌/◌, ◌≤◌, ◌↔◌, leb, eqb, List, [], ◌∷◌, ◌++◌, map, length, take, drop, get_or, bit_or, refl, sym, ap, subst, ◌∙◌, arith, Some, None, leb→le, eqb→eq, le-leb, length-append, length-drop, take-add, take-append-drop, drop-drop}
+use Rattle.std.proofs.Common.{◌≡◌, ℕ, zero, suc, ◌+◌, ◌*◌, ◌%◌, ◌/◌, ◌≤◌, ◌↔◌, leb, eqb, List, [], ◌∷◌, ◌++◌, map, length, take, drop, get_or, bit_or, refl, sym, ap, subst, ◌∙◌, arith, Some, None, leb→le, eqb→eq, le-leb, length-append}
 use Rattle.std.specs.List.{range_with_len}
 use Rattle.std.proofs.lemmas.Grind.{common_steps}
 use Rattle.std.proofs.lemmas.List.{map-append}
 use Rattle.std.proofs.lemmas.Nat.{le_or_l, le_or_r}
-use Rattle.std.proofs.lemmas.Simd.{length-zip2, pick_l_whole}
+use Rattle.std.proofs.lemmas.Simd.{pick_l_whole}
 use lib.Lanes.{zip2, number_l, digits_l, pick_l}
 use Rattle.const_hex_arch.specs.Digits.{hex_value}
 use Rattle.const_hex_arch.specs.Lanes.{AllNibbles, byte_pairs}
@@ -12,7 +12,7 @@ use Rattle.const_hex_arch.specs.Nibbles.{as_value}
 use Rattle.const_hex_arch.specs.Texts.{AllDigits, Spells}
 use Rattle.const_hex_arch.proofs.Computed.{all_below, every_below}
 use Rattle.const_hex_arch.proofs.LaneValues.{nibbles_are_digits}
-use Rattle.const_hex_arch.proofs.Spelling.{IsPair-of, digits_append}
+use Rattle.const_hex_arch.proofs.Spelling.{IsPair-of}
 
 -- ---- two values in a lane of twice the width
 

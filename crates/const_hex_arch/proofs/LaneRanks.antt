@@ -1,5 +1,5 @@
 -- The test of digits alone, in vectors of any number of lanes.
-use Rattle.std.proofs.Common.{◌≡◌, ℕ, zero, suc, ◌+◌, ◌*◌, ◌^◌, ◌<◌, ◌≤◌, ◌↔◌, Bool, true, false, eqb, ltb, leb, cond, T, List, [], ◌∷◌, ◌++◌, map, length, replicate, take, drop, get_or, bit_or, ◌-◌, refl, sym, ap, subst, ◌∙◌, arith, w8, Fits, eqb→eq, eqb-true, eq-eqb, leb→le, le-leb, ltb-true, ltb-false, length-append, IsTrue, IsSome, Option, Some, None, take-add, take-append-drop, drop-drop, length-drop}
+use Rattle.std.proofs.Common.{◌≡◌, ℕ, zero, suc, ◌+◌, ◌*◌, ◌<◌, ◌≤◌, ◌↔◌, Bool, true, false, eqb, ltb, leb, cond, T, List, [], ◌∷◌, ◌++◌, map, length, replicate, take, drop, get_or, bit_or, refl, sym, ap, subst, ◌∙◌, arith, w8, Fits, eqb→eq, eqb-true, eq-eqb, leb→le, le-leb, ltb-true, ltb-false, IsTrue, IsSome, Option, Some, None, take-add, take-append-drop, drop-drop, length-drop}
 use Rattle.std.specs.List.{AllZip}
 use Rattle.std.proofs.lemmas.List.Elements.{All-nil, All-head, All-tail, All-cons}
 use Rattle.std.proofs.lemmas.Nat.{le_or_l, le_or_r}
