@@ -1,9 +1,9 @@
 -- Reading what was written.
-use Rattle.std.proofs.Common.{◌≡◌, ℕ, ◌*◌, ◌/◌, ◌%◌, ◌+◌, ◌<◌, ◌==◌, ◌&&◌, ◌||◌, Bool, true, false, List, [], ◌∷◌, length, Result, Ok, Err, refl, sym, arith}
+use Rattle.std.proofs.Common.{◌≡◌, ℕ, ◌/◌, ◌%◌, ◌<◌, ◌==◌, ◌&&◌, ◌||◌, Bool, true, false, List, [], ◌∷◌, length, Result, Ok, Err, refl, arith}
 use Rattle.std.specs.Prelude.{MatchResult, IfOk, IfErr, ◌≢◌}
 use Rattle.std.proofs.lemmas.Bool.Decides.{nat_tests}
 use Rattle.const_hex_arch.specs.Digits.{hex_digit}
-use Rattle.const_hex_arch.specs.Texts.{hex_text, full_text, prefix_of}
+use Rattle.const_hex_arch.specs.Texts.{hex_text, full_text}
 use Rattle.const_hex_arch.proofs.Writing.{Spells-hex_text, length-full_text}
 use Rattle.const_hex.specs.Bodies.{body_of}
 use Rattle.const_hex.specs.Answers.{Reads, IsEven, AreBytes}

@@ -1,6 +1,6 @@
 -- The answers that a text has.
 use Rattle.std.specs.Prelude.{◌≡◌, ℕ, ◌+◌, ◌-◌, ◌*◌, ◌%◌, ◌≢◌, ◌<◌, List, length, slice_index, Result, Ok, Err}
-use Rattle.const_hex_arch.specs.Texts.{Spells, FirstBad, Partial}
+use Rattle.const_hex_arch.specs.Texts.{Spells, Partial}
 use Rattle.const_hex.specs.Bodies.{body_of, NamesFirstBad}
 use Rattle.const_hex.specs.declared.error.FromHexError.{FromHexError}
 use Rattle.const_hex.specs.declared.error.FromHexError.TheVariants.{OddLength, InvalidStringLength, InvalidHexCharacter, NoMemory}

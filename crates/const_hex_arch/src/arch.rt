@@ -68,7 +68,9 @@ pub trait Kernel {
         ensures { IsTrue result ↔ AllDigits input.now };
 
     /// Fills the output with the bytes that the input spells, or answers false where some byte is
-    /// no digit. The input has to have two bytes for each of the output.
+    /// no digit: then a front of the output may be decoded, no longer than the pairs before the bad
+    /// byte, and the rest is as it was; all of it, where the kernel checks first. The input has to
+    /// have two bytes for each of the output.
     ///
     /// ```rust
     /// let mut bytes = [0; 4];

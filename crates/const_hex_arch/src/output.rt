@@ -36,12 +36,24 @@ pub trait Output {
         ensures { result ≡ room self.now };
 
     /// Writes a piece of ASCII text that fits.
+    ///
+    /// ```rust
+    /// let mut text = [b'.'; 4];
+    /// SliceOutput::new(&mut text).write(b"abc");
+    /// assert_eq!(rt; text, *b"abc.");
+    /// ```
     fn write(&mut self, bytes: &[u8])
         requires ascii { IsAscii bytes.now }
         requires fits { HasRoom (room self.old) (length bytes.now) }
         ensures { step self.old bytes.now self.new };
 
     /// Writes a piece of one byte.
+    ///
+    /// ```rust
+    /// let mut text = [b'.'; 4];
+    /// SliceOutput::new(&mut text).write_byte(b'a');
+    /// assert_eq!(rt; text, *b"a...");
+    /// ```
     #[inline(always)]
     fn write_byte(&mut self, byte: u8)
         requires ascii { byte < 128 }

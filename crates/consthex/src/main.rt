@@ -52,7 +52,7 @@ fn words(rt: &(impl Env + AllocGlobal)) -> io::Result<Vec<String>> {
 
 /// Prints the usage, and gives its status. A failure of standard error is ignored.
 fn misused(rt: &impl Eprint) -> ExitCode
-    ensures { exit_status result ≡ WRONG_USAGE }
+    ensures { exit_status result ≡ 2 }
 {
     let _ = eprintln!(rt; "{USAGE}");
     ExitCode::from(WRONG_USAGE)

@@ -2,7 +2,7 @@
 
 ghost use Rattle.std.specs.Prelude.{◌≡◌, ◌+◌, ◌*◌, ◌<◌, ◌≤◌, false, not, is_ok, length};
 ghost use Rattle.const_hex_arch.specs.Texts.{full_text};
-ghost use Rattle.const_hex_arch.specs.Streams.{Streams};
+ghost use Rattle.const_hex_arch.specs.Streams.{Streams, TellsCut};
 ghost use Rattle.const_hex.specs.Json.{TellsWhole};
 
 use crate::fill::fill;
@@ -35,6 +35,9 @@ pub fn serialize_inner<const UPPER: bool, const PREFIX: bool, S: Sink>(
     // The pieces that a sink tells are together the text, where it accepted all of them.
     ensures told { S.is_refused sink.new ≡ false
         → TellsWhole (S.told sink.old) (full_text PREFIX UPPER bytes.now) (S.told sink.new) }
+    // More than 128 bytes are cut into pieces of a known size.
+    ensures told_long { 128 < length bytes.now → S.is_refused sink.new ≡ false
+        → TellsCut (S.told sink.old) (full_text PREFIX UPPER bytes.now) (S.told sink.new) }
 {
     if bytes.len() > AT_ONCE {
         return BufferedHex::<UPPER, PREFIX>::new(bytes).write_to(sink);

@@ -14,6 +14,7 @@ use std::marker::PhantomData;
 /// assert!(rt; !CheckFirst::<Plain>::decode_checked(b"6bzz", &mut bytes));
 /// assert_eq!(rt; bytes, [0; 2]);
 /// ```
+#[derive(Drop)]
 pub struct CheckFirst<K> {
     kernel: PhantomData<K>,
 }

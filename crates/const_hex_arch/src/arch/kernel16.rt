@@ -18,6 +18,7 @@ use std::simd::prelude::*;
 /// assert!(rt; Lanes16::decode_checked(b"6b697769", &mut bytes));
 /// assert_eq!(rt; bytes, *b"kiwi");
 /// ```
+#[derive(Drop)]
 pub struct Lanes16;
 
 impl Kernel for Lanes16 {

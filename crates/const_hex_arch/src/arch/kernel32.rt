@@ -19,6 +19,7 @@ use std::simd::prelude::*;
 /// assert!(rt; Lanes32::decode_checked(b"6b697769", &mut bytes));
 /// assert_eq!(rt; bytes, *b"kiwi");
 /// ```
+#[derive(Drop)]
 pub struct Lanes32;
 
 impl Kernel for Lanes32 {

@@ -17,8 +17,7 @@ pub(crate) fn nibbles<const N: usize>(v: Simd<u8, N>) -> Simd<u8, N>
 {
     let decimal = (v + Simd::splat(0xC6)).saturating_sub(Simd::splat(6)) - Simd::splat(0xF0);
     let letter = (v & Simd::splat(0xDF)) - Simd::splat(0x41);
-    // The algorithm adds 10 with a sum that stops at 255. That is min(byte, 245) + 10 for every
-    // byte, and is compiled to one instruction, where a saturating sum of lanes takes three.
+    // The algorithm adds 10 with a sum that stops at 255: that is min(byte, 245) + 10.
     let letter = letter.simd_min(Simd::splat(245)) + Simd::splat(10);
     decimal.simd_min(letter)
 }
@@ -33,8 +32,8 @@ pub(crate) fn are_nibbles<const N: usize>(nibbles: Simd<u8, N>) -> bool
 
 /// At most 5 for each lane that is a digit, and more for every other lane.
 ///
-/// It tells less than [`nibbles`], by fewer instructions: the digits `0` to `4` are 0, and up to
-/// `9` they are 1 to 5; the letters are 0 to 5.
+/// It tells less than [`nibbles`], which is all that a check wants: the digits `0` to `4` are 0,
+/// and up to `9` they are 1 to 5; the letters are 0 to 5.
 #[inline(always)]
 pub(crate) fn ranks<const N: usize>(v: Simd<u8, N>) -> Simd<u8, N>
     ensures { AllZip IsRankOf v.entry result }

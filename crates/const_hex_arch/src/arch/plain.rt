@@ -13,6 +13,7 @@ use crate::tables::{NIL, digit_at, value_at};
 /// assert!(rt; !Plain::decode_checked(b"6bzz", &mut bytes));
 /// assert_eq!(rt; bytes, [0x6b, 0]);
 /// ```
+#[derive(Drop)]
 pub struct Plain;
 
 impl Kernel for Plain {

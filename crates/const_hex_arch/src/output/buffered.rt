@@ -13,8 +13,9 @@ use std::marker::Model;
 ///
 /// Contracts see it as a pair: the output, and the text that is pending. A piece that does not fit
 /// behind what is pending has that handed on first; then a piece of at least `N` bytes is handed
-/// straight on, and a shorter one is kept. Where nothing is pending, nothing is handed on. What is
-/// pending is lost where it is dropped without [`finish`](BufferedOutput::finish).
+/// straight on, and a shorter one is kept, as is a byte by `write_byte`. Where nothing is pending,
+/// nothing is handed on. What is pending is lost where it is dropped without
+/// [`finish`](BufferedOutput::finish).
 ///
 /// ```rust
 /// let mut text = [0u8; 6];
