@@ -68,6 +68,24 @@ fn gives_the_worked_values(rt: HostRuntime) {
     }
 }
 
+/// The first 16 worked bytes side by side, once and twice.
+#[test]
+fn gives_each_lane_its_own_value(rt: HostRuntime) {
+    let mut bytes = [0; 16];
+    let mut values = [0; 16];
+    for i in 0..16 {
+        (bytes[i], values[i]) = WORKED[i];
+    }
+    let lanes = u8x16::from_array(bytes);
+    assert_eq!(rt; lanes16::nibbles(lanes).to_array(), values);
+    let mut twice = [0; 32];
+    twice[..16].copy_from_slice(&bytes);
+    twice[16..].copy_from_slice(&bytes);
+    let read = lanes32::nibbles(u8x32::from_array(twice)).to_array();
+    assert_eq!(rt; &read[..16], values.as_slice());
+    assert_eq!(rt; &read[16..], values.as_slice());
+}
+
 #[test]
 fn encodes_a_chunk(rt: HostRuntime) {
     let [first, second] = lanes16::encode_chunk::<false>(u8x16::from_array([
@@ -75,9 +93,13 @@ fn encodes_a_chunk(rt: HostRuntime) {
     ]));
     assert_eq!(rt; first.to_array(), *b"0001020304050607");
     assert_eq!(rt; second.to_array(), *b"08090a0b0c0d0e0f");
-    let [first, second] = lanes32::encode_chunk::<true>(u8x32::splat(0xAF));
-    assert_eq!(rt; first.to_array(), *b"AFAFAFAFAFAFAFAFAFAFAFAFAFAFAFAF");
-    assert_eq!(rt; second.to_array(), *b"AFAFAFAFAFAFAFAFAFAFAFAFAFAFAFAF");
+    let mut bytes = [0; 32];
+    for (i, byte) in bytes.iter_mut().enumerate() {
+        *byte = 0xA0 + i as u8;
+    }
+    let [first, second] = lanes32::encode_chunk::<true>(u8x32::from_array(bytes));
+    assert_eq!(rt; first.to_array(), *b"A0A1A2A3A4A5A6A7A8A9AAABACADAEAF");
+    assert_eq!(rt; second.to_array(), *b"B0B1B2B3B4B5B6B7B8B9BABBBCBDBEBF");
 }
 
 /// What decodes a chunk of vectors `V`. Generated proofs cover an option of a type parameter, and
