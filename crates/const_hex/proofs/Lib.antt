@@ -7,5 +7,6 @@ pub mod LentText
 pub mod Lowering
 pub mod Printing
 pub mod Reading
+pub mod Reserving
 pub mod RoundTrip
 pub mod Stepping

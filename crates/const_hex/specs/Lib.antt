@@ -7,6 +7,7 @@ pub mod Formatting
 pub mod Json
 pub mod Loans
 pub mod Messages
+pub mod Reserved
 pub mod TypeLaws
 pub mod Types
 pub use Rattle.const_hex_arch.specs.Digits

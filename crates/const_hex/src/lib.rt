@@ -12,7 +12,8 @@
 //! - `Loans.antt`: what a buffer or a slice holds once a loan of it has ended;
 //! - `Formatting.antt`: printing through a formatter;
 //! - `Json.antt`: reading a JSON value, and the text that a sink is handed;
-//! - `Messages.antt`: what a refusal prints.
+//! - `Messages.antt`: what a refusal prints;
+//! - `Reserved.antt`: what a write to a vector that has room does.
 //!
 //! Digits, texts and what they spell are those of `const_hex_arch`, which `specs/Lib.antt` passes
 //! on. Each text has one answer, by `proofs/Reading.antt`.
@@ -23,6 +24,7 @@ mod codec;
 mod error;
 mod fill;
 mod formatting;
+mod reserved;
 pub mod serde;
 pub mod traits;
 

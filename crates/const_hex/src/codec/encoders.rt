@@ -9,10 +9,11 @@ ghost use Rattle.const_hex.specs.declared.error.FromHexError.TheVariants.{Invali
 
 use crate::error::FromHexError;
 use crate::fill::fill;
-use const_hex_arch::{FixedKernel, Kernel};
+use crate::reserved::ReservedOutput;
+use const_hex_arch::{FixedKernel, Kernel, encode_full};
 use std::alloc::{AllocError, Global};
 
-/// The text, owned. Memory is asked for once, of the text's length.
+/// The text, owned.
 #[inline(always)]
 fn owned<K: Kernel>(
     alloc: Global,
@@ -22,13 +23,31 @@ fn owned<K: Kernel>(
 ) -> Result<String, AllocError>
     ensures { IfOk result (λ s. string_bytes s ≡ full_text prefix upper input.now) }
 {
+    let text = owned_bytes::<K>(alloc, input, prefix, upper)?;
+    Ok(unsafe { String::from_utf8_unchecked(text) })
+}
+
+/// The bytes of the text. Memory is asked for once, of the text's length.
+#[inline(always)]
+fn owned_bytes<K: Kernel>(
+    alloc: Global,
+    input: &[u8],
+    prefix: bool,
+    upper: bool,
+) -> Result<Vec<u8>, AllocError>
+    ensures { IfOk result (λ v. v.items ≡ full_text prefix upper input.now) }
+{
     if input.len() > (usize::MAX - 2) / 2 {
         return Err(AllocError);
     }
     let digits = 2 * input.len();
-    let mut text = vec![in alloc; 0u8; if prefix { 2 + digits } else { digits }]?;
-    fill::<K>(input, prefix, upper, &mut text);
-    Ok(unsafe { String::from_utf8_unchecked(text) })
+    let length = if prefix { 2 + digits } else { digits };
+    let mut output = ReservedOutput {
+        bytes: Vec::with_capacity(alloc, length)?,
+    };
+    encode_full::<K, ReservedOutput>(input, prefix, upper, &mut output);
+    let ReservedOutput { bytes } = output;
+    Ok(bytes)
 }
 
 /// Two digits for each byte, in order, with lower letters.
