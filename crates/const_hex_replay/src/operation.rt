@@ -111,7 +111,15 @@ impl FromStr for Operation {
 
 /// The length behind the name of an operation on arrays.
 fn size_of(digits: &str) -> Result<usize, Fault> {
-    digits.parse::<usize>().map_err(|_| Fault::UnknownOperation)
+    decimal(digits).ok_or(Fault::UnknownOperation)
+}
+
+/// The number that a word of digits stands for. A sign in front is no digit.
+pub(crate) fn decimal(word: &str) -> Option<usize> {
+    if word.starts_with('+') {
+        return None;
+    }
+    word.parse::<usize>().ok()
 }
 
 /// The operation of that name, but for those on arrays.

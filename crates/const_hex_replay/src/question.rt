@@ -2,7 +2,7 @@
 
 use crate::fault::Fault;
 use crate::hex::bytes_of;
-use crate::operation::Operation;
+use crate::operation::{Operation, decimal};
 use std::alloc::Global;
 
 /// The largest number of a question.
@@ -40,8 +40,8 @@ impl Question {
 
 /// The number of a word.
 fn number_of(word: &str) -> Result<usize, Fault> {
-    match word.parse::<usize>() {
-        Ok(number) if number <= LARGEST => Ok(number),
+    match decimal(word) {
+        Some(number) if number <= LARGEST => Ok(number),
         _ => Err(Fault::NotNumber),
     }
 }
