@@ -26,11 +26,20 @@ pub(crate) fn serialize(alloc: Global, bytes: &[u8], form: Form) -> Result<Answe
 /// The bytes of a JSON text.
 pub(crate) fn deserialize(alloc: Global, json: &[u8]) -> Result<Answer, Fault> {
     let json = str::from_utf8(json).map_err(|_| Fault::NotJsonText)?;
-    let value = Value::from_str(alloc, json).map_err(|_| Fault::NotJsonText)?;
+    let value = Value::from_str(alloc, json).map_err(unread)?;
     match const_hex::deserialize::<Vec<u8>>(alloc, &value) {
         Ok(bytes) => Ok(Answer::Bytes(bytes)),
         Err(JsonError::NotText) => Err(Fault::NotJsonText),
         Err(JsonError::Hex(refusal)) => refused(refusal),
+    }
+}
+
+/// Why bytes are not read as JSON. A refusal of memory is told from text that is no JSON.
+fn unread(error: serde_json::Error) -> Fault {
+    if error.is_memory() {
+        Fault::NoMemory
+    } else {
+        Fault::NotJsonText
     }
 }
 
