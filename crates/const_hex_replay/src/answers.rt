@@ -64,3 +64,6 @@ fn refused(refusal: FromHexError) -> Result<Answer, Fault> {
 fn text(alloc: Global, text: &str) -> Result<Answer, Fault> {
     Ok(Answer::Bytes(text.as_bytes().to_vec(alloc)?))
 }
+
+#[cfg(test)]
+mod tests;

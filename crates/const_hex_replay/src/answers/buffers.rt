@@ -50,6 +50,7 @@ pub(crate) fn const_encode(alloc: Global, bytes: &[u8], form: Form) -> Result<An
     at_count!(encoded, alloc, bytes, form)
 }
 
+/// The text of the first bytes, in that buffer.
 fn formatted<const N: usize, const PREFIX: bool, const LEN: usize>(
     alloc: Global,
     mut buffer: Buffer<N, PREFIX, LEN>,
@@ -67,6 +68,7 @@ fn formatted<const N: usize, const PREFIX: bool, const LEN: usize>(
     }
 }
 
+/// How that buffer prints, and how it does with the first bytes. The case plays no part.
 fn debugged<const N: usize, const PREFIX: bool, const LEN: usize>(
     alloc: Global,
     blank: Buffer<N, PREFIX, LEN>,
@@ -83,7 +85,7 @@ fn debugged<const N: usize, const PREFIX: bool, const LEN: usize>(
     text(alloc, printed.as_str())
 }
 
-/// The buffer tells the type, and is not used.
+/// The text of the first bytes. The buffer tells the lengths alone, and the case plays no part.
 fn encoded<const N: usize, const PREFIX: bool, const LEN: usize>(
     alloc: Global,
     _blank: Buffer<N, PREFIX, LEN>,

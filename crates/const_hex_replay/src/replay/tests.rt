@@ -1,54 +1,158 @@
 //! Lines that are no questions, long lines, and readers and writers that fail.
 
 use super::*;
+use std::io::BufReader;
 use std::test::Fail;
+
+/// Lines that are no questions, and why.
+const BAD_LINES: [(&[u8], &str); 36] = [
+    (b"", "unknown operation"),
+    (b" encode 6b", "unknown operation"),
+    (b"Encode 6b", "unknown operation"),
+    (b"encode\t6b", "unknown operation"),
+    (b"decode_to_array 6b", "unknown operation"),
+    (b"decode_to_array+4 6b", "unknown operation"),
+    (b"const_decode_to_array-1 6b", "unknown operation"),
+    (b"encode", "wrong count of words"),
+    (b"encode 6b 5", "wrong count of words"),
+    (b"encode 6b 5 5", "wrong count of words"),
+    (b"check_raw 6b 0", "wrong count of words"),
+    (b"decode_to_slice 6b", "wrong count of words"),
+    (b"encode_to_slice_upper 6b", "wrong count of words"),
+    (b"encode_to_str 6b", "wrong count of words"),
+    (b"decode_to_slice 6b 5 ", "wrong count of words"),
+    (b"encode ", "not hex"),
+    (b"encode  6b", "not hex"),
+    (b"encode 6", "not hex"),
+    (b"encode 6B", "not hex"),
+    (b"encode 6g", "not hex"),
+    (b"encode --", "not hex"),
+    (b"encode 6b\r", "not hex"),
+    (b"encode 6\xc3\xa9", "not hex"),
+    (b"encode 6b ", "not a number up to 65536"),
+    (b"decode_to_slice 6b x", "not a number up to 65536"),
+    (b"decode_to_slice 6b -1", "not a number up to 65536"),
+    (b"decode_to_slice 6b +1", "not a number up to 65536"),
+    (b"decode_to_slice 6b 65537", "not a number up to 65536"),
+    (
+        b"serialize_inner 6b 99999999999999999999",
+        "not a number up to 65536",
+    ),
+    (
+        b"decode_to_array5 6b",
+        "not offered for this count of bytes",
+    ),
+    (
+        b"const_decode_to_array5 6b",
+        "not offered for this count of bytes",
+    ),
+    (
+        b"buffer_format 6b6b6b6b6b",
+        "not offered for this count of bytes",
+    ),
+    (b"deserialize_json 35", "not a JSON text"),
+    (b"deserialize_json 223662", "not a JSON text"),
+    (b"deserialize_json 22ff22", "not a JSON text"),
+    (b"encode \xff", "not UTF-8"),
+];
 
 #[test]
 fn what_is_no_question_is_answered_bad(rt: HostRuntime) -> Result<(), Fail> {
-    let rows: [(&[u8], &[u8]); 14] = [
-        (b"", b"BAD unknown operation\n"),
-        (b"encode", b"BAD wrong count of words\n"),
-        (b"encode 6b 5", b"BAD wrong count of words\n"),
-        (b"decode_to_slice 6b", b"BAD wrong count of words\n"),
-        (b"encode 6b 5 5", b"BAD wrong count of words\n"),
-        (b"encode  6b", b"BAD not hex\n"),
-        (b"encode 6B", b"BAD not hex\n"),
-        (b"encode 6b\r", b"BAD not hex\n"),
-        (b"decode_to_slice 6b x", b"BAD not a number up to 65536\n"),
-        (
-            b"decode_to_slice 6b 65537",
-            b"BAD not a number up to 65536\n",
-        ),
-        (
-            b"decode_to_array5 6b",
-            b"BAD not offered for this count of bytes\n",
-        ),
-        (b"decode_to_array 6b", b"BAD unknown operation\n"),
-        (b"deserialize_json 35", b"BAD not a JSON text\n"),
-        (b"encode \xff", b"BAD not UTF-8\n"),
-    ];
-    for (line, answer) in rows {
+    for (line, why) in BAD_LINES {
         let mut output = Vec::new(rt.alloc());
         let mut input = line.chain(b"\nencode 6b".as_slice());
         assert!(rt; !replay(rt.alloc(), &mut input, &mut output)?);
-        let after = output.as_slice().strip_prefix(answer);
-        assert_eq!(rt; after, Some(b"OK 3662\n".as_slice()), "{line:?}");
+        let want = format!(in rt.alloc(); "BAD {why}\nOK 3662\n")?;
+        assert_eq!(rt; output.as_slice(), want.as_bytes(), "{line:?}");
+    }
+    Ok(())
+}
+
+#[test]
+fn the_last_line_needs_no_line_break(rt: HostRuntime) -> Result<(), Fail> {
+    let rows: [(&str, bool, &str); 8] = [
+        ("", true, ""),
+        ("\n", false, "BAD unknown operation\n"),
+        ("encode 6b", true, "OK 3662\n"),
+        ("encode 6b\n", true, "OK 3662\n"),
+        ("encode 6b\n\n", false, "OK 3662\nBAD unknown operation\n"),
+        ("encode 6b\nencode -", true, "OK 3662\nOK -\n"),
+        ("encode 6b\nno", false, "OK 3662\nBAD unknown operation\n"),
+        ("no\nencode 6b\n", false, "BAD unknown operation\nOK 3662\n"),
+    ];
+    for (lines, are_questions, answers) in rows {
+        let mut output = Vec::new(rt.alloc());
+        let mut input = lines.as_bytes();
+        assert_eq!(rt; replay(rt.alloc(), &mut input, &mut output)?, are_questions);
+        assert_eq!(rt; output.as_slice(), answers.as_bytes(), "{lines:?}");
     }
     Ok(())
 }
 
 #[test]
 fn a_line_has_up_to_65536_bytes(rt: HostRuntime) -> Result<(), Fail> {
-    let rows: [(usize, bool, &str); 2] = [
-        (65_526, true, "OK false\nOK 6b\n"),
-        (65_527, false, "BAD line too long\nOK 6b\n"),
+    let rows: [(usize, &str, bool, &str); 7] = [
+        (65_526, "\ndecode 3662", true, "OK false\nOK 6b\n"),
+        (65_526, "\n", true, "OK false\n"),
+        (65_526, "", true, "OK false\n"),
+        (65_527, "\ndecode 3662", false, "BAD line too long\nOK 6b\n"),
+        (65_527, "", false, "BAD line too long\n"),
+        (65_528, "\ndecode 3662", false, "BAD line too long\nOK 6b\n"),
+        (
+            200_000,
+            "\ndecode 3662",
+            false,
+            "BAD line too long\nOK 6b\n",
+        ),
     ];
-    for (digits, is_question, answers) in rows {
+    for (digits, rest, are_questions, answers) in rows {
         let line = vec![in rt.alloc(); b'0'; digits]?;
         let mut output = Vec::new(rt.alloc());
-        let rest = line.as_slice().chain(b"\ndecode 3662".as_slice());
-        let mut input = b"check_raw ".as_slice().chain(rest);
-        assert_eq!(rt; replay(rt.alloc(), &mut input, &mut output)?, is_question);
+        let rest = line.as_slice().chain(rest.as_bytes());
+        let lines = b"check_raw ".as_slice().chain(rest);
+        let mut input = BufReader::new(rt.alloc(), lines)?;
+        assert_eq!(rt; replay(rt.alloc(), &mut input, &mut output)?, are_questions);
+        assert_eq!(rt; output.as_slice(), answers.as_bytes());
+    }
+    Ok(())
+}
+
+/// Hands out a byte a call, and then fails.
+#[derive(Drop)]
+struct ShortReader<'a> {
+    bytes: &'a [u8],
+}
+
+impl Read for ShortReader<'_> {
+    fn read(&mut self, buffer: &mut [u8]) -> io::Result<usize> {
+        let Some((first, rest)) = self.bytes.split_first() else {
+            return Err(io::ErrorKind::ConnectionReset.into());
+        };
+        let Some(place) = buffer.first_mut() else {
+            return Ok(0);
+        };
+        *place = *first;
+        self.bytes = rest;
+        Ok(1)
+    }
+}
+
+#[test]
+fn a_failed_read_ends_the_run(rt: HostRuntime) -> Result<(), Fail> {
+    let rows: [(&[u8], &str); 5] = [
+        (b"", ""),
+        (b"encode 6b", ""),
+        (b"encode 6b\n", "OK 3662\n"),
+        (
+            b"no\nencode 6b\nencode 6",
+            "BAD unknown operation\nOK 3662\n",
+        ),
+        (&[b'0'; 66_000], ""),
+    ];
+    for (bytes, answers) in rows {
+        let mut input = BufReader::new(rt.alloc(), ShortReader { bytes })?;
+        let mut output = Vec::new(rt.alloc());
+        assert!(rt; replay(rt.alloc(), &mut input, &mut output).is_err());
         assert_eq!(rt; output.as_slice(), answers.as_bytes());
     }
     Ok(())
