@@ -1,6 +1,7 @@
 //! The calls that are measured.
 
 use crate::counter::CountingSink;
+use crate::printed::KernelText;
 use const_hex::{BufferedHex, Kernel, SliceOutput};
 use std::alloc::Global;
 use std::fmt::Write;
@@ -9,11 +10,8 @@ use std::fmt::Write;
 pub(crate) trait Call {
     /// Makes the call. It answers the last byte of what it made, or `None` where it was refused.
     fn own(alloc: Global, input: &[u8], output: &mut [u8]) -> Option<u8>;
-}
 
-/// A call that can go by a kernel of the caller's choice.
-pub(crate) trait KernelCall: Call {
-    /// Makes the call by a kernel.
+    /// The same by a kernel.
     fn by<K: Kernel>(alloc: Global, input: &[u8], output: &mut [u8]) -> Option<u8>;
 }
 
@@ -27,6 +25,7 @@ pub(crate) fn copy(_alloc: Global, input: &[u8], output: &mut [u8]) -> Option<u8
     output.last().copied()
 }
 
+/// Text into a slice.
 pub(crate) struct EncodeToSlice;
 
 impl Call for EncodeToSlice {
@@ -35,9 +34,7 @@ impl Call for EncodeToSlice {
         const_hex::encode_to_slice(input, output).ok()?;
         output.last().copied()
     }
-}
 
-impl KernelCall for EncodeToSlice {
     #[inline(never)]
     fn by<K: Kernel>(_alloc: Global, input: &[u8], output: &mut [u8]) -> Option<u8> {
         if output.len() % 2 != 0 || output.len() / 2 != input.len() {
@@ -48,6 +45,7 @@ impl KernelCall for EncodeToSlice {
     }
 }
 
+/// Whether a text has digits alone.
 pub(crate) struct CheckRaw;
 
 impl Call for CheckRaw {
@@ -55,15 +53,14 @@ impl Call for CheckRaw {
     fn own(_alloc: Global, input: &[u8], _output: &mut [u8]) -> Option<u8> {
         const_hex::check_raw(input).then_some(1)
     }
-}
 
-impl KernelCall for CheckRaw {
     #[inline(never)]
     fn by<K: Kernel>(_alloc: Global, input: &[u8], _output: &mut [u8]) -> Option<u8> {
         K::check(input).then_some(1)
     }
 }
 
+/// Bytes of a text into a slice.
 pub(crate) struct DecodeToSlice;
 
 impl Call for DecodeToSlice {
@@ -72,9 +69,7 @@ impl Call for DecodeToSlice {
         const_hex::decode_to_slice(input, output).ok()?;
         output.last().copied()
     }
-}
 
-impl KernelCall for DecodeToSlice {
     #[inline(never)]
     fn by<K: Kernel>(_alloc: Global, input: &[u8], output: &mut [u8]) -> Option<u8> {
         const_hex::decode_to_slice_with::<K>(input, output).ok()?;
@@ -82,6 +77,7 @@ impl KernelCall for DecodeToSlice {
     }
 }
 
+/// Text, owned.
 pub(crate) struct Encode;
 
 impl Call for Encode {
@@ -90,9 +86,7 @@ impl Call for Encode {
         let text = const_hex::encode(alloc, input).ok()?;
         text.as_bytes().last().copied()
     }
-}
 
-impl KernelCall for Encode {
     #[inline(never)]
     fn by<K: Kernel>(alloc: Global, input: &[u8], _output: &mut [u8]) -> Option<u8> {
         let text = const_hex::encode_with::<K, false>(alloc, input).ok()?;
@@ -100,6 +94,7 @@ impl KernelCall for Encode {
     }
 }
 
+/// Bytes of a text, owned.
 pub(crate) struct Decode;
 
 impl Call for Decode {
@@ -107,9 +102,7 @@ impl Call for Decode {
     fn own(alloc: Global, input: &[u8], _output: &mut [u8]) -> Option<u8> {
         const_hex::decode(alloc, input).ok()?.last().copied()
     }
-}
 
-impl KernelCall for Decode {
     #[inline(never)]
     fn by<K: Kernel>(alloc: Global, input: &[u8], _output: &mut [u8]) -> Option<u8> {
         const_hex::decode_with::<K>(alloc, input)
@@ -119,6 +112,7 @@ impl KernelCall for Decode {
     }
 }
 
+/// Text into a sink that counts.
 pub(crate) struct WriteTo;
 
 impl Call for WriteTo {
@@ -130,9 +124,7 @@ impl Call for WriteTo {
             .ok()?;
         Some(sink.count())
     }
-}
 
-impl KernelCall for WriteTo {
     #[inline(never)]
     fn by<K: Kernel>(_alloc: Global, input: &[u8], _output: &mut [u8]) -> Option<u8> {
         let mut sink = CountingSink::new();
@@ -142,6 +134,7 @@ impl KernelCall for WriteTo {
     }
 }
 
+/// Text into the same sink, through a formatter.
 pub(crate) struct Display;
 
 impl Call for Display {
@@ -149,6 +142,14 @@ impl Call for Display {
     fn own(_alloc: Global, input: &[u8], _output: &mut [u8]) -> Option<u8> {
         let mut sink = CountingSink::new();
         let text = const_hex::display(input);
+        write!(sink, "{text}").ok()?;
+        Some(sink.count())
+    }
+
+    #[inline(never)]
+    fn by<K: Kernel>(_alloc: Global, input: &[u8], _output: &mut [u8]) -> Option<u8> {
+        let mut sink = CountingSink::new();
+        let text = KernelText::<K>::new(input);
         write!(sink, "{text}").ok()?;
         Some(sink.count())
     }

@@ -7,6 +7,7 @@
 mod calls;
 mod counter;
 mod measure;
+mod printed;
 mod table;
 
 use std::env::Env;
@@ -23,7 +24,10 @@ twice as much text. A time is the least of many turns.
 
 Columns: the bytes of data, the call, its nanoseconds, the nanoseconds of the same by the kernels
 Plain and Lanes32, those of a copy of the same output (for check_raw, of the text), how many
-copies the call takes, and how many times longer it takes by the kernel Plain.";
+copies the call takes, and how many times longer it takes by the kernel Plain.
+
+A second table has the nanoseconds of three calls by each kernel, at 2048 bytes. CheckFirst stands
+over Lanes32.";
 
 /// What the arguments ask for.
 enum Request {

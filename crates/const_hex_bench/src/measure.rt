@@ -2,8 +2,8 @@
 
 ghost use Rattle.std.specs.Prelude.{◌≡◌, ◌+◌, ◌<◌, ◌≤◌, length};
 
-use crate::calls::{self, Call, KernelCall};
-use const_hex::{Lanes32, Plain};
+use crate::calls::{self, Call};
+use const_hex::{Kernel, Lanes32, Plain};
 use std::alloc::Global;
 use std::rt::Clock;
 use std::time::Instant;
@@ -58,12 +58,12 @@ impl fmt::Display for Ratio {
     }
 }
 
-/// The times of a call as it stands, and by the kernels `Plain` and `Lanes32`, where it goes by a
-/// kernel of the caller's choice.
+/// The times of a call as it stands, and by the kernels `Plain` and `Lanes32`.
 #[derive(Clone, Copy)]
 pub(crate) struct Times {
     pub(crate) own: Time,
-    pub(crate) kernels: Option<(Time, Time)>,
+    pub(crate) plain: Time,
+    pub(crate) lanes: Time,
 }
 
 /// Measures calls, and sums up what they answer, so that no call can be left out.
@@ -91,8 +91,8 @@ impl<'a, R: Clock + AllocGlobal + Drop> Meter<'a, R> {
         self.least(calls::copy, &source, size, size)
     }
 
-    /// Measures a call as it stands.
-    pub(crate) fn own<C: Call>(
+    /// Measures a call as it stands and by two kernels.
+    pub(crate) fn times<C: Call>(
         &mut self,
         source: &[u8],
         size: usize,
@@ -102,28 +102,22 @@ impl<'a, R: Clock + AllocGlobal + Drop> Meter<'a, R> {
     {
         let call = |alloc, input: &[u8], output: &mut [u8]| C::own(alloc, input, output);
         let own = self.least(call, source, size, written)?;
-        Ok(Times { own, kernels: None })
+        let plain = self.by::<C, Plain>(source, size, written)?;
+        let lanes = self.by::<C, Lanes32>(source, size, written)?;
+        Ok(Times { own, plain, lanes })
     }
 
-    /// Measures a call as it stands and by two kernels.
-    pub(crate) fn by_kernels<C: KernelCall>(
+    /// Measures a call by a kernel.
+    pub(crate) fn by<C: Call, K: Kernel>(
         &mut self,
         source: &[u8],
         size: usize,
         written: usize,
-    ) -> io::Result<Times>
+    ) -> io::Result<Time>
         requires { size + SLACK ≤ length source.now }
     {
-        let call = |alloc, input: &[u8], output: &mut [u8]| C::own(alloc, input, output);
-        let own = self.least(call, source, size, written)?;
-        let call = |alloc, input: &[u8], output: &mut [u8]| C::by::<Plain>(alloc, input, output);
-        let plain = self.least(call, source, size, written)?;
-        let call = |alloc, input: &[u8], output: &mut [u8]| C::by::<Lanes32>(alloc, input, output);
-        let lanes = self.least(call, source, size, written)?;
-        Ok(Times {
-            own,
-            kernels: Some((plain, lanes)),
-        })
+        let call = |alloc, input: &[u8], output: &mut [u8]| C::by::<K>(alloc, input, output);
+        self.least(call, source, size, written)
     }
 
     /// The least time of a call on inputs of one length, which start at four places of the source,

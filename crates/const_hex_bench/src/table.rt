@@ -2,14 +2,18 @@
 
 ghost use Rattle.std.specs.Prelude.{◌≡◌, ◌*◌, ◌+◌, ◌≤◌, length, vec_len, IfOk};
 
-use crate::calls;
+use crate::calls::{self, Call};
 use crate::measure::{Meter, SLACK, Time, Times};
+use const_hex::{CheckFirst, Lanes16, Lanes32, Plain};
 use std::alloc::{AllocError, Global};
 use std::io;
 use std::rt::Clock;
 
 /// The largest size of data, in bytes.
 const LARGEST: usize = 1_048_576;
+
+/// The size of data at which each kernel is measured.
+const KERNELS_AT: usize = 2048;
 
 /// Measures all calls at all sizes, and prints the table.
 pub(crate) fn print_table<R: Clock + Print + AllocGlobal + Drop>(rt: &R) -> io::Result<()> {
@@ -26,6 +30,7 @@ pub(crate) fn print_table<R: Clock + Print + AllocGlobal + Drop>(rt: &R) -> io::
     print_size(rt, &mut meter, &bytes, &text, 16_384)?;
     print_size(rt, &mut meter, &bytes, &text, 131_072)?;
     print_size(rt, &mut meter, &bytes, &text, LARGEST)?;
+    print_kernels(rt, &mut meter, &bytes, &text)?;
     let sum = meter.sum();
     println!(rt; "sum of a byte of each answer: {sum}")
 }
@@ -72,19 +77,19 @@ where
     let digits = 2 * size;
     let encoded = meter.copy(digits)?;
     let decoded = meter.copy(size)?;
-    let times = meter.by_kernels::<calls::EncodeToSlice>(bytes, size, digits)?;
+    let times = meter.times::<calls::EncodeToSlice>(bytes, size, digits)?;
     print_line(rt, size, "encode_to_slice", times, encoded)?;
-    let times = meter.by_kernels::<calls::CheckRaw>(text, digits, 0)?;
+    let times = meter.times::<calls::CheckRaw>(text, digits, 0)?;
     print_line(rt, size, "check_raw", times, encoded)?;
-    let times = meter.by_kernels::<calls::DecodeToSlice>(text, digits, size)?;
+    let times = meter.times::<calls::DecodeToSlice>(text, digits, size)?;
     print_line(rt, size, "decode_to_slice", times, decoded)?;
-    let times = meter.by_kernels::<calls::Encode>(bytes, size, 0)?;
+    let times = meter.times::<calls::Encode>(bytes, size, 0)?;
     print_line(rt, size, "encode", times, encoded)?;
-    let times = meter.by_kernels::<calls::Decode>(text, digits, 0)?;
+    let times = meter.times::<calls::Decode>(text, digits, 0)?;
     print_line(rt, size, "decode", times, decoded)?;
-    let times = meter.by_kernels::<calls::WriteTo>(bytes, size, 0)?;
+    let times = meter.times::<calls::WriteTo>(bytes, size, 0)?;
     print_line(rt, size, "write_to", times, encoded)?;
-    let times = meter.own::<calls::Display>(bytes, size, 0)?;
+    let times = meter.times::<calls::Display>(bytes, size, 0)?;
     print_line(rt, size, "display", times, encoded)
 }
 
@@ -97,16 +102,46 @@ fn print_line<R: Print>(
     times: Times,
     copy: Time,
 ) -> io::Result<()> {
-    let own = times.own;
+    let Times { own, plain, lanes } = times;
     let copies = own.over(copy);
-    match times.kernels {
-        Some((plain, lanes)) => {
-            let gain = plain.over(own);
-            println!(rt; "{size:>8}{call:>17}{own}{plain}{lanes}{copy}{copies}{gain}")
-        }
-        None => println!(rt;
-            "{size:>8}{call:>17}{own}{:>12}{:>12}{copy}{copies}",
-            "", ""
-        ),
-    }
+    let gain = plain.over(own);
+    println!(rt; "{size:>8}{call:>17}{own}{plain}{lanes}{copy}{copies}{gain}")
+}
+
+/// Measures three calls by each kernel at one size of data, and prints their lines.
+fn print_kernels<R>(rt: &R, meter: &mut Meter<'_, R>, bytes: &[u8], text: &[u8]) -> io::Result<()>
+where
+    R: Clock + Print + AllocGlobal + Drop,
+    requires bytes { KERNELS_AT + SLACK ≤ length bytes.now }
+    requires text { 2 * KERNELS_AT + SLACK ≤ length text.now }
+{
+    println!(rt;
+        "{:>8}{:>17}{:>12}{:>12}{:>12}{:>12}",
+        "bytes", "call", "Plain", "CheckFirst", "Lanes16", "Lanes32"
+    )?;
+    let (size, digits) = (KERNELS_AT, 2 * KERNELS_AT);
+    print_by_kernels::<R, calls::EncodeToSlice>(rt, meter, "encode_to_slice", bytes, size, digits)?;
+    print_by_kernels::<R, calls::CheckRaw>(rt, meter, "check_raw", text, digits, 0)?;
+    print_by_kernels::<R, calls::DecodeToSlice>(rt, meter, "decode_to_slice", text, digits, size)
+}
+
+/// Measures a call by each kernel on inputs of a length, and prints its line.
+fn print_by_kernels<R, C>(
+    rt: &R,
+    meter: &mut Meter<'_, R>,
+    call: &str,
+    source: &[u8],
+    size: usize,
+    written: usize,
+) -> io::Result<()>
+where
+    R: Clock + Print + AllocGlobal + Drop,
+    C: Call,
+    requires { size + SLACK ≤ length source.now }
+{
+    let plain = meter.by::<C, Plain>(source, size, written)?;
+    let check_first = meter.by::<C, CheckFirst<Lanes32>>(source, size, written)?;
+    let lanes16 = meter.by::<C, Lanes16>(source, size, written)?;
+    let lanes32 = meter.by::<C, Lanes32>(source, size, written)?;
+    println!(rt; "{KERNELS_AT:>8}{call:>17}{plain}{check_first}{lanes16}{lanes32}")
 }
