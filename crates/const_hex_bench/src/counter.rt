@@ -13,10 +13,12 @@ pub(crate) struct CountingSink {
 }
 
 impl CountingSink {
+    /// A sink that was offered nothing.
     pub(crate) fn new() -> CountingSink {
         CountingSink { count: 0 }
     }
 
+    /// Counts a piece.
     fn add(&mut self, piece: &str) {
         let last = piece.as_bytes().last().copied().unwrap_or(0);
         let length = (piece.len() % 256) as u8;

@@ -74,6 +74,7 @@ pub(crate) struct Meter<'a, R> {
 }
 
 impl<'a, R: Clock + AllocGlobal + Drop> Meter<'a, R> {
+    /// A meter that has measured nothing.
     pub(crate) fn new(rt: &'a R) -> Meter<'a, R> {
         Meter { rt, sum: 0 }
     }
@@ -121,8 +122,7 @@ impl<'a, R: Clock + AllocGlobal + Drop> Meter<'a, R> {
     }
 
     /// The least time of a call on inputs of one length, which start at four places of the source,
-    /// with an output of so many bytes. The call answers a byte of what it made, or `None` where it
-    /// was refused, which ends the measurement.
+    /// with an output of so many bytes.
     fn least<F>(&mut self, call: F, source: &[u8], size: usize, written: usize) -> io::Result<Time>
     where
         F: Fn(Global, &[u8], &mut [u8]) -> Option<u8>,
@@ -134,15 +134,34 @@ impl<'a, R: Clock + AllocGlobal + Drop> Meter<'a, R> {
         let mut least = u64::MAX;
         for _ in 0..BATCHES {
             let start = Instant::now(self.rt)?;
-            for turn in 0..turns {
-                let input = &source[64 * (turn % 4)..][..size];
-                let answer = call(self.rt.alloc(), input, &mut output);
-                let byte = answer.ok_or(io::ErrorKind::Other)?;
-                self.sum = self.sum.wrapping_add(u64::from(byte));
-            }
+            self.batch(&call, &source[..size + SLACK], turns, &mut output)?;
             let passed = u64::try_from(start.elapsed(self.rt)?.as_nanos()).unwrap_or(u64::MAX);
             least = least.min(passed.saturating_mul(100) / turns as u64);
         }
         Ok(Time { hundredths: least })
+    }
+
+    /// Makes the turns of a batch. The call answers a byte of what it made, or `None` where it was
+    /// refused, which ends the measurement.
+    fn batch<F>(
+        &mut self,
+        call: &F,
+        source: &[u8],
+        turns: usize,
+        output: &mut [u8],
+    ) -> io::Result<()>
+    where
+        F: Fn(Global, &[u8], &mut [u8]) -> Option<u8>,
+        requires call { F.IsAlwaysCallable call.now }
+        requires source { SLACK ≤ length source.now }
+    {
+        let size = source.len() - SLACK;
+        for turn in 0..turns {
+            let input = &source[64 * (turn % 4)..][..size];
+            let answer = call(self.rt.alloc(), input, output);
+            let byte = answer.ok_or(io::ErrorKind::Other)?;
+            self.sum = self.sum.wrapping_add(u64::from(byte));
+        }
+        Ok(())
     }
 }

@@ -14,6 +14,7 @@ pub(crate) struct KernelText<'a, K> {
 }
 
 impl<'a, K: Kernel> KernelText<'a, K> {
+    /// What prints those bytes by the kernel.
     pub(crate) fn new(input: &'a [u8]) -> KernelText<'a, K> {
         KernelText {
             input,

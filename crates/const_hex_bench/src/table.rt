@@ -116,7 +116,7 @@ where
     requires text { 2 * KERNELS_AT + SLACK ≤ length text.now }
 {
     println!(rt;
-        "{:>8}{:>17}{:>12}{:>12}{:>12}{:>12}",
+        "\n{:>8}{:>17}{:>12}{:>12}{:>12}{:>12}",
         "bytes", "call", "Plain", "CheckFirst", "Lanes16", "Lanes32"
     )?;
     let (size, digits) = (KERNELS_AT, 2 * KERNELS_AT);

@@ -10,8 +10,8 @@ use crate::operation::{Case, Form, PREFIXED, Prefix};
 use const_hex::Buffer;
 use std::alloc::Global;
 
-/// Calls with a new buffer for the count of the bytes, where that is offered. It stands with the
-/// lengths of their text and of the prefixed one.
+/// Calls with a new buffer for the count of the bytes, where that is offered. Each count stands
+/// with the lengths of its text and of the prefixed one.
 macro_rules! at_count {
     ($call:ident, $alloc:ident, $bytes:ident, $form:ident) => {
         at_count!($call, $alloc, $bytes, $form: 0 0 2, 1 2 4, 2 4 6, 3 6 8, 4 8 10, 8 16 18,
