@@ -18,6 +18,8 @@ pub mod readers;
 #[cfg(test)]
 mod refusals;
 #[cfg(test)]
+mod round_trips;
+#[cfg(test)]
 mod streaming;
 #[cfg(test)]
 mod tables;
