@@ -5,6 +5,7 @@ ghost use Rattle.std.specs.Prelude.{◌≡◌, false};
 use crate::noting::NotingSink;
 use crate::own_kernel::Backward;
 use crate::texts::{bytes, cut, printed};
+use const_hex::serde::serialize_inner;
 use const_hex::{
     BufferedHex, CheckFirst, Kernel, Lanes16, Lanes32, Output, PieceSink, Plain, Sink, SinkError,
     SinkOutput,
@@ -168,4 +169,56 @@ fn writes_after_a_refusal(rt: HostRuntime) -> Result<(), Fail> {
         assert_eq!(rt; sink.noted()[0].as_str(), "one");
     }
     Ok(())
+}
+
+// The whole text comes in one call, an empty one too, also where that call is refused.
+#[test]
+fn texts_in_one_call(rt: HostRuntime) -> Result<(), Fail> {
+    let alloc = rt.alloc();
+    for count in [0, 1, 128, 129usize] {
+        let data = bytes(alloc, count)?;
+        for form in [(false, false), (false, true), (true, false), (true, true)] {
+            let text = printed(alloc, &data, form.0, form.1)?;
+            for refuse_at in 0..3usize {
+                in_one_call(&rt, alloc, &data, form, &text, refuse_at);
+            }
+        }
+    }
+    Ok(())
+}
+
+fn in_one_call(
+    rt: &impl Abort,
+    alloc: Global,
+    data: &[u8],
+    form: (bool, bool),
+    text: &str,
+    refuse_at: usize,
+) {
+    let mut sink = NotingSink::new(alloc, refuse_at);
+    let answer = hand_over(data, form, &mut sink);
+    assert!(rt; !sink.no_memory());
+    assert_eq!(rt; sink.noted().len(), 1);
+    assert_eq!(rt; sink.noted()[0].as_str(), text);
+    if refuse_at == 1 {
+        assert_eq!(rt; answer, Err(SinkError));
+        assert!(rt; sink.refused());
+        assert!(rt; sink.accepted().is_empty());
+    } else {
+        assert_eq!(rt; answer, Ok(()));
+        assert!(rt; !sink.refused());
+        assert_eq!(rt; sink.accepted(), sink.noted());
+    }
+}
+
+/// Hands the text to a sink, by a prefix or not, and in upper letters or not.
+fn hand_over<S: Sink>(data: &[u8], form: (bool, bool), sink: &mut S) -> Result<(), SinkError>
+    requires { S.is_refused sink.old ≡ false }
+{
+    match form {
+        (false, false) => serialize_inner::<false, false, S>(data, sink),
+        (false, true) => serialize_inner::<true, false, S>(data, sink),
+        (true, false) => serialize_inner::<false, true, S>(data, sink),
+        (true, true) => serialize_inner::<true, true, S>(data, sink),
+    }
 }
