@@ -9,9 +9,12 @@ ghost use Rattle.const_hex.specs.declared.error.FromHexError.TheVariants.{Invali
 
 use crate::error::FromHexError;
 use crate::fill::fill;
-use crate::reserved::ReservedOutput;
-use const_hex_arch::{FixedKernel, Kernel, encode_full};
+use crate::reserved::reserved_bytes;
+use const_hex_arch::{FixedKernel, Kernel};
 use std::alloc::{AllocError, Global};
+
+/// The longest text that is written over zeros. A longer one goes into a vector with room.
+const MOST_ZEROS: usize = 32_768;
 
 /// The text, owned.
 #[inline(always)]
@@ -41,13 +44,13 @@ fn owned_bytes<K: Kernel>(
         return Err(AllocError);
     }
     let digits = 2 * input.len();
-    let length = if prefix { 2 + digits } else { digits };
-    let mut output = ReservedOutput {
-        bytes: Vec::with_capacity(alloc, length)?,
-    };
-    encode_full::<K, ReservedOutput>(input, prefix, upper, &mut output);
-    let ReservedOutput { bytes } = output;
-    Ok(bytes)
+    let size = if prefix { 2 + digits } else { digits };
+    if size > MOST_ZEROS {
+        return reserved_bytes::<K>(alloc, input, prefix, upper, size);
+    }
+    let mut text = vec![in alloc; 0u8; size]?;
+    fill::<K>(input, prefix, upper, &mut text);
+    Ok(text)
 }
 
 /// Two digits for each byte, in order, with lower letters.
