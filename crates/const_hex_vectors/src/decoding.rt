@@ -102,7 +102,7 @@ fn sized_outputs(rt: HostRuntime) {
     let mut kiwi = [0; 4];
     assert_eq!(rt; decode_to_slice(b"6b697769", &mut kiwi), Ok(()));
     assert_eq!(rt; &kiwi, b"kiwi");
-    assert_eq!(rt; decode_to_slice(b"0x6B697769", &mut kiwi), Ok(()));
+    assert_eq!(rt; decode_to_slice(b"0x6b697769", &mut kiwi), Ok(()));
     assert_eq!(rt; &kiwi, b"kiwi");
 }
 

@@ -25,3 +25,4 @@ mod streaming;
 mod tables;
 #[cfg(test)]
 mod texts;
+pub mod writers;

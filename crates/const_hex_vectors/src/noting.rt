@@ -9,6 +9,14 @@ use std::marker::Model;
 
 /// Keeps the text of every call, also of the refused one, beside the pieces that it accepted. It
 /// refuses at a call of a given number, or for want of memory.
+///
+/// ```rust
+/// let mut sink = NotingSink::new(rt.alloc(), 2);
+/// assert!(rt; sink.write_str("one").is_ok());
+/// assert!(rt; sink.write_str("two").is_err());
+/// assert_eq!(rt; sink.noted().len(), 2);
+/// assert_eq!(rt; sink.accepted().len(), 1);
+/// ```
 #[derive(Drop)]
 pub struct NotingSink {
     alloc: Global,
@@ -37,6 +45,10 @@ impl Model for NotingSink {
 impl NotingSink {
     /// A sink that was not called, which refuses at the call of that number, counted from 1, or at
     /// 0 never.
+    ///
+    /// ```rust
+    /// assert!(rt; NotingSink::new(rt.alloc(), 1).noted().is_empty());
+    /// ```
     pub fn new(alloc: Global, refuse_at: usize) -> NotingSink
         ensures { result ≡ record {
           noted = [];
@@ -57,6 +69,12 @@ impl NotingSink {
     }
 
     /// The text of every call, in order.
+    ///
+    /// ```rust
+    /// let mut sink = NotingSink::new(rt.alloc(), 1);
+    /// assert!(rt; sink.write_str("one").is_err());
+    /// assert_eq!(rt; sink.noted()[0].as_str(), "one");
+    /// ```
     pub fn noted(&self) -> &[String]
         ensures { map (λ p. string_bytes p) result.now ≡ self.now.noted }
     {
@@ -64,6 +82,12 @@ impl NotingSink {
     }
 
     /// The pieces that it accepted, in order.
+    ///
+    /// ```rust
+    /// let mut sink = NotingSink::new(rt.alloc(), 0);
+    /// assert!(rt; sink.write_str("one").is_ok());
+    /// assert_eq!(rt; sink.accepted()[0].as_str(), "one");
+    /// ```
     pub fn accepted(&self) -> &[String]
         ensures { map (λ p. string_bytes p) result.now ≡ self.now.accepted }
     {
@@ -71,6 +95,12 @@ impl NotingSink {
     }
 
     /// Whether it refused for want of memory.
+    ///
+    /// ```rust
+    /// let mut sink = NotingSink::new(rt.alloc(), 1);
+    /// assert!(rt; sink.write_str("one").is_err());
+    /// assert!(rt; !sink.no_memory());
+    /// ```
     pub fn no_memory(&self) -> bool
         ensures { result ≡ self.now.no_memory }
     {

@@ -69,6 +69,10 @@ impl Kernel for Backward {
 }
 
 /// The text of bytes, by this kernel.
+///
+/// ```rust
+/// assert_eq!(rt; encoded(rt.alloc(), b"kiwi")?.as_str(), "6b697769");
+/// ```
 pub fn encoded(alloc: Global, bytes: &[u8]) -> Result<String, AllocError>
     ensures { IfOk result (λ s. string_bytes s ≡ hex_text false bytes.now) }
 {
@@ -76,6 +80,10 @@ pub fn encoded(alloc: Global, bytes: &[u8]) -> Result<String, AllocError>
 }
 
 /// The bytes that a text spells, by this kernel behind a check.
+///
+/// ```rust
+/// assert_eq!(rt; decoded(rt.alloc(), b"0x6B697769")?.as_slice(), b"kiwi".as_slice());
+/// ```
 pub fn decoded(alloc: Global, text: &[u8]) -> Result<Vec<u8>, FromHexError>
     ensures ok { IfOk result (λ v. Reads text.now (Ok v.items)) }
     ensures err { IfErr result (λ e. e ≢ NoMemory → Reads text.now (Err e)) }

@@ -11,6 +11,10 @@ use std::alloc::Global;
 
 /// Reads a text: a value has the bytes that it spells, and where the error is not of memory the
 /// text is refused or its count of bytes does not fit.
+///
+/// ```rust
+/// assert_eq!(rt; read::<[u8; 2]>(rt.alloc(), b"0xff80")?, [0xff, 0x80]);
+/// ```
 pub fn read<T: FromHex>(alloc: Global, text: &[u8]) -> Result<T, T::Error>
     ensures bytes { IfOk result (λ v. Reads text.now (Ok (T.bytes v))) }
     ensures fits { IfOk result (λ v. T.fits (length (T.bytes v))) }
@@ -23,6 +27,11 @@ pub fn read<T: FromHex>(alloc: Global, text: &[u8]) -> Result<T, T::Error>
 /// Reads two texts: each value has the bytes that its text spells, and the values have the same
 /// bytes exactly where the texts differ in their prefixes and in case alone. Where the error is not
 /// of memory, one of the texts is refused or its count of bytes does not fit.
+///
+/// ```rust
+/// let (one, two) = read_both::<[u8; 2]>(rt.alloc(), b"0xff80", b"FF80")?;
+/// assert_eq!(rt; one, two);
+/// ```
 pub fn read_both<T: FromHex + Drop>(
     alloc: Global,
     first: &[u8],
@@ -48,6 +57,11 @@ pub fn read_both<T: FromHex + Drop>(
 
 /// Reads a text as a vector and as an array, which both have the bytes that it spells, N of them.
 /// Where the error is not of memory, the text is refused or spells another count of bytes.
+///
+/// ```rust
+/// let (list, array) = read_twice::<2>(rt.alloc(), b"ff80")?;
+/// assert_eq!(rt; list.as_slice(), array.as_slice());
+/// ```
 pub fn read_twice<const N: usize>(
     alloc: Global,
     text: &[u8],

@@ -17,9 +17,13 @@ use std::test::Fail;
 // A count of bytes, whether a prefix is written, and the sizes of the calls.
 type Row<'a> = (usize, bool, &'a [usize]);
 
-const PLAIN: [Row<'_>; 8] = [
+const PLAIN: [Row<'_>; 12] = [
     (0, false, &[]),
     (0, true, &[2]),
+    (127, false, &[254]),
+    (127, true, &[256]),
+    (128, false, &[256]),
+    (128, true, &[258]),
     (2047, true, &[4096]),
     (2048, false, &[4096]),
     (2048, true, &[4096, 2]),
@@ -28,9 +32,13 @@ const PLAIN: [Row<'_>; 8] = [
     (4097, true, &[4096, 4096, 4]),
 ];
 
-const LANES16: [Row<'_>; 8] = [
+const LANES16: [Row<'_>; 12] = [
     (0, false, &[]),
     (0, true, &[2]),
+    (127, false, &[254]),
+    (127, true, &[256]),
+    (128, false, &[256]),
+    (128, true, &[258]),
     (2047, true, &[4096]),
     (2048, false, &[4096]),
     (2048, true, &[4066, 32]),
@@ -39,9 +47,13 @@ const LANES16: [Row<'_>; 8] = [
     (4097, true, &[4066, 4096, 34]),
 ];
 
-const LANES32: [Row<'_>; 8] = [
+const LANES32: [Row<'_>; 12] = [
     (0, false, &[]),
     (0, true, &[2]),
+    (127, false, &[254]),
+    (127, true, &[256]),
+    (128, false, &[256]),
+    (128, true, &[258]),
     (2047, true, &[4096]),
     (2048, false, &[4096]),
     (2048, true, &[4034, 64]),
@@ -76,7 +88,7 @@ fn own_kernel(rt: HostRuntime) -> Result<(), Fail> {
 
 /// Each row in both cases, with a sink that never refuses, that refuses at each call, and that is
 /// set to refuse at the call after the last.
-fn streams<K: Kernel>(rt: &impl Abort, alloc: Global, rows: [Row<'_>; 8]) -> Result<(), Fail> {
+fn streams<K: Kernel>(rt: &impl Abort, alloc: Global, rows: [Row<'_>; 12]) -> Result<(), Fail> {
     for (count, prefix, sizes) in rows {
         let data = bytes(alloc, count)?;
         for upper in [false, true] {
@@ -131,7 +143,8 @@ fn kept_pieces(rt: HostRuntime) -> Result<(), Fail> {
     keeps::<Lanes16>(&rt, alloc, [4066, 4096, 34])?;
     keeps::<CheckFirst<Lanes16>>(&rt, alloc, [4066, 4096, 34])?;
     keeps::<Lanes32>(&rt, alloc, [4034, 4096, 66])?;
-    keeps::<CheckFirst<Lanes32>>(&rt, alloc, [4034, 4096, 66])
+    keeps::<CheckFirst<Lanes32>>(&rt, alloc, [4034, 4096, 66])?;
+    keeps::<Backward>(&rt, alloc, [4096, 4096, 4])
 }
 
 fn keeps<K: Kernel>(rt: &impl Abort, alloc: Global, sizes: [usize; 3]) -> Result<(), Fail> {

@@ -19,7 +19,7 @@ fn digits_of_values(rt: HostRuntime) -> Result<(), Fail> {
 #[test]
 fn values_of_digits(rt: HostRuntime) {
     assert_eq!(rt; NIL, 255);
-    let mut digits = 0;
+    let mut digits = 0u32;
     for b in 0..=255u8 {
         let want = match char::from(b).to_digit(16) {
             Some(value) => value,
@@ -28,8 +28,8 @@ fn values_of_digits(rt: HostRuntime) {
         assert_eq!(rt; u32::from(HEX_DECODE_LUT[b as usize]), want, "at {b}");
         assert_eq!(rt; u32::from(value_at(b)), want, "at {b}");
         if want < 16 {
-            digits |= 1u32;
+            digits += 1;
         }
     }
-    assert_eq!(rt; digits, 1);
+    assert_eq!(rt; digits, 22);
 }

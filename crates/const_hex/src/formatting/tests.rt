@@ -47,6 +47,8 @@ fn printed_forms(rt: HostRuntime) -> Result<(), Fail> {
     assert_eq!(rt; printed.as_str(), "deadbeef 0xdeadbeef deadbeef");
     let printed = format!(in rt.alloc(); "{lower} {lower:#} {upper} {upper:#}")?;
     assert_eq!(rt; printed.as_str(), "deadbeef 0xdeadbeef DEADBEEF 0xDEADBEEF");
+    let printed = format!(in rt.alloc(); "{lower:>20} {lower:#020} {upper:*^20} {upper:#<20}")?;
+    assert_eq!(rt; printed.as_str(), "deadbeef 0xdeadbeef DEADBEEF DEADBEEF");
     Ok(())
 }
 
