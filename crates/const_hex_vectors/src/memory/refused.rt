@@ -48,6 +48,22 @@ fn encoders(rt: HostRuntime) -> Result<(), Fail> {
 }
 
 #[test]
+fn encoder_of_a_long_text(rt: HostRuntime) -> Result<(), Fail> {
+    match encode_prefixed(rt.alloc(), &[0xAB; 16_385]) {
+        Ok(text) => {
+            assert_eq!(rt; text.len(), 32_772);
+            assert!(rt;
+                text.as_bytes().as_chunks::<2>().0[1..]
+                    .iter()
+                    .all(|pair| *pair == *b"ab")
+            );
+        }
+        Err(AllocError) => println!(rt; "encode_prefixed: AllocError")?,
+    }
+    Ok(())
+}
+
+#[test]
 fn encoders_by_kernel(rt: HostRuntime) -> Result<(), Fail> {
     let alloc = rt.alloc();
     let kiwi = b"kiwi";
