@@ -28,7 +28,7 @@ fn values_of_digits(rt: HostRuntime) {
         assert_eq!(rt; u32::from(HEX_DECODE_LUT[b as usize]), want, "at {b}");
         assert_eq!(rt; u32::from(value_at(b)), want, "at {b}");
         if want < 16 {
-            digits += 1;
+            digits = digits.wrapping_add(1);
         }
     }
     assert_eq!(rt; digits, 22);
