@@ -5,19 +5,19 @@ use std::alloc::{AllocError, Global};
 const DIGITS: &[u8; 22] = b"0123456789abcdefABCDEF";
 
 /// A text of that length, of digits in either case.
-pub fn digits(alloc: Global, length: usize) -> Result<Vec<u8>, AllocError> {
+pub(crate) fn digits(alloc: Global, length: usize) -> Result<Vec<u8>, AllocError> {
     (0..length).map(|i| DIGITS[i % 22 * 7 % 22]).collect(alloc)
 }
 
 /// That many bytes, of all values in turn.
-pub fn bytes(alloc: Global, count: usize) -> Result<Vec<u8>, AllocError> {
+pub(crate) fn bytes(alloc: Global, count: usize) -> Result<Vec<u8>, AllocError> {
     (0..count)
         .map(|i| ((i % 256 * 37 + 11) % 256) as u8)
         .collect(alloc)
 }
 
 /// `0x` where a prefix is wanted, and what std prints for each byte with two digits.
-pub fn printed(
+pub(crate) fn printed(
     alloc: Global,
     bytes: &[u8],
     prefix: bool,
@@ -39,7 +39,7 @@ pub fn printed(
 }
 
 /// A text in pieces of these sizes, as far as it goes.
-pub fn cut(alloc: Global, text: &str, sizes: &[usize]) -> Result<Vec<String>, AllocError> {
+pub(crate) fn cut(alloc: Global, text: &str, sizes: &[usize]) -> Result<Vec<String>, AllocError> {
     let mut pieces = Vec::new(alloc);
     let mut rest = text;
     for size in sizes {
@@ -52,7 +52,7 @@ pub fn cut(alloc: Global, text: &str, sizes: &[usize]) -> Result<Vec<String>, Al
 }
 
 /// The bytes that std reads from the first pairs of a text, and 0xEE for each further pair.
-pub fn read_front(alloc: Global, text: &[u8], pairs: usize) -> Result<Vec<u8>, AllocError> {
+pub(crate) fn read_front(alloc: Global, text: &[u8], pairs: usize) -> Result<Vec<u8>, AllocError> {
     let mut bytes = Vec::new(alloc);
     for pair in text.as_chunks::<2>().0 {
         let byte = if bytes.len() < pairs {
@@ -66,7 +66,7 @@ pub fn read_front(alloc: Global, text: &[u8], pairs: usize) -> Result<Vec<u8>, A
 }
 
 /// The bytes that std reads from a text.
-pub fn read(alloc: Global, text: &[u8]) -> Result<Vec<u8>, AllocError> {
+pub(crate) fn read(alloc: Global, text: &[u8]) -> Result<Vec<u8>, AllocError> {
     read_front(alloc, text, text.len())
 }
 

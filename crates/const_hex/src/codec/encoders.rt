@@ -8,7 +8,7 @@ ghost use Rattle.const_hex.specs.Loans.{EndsEncoded};
 ghost use Rattle.const_hex.specs.declared.error.FromHexError.TheVariants.{InvalidStringLength};
 
 use crate::error::FromHexError;
-use crate::fill::fill;
+use crate::fill::{fill, text_size};
 use crate::reserved::reserved_bytes;
 use const_hex_arch::{FixedKernel, Kernel};
 use std::alloc::{AllocError, Global};
@@ -43,8 +43,7 @@ fn owned_bytes<K: Kernel>(
     if input.len() > (usize::MAX - 2) / 2 {
         return Err(AllocError);
     }
-    let digits = 2 * input.len();
-    let size = if prefix { 2 + digits } else { digits };
+    let size = text_size(prefix, input.len());
     if size > MOST_ZEROS {
         return reserved_bytes::<K>(alloc, input, prefix, upper, size);
     }

@@ -5,7 +5,7 @@ ghost use Rattle.const_hex_arch.specs.Texts.{full_text};
 ghost use Rattle.const_hex_arch.specs.Streams.{Streams, TellsCut};
 ghost use Rattle.const_hex.specs.Json.{TellsWhole};
 
-use crate::fill::fill;
+use crate::fill::{fill, text_size};
 use const_hex_arch::{BufferedHex, FixedKernel, Sink, SinkError};
 
 /// How many bytes are handed over in one call.
@@ -52,8 +52,7 @@ fn text_in<'a>(buffer: &'a mut [u8], bytes: &[u8], prefix: bool, upper: bool) ->
     requires { 2 + 2 * length bytes.now ≤ length buffer.old }
     ensures { result.now ≡ full_text prefix upper bytes.now }
 {
-    let digits = 2 * bytes.len();
-    let text = &mut buffer[..if prefix { 2 + digits } else { digits }];
+    let text = &mut buffer[..text_size(prefix, bytes.len())];
     fill::<FixedKernel>(bytes, prefix, upper, text);
     let text: &'a [u8] = text;
     unsafe { str::from_utf8_unchecked(text) }

@@ -15,7 +15,7 @@ pub enum Front {
 
 impl Front {
     /// How many bytes are decoded, of a text of that length with a bad byte at that place.
-    pub fn count(self, length: usize, place: usize) -> usize {
+    pub(crate) fn count(self, length: usize, place: usize) -> usize {
         match self {
             Front::Pairs => place / 2,
             Front::Steps16 => after_steps16(length, place),

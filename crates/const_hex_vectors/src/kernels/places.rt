@@ -8,7 +8,7 @@ use std::process::Abort;
 use std::test::Fail;
 
 /// Each of four bad bytes at each place of a text of digits.
-pub fn bad_bytes<K: Kernel>(
+pub(crate) fn bad_bytes<K: Kernel>(
     rt: &impl Abort,
     alloc: Global,
     text: &mut [u8],
@@ -57,7 +57,7 @@ fn left<K: Kernel>(
 }
 
 /// A letter x at each place of a text of digits: a prefix at the second place, and bad elsewhere.
-pub fn later_prefixes<K: Kernel>(
+pub(crate) fn later_prefixes<K: Kernel>(
     rt: &impl Abort,
     alloc: Global,
     text: &mut [u8],
@@ -80,7 +80,10 @@ pub fn later_prefixes<K: Kernel>(
 
 /// Bytes beside the ranges of digits, or that differ from a digit in one bit, at each place of a
 /// text of letters.
-pub fn letters_with_a_bad_byte<K: Kernel>(rt: &impl Abort, alloc: Global) -> Result<(), Fail> {
+pub(crate) fn letters_with_a_bad_byte<K: Kernel>(
+    rt: &impl Abort,
+    alloc: Global,
+) -> Result<(), Fail> {
     let mut text = [b'a'; 64];
     for place in 0..64 {
         for bad in [0x10, 0x2F, 0x3A, 0x40, 0x47, 0x60, 0x67, 0xC1, 0xE1] {
@@ -94,7 +97,7 @@ pub fn letters_with_a_bad_byte<K: Kernel>(rt: &impl Abort, alloc: Global) -> Res
 }
 
 /// Each value of a byte at each place of a text of letters.
-pub fn each_value<K: Kernel>(rt: &impl Abort) {
+pub(crate) fn each_value<K: Kernel>(rt: &impl Abort) {
     let mut text = [b'a'; 64];
     for place in 0..64 {
         for byte in 0..=255u8 {

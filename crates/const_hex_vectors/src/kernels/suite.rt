@@ -11,7 +11,7 @@ use std::process::Abort;
 use std::test::Fail;
 
 /// Tries all of it.
-pub fn run<K: Kernel>(rt: &impl Abort, alloc: Global, front: Front) -> Result<(), Fail> {
+pub(crate) fn run<K: Kernel>(rt: &impl Abort, alloc: Global, front: Front) -> Result<(), Fail> {
     for half in 0..65usize {
         odd_text::<K>(rt, alloc, &digits(alloc, 2 * half + 1)?);
     }
