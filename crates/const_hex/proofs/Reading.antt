@@ -1,11 +1,11 @@
 -- Reading a text is a function: it has one answer, and never two.
-use Rattle.std.proofs.Common.{◌≡◌, ℕ, ◌*◌, List, length, Result, Ok, Err, refl, ap, arith, slice_index, inl, inr}
+use Rattle.std.proofs.Common.{◌≡◌, ℕ, ◌*◌, List, length, Result, Ok, Err, refl, ap, arith, inl, inr}
 use Rattle.std.proofs.lemmas.Bool.{cases_eq}
 use Rattle.std.specs.Prelude.{IsOk, ◌↔◌, ◌⊎◌, ◌≢◌}
 use Rattle.const_hex_arch.specs.Texts.{Spells, AllDigits, FirstBad}
 use Rattle.const_hex_arch.proofs.Spelling.{Spells-same, Spells-digits, Spells-some, FirstBad-same, digits_no_bad}
 use Rattle.const_hex.specs.Bodies.{body_of, NamesFirstBad}
-use Rattle.const_hex.specs.Answers.{Reads, ReadsSized, Checks, ChecksBody, IsEven, IsOdd}
+use Rattle.const_hex.specs.Answers.{Reads, ReadsSized, Checks, IsEven, IsOdd}
 use Rattle.const_hex.specs.TypeLaws.{body-even, Reads-some}
 use Rattle.const_hex.specs.declared.error.FromHexError.{FromHexError}
 use Rattle.const_hex.specs.declared.error.FromHexError.TheVariants.{OddLength, InvalidStringLength, InvalidHexCharacter, NoMemory}
@@ -19,25 +19,27 @@ pub Spells-no_bad : (u bs : List ℕ) (p : ℕ) → Spells u bs → FirstBad u p
 Spells-no_bad u bs p s f = digits_no_bad u p (Spells-digits u bs s) f
 
 -- two refusals that name the first bad byte are the same
-pub NamesFirstBad-same : (u : List ℕ) (e f : FromHexError) → NamesFirstBad u e → NamesFirstBad u f → e ≡ f
-NamesFirstBad-same u OddLength f h k = absurd h
-NamesFirstBad-same u InvalidStringLength f h k = absurd h
-NamesFirstBad-same u NoMemory f h k = absurd h
-NamesFirstBad-same u (InvalidHexCharacter c i) OddLength h k = absurd k
-NamesFirstBad-same u (InvalidHexCharacter c i) InvalidStringLength h k = absurd k
-NamesFirstBad-same u (InvalidHexCharacter c i) NoMemory h k = absurd k
-NamesFirstBad-same u (InvalidHexCharacter c i) (InvalidHexCharacter d j) h k =
-    let e = FirstBad-same u i j h.0 k.0 in
-    let ec : c ≡ slice_index u i = h.1 in
-    let ed : d ≡ slice_index u j = k.1 in
-    cc (e, ec, ed)
+pub NamesFirstBad-same : (t : List ℕ) (e f : FromHexError) → NamesFirstBad t e → NamesFirstBad t f → e ≡ f
+NamesFirstBad-same t OddLength f h k = absurd h
+NamesFirstBad-same t InvalidStringLength f h k = absurd h
+NamesFirstBad-same t NoMemory f h k = absurd h
+NamesFirstBad-same t (InvalidHexCharacter c i) OddLength h k = absurd k
+NamesFirstBad-same t (InvalidHexCharacter c i) InvalidStringLength h k = absurd k
+NamesFirstBad-same t (InvalidHexCharacter c i) NoMemory h k = absurd k
+NamesFirstBad-same t (InvalidHexCharacter c i) (InvalidHexCharacter d j) h k =
+    let e = FirstBad-same (body_of t) h.0 k.0 h.1 k.1 in
+    let ec = h.2 in
+    let ed = k.2 in
+    let ei = h.3 in
+    let ej = k.3 in
+    cc (e, ec, ed, ei, ej)
 
 -- reading leaves one answer
 pub Reads-same : (t : List ℕ) (r s : Result (List ℕ) FromHexError) → Reads t r → Reads t s → r ≡ s
 Reads-same t (Ok a) (Ok b) h k = ap Ok (Spells-same (body_of t) a b h.1 k.1)
 Reads-same t (Ok a) (Err OddLength) h k = absurd (even_not_odd (length t) h.0 k)
 Reads-same t (Ok a) (Err InvalidStringLength) h k = absurd k
-Reads-same t (Ok a) (Err (InvalidHexCharacter c i)) h k = absurd (Spells-no_bad (body_of t) a i h.1 k.1.0)
+Reads-same t (Ok a) (Err (InvalidHexCharacter c i)) h k = absurd (Spells-no_bad (body_of t) a k.1.0 h.1 k.1.1)
 Reads-same t (Ok a) (Err NoMemory) h k = absurd k
 Reads-same t (Err OddLength) (Ok b) h k = absurd (even_not_odd (length t) k.0 h)
 Reads-same t (Err OddLength) (Err OddLength) h k = refl
@@ -45,11 +47,11 @@ Reads-same t (Err OddLength) (Err InvalidStringLength) h k = absurd k
 Reads-same t (Err OddLength) (Err (InvalidHexCharacter c i)) h k = absurd (even_not_odd (length t) k.0 h)
 Reads-same t (Err OddLength) (Err NoMemory) h k = absurd k
 Reads-same t (Err InvalidStringLength) s h k = absurd h
-Reads-same t (Err (InvalidHexCharacter c i)) (Ok b) h k = absurd (Spells-no_bad (body_of t) b i k.1 h.1.0)
+Reads-same t (Err (InvalidHexCharacter c i)) (Ok b) h k = absurd (Spells-no_bad (body_of t) b h.1.0 k.1 h.1.1)
 Reads-same t (Err (InvalidHexCharacter c i)) (Err OddLength) h k = absurd (even_not_odd (length t) h.0 k)
 Reads-same t (Err (InvalidHexCharacter c i)) (Err InvalidStringLength) h k = absurd k
 Reads-same t (Err (InvalidHexCharacter c i)) (Err (InvalidHexCharacter d j)) h k =
-    ap Err (NamesFirstBad-same (body_of t) (InvalidHexCharacter c i) (InvalidHexCharacter d j) h.1 k.1)
+    ap Err (NamesFirstBad-same t (InvalidHexCharacter c i) (InvalidHexCharacter d j) h.1 k.1)
 Reads-same t (Err (InvalidHexCharacter c i)) (Err NoMemory) h k = absurd k
 Reads-same t (Err NoMemory) s h k = absurd h
 
@@ -97,52 +99,22 @@ ReadsSized-some t n = go (Reads-some t) (cases_eq (length (body_of t)) (2 * n))
     go (Err (InvalidHexCharacter c i), h) (inr other) = (Err InvalidStringLength, (h.0, other))
 
 -- checking leaves one answer
-pub ChecksBody-same : (t : List ℕ) (r s : Result Unit FromHexError) → ChecksBody t r → ChecksBody t s → r ≡ s
-ChecksBody-same t (Ok u) (Ok v) h k = refl
-ChecksBody-same t (Ok u) (Err f) h k = absurd (Reads-not_both t h.0 f h.1 k)
-ChecksBody-same t (Err e) (Ok v) h k = absurd (Reads-not_both t k.0 e k.1 h)
-ChecksBody-same t (Err e) (Err f) h k = let same = Reads-same t (Err e) (Err f) h k in cc same
-
--- a check that refuses a text has read a refusal of it
-refusal_read : (t : List ℕ) (e : FromHexError) → Checks t (Err e) → (f : FromHexError) × Reads t (Err f)
-refusal_read t OddLength h = (OddLength, h)
-refusal_read t InvalidStringLength h = absurd h
-refusal_read t (InvalidHexCharacter c i) h = (InvalidHexCharacter c h.0, h.1)
-refusal_read t NoMemory h = absurd h
-
-accepts_or_refuses : (t bs : List ℕ) (e : FromHexError) → Reads t (Ok bs) → Checks t (Err e) → ⊥
-accepts_or_refuses t bs e h k = let read = refusal_read t e k in Reads-not_both t bs read.0 h read.1
-
--- and so it does where places count from the start of the whole text
 pub Checks-same : (t : List ℕ) (r s : Result Unit FromHexError) → Checks t r → Checks t s → r ≡ s
 Checks-same t (Ok u) (Ok v) h k = refl
-Checks-same t (Ok u) (Err f) h k = absurd (accepts_or_refuses t h.0 f h.1 k)
-Checks-same t (Err e) (Ok v) h k = absurd (accepts_or_refuses t k.0 e k.1 h)
-Checks-same t (Err OddLength) (Err OddLength) h k = refl
-Checks-same t (Err OddLength) (Err InvalidStringLength) h k = absurd k
-Checks-same t (Err OddLength) (Err (InvalidHexCharacter c i)) h k = absurd (even_not_odd (length t) k.1.0 h)
-Checks-same t (Err OddLength) (Err NoMemory) h k = absurd k
-Checks-same t (Err InvalidStringLength) (Err f) h k = absurd h
-Checks-same t (Err (InvalidHexCharacter c i)) (Err OddLength) h k = absurd (even_not_odd (length t) h.1.0 k)
-Checks-same t (Err (InvalidHexCharacter c i)) (Err InvalidStringLength) h k = absurd k
-Checks-same t (Err (InvalidHexCharacter c i)) (Err (InvalidHexCharacter d j)) h k =
-    let same = Reads-same t (Err (InvalidHexCharacter c h.0)) (Err (InvalidHexCharacter d k.0)) h.1 k.1 in
-    let ei = h.2 in
-    let ej = k.2 in
-    cc (same, ei, ej)
-Checks-same t (Err (InvalidHexCharacter c i)) (Err NoMemory) h k = absurd k
-Checks-same t (Err NoMemory) (Err f) h k = absurd h
+Checks-same t (Ok u) (Err f) h k = absurd (Reads-not_both t h.0 f h.1 k)
+Checks-same t (Err e) (Ok v) h k = absurd (Reads-not_both t k.0 e k.1 h)
+Checks-same t (Err e) (Err f) h k = let same = Reads-same t (Err e) (Err f) h k in cc same
 
 -- ---- what the calls answer
 
 -- a refusal by the first bad byte is what reading answers
-pub Reads-refused : (t : List ℕ) (e : FromHexError) → IsEven (length t) → NamesFirstBad (body_of t) e → Reads t (Err e)
+pub Reads-refused : (t : List ℕ) (e : FromHexError) → IsEven (length t) → NamesFirstBad t e → Reads t (Err e)
 Reads-refused t OddLength even h = absurd h
 Reads-refused t InvalidStringLength even h = absurd h
 Reads-refused t (InvalidHexCharacter c i) even h = (even, h)
 Reads-refused t NoMemory even h = absurd h
 
-pub ReadsSized-refused : (t : List ℕ) (n : ℕ) (e : FromHexError) → IsEven (length t) → length (body_of t) ≡ 2 * n → NamesFirstBad (body_of t) e → ReadsSized t n (Err e)
+pub ReadsSized-refused : (t : List ℕ) (n : ℕ) (e : FromHexError) → IsEven (length t) → length (body_of t) ≡ 2 * n → NamesFirstBad t e → ReadsSized t n (Err e)
 ReadsSized-refused t n OddLength even len h = absurd h
 ReadsSized-refused t n InvalidStringLength even len h = absurd h
 ReadsSized-refused t n (InvalidHexCharacter c i) even len h = (len, (even, h))
@@ -153,14 +125,6 @@ pub Reads-digits : (t : List ℕ) → IsEven (length t) → AllDigits (body_of t
 Reads-digits t even a = let s = Spells-some (body_of t) (body-even t even) a in (s.0, (even, s.1))
 
 -- a check is Ok exactly where reading gives bytes
-pub ChecksBody-accepts : (t : List ℕ) (r : Result Unit FromHexError) → ChecksBody t r → IsOk r ↔ ((bs : List ℕ) × Reads t (Ok bs))
-ChecksBody-accepts t (Ok u) h = (λ _. h, λ _. refl)
-ChecksBody-accepts t (Err e) h = (λ gone. absurd (cc gone), λ b. absurd (Reads-not_both t b.0 e b.1 h))
-
 pub Checks-accepts : (t : List ℕ) (r : Result Unit FromHexError) → Checks t r → IsOk r ↔ ((bs : List ℕ) × Reads t (Ok bs))
 Checks-accepts t (Ok u) h = (λ _. h, λ _. refl)
-Checks-accepts t (Err OddLength) h = (λ gone. absurd (cc gone), λ b. absurd (Reads-not_both t b.0 OddLength b.1 h))
-Checks-accepts t (Err InvalidStringLength) h = absurd h
-Checks-accepts t (Err (InvalidHexCharacter c i)) h =
-    (λ gone. absurd (cc gone), λ b. absurd (Reads-not_both t b.0 (InvalidHexCharacter c h.0) b.1 h.1))
-Checks-accepts t (Err NoMemory) h = absurd h
+Checks-accepts t (Err e) h = (λ gone. absurd (cc gone), λ b. absurd (Reads-not_both t b.0 e b.1 h))

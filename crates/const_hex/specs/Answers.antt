@@ -1,5 +1,5 @@
 -- The answers that a text has.
-use Rattle.std.specs.Prelude.{◌≡◌, ℕ, ◌+◌, ◌-◌, ◌*◌, ◌%◌, ◌≢◌, ◌<◌, List, length, slice_index, Result, Ok, Err}
+use Rattle.std.specs.Prelude.{◌≡◌, ℕ, ◌*◌, ◌%◌, ◌≢◌, ◌<◌, List, length, slice_index, Result, Ok, Err}
 use Rattle.const_hex_arch.specs.Texts.{Spells, Partial}
 use Rattle.const_hex.specs.Bodies.{body_of, NamesFirstBad}
 use Rattle.const_hex.specs.declared.error.FromHexError.{FromHexError}
@@ -18,12 +18,12 @@ abbrev pub AreBytes : List ℕ → Type 0
 AreBytes bs = (k : ℕ) → slice_index bs k < 256
 
 -- the answer of reading the text t: the bytes that its body spells; else oddness of the whole text
--- comes first, and then the first bad byte, whose place counts from the start of the body
+-- comes first, and then the first bad byte
 abbrev pub Reads : List ℕ → Result (List ℕ) FromHexError → Type 0
 Reads t (Ok bs) = IsEven (length t) × Spells (body_of t) bs
 Reads t (Err OddLength) = IsOdd (length t)
 Reads t (Err InvalidStringLength) = ⊥
-Reads t (Err (InvalidHexCharacter c i)) = IsEven (length t) × NamesFirstBad (body_of t) (InvalidHexCharacter c i)
+Reads t (Err (InvalidHexCharacter c i)) = IsEven (length t) × NamesFirstBad t (InvalidHexCharacter c i)
 Reads t (Err NoMemory) = ⊥
 
 -- the answer of reading t as n bytes: a body of another length is refused after oddness, and
@@ -36,19 +36,10 @@ ReadsSized t n (Err (InvalidHexCharacter c i)) =
     (length (body_of t) ≡ 2 * n) × Reads t (Err (InvalidHexCharacter c i))
 ReadsSized t n (Err NoMemory) = ⊥
 
--- the answer of checking t, where the place of the first bad byte counts from the start of the body
-abbrev pub ChecksBody : List ℕ → Result Unit FromHexError → Type 0
-ChecksBody t (Ok u) = (bs : List ℕ) × Reads t (Ok bs)
-ChecksBody t (Err e) = Reads t (Err e)
-
--- the answer of checking t, where that place counts from the start of the whole text
+-- the answer of checking t: that of reading it, with the bytes forgotten
 abbrev pub Checks : List ℕ → Result Unit FromHexError → Type 0
 Checks t (Ok u) = (bs : List ℕ) × Reads t (Ok bs)
-Checks t (Err OddLength) = IsOdd (length t)
-Checks t (Err InvalidStringLength) = ⊥
-Checks t (Err (InvalidHexCharacter c i)) =
-    (p : ℕ) × Reads t (Err (InvalidHexCharacter c p)) × (i ≡ p + (length t - length (body_of t)))
-Checks t (Err NoMemory) = ⊥
+Checks t (Err e) = Reads t (Err e)
 
 -- what a refused reading of t leaves of an output that held old
 abbrev pub Leaves : List ℕ → List ℕ → List ℕ → FromHexError → Type 0

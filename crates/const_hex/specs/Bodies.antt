@@ -1,5 +1,5 @@
 -- A text without its prefix.
-use Rattle.std.specs.Prelude.{◌≡◌, ℕ, ◌+◌, ◌==◌, nat_le, ◌&&◌, ◌||◌, if◌then◌else◌, List, [], ◌∷◌, map, slice_index}
+use Rattle.std.specs.Prelude.{◌≡◌, ℕ, ◌+◌, ◌-◌, ◌==◌, nat_le, ◌&&◌, ◌||◌, if◌then◌else◌, List, [], ◌∷◌, length, map, slice_index}
 use Rattle.const_hex_arch.specs.Texts.{FirstBad}
 use Rattle.const_hex.specs.declared.error.FromHexError.{FromHexError}
 use Rattle.const_hex.specs.declared.error.FromHexError.TheVariants.{OddLength, InvalidStringLength, InvalidHexCharacter, NoMemory}
@@ -14,9 +14,10 @@ body_of (c ∷ d ∷ u) = if (c == 48) && (d == 120 || d == 88) then u else c �
 abbrev pub lowered : List ℕ → List ℕ
 lowered u = map (λ b. if nat_le 65 b && nat_le b 70 then b + 32 else b) u
 
--- the refusal names the first byte of the body u that is no digit, and its place in u
+-- the refusal names the first byte behind the prefix of t that is no digit, and its place in t
 abbrev pub NamesFirstBad : List ℕ → FromHexError → Type 0
-NamesFirstBad u OddLength = ⊥
-NamesFirstBad u InvalidStringLength = ⊥
-NamesFirstBad u (InvalidHexCharacter c i) = FirstBad u i × (c ≡ slice_index u i)
-NamesFirstBad u NoMemory = ⊥
+NamesFirstBad t OddLength = ⊥
+NamesFirstBad t InvalidStringLength = ⊥
+NamesFirstBad t (InvalidHexCharacter c i) =
+    (p : ℕ) × FirstBad (body_of t) p × (c ≡ slice_index (body_of t) p) × (i ≡ p + (length t - length (body_of t)))
+NamesFirstBad t NoMemory = ⊥

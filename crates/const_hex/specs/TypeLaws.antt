@@ -1,5 +1,5 @@
 -- Lemmas that the laws of types that are read rest on.
-use Rattle.std.specs.Prelude.{◌≡◌, ℕ, suc, ◌-◌, ◌*◌, ◌%◌, ◌<◌, ◌≢◌, ◌==◌, nat_lt, ◌&&◌, ◌||◌, if◌then◌else◌, Bool, true, false, List, [], ◌∷◌, length, map, ℤ, pos, negsuc, slice_index, Result, Ok, Err, refl}
+use Rattle.std.specs.Prelude.{◌≡◌, ℕ, suc, ◌+◌, ◌-◌, ◌*◌, ◌%◌, ◌<◌, ◌≢◌, ◌==◌, nat_lt, ◌&&◌, ◌||◌, if◌then◌else◌, Bool, true, false, List, [], ◌∷◌, length, map, ℤ, pos, negsuc, slice_index, Result, Ok, Err, refl}
 use Rattle.std.proofs.Common.{inl, inr, sym, ap, subst, ◌∙◌, arith}
 use Rattle.std.proofs.lemmas.Bool.{cases_eq}
 use Rattle.const_hex_arch.proofs.Spelling.{Spells-length, Spells-bytes, Spells-some, digits_or_bad}
@@ -32,7 +32,8 @@ Reads-some t =
           let even : IsEven (length t) = omega arith in
           elim (digits_or_bad (body_of t)) [
             | inl a ↦ let s = Spells-some (body_of t) (body-even t even) a in (Ok s.0, (even, s.1))
-            | inr b ↦ (Err (InvalidHexCharacter (slice_index (body_of t) b.0) b.0), (even, (b.1, refl)))
+            | inr b ↦
+                (Err (InvalidHexCharacter (slice_index (body_of t) b.0) (b.0 + (length t - length (body_of t)))), (even, (b.0, b.1, refl, refl)))
           ]
     ]
 

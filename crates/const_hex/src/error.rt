@@ -27,8 +27,7 @@ pub enum FromHexError {
     InvalidHexCharacter {
         /// The character whose number is that byte, so a byte past 127 gives U+0080 to U+00FF.
         c: char,
-        /// The byte's place, counted from the start of the text behind its prefix; in `check` and
-        /// `check_with` alone from the start of the whole text.
+        /// The byte's place, counted from the start of the whole text, prefix included.
         index: usize,
     },
     /// A request for memory was refused.

@@ -48,19 +48,23 @@ fn odd_texts(rt: HostRuntime) {
 
 #[test]
 fn bad_characters(rt: HostRuntime) {
-    let rows: [(&[u8], char, usize, usize); 4] = [
-        (b"0x0x", 'x', 1, 3),
-        (b"0xzz", 'z', 0, 2),
-        (b"Hello world!", 'H', 0, 0),
-        (&[0xFF, 0x30], '\u{FF}', 0, 0),
+    let rows: [(&[u8], char, usize); 5] = [
+        (b"0x0x", 'x', 3),
+        (b"0xzz", 'z', 2),
+        (b"zz", 'z', 0),
+        (b"Hello world!", 'H', 0),
+        (&[0xFF, 0x30], '\u{FF}', 0),
     ];
-    for (text, c, in_body, in_text) in rows {
-        assert_eq!(rt; decode(rt.alloc(), text).err(), Some(bad(c, in_body)));
-        assert_eq!(rt; const_check(text), Err(bad(c, in_body)));
-        assert_eq!(rt; check(text), Err(bad(c, in_text)));
+    for (text, c, place) in rows {
+        assert_eq!(rt; decode(rt.alloc(), text).err(), Some(bad(c, place)));
+        assert_eq!(rt; const_check(text), Err(bad(c, place)));
+        assert_eq!(rt; check(text), Err(bad(c, place)));
     }
-    assert_eq!(rt; decode_to_array::<1>(b"0xzz"), Err(bad('z', 0)));
-    assert_eq!(rt; const_decode_to_array::<1>(b"0xzz"), Err(bad('z', 0)));
+    let sized: [(&[u8], usize); 2] = [(b"0xzz", 2), (b"zz", 0)];
+    for (text, place) in sized {
+        assert_eq!(rt; decode_to_array::<1>(text), Err(bad('z', place)));
+        assert_eq!(rt; const_decode_to_array::<1>(text), Err(bad('z', place)));
+    }
 }
 
 #[test]

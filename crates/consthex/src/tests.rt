@@ -82,7 +82,7 @@ fn names_oddness(rt: HostRuntime) -> Result<(), Fail> {
 #[test]
 fn names_the_first_bad_byte(rt: HostRuntime) -> Result<(), Fail> {
     let cases: [(Mode, &[u8], char, usize, &str); 5] = [
-        (Mode::Decode, b"0xzz\n", 'z', 0, "'z' at position 0"),
+        (Mode::Decode, b"0xzz\n", 'z', 2, "'z' at position 2"),
         (Mode::Check, b"0xzz\n", 'z', 2, "'z' at position 2"),
         (Mode::Decode, b"6b\r\n6b", '\r', 2, "'\\r' at position 2"),
         (Mode::Decode, b"6b\n\n\n", '\n', 2, "'\\n' at position 2"),

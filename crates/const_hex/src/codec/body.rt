@@ -1,11 +1,11 @@
 //! The body of a text: the prefix rule, the first bad byte, and decoding by a kernel.
 
-ghost use Rattle.std.specs.Prelude.{◌≡◌, ◌*◌, ◌%◌, ◌≤◌, true, length, OnOk, OnErr, IfErr};
+ghost use Rattle.std.specs.Prelude.{◌≡◌, ◌*◌, ◌%◌, ◌≤◌, true, false, length, IsTrue};
 ghost use Rattle.const_hex_arch.specs.Texts.{AllDigits, Spells, Partial};
 ghost use Rattle.const_hex.specs.Bodies.{body_of, NamesFirstBad};
 
 use crate::error::FromHexError;
-use const_hex_arch::{Kernel, NIL, value_at};
+use const_hex_arch::{CheckFirst, Kernel, NIL, value_at};
 
 /// The text without its prefix.
 #[inline]
@@ -20,18 +20,21 @@ pub(crate) fn strip_prefix(text: &[u8]) -> &[u8]
     }
 }
 
-/// The refusal that names the first byte of the body that is no digit. There has to be one.
+/// The refusal that names the first byte behind the prefix that is no digit, and its place in the
+/// whole text. There has to be such a byte.
 #[cold]
-pub(crate) fn bad_character(body: &[u8]) -> FromHexError
-    requires { AllDigits body.now → ⊥ }
-    ensures { NamesFirstBad body.now result }
+pub(crate) fn bad_character(text: &[u8]) -> FromHexError
+    requires { AllDigits (body_of text.now) → ⊥ }
+    ensures { NamesFirstBad text.now result }
 {
-    'digits: for index in 0..body.len() {
-        let byte = body[index];
+    let body = strip_prefix(text);
+    let start = text.len() - body.len();
+    'digits: for place in 0..body.len() {
+        let byte = body[place];
         if value_at(byte) == NIL {
             return FromHexError::InvalidHexCharacter {
                 c: char::from(byte),
-                index,
+                index: start + place,
             };
         }
     }
@@ -39,22 +42,18 @@ pub(crate) fn bad_character(body: &[u8]) -> FromHexError
 }
 
 /// Fills the output with the bytes that the body spells, in one pass or after a check, as the
-/// kernel wants it. The body has to have two bytes for each of the output.
+/// kernel wants it, or answers false where some byte is no digit. The body has to have two bytes
+/// for each of the output.
 #[inline(always)]
-pub(crate) fn decode_body<K: Kernel>(body: &[u8], output: &mut [u8]) -> Result<(), FromHexError>
+pub(crate) fn decode_body<K: Kernel>(body: &[u8], output: &mut [u8]) -> bool
     requires { length body.now ≡ 2 * length output.old }
-    ensures ok { OnOk result (Spells body.now output.new) }
-    ensures err { IfErr result (λ e. NamesFirstBad body.now e) }
-    ensures left { OnErr result (Partial output.old body.now output.new) }
-    ensures unchanged { K.USE_CHECK_FN ≡ true → OnErr result (output.new ≡ output.old) }
+    ensures spells { IsTrue result → Spells body.now output.new }
+    ensures refused { result ≡ false → Partial output.old body.now output.new }
+    ensures unchanged { result ≡ false → K.USE_CHECK_FN ≡ true → output.new ≡ output.old }
 {
     if K::USE_CHECK_FN {
-        if !K::check(body) {
-            return Err(bad_character(body));
-        }
-        K::decode_unchecked(body, output);
-    } else if !K::decode_checked(body, output) {
-        return Err(bad_character(body));
+        CheckFirst::<K>::decode_checked(body, output)
+    } else {
+        K::decode_checked(body, output)
     }
-    Ok(())
 }

@@ -2,7 +2,7 @@
 
 ghost use Rattle.std.specs.Prelude.{◌≡◌, ℕ, List, ◌↔◌, Result, Ok, IsOk, IsTrue, IfErr, OnOk};
 ghost use Rattle.const_hex_arch.specs.Texts.{AllDigits};
-ghost use Rattle.const_hex.specs.Answers.{Reads, Checks, ChecksBody};
+ghost use Rattle.const_hex.specs.Answers.{Reads, Checks};
 ghost use Rattle.const_hex.specs.declared.error.FromHexError.{FromHexError};
 
 use crate::codec::body::{bad_character, strip_prefix};
@@ -12,7 +12,7 @@ use const_hex_arch::{FixedKernel, Kernel};
 /// Whether [`decode`](crate::decode) accepts a text.
 ///
 /// Refused with [`FromHexError::OddLength`], and else with [`FromHexError::InvalidHexCharacter`],
-/// whose index counts from the start of the whole text. Takes no memory.
+/// which names the first byte behind the prefix that is no digit. Takes no memory.
 ///
 /// ```rust
 /// assert_eq!(rt; const_hex::check(b"0x6b"), Ok(()));
@@ -36,48 +36,30 @@ pub fn check_with<K: Kernel>(input: &[u8]) -> Result<(), FromHexError>
     ensures answer { Checks input.now result }
     ensures accepts { IsOk result ↔ ((bs : List ℕ) × Reads input.now (Ok bs)) }
 {
-    match check_body::<K>(input) {
-        Err(FromHexError::InvalidHexCharacter { c, index }) => {
-            let prefix = input.len() - strip_prefix(input).len();
-            Err(FromHexError::InvalidHexCharacter {
-                c,
-                index: prefix + index,
-            })
-        }
-        answer => answer,
-    }
-}
-
-/// Whether a text can be decoded, where the place of the first bad byte counts from the start of
-/// the body.
-#[inline(always)]
-fn check_body<K: Kernel>(input: &[u8]) -> Result<(), FromHexError>
-    ensures { ChecksBody input.now result }
-{
     if input.len() % 2 != 0 {
         return Err(FromHexError::OddLength);
     }
-    let body = strip_prefix(input);
-    if K::check(body) {
+    if K::check(strip_prefix(input)) {
         Ok(())
     } else {
-        Err(bad_character(body))
+        Err(bad_character(input))
     }
 }
 
-/// As [`check`], with an index that counts from the start of the text behind its prefix. Takes no
-/// memory.
+/// As [`check`], with the same answer on every text. Takes no memory.
 ///
 /// ```rust
-/// let refusal = FromHexError::InvalidHexCharacter { c: 'z', index: 0 };
+/// let refusal = FromHexError::InvalidHexCharacter { c: 'z', index: 2 };
 /// assert_eq!(rt; const_hex::const_check(b"0xzz"), Err(refusal));
 /// ```
 #[inline]
 pub fn const_check(input: &[u8]) -> Result<(), FromHexError>
-    ensures answer { ChecksBody input.now result }
+    ensures answer { Checks input.now result }
     ensures accepts { IsOk result ↔ ((bs : List ℕ) × Reads input.now (Ok bs)) }
+    // No other answer is one of the text's.
+    ensures alone { (r : Result Unit FromHexError) → Checks input.now r → r ≡ result }
 {
-    check_body::<FixedKernel>(input)
+    check(input)
 }
 
 /// Whether every byte is a digit: no prefix is allowed, and the length does not matter. Takes no

@@ -7,7 +7,7 @@ ghost use Rattle.const_hex.specs.Answers.{IsOdd, AreBytes, Reads, ReadsSized, Le
 ghost use Rattle.const_hex.specs.declared.error.FromHexError.{FromHexError};
 ghost use Rattle.const_hex.specs.declared.error.FromHexError.TheVariants.{OddLength, NoMemory};
 
-use crate::codec::body::{decode_body, strip_prefix};
+use crate::codec::body::{bad_character, decode_body, strip_prefix};
 use crate::error::FromHexError;
 use const_hex_arch::{FixedKernel, Kernel};
 use std::alloc::Global;
@@ -79,7 +79,9 @@ fn read<K: Kernel>(alloc: Global, input: &[u8]) -> Result<Vec<u8>, FromHexError>
     }
     let body = strip_prefix(input);
     let mut bytes = vec![in alloc; 0u8; body.len() / 2]?;
-    decode_body::<K>(body, &mut bytes)?;
+    if !decode_body::<K>(body, &mut bytes) {
+        return Err(bad_character(input));
+    }
     Ok(bytes)
 }
 
@@ -126,7 +128,10 @@ pub fn decode_to_slice_with<K: Kernel>(input: &[u8], output: &mut [u8]) -> Resul
     if body.len() / 2 != output.len() {
         return Err(FromHexError::InvalidStringLength);
     }
-    decode_body::<K>(body, output)
+    if !decode_body::<K>(body, output) {
+        return Err(bad_character(input));
+    }
+    Ok(())
 }
 
 /// The N bytes that a text spells, with or without a prefix, in either case.

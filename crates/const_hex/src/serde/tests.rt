@@ -58,8 +58,14 @@ fn json_text_becomes_bytes(rt: HostRuntime) -> Result<(), Fail> {
             bytes
         );
     }
-    let bad = FromHexError::InvalidHexCharacter { c: 'z', index: 0 };
-    for (text, refusal) in [("zz", bad), ("0xzz", bad), ("0x0", FromHexError::OddLength)] {
+    let bad = |index| FromHexError::InvalidHexCharacter { c: 'z', index };
+    let odd = FromHexError::OddLength;
+    for (text, refusal) in [
+        ("zz", bad(0)),
+        ("0xzz", bad(2)),
+        ("0Xzz", bad(2)),
+        ("0x0", odd),
+    ] {
         let value = text_value(alloc, text)?;
         let answer: Bytes = deserialize(alloc, &value);
         assert_eq!(rt; answer.err(), Some(JsonError::Hex(refusal)));

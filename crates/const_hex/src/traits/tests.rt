@@ -28,7 +28,7 @@ const REFUSED: [(&str, FromHexError); 4] = [
     ("foo", FromHexError::OddLength),
     (
         "0xzz",
-        FromHexError::InvalidHexCharacter { c: 'z', index: 0 },
+        FromHexError::InvalidHexCharacter { c: 'z', index: 2 },
     ),
 ];
 
@@ -65,6 +65,10 @@ fn arrays_read_their_own_count(rt: HostRuntime) -> Result<(), Fail> {
         (
             "ffg0",
             FromHexError::InvalidHexCharacter { c: 'g', index: 2 },
+        ),
+        (
+            "0xffg0",
+            FromHexError::InvalidHexCharacter { c: 'g', index: 4 },
         ),
     ];
     for (text, refusal) in refusals {

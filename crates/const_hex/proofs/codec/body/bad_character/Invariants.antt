@@ -3,4 +3,4 @@ use Rattle.const_hex_arch.specs.Texts.{AllDigits}
 use Rattle.const_hex.proofs.codec.body.bad_character.Given as goal
 
 abbrev pub invariant-digits : goal.invariant-digits
-invariant-digits l = AllDigits (take l.index l.body)
+invariant-digits l = AllDigits (take l.place l.body)
