@@ -1,15 +1,16 @@
 -- Reading what was written.
-use Rattle.std.proofs.Common.{◌≡◌, ℕ, ◌/◌, ◌%◌, ◌<◌, ◌==◌, ◌&&◌, ◌||◌, Bool, true, false, List, [], ◌∷◌, length, Result, Ok, Err, refl, arith}
-use Rattle.std.specs.Prelude.{MatchResult, IfOk, IfErr, ◌≢◌}
+use Rattle.std.proofs.Common.{◌≡◌, ℕ, ◌*◌, ◌/◌, ◌%◌, ◌<◌, ◌==◌, ◌&&◌, ◌||◌, Bool, true, false, List, [], ◌∷◌, length, Result, Ok, Err, refl, arith}
+use Rattle.std.specs.Prelude.{MatchResult, IfOk, IfErr, ◌≢◌, ◌↔◌}
 use Rattle.std.proofs.lemmas.Bool.Decides.{nat_tests}
 use Rattle.const_hex_arch.specs.Digits.{hex_digit}
 use Rattle.const_hex_arch.specs.Texts.{hex_text, full_text}
-use Rattle.const_hex_arch.proofs.Writing.{Spells-hex_text, length-full_text}
-use Rattle.const_hex.specs.Bodies.{body_of}
-use Rattle.const_hex.specs.Answers.{Reads, IsEven, AreBytes}
+use Rattle.const_hex_arch.proofs.Writing.{Spells-hex_text, length-hex_text, length-full_text}
+use Rattle.const_hex.specs.Bodies.{body_of, lowered}
+use Rattle.const_hex.specs.Answers.{Reads, ReadsSized, IsEven, AreBytes}
 use Rattle.const_hex.specs.declared.error.FromHexError.{FromHexError}
 use Rattle.const_hex.specs.declared.error.FromHexError.TheVariants.{OddLength, InvalidStringLength, InvalidHexCharacter, NoMemory}
-use Rattle.const_hex.proofs.Reading.{Reads-same}
+use Rattle.const_hex.proofs.Reading.{Reads-same, ReadsSized-same}
+use Rattle.const_hex.proofs.Lowering.{agree}
 
 -- the second byte of a text is no `x`
 no_prefix : (up : Bool) (c v : ℕ) → v < 16 → ((c == 48) && (hex_digit up v == 120 || hex_digit up v == 88)) ≡ false
@@ -46,3 +47,19 @@ round_trip {V} items t r ok err prefix up bs h e =
     go (Err InvalidStringLength) ok err read = absurd (err (λ e. cc e))
     go (Err (InvalidHexCharacter c i)) ok err read = let same = Reads-same t (Ok bs) (Err (InvalidHexCharacter c i)) read (err (λ e. cc e)) in cc same
     go (Err NoMemory) ok err read = refl
+
+-- the text of n bytes reads as these, and has no other answer
+pub sized_round_trip : (n : ℕ) (t : List ℕ) (r : Result (List ℕ) FromHexError) → ReadsSized t n r
+    → (prefix up : Bool) (bs : List ℕ) → AreBytes bs → length bs ≡ n → t ≡ full_text prefix up bs
+    → r ≡ Ok bs
+sized_round_trip n t r h prefix up bs bytes len e =
+    let read = Reads-full_text prefix up bs bytes in
+    let twice : length (body_of (full_text prefix up bs)) ≡ 2 * n = rw (body-full_text prefix up bs, length-hex_text up bs, len) refl in
+    ReadsSized-same t n r (Ok bs) h (rw e (twice, read))
+
+-- two texts that read as n bytes give the same exactly where their bodies differ in case alone
+pub sized_agree : (n : ℕ) (t : List ℕ) (r : Result (List ℕ) FromHexError) → ReadsSized t n r
+    → (u bs : List ℕ) → ReadsSized u n (Ok bs)
+    → IfOk r (λ v. (bs ≡ v) ↔ (lowered (body_of u) ≡ lowered (body_of t)))
+sized_agree n t (Ok v) h u bs k = agree (λ bs. bs) t (Ok v) h.1 u bs k.1
+sized_agree n t (Err e) h u bs k = tt

@@ -6,7 +6,7 @@ use Rattle.const_hex_arch.proofs.Spelling.{Spells-length, Spells-bytes, Spells-s
 use Rattle.const_hex.specs.Bodies.{body_of}
 use Rattle.const_hex.specs.Answers.{Reads, ReadsSized, AreBytes, IsEven}
 use Rattle.const_hex.specs.Elements.{signed_of, byte_of}
-use Rattle.const_hex.specs.Types.{is_no_memory, AnyCount, IsCount, RefusesOrMisfits, IsFaithful, ReadsOwned, ReadsSigned, ReadsThrough}
+use Rattle.const_hex.specs.Types.{is_no_memory, AnyCount, IsCount, RefusesOrMisfits, IsFaithful, ReadsOwned, ReadsAs, ReadsSigned, ReadsThrough}
 use Rattle.const_hex.specs.declared.error.FromHexError.{FromHexError}
 use Rattle.const_hex.specs.declared.error.FromHexError.TheVariants.{OddLength, InvalidStringLength, InvalidHexCharacter, NoMemory}
 
@@ -91,6 +91,14 @@ module _ {V : Type 0} (items : V → List ℤ) (fits : ℕ → Type 0) (answers 
       let P : List ℕ → Type 0 = λ bs. Reads t (Ok bs) × fits (length bs) in
       subst P (sym (bytes_back h.0 (Spells-bytes (body_of t) h.0 of_bytes.0.1)) ∙ ap (map byte_of) (sym h.2)) of_bytes
   ReadsSigned-faithful law t (Err e) h = law t (Err e) h
+
+-- ---- a type of one's own
+
+pub ReadsAs-faithful : {V : Type 0} (bytes : V → List ℕ) (fits : ℕ → Type 0) (answers : List ℕ → Result (List ℕ) FromHexError → Type 0)
+    → ((t : List ℕ) (r : Result (List ℕ) FromHexError) → answers t r → IsFaithful (λ bs. bs) fits is_no_memory t r)
+    → (t : List ℕ) (r : Result V FromHexError) → ReadsAs bytes answers t r → IsFaithful bytes fits is_no_memory t r
+ReadsAs-faithful bytes fits answers law t (Ok v) h = law t (Ok (bytes v)) h
+ReadsAs-faithful bytes fits answers law t (Err e) h = law t (Err e) h
 
 -- ---- pointers
 

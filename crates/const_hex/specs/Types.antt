@@ -41,6 +41,11 @@ ReadsOwned bytes t (Err InvalidStringLength) = ⊥
 ReadsOwned bytes t (Err (InvalidHexCharacter c i)) = Reads t (Err (InvalidHexCharacter c i))
 ReadsOwned bytes t (Err NoMemory) = IsEven (length t)
 
+-- the answers of a type of one's own: those for bytes, of which a value has its own
+abbrev pub ReadsAs : {V : Type 0} → (V → List ℕ) → (List ℕ → Result (List ℕ) FromHexError → Type 0) → List ℕ → Result V FromHexError → Type 0
+ReadsAs bytes answers t (Ok v) = answers t (Ok (bytes v))
+ReadsAs bytes answers t (Err e) = answers t (Err e)
+
 -- the answers of a type of signed elements: those for bytes, with the bits of the bytes
 abbrev pub ReadsSigned : {V : Type 0} → (V → List ℤ) → (List ℕ → Result (List ℕ) FromHexError → Type 0) → List ℕ → Result V FromHexError → Type 0
 ReadsSigned items answers t (Ok v) = (bs : List ℕ) × answers t (Ok bs) × (items v ≡ map signed_of bs)

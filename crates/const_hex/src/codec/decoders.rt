@@ -146,7 +146,13 @@ pub fn decode_to_slice_with<K: Kernel>(input: &[u8], output: &mut [u8]) -> Resul
 /// ```
 #[inline]
 pub fn decode_to_array<const N: usize>(input: &[u8]) -> Result<[u8; N], FromHexError>
-    ensures { ReadsSized input.now N result }
+    ensures answer { ReadsSized input.now N result }
+    // What was encoded of N bytes is decoded to the same bytes.
+    ensures round_trip { (prefix up : Bool) (bs : List ℕ) → AreBytes bs → length bs ≡ N
+        → input.now ≡ full_text prefix up bs → result ≡ Ok bs }
+    // Another text gives the same bytes exactly where the bodies differ in case alone.
+    ensures agree { (t bs : List ℕ) → ReadsSized t N (Ok bs)
+        → IfOk result (λ v. (bs ≡ v) ↔ (lowered (body_of t) ≡ lowered (body_of input.now))) }
 {
     let mut bytes = [0; N];
     match decode_to_slice(input, &mut bytes) {

@@ -1,6 +1,9 @@
 //! Reading into arrays.
 
-ghost use Rattle.const_hex.specs.Answers.{ReadsSized};
+ghost use Rattle.std.specs.Prelude.{◌≡◌, ◌↔◌, ℕ, List, Bool, length, Ok, IfOk};
+ghost use Rattle.const_hex_arch.specs.Texts.{full_text};
+ghost use Rattle.const_hex.specs.Answers.{AreBytes, ReadsSized};
+ghost use Rattle.const_hex.specs.Bodies.{body_of, lowered};
 ghost use Rattle.const_hex.specs.Types.{IsCount};
 ghost use Rattle.const_hex.specs.TypeLaws.{ReadsSized-faithful};
 
@@ -21,7 +24,15 @@ impl<const N: usize> FromHex for [u8; N] {
 
     ghost faithful = { ReadsSized-faithful N };
 
-    fn from_hex(_alloc: Global, hex: &[u8]) -> Result<[u8; N], FromHexError> {
+    fn from_hex(_alloc: Global, hex: &[u8]) -> Result<[u8; N], FromHexError>
+        ensures answers { ReadsSized hex.now N result }
+        // The text of N bytes gives these.
+        ensures round_trip { (prefix up : Bool) (bs : List ℕ) → AreBytes bs → length bs ≡ N
+            → hex.now ≡ full_text prefix up bs → result ≡ Ok bs }
+        // Another text gives the same bytes exactly where the bodies differ in case alone.
+        ensures agree { (t bs : List ℕ) → ReadsSized t N (Ok bs)
+            → IfOk result (λ v. (bs ≡ v) ↔ (lowered (body_of t) ≡ lowered (body_of hex.now))) }
+    {
         decode_to_array(hex)
     }
 }
