@@ -1,0 +1,151 @@
+//! A value of a fixed count of bytes, its text and its JSON string.
+
+ghost use Rattle.std.specs.Prelude.{◌≡◌, ◌↔◌, ℕ, List, Bool, length, true, false, Some, None, Ok, Err, IfOk, IfSome};
+ghost use Rattle.serde_json.specs.Data.{string};
+ghost use Rattle.serde_json.specs.Find.{as_str};
+ghost use Rattle.serde_json.specs.View.{view};
+ghost use Rattle.const_hex.specs.Answers.{AreBytes, ReadsSized};
+ghost use Rattle.const_hex.specs.Bodies.{body_of, lowered};
+ghost use Rattle.const_hex.specs.Json.{ReadsInside};
+ghost use Rattle.const_hex.specs.Texts.{full_text};
+ghost use Rattle.const_hex.specs.TypeLaws.{ReadsAs-faithful, ReadsSized-faithful};
+ghost use Rattle.const_hex.specs.Types.{IsCount};
+ghost use Rattle.const_hex.specs.declared.serde.error.JsonError.TheVariants.{NotText};
+ghost use Rattle.hash_hex.specs.Fixed.{fixed_bytes, IsValueOf, ReadsFixed};
+ghost use Rattle.hash_hex.specs.declared.fixed.FixedBytes.{FixedBytes};
+
+use const_hex::serde::JsonError;
+use const_hex::{FromHex, FromHexError, deserialize, display, serialize};
+use serde_json::Value;
+use std::alloc::{AllocError, Global};
+use std::fmt;
+
+/// A value of N bytes.
+///
+/// It is read from text as N bytes, and prints as `0x` and two lower digits a byte. Values are
+/// compared, ordered and hashed by their bytes.
+///
+/// ```rust
+/// let hash = Hash32::from_hex(rt.alloc(), &[b'F'; 64])?;
+/// assert_eq!(rt; hash, Hash32::from_bytes([255; 32]));
+/// ```
+#[derive(Clone, Copy, PartialEq, Eq, PartialOrd, Ord, Hash)]
+pub struct FixedBytes<const N: usize> {
+    pub(crate) bytes: [u8; N],
+}
+
+impl<const N: usize> FixedBytes<N> {
+    /// The value of these bytes. Takes no memory.
+    ///
+    /// ```rust
+    /// assert_eq!(rt; Hash32::from_bytes([7; 32]).as_bytes(), &[7; 32]);
+    /// ```
+    #[inline]
+    pub fn from_bytes(bytes: [u8; N]) -> FixedBytes<N>
+        ensures { fixed_bytes result ≡ bytes.entry }
+    {
+        FixedBytes { bytes }
+    }
+
+    /// The bytes. Takes no memory.
+    ///
+    /// ```rust
+    /// assert_eq!(rt; Address20::from_bytes([7; 20]).as_bytes(), &[7; 20]);
+    /// ```
+    #[inline]
+    pub fn as_bytes(&self) -> &[u8; N]
+        ensures { result.now ≡ fixed_bytes self.now }
+    {
+        &self.bytes
+    }
+
+    /// The JSON string of the value: `0x` and two lower digits a byte.
+    ///
+    /// Answers `AllocError` where memory is refused.
+    ///
+    /// ```rust
+    /// let value = Address20::from_bytes([7; 20]).to_value(rt.alloc())?;
+    /// assert_eq!(rt; value.as_str(), Some("0x0707070707070707070707070707070707070707"));
+    /// ```
+    pub fn to_value(&self, alloc: Global) -> Result<Value, AllocError>
+        ensures { IfOk result (λ v. view v ≡ string (full_text true false (fixed_bytes self.now))) }
+    {
+        serialize(alloc, &self.bytes)
+    }
+
+    /// The value that a JSON string spells, with or without a prefix, in either case.
+    ///
+    /// Answers [`JsonError::NotText`] where the JSON value is not a string, and else what
+    /// [`from_hex`](FromHex::from_hex) answers, its refusals inside [`JsonError::Hex`]. Takes no
+    /// memory.
+    ///
+    /// ```rust
+    /// assert_eq!(rt; Hash32::from_value(rt.alloc(), &Value::Null), Err(JsonError::NotText));
+    /// ```
+    pub fn from_value(
+        alloc: Global,
+        value: &Value,
+    ) -> Result<FixedBytes<N>, JsonError<FromHexError>>
+        ensures not_text { (result ≡ Err NotText) ↔ (as_str (view value.now) ≡ None) }
+        ensures text { IfSome (as_str (view value.now)) (λ t. ReadsInside (ReadsFixed N) t result) }
+    {
+        deserialize(alloc, value)
+    }
+}
+
+/// By the answers of [`decode_to_array`](const_hex::decode_to_array). Takes no memory.
+impl<const N: usize> FromHex for FixedBytes<N> {
+    type Error = FromHexError;
+
+    ghost bytes = { fixed_bytes };
+
+    ghost fits = { IsCount N };
+
+    ghost answers = { ReadsFixed N };
+
+    ghost faithful = { ReadsAs-faithful fixed_bytes (IsCount N) (λ t r. ReadsSized t N r) (ReadsSized-faithful N) };
+
+    fn from_hex(alloc: Global, hex: &[u8]) -> Result<FixedBytes<N>, FromHexError>
+        ensures answers { ReadsFixed N hex.now result }
+        // The text of N bytes, with or without a prefix and in either case, gives their value.
+        ensures round_trip { (prefix up : Bool) (bs : List ℕ) → AreBytes bs → length bs ≡ N
+            → hex.now ≡ full_text prefix up bs → IsValueOf bs result }
+        // Another text gives an equal value exactly where the bodies differ in case alone.
+        ensures agree { (t : List ℕ) (w : FixedBytes N) → ReadsFixed N t (Ok w)
+            → IfOk result (λ v. (w ≡ v) ↔ (lowered (body_of t) ≡ lowered (body_of hex.now))) }
+    {
+        match <[u8; N] as FromHex>::from_hex(alloc, hex) {
+            Ok(bytes) => Ok(FixedBytes { bytes }),
+            Err(refusal) => Err(refusal),
+        }
+    }
+}
+
+impl<const N: usize> From<[u8; N]> for FixedBytes<N> {
+    ghost from_gives = { λ bytes v. fixed_bytes v ≡ bytes };
+
+    fn from(bytes: [u8; N]) -> FixedBytes<N> {
+        FixedBytes::from_bytes(bytes)
+    }
+}
+
+/// `0x` and two lower digits a byte. Takes no memory.
+impl<const N: usize> fmt::Display for FixedBytes<N> {
+    ghost output = { λ v. Some (full_text true false (fixed_bytes v)) };
+
+    fn fmt<W: fmt::Write>(&self, f: &mut fmt::Formatter<W>) -> fmt::Result {
+        write!(f, "{:#}", display(&self.bytes))
+    }
+}
+
+/// The printed text inside the type's name, as in `Hash32(0x..)`.
+impl<const N: usize> fmt::Debug for FixedBytes<N> {
+    fn fmt<W: fmt::Write>(&self, f: &mut fmt::Formatter<W>) -> fmt::Result {
+        let name = match N {
+            20 => "Address20",
+            32 => "Hash32",
+            _ => "FixedBytes",
+        };
+        write!(f, "{name}({self})")
+    }
+}

@@ -1,0 +1,31 @@
+//! Hashes of 32 bytes.
+
+ghost use Rattle.std.specs.Prelude.{◌≡◌, true, false};
+ghost use Rattle.const_hex.specs.Buffers.{buffer_text};
+ghost use Rattle.const_hex.specs.Texts.{full_text};
+ghost use Rattle.hash_hex.specs.Fixed.{fixed_bytes};
+
+use crate::fixed::FixedBytes;
+use const_hex::{Buffer, const_encode};
+
+/// A hash of 32 bytes.
+///
+/// ```rust
+/// assert_eq!(rt; Hash32::from_bytes([7; 32]).as_bytes(), &[7; 32]);
+/// ```
+pub type Hash32 = FixedBytes<32>;
+
+impl Hash32 {
+    /// The text that the hash prints, in a buffer. Takes no memory.
+    ///
+    /// ```rust
+    /// let text = Hash32::from_bytes([0xAB; 32]).to_buffer();
+    /// assert!(rt; text.as_str().starts_with("0xabab"));
+    /// ```
+    #[inline]
+    pub fn to_buffer(&self) -> Buffer<32, true, 66>
+        ensures { buffer_text result ≡ full_text true false (fixed_bytes self.now) }
+    {
+        const_encode(&self.bytes)
+    }
+}

@@ -1,0 +1,115 @@
+//! Hashes and addresses, on examples.
+
+use crate::{Address20, FixedBytes, Hash32};
+use const_hex::serde::JsonError;
+use const_hex::{FromHex, FromHexError};
+use serde_json::{Value, json};
+use std::cmp::Ordering;
+use std::collections::HashSet;
+use std::test::Fail;
+
+const COUNTED: &str = "0x000102030405060708090a0b0c0d0e0f101112131415161718191a1b1c1d1e1f";
+
+/// The bytes 0 to 31.
+fn counted() -> [u8; 32] {
+    let mut bytes = [0; 32];
+    for byte in 0..32u8 {
+        bytes[usize::from(byte)] = byte;
+    }
+    bytes
+}
+
+#[test]
+fn texts_of_hashes(rt: HostRuntime) -> Result<(), Fail> {
+    let alloc = rt.alloc();
+    let hash = Hash32::from(counted());
+    assert_eq!(rt; hash.to_string(alloc)?.as_str(), COUNTED);
+    assert_eq!(rt; hash.to_buffer().as_str(), COUNTED);
+    assert_eq!(rt; Hash32::from_hex(alloc, COUNTED.as_bytes()), Ok(hash));
+    let letters = Hash32::from_hex(alloc, &[b'F'; 64])?;
+    assert_eq!(rt; letters, Hash32::from_bytes([255; 32]));
+    let lower = "0xffffffffffffffffffffffffffffffffffffffffffffffffffffffffffffffff";
+    assert_eq!(rt; letters.to_string(alloc)?.as_str(), lower);
+    let refused: [(&[u8], FromHexError); 4] = [
+        (b"0x0", FromHexError::OddLength),
+        (b"0xzz", FromHexError::InvalidStringLength),
+        (
+            COUNTED.get(..64).unwrap_or("").as_bytes(),
+            FromHexError::InvalidStringLength,
+        ),
+        (
+            b"0xzz00000000000000000000000000000000000000000000000000000000000000",
+            FromHexError::InvalidHexCharacter { c: 'z', index: 2 },
+        ),
+    ];
+    for (text, refusal) in refused {
+        assert_eq!(rt; Hash32::from_hex(alloc, text), Err(refusal));
+    }
+    Ok(())
+}
+
+// The address that EIP-55 gives as its first example: the case of letters carries a checksum there,
+// and does not matter here.
+#[test]
+fn texts_of_addresses(rt: HostRuntime) -> Result<(), Fail> {
+    let alloc = rt.alloc();
+    let address = Address20::from_hex(alloc, b"0x5aAeb6053F3E94C9b9A09f33669435E7Ef1BeAed")?;
+    let lower = "0x5aaeb6053f3e94c9b9a09f33669435e7ef1beaed";
+    assert_eq!(rt; address.to_string(alloc)?.as_str(), lower);
+    assert_eq!(rt; address.to_buffer().as_str(), lower);
+    assert_eq!(rt; Address20::from_hex(alloc, lower.as_bytes()), Ok(address));
+    let other_case = Address20::from_hex(alloc, b"5AAEB6053F3E94C9B9A09F33669435E7EF1BEAED");
+    assert_eq!(rt; other_case, Ok(address));
+    assert_eq!(rt;
+        format!(in alloc; "{address:?}")?.as_str(),
+        "Address20(0x5aaeb6053f3e94c9b9a09f33669435e7ef1beaed)"
+    );
+    assert_eq!(rt;
+        format!(in alloc;
+            "{:?} {:?}",
+            Hash32::from(counted()),
+            FixedBytes::from([1, 0xAB])
+        )?
+        .as_str(),
+        "Hash32(0x000102030405060708090a0b0c0d0e0f101112131415161718191a1b1c1d1e1f) FixedBytes(0x01ab)"
+    );
+    Ok(())
+}
+
+#[test]
+fn values_by_their_bytes(rt: HostRuntime) -> Result<(), Fail> {
+    let low = Address20::from([0xAB; 20]);
+    let high = Address20::from([0xAC; 20]);
+    assert_eq!(rt; low.cmp(&high), Ordering::Less);
+    assert_eq!(rt; low.partial_cmp(&low), Some(Ordering::Equal));
+    assert_ne!(rt; low, high);
+    let mut seen = HashSet::new(rt.alloc());
+    assert!(rt; seen.insert(low)?);
+    assert!(rt;
+        !seen.insert(Address20::from_hex(rt.alloc(), &[b'a', b'B'].repeat(rt.alloc(), 20)?)?)?
+    );
+    assert!(rt; !seen.contains(&high));
+    Ok(())
+}
+
+#[test]
+fn json_values(rt: HostRuntime) -> Result<(), Fail> {
+    let alloc = rt.alloc();
+    let number = json!(in alloc; 5)?;
+    assert_eq!(rt; Hash32::from_value(alloc, &number), Err(JsonError::NotText));
+    assert_eq!(rt;
+        Address20::from_value(alloc, &Value::Null),
+        Err(JsonError::NotText)
+    );
+    let address = Address20::from([7; 20]);
+    let value = address.to_value(alloc)?;
+    assert_eq!(rt; Address20::from_value(alloc, &value), Ok(address));
+    assert_eq!(rt;
+        Hash32::from_value(alloc, &value),
+        Err(JsonError::Hex(FromHexError::InvalidStringLength))
+    );
+    let hash = Hash32::from(counted());
+    assert_eq!(rt; hash.to_value(alloc)?.as_str(), Some(COUNTED));
+    assert_eq!(rt; Hash32::from_value(alloc, &hash.to_value(alloc)?), Ok(hash));
+    Ok(())
+}
