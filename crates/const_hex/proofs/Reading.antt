@@ -60,29 +60,29 @@ pub Reads-not_both : (t bs : List ℕ) (e : FromHexError) → Reads t (Ok bs) �
 Reads-not_both t bs e h k = let same = Reads-same t (Ok bs) (Err e) h k in cc same
 
 -- reading as n bytes leaves one answer
-pub ReadsSized-same : (t : List ℕ) (n : ℕ) (r s : Result (List ℕ) FromHexError) → ReadsSized t n r → ReadsSized t n s → r ≡ s
-ReadsSized-same t n (Ok a) (Ok b) h k = Reads-same t (Ok a) (Ok b) h.1 k.1
-ReadsSized-same t n (Ok a) (Err OddLength) h k = Reads-same t (Ok a) (Err OddLength) h.1 k
-ReadsSized-same t n (Ok a) (Err InvalidStringLength) h k = absurd (k.1 h.0)
-ReadsSized-same t n (Ok a) (Err (InvalidHexCharacter c i)) h k = Reads-same t (Ok a) (Err (InvalidHexCharacter c i)) h.1 k.1
-ReadsSized-same t n (Ok a) (Err NoMemory) h k = absurd k
-ReadsSized-same t n (Err OddLength) (Ok b) h k = Reads-same t (Err OddLength) (Ok b) h k.1
-ReadsSized-same t n (Err OddLength) (Err OddLength) h k = refl
-ReadsSized-same t n (Err OddLength) (Err InvalidStringLength) h k = absurd (even_not_odd (length t) k.0 h)
-ReadsSized-same t n (Err OddLength) (Err (InvalidHexCharacter c i)) h k = Reads-same t (Err OddLength) (Err (InvalidHexCharacter c i)) h k.1
-ReadsSized-same t n (Err OddLength) (Err NoMemory) h k = absurd k
-ReadsSized-same t n (Err InvalidStringLength) (Ok b) h k = absurd (h.1 k.0)
-ReadsSized-same t n (Err InvalidStringLength) (Err OddLength) h k = absurd (even_not_odd (length t) h.0 k)
-ReadsSized-same t n (Err InvalidStringLength) (Err InvalidStringLength) h k = refl
-ReadsSized-same t n (Err InvalidStringLength) (Err (InvalidHexCharacter c i)) h k = absurd (h.1 k.0)
-ReadsSized-same t n (Err InvalidStringLength) (Err NoMemory) h k = absurd k
-ReadsSized-same t n (Err (InvalidHexCharacter c i)) (Ok b) h k = Reads-same t (Err (InvalidHexCharacter c i)) (Ok b) h.1 k.1
-ReadsSized-same t n (Err (InvalidHexCharacter c i)) (Err OddLength) h k = Reads-same t (Err (InvalidHexCharacter c i)) (Err OddLength) h.1 k
-ReadsSized-same t n (Err (InvalidHexCharacter c i)) (Err InvalidStringLength) h k = absurd (k.1 h.0)
-ReadsSized-same t n (Err (InvalidHexCharacter c i)) (Err (InvalidHexCharacter d j)) h k =
+pub one_sized_answer : (t : List ℕ) (n : ℕ) (r s : Result (List ℕ) FromHexError) → ReadsSized t n r → ReadsSized t n s → r ≡ s
+one_sized_answer t n (Ok a) (Ok b) h k = Reads-same t (Ok a) (Ok b) h.1 k.1
+one_sized_answer t n (Ok a) (Err OddLength) h k = Reads-same t (Ok a) (Err OddLength) h.1 k
+one_sized_answer t n (Ok a) (Err InvalidStringLength) h k = absurd (k.1 h.0)
+one_sized_answer t n (Ok a) (Err (InvalidHexCharacter c i)) h k = Reads-same t (Ok a) (Err (InvalidHexCharacter c i)) h.1 k.1
+one_sized_answer t n (Ok a) (Err NoMemory) h k = absurd k
+one_sized_answer t n (Err OddLength) (Ok b) h k = Reads-same t (Err OddLength) (Ok b) h k.1
+one_sized_answer t n (Err OddLength) (Err OddLength) h k = refl
+one_sized_answer t n (Err OddLength) (Err InvalidStringLength) h k = absurd (even_not_odd (length t) k.0 h)
+one_sized_answer t n (Err OddLength) (Err (InvalidHexCharacter c i)) h k = Reads-same t (Err OddLength) (Err (InvalidHexCharacter c i)) h k.1
+one_sized_answer t n (Err OddLength) (Err NoMemory) h k = absurd k
+one_sized_answer t n (Err InvalidStringLength) (Ok b) h k = absurd (h.1 k.0)
+one_sized_answer t n (Err InvalidStringLength) (Err OddLength) h k = absurd (even_not_odd (length t) h.0 k)
+one_sized_answer t n (Err InvalidStringLength) (Err InvalidStringLength) h k = refl
+one_sized_answer t n (Err InvalidStringLength) (Err (InvalidHexCharacter c i)) h k = absurd (h.1 k.0)
+one_sized_answer t n (Err InvalidStringLength) (Err NoMemory) h k = absurd k
+one_sized_answer t n (Err (InvalidHexCharacter c i)) (Ok b) h k = Reads-same t (Err (InvalidHexCharacter c i)) (Ok b) h.1 k.1
+one_sized_answer t n (Err (InvalidHexCharacter c i)) (Err OddLength) h k = Reads-same t (Err (InvalidHexCharacter c i)) (Err OddLength) h.1 k
+one_sized_answer t n (Err (InvalidHexCharacter c i)) (Err InvalidStringLength) h k = absurd (k.1 h.0)
+one_sized_answer t n (Err (InvalidHexCharacter c i)) (Err (InvalidHexCharacter d j)) h k =
     Reads-same t (Err (InvalidHexCharacter c i)) (Err (InvalidHexCharacter d j)) h.1 k.1
-ReadsSized-same t n (Err (InvalidHexCharacter c i)) (Err NoMemory) h k = absurd k
-ReadsSized-same t n (Err NoMemory) s h k = absurd h
+one_sized_answer t n (Err (InvalidHexCharacter c i)) (Err NoMemory) h k = absurd k
+one_sized_answer t n (Err NoMemory) s h k = absurd h
 
 -- every text has an answer as n bytes
 pub ReadsSized-some : (t : List ℕ) (n : ℕ) → (r : Result (List ℕ) FromHexError) × ReadsSized t n r
@@ -99,11 +99,11 @@ ReadsSized-some t n = go (Reads-some t) (cases_eq (length (body_of t)) (2 * n))
     go (Err (InvalidHexCharacter c i), h) (inr other) = (Err InvalidStringLength, (h.0, other))
 
 -- checking leaves one answer
-pub Checks-same : (t : List ℕ) (r s : Result Unit FromHexError) → Checks t r → Checks t s → r ≡ s
-Checks-same t (Ok u) (Ok v) h k = refl
-Checks-same t (Ok u) (Err f) h k = absurd (Reads-not_both t h.0 f h.1 k)
-Checks-same t (Err e) (Ok v) h k = absurd (Reads-not_both t k.0 e k.1 h)
-Checks-same t (Err e) (Err f) h k = let same = Reads-same t (Err e) (Err f) h k in cc same
+pub one_check_answer : (t : List ℕ) (r s : Result Unit FromHexError) → Checks t r → Checks t s → r ≡ s
+one_check_answer t (Ok u) (Ok v) h k = refl
+one_check_answer t (Ok u) (Err f) h k = absurd (Reads-not_both t h.0 f h.1 k)
+one_check_answer t (Err e) (Ok v) h k = absurd (Reads-not_both t k.0 e k.1 h)
+one_check_answer t (Err e) (Err f) h k = let same = Reads-same t (Err e) (Err f) h k in cc same
 
 -- ---- what the calls answer
 

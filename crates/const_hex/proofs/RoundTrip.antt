@@ -9,7 +9,7 @@ use Rattle.const_hex.specs.Bodies.{body_of, lowered}
 use Rattle.const_hex.specs.Answers.{Reads, ReadsSized, IsEven, AreBytes}
 use Rattle.const_hex.specs.declared.error.FromHexError.{FromHexError}
 use Rattle.const_hex.specs.declared.error.FromHexError.TheVariants.{OddLength, InvalidStringLength, InvalidHexCharacter, NoMemory}
-use Rattle.const_hex.proofs.Reading.{Reads-same, ReadsSized-same}
+use Rattle.const_hex.proofs.Reading.{Reads-same, one_sized_answer}
 use Rattle.const_hex.proofs.Lowering.{agree}
 
 -- the second byte of a text is no `x`
@@ -55,7 +55,7 @@ pub sized_round_trip : (n : ℕ) (t : List ℕ) (r : Result (List ℕ) FromHexEr
 sized_round_trip n t r h prefix up bs bytes len e =
     let read = Reads-full_text prefix up bs bytes in
     let twice : length (body_of (full_text prefix up bs)) ≡ 2 * n = rw (body-full_text prefix up bs, length-hex_text up bs, len) refl in
-    ReadsSized-same t n r (Ok bs) h (rw e (twice, read))
+    one_sized_answer t n r (Ok bs) h (rw e (twice, read))
 
 -- two texts that read as n bytes give the same exactly where their bodies differ in case alone
 pub sized_agree : (n : ℕ) (t : List ℕ) (r : Result (List ℕ) FromHexError) → ReadsSized t n r

@@ -168,6 +168,7 @@ pub fn decode_to_array<const N: usize>(input: &[u8]) -> Result<[u8; N], FromHexE
 /// assert_eq!(rt; &bytes, b"kiwi");
 /// ```
 #[inline]
+#[tactic(auto, using(crate::proofs::Reading::one_sized_answer))]
 pub fn const_decode_to_array<const N: usize>(input: &[u8]) -> Result<[u8; N], FromHexError>
     ensures answer { ReadsSized input.now N result }
     // No other answer is one of the text's.
