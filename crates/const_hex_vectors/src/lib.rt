@@ -9,9 +9,9 @@ mod decoding;
 #[cfg(test)]
 mod encoding;
 #[cfg(test)]
-mod kernels;
+mod exhausted;
 #[cfg(test)]
-mod memory;
+mod kernels;
 pub mod noting;
 pub mod own_kernel;
 pub mod readers;

@@ -1,5 +1,6 @@
 //! What no contract says: worked inputs, printed words, and devices that fail.
 
+mod answers;
 mod devices;
 mod failures;
 

@@ -1,0 +1,55 @@
+//! The values that calls are made of.
+
+use serde_json::{Map, Number, Value};
+use std::alloc::{AllocError, Global};
+
+/// The bytes that are written as text.
+pub(crate) const KIWI: &[u8] = b"kiwi";
+
+/// A text of these bytes.
+pub(crate) const TEXT: &str = "0x6b697769";
+
+/// A text of odd length.
+pub(crate) const ODD: &str = "0x1";
+
+/// A text with characters that are no digits.
+pub(crate) const BAD: &str = "zz";
+
+/// Bytes of which 32 are a step of the widest kernel, 16 one of the narrower, and 9 a rest.
+pub(crate) const BYTES: [u8; 57] = [0xAB; 57];
+
+/// The digits of these bytes.
+pub(crate) const DIGITS: [u8; 114] = [b'a'; 114];
+
+/// Bytes whose text goes to a sink in three calls.
+pub(crate) const DATA: [u8; 4097] = [0xAB; 4097];
+
+/// The values that take memory.
+#[derive(Drop)]
+pub(crate) struct Inputs {
+    pub(crate) vector: Vec<u8>,
+    pub(crate) string: String,
+    pub(crate) texts: [Value; 3],
+    pub(crate) no_texts: [Value; 5],
+}
+
+impl Inputs {
+    pub(crate) fn new(alloc: Global) -> Result<Inputs, AllocError> {
+        Ok(Inputs {
+            vector: KIWI.to_vec(alloc)?,
+            string: String::from_str(alloc, "kiwi")?,
+            texts: [
+                Value::String(String::from_str(alloc, TEXT)?),
+                Value::String(String::from_str(alloc, ODD)?),
+                Value::String(String::from_str(alloc, BAD)?),
+            ],
+            no_texts: [
+                Value::Null,
+                Value::Bool(true),
+                Value::Number(Number::from(5u8)),
+                serde_json::json!(in alloc; ["0x6b"])?,
+                serde_json::json!(in alloc; {"text": "0x6b"})?,
+            ],
+        })
+    }
+}

@@ -1,0 +1,59 @@
+//! Outputs, sinks and streams.
+
+use crate::counting::Counting;
+use crate::inputs::DATA;
+use crate::line::tell;
+use const_hex::serde::serialize_inner;
+use const_hex::{BufferedHex, BufferedOutput, Output, PieceSink, SinkOutput, SliceOutput};
+use std::alloc::Global;
+use std::io;
+
+pub(crate) fn tell_outputs(rt: &impl Print) -> io::Result<()> {
+    let mut text = [0; 6];
+    let mut output = BufferedOutput::<SliceOutput<'_>, 4>::new(SliceOutput::new(&mut text));
+    output.write(b"abc");
+    output.write_byte(b'd');
+    tell(rt, "BufferedOutput::remaining", &output.remaining())?;
+    output.write(b"ef");
+    let left = output.finish().remaining();
+    tell(
+        rt,
+        "BufferedOutput::finish, SliceOutput::remaining",
+        &(left, text),
+    )?;
+    let mut sink = Counting::new(2);
+    let mut output = SinkOutput::new(&mut sink);
+    output.write(b"one");
+    output.write_byte(b'2');
+    output.write(b"three");
+    tell(rt, "SinkOutput::remaining", &output.remaining())?;
+    let done = output.finish();
+    tell(rt, "SinkOutput::finish", &(done, sink.calls, sink.bytes))
+}
+
+pub(crate) fn tell_streams(rt: &impl Print, alloc: Global) -> io::Result<()> {
+    let mut sink = Counting::new(0);
+    let done = BufferedHex::<true, false>::new(&DATA).write_to(&mut sink);
+    tell(
+        rt,
+        "write_to a sink that counts",
+        &(done, sink.calls, sink.bytes),
+    )?;
+    for count in [0, 128, 129, 4097] {
+        let mut sink = Counting::new(0);
+        let done = serialize_inner::<false, false, Counting>(&DATA[..count], &mut sink);
+        println!(rt;
+            "serialize_inner of {count} bytes = {done:?} {} {}",
+            sink.calls, sink.bytes
+        )?;
+    }
+    let mut sink = Counting::new(1);
+    let done = serialize_inner::<true, true, Counting>(&DATA[..128], &mut sink);
+    tell(rt, "serialize_inner, refused", &(done, sink.calls))?;
+    let sink = PieceSink::new(alloc, 1);
+    tell(
+        rt,
+        "PieceSink::new",
+        &(sink.calls(), sink.pieces().len(), sink.no_memory()),
+    )
+}

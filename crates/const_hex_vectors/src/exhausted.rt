@@ -1,0 +1,60 @@
+//! What calls answer where no memory is left at all.
+
+use const_hex::{FromHexError, decode, encode};
+use std::alloc::{AllocError, Global};
+use std::fs;
+use std::rt::Files;
+use std::test::Fail;
+
+/// The most blocks that are reserved.
+const BLOCKS: usize = 60_000;
+
+/// Whether the machine counts what is reserved, and not what is used: then a reserved block would
+/// be lacking elsewhere. Also true where that can't be read.
+fn counts_reserved(rt: &(impl Files + AllocGlobal)) -> bool {
+    match fs::read_to_string(rt, "/proc/sys/vm/overcommit_memory") {
+        Ok(text) => text.trim() == "2",
+        Err(_) => true,
+    }
+}
+
+/// Reserves blocks, the largest first, until not one byte is left. None is written to, so none
+/// uses memory.
+fn reserve_all(alloc: Global, blocks: &mut Vec<Vec<u8>>) {
+    let mut size: usize = 1 << 46;
+    for _ in 0..BLOCKS {
+        match Vec::with_capacity(alloc, size) {
+            Ok(block) => {
+                if blocks.push(block).is_err() {
+                    return;
+                }
+            }
+            Err(AllocError) if size > 1 => size /= 2,
+            Err(AllocError) => return,
+        }
+    }
+}
+
+/// Passes without a claim where the machine refuses nothing.
+#[test]
+fn names_refused_memory(rt: HostRuntime) -> Result<(), Fail> {
+    if counts_reserved(&rt) {
+        return Ok(());
+    }
+    let alloc = rt.alloc();
+    let mut blocks = Vec::with_capacity(alloc, BLOCKS)?;
+    reserve_all(alloc, &mut blocks);
+    let is_refused = Vec::<u8>::with_capacity(alloc, 1).is_err();
+    let encoded = encode(alloc, b"kiwi").err();
+    let decoded = ["6b697769", "0x1", "zz"].map(|text| decode(alloc, text.as_bytes()).err());
+    drop(blocks);
+    if is_refused {
+        let no_memory = Some(FromHexError::NoMemory);
+        assert_eq!(rt; encoded, Some(AllocError));
+        assert_eq!(rt;
+            decoded,
+            [no_memory, Some(FromHexError::OddLength), no_memory]
+        );
+    }
+    Ok(())
+}

@@ -1,0 +1,55 @@
+/* Stands before the C library's allocator, and refuses requests for memory.
+ *
+ * Built as a shared library and named in LD_PRELOAD, it takes every call of malloc, calloc and
+ * realloc of a program. Once the program has started it counts them. It refuses the requests from
+ * number REFUSE_FROM to number REFUSE_TO, two variables of the environment, as the C library does
+ * where there is no memory: with a null pointer. All others it passes on. Where REFUSE_FROM is not
+ * set, it refuses none.
+ *
+ * For each request it writes a line to file descriptor 3: "> refused" or "> request". Where that
+ * is the program's own output, the lines show which request was made for which line of output.
+ */
+#include <errno.h>
+#include <stddef.h>
+#include <stdlib.h>
+#include <unistd.h>
+
+/* The C library's own names of its allocator. */
+void *__libc_malloc(size_t size);
+void *__libc_calloc(size_t count, size_t size);
+void *__libc_realloc(void *block, size_t size);
+
+static int has_started;
+static unsigned long requests, refuse_from, refuse_to;
+
+static unsigned long number(const char *name) {
+    const char *text = getenv(name);
+    return text ? strtoul(text, NULL, 10) : 0;
+}
+
+__attribute__((constructor)) static void start(void) {
+    refuse_from = number("REFUSE_FROM");
+    refuse_to = number("REFUSE_TO");
+    has_started = 1;
+}
+
+/* Counts a request and notes it. Says whether it is to be refused. */
+static int is_refused(void) {
+    if (!has_started) return 0;
+    requests++;
+    int refused = refuse_from > 0 && refuse_from <= requests && requests <= refuse_to;
+    ssize_t written = write(3, refused ? "> refused\n" : "> request\n", 10);
+    (void)written; /* the marks are looked for by who wants them */
+    errno = ENOMEM;
+    return refused;
+}
+
+void *malloc(size_t size) { return is_refused() ? NULL : __libc_malloc(size); }
+
+void *calloc(size_t count, size_t size) {
+    return is_refused() ? NULL : __libc_calloc(count, size);
+}
+
+void *realloc(void *block, size_t size) {
+    return is_refused() ? NULL : __libc_realloc(block, size);
+}
