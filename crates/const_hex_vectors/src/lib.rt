@@ -9,6 +9,8 @@ mod decoding;
 #[cfg(test)]
 mod encoding;
 #[cfg(test)]
+mod hashes;
+#[cfg(test)]
 mod kernels;
 #[cfg(test)]
 mod memory;
