@@ -1,4 +1,4 @@
-"""Makes this codec's answers of the Rust crate's, by one rule.
+"""Makes the stored answers of this replay of the Rust crate's, by one rule.
 
 The Rust crate's `check` counts the place of a bad character from the start of the whole text, its
 other calls from the start of the text behind the prefix. This codec always counts from the start of
@@ -6,37 +6,37 @@ the whole text. So the place that another call than `check` names moves by two b
 nothing else differs.
 
     python3 count_from_the_whole_text.py QUESTIONS THEIR_ANSWERS > OUR_ANSWERS
+    python3 count_from_the_whole_text.py --back QUESTIONS OUR_ANSWERS > THEIR_ANSWERS
 
-The last line on standard error counts the answers that differ.
+The line on standard error counts the answers that differ.
 """
 
 import re
 import sys
 
 
-def moved(question, answer):
-    """The answer to one question, with its place counted from the whole text."""
+def moved(question, answer, by):
+    """The answer to a question, with its place moved where the question's text has a prefix."""
     operation, text = question.split()[:2]
     if operation == "check" or not re.match("30(78|58)", text):
         return answer
-    if answer.startswith("MSG "):
-        message = bytes.fromhex(answer[4:]).decode()
-        return "MSG " + two_more(r"( at position )(\d+)$", message).encode().hex()
-    return two_more(r"^(ERR InvalidHexCharacter \d+ )(\d+)", answer)
+    return re.sub(
+        r"^(ERR InvalidHexCharacter \d+ )(\d+)",
+        lambda found: found[1] + str(int(found[2]) + by),
+        answer,
+    )
 
 
-def two_more(pattern, text):
-    return re.sub(pattern, lambda found: found[1] + str(int(found[2]) + 2), text)
-
-
-def main(questions, answers):
+def main(words):
+    by = -2 if words[0] == "--back" else 2
+    questions, answers = words[-2:]
     differ = 0
     with open(questions) as asked, open(answers) as answered:
         for question, answer in zip(asked, answered, strict=True):
-            ours = moved(question, answer.rstrip("\n"))
-            differ += ours != answer.rstrip("\n")
-            print(ours)
+            moved_answer = moved(question, answer, by)
+            differ += moved_answer != answer
+            print(moved_answer, end="")
     print(f"{differ} answers differ", file=sys.stderr)
 
 
-main(*sys.argv[1:])
+main(sys.argv[1:])

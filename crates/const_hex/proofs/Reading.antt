@@ -35,52 +35,52 @@ NamesFirstBad-same t (InvalidHexCharacter c i) (InvalidHexCharacter d j) h k =
     cc (e, ec, ed, ei, ej)
 
 -- reading leaves one answer
-pub Reads-same : (t : List ℕ) (r s : Result (List ℕ) FromHexError) → Reads t r → Reads t s → r ≡ s
-Reads-same t (Ok a) (Ok b) h k = ap Ok (Spells-same (body_of t) a b h.1 k.1)
-Reads-same t (Ok a) (Err OddLength) h k = absurd (even_not_odd (length t) h.0 k)
-Reads-same t (Ok a) (Err InvalidStringLength) h k = absurd k
-Reads-same t (Ok a) (Err (InvalidHexCharacter c i)) h k = absurd (Spells-no_bad (body_of t) a k.1.0 h.1 k.1.1)
-Reads-same t (Ok a) (Err NoMemory) h k = absurd k
-Reads-same t (Err OddLength) (Ok b) h k = absurd (even_not_odd (length t) k.0 h)
-Reads-same t (Err OddLength) (Err OddLength) h k = refl
-Reads-same t (Err OddLength) (Err InvalidStringLength) h k = absurd k
-Reads-same t (Err OddLength) (Err (InvalidHexCharacter c i)) h k = absurd (even_not_odd (length t) k.0 h)
-Reads-same t (Err OddLength) (Err NoMemory) h k = absurd k
-Reads-same t (Err InvalidStringLength) s h k = absurd h
-Reads-same t (Err (InvalidHexCharacter c i)) (Ok b) h k = absurd (Spells-no_bad (body_of t) b h.1.0 k.1 h.1.1)
-Reads-same t (Err (InvalidHexCharacter c i)) (Err OddLength) h k = absurd (even_not_odd (length t) h.0 k)
-Reads-same t (Err (InvalidHexCharacter c i)) (Err InvalidStringLength) h k = absurd k
-Reads-same t (Err (InvalidHexCharacter c i)) (Err (InvalidHexCharacter d j)) h k =
+pub one_answer : (t : List ℕ) (r s : Result (List ℕ) FromHexError) → Reads t r → Reads t s → r ≡ s
+one_answer t (Ok a) (Ok b) h k = ap Ok (Spells-same (body_of t) a b h.1 k.1)
+one_answer t (Ok a) (Err OddLength) h k = absurd (even_not_odd (length t) h.0 k)
+one_answer t (Ok a) (Err InvalidStringLength) h k = absurd k
+one_answer t (Ok a) (Err (InvalidHexCharacter c i)) h k = absurd (Spells-no_bad (body_of t) a k.1.0 h.1 k.1.1)
+one_answer t (Ok a) (Err NoMemory) h k = absurd k
+one_answer t (Err OddLength) (Ok b) h k = absurd (even_not_odd (length t) k.0 h)
+one_answer t (Err OddLength) (Err OddLength) h k = refl
+one_answer t (Err OddLength) (Err InvalidStringLength) h k = absurd k
+one_answer t (Err OddLength) (Err (InvalidHexCharacter c i)) h k = absurd (even_not_odd (length t) k.0 h)
+one_answer t (Err OddLength) (Err NoMemory) h k = absurd k
+one_answer t (Err InvalidStringLength) s h k = absurd h
+one_answer t (Err (InvalidHexCharacter c i)) (Ok b) h k = absurd (Spells-no_bad (body_of t) b h.1.0 k.1 h.1.1)
+one_answer t (Err (InvalidHexCharacter c i)) (Err OddLength) h k = absurd (even_not_odd (length t) h.0 k)
+one_answer t (Err (InvalidHexCharacter c i)) (Err InvalidStringLength) h k = absurd k
+one_answer t (Err (InvalidHexCharacter c i)) (Err (InvalidHexCharacter d j)) h k =
     ap Err (NamesFirstBad-same t (InvalidHexCharacter c i) (InvalidHexCharacter d j) h.1 k.1)
-Reads-same t (Err (InvalidHexCharacter c i)) (Err NoMemory) h k = absurd k
-Reads-same t (Err NoMemory) s h k = absurd h
+one_answer t (Err (InvalidHexCharacter c i)) (Err NoMemory) h k = absurd k
+one_answer t (Err NoMemory) s h k = absurd h
 
 -- no text is read as bytes and refused
 pub Reads-not_both : (t bs : List ℕ) (e : FromHexError) → Reads t (Ok bs) → Reads t (Err e) → ⊥
-Reads-not_both t bs e h k = let same = Reads-same t (Ok bs) (Err e) h k in cc same
+Reads-not_both t bs e h k = let same = one_answer t (Ok bs) (Err e) h k in cc same
 
 -- reading as n bytes leaves one answer
 pub one_sized_answer : (t : List ℕ) (n : ℕ) (r s : Result (List ℕ) FromHexError) → ReadsSized t n r → ReadsSized t n s → r ≡ s
-one_sized_answer t n (Ok a) (Ok b) h k = Reads-same t (Ok a) (Ok b) h.1 k.1
-one_sized_answer t n (Ok a) (Err OddLength) h k = Reads-same t (Ok a) (Err OddLength) h.1 k
+one_sized_answer t n (Ok a) (Ok b) h k = one_answer t (Ok a) (Ok b) h.1 k.1
+one_sized_answer t n (Ok a) (Err OddLength) h k = one_answer t (Ok a) (Err OddLength) h.1 k
 one_sized_answer t n (Ok a) (Err InvalidStringLength) h k = absurd (k.1 h.0)
-one_sized_answer t n (Ok a) (Err (InvalidHexCharacter c i)) h k = Reads-same t (Ok a) (Err (InvalidHexCharacter c i)) h.1 k.1
+one_sized_answer t n (Ok a) (Err (InvalidHexCharacter c i)) h k = one_answer t (Ok a) (Err (InvalidHexCharacter c i)) h.1 k.1
 one_sized_answer t n (Ok a) (Err NoMemory) h k = absurd k
-one_sized_answer t n (Err OddLength) (Ok b) h k = Reads-same t (Err OddLength) (Ok b) h k.1
+one_sized_answer t n (Err OddLength) (Ok b) h k = one_answer t (Err OddLength) (Ok b) h k.1
 one_sized_answer t n (Err OddLength) (Err OddLength) h k = refl
 one_sized_answer t n (Err OddLength) (Err InvalidStringLength) h k = absurd (even_not_odd (length t) k.0 h)
-one_sized_answer t n (Err OddLength) (Err (InvalidHexCharacter c i)) h k = Reads-same t (Err OddLength) (Err (InvalidHexCharacter c i)) h k.1
+one_sized_answer t n (Err OddLength) (Err (InvalidHexCharacter c i)) h k = one_answer t (Err OddLength) (Err (InvalidHexCharacter c i)) h k.1
 one_sized_answer t n (Err OddLength) (Err NoMemory) h k = absurd k
 one_sized_answer t n (Err InvalidStringLength) (Ok b) h k = absurd (h.1 k.0)
 one_sized_answer t n (Err InvalidStringLength) (Err OddLength) h k = absurd (even_not_odd (length t) h.0 k)
 one_sized_answer t n (Err InvalidStringLength) (Err InvalidStringLength) h k = refl
 one_sized_answer t n (Err InvalidStringLength) (Err (InvalidHexCharacter c i)) h k = absurd (h.1 k.0)
 one_sized_answer t n (Err InvalidStringLength) (Err NoMemory) h k = absurd k
-one_sized_answer t n (Err (InvalidHexCharacter c i)) (Ok b) h k = Reads-same t (Err (InvalidHexCharacter c i)) (Ok b) h.1 k.1
-one_sized_answer t n (Err (InvalidHexCharacter c i)) (Err OddLength) h k = Reads-same t (Err (InvalidHexCharacter c i)) (Err OddLength) h.1 k
+one_sized_answer t n (Err (InvalidHexCharacter c i)) (Ok b) h k = one_answer t (Err (InvalidHexCharacter c i)) (Ok b) h.1 k.1
+one_sized_answer t n (Err (InvalidHexCharacter c i)) (Err OddLength) h k = one_answer t (Err (InvalidHexCharacter c i)) (Err OddLength) h.1 k
 one_sized_answer t n (Err (InvalidHexCharacter c i)) (Err InvalidStringLength) h k = absurd (k.1 h.0)
 one_sized_answer t n (Err (InvalidHexCharacter c i)) (Err (InvalidHexCharacter d j)) h k =
-    Reads-same t (Err (InvalidHexCharacter c i)) (Err (InvalidHexCharacter d j)) h.1 k.1
+    one_answer t (Err (InvalidHexCharacter c i)) (Err (InvalidHexCharacter d j)) h.1 k.1
 one_sized_answer t n (Err (InvalidHexCharacter c i)) (Err NoMemory) h k = absurd k
 one_sized_answer t n (Err NoMemory) s h k = absurd h
 
@@ -103,7 +103,7 @@ pub one_check_answer : (t : List ℕ) (r s : Result Unit FromHexError) → Check
 one_check_answer t (Ok u) (Ok v) h k = refl
 one_check_answer t (Ok u) (Err f) h k = absurd (Reads-not_both t h.0 f h.1 k)
 one_check_answer t (Err e) (Ok v) h k = absurd (Reads-not_both t k.0 e k.1 h)
-one_check_answer t (Err e) (Err f) h k = let same = Reads-same t (Err e) (Err f) h k in cc same
+one_check_answer t (Err e) (Err f) h k = let same = one_answer t (Err e) (Err f) h k in cc same
 
 -- ---- what the calls answer
 

@@ -9,7 +9,7 @@ use Rattle.const_hex.specs.Bodies.{body_of, lowered}
 use Rattle.const_hex.specs.Answers.{Reads, ReadsSized, IsEven, AreBytes}
 use Rattle.const_hex.specs.declared.error.FromHexError.{FromHexError}
 use Rattle.const_hex.specs.declared.error.FromHexError.TheVariants.{OddLength, InvalidStringLength, InvalidHexCharacter, NoMemory}
-use Rattle.const_hex.proofs.Reading.{Reads-same, one_sized_answer}
+use Rattle.const_hex.proofs.Reading.{one_answer, one_sized_answer}
 use Rattle.const_hex.proofs.Lowering.{agree}
 
 -- the second byte of a text is no `x`
@@ -42,10 +42,10 @@ round_trip {V} items t r ok err prefix up bs h e =
   where
     go : (r' : Result V FromHexError) → IfOk r' (λ v. Reads t (Ok (items v))) → IfErr r' (λ e. e ≢ NoMemory → Reads t (Err e)) → Reads t (Ok bs)
         → MatchResult r' (λ v. items v ≡ bs) (λ f. f ≡ NoMemory)
-    go (Ok v) ok err read = let same = Reads-same t (Ok (items v)) (Ok bs) ok read in cc same
-    go (Err OddLength) ok err read = let same = Reads-same t (Ok bs) (Err OddLength) read (err (λ e. cc e)) in cc same
+    go (Ok v) ok err read = let same = one_answer t (Ok (items v)) (Ok bs) ok read in cc same
+    go (Err OddLength) ok err read = let same = one_answer t (Ok bs) (Err OddLength) read (err (λ e. cc e)) in cc same
     go (Err InvalidStringLength) ok err read = absurd (err (λ e. cc e))
-    go (Err (InvalidHexCharacter c i)) ok err read = let same = Reads-same t (Ok bs) (Err (InvalidHexCharacter c i)) read (err (λ e. cc e)) in cc same
+    go (Err (InvalidHexCharacter c i)) ok err read = let same = one_answer t (Ok bs) (Err (InvalidHexCharacter c i)) read (err (λ e. cc e)) in cc same
     go (Err NoMemory) ok err read = refl
 
 -- the text of n bytes reads as these, and has no other answer

@@ -41,7 +41,7 @@ ReadsOwned bytes t (Err InvalidStringLength) = ⊥
 ReadsOwned bytes t (Err (InvalidHexCharacter c i)) = Reads t (Err (InvalidHexCharacter c i))
 ReadsOwned bytes t (Err NoMemory) = IsEven (length t)
 
--- the answers of a type of one's own: those for bytes, of which a value has its own
+-- the answers of a type of one's own: those for bytes, where a value stands for its bytes
 abbrev pub ReadsAs : {V : Type 0} → (V → List ℕ) → (List ℕ → Result (List ℕ) FromHexError → Type 0) → List ℕ → Result V FromHexError → Type 0
 ReadsAs bytes answers t (Ok v) = answers t (Ok (bytes v))
 ReadsAs bytes answers t (Err e) = answers t (Err e)

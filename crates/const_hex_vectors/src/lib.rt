@@ -11,6 +11,8 @@ mod encoding;
 #[cfg(test)]
 mod exhausted;
 #[cfg(test)]
+mod hashes;
+#[cfg(test)]
 mod kernels;
 pub mod noting;
 pub mod own_kernel;

@@ -1,5 +1,5 @@
 -- Values of a fixed count of bytes.
-use Rattle.std.specs.Prelude.{◌≡◌, ℕ, List, Result, Ok, Err}
+use Rattle.std.specs.Prelude.{ℕ, List, Result}
 use Rattle.const_hex.specs.Answers.{ReadsSized}
 use Rattle.const_hex.specs.Types.{ReadsAs}
 use Rattle.const_hex.specs.declared.error.FromHexError.{FromHexError}
@@ -12,8 +12,3 @@ fixed_bytes v = v.bytes
 -- the answer of reading a text as such a value: that of reading it as n bytes
 abbrev pub ReadsFixed : (n : ℕ) → List ℕ → Result (FixedBytes n) FromHexError → Type 0
 ReadsFixed n = ReadsAs fixed_bytes (λ t r. ReadsSized t n r)
-
--- the answer is the value of these bytes, and no refusal
-abbrev pub IsValueOf : {n : ℕ} {E : Type 0} → List ℕ → Result (FixedBytes n) E → Type 0
-IsValueOf bs (Ok v) = fixed_bytes v ≡ bs
-IsValueOf bs (Err e) = ⊥

@@ -1,6 +1,6 @@
 //! A value of a fixed count of bytes, its text and its JSON string.
 
-ghost use Rattle.std.specs.Prelude.{◌≡◌, ◌↔◌, ℕ, List, Bool, length, true, false, Some, None, Ok, Err, IfOk, IfSome};
+ghost use Rattle.std.specs.Prelude.{◌≡◌, ◌↔◌, ℕ, List, Bool, length, true, false, Some, None, Ok, Err, IfOk, IfSome, MatchResult};
 ghost use Rattle.serde_json.specs.Data.{string};
 ghost use Rattle.serde_json.specs.Find.{as_str};
 ghost use Rattle.serde_json.specs.View.{view};
@@ -11,7 +11,7 @@ ghost use Rattle.const_hex.specs.Texts.{full_text};
 ghost use Rattle.const_hex.specs.TypeLaws.{ReadsAs-faithful, ReadsSized-faithful};
 ghost use Rattle.const_hex.specs.Types.{IsCount};
 ghost use Rattle.const_hex.specs.declared.serde.error.JsonError.TheVariants.{NotText};
-ghost use Rattle.hash_hex.specs.Fixed.{fixed_bytes, IsValueOf, ReadsFixed};
+ghost use Rattle.hash_hex.specs.Fixed.{fixed_bytes, ReadsFixed};
 ghost use Rattle.hash_hex.specs.declared.fixed.FixedBytes.{FixedBytes};
 
 use const_hex::serde::JsonError;
@@ -109,7 +109,8 @@ impl<const N: usize> FromHex for FixedBytes<N> {
         ensures answers { ReadsFixed N hex.now result }
         // The text of N bytes, with or without a prefix and in either case, gives their value.
         ensures round_trip { (prefix up : Bool) (bs : List ℕ) → AreBytes bs → length bs ≡ N
-            → hex.now ≡ full_text prefix up bs → IsValueOf bs result }
+            → hex.now ≡ full_text prefix up bs
+            → MatchResult result (λ v. fixed_bytes v ≡ bs) (λ _. ⊥) }
         // Another text gives an equal value exactly where the bodies differ in case alone.
         ensures agree { (t : List ℕ) (w : FixedBytes N) → ReadsFixed N t (Ok w)
             → IfOk result (λ v. (w ≡ v) ↔ (lowered (body_of t) ≡ lowered (body_of hex.now))) }

@@ -11,9 +11,6 @@
 mod address;
 mod fixed;
 mod hash;
-#[cfg(test)]
-mod tests;
-
 pub use crate::address::Address20;
 pub use crate::fixed::FixedBytes;
 pub use crate::hash::Hash32;

@@ -1,6 +1,6 @@
 //! Whether a text can be decoded.
 
-ghost use Rattle.std.specs.Prelude.{◌≡◌, ℕ, List, ◌↔◌, Result, Ok, IsOk, IsTrue, IfErr, OnOk};
+ghost use Rattle.std.specs.Prelude.{◌≡◌, ℕ, List, ◌↔◌, Result, Ok, IsOk, IsTrue};
 ghost use Rattle.const_hex_arch.specs.Texts.{AllDigits};
 ghost use Rattle.const_hex.specs.Answers.{Reads, Checks};
 ghost use Rattle.const_hex.specs.declared.error.FromHexError.{FromHexError};
@@ -57,7 +57,7 @@ pub fn check_with<K: Kernel>(input: &[u8]) -> Result<(), FromHexError>
 pub fn const_check(input: &[u8]) -> Result<(), FromHexError>
     ensures answer { Checks input.now result }
     ensures accepts { IsOk result ↔ ((bs : List ℕ) × Reads input.now (Ok bs)) }
-    // No other answer is one of the text's.
+    // Only this answer meets `Checks`.
     ensures alone { (r : Result Unit FromHexError) → Checks input.now r → r ≡ result }
 {
     check(input)

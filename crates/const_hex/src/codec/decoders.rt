@@ -145,6 +145,7 @@ pub fn decode_to_slice_with<K: Kernel>(input: &[u8], output: &mut [u8]) -> Resul
 /// assert_eq!(rt; &bytes, b"kiwi");
 /// ```
 #[inline]
+#[tactic(auto, using(crate::proofs::RoundTrip::sized_round_trip, crate::proofs::RoundTrip::sized_agree))]
 pub fn decode_to_array<const N: usize>(input: &[u8]) -> Result<[u8; N], FromHexError>
     ensures answer { ReadsSized input.now N result }
     // What was encoded of N bytes is decoded to the same bytes.
@@ -153,6 +154,14 @@ pub fn decode_to_array<const N: usize>(input: &[u8]) -> Result<[u8; N], FromHexE
     // Another text gives the same bytes exactly where the bodies differ in case alone.
     ensures agree { (t bs : List ℕ) → ReadsSized t N (Ok bs)
         → IfOk result (λ v. (bs ≡ v) ↔ (lowered (body_of t) ≡ lowered (body_of input.now))) }
+{
+    read_array(input)
+}
+
+/// The N bytes that a text spells.
+#[inline(always)]
+fn read_array<const N: usize>(input: &[u8]) -> Result<[u8; N], FromHexError>
+    ensures { ReadsSized input.now N result }
 {
     let mut bytes = [0; N];
     match decode_to_slice(input, &mut bytes) {
@@ -171,7 +180,7 @@ pub fn decode_to_array<const N: usize>(input: &[u8]) -> Result<[u8; N], FromHexE
 #[tactic(auto, using(crate::proofs::Reading::one_sized_answer))]
 pub fn const_decode_to_array<const N: usize>(input: &[u8]) -> Result<[u8; N], FromHexError>
     ensures answer { ReadsSized input.now N result }
-    // No other answer is one of the text's.
+    // Only this answer meets `ReadsSized`.
     ensures alone { (r : Result (List ℕ) FromHexError) → ReadsSized input.now N r → r ≡ result }
 {
     decode_to_array(input)

@@ -26,7 +26,7 @@ impl<const N: usize> FromHex for [u8; N] {
 
     fn from_hex(_alloc: Global, hex: &[u8]) -> Result<[u8; N], FromHexError>
         ensures answers { ReadsSized hex.now N result }
-        // The text of N bytes gives these.
+        // What was encoded of N bytes is decoded to the same bytes.
         ensures round_trip { (prefix up : Bool) (bs : List ℕ) → AreBytes bs → length bs ≡ N
             → hex.now ≡ full_text prefix up bs → result ≡ Ok bs }
         // Another text gives the same bytes exactly where the bodies differ in case alone.

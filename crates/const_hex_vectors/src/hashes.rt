@@ -1,8 +1,8 @@
 //! Hashes and addresses, on examples.
 
-use crate::{Address20, FixedBytes, Hash32};
 use const_hex::serde::JsonError;
 use const_hex::{FromHex, FromHexError};
+use hash_hex::{Address20, FixedBytes, Hash32};
 use serde_json::{Value, json};
 use std::cmp::Ordering;
 use std::collections::HashSet;
