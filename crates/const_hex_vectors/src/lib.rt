@@ -11,6 +11,8 @@ mod encoding;
 #[cfg(test)]
 mod kernels;
 #[cfg(test)]
+mod long;
+#[cfg(test)]
 mod memory;
 pub mod noting;
 pub mod own_kernel;
@@ -19,6 +21,8 @@ pub mod readers;
 mod refusals;
 #[cfg(test)]
 mod round_trips;
+#[cfg(test)]
+mod sinks;
 #[cfg(test)]
 mod streaming;
 #[cfg(test)]
