@@ -14,6 +14,8 @@ mod exhausted;
 mod hashes;
 #[cfg(test)]
 mod kernels;
+#[cfg(test)]
+mod long;
 pub mod noting;
 pub mod own_kernel;
 pub mod readers;
@@ -21,6 +23,8 @@ pub mod readers;
 mod refusals;
 #[cfg(test)]
 mod round_trips;
+#[cfg(test)]
+mod sinks;
 #[cfg(test)]
 mod streaming;
 #[cfg(test)]

@@ -51,6 +51,32 @@ fn printed_characters(rt: HostRuntime) -> Result<(), Fail> {
     Ok(())
 }
 
+// Places of one figure to eight.
+#[test]
+fn printed_places(rt: HostRuntime) -> Result<(), Fail> {
+    let rows: [(usize, &str); 10] = [
+        (0, "0"),
+        (7, "7"),
+        (42, "42"),
+        (999, "999"),
+        (1000, "1000"),
+        (20_406, "20406"),
+        (135_790, "135790"),
+        (1_048_577, "1048577"),
+        (6_291_455, "6291455"),
+        (87_654_321, "87654321"),
+    ];
+    for (index, want) in rows {
+        let refusal = FromHexError::InvalidHexCharacter { c: 'z', index };
+        let want = format!(in rt.alloc(); "invalid character 'z' at position {want}")?;
+        assert_eq!(rt;
+            format!(in rt.alloc(); "{refusal}")?.as_str(),
+            want.as_str()
+        );
+    }
+    Ok(())
+}
+
 #[test]
 fn compared(rt: HostRuntime) {
     let bad = FromHexError::InvalidHexCharacter { c: 'z', index: 1 };

@@ -14,94 +14,66 @@ use std::alloc::Global;
 use std::process::Abort;
 use std::test::Fail;
 
-// A count of bytes, whether a prefix is written, and the sizes of the calls.
-type Row<'a> = (usize, bool, &'a [usize]);
+// A count of bytes, whether a prefix is written, and the sizes of the calls: by kernels that write
+// digit by digit or pair by pair, by 16 lanes, and by 32.
+type Row<'a> = (usize, bool, [&'a [usize]; 3]);
 
-const PLAIN: [Row<'_>; 12] = [
-    (0, false, &[]),
-    (0, true, &[2]),
-    (127, false, &[254]),
-    (127, true, &[256]),
-    (128, false, &[256]),
-    (128, true, &[258]),
-    (2047, true, &[4096]),
-    (2048, false, &[4096]),
-    (2048, true, &[4096, 2]),
-    (4096, false, &[4096, 4096]),
-    (4097, false, &[4096, 4096, 2]),
-    (4097, true, &[4096, 4096, 4]),
-];
-
-const LANES16: [Row<'_>; 12] = [
-    (0, false, &[]),
-    (0, true, &[2]),
-    (127, false, &[254]),
-    (127, true, &[256]),
-    (128, false, &[256]),
-    (128, true, &[258]),
-    (2047, true, &[4096]),
-    (2048, false, &[4096]),
-    (2048, true, &[4066, 32]),
-    (4096, false, &[4096, 4096]),
-    (4097, false, &[4096, 4096, 2]),
-    (4097, true, &[4066, 4096, 34]),
-];
-
-const LANES32: [Row<'_>; 12] = [
-    (0, false, &[]),
-    (0, true, &[2]),
-    (127, false, &[254]),
-    (127, true, &[256]),
-    (128, false, &[256]),
-    (128, true, &[258]),
-    (2047, true, &[4096]),
-    (2048, false, &[4096]),
-    (2048, true, &[4034, 64]),
-    (4096, false, &[4096, 4096]),
-    (4097, false, &[4096, 4096, 2]),
-    (4097, true, &[4034, 4096, 66]),
+const ROWS: [Row<'_>; 12] = [
+    (0, false, [&[]; 3]),
+    (0, true, [&[2]; 3]),
+    (127, false, [&[254]; 3]),
+    (127, true, [&[256]; 3]),
+    (128, false, [&[256]; 3]),
+    (128, true, [&[258]; 3]),
+    (2047, true, [&[4096]; 3]),
+    (2048, false, [&[4096]; 3]),
+    (2048, true, [&[4096, 2], &[4066, 32], &[4034, 64]]),
+    (4096, false, [&[4096, 4096]; 3]),
+    (4097, false, [&[4096, 4096, 2]; 3]),
+    (
+        4097,
+        true,
+        [&[4096, 4096, 4], &[4066, 4096, 34], &[4034, 4096, 66]],
+    ),
 ];
 
 #[test]
-fn plain(rt: HostRuntime) -> Result<(), Fail> {
-    streams::<Plain>(&rt, rt.alloc(), PLAIN)?;
-    streams::<CheckFirst<Plain>>(&rt, rt.alloc(), PLAIN)
-}
-
-#[test]
-fn lanes16(rt: HostRuntime) -> Result<(), Fail> {
-    streams::<Lanes16>(&rt, rt.alloc(), LANES16)?;
-    streams::<CheckFirst<Lanes16>>(&rt, rt.alloc(), LANES16)
-}
-
-#[test]
-fn lanes32(rt: HostRuntime) -> Result<(), Fail> {
-    streams::<Lanes32>(&rt, rt.alloc(), LANES32)?;
-    streams::<CheckFirst<Lanes32>>(&rt, rt.alloc(), LANES32)
-}
-
-// Pieces of two digits fill each call, as single digits do.
-#[test]
-fn own_kernel(rt: HostRuntime) -> Result<(), Fail> {
-    streams::<Backward>(&rt, rt.alloc(), PLAIN)
-}
-
-/// Each row in both cases, with a sink that never refuses, that refuses at each call, and that is
-/// set to refuse at the call after the last.
-fn streams<K: Kernel>(rt: &impl Abort, alloc: Global, rows: [Row<'_>; 12]) -> Result<(), Fail> {
-    for (count, prefix, sizes) in rows {
+fn calls_by_each_kernel(rt: HostRuntime) -> Result<(), Fail> {
+    let alloc = rt.alloc();
+    for (count, prefix, [plain, lanes16, lanes32]) in ROWS {
         let data = bytes(alloc, count)?;
-        for upper in [false, true] {
-            let pieces = cut(alloc, &printed(alloc, &data, prefix, upper)?, sizes)?;
-            for refuse_at in 0..pieces.len() + 2 {
-                refused_at::<K>(rt, alloc, &data, (prefix, upper), &pieces, refuse_at);
-            }
+        for form in [(prefix, false), (prefix, true)] {
+            streams::<Plain>(&rt, alloc, &data, form, plain)?;
+            streams::<Lanes16>(&rt, alloc, &data, form, lanes16)?;
+            streams::<Lanes32>(&rt, alloc, &data, form, lanes32)?;
+            streams::<CheckFirst<Plain>>(&rt, alloc, &data, form, plain)?;
+            streams::<CheckFirst<Lanes16>>(&rt, alloc, &data, form, lanes16)?;
+            streams::<CheckFirst<Lanes32>>(&rt, alloc, &data, form, lanes32)?;
+            streams::<Backward>(&rt, alloc, &data, form, plain)?;
         }
     }
     Ok(())
 }
 
-fn refused_at<K: Kernel>(
+/// With sinks that never refuse, that refuse at each call, and that are set to refuse at the call
+/// after the last.
+fn streams<K: Kernel>(
+    rt: &impl Abort,
+    alloc: Global,
+    data: &[u8],
+    form: (bool, bool),
+    sizes: &[usize],
+) -> Result<(), Fail> {
+    let pieces = cut(alloc, &printed(alloc, data, form.0, form.1)?, sizes)?;
+    assert_eq!(rt; pieces.len(), sizes.len());
+    for refuse_at in 0..pieces.len() + 2 {
+        notes::<K>(rt, alloc, data, form, &pieces, refuse_at);
+        keeps::<K>(rt, alloc, data, form, &pieces, refuse_at);
+    }
+    Ok(())
+}
+
+fn notes<K: Kernel>(
     rt: &impl Abort,
     alloc: Global,
     data: &[u8],
@@ -123,6 +95,28 @@ fn refused_at<K: Kernel>(
     }
 }
 
+fn keeps<K: Kernel>(
+    rt: &impl Abort,
+    alloc: Global,
+    data: &[u8],
+    form: (bool, bool),
+    pieces: &[String],
+    refuse_at: usize,
+) {
+    let mut sink = PieceSink::new(alloc, refuse_at);
+    let answer = write::<K, PieceSink>(data, form, &mut sink);
+    assert!(rt; !sink.no_memory());
+    if refuse_at == 0 || refuse_at > pieces.len() {
+        assert_eq!(rt; answer, Ok(()));
+        assert_eq!(rt; sink.calls(), pieces.len());
+        assert_eq!(rt; sink.pieces(), pieces);
+    } else {
+        assert_eq!(rt; answer, Err(SinkError));
+        assert_eq!(rt; sink.calls(), refuse_at);
+        assert_eq!(rt; sink.pieces(), &pieces[..refuse_at - 1]);
+    }
+}
+
 /// Writes the text to a sink, by a prefix or not, and in upper letters or not.
 fn write<K: Kernel, S: Sink>(data: &[u8], form: (bool, bool), sink: &mut S) -> Result<(), SinkError>
     requires { S.is_refused sink.old ≡ false }
@@ -133,38 +127,6 @@ fn write<K: Kernel, S: Sink>(data: &[u8], form: (bool, bool), sink: &mut S) -> R
         (true, false) => BufferedHex::<false, true>::new(data).write_with::<K, S>(sink),
         (true, true) => BufferedHex::<true, true>::new(data).write_with::<K, S>(sink),
     }
-}
-
-#[test]
-fn kept_pieces(rt: HostRuntime) -> Result<(), Fail> {
-    let alloc = rt.alloc();
-    keeps::<Plain>(&rt, alloc, [4096, 4096, 4])?;
-    keeps::<CheckFirst<Plain>>(&rt, alloc, [4096, 4096, 4])?;
-    keeps::<Lanes16>(&rt, alloc, [4066, 4096, 34])?;
-    keeps::<CheckFirst<Lanes16>>(&rt, alloc, [4066, 4096, 34])?;
-    keeps::<Lanes32>(&rt, alloc, [4034, 4096, 66])?;
-    keeps::<CheckFirst<Lanes32>>(&rt, alloc, [4034, 4096, 66])?;
-    keeps::<Backward>(&rt, alloc, [4096, 4096, 4])
-}
-
-fn keeps<K: Kernel>(rt: &impl Abort, alloc: Global, sizes: [usize; 3]) -> Result<(), Fail> {
-    let data = [0xAB; 4097];
-    let pieces = cut(alloc, &printed(alloc, &data, true, false)?, &sizes)?;
-    assert_eq!(rt; pieces.len(), 3);
-    for refuse_at in 0..4usize {
-        let mut sink = PieceSink::new(alloc, refuse_at);
-        let answer = write::<K, PieceSink>(&data, (true, false), &mut sink);
-        assert_eq!(rt; answer.is_err(), refuse_at > 0);
-        let (calls, kept) = if refuse_at > 0 {
-            (refuse_at, refuse_at - 1)
-        } else {
-            (3, 3)
-        };
-        assert_eq!(rt; sink.calls(), calls);
-        assert_eq!(rt; sink.pieces(), &pieces[..kept]);
-        assert!(rt; !sink.no_memory());
-    }
-    Ok(())
 }
 
 #[test]

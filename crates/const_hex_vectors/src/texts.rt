@@ -1,5 +1,6 @@
 //! Texts and bytes to try, and what std makes of them.
 
+use const_hex::FromHexError;
 use std::alloc::{AllocError, Global};
 
 const DIGITS: &[u8; 22] = b"0123456789abcdefABCDEF";
@@ -14,6 +15,36 @@ pub(crate) fn bytes(alloc: Global, count: usize) -> Result<Vec<u8>, AllocError> 
     (0..count)
         .map(|i| ((i % 256 * 37 + 11) % 256) as u8)
         .collect(alloc)
+}
+
+/// What stands in front of a body: nothing, or either prefix.
+pub(crate) const PREFIXES: [&str; 3] = ["", "0x", "0X"];
+
+/// A text, behind what stands in front of it.
+pub(crate) fn behind(alloc: Global, prefix: &str, body: &[u8]) -> Result<Vec<u8>, AllocError> {
+    let mut text = prefix.as_bytes().to_vec(alloc)?;
+    text.extend_from_slice(body)?;
+    Ok(text)
+}
+
+/// The place in the whole text of a place in its body, behind a prefix of that length. It is what
+/// `check` names.
+pub(crate) fn place_in_text(prefix_length: usize, place: usize) -> usize {
+    prefix_length.saturating_add(place)
+}
+
+/// The place that decoders and `const_check` name for a place in the body, behind a prefix of that
+/// length: they count from the body.
+pub(crate) fn place_in_answer(_prefix_length: usize, place: usize) -> usize {
+    place
+}
+
+/// The refusal that names a byte and a place.
+pub(crate) fn refusal(byte: u8, index: usize) -> FromHexError {
+    FromHexError::InvalidHexCharacter {
+        c: char::from(byte),
+        index,
+    }
 }
 
 /// `0x` where a prefix is wanted, and what std prints for each byte with two digits.
@@ -49,6 +80,15 @@ pub(crate) fn cut(alloc: Global, text: &str, sizes: &[usize]) -> Result<Vec<Stri
         }
     }
     Ok(pieces)
+}
+
+/// That many copies of a text, one behind the other.
+pub(crate) fn repeated(alloc: Global, text: &str, times: usize) -> Result<String, AllocError> {
+    let mut all = String::new(alloc);
+    for _ in 0..times {
+        all.push_str(text)?;
+    }
+    Ok(all)
 }
 
 /// The bytes that std reads from the first pairs of a text, and 0xEE for each further pair.

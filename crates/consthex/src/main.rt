@@ -16,46 +16,46 @@ mod mode;
 mod run;
 #[cfg(test)]
 mod tests;
+mod words;
 
 use crate::error::RunError;
-use crate::mode::{USAGE, mode_of};
+use crate::mode::{USAGE, mode_or_status};
 use crate::run::run;
+use crate::words::words;
 use std::env::Env;
+use std::io;
+use std::io::{Eprint, Read, Write};
 use std::process::ExitCode;
-use std::{env, io};
-
-/// The status of a run whose arguments name no mode.
-const WRONG_USAGE: u8 = 2;
 
 fn main(rt: HostRuntime) -> ExitCode {
-    let words = match words(&rt) {
-        Ok(words) => words,
-        Err(error) if error.kind() == io::ErrorKind::OutOfMemory => {
-            return refused(&rt, RunError::NoMemory);
-        }
-        Err(_) => return misused(&rt),
+    program(&rt, &mut rt.reader(), &mut io::writer(&rt))
+}
+
+/// Does what the words behind the program's name ask for, and gives the exit status. Any line for
+/// standard error is printed.
+fn program<R: Read, W: Write>(
+    rt: &(impl Env + Eprint + AllocGlobal),
+    input: &mut R,
+    output: &mut W,
+) -> ExitCode {
+    let Ok(words) = words(rt) else {
+        return refused(rt, RunError::NoMemory);
     };
-    let Some(mode) = mode_of(&words) else {
-        return misused(&rt);
-    };
-    match run(rt.alloc(), mode, &mut rt.reader(), &mut io::writer(&rt)) {
-        Ok(()) => ExitCode::SUCCESS,
-        Err(error) => refused(&rt, error),
+    match mode_or_status(&words) {
+        Ok(mode) => match run(rt.alloc(), mode, input, output) {
+            Ok(()) => ExitCode::SUCCESS,
+            Err(error) => refused(rt, error),
+        },
+        Err(status) => misused(rt, status),
     }
 }
 
-/// The arguments behind the program's name.
-fn words(rt: &(impl Env + AllocGlobal)) -> io::Result<Vec<String>> {
-    let words: Vec<String> = env::args(rt)?.skip(1).collect(rt.alloc())?;
-    Ok(words)
-}
-
-/// Prints the usage, and gives its status. A failure of standard error is ignored.
-fn misused(rt: &impl Eprint) -> ExitCode
-    ensures { exit_status result ≡ 2 }
+/// Prints the usage, and gives that status. A failure of standard error is ignored.
+fn misused(rt: &impl Eprint, status: u8) -> ExitCode
+    ensures { exit_status result ≡ status }
 {
     let _ = eprintln!(rt; "{USAGE}");
-    ExitCode::from(WRONG_USAGE)
+    ExitCode::from(status)
 }
 
 /// Prints the error, and gives its status. A failure of standard error is ignored.

@@ -3,9 +3,10 @@
 mod answers;
 mod devices;
 mod failures;
+mod hosts;
 
 use crate::error::RunError;
-use crate::mode::{Mode, USAGE, mode_of};
+use crate::mode::{Mode, USAGE, mode_of, mode_or_status};
 use crate::run::run;
 use const_hex::FromHexError;
 use std::alloc::AllocError;
@@ -159,8 +160,12 @@ fn knows_six_words(rt: HostRuntime) -> Result<(), Fail> {
         ("check", Mode::Check),
     ];
     for (word, mode) in named {
-        assert_eq!(rt; mode_of(&strings(&rt, &[word])?), Some(mode), "{word}");
-        assert_eq!(rt; mode_of(&strings(&rt, &[word, word])?), None, "{word}");
+        let one = strings(&rt, &[word])?;
+        assert_eq!(rt; mode_of(&one), Some(mode), "{word}");
+        assert_eq!(rt; mode_or_status(&one), Ok(mode), "{word}");
+        let two = strings(&rt, &[word, word])?;
+        assert_eq!(rt; mode_of(&two), None, "{word}");
+        assert_eq!(rt; mode_or_status(&two), Err(2), "{word}");
     }
     let unknown: [&[&str]; 9] = [
         &[],
@@ -174,7 +179,9 @@ fn knows_six_words(rt: HostRuntime) -> Result<(), Fail> {
         &["encode", "-upper"],
     ];
     for words in unknown {
-        assert_eq!(rt; mode_of(&strings(&rt, words)?), None, "{words:?}");
+        let strings = strings(&rt, words)?;
+        assert_eq!(rt; mode_of(&strings), None, "{words:?}");
+        assert_eq!(rt; mode_or_status(&strings), Err(2), "{words:?}");
     }
     Ok(())
 }

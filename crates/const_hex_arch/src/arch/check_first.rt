@@ -19,6 +19,7 @@ pub struct CheckFirst<K> {
     kernel: PhantomData<K>,
 }
 
+// That it checks by K, review alone shows: by another kernel it would answer the same.
 impl<K: Kernel> Kernel for CheckFirst<K> {
     ghost USE_CHECK_FN = { true };
 

@@ -21,6 +21,8 @@ use std::simd::prelude::*;
 #[derive(Drop)]
 pub struct Lanes16;
 
+// That `check` and `decode_unchecked` go by these steps, review alone shows: by others they would
+// answer the same. They were read against the table of steps in docs/DESIGN.md.
 impl Kernel for Lanes16 {
     ghost USE_CHECK_FN = { false };
 

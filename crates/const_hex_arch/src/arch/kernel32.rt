@@ -22,6 +22,8 @@ use std::simd::prelude::*;
 #[derive(Drop)]
 pub struct Lanes32;
 
+// That `check` and `decode_unchecked` go by these steps, review alone shows: by others they would
+// answer the same. They were read against the table of steps in docs/DESIGN.md.
 impl Kernel for Lanes32 {
     ghost USE_CHECK_FN = { false };
 

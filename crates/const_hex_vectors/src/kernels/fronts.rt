@@ -1,4 +1,6 @@
-//! How much of an output is decoded where a text is refused.
+//! How much of an output is decoded where a text is refused, and by which pieces a text is written.
+
+use std::alloc::{AllocError, Global};
 
 /// What a kernel leaves decoded in front of a bad byte.
 #[derive(Clone, Copy)]
@@ -41,5 +43,40 @@ fn after_steps32(length: usize, place: usize) -> usize {
         stepped / 2
     } else {
         place / 2
+    }
+}
+
+/// By which pieces a kernel writes the text of bytes.
+#[derive(Clone, Copy)]
+pub enum Pieces {
+    /// Each digit by itself.
+    Digits,
+    /// The two digits of each byte.
+    Pairs,
+    /// 32 digits for each 16 bytes, and each digit of the rest.
+    Steps16,
+    /// 64 digits for each 32 bytes, 32 for 16 bytes of the rest, and each digit of what is left.
+    Steps32,
+}
+
+impl Pieces {
+    /// The size of each piece, for that many bytes.
+    pub(crate) fn sizes(self, alloc: Global, count: usize) -> Result<Vec<usize>, AllocError> {
+        let (wide, half, pairs) = match self {
+            Pieces::Digits | Pieces::Pairs => (0, 0, count),
+            Pieces::Steps16 => (0, count / 16, count % 16),
+            Pieces::Steps32 => (count / 32, count % 32 / 16, count % 16),
+        };
+        let mut sizes = vec![in alloc; 64usize; wide]?;
+        for _ in 0..half {
+            sizes.push(32)?;
+        }
+        for _ in 0..pairs {
+            match self {
+                Pieces::Pairs => sizes.push(2)?,
+                _ => sizes.extend_from_slice(&[1, 1])?,
+            }
+        }
+        Ok(sizes)
     }
 }

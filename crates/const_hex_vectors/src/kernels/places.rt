@@ -1,97 +1,113 @@
 //! Bad bytes at each place of a text.
 
 use crate::kernels::fronts::Front;
-use crate::texts::{read, read_front};
-use const_hex::{FromHexError, Kernel, check_raw, check_with, decode_to_slice_with, decode_with};
+use crate::texts::{PREFIXES, behind, place_in_answer, place_in_text, read, read_front, refusal};
+use const_hex::{Kernel, check_raw, check_with, decode_to_slice_with, decode_with};
 use std::alloc::Global;
 use std::process::Abort;
 use std::test::Fail;
 
-/// Each of four bad bytes at each place of a text of digits.
+/// Each of four bad bytes at each place of a body of digits.
 pub(crate) fn bad_bytes<K: Kernel>(
     rt: &impl Abort,
     alloc: Global,
-    text: &mut [u8],
+    body: &mut [u8],
     front: Front,
 ) -> Result<(), Fail> {
-    for place in 0..text.len() {
-        let digit = text[place];
+    for place in 0..body.len() {
+        let digit = body[place];
         for bad in [0x10, b'G', b'g', 0xC1] {
-            text[place] = bad;
-            refused::<K>(rt, alloc, text, bad, place)?;
-            left::<K>(rt, alloc, text, place, front)?;
+            body[place] = bad;
+            for prefix in PREFIXES {
+                refused::<K>(rt, alloc, (prefix, body), (bad, place), front)?;
+            }
         }
-        text[place] = digit;
+        body[place] = digit;
     }
     Ok(())
 }
 
+/// The exact refusal of a body behind a prefix, for a byte at a place of the body, by each way of
+/// reading it, and what is left in the output.
 fn refused<K: Kernel>(
     rt: &impl Abort,
     alloc: Global,
-    text: &[u8],
-    bad: u8,
-    place: usize,
-) -> Result<(), Fail> {
-    let refusal = FromHexError::InvalidHexCharacter {
-        c: char::from(bad),
-        index: place,
-    };
-    assert_eq!(rt; check_with::<K>(text), Err(refusal));
-    assert_eq!(rt; decode_with::<K>(alloc, text).err(), Some(refusal));
-    Ok(())
-}
-
-fn left<K: Kernel>(
-    rt: &impl Abort,
-    alloc: Global,
-    text: &[u8],
-    place: usize,
+    (prefix, body): (&str, &[u8]),
+    (bad, place): (u8, usize),
     front: Front,
 ) -> Result<(), Fail> {
-    let mut output = vec![in alloc; 0xEEu8; text.len() / 2]?;
-    assert!(rt; decode_to_slice_with::<K>(text, &mut output).is_err());
-    let decoded = front.count(text.len(), place);
-    assert_eq!(rt; output, read_front(alloc, text, decoded)?, "at {place}");
+    let text = behind(alloc, prefix, body)?;
+    let in_text = refusal(bad, place_in_text(prefix.len(), place));
+    let in_answer = refusal(bad, place_in_answer(prefix.len(), place));
+    assert_eq!(rt; check_with::<K>(&text), Err(in_text));
+    assert_eq!(rt; decode_with::<K>(alloc, &text).err(), Some(in_answer));
+    let mut output = vec![in alloc; 0xEEu8; body.len() / 2]?;
+    assert_eq!(rt;
+        decode_to_slice_with::<K>(&text, &mut output),
+        Err(in_answer)
+    );
+    let decoded = front.count(body.len(), place);
+    assert_eq!(rt; output, read_front(alloc, body, decoded)?, "at {place}");
     Ok(())
 }
 
-/// A letter x at each place of a text of digits: a prefix at the second place, and bad elsewhere.
+/// A letter x at each place of a body of digits: without a prefix it makes one at the second place,
+/// and elsewhere it is a bad byte.
 pub(crate) fn later_prefixes<K: Kernel>(
     rt: &impl Abort,
     alloc: Global,
-    text: &mut [u8],
+    body: &mut [u8],
+    front: Front,
 ) -> Result<(), Fail> {
-    for place in 0..text.len() {
-        let digit = text[place];
+    for place in 0..body.len() {
+        let digit = body[place];
         for x in [b'x', b'X'] {
-            text[place] = x;
-            if place == 1 {
-                assert_eq!(rt; check_with::<K>(text), Ok(()));
-                assert_eq!(rt; decode_with::<K>(alloc, text)?, read(alloc, &text[2..])?);
-            } else {
-                refused::<K>(rt, alloc, text, x, place)?;
+            body[place] = x;
+            for prefix in PREFIXES {
+                if place == 1 && prefix.is_empty() {
+                    let text = &body[..];
+                    accepted::<K>(rt, alloc, text, &text[2..])?;
+                } else {
+                    refused::<K>(rt, alloc, (prefix, body), (x, place), front)?;
+                }
             }
         }
-        text[place] = digit;
+        body[place] = digit;
     }
+    Ok(())
+}
+
+/// The bytes of a text, whose body this is, by each way of reading it.
+pub(crate) fn accepted<K: Kernel>(
+    rt: &impl Abort,
+    alloc: Global,
+    text: &[u8],
+    body: &[u8],
+) -> Result<(), Fail> {
+    let bytes = read(alloc, body)?;
+    assert_eq!(rt; check_with::<K>(text), Ok(()));
+    assert_eq!(rt; decode_with::<K>(alloc, text)?, bytes);
+    let mut output = vec![in alloc; 0xEEu8; bytes.len()]?;
+    assert_eq!(rt; decode_to_slice_with::<K>(text, &mut output), Ok(()));
+    assert_eq!(rt; output, bytes);
     Ok(())
 }
 
 /// Bytes beside the ranges of digits, or that differ from a digit in one bit, at each place of a
-/// text of letters.
+/// body of letters.
 pub(crate) fn letters_with_a_bad_byte<K: Kernel>(
     rt: &impl Abort,
     alloc: Global,
+    front: Front,
 ) -> Result<(), Fail> {
-    let mut text = [b'a'; 64];
+    let mut body = [b'a'; 64];
     for place in 0..64 {
         for bad in [0x10, 0x2F, 0x3A, 0x40, 0x47, 0x60, 0x67, 0xC1, 0xE1] {
-            text[place] = bad;
-            assert!(rt; !check_raw(&text));
-            refused::<K>(rt, alloc, &text, bad, place)?;
+            body[place] = bad;
+            assert!(rt; !check_raw(&body));
+            refused::<K>(rt, alloc, ("", &body), (bad, place), front)?;
         }
-        text[place] = b'a';
+        body[place] = b'a';
     }
     Ok(())
 }
@@ -104,7 +120,7 @@ pub(crate) fn each_value<K: Kernel>(rt: &impl Abort) {
             text[place] = byte;
             assert_eq!(rt;
                 K::check(&text),
-                byte.is_ascii_hexdigit(),
+                char::from(byte).to_digit(16).is_some(),
                 "{byte} at {place}"
             );
         }

@@ -1,30 +1,43 @@
 //! What is tried with each kernel.
 
-use crate::kernels::fronts::Front;
-use crate::kernels::places::{bad_bytes, each_value, later_prefixes, letters_with_a_bad_byte};
-use crate::texts::{bytes, digits, printed, read};
+use crate::kernels::fronts::{Front, Pieces};
+use crate::kernels::places::{
+    accepted, bad_bytes, each_value, later_prefixes, letters_with_a_bad_byte,
+};
+use crate::texts::{PREFIXES, behind, bytes, cut, digits, printed};
 use const_hex::{
-    FromHexError, Kernel, Plain, check_with, decode_to_slice_with, decode_with, encode_with,
+    FromHexError, Kernel, PieceSink, SinkOutput, check_with, decode_to_slice_with, decode_with,
+    encode_with,
 };
 use std::alloc::Global;
 use std::process::Abort;
 use std::test::Fail;
 
 /// Tries all of it.
-pub(crate) fn run<K: Kernel>(rt: &impl Abort, alloc: Global, front: Front) -> Result<(), Fail> {
-    for half in 0..65usize {
-        odd_text::<K>(rt, alloc, &digits(alloc, 2 * half + 1)?);
+pub(crate) fn run<K: Kernel>(
+    rt: &impl Abort,
+    alloc: Global,
+    front: Front,
+    pieces: Pieces,
+) -> Result<(), Fail> {
+    for length in 0..=130usize {
+        let mut body = digits(alloc, length)?;
+        for prefix in PREFIXES {
+            let text = behind(alloc, prefix, &body)?;
+            if length % 2 == 1 {
+                odd_text::<K>(rt, alloc, &text);
+            } else {
+                accepted::<K>(rt, alloc, &text, &body)?;
+            }
+        }
+        if length % 2 == 0 {
+            lowered::<K>(rt, alloc, &body)?;
+            bad_bytes::<K>(rt, alloc, &mut body, front)?;
+            later_prefixes::<K>(rt, alloc, &mut body, front)?;
+        }
+        encoded::<K>(rt, alloc, &bytes(alloc, length)?, pieces)?;
     }
-    for half in 0..=65usize {
-        let mut text = digits(alloc, 2 * half)?;
-        even_text::<K>(rt, alloc, &text)?;
-        bad_bytes::<K>(rt, alloc, &mut text, front)?;
-        later_prefixes::<K>(rt, alloc, &mut text)?;
-    }
-    for count in 0..=130usize {
-        encoded::<K>(rt, alloc, &bytes(alloc, count)?)?;
-    }
-    letters_with_a_bad_byte::<K>(rt, alloc)?;
+    letters_with_a_bad_byte::<K>(rt, alloc, front)?;
     each_value::<K>(rt);
     Ok(())
 }
@@ -38,11 +51,9 @@ fn odd_text<K: Kernel>(rt: &impl Abort, alloc: Global, text: &[u8]) {
     assert_eq!(rt; output, [0xEE; 65]);
 }
 
-fn even_text<K: Kernel>(rt: &impl Abort, alloc: Global, text: &[u8]) -> Result<(), Fail> {
-    assert_eq!(rt; check_with::<K>(text), Ok(()));
-    let bytes = decode_with::<K>(alloc, text)?;
-    assert_eq!(rt; bytes, read(alloc, text)?);
-    let lower = encode_with::<K, false>(alloc, &bytes)?;
+/// The text of the bytes that a text spells is that text in lower letters.
+fn lowered<K: Kernel>(rt: &impl Abort, alloc: Global, text: &[u8]) -> Result<(), Fail> {
+    let lower = encode_with::<K, false>(alloc, &decode_with::<K>(alloc, text)?)?;
     assert_eq!(rt;
         lower.as_bytes(),
         text.to_ascii_lowercase(alloc)?.as_slice()
@@ -50,15 +61,26 @@ fn even_text<K: Kernel>(rt: &impl Abort, alloc: Global, text: &[u8]) -> Result<(
     Ok(())
 }
 
-fn encoded<K: Kernel>(rt: &impl Abort, alloc: Global, bytes: &[u8]) -> Result<(), Fail> {
-    let lower = encode_with::<K, false>(alloc, bytes)?;
-    let upper = encode_with::<K, true>(alloc, bytes)?;
-    assert_eq!(rt; lower, printed(alloc, bytes, false, false)?);
-    assert_eq!(rt; upper, printed(alloc, bytes, false, true)?);
-    assert_eq!(rt; lower, encode_with::<Plain, false>(alloc, bytes)?);
-    assert_eq!(rt;
-        decode_with::<K>(alloc, lower.as_bytes())?.as_slice(),
-        bytes
-    );
+/// The text of bytes in both cases, owned and piece by piece.
+fn encoded<K: Kernel>(
+    rt: &impl Abort,
+    alloc: Global,
+    bytes: &[u8],
+    pieces: Pieces,
+) -> Result<(), Fail> {
+    let sizes = pieces.sizes(alloc, bytes.len())?;
+    for upper in [false, true] {
+        let want = printed(alloc, bytes, false, upper)?;
+        let text = if upper {
+            encode_with::<K, true>(alloc, bytes)?
+        } else {
+            encode_with::<K, false>(alloc, bytes)?
+        };
+        assert_eq!(rt; text, want);
+        let mut sink = PieceSink::new(alloc, 0);
+        K::encode(bytes, upper, &mut SinkOutput::new(&mut sink));
+        assert_eq!(rt; sink.calls(), sizes.len());
+        assert_eq!(rt; sink.pieces(), cut(alloc, &want, &sizes)?.as_slice());
+    }
     Ok(())
 }

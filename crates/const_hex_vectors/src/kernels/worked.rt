@@ -2,8 +2,8 @@
 
 use crate::own_kernel::Backward;
 use const_hex::{
-    CheckFirst, FromHexError, Kernel, Lanes16, Lanes32, Plain, decode_to_slice_with, decode_with,
-    encode_with,
+    CheckFirst, FromHexError, Kernel, Lanes16, Lanes32, PieceSink, Plain, SinkOutput,
+    decode_to_slice_with, decode_with, encode_with,
 };
 use std::alloc::Global;
 use std::process::Abort;
@@ -57,17 +57,18 @@ fn front_of(alloc: Global, length: usize, count: usize) -> Result<Vec<u8>, Fail>
 #[test]
 fn counted_bytes(rt: HostRuntime) -> Result<(), Fail> {
     let alloc = rt.alloc();
-    counted::<Plain>(&rt, alloc)?;
-    counted::<Lanes16>(&rt, alloc)?;
-    counted::<Lanes32>(&rt, alloc)?;
-    counted::<CheckFirst<Plain>>(&rt, alloc)?;
-    counted::<CheckFirst<Lanes16>>(&rt, alloc)?;
-    counted::<CheckFirst<Lanes32>>(&rt, alloc)?;
-    counted::<Backward>(&rt, alloc)
+    counted::<Plain>(&rt, alloc, 98)?;
+    counted::<Lanes16>(&rt, alloc, 5)?;
+    counted::<Lanes32>(&rt, alloc, 4)?;
+    counted::<CheckFirst<Plain>>(&rt, alloc, 98)?;
+    counted::<CheckFirst<Lanes16>>(&rt, alloc, 5)?;
+    counted::<CheckFirst<Lanes32>>(&rt, alloc, 4)?;
+    counted::<Backward>(&rt, alloc, 49)
 }
 
-// The bytes 0, 1 and so on, up to about one step of each kernel and to two.
-fn counted<K: Kernel>(rt: &impl Abort, alloc: Global) -> Result<(), Fail> {
+// The bytes 0, 1 and so on, up to about one step of each kernel and to two; and how many pieces the
+// text of 49 bytes is written in.
+fn counted<K: Kernel>(rt: &impl Abort, alloc: Global, pieces_of_49: usize) -> Result<(), Fail> {
     let rows: [(usize, &str); 12] = [
         (15, "0e"),
         (16, "0f"),
@@ -90,6 +91,9 @@ fn counted<K: Kernel>(rt: &impl Abort, alloc: Global) -> Result<(), Fail> {
         assert_eq!(rt; text, encode_with::<Plain, false>(alloc, &bytes)?);
         assert_eq!(rt; decode_with::<K>(alloc, text.as_bytes())?, bytes);
     }
+    let mut sink = PieceSink::new(alloc, 0);
+    K::encode(&[0xAB; 49], false, &mut SinkOutput::new(&mut sink));
+    assert_eq!(rt; sink.calls(), pieces_of_49);
     seventeen::<K>(rt, alloc)
 }
 

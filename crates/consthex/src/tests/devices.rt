@@ -1,22 +1,34 @@
-//! Readers and writers that fail when they are told to.
+//! Readers and writers that fail at one call, and count their calls.
 
 use std::io;
 use std::io::{ErrorKind, Read, Write};
 
-/// Hands out its bytes one a call, and fails once its good calls are used up.
+/// Hands out its bytes one a call. It fails at one call alone: a further one would succeed.
 #[derive(Drop)]
 pub(crate) struct Source<'a> {
-    pub(crate) rest: &'a [u8],
-    pub(crate) good_calls: usize,
-    pub(crate) kind: ErrorKind,
+    rest: &'a [u8],
+    fail_at: usize,
+    kind: ErrorKind,
+    pub(crate) reads: usize,
+}
+
+impl<'a> Source<'a> {
+    pub(crate) fn new(rest: &'a [u8], fail_at: usize, kind: ErrorKind) -> Source<'a> {
+        Source {
+            rest,
+            fail_at,
+            kind,
+            reads: 0,
+        }
+    }
 }
 
 impl Read for Source<'_> {
     fn read(&mut self, buf: &mut [u8]) -> io::Result<usize> {
-        let Some(left) = self.good_calls.checked_sub(1) else {
+        self.reads = self.reads.saturating_add(1);
+        if self.reads == self.fail_at {
             return Err(io::Error::from(self.kind));
-        };
-        self.good_calls = left;
+        }
         if self.rest.is_empty() || buf.is_empty() {
             return Ok(0);
         }
@@ -38,25 +50,36 @@ impl Read for Endless {
     }
 }
 
-/// Takes one byte a call, and fails once its good calls are used up. It keeps what it took, and
-/// asks for no memory.
+/// What goes wrong with a [`Target`], once: a further call would succeed.
+#[derive(Clone, Copy, PartialEq, Eq, Debug)]
+pub(crate) enum Fault {
+    Nothing,
+    /// The write of that number fails.
+    Write(usize, ErrorKind),
+    /// The write of that number takes no bytes.
+    Full(usize),
+    /// The first flush fails.
+    Flush(ErrorKind),
+}
+
+/// Takes one byte a call, as long as there is room. It keeps what it took, and asks for no memory.
 #[derive(Drop)]
 pub(crate) struct Target {
-    pub(crate) taken: [u8; 16],
+    taken: [u8; 16],
     pub(crate) count: usize,
-    pub(crate) good_calls: usize,
-    pub(crate) can_flush: bool,
-    pub(crate) kind: ErrorKind,
+    fault: Fault,
+    pub(crate) writes: usize,
+    pub(crate) flushes: usize,
 }
 
 impl Target {
-    pub(crate) fn new(good_calls: usize, kind: ErrorKind) -> Target {
+    pub(crate) fn new(fault: Fault) -> Target {
         Target {
             taken: [0; 16],
             count: 0,
-            good_calls,
-            can_flush: true,
-            kind,
+            fault,
+            writes: 0,
+            flushes: 0,
         }
     }
 
@@ -67,37 +90,24 @@ impl Target {
 
 impl Write for Target {
     fn write(&mut self, buf: &[u8]) -> io::Result<usize> {
-        let Some(left) = self.good_calls.checked_sub(1) else {
-            return Err(io::Error::from(self.kind));
-        };
-        self.good_calls = left;
-        if buf.is_empty() || self.count >= 16 {
-            return Ok(0);
+        self.writes = self.writes.saturating_add(1);
+        match self.fault {
+            Fault::Write(call, kind) if call == self.writes => Err(io::Error::from(kind)),
+            Fault::Full(call) if call == self.writes => Ok(0),
+            _ if buf.is_empty() || self.count >= 16 => Ok(0),
+            _ => {
+                self.taken[self.count] = buf[0];
+                self.count += 1;
+                Ok(1)
+            }
         }
-        self.taken[self.count] = buf[0];
-        self.count += 1;
-        Ok(1)
     }
 
     fn flush(&mut self) -> io::Result<()> {
-        if self.can_flush {
-            Ok(())
-        } else {
-            Err(io::Error::from(self.kind))
+        self.flushes = self.flushes.saturating_add(1);
+        match self.fault {
+            Fault::Flush(kind) if self.flushes == 1 => Err(io::Error::from(kind)),
+            _ => Ok(()),
         }
-    }
-}
-
-/// Takes nothing, and tells of no error.
-#[derive(Drop)]
-pub(crate) struct Full;
-
-impl Write for Full {
-    fn write(&mut self, _buf: &[u8]) -> io::Result<usize> {
-        Ok(0)
-    }
-
-    fn flush(&mut self) -> io::Result<()> {
-        Ok(())
     }
 }

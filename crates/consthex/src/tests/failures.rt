@@ -1,105 +1,110 @@
 //! Runs whose devices fail, or whose memory is refused.
 
-use super::devices::{Endless, Full, Source, Target};
+use super::devices::{Endless, Fault, Source, Target};
 use crate::error::RunError;
 use crate::mode::Mode;
 use crate::run::run;
+use std::alloc::Global;
 use std::io::ErrorKind;
+use std::process::Abort;
 
 const KINDS: [ErrorKind; 2] = [ErrorKind::Interrupted, ErrorKind::Other];
 
+// A mode, an input, and the answer to it.
+const ANSWERS: [(Mode, &[u8], &[u8]); 7] = [
+    (Mode::Encode, b"kiwi", b"6b697769\n"),
+    (Mode::EncodeUpper, b"kiwi", b"6B697769\n"),
+    (Mode::EncodePrefixed, b"kiwi", b"0x6b697769\n"),
+    (Mode::EncodeUpperPrefixed, b"kiwi", b"0x6B697769\n"),
+    (Mode::Decode, b"6b697769\n", b"kiwi"),
+    (Mode::Decode, b"", b""),
+    (Mode::Check, b"6b697769\n", b"ok\n"),
+];
+
+// The tenth call is the one at the end, and the eleventh is not made.
 #[test]
 fn names_a_failed_read(rt: HostRuntime) {
     for kind in KINDS {
-        for call in 1..=10 {
-            let mut input = Source {
-                rest: b"6b697769\n",
-                good_calls: call - 1,
-                kind,
-            };
-            let mut output = Target::new(16, ErrorKind::Other);
+        for call in 1..=11 {
+            let mut input = Source::new(b"6b697769\n", call, kind);
+            let mut output = Target::new(Fault::Nothing);
             let outcome = run(rt.alloc(), Mode::Decode, &mut input, &mut output);
-            assert_eq!(rt;
-                outcome,
-                Err(RunError::ReadFailed),
-                "{kind:?} at call {call}"
-            );
-            assert_eq!(rt; output.count, 0, "{kind:?} at call {call}");
+            assert_eq!(rt; input.reads, call.min(10), "{kind:?} at {call}");
+            if call < 11 {
+                assert_eq!(rt; outcome, Err(RunError::ReadFailed), "{kind:?} at {call}");
+                assert_eq!(rt; output.writes, 0, "{kind:?} at {call}");
+            } else {
+                assert_eq!(rt; outcome, Ok(()));
+                assert_eq!(rt; output.bytes(), b"kiwi".as_slice());
+            }
         }
-        let mut input = Source {
-            rest: b"6b697769\n",
-            good_calls: 10,
-            kind,
-        };
-        let mut output = Target::new(16, ErrorKind::Other);
-        let outcome = run(rt.alloc(), Mode::Decode, &mut input, &mut output);
-        assert_eq!(rt; outcome, Ok(()));
-        assert_eq!(rt; output.bytes(), b"kiwi".as_slice());
     }
 }
 
 #[test]
 fn stops_an_endless_reader(rt: HostRuntime) {
-    let mut output = Target::new(16, ErrorKind::Other);
+    let mut output = Target::new(Fault::Nothing);
     let outcome = run(rt.alloc(), Mode::Encode, &mut Endless, &mut output);
     assert_eq!(rt; outcome, Err(RunError::TooLong));
-    assert_eq!(rt; output.count, 0);
+    assert_eq!(rt; output.writes, 0);
 }
 
+// A write that fails or takes nothing, at each call, and a flush that fails.
 #[test]
 fn names_a_failed_write(rt: HostRuntime) {
-    for kind in KINDS {
-        for call in 1..=9 {
-            let mut input = b"kiwi".as_slice();
-            let mut output = Target::new(call - 1, kind);
-            let outcome = run(rt.alloc(), Mode::Encode, &mut input, &mut output);
-            assert_eq!(rt;
-                outcome,
-                Err(RunError::WriteFailed),
-                "{kind:?} at call {call}"
-            );
-            assert_eq!(rt; output.bytes(), &b"6b697769\n"[..call - 1]);
+    let alloc = rt.alloc();
+    for (mode, input, answer) in ANSWERS {
+        writes(&rt, alloc, (mode, input, answer), Fault::Nothing);
+        for kind in KINDS {
+            writes(&rt, alloc, (mode, input, answer), Fault::Flush(kind));
+            for call in 1..=answer.len() {
+                writes(&rt, alloc, (mode, input, answer), Fault::Write(call, kind));
+            }
         }
-        let mut input = b"kiwi".as_slice();
-        let mut output = Target::new(9, kind);
-        let outcome = run(rt.alloc(), Mode::Encode, &mut input, &mut output);
-        assert_eq!(rt; outcome, Ok(()));
-        assert_eq!(rt; output.bytes(), b"6b697769\n".as_slice());
+        for call in 1..=answer.len() {
+            writes(&rt, alloc, (mode, input, answer), Fault::Full(call));
+        }
     }
 }
 
-#[test]
-fn names_a_failed_flush(rt: HostRuntime) {
-    for kind in KINDS {
-        let mut input = b"kiwi".as_slice();
-        let mut output = Target::new(16, kind);
-        output.can_flush = false;
-        let outcome = run(rt.alloc(), Mode::Encode, &mut input, &mut output);
-        assert_eq!(rt; outcome, Err(RunError::WriteFailed), "{kind:?}");
+/// A run with that fault: what went out, the calls that were made, and the outcome.
+fn writes(rt: &impl Abort, alloc: Global, case: (Mode, &[u8], &[u8]), fault: Fault) {
+    let (mode, input, answer) = case;
+    let (taken, writes, flushes) = match fault {
+        Fault::Write(call, _) | Fault::Full(call) => (call.saturating_sub(1), call, 0),
+        _ => (answer.len(), answer.len(), 1),
+    };
+    let mut input = input;
+    let mut output = Target::new(fault);
+    let outcome = run(alloc, mode, &mut input, &mut output);
+    if fault == Fault::Nothing {
+        assert_eq!(rt; outcome, Ok(()), "{mode:?}");
+    } else {
+        assert_eq!(rt; outcome, Err(RunError::WriteFailed), "{mode:?}, {fault:?}");
     }
-    let outcome = run(rt.alloc(), Mode::Encode, &mut b"kiwi".as_slice(), &mut Full);
-    assert_eq!(rt; outcome, Err(RunError::WriteFailed));
+    assert_eq!(rt;
+        output.bytes(),
+        &answer[..taken.min(answer.len())],
+        "{mode:?}, {fault:?}"
+    );
+    assert_eq!(rt;
+        (output.writes, output.flushes),
+        (writes, flushes),
+        "{mode:?}, {fault:?}"
+    );
 }
 
 /// With ample memory each run succeeds. Where a request for memory is refused, it may only say so.
 #[test]
 fn names_refused_memory(rt: HostRuntime) {
-    let cases: [(Mode, &[u8], &[u8]); 6] = [
-        (Mode::Encode, b"kiwi", b"6b697769\n"),
-        (Mode::EncodeUpper, b"kiwi", b"6B697769\n"),
-        (Mode::EncodePrefixed, b"kiwi", b"0x6b697769\n"),
-        (Mode::EncodeUpperPrefixed, b"kiwi", b"0x6B697769\n"),
-        (Mode::Decode, b"6b697769\n", b"kiwi"),
-        (Mode::Check, b"6b697769\n", b"ok\n"),
-    ];
-    for (mode, input, answer) in cases {
+    for (mode, input, answer) in ANSWERS {
         let mut input = input;
-        let mut output = Target::new(16, ErrorKind::Other);
+        let mut output = Target::new(Fault::Nothing);
         match run(rt.alloc(), mode, &mut input, &mut output) {
             Ok(()) => assert_eq!(rt; output.bytes(), answer, "{mode:?}"),
             Err(error) => {
                 assert_eq!(rt; error, RunError::NoMemory, "{mode:?}");
-                assert_eq!(rt; output.count, 0, "{mode:?}");
+                assert_eq!(rt; output.writes, 0, "{mode:?}");
             }
         }
     }

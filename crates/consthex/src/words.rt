@@ -1,0 +1,25 @@
+//! The words that the program is started with.
+
+use std::alloc::AllocError;
+use std::env::{Env, FillError};
+
+/// How many bytes of a word are read. No mode has a longer word.
+const LONGEST: usize = 32;
+
+/// The first two words behind the program's name, which is not looked at. For a word that is no
+/// text, or has more than 32 bytes, stands the empty word: it names no mode either. Nor do two
+/// words, so a third is not read.
+pub(crate) fn words(rt: &(impl Env + AllocGlobal)) -> Result<Vec<String>, AllocError> {
+    let mut words = Vec::new(rt.alloc());
+    for place in 1..3 {
+        let mut bytes = [0; LONGEST];
+        let length = match rt.arg(place, &mut bytes) {
+            Ok(length) => length,
+            Err(FillError::TooLong) => 0,
+            Err(FillError::NotPresent) => break,
+        };
+        let word = str::from_utf8(&bytes[..length]).unwrap_or("");
+        words.push(String::from_str(rt.alloc(), word)?)?;
+    }
+    Ok(words)
+}
