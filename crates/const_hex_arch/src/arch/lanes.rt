@@ -3,10 +3,25 @@
 ghost use Rattle.std.specs.Prelude.{◌≡◌, ◌≤◌, ◌↔◌, map, IsTrue};
 ghost use Rattle.std.specs.List.{AllZip};
 ghost use Rattle.const_hex_arch.specs.Digits.{hex_value};
-ghost use Rattle.const_hex_arch.specs.Lanes.{AllNibbles, AllRanks};
+ghost use Rattle.const_hex_arch.specs.Lanes.{AllRanks};
+ghost use Rattle.const_hex_arch.specs.Lookups.{AllLookedUp};
 ghost use Rattle.const_hex_arch.specs.Nibbles.{as_value, IsValueOf, IsRankOf};
 
 use std::simd::prelude::*;
+
+/// By the low half of a byte: the half itself, and 16 more where no letter that is a digit ends in
+/// it, or 32 more where no digit does. Once for each block of 16 lanes.
+pub(crate) const BY_LOW_HALF: [u8; 32] = [
+    16, 1, 2, 3, 4, 5, 6, 23, 24, 25, 42, 43, 44, 45, 46, 47, 16, 1, 2, 3, 4, 5, 6, 23, 24, 25, 42,
+    43, 44, 45, 46, 47,
+];
+
+/// By the high half of a byte: what is added, so that the sum is below 128 where the byte is a
+/// digit, and nowhere else. Once for each block of 16 lanes.
+pub(crate) const BY_HIGH_HALF: [u8; 32] = [
+    192, 192, 192, 96, 121, 192, 121, 192, 192, 192, 192, 192, 192, 192, 192, 192, 192, 192, 192,
+    96, 121, 192, 121, 192, 192, 192, 192, 192, 192, 192, 192, 192,
+];
 
 /// The value of each lane that is a digit, and more than 15 for every other lane.
 ///
@@ -22,12 +37,13 @@ pub(crate) fn nibbles<const N: usize>(v: Simd<u8, N>) -> Simd<u8, N>
     decimal.simd_min(letter)
 }
 
-/// Whether no lane is above 15, that is, whether the high half of each lane is 0.
+/// Whether no lane is above 127, of at most 64 lanes.
 #[inline(always)]
-pub(crate) fn are_nibbles<const N: usize>(nibbles: Simd<u8, N>) -> bool
-    ensures { IsTrue result ↔ AllNibbles nibbles.entry }
+pub(crate) fn are_looked_up<const N: usize>(values: Simd<u8, N>) -> bool
+    requires { N ≤ 64 }
+    ensures { IsTrue result ↔ AllLookedUp values.entry }
 {
-    (nibbles & Simd::splat(0xF0)).reduce_or() == 0
+    !values.simd_gt(Simd::splat(127)).any()
 }
 
 /// At most 5 for each lane that is a digit, and more for every other lane.
