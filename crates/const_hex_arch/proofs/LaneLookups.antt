@@ -1,10 +1,13 @@
 -- The values of digits by two look-ups of lanes, each in tables of 16 bytes, one for each block of 16 lanes.
-use Rattle.std.proofs.Common.{◌≡◌, ℕ, zero, suc, ◌+◌, ◌*◌, ◌/◌, ◌^◌, ◌<◌, ◌≤◌, ◌↔◌, Bool, cond, ltb, T, ◌||◌, List, [], ◌∷◌, ◌++◌, map, length, replicate, drop, get_or, bit_and, bit_or, refl, sym, ap, subst, ◌∙◌, arith, w8, Fits, None}
+use Rattle.std.proofs.Common.{◌≡◌, ℕ, zero, suc, ◌+◌, ◌*◌, ◌/◌, ◌^◌, ◌<◌, ◌≤◌, ◌↔◌, Bool, cond, ltb, T, ◌||◌, List, [], ◌∷◌, ◌++◌, map, length, replicate, take, drop, get_or, bit_and, bit_or, refl, sym, ap, subst, ◌∙◌, arith, w8, Fits, None, length-append}
 use Rattle.std.proofs.lemmas.Bool.Decides.{nat_tests}
 use Rattle.std.proofs.lemmas.List.Elements.{All-nil, All-head, All-tail, All-cons}
 use Rattle.std.proofs.lemmas.Nat.{and_mask, le_or_l, le_or_r, or_lt}
-use Rattle.std.proofs.lemmas.Simd.{swz_l, SwzOk, SwzOk-from_Each1, length-zip2, length-replicate}
-use lib.Lanes.{zip2, Each1}
+use Rattle.std.specs.List.{range_with_len}
+use Rattle.std.proofs.lemmas.Grind.{common_steps}
+use Rattle.std.proofs.lemmas.List.{map-append}
+use Rattle.std.proofs.lemmas.Simd.{swz_l, SwzOk, SwzOk-from_Each1, length-zip2, length-replicate, pick_l-range_with_len}
+use lib.Lanes.{zip2, Each1, pick_l}
 use mir.Val.{zeroes}
 use Rattle.const_hex_arch.specs.Digits.{hex_value, IsDigit}
 use Rattle.const_hex_arch.specs.Lanes.{AllNibbles, byte_pairs}
@@ -12,7 +15,7 @@ use Rattle.const_hex_arch.specs.Lookups.{as_looked_up, AllLookedUp}
 use Rattle.const_hex_arch.specs.Nibbles.{as_value}
 use Rattle.const_hex_arch.specs.Texts.{AllDigits, Spells}
 use Rattle.const_hex_arch.proofs.Computed.{all_below, every_below}
-use Rattle.const_hex_arch.proofs.LaneBytes.{merge_spells}
+use Rattle.const_hex_arch.proofs.LaneBytes.{in_two, merge_spells}
 use Rattle.const_hex_arch.proofs.LaneValues.{add8, same_value, same_value-true, cons_same}
 use Rattle.const_hex_arch.proofs.Spelling.{digits_append}
 
@@ -73,6 +76,17 @@ module _ (low high : List ℕ) where
 
   pub read_are : (b n : ℕ) → T (is_right b) → (v : List ℕ) → n ≡ b * 16 → (length v ≡ n) × Each1 (Fits w8) v → map as_looked_up (read_l n 0 v) ≡ map hex_value v
   read_are b n t v blocks f = subst (λ n. map as_looked_up (read_l n 0 v) ≡ map hex_value v) f.0 (read_all b t 0 v (omega (arith, f.0)) f.1)
+
+-- by the halves of a vector of twice n lanes, which are picked from it and itself again
+pub halves_looked_up : (n : ℕ) (v a b : List ℕ) → length v ≡ 2 * n → map as_looked_up a ≡ map hex_value (pick_l 0 (v ++ v) (range_with_len 0 n)) → map as_looked_up b ≡ map hex_value (pick_l 0 (v ++ v) (range_with_len n n))
+    → map as_looked_up (a ++ b) ≡ map hex_value v
+halves_looked_up n v a b e p q =
+    let long = length-append v v in
+    let front : take n (v ++ v) ≡ take n v = grind (arith, common_steps) in
+    let back : take n (drop n (v ++ v)) ≡ take n (drop n v) = grind (arith, common_steps) in
+    map-append as_looked_up a b
+    ∙ rw (p, q, pick_l-range_with_len 0 (v ++ v) 0 n (omega arith), pick_l-range_with_len 0 (v ++ v) n n (omega arith), front, back) (sym (map-append hex_value (take n v) (take n (drop n v))))
+    ∙ ap (map hex_value) (in_two n v e)
 
 -- ---- one test for several vectors
 

@@ -68,6 +68,13 @@ impl Steps for Lanes16 {
     }
 
     #[inline(always)]
+    fn check_two_steps(text: &[u8]) -> bool {
+        let first = lanes::ranks(u8x16::from_slice(text));
+        let second = lanes::ranks(u8x16::from_slice(&text[16..]));
+        lanes::are_ranks(first.simd_max(second))
+    }
+
+    #[inline(always)]
     fn check_four_steps(text: &[u8]) -> bool {
         let first = lanes::ranks(u8x16::from_slice(text));
         let second = lanes::ranks(u8x16::from_slice(&text[16..]));

@@ -69,6 +69,13 @@ impl Steps for Lanes32 {
     }
 
     #[inline(always)]
+    fn check_two_steps(text: &[u8]) -> bool {
+        let first = lanes::ranks(u8x32::from_slice(text));
+        let second = lanes::ranks(u8x32::from_slice(&text[32..]));
+        lanes::are_ranks(first.simd_max(second))
+    }
+
+    #[inline(always)]
     fn check_four_steps(text: &[u8]) -> bool {
         let first = lanes::ranks(u8x32::from_slice(text));
         let second = lanes::ranks(u8x32::from_slice(&text[32..]));

@@ -9,20 +9,6 @@ ghost use Rattle.const_hex_arch.specs.Nibbles.{as_value, IsValueOf, IsRankOf};
 
 use std::simd::prelude::*;
 
-/// By the low half of a byte: the half itself, and 16 more where no letter that is a digit ends in
-/// it, or 32 more where no digit does. Once for each block of 16 lanes.
-pub(crate) const BY_LOW_HALF: [u8; 32] = [
-    16, 1, 2, 3, 4, 5, 6, 23, 24, 25, 42, 43, 44, 45, 46, 47, 16, 1, 2, 3, 4, 5, 6, 23, 24, 25, 42,
-    43, 44, 45, 46, 47,
-];
-
-/// By the high half of a byte: what is added, so that the sum is below 128 where the byte is a
-/// digit, and nowhere else. Once for each block of 16 lanes.
-pub(crate) const BY_HIGH_HALF: [u8; 32] = [
-    192, 192, 192, 96, 121, 192, 121, 192, 192, 192, 192, 192, 192, 192, 192, 192, 192, 192, 192,
-    96, 121, 192, 121, 192, 192, 192, 192, 192, 192, 192, 192, 192,
-];
-
 /// The value of each lane that is a digit, and more than 15 for every other lane.
 ///
 /// This is algorithm 3 of Wojciech Muła and Geoff Langdale, "Validating hexadecimal", 2022-01-17.

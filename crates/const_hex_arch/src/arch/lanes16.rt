@@ -16,6 +16,16 @@ use crate::arch::lanes;
 use crate::tables::{HEX_CHARS_LOWER, HEX_CHARS_UPPER};
 use std::simd::prelude::*;
 
+/// By the low half of a byte: the half itself, and 16 more where no letter that is a digit ends in
+/// it, or 32 more where no digit does.
+const BY_LOW_HALF: [u8; 16] = [16, 1, 2, 3, 4, 5, 6, 23, 24, 25, 42, 43, 44, 45, 46, 47];
+
+/// By the high half of a byte: what is added, so that the sum is below 128 where the byte is a
+/// digit, and nowhere else.
+const BY_HIGH_HALF: [u8; 16] = [
+    192, 192, 192, 96, 121, 192, 121, 192, 192, 192, 192, 192, 192, 192, 192, 192,
+];
+
 /// Two digits for each lane, in order: the text of the first 8 lanes, and that of the last 8.
 ///
 /// ```rust
@@ -145,11 +155,11 @@ pub(crate) fn decode_untested(text: [u8x16; 2]) -> (u8x16, u8x16)
 // position of 128 or more reads as 0. The machine goes by the five bits of 0x8F alone, so this mask
 // costs nothing.
 #[inline(always)]
-fn looked_up(v: u8x16) -> u8x16
+pub(crate) fn looked_up(v: u8x16) -> u8x16
     ensures { map as_looked_up result ≡ map hex_value v }
 {
-    let by_low = u8x16::from_slice(&lanes::BY_LOW_HALF);
-    let by_high = u8x16::from_slice(&lanes::BY_HIGH_HALF);
+    let by_low = u8x16::from_array(BY_LOW_HALF);
+    let by_high = u8x16::from_array(BY_HIGH_HALF);
     by_low.swizzle_dyn(v & u8x16::splat(0x8F)) + by_high.swizzle_dyn(v >> u8x16::splat(4))
 }
 
@@ -172,7 +182,7 @@ fn merge(first: u8x16, second: u8x16) -> u8x16
 
 /// The lanes of both.
 #[inline(always)]
-fn join(first: u8x16, second: u8x16) -> u8x32
+pub(crate) fn join(first: u8x16, second: u8x16) -> u8x32
     ensures { result ≡ first ++ second }
 {
     first.shuffle(

@@ -26,6 +26,11 @@ pub(crate) trait Steps {
         requires { length text.now ≡ LANES }
         ensures { IsTrue result ↔ AllDigits text.now };
 
+    /// The same of the text of two steps, by one test.
+    fn check_two_steps(text: &[u8]) -> bool
+        requires { length text.now ≡ 2 * LANES }
+        ensures { IsTrue result ↔ AllDigits text.now };
+
     /// The same of the text of four steps, by one test.
     fn check_four_steps(text: &[u8]) -> bool
         requires { length text.now ≡ 4 * LANES }
@@ -74,7 +79,7 @@ pub(crate) fn encode<S: Steps, R: Kernel, O: Output>(input: &[u8], upper: bool, 
     R::encode(left, upper, output);
 }
 
-/// Checks by four steps at a time, then by steps, and the rest by another kernel.
+/// Checks by four steps at a time, then by two, then by steps, and the rest by another kernel.
 #[inline(always)]
 pub(crate) fn check<S: Steps, R: Kernel>(input: &[u8]) -> bool
     ensures { IsTrue result ↔ AllDigits input.now }
@@ -83,6 +88,22 @@ pub(crate) fn check<S: Steps, R: Kernel>(input: &[u8]) -> bool
     while left.len() >= 4 * S::LANES {
         let (text, rest) = left.split_at(4 * S::LANES);
         if !S::check_four_steps(text) {
+            return false;
+        }
+        left = rest;
+    }
+    check_pairs::<S, R>(left)
+}
+
+/// Checks by two steps at a time, then by steps, and the rest by another kernel.
+#[inline(always)]
+fn check_pairs<S: Steps, R: Kernel>(input: &[u8]) -> bool
+    ensures { IsTrue result ↔ AllDigits input.now }
+{
+    let mut left = input;
+    while left.len() >= 2 * S::LANES {
+        let (text, rest) = left.split_at(2 * S::LANES);
+        if !S::check_two_steps(text) {
             return false;
         }
         left = rest;
