@@ -1,16 +1,14 @@
-//! A text that is written into a vector with room for all of it.
+//! The text of bytes, in a vector with room for just that text.
 
-ghost use Rattle.std.specs.Prelude.{◌≡◌, None, IfOk, length};
+ghost use Rattle.std.specs.Prelude.{◌≡◌, Some, IfOk};
 ghost use Rattle.const_hex_arch.specs.Texts.{full_text};
-ghost use Rattle.const_hex.specs.Reserved.{ReservedStep};
+ghost use Rattle.const_hex.specs.Reserved.{ReservedStep, spare_room};
 
+use crate::fill::text_size;
 use const_hex_arch::{Kernel, Output, encode_full};
 use std::alloc::{AllocError, Global};
 
-/// Puts each piece behind what the vector holds.
-///
-/// The vector is made with room for the whole text, so no write asks for memory. A piece for which
-/// there is neither room nor memory is lost.
+/// Puts each piece into the room of a vector, behind what it holds.
 #[derive(Drop)]
 struct ReservedOutput {
     bytes: Vec<u8>,
@@ -19,41 +17,42 @@ struct ReservedOutput {
 impl Output for ReservedOutput {
     ghost step = { ReservedStep };
 
-    ghost room = { λ _. None };
+    ghost room = { λ o. Some (spare_room o) };
 
     #[inline(always)]
     fn remaining(&self) -> Option<usize> {
-        None
+        Some(self.bytes.capacity().saturating_sub(self.bytes.len()))
     }
 
+    // The length of a kernel's piece is known where this is compiled, so the machine stores it whole.
     #[inline(always)]
     fn write(&mut self, bytes: &[u8]) {
-        let _ = self.bytes.extend_from_slice(bytes);
+        for byte in bytes {
+            self.bytes.push_reserved(*byte);
+        }
     }
 
-    #[inline(always)]
-    fn write_byte(&mut self, byte: u8) {
-        let _ = self.bytes.push(byte);
-    }
+    ghost use Rattle.std.proofs.Common.{arith};
 
-    ghost use Rattle.std.proofs.Common.{refl};
-
-    ghost shrinks = { λ s piece t h. refl };
+    ghost shrinks = { λ s piece t h. Prim.grind (arith) };
 }
 
-/// The bytes of a text of just that size.
+/// The bytes of the text, behind `0x` where a prefix is wanted. Memory is asked for once, of the
+/// text's length.
+#[inline(always)]
 pub(crate) fn reserved_bytes<K: Kernel>(
     alloc: Global,
     input: &[u8],
     prefix: bool,
     upper: bool,
-    size: usize,
 ) -> Result<Vec<u8>, AllocError>
-    requires { size ≡ length (full_text prefix upper input.now) }
     ensures { IfOk result (λ v. v.items ≡ full_text prefix upper input.now) }
 {
+    if input.len() > (usize::MAX - 2) / 2 {
+        return Err(AllocError);
+    }
     let mut output = ReservedOutput {
-        bytes: Vec::with_capacity(alloc, size)?,
+        bytes: Vec::with_capacity(alloc, text_size(prefix, input.len()))?,
     };
     encode_full::<K, ReservedOutput>(input, prefix, upper, &mut output);
     let ReservedOutput { bytes } = output;

@@ -1,17 +1,16 @@
 -- From the values of two vectors of text to the bytes that it spells.
-use Rattle.std.proofs.Common.{◌≡◌, ℕ, zero, suc, ◌+◌, ◌*◌, ◌%◌, ◌/◌, ◌≤◌, ◌↔◌, leb, eqb, List, [], ◌∷◌, ◌++◌, map, length, take, drop, get_or, bit_or, refl, sym, ap, subst, ◌∙◌, arith, Some, None, leb→le, eqb→eq, le-leb, length-append}
+use Rattle.std.proofs.Common.{◌≡◌, ℕ, zero, suc, ◌+◌, ◌*◌, ◌%◌, ◌/◌, ◌≤◌, eqb, List, [], ◌∷◌, ◌++◌, map, length, take, drop, get_or, refl, sym, ap, subst, ◌∙◌, arith, Some, None, eqb→eq, le-leb, length-append}
 use Rattle.std.specs.List.{range_with_len}
 use Rattle.std.proofs.lemmas.Grind.{common_steps}
 use Rattle.std.proofs.lemmas.List.{map-append}
-use Rattle.std.proofs.lemmas.Nat.{le_or_l, le_or_r}
 use Rattle.std.proofs.lemmas.Simd.{pick_l_whole}
-use lib.Lanes.{zip2, number_l, digits_l, pick_l}
+use lib.Lanes.{number_l, digits_l, pick_l}
 use Rattle.const_hex_arch.specs.Digits.{hex_value}
 use Rattle.const_hex_arch.specs.Lanes.{AllNibbles, byte_pairs}
 use Rattle.const_hex_arch.specs.Nibbles.{as_value}
 use Rattle.const_hex_arch.specs.Texts.{AllDigits, Spells}
 use Rattle.const_hex_arch.proofs.Computed.{all_below, every_below}
-use Rattle.const_hex_arch.proofs.LaneValues.{nibbles_are_digits}
+use Rattle.const_hex_arch.proofs.LaneValues.{small_values}
 use Rattle.const_hex_arch.proofs.Spelling.{IsPair-of}
 
 -- ---- two values in a lane of twice the width
@@ -38,25 +37,6 @@ merge_all (suc k) (h ∷ l ∷ ns) e a =
 pub join_are : (n : ℕ) (a b : List ℕ) → length a ≡ n → length b ≡ n → pick_l 0 (a ++ b) (range_with_len 0 (n + n)) ≡ a ++ b
 join_are n a b p q = pick_l_whole 0 (a ++ b) (n + n) (omega (arith, length-append a b))
 
--- ---- one test for two vectors
-
-or_small : (a b : ℕ) → a ≤ 15 → b ≤ 15 → bit_or a b ≤ 15
-or_small a b p q = leb→le _ _ (every_below (λ b. leb (bit_or a b) 15) 16 (every_below (λ a. all_below (λ b. leb (bit_or a b) 15) 16) 16 tt a (omega arith)) b (omega arith))
-
-pub both_nibbles : (xs ys : List ℕ) → length xs ≡ length ys → AllNibbles (zip2 bit_or xs ys) ↔ (AllNibbles xs × AllNibbles ys)
-both_nibbles [] [] e = (λ h. (tt, tt), λ h. tt)
-both_nibbles [] (y ∷ ys) e = absurd (omega arith)
-both_nibbles (x ∷ xs) [] e = absurd (omega arith)
-both_nibbles (x ∷ xs) (y ∷ ys) e =
-    let more = both_nibbles xs ys (omega arith) in
-    (λ h. ((omega (arith, h.0, le_or_l x y), (more.0 h.1).0), (omega (arith, h.0, le_or_r x y), (more.0 h.1).1)), λ h. (or_small x y h.0.0 h.1.0, more.1 (h.0.1, h.1.1)))
-
-nibbles_append : (xs ys : List ℕ) → AllNibbles (xs ++ ys) ↔ (AllNibbles xs × AllNibbles ys)
-nibbles_append [] ys = (λ h. (tt, h), λ h. h.1)
-nibbles_append (x ∷ xs) ys =
-    let more = nibbles_append xs ys in
-    (λ h. ((h.0, (more.0 h.1).0), (more.0 h.1).1), λ h. (h.0.0, more.1 (h.0.1, h.1)))
-
 -- ---- the bytes that values spell
 
 value_is : (n b : ℕ) → as_value n ≡ hex_value b → n ≤ 15 → hex_value b ≡ Some n
@@ -80,18 +60,10 @@ module _ (n : ℕ) (w t u a b : List ℕ) (whole : w ≡ t ++ u) (long_a : lengt
   values : map as_value (a ++ b) ≡ map hex_value w
   values = map-append as_value a b ∙ rw (values_a, values_b) refl ∙ sym (map-append hex_value t u) ∙ ap (map hex_value) (sym whole)
 
-  -- one test of both
-  pub one_test : AllNibbles (zip2 bit_or a b) ↔ AllDigits w
-  one_test =
-      let both = both_nibbles a b (long_a ∙ sym long_b) in
-      let parts = nibbles_append a b in
-      let same = nibbles_are_digits (a ++ b) w values in
-      (λ h. same.0 (parts.1 (both.0 h)), λ d. both.1 (parts.0 (same.1 d)))
-
   -- of digits
   pub merge_spells : (r : List ℕ) → (AllNibbles (a ++ b) → r ≡ byte_pairs (a ++ b)) → AllDigits w → Spells w r
   merge_spells r is d =
-      let h = (nibbles_are_digits (a ++ b) w values).1 d in
+      let h = small_values (a ++ b) w values d in
       subst (Spells w) (sym (is h)) (Spells-byte_pairs n (a ++ b) w (omega (arith, length-append a b)) values h)
 
 -- ---- the vectors of a slice

@@ -127,12 +127,13 @@ max_ranks (x ∷ xs) (y ∷ ys) e =
 
 -- ---- one test of four vectors
 
-two_tests : (t u a b : List ℕ) → length a ≡ length b → AllZip IsRankOf t a → AllZip IsRankOf u b → AllRanks (max_l a b) ↔ AllDigits (t ++ u)
-two_tests t u a b e p q =
+pub two_tests : (t u w a b : List ℕ) → t ++ u ≡ w → length a ≡ length b → AllZip IsRankOf t a → AllZip IsRankOf u b → AllRanks (max_l a b) ↔ AllDigits w
+two_tests t u w a b whole e p q =
     let both = max_ranks a b e in
     let first = ranks_are_digits t a p in
     let second = ranks_are_digits u b q in
     let parts = digits_append t u in
+    subst (λ w. AllRanks (max_l a b) ↔ AllDigits w) whole
     (λ h. parts.1 (first.0 (both.0 h).0, second.0 (both.0 h).1), λ d. both.1 (first.1 (parts.0 d).0, second.1 (parts.0 d).1))
 
 in_four : (n : ℕ) (u : List ℕ) → length u ≡ 4 * n → (take n u ++ take n (drop n u)) ++ (take n (drop (2 * n) u) ++ take n (drop (3 * n) u)) ≡ u
@@ -148,8 +149,8 @@ pub four_tests : (n : ℕ) (u a b c d : List ℕ) → length u ≡ 4 * n → len
     → AllZip IsRankOf (take n u) a → AllZip IsRankOf (take n (drop n u)) b → AllZip IsRankOf (take n (drop (2 * n) u)) c → AllZip IsRankOf (take n (drop (3 * n) u)) d
     → AllRanks (max_l (max_l a b) (max_l c d)) ↔ AllDigits u
 four_tests n u a b c d size long_a long_b long_c long_d ranks_a ranks_b ranks_c ranks_d =
-    let first = two_tests _ _ a b (long_a ∙ sym long_b) ranks_a ranks_b in
-    let second = two_tests _ _ c d (long_c ∙ sym long_d) ranks_c ranks_d in
+    let first = two_tests _ _ _ a b refl (long_a ∙ sym long_b) ranks_a ranks_b in
+    let second = two_tests _ _ _ c d refl (long_c ∙ sym long_d) ranks_c ranks_d in
     let long : length (max_l a b) ≡ length (max_l c d) = length-max_l a b (long_a ∙ sym long_b) ∙ long_a ∙ sym (length-max_l c d (long_c ∙ sym long_d) ∙ long_c) in
     let all = max_ranks (max_l a b) (max_l c d) long in
     let parts = digits_append (take n u ++ take n (drop n u)) (take n (drop (2 * n) u) ++ take n (drop (3 * n) u)) in

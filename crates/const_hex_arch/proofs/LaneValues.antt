@@ -1,26 +1,28 @@
 -- The values of digits, in vectors of any number of lanes.
-use Rattle.std.proofs.Common.{◌≡◌, ℕ, zero, suc, ◌+◌, ◌-◌, ◌%◌, ◌^◌, ◌<◌, ◌≤◌, ◌↔◌, Bool, true, false, cond, eqb, ltb, T, ◌||◌, List, [], ◌∷◌, map, length, replicate, drop, get_or, bit_and, bit_or, leb, leb→le, refl, ap, subst, arith, w8, Fits, Option, Some, None, IsSome, IsTrue, eqb→eq, eqb-true, eq-eqb}
+use Rattle.std.proofs.Common.{◌≡◌, ℕ, zero, suc, ◌+◌, ◌*◌, ◌-◌, ◌%◌, ◌^◌, ◌<◌, ◌≤◌, ◌↔◌, Bool, true, false, cond, eqb, ltb, not, T, ltb-true, ltb-false, ◌||◌, List, [], ◌∷◌, map, length, replicate, drop, get_or, bit_and, refl, ap, subst, arith, w8, Fits, Option, Some, None, IsSome, IsTrue, eqb→eq, eqb-true, eq-eqb}
 use Rattle.std.specs.List.{AllZip}
+use Rattle.std.proofs.Math.Bool.{not-not}
 use Rattle.std.proofs.lemmas.Bool.Decides.{nat_tests}
-use Rattle.std.proofs.lemmas.List.Elements.{All-nil, All-head, All-tail, All-cons}
-use Rattle.std.proofs.lemmas.Nat.{le_or_l, le_or_r}
-use lib.Lanes.{zip2, sel_l, top, fold_l, Each1}
+use Rattle.std.proofs.lemmas.List.Elements.{All-head, All-tail}
+use Rattle.std.proofs.lemmas.Simd.{mask_l-mod}
+use lib.Lanes.{zip2, sel_l, top, mask_l, Each1}
 use Rattle.const_hex_arch.specs.Digits.{hex_value, IsDigit}
 use Rattle.const_hex_arch.specs.Texts.{AllDigits}
 use Rattle.const_hex_arch.specs.Lanes.{AllNibbles}
+use Rattle.const_hex_arch.specs.Lookups.{AllLookedUp}
 use Rattle.const_hex_arch.specs.Nibbles.{as_value, IsValueOf}
 use Rattle.const_hex_arch.proofs.Computed.{every_below}
 use Rattle.const_hex_arch.proofs.Spelling.{false_is_true, hex_value-small}
 
 -- ---- values that are compared by computing
 
-abbrev same_value : Option ℕ → Option ℕ → Bool
+abbrev pub same_value : Option ℕ → Option ℕ → Bool
 same_value None None = true
 same_value None (Some b) = false
 same_value (Some a) None = false
 same_value (Some a) (Some b) = eqb a b
 
-same_value-true : (o p : Option ℕ) → T (same_value o p) → o ≡ p
+pub same_value-true : (o p : Option ℕ) → T (same_value o p) → o ≡ p
 same_value-true None None t = refl
 same_value-true None (Some b) t = absurd t
 same_value-true (Some a) None t = absurd t
@@ -34,12 +36,12 @@ same_if_some : (o p : Option ℕ) → T (is_none o || same_value o p) → IsSome
 same_if_some None p t s = absurd (false_is_true s)
 same_if_some (Some v) p t s = same_value-true (Some v) p t
 
-cons_same : {A : Type 0} {x y : A} {xs ys : List A} → x ≡ y → xs ≡ ys → ◌≡◌ {A = List A} (x ∷ xs) (y ∷ ys)
+pub cons_same : {A : Type 0} {x y : A} {xs ys : List A} → x ≡ y → xs ≡ ys → ◌≡◌ {A = List A} (x ∷ xs) (y ∷ ys)
 cons_same e f = rw (e, f) refl
 
 -- ---- the operations on a vector
 
-abbrev add8 : ℕ → ℕ → ℕ
+abbrev pub add8 : ℕ → ℕ → ℕ
 add8 a b = (a + b) % 2 ^ 8
 
 abbrev pub sub8 : ℕ → ℕ → ℕ
@@ -109,41 +111,38 @@ values_of_digits (b ∷ v) (n ∷ ns) z d =
 
 -- ---- the test of all lanes
 
--- a byte is a value where its high half is 0
-high_half-zero : (x : ℕ) → x ≤ 15 → bit_and x 240 ≡ 0
-high_half-zero x h = eqb→eq _ _ (every_below (λ x. eqb (bit_and x 240) 0) 16 tt x (omega arith))
+-- the lanes above 127
+abbrev high_lanes : ℕ → List ℕ → List Bool
+high_lanes n xs = map (top 7) (zip2 below_mask (replicate n 127) xs)
 
-high_half-some : (x : ℕ) → x < 256 → bit_and x 240 ≡ 0 → x ≤ 15
-high_half-some x h e = leb→le _ _ (subst (λ a. T (ltb 0 a || leb x 15)) e (every_below (λ x. ltb 0 (bit_and x 240) || leb x 15) 256 tt x h))
+one_high : (x m : ℕ) (b : Bool) → ltb 127 x ≡ b → (cond (top 7 (cond b 255 0)) 1 0 + 2 * m ≡ 0) ↔ ((x < 128) × (m ≡ 0))
+one_high x m true e = (λ h. absurd (omega (arith, h)), λ h. absurd (omega (arith, ltb-true 127 x e, h.0)))
+one_high x m false e = (λ h. (omega (arith, ltb-false 127 x e), omega (arith, h)), λ h. rw h.1 refl)
 
-high_halves : (a : ℕ) (xs : List ℕ) → Each1 (Fits w8) xs → (fold_l bit_or a (zip2 bit_and xs (replicate (length xs) 240)) ≡ 0) ↔ ((a ≡ 0) × AllNibbles xs)
-high_halves a [] f = (λ e. (e, tt), λ h. h.0)
-high_halves a (x ∷ xs) f =
-    let high = bit_and x 240 in
-    let more = high_halves (bit_or a high) xs f.1 in (
-      λ e. (
-          let none = (more.0 e).0 in (omega (arith, none, le_or_l a high), (high_half-some x f.0.fits (omega (arith, none, le_or_r a high)), (more.0 e).1))
-          ),
-      λ h. (let none : high ≡ 0 = high_half-zero x h.1.0 in more.1 (rw (none, h.0) refl, h.1.1)),
-    )
+none_high : (xs : List ℕ) → (mask_l (high_lanes (length xs) xs) ≡ 0) ↔ AllLookedUp xs
+none_high [] = (λ _. tt, λ _. refl)
+none_high (x ∷ xs) =
+    let one = one_high x (mask_l (high_lanes (length xs) xs)) (ltb 127 x) refl in
+    let more = none_high xs in
+    (λ h. ((one.0 h).0, more.0 (one.0 h).1), λ h. one.1 (h.0, more.1 h.1))
 
-pub are_nibbles : (n : ℕ) (xs : List ℕ) → (length xs ≡ n) × Each1 (Fits w8) xs → IsTrue (eqb (fold_l bit_or 0 (zip2 bit_and xs (replicate n 240))) 0) ↔ AllNibbles xs
-are_nibbles n xs f =
-    let all = high_halves 0 xs f.1 in
-    let as_many = λ (n : ℕ). fold_l bit_or 0 (zip2 bit_and xs (replicate n 240)) in
-    let zero_is_zero : zero ≡ 0 = refl in
-    subst (λ n. IsTrue (eqb (as_many n) 0) ↔ AllNibbles xs) f.0
-    (λ t. (all.0 (eqb-true (as_many (length xs)) 0 t)).1, λ a. eq-eqb (as_many (length xs)) 0 (all.1 (zero_is_zero, a)))
+length-high_lanes : (xs : List ℕ) → length (high_lanes (length xs) xs) ≡ length xs
+length-high_lanes [] = refl
+length-high_lanes (x ∷ xs) = ap suc (length-high_lanes xs)
 
-one_digit : (n x : ℕ) → as_value n ≡ hex_value x → (n ≤ 15) ↔ IsDigit x
-one_digit n x e = rw (← e) (λ h. grind (arith, nat_tests), λ s. grind (arith, nat_tests))
+pub are_looked_up : (n : ℕ) (xs : List ℕ) → n ≤ 64 → length xs ≡ n → IsTrue (not (not (eqb (mask_l (high_lanes n xs) % 2 ^ 64) 0))) ↔ AllLookedUp xs
+are_looked_up n xs most e =
+    let all = none_high xs in
+    let mask = mask_l (high_lanes (length xs) xs) in
+    let whole : mask % 2 ^ 64 ≡ mask = mask_l-mod (high_lanes (length xs) xs) 64 (omega (arith, length-high_lanes xs)) in
+    subst (λ n. IsTrue (not (not (eqb (mask_l (high_lanes n xs) % 2 ^ 64) 0))) ↔ AllLookedUp xs) e
+    (rw (whole, not-not (eqb mask 0)) (λ t. all.0 (eqb-true mask 0 t), λ a. eq-eqb mask 0 (all.1 a)))
 
--- lanes are values where what they stand for is digits
-pub nibbles_are_digits : (ns v : List ℕ) → map as_value ns ≡ map hex_value v → AllNibbles ns ↔ AllDigits v
-nibbles_are_digits [] [] e = (λ _. All-nil IsDigit, λ _. tt)
-nibbles_are_digits [] (x ∷ v) e = absurd (let q : zero ≡ suc (length (map hex_value v)) = ap length e in omega arith)
-nibbles_are_digits (n ∷ ns) [] e = absurd (let q : suc (length (map as_value ns)) ≡ zero = ap length e in omega arith)
-nibbles_are_digits (n ∷ ns) (x ∷ v) e =
-    let one = one_digit n x (ap (λ l. get_or l 0 None) e) in
-    let more = nibbles_are_digits ns v (ap (drop 1) e) in
-    (λ a. All-cons IsDigit x v (one.0 a.0) (more.0 a.1), λ a. (one.1 (All-head IsDigit x v a), more.1 (All-tail IsDigit x v a)))
+one_small : (n x : ℕ) → as_value n ≡ hex_value x → IsDigit x → n ≤ 15
+one_small n x e = rw (← e) (λ s. grind (arith, nat_tests))
+
+-- the values of digits are small
+pub small_values : (ns v : List ℕ) → map as_value ns ≡ map hex_value v → AllDigits v → AllNibbles ns
+small_values [] v e d = tt
+small_values (n ∷ ns) [] e d = absurd (let q : suc (length (map as_value ns)) ≡ zero = ap length e in omega arith)
+small_values (n ∷ ns) (x ∷ v) e d = (one_small n x (ap (λ l. get_or l 0 None) e) (All-head IsDigit x v d), small_values ns v (ap (drop 1) e) (All-tail IsDigit x v d))

@@ -1,6 +1,7 @@
 pub mod Computed
 pub mod Gathering
 pub mod LaneBytes
+pub mod LaneLookups
 pub mod LaneRanks
 pub mod LaneText
 pub mod LaneValues

@@ -99,13 +99,16 @@ decoded_step u old new r i n m end d e h f l s =
       rest = past ∙ rw e (sym (drop-drop n i new) ∙ ap (drop n) d.rest ∙ drop-drop n i old);
     }
 
+-- a step that wrote nothing
+pub kept_step : (new r : List ℕ) (i n : ℕ) → r ≡ take n (drop i new) → put_mid i n new r ≡ new
+kept_step new r i n e = rw e (ap (λ x. take i new ++ x) (take-append-drop n (drop i new)) ∙ take-append-drop i new)
+
 -- a step that is refused, and wrote nothing
 pub refused_step : (u old new r : List ℕ) (i n m : ℕ) → IsDecoded u old new i → length u ≡ 2 * length old → r ≡ take n (drop i new) → (AllDigits (take m (drop (2 * i) u)) → ⊥) → Partial old u (put_mid i n new r)
 refused_step u old new r i n m d size e none =
     let within = d.within in
     let same = d.same_length in
-    let kept : put_mid i n new r ≡ new = rw e (ap (λ x. take i new ++ x) (take-append-drop n (drop i new)) ∙ take-append-drop i new) in
-    rw kept (Partial-after old u new i (2 * i) (omega arith) (omega arith) same within d.front (rw (← d.rest) (none_decoded (drop i new) (drop (2 * i) u) (λ a. none (All-take IsDigit m (drop (2 * i) u) a)))))
+    rw (kept_step new r i n e) (Partial-after old u new i (2 * i) (omega arith) (omega arith) same within d.front (rw (← d.rest) (none_decoded (drop i new) (drop (2 * i) u) (λ a. none (All-take IsDigit m (drop (2 * i) u) a)))))
 
 -- the rest by another kernel
 module _ (u old new r : List ℕ) (i : ℕ) (d : IsDecoded u old new i) (size : length u ≡ 2 * length old) (long : length r ≡ length new - i) where

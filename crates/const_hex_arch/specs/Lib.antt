@@ -2,6 +2,7 @@ pub mod Digits
 pub mod Gathering
 pub mod Lanes
 pub mod Laws
+pub mod Lookups
 pub mod Nibbles
 pub mod Pieces
 pub mod Runs

@@ -2,7 +2,7 @@
 //! byte late in a text.
 
 use crate::own_kernel::Backward;
-use crate::texts::{behind, bytes, place_in_answer, place_in_text, printed, refusal, repeated};
+use crate::texts::{behind, bytes, place_in_text, printed, refusal, repeated};
 use const_hex::serde::{JsonError, no_prefix};
 use const_hex::{
     Buffer, CheckFirst, Display, FromHex, Kernel, Lanes16, Lanes32, Plain, ToHex, ToHexExt, check,
@@ -158,30 +158,29 @@ fn same_bits(rt: &impl Abort, numbers: &[i8], want: &[u8]) {
 
 /// Each decoder names a bad byte, behind a prefix of that length and at that place of the body.
 fn refused(rt: &impl Abort, alloc: Global, text: &[u8], at: (usize, usize)) -> Result<(), Fail> {
-    let in_text = refusal(b'g', place_in_text(at.0, at.1));
-    let in_answer = refusal(b'g', place_in_answer(at.0, at.1));
-    assert_eq!(rt; check(text), Err(in_text));
-    assert_eq!(rt; const_check(text), Err(in_answer));
-    assert_eq!(rt; decode(alloc, text).err(), Some(in_answer));
+    let refusal = refusal(b'g', place_in_text(at.0, at.1));
+    assert_eq!(rt; check(text), Err(refusal));
+    assert_eq!(rt; const_check(text), Err(refusal));
+    assert_eq!(rt; decode(alloc, text).err(), Some(refusal));
     let mut output = vec![in alloc; 0u8; (text.len() - at.0.min(text.len())) / 2]?;
-    assert_eq!(rt; decode_to_slice(text, &mut output), Err(in_answer));
-    assert_eq!(rt; <Vec<u8>>::from_hex(alloc, text).err(), Some(in_answer));
-    assert_eq!(rt; <Vec<i8>>::from_hex(alloc, text).err(), Some(in_answer));
+    assert_eq!(rt; decode_to_slice(text, &mut output), Err(refusal));
+    assert_eq!(rt; <Vec<u8>>::from_hex(alloc, text).err(), Some(refusal));
+    assert_eq!(rt; <Vec<i8>>::from_hex(alloc, text).err(), Some(refusal));
     assert_eq!(rt;
         <BoxedSlice<u8>>::from_hex(alloc, text).err(),
-        Some(in_answer)
+        Some(refusal)
     );
     assert_eq!(rt;
         <BoxedSlice<i8>>::from_hex(alloc, text).err(),
-        Some(in_answer)
+        Some(refusal)
     );
     assert_eq!(rt;
         <Box<Rc<Vec<u8>>>>::from_hex(alloc, text).err(),
-        Some(in_answer)
+        Some(refusal)
     );
     if let Ok(text) = String::from_utf8(text.to_vec(alloc)?) {
         let answer = deserialize::<Vec<u8>>(alloc, &Value::String(text)).err();
-        assert_eq!(rt; answer, Some(JsonError::Hex(in_answer)));
+        assert_eq!(rt; answer, Some(JsonError::Hex(refusal)));
     }
     Ok(())
 }
@@ -209,15 +208,11 @@ fn by_kernel<K: Kernel>(rt: &impl Abort, alloc: Global, long: &Long) -> Result<(
     assert!(rt; decode_with::<K>(alloc, long.prefixed_upper.as_bytes())? == long.bytes);
     let place = long.lower.len().saturating_sub(1);
     let text = with_a_bad_byte(alloc, "0x", &long.lower, place)?;
-    let in_text = refusal(b'g', place_in_text(2, place));
-    let in_answer = refusal(b'g', place_in_answer(2, place));
-    assert_eq!(rt; check_with::<K>(&text), Err(in_text));
-    assert_eq!(rt; decode_with::<K>(alloc, &text).err(), Some(in_answer));
+    let refusal = refusal(b'g', place_in_text(2, place));
+    assert_eq!(rt; check_with::<K>(&text), Err(refusal));
+    assert_eq!(rt; decode_with::<K>(alloc, &text).err(), Some(refusal));
     let mut output = vec![in alloc; 0xEEu8; long.bytes.len()]?;
-    assert_eq!(rt;
-        decode_to_slice_with::<K>(&text, &mut output),
-        Err(in_answer)
-    );
+    assert_eq!(rt; decode_to_slice_with::<K>(&text, &mut output), Err(refusal));
     Ok(())
 }
 

@@ -27,16 +27,9 @@ pub(crate) fn behind(alloc: Global, prefix: &str, body: &[u8]) -> Result<Vec<u8>
     Ok(text)
 }
 
-/// The place in the whole text of a place in its body, behind a prefix of that length. It is what
-/// `check` names.
+/// The place in the whole text of a place in its body, behind a prefix of that length.
 pub(crate) fn place_in_text(prefix_length: usize, place: usize) -> usize {
     prefix_length.saturating_add(place)
-}
-
-/// The place that decoders and `const_check` name for a place in the body, behind a prefix of that
-/// length: they count from the body.
-pub(crate) fn place_in_answer(_prefix_length: usize, place: usize) -> usize {
-    place
 }
 
 /// The refusal that names a byte and a place.

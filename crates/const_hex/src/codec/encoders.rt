@@ -8,13 +8,10 @@ ghost use Rattle.const_hex.specs.Loans.{EndsEncoded};
 ghost use Rattle.const_hex.specs.declared.error.FromHexError.TheVariants.{InvalidStringLength};
 
 use crate::error::FromHexError;
-use crate::fill::{fill, text_size};
+use crate::fill::fill;
 use crate::reserved::reserved_bytes;
 use const_hex_arch::{FixedKernel, Kernel};
 use std::alloc::{AllocError, Global};
-
-/// The longest text that is written over zeros. A longer one goes into a vector with room.
-const MOST_ZEROS: usize = 32_768;
 
 /// The text, owned.
 #[inline(always)]
@@ -26,30 +23,8 @@ fn owned<K: Kernel>(
 ) -> Result<String, AllocError>
     ensures { IfOk result (λ s. string_bytes s ≡ full_text prefix upper input.now) }
 {
-    let text = owned_bytes::<K>(alloc, input, prefix, upper)?;
+    let text = reserved_bytes::<K>(alloc, input, prefix, upper)?;
     Ok(unsafe { String::from_utf8_unchecked(text) })
-}
-
-/// The bytes of the text. Memory is asked for once, of the text's length.
-#[inline(always)]
-fn owned_bytes<K: Kernel>(
-    alloc: Global,
-    input: &[u8],
-    prefix: bool,
-    upper: bool,
-) -> Result<Vec<u8>, AllocError>
-    ensures { IfOk result (λ v. v.items ≡ full_text prefix upper input.now) }
-{
-    if input.len() > (usize::MAX - 2) / 2 {
-        return Err(AllocError);
-    }
-    let size = text_size(prefix, input.len());
-    if size > MOST_ZEROS {
-        return reserved_bytes::<K>(alloc, input, prefix, upper, size);
-    }
-    let mut text = vec![in alloc; 0u8; size]?;
-    fill::<K>(input, prefix, upper, &mut text);
-    Ok(text)
 }
 
 /// Two digits for each byte, in order, with lower letters.

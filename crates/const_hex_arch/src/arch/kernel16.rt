@@ -1,6 +1,6 @@
 //! The kernel of 16 lanes.
 
-ghost use Rattle.std.specs.Prelude.{◌≡◌, ◌*◌, ◌↔◌, IsTrue, false, length};
+ghost use Rattle.std.specs.Prelude.{◌≡◌, ◌*◌, ◌++◌, ◌↔◌, IsTrue, false, length};
 ghost use Rattle.std.specs.List.{concat};
 ghost use Rattle.const_hex_arch.specs.Texts.{AllDigits, Spells};
 
@@ -70,6 +70,13 @@ impl Steps for Lanes16 {
     }
 
     #[inline(always)]
+    fn check_two_steps(text: &[u8]) -> bool {
+        let first = lanes::ranks(u8x16::from_slice(text));
+        let second = lanes::ranks(u8x16::from_slice(&text[16..]));
+        lanes::are_ranks(first.simd_max(second))
+    }
+
+    #[inline(always)]
     fn check_four_steps(text: &[u8]) -> bool {
         let first = lanes::ranks(u8x16::from_slice(text));
         let second = lanes::ranks(u8x16::from_slice(&text[16..]));
@@ -83,6 +90,17 @@ impl Steps for Lanes16 {
         let (bytes, are_digits) = lanes16::decode_pair(two_vectors(text));
         if are_digits {
             bytes.copy_to_slice(output);
+        }
+        are_digits
+    }
+
+    #[inline(always)]
+    fn decode_two_steps(text: &[u8], output: &mut [u8]) -> bool {
+        let (first, second, are_digits) = decode_two_pairs(text);
+        if are_digits {
+            let (front, back) = output.split_at_mut(16);
+            first.copy_to_slice(front);
+            second.copy_to_slice(back);
         }
         are_digits
     }
@@ -104,4 +122,18 @@ fn two_vectors(text: &[u8]) -> [u8x16; 2]
     ensures { concat result ≡ text.now }
 {
     [u8x16::from_slice(text), u8x16::from_slice(&text[16..])]
+}
+
+/// The bytes that the text of two steps spells, and whether each byte of it is a digit, by one test.
+/// Where one is not, the bytes mean nothing.
+#[inline(always)]
+fn decode_two_pairs(text: &[u8]) -> (u8x16, u8x16, bool)
+    requires { length text.now ≡ 64 }
+    ensures digits { IsTrue result.2 ↔ AllDigits text.now }
+    ensures spells { IsTrue result.2 → Spells text.now (result.0 ++ result.1) }
+{
+    let (text, next) = text.split_at(32);
+    let (first, values) = lanes16::decode_untested(two_vectors(text));
+    let (second, more) = lanes16::decode_untested(two_vectors(next));
+    (first, second, lanes::are_looked_up(values | more))
 }

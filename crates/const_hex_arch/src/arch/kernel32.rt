@@ -1,6 +1,6 @@
 //! The kernel of 32 lanes.
 
-ghost use Rattle.std.specs.Prelude.{◌≡◌, ◌*◌, ◌↔◌, IsTrue, false, length};
+ghost use Rattle.std.specs.Prelude.{◌≡◌, ◌*◌, ◌++◌, ◌↔◌, IsTrue, false, length};
 ghost use Rattle.std.specs.List.{concat};
 ghost use Rattle.const_hex_arch.specs.Texts.{AllDigits, Spells};
 
@@ -71,6 +71,13 @@ impl Steps for Lanes32 {
     }
 
     #[inline(always)]
+    fn check_two_steps(text: &[u8]) -> bool {
+        let first = lanes::ranks(u8x32::from_slice(text));
+        let second = lanes::ranks(u8x32::from_slice(&text[32..]));
+        lanes::are_ranks(first.simd_max(second))
+    }
+
+    #[inline(always)]
     fn check_four_steps(text: &[u8]) -> bool {
         let first = lanes::ranks(u8x32::from_slice(text));
         let second = lanes::ranks(u8x32::from_slice(&text[32..]));
@@ -84,6 +91,17 @@ impl Steps for Lanes32 {
         let (bytes, are_digits) = lanes32::decode_pair(two_vectors(text));
         if are_digits {
             bytes.copy_to_slice(output);
+        }
+        are_digits
+    }
+
+    #[inline(always)]
+    fn decode_two_steps(text: &[u8], output: &mut [u8]) -> bool {
+        let (first, second, are_digits) = decode_two_pairs(text);
+        if are_digits {
+            let (front, back) = output.split_at_mut(32);
+            first.copy_to_slice(front);
+            second.copy_to_slice(back);
         }
         are_digits
     }
@@ -105,4 +123,18 @@ fn two_vectors(text: &[u8]) -> [u8x32; 2]
     ensures { concat result ≡ text.now }
 {
     [u8x32::from_slice(text), u8x32::from_slice(&text[32..])]
+}
+
+/// The bytes that the text of two steps spells, and whether each byte of it is a digit, by one test.
+/// Where one is not, the bytes mean nothing.
+#[inline(always)]
+fn decode_two_pairs(text: &[u8]) -> (u8x32, u8x32, bool)
+    requires { length text.now ≡ 128 }
+    ensures digits { IsTrue result.2 ↔ AllDigits text.now }
+    ensures spells { IsTrue result.2 → Spells text.now (result.0 ++ result.1) }
+{
+    let (text, next) = text.split_at(64);
+    let (first, values) = lanes32::decode_untested(two_vectors(text));
+    let (second, more) = lanes32::decode_untested(two_vectors(next));
+    (first, second, lanes::are_looked_up(values | more))
 }

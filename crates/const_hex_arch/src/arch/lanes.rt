@@ -3,7 +3,8 @@
 ghost use Rattle.std.specs.Prelude.{◌≡◌, ◌≤◌, ◌↔◌, map, IsTrue};
 ghost use Rattle.std.specs.List.{AllZip};
 ghost use Rattle.const_hex_arch.specs.Digits.{hex_value};
-ghost use Rattle.const_hex_arch.specs.Lanes.{AllNibbles, AllRanks};
+ghost use Rattle.const_hex_arch.specs.Lanes.{AllRanks};
+ghost use Rattle.const_hex_arch.specs.Lookups.{AllLookedUp};
 ghost use Rattle.const_hex_arch.specs.Nibbles.{as_value, IsValueOf, IsRankOf};
 
 use std::simd::prelude::*;
@@ -22,12 +23,13 @@ pub(crate) fn nibbles<const N: usize>(v: Simd<u8, N>) -> Simd<u8, N>
     decimal.simd_min(letter)
 }
 
-/// Whether no lane is above 15, that is, whether the high half of each lane is 0.
+/// Whether no lane is above 127, of at most 64 lanes.
 #[inline(always)]
-pub(crate) fn are_nibbles<const N: usize>(nibbles: Simd<u8, N>) -> bool
-    ensures { IsTrue result ↔ AllNibbles nibbles.entry }
+pub(crate) fn are_looked_up<const N: usize>(values: Simd<u8, N>) -> bool
+    requires { N ≤ 64 }
+    ensures { IsTrue result ↔ AllLookedUp values.entry }
 {
-    (nibbles & Simd::splat(0xF0)).reduce_or() == 0
+    !values.simd_gt(Simd::splat(127)).any()
 }
 
 /// At most 5 for each lane that is a digit, and more for every other lane.

@@ -8,12 +8,23 @@ ghost use Rattle.std.specs.List.{AllZip, concat};
 ghost use Rattle.std.specs.Str.{IsAscii};
 ghost use Rattle.const_hex_arch.specs.Digits.{hex_value};
 ghost use Rattle.const_hex_arch.specs.Lanes.{AllNibbles, low_digit, byte_pairs};
+ghost use Rattle.const_hex_arch.specs.Lookups.{as_looked_up, AllLookedUp};
 ghost use Rattle.const_hex_arch.specs.Nibbles.{as_value, IsValueOf};
 ghost use Rattle.const_hex_arch.specs.Texts.{hex_text, AllDigits, Spells};
 
 use crate::arch::lanes;
 use crate::tables::{HEX_CHARS_LOWER, HEX_CHARS_UPPER};
 use std::simd::prelude::*;
+
+/// By the low half of a byte: the half itself, and 16 more where no letter that is a digit ends in
+/// it, or 32 more where no digit does.
+const BY_LOW_HALF: [u8; 16] = [16, 1, 2, 3, 4, 5, 6, 23, 24, 25, 42, 43, 44, 45, 46, 47];
+
+/// By the high half of a byte: what is added, so that the sum is below 128 where the byte is a
+/// digit, and nowhere else.
+const BY_HIGH_HALF: [u8; 16] = [
+    192, 192, 192, 96, 121, 192, 121, 192, 192, 192, 192, 192, 192, 192, 192, 192,
+];
 
 /// Two digits for each lane, in order: the text of the first 8 lanes, and that of the last 8.
 ///
@@ -121,9 +132,35 @@ pub(crate) fn decode_pair(text: [u8x16; 2]) -> (u8x16, bool)
     ensures digits { IsTrue result.1 ↔ AllDigits (concat text) }
     ensures spells { IsTrue result.1 → Spells (concat text) result.0 }
 {
-    let first = nibbles(text[0]);
-    let second = nibbles(text[1]);
-    (merge(first, second), lanes::are_nibbles(first | second))
+    let (bytes, values) = decode_untested(text);
+    (bytes, lanes::are_looked_up(values))
+}
+
+/// The bytes that the lanes of a text spell, and a vector with every lane below 128 just where each
+/// of these lanes is a digit. Where one is not, the bytes mean nothing.
+#[inline(always)]
+pub(crate) fn decode_untested(text: [u8x16; 2]) -> (u8x16, u8x16)
+    ensures digits { AllLookedUp result.1 ↔ AllDigits (concat text) }
+    ensures spells { AllDigits (concat text) → Spells (concat text) result.0 }
+{
+    let first = looked_up(text[0]);
+    let second = looked_up(text[1]);
+    let fifteen = u8x16::splat(15);
+    (merge(first & fifteen, second & fifteen), first | second)
+}
+
+/// The value of each lane that is a digit, in the low half of a lane below 128, and at least 128
+/// for every other lane.
+// Both look-ups are of lanes in a register: nothing is read from memory by the value of a byte. A
+// position of 128 or more reads as 0. The machine goes by the five bits of 0x8F alone, so this mask
+// costs nothing.
+#[inline(always)]
+pub(crate) fn looked_up(v: u8x16) -> u8x16
+    ensures { map as_looked_up result ≡ map hex_value v }
+{
+    let by_low = u8x16::from_array(BY_LOW_HALF);
+    let by_high = u8x16::from_array(BY_HIGH_HALF);
+    by_low.swizzle_dyn(v & u8x16::splat(0x8F)) + by_high.swizzle_dyn(v >> u8x16::splat(4))
 }
 
 /// The bytes that the lanes of a text spell, which have to be digits.
@@ -145,7 +182,7 @@ fn merge(first: u8x16, second: u8x16) -> u8x16
 
 /// The lanes of both.
 #[inline(always)]
-fn join(first: u8x16, second: u8x16) -> u8x32
+pub(crate) fn join(first: u8x16, second: u8x16) -> u8x32
     ensures { result ≡ first ++ second }
 {
     first.shuffle(

@@ -8,10 +8,11 @@ ghost use Rattle.std.specs.List.{AllZip, concat};
 ghost use Rattle.std.specs.Str.{IsAscii};
 ghost use Rattle.const_hex_arch.specs.Digits.{hex_value};
 ghost use Rattle.const_hex_arch.specs.Lanes.{AllNibbles, low_digit, byte_pairs};
+ghost use Rattle.const_hex_arch.specs.Lookups.{as_looked_up, AllLookedUp};
 ghost use Rattle.const_hex_arch.specs.Nibbles.{as_value, IsValueOf};
 ghost use Rattle.const_hex_arch.specs.Texts.{hex_text, AllDigits, Spells};
 
-use crate::arch::lanes;
+use crate::arch::{lanes, lanes16};
 use std::simd::prelude::*;
 
 /// The digits of each value, for each half of the lanes.
@@ -122,9 +123,34 @@ pub(crate) fn decode_pair(text: [u8x32; 2]) -> (u8x32, bool)
     ensures digits { IsTrue result.1 ↔ AllDigits (concat text) }
     ensures spells { IsTrue result.1 → Spells (concat text) result.0 }
 {
-    let first = nibbles(text[0]);
-    let second = nibbles(text[1]);
-    (merge(first, second), lanes::are_nibbles(first | second))
+    let (bytes, values) = decode_untested(text);
+    (bytes, lanes::are_looked_up(values))
+}
+
+/// The bytes that the lanes of a text spell, and a vector with every lane below 128 just where each
+/// of these lanes is a digit. Where one is not, the bytes mean nothing.
+#[inline(always)]
+pub(crate) fn decode_untested(text: [u8x32; 2]) -> (u8x32, u8x32)
+    ensures digits { AllLookedUp result.1 ↔ AllDigits (concat text) }
+    ensures spells { AllDigits (concat text) → Spells (concat text) result.0 }
+{
+    let first = looked_up(text[0]);
+    let second = looked_up(text[1]);
+    let fifteen = u8x32::splat(15);
+    (merge(first & fifteen, second & fifteen), first | second)
+}
+
+/// The value of each lane that is a digit, in the low half of a lane below 128, and at least 128
+/// for every other lane.
+// By the halves, where the machine does without the mask. At AVX2 both become one.
+#[inline(always)]
+fn looked_up(v: u8x32) -> u8x32
+    ensures { map as_looked_up result ≡ map hex_value v }
+{
+    lanes16::join(
+        lanes16::looked_up(v.extract::<0, 16>()),
+        lanes16::looked_up(v.extract::<16, 16>()),
+    )
 }
 
 /// The bytes that the lanes of a text spell, which have to be digits.

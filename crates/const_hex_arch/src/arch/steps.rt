@@ -26,6 +26,11 @@ pub(crate) trait Steps {
         requires { length text.now ≡ LANES }
         ensures { IsTrue result ↔ AllDigits text.now };
 
+    /// The same of the text of two steps, by one test.
+    fn check_two_steps(text: &[u8]) -> bool
+        requires { length text.now ≡ 2 * LANES }
+        ensures { IsTrue result ↔ AllDigits text.now };
+
     /// The same of the text of four steps, by one test.
     fn check_four_steps(text: &[u8]) -> bool
         requires { length text.now ≡ 4 * LANES }
@@ -36,6 +41,14 @@ pub(crate) trait Steps {
     fn decode_step(text: &[u8], output: &mut [u8]) -> bool
         requires text { length text.now ≡ 2 * LANES }
         requires output { length output.old ≡ LANES }
+        ensures digits { IsTrue result ↔ AllDigits text.now }
+        ensures spells { IsTrue result → Spells text.now output.new }
+        ensures unchanged { result ≡ false → output.new ≡ output.old };
+
+    /// The same of the text of two steps, by one test.
+    fn decode_two_steps(text: &[u8], output: &mut [u8]) -> bool
+        requires text { length text.now ≡ 4 * LANES }
+        requires output { length output.old ≡ 2 * LANES }
         ensures digits { IsTrue result ↔ AllDigits text.now }
         ensures spells { IsTrue result → Spells text.now output.new }
         ensures unchanged { result ≡ false → output.new ≡ output.old };
@@ -66,7 +79,7 @@ pub(crate) fn encode<S: Steps, R: Kernel, O: Output>(input: &[u8], upper: bool, 
     R::encode(left, upper, output);
 }
 
-/// Checks by four steps at a time, then by steps, and the rest by another kernel.
+/// Checks by four steps at a time, then by two, then by steps, and the rest by another kernel.
 #[inline(always)]
 pub(crate) fn check<S: Steps, R: Kernel>(input: &[u8]) -> bool
     ensures { IsTrue result ↔ AllDigits input.now }
@@ -75,6 +88,22 @@ pub(crate) fn check<S: Steps, R: Kernel>(input: &[u8]) -> bool
     while left.len() >= 4 * S::LANES {
         let (text, rest) = left.split_at(4 * S::LANES);
         if !S::check_four_steps(text) {
+            return false;
+        }
+        left = rest;
+    }
+    check_pairs::<S, R>(left)
+}
+
+/// Checks by two steps at a time, then by steps, and the rest by another kernel.
+#[inline(always)]
+fn check_pairs<S: Steps, R: Kernel>(input: &[u8]) -> bool
+    ensures { IsTrue result ↔ AllDigits input.now }
+{
+    let mut left = input;
+    while left.len() >= 2 * S::LANES {
+        let (text, rest) = left.split_at(2 * S::LANES);
+        if !S::check_two_steps(text) {
             return false;
         }
         left = rest;
@@ -98,9 +127,28 @@ fn check_steps<S: Steps, R: Kernel>(input: &[u8]) -> bool
     R::check(left)
 }
 
-/// Decodes by steps, and the rest by another kernel. A step that is refused ends it.
+/// Decodes by two steps at a time, then by steps, and the rest by another kernel. Two steps that are
+/// refused are left to the single ones, so that the first of them is decoded where it can be.
 #[inline(always)]
 pub(crate) fn decode_checked<S: Steps, R: Kernel>(input: &[u8], output: &mut [u8]) -> bool
+    requires { length input.now ≡ 2 * length output.old }
+    ensures spells { IsTrue result → Spells input.now output.new }
+    ensures refused { result ≡ false → Partial output.old input.now output.new }
+{
+    let mut at = 0;
+    while output.len() - at >= 2 * S::LANES {
+        let end = at + 2 * S::LANES;
+        if !S::decode_two_steps(&input[2 * at..2 * end], &mut output[at..end]) {
+            break;
+        }
+        at = end;
+    }
+    decode_steps::<S, R>(&input[2 * at..], &mut output[at..])
+}
+
+/// Decodes by steps, and the rest by another kernel. A step that is refused ends it.
+#[inline(always)]
+fn decode_steps<S: Steps, R: Kernel>(input: &[u8], output: &mut [u8]) -> bool
     requires { length input.now ≡ 2 * length output.old }
     ensures spells { IsTrue result → Spells input.now output.new }
     ensures refused { result ≡ false → Partial output.old input.now output.new }

@@ -1,7 +1,7 @@
 //! Bad bytes at each place of a text.
 
 use crate::kernels::fronts::Front;
-use crate::texts::{PREFIXES, behind, place_in_answer, place_in_text, read, read_front, refusal};
+use crate::texts::{PREFIXES, behind, place_in_text, read, read_front, refusal};
 use const_hex::{Kernel, check_raw, check_with, decode_to_slice_with, decode_with};
 use std::alloc::Global;
 use std::process::Abort;
@@ -37,15 +37,11 @@ fn refused<K: Kernel>(
     front: Front,
 ) -> Result<(), Fail> {
     let text = behind(alloc, prefix, body)?;
-    let in_text = refusal(bad, place_in_text(prefix.len(), place));
-    let in_answer = refusal(bad, place_in_answer(prefix.len(), place));
-    assert_eq!(rt; check_with::<K>(&text), Err(in_text));
-    assert_eq!(rt; decode_with::<K>(alloc, &text).err(), Some(in_answer));
+    let refusal = refusal(bad, place_in_text(prefix.len(), place));
+    assert_eq!(rt; check_with::<K>(&text), Err(refusal));
+    assert_eq!(rt; decode_with::<K>(alloc, &text).err(), Some(refusal));
     let mut output = vec![in alloc; 0xEEu8; body.len() / 2]?;
-    assert_eq!(rt;
-        decode_to_slice_with::<K>(&text, &mut output),
-        Err(in_answer)
-    );
+    assert_eq!(rt; decode_to_slice_with::<K>(&text, &mut output), Err(refusal));
     let decoded = front.count(body.len(), place);
     assert_eq!(rt; output, read_front(alloc, body, decoded)?, "at {place}");
     Ok(())

@@ -1,37 +1,42 @@
 //! Worked examples of what each kernel writes and leaves.
 
 use crate::own_kernel::Backward;
+use crate::texts::{behind, place_in_text, refusal};
 use const_hex::{
-    CheckFirst, FromHexError, Kernel, Lanes16, Lanes32, PieceSink, Plain, SinkOutput,
-    decode_to_slice_with, decode_with, encode_with,
+    CheckFirst, Kernel, Lanes16, Lanes32, PieceSink, Plain, SinkOutput, decode_to_slice_with,
+    decode_with, encode_with,
 };
 use std::alloc::Global;
 use std::process::Abort;
 use std::test::Fail;
 
-// Lengths of texts of letters, and the place of the one that is no digit.
-const PLACES: [(usize, usize); 5] = [(64, 31), (64, 32), (100, 98), (96, 63), (96, 70)];
+// Prefixes, lengths of bodies of letters, and the place in the body of the one that is no digit.
+const PLACES: [(&str, usize, usize); 6] = [
+    ("", 64, 31),
+    ("", 64, 32),
+    ("", 100, 98),
+    ("", 96, 63),
+    ("", 96, 70),
+    ("0x", 64, 33),
+];
 
 #[test]
 fn decoded_fronts(rt: HostRuntime) -> Result<(), Fail> {
     let alloc = rt.alloc();
-    leave::<Plain>(&rt, alloc, [15, 16, 49, 31, 35])?;
-    leave::<Lanes16>(&rt, alloc, [0, 16, 49, 16, 32])?;
-    leave::<Lanes32>(&rt, alloc, [0, 0, 49, 0, 32])?;
-    leave::<CheckFirst<Plain>>(&rt, alloc, [0; 5])?;
-    leave::<CheckFirst<Lanes16>>(&rt, alloc, [0; 5])?;
-    leave::<CheckFirst<Lanes32>>(&rt, alloc, [0; 5])?;
-    leave::<Backward>(&rt, alloc, [0; 5])
+    leave::<Plain>(&rt, alloc, [15, 16, 49, 31, 35, 16])?;
+    leave::<Lanes16>(&rt, alloc, [0, 16, 49, 16, 32, 16])?;
+    leave::<Lanes32>(&rt, alloc, [0, 0, 49, 0, 32, 0])?;
+    leave::<CheckFirst<Plain>>(&rt, alloc, [0; 6])?;
+    leave::<CheckFirst<Lanes16>>(&rt, alloc, [0; 6])?;
+    leave::<CheckFirst<Lanes32>>(&rt, alloc, [0; 6])?;
+    leave::<Backward>(&rt, alloc, [0; 6])
 }
 
-fn leave<K: Kernel>(rt: &impl Abort, alloc: Global, counts: [usize; 5]) -> Result<(), Fail> {
-    for ((length, place), count) in PLACES.into_iter().zip(counts) {
-        let text = replaced(alloc, length, place)?;
+fn leave<K: Kernel>(rt: &impl Abort, alloc: Global, counts: [usize; 6]) -> Result<(), Fail> {
+    for ((prefix, length, place), count) in PLACES.into_iter().zip(counts) {
+        let text = behind(alloc, prefix, &replaced(alloc, length, place)?)?;
         let mut output = vec![in alloc; 0xEEu8; length / 2]?;
-        let refusal = FromHexError::InvalidHexCharacter {
-            c: 'g',
-            index: place,
-        };
+        let refusal = refusal(b'g', place_in_text(prefix.len(), place));
         assert_eq!(rt; decode_to_slice_with::<K>(&text, &mut output), Err(refusal));
         assert_eq!(rt; output, front_of(alloc, length / 2, count)?, "at {place}");
     }

@@ -1,22 +1,21 @@
 use Rattle.std.proofs.Common.{refl, arith}
-use Rattle.const_hex_arch.proofs.Spelling.{false_is_true}
-use Rattle.const_hex_arch.proofs.Stepping.{decoded_step, refused_step, spells_rest, partial_rest}
+use Rattle.const_hex_arch.proofs.Stepping.{IsDecoded, decoded_step, kept_step, spells_rest, partial_rest}
 use Rattle.const_hex_arch.proofs.arch.steps.decode_checked.Goals as goal
-
-pub returns-then-not-decode_step-clause-refused : goal.returns-then-not-decode_step-clause-refused
-returns-then-not-decode_step-clause-refused g c = λ _.
-    let is = c.if-not-decode_step.ensures in
-    refused_step c.args.input.now c.args.output.now c.loop-output.output _ c.loop-output.at _ _ c.loop-output.invariant c.requires (is.unchanged refl) (λ d. false_is_true (is.digits.1 d))
+use Rattle.const_hex_arch.proofs.arch.steps.decode_checked.Goals.{else-loop-output-test, then-loop-output-test+then-not-decode_two_steps}
 
 pub loop-output-preserved : goal.loop-output-preserved
 loop-output-preserved g c =
-    let is = c.if-not-decode_step.ensures in
+    let is = c.if-not-decode_two_steps.ensures in
     decoded_step c.args.input.now c.args.output.now c.loop-output.output _ c.loop-output.at _ _ _ c.loop-output.invariant (omega arith) (omega arith) (omega arith) (omega arith) (is.spells refl)
 
-pub returns-clause-spells : goal.returns-clause-spells
-returns-clause-spells g c = λ t.
-    spells_rest c.args.input.now c.args.output.now c.loop-output.output c.decode_checked.new.output c.loop-output.at c.loop-output.invariant c.requires (omega arith) (c.decode_checked.ensures.spells t)
-
-pub returns-clause-refused : goal.returns-clause-refused
-returns-clause-refused g c = λ t.
-    partial_rest c.args.input.now c.args.output.now c.loop-output.output c.decode_checked.new.output c.loop-output.at c.loop-output.invariant c.requires (omega arith) (c.decode_checked.ensures.refused t)
+pub returns : goal.returns
+returns g c =
+    let decoded : IsDecoded c.args.input.now c.args.output.now c.loop-output-test.output c.loop-output.at =
+    elim c.loop-output-test.branch [
+      | else-loop-output-test w ↦ rw w.output-is c.loop-output.invariant
+      | then-loop-output-test+then-not-decode_two_steps w ↦ rw (w.output-is, kept_step c.loop-output.output _ c.loop-output.at _ (w.if-not-decode_two_steps.ensures.unchanged refl)) c.loop-output.invariant
+    ] in
+    let is = c.decode_steps.ensures in record {
+      spells = λ t. spells_rest c.args.input.now c.args.output.now c.loop-output-test.output c.decode_steps.new.output c.loop-output.at decoded c.requires (omega arith) (is.spells t);
+      refused = λ t. partial_rest c.args.input.now c.args.output.now c.loop-output-test.output c.decode_steps.new.output c.loop-output.at decoded c.requires (omega arith) (is.refused t);
+    }
