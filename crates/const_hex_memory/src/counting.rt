@@ -7,15 +7,15 @@ use std::fmt;
 
 /// Counts its calls and the bytes of its pieces, and refuses at the call of that number.
 #[derive(Drop)]
-pub struct Counting {
-    pub calls: usize,
-    pub bytes: usize,
+pub(crate) struct Counting {
+    pub(crate) calls: usize,
+    pub(crate) bytes: usize,
     refuse_at: usize,
     refused: bool,
 }
 
 impl Counting {
-    pub fn new(refuse_at: usize) -> Counting
+    pub(crate) fn new(refuse_at: usize) -> Counting
         ensures { result.refused ≡ false }
     {
         Counting {

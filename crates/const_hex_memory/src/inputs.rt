@@ -1,6 +1,6 @@
 //! The values that calls are made of.
 
-use serde_json::{Map, Number, Value};
+use serde_json::{Map, Value, json};
 use std::alloc::{AllocError, Global};
 
 /// The bytes that are written as text.
@@ -29,8 +29,11 @@ pub(crate) const DATA: [u8; 4097] = [0xAB; 4097];
 pub(crate) struct Inputs {
     pub(crate) vector: Vec<u8>,
     pub(crate) string: String,
-    pub(crate) texts: [Value; 3],
-    pub(crate) no_texts: [Value; 5],
+    pub(crate) text: Value,
+    pub(crate) odd: Value,
+    pub(crate) bad: Value,
+    pub(crate) list: Value,
+    pub(crate) object: Value,
 }
 
 impl Inputs {
@@ -38,18 +41,11 @@ impl Inputs {
         Ok(Inputs {
             vector: KIWI.to_vec(alloc)?,
             string: String::from_str(alloc, "kiwi")?,
-            texts: [
-                Value::String(String::from_str(alloc, TEXT)?),
-                Value::String(String::from_str(alloc, ODD)?),
-                Value::String(String::from_str(alloc, BAD)?),
-            ],
-            no_texts: [
-                Value::Null,
-                Value::Bool(true),
-                Value::Number(Number::from(5u8)),
-                serde_json::json!(in alloc; ["0x6b"])?,
-                serde_json::json!(in alloc; {"text": "0x6b"})?,
-            ],
+            text: Value::String(String::from_str(alloc, TEXT)?),
+            odd: Value::String(String::from_str(alloc, ODD)?),
+            bad: Value::String(String::from_str(alloc, BAD)?),
+            list: json!(in alloc; ["0x6b"])?,
+            object: json!(in alloc; {"text": "0x6b"})?,
         })
     }
 }

@@ -32,8 +32,8 @@ impl fmt::Debug for Kept<'_> {
     }
 }
 
-/// Whether the piece is what the text has from that place on.
-fn stands_at(piece: &[u8], place: usize) -> bool {
+/// Whether the piece is what a text of bytes 0xAB with prefix has from that place on.
+pub(crate) fn stands_at(piece: &[u8], place: usize) -> bool {
     let mut place = place;
     for byte in piece {
         let expected = match place {

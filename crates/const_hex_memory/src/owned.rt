@@ -1,7 +1,7 @@
 //! Calls that ask for memory.
 
 use crate::inputs::{BAD, BYTES, DATA, DIGITS, Inputs, KIWI, TEXT};
-use crate::kept::Kept;
+use crate::kept::{Kept, stands_at};
 use crate::line::{tell, tell_of};
 use const_hex::serde::no_prefix;
 use const_hex::{
@@ -46,11 +46,10 @@ fn tell_encoders(rt: &impl Print, alloc: Global) -> io::Result<()> {
         &encode_upper_prefixed(alloc, KIWI),
     )?;
     // A text of more than 32 KiB is written in another way: its length, and whether it is right.
-    let long = encode_prefixed(alloc, &[0xAB; 16_385]).map(|text| {
-        let pairs = text.as_bytes().as_chunks::<2>().0;
-        let is_right = pairs.iter().skip(1).all(|pair| *pair == *b"ab");
-        (text.len(), text.starts_with("0x") && is_right)
-    });
+    let long = encode_prefixed(alloc, &[0xAB; 16_385]).map(|text| (
+        text.len(),
+        stands_at(text.as_bytes(), 0),
+    ));
     tell(rt, "encode_prefixed of 16385 bytes", &long)
 }
 
@@ -87,12 +86,11 @@ fn tell_json(rt: &impl Print, alloc: Global, inputs: &Inputs) -> io::Result<()> 
     tell(rt, "no_prefix::serialize", &lower)?;
     let upper = no_prefix::serialize_upper(alloc, KIWI);
     tell(rt, "no_prefix::serialize_upper", &upper)?;
-    let [text, _, bad] = &inputs.texts;
-    let read = deserialize::<Vec<u8>>(alloc, text);
+    let read = deserialize::<Vec<u8>>(alloc, &inputs.text);
     tell_of(rt, "deserialize of", TEXT, &read)?;
-    let read = deserialize::<Vec<u8>>(alloc, bad);
+    let read = deserialize::<Vec<u8>>(alloc, &inputs.bad);
     tell_of(rt, "deserialize of", BAD, &read)?;
-    let read = no_prefix::deserialize::<Vec<u8>>(alloc, text);
+    let read = no_prefix::deserialize::<Vec<u8>>(alloc, &inputs.text);
     tell_of(rt, "no_prefix::deserialize of", TEXT, &read)
 }
 

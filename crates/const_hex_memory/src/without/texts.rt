@@ -8,6 +8,7 @@ use const_hex::{
     decode_to_array, decode_to_slice, deserialize, digit_at, encode_to_slice,
     encode_to_slice_upper, encode_to_str, encode_to_str_upper, value_at,
 };
+use serde_json::{Number, Value};
 use std::alloc::Global;
 use std::boxed::BoxedSlice;
 use std::io;
@@ -85,19 +86,19 @@ pub(crate) fn tell_odd(rt: &impl Print, alloc: Global) -> io::Result<()> {
 
 /// A JSON value that is no text is refused without a look inside, and an odd text as above.
 pub(crate) fn tell_no_texts(rt: &impl Print, alloc: Global, inputs: &Inputs) -> io::Result<()> {
-    let names = [
-        "of null",
-        "of a truth value",
-        "of a number",
-        "of a list",
-        "of an object",
-    ];
-    for (name, value) in names.into_iter().zip(&inputs.no_texts) {
-        let read = deserialize::<Vec<u8>>(alloc, value);
-        tell_of(rt, "deserialize", name, &read)?;
-        let read = no_prefix::deserialize::<Vec<u8>>(alloc, value);
-        tell_of(rt, "no_prefix::deserialize", name, &read)?;
-    }
-    let read = deserialize::<Vec<u8>>(alloc, &inputs.texts[1]);
+    tell_no_text(rt, alloc, "of null", &Value::Null)?;
+    tell_no_text(rt, alloc, "of a truth value", &Value::Bool(true))?;
+    let number = Value::Number(Number::from(5u8));
+    tell_no_text(rt, alloc, "of a number", &number)?;
+    tell_no_text(rt, alloc, "of a list", &inputs.list)?;
+    tell_no_text(rt, alloc, "of an object", &inputs.object)?;
+    let read = deserialize::<Vec<u8>>(alloc, &inputs.odd);
     tell(rt, "deserialize of an odd text", &read)
+}
+
+fn tell_no_text(rt: &impl Print, alloc: Global, of: &str, value: &Value) -> io::Result<()> {
+    let read = deserialize::<Vec<u8>>(alloc, value);
+    tell_of(rt, "deserialize", of, &read)?;
+    let read = no_prefix::deserialize::<Vec<u8>>(alloc, value);
+    tell_of(rt, "no_prefix::deserialize", of, &read)
 }
