@@ -33,7 +33,8 @@ impl Kernel for Lanes16 {
         steps::encode::<Lanes16, Plain, O>(input, upper, output);
     }
 
-    #[inline(always)]
+    // Not `always`: that would make a decoder too large to be inlined, though it calls no check.
+    #[inline]
     fn check(input: &[u8]) -> bool {
         steps::check::<Lanes16, Plain>(input)
     }

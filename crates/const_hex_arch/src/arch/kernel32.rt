@@ -34,7 +34,8 @@ impl Kernel for Lanes32 {
         steps::encode::<Lanes32, Lanes16, O>(input, upper, output);
     }
 
-    #[inline(always)]
+    // Not `always`: that would make a decoder too large to be inlined, though it calls no check.
+    #[inline]
     fn check(input: &[u8]) -> bool {
         steps::check::<Lanes32, Lanes16>(input)
     }
