@@ -6,6 +6,8 @@
  * where there is no memory: with a null pointer. All others it passes on. Where REFUSE_FROM is not
  * set, it refuses none.
  *
+ * The aligned forms, which these programs do not call, it always refuses, so that none passes by.
+ *
  * For each request it writes a line to file descriptor 3: "> refused" or "> request". Where that
  * is the program's own output, the lines show which request was made for which line of output.
  */
@@ -40,7 +42,7 @@ static int is_refused(void) {
     int refused = refuse_from > 0 && refuse_from <= requests && requests <= refuse_to;
     ssize_t written = write(3, refused ? "> refused\n" : "> request\n", 10);
     (void)written; /* the marks are looked for by who wants them */
-    errno = ENOMEM;
+    if (refused) errno = ENOMEM;
     return refused;
 }
 
@@ -52,4 +54,28 @@ void *calloc(size_t count, size_t size) {
 
 void *realloc(void *block, size_t size) {
     return is_refused() ? NULL : __libc_realloc(block, size);
+}
+
+/* Refuses a request in an aligned form, and marks it. */
+static void *refuse_aligned(void) {
+    ssize_t written = write(3, "> refused\n", 10);
+    (void)written;
+    errno = ENOMEM;
+    return NULL;
+}
+
+void *aligned_alloc(size_t alignment, size_t size) {
+    (void)alignment, (void)size;
+    return refuse_aligned();
+}
+
+void *memalign(size_t alignment, size_t size) {
+    (void)alignment, (void)size;
+    return refuse_aligned();
+}
+
+int posix_memalign(void **block, size_t alignment, size_t size) {
+    (void)block, (void)alignment, (void)size;
+    refuse_aligned();
+    return ENOMEM;
 }

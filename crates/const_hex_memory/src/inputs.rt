@@ -15,6 +15,9 @@ pub(crate) const ODD: &str = "0x1";
 /// A text with characters that are no digits.
 pub(crate) const BAD: &str = "zz";
 
+/// The text of a hash of bytes 0xAB.
+pub(crate) const HASH: &str = "0xabababababababababababababababababababababababababababababababab";
+
 /// Bytes of which 32 are a step of the widest kernel, 16 one of the narrower, and 9 a rest.
 pub(crate) const BYTES: [u8; 57] = [0xAB; 57];
 
@@ -32,6 +35,7 @@ pub(crate) struct Inputs {
     pub(crate) text: Value,
     pub(crate) odd: Value,
     pub(crate) bad: Value,
+    pub(crate) hash: Value,
     pub(crate) list: Value,
     pub(crate) object: Value,
 }
@@ -44,6 +48,7 @@ impl Inputs {
             text: Value::String(String::from_str(alloc, TEXT)?),
             odd: Value::String(String::from_str(alloc, ODD)?),
             bad: Value::String(String::from_str(alloc, BAD)?),
+            hash: Value::String(String::from_str(alloc, HASH)?),
             list: json!(in alloc; ["0x6b"])?,
             object: json!(in alloc; {"text": "0x6b"})?,
         })

@@ -33,7 +33,7 @@ impl fmt::Debug for Kept<'_> {
 }
 
 /// Whether the piece is what a text of bytes 0xAB with prefix has from that place on.
-pub(crate) fn stands_at(piece: &[u8], place: usize) -> bool {
+fn stands_at(piece: &[u8], place: usize) -> bool {
     let mut place = place;
     for byte in piece {
         let expected = match place {

@@ -1,7 +1,7 @@
 //! Calls that ask for memory.
 
 use crate::inputs::{BAD, BYTES, DATA, DIGITS, Inputs, KIWI, TEXT};
-use crate::kept::{Kept, stands_at};
+use crate::kept::Kept;
 use crate::line::{tell, tell_of};
 use const_hex::serde::no_prefix;
 use const_hex::{
@@ -10,6 +10,7 @@ use const_hex::{
     encode_upper, encode_upper_prefixed, encode_with, serialize, serialize_upper,
 };
 use const_hex_vectors::own_kernel::Backward;
+use hash_hex::{Address20, Hash32};
 use std::alloc::Global;
 use std::boxed::BoxedSlice;
 use std::io;
@@ -44,13 +45,7 @@ fn tell_encoders(rt: &impl Print, alloc: Global) -> io::Result<()> {
         rt,
         "encode_upper_prefixed",
         &encode_upper_prefixed(alloc, KIWI),
-    )?;
-    // A text of more than 32 KiB is written in another way: its length, and whether it is right.
-    let long = encode_prefixed(alloc, &[0xAB; 16_385]).map(|text| (
-        text.len(),
-        stands_at(text.as_bytes(), 0),
-    ));
-    tell(rt, "encode_prefixed of 16385 bytes", &long)
+    )
 }
 
 fn tell_written<T: ToHex + ToHexExt>(
@@ -91,7 +86,11 @@ fn tell_json(rt: &impl Print, alloc: Global, inputs: &Inputs) -> io::Result<()> 
     let read = deserialize::<Vec<u8>>(alloc, &inputs.bad);
     tell_of(rt, "deserialize of", BAD, &read)?;
     let read = no_prefix::deserialize::<Vec<u8>>(alloc, &inputs.text);
-    tell_of(rt, "no_prefix::deserialize of", TEXT, &read)
+    tell_of(rt, "no_prefix::deserialize of", TEXT, &read)?;
+    let value = Hash32::from_bytes([0xAB; 32]).to_value(alloc);
+    tell(rt, "Hash32::to_value", &value)?;
+    let value = Address20::from_bytes([0xAB; 20]).to_value(alloc);
+    tell(rt, "Address20::to_value", &value)
 }
 
 fn tell_read(rt: &impl Print, alloc: Global, text: &str) -> io::Result<()> {

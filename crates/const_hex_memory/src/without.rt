@@ -2,6 +2,7 @@
 
 mod buffers;
 mod chunks;
+mod hashes;
 mod kernels;
 mod printed;
 mod sinks;
@@ -20,6 +21,7 @@ pub(crate) fn tell_all(rt: &impl Print, alloc: Global, inputs: &Inputs) -> io::R
     texts::tell_read(rt, alloc)?;
     texts::tell_odd(rt, alloc)?;
     texts::tell_no_texts(rt, alloc, inputs)?;
+    hashes::tell_hashes(rt, alloc, inputs)?;
     buffers::tell_buffers(rt)?;
     printed::tell_errors(rt)?;
     printed::tell_chars(rt)?;

@@ -2,8 +2,8 @@
 
 use crate::texts::{bytes, printed};
 use const_hex::{
-    FromHexError, Plain, decode, encode, encode_prefixed, encode_to_slice, encode_to_slice_upper,
-    encode_upper, encode_upper_prefixed, encode_with,
+    FromHexError, decode, encode, encode_prefixed, encode_to_slice, encode_to_slice_upper,
+    encode_upper, encode_upper_prefixed,
 };
 use std::test::Fail;
 
@@ -83,24 +83,6 @@ fn other_lengths_are_refused(rt: HostRuntime) -> Result<(), Fail> {
         );
         assert_eq!(rt; output, untouched, "at {len}");
     }
-    Ok(())
-}
-
-// Texts of 32,768 bytes, and of two more: the longest that is written over zeros, and the first
-// that goes into a vector with room.
-#[test]
-fn long_texts(rt: HostRuntime) -> Result<(), Fail> {
-    let alloc = rt.alloc();
-    for count in [16_383, 16_384, 16_385] {
-        let bytes = bytes(alloc, count)?;
-        let text = encode_prefixed(alloc, &bytes)?;
-        assert!(rt; text == printed(alloc, &bytes, true, false)?, "at {count}");
-        let text = encode_upper(alloc, &bytes)?;
-        assert!(rt; text == printed(alloc, &bytes, false, true)?, "at {count}");
-    }
-    let bytes = bytes(alloc, 16_385)?;
-    let text = encode_with::<Plain, false>(alloc, &bytes)?;
-    assert!(rt; text == printed(alloc, &bytes, false, false)?);
     Ok(())
 }
 

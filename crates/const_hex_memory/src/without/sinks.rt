@@ -4,7 +4,7 @@ use crate::counting::Counting;
 use crate::inputs::DATA;
 use crate::line::tell;
 use const_hex::serde::serialize_inner;
-use const_hex::{BufferedHex, BufferedOutput, Output, PieceSink, SinkOutput, SliceOutput};
+use const_hex::{BufferedHex, BufferedOutput, Output, PieceSink, Sink, SinkOutput, SliceOutput};
 use std::alloc::Global;
 use std::io;
 
@@ -50,10 +50,16 @@ pub(crate) fn tell_streams(rt: &impl Print, alloc: Global) -> io::Result<()> {
     let mut sink = Counting::new(1);
     let done = serialize_inner::<true, true, Counting>(&DATA[..128], &mut sink);
     tell(rt, "serialize_inner, refused", &(done, sink.calls))?;
-    let sink = PieceSink::new(alloc, 1);
+    let mut sink = PieceSink::new(alloc, 1);
     tell(
         rt,
         "PieceSink::new",
         &(sink.calls(), sink.pieces().len(), sink.no_memory()),
+    )?;
+    let done = sink.write_str("piece");
+    tell(
+        rt,
+        "PieceSink::write_str, refused by its number",
+        &(done, sink.calls(), sink.pieces().len(), sink.no_memory()),
     )
 }

@@ -1,7 +1,7 @@
 //! Worked examples of what each kernel writes and leaves.
 
 use crate::own_kernel::Backward;
-use crate::texts::{behind, place_in_text, refusal};
+use crate::texts::{behind, place_in_text, printed, refusal};
 use const_hex::{
     CheckFirst, Kernel, Lanes16, Lanes32, PieceSink, Plain, SinkOutput, decode_to_slice_with,
     decode_with, encode_with,
@@ -93,7 +93,7 @@ fn counted<K: Kernel>(rt: &impl Abort, alloc: Global, pieces_of_49: usize) -> Re
         let text = encode_with::<K, false>(alloc, &bytes)?;
         assert_eq!(rt; text.len(), 2 * count);
         assert!(rt; text.ends_with(last), "{count} bytes");
-        assert_eq!(rt; text, encode_with::<Plain, false>(alloc, &bytes)?);
+        assert_eq!(rt; text, printed(alloc, &bytes, false, false)?);
         assert_eq!(rt; decode_with::<K>(alloc, text.as_bytes())?, bytes);
     }
     let mut sink = PieceSink::new(alloc, 0);

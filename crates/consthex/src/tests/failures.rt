@@ -1,4 +1,4 @@
-//! Runs whose devices fail, or whose memory is refused.
+//! Runs whose devices fail.
 
 use super::devices::{Endless, Fault, Source, Target};
 use crate::error::RunError;
@@ -32,7 +32,11 @@ fn names_a_failed_read(rt: HostRuntime) {
             assert_eq!(rt; input.reads, call.min(10), "{kind:?} at {call}");
             if call < 11 {
                 assert_eq!(rt; outcome, Err(RunError::ReadFailed), "{kind:?} at {call}");
-                assert_eq!(rt; output.writes, 0, "{kind:?} at {call}");
+                assert_eq!(rt;
+                    (output.writes, output.flushes),
+                    (0, 0),
+                    "{kind:?} at {call}"
+                );
             } else {
                 assert_eq!(rt; outcome, Ok(()));
                 assert_eq!(rt; output.bytes(), b"kiwi".as_slice());
@@ -46,7 +50,7 @@ fn stops_an_endless_reader(rt: HostRuntime) {
     let mut output = Target::new(Fault::Nothing);
     let outcome = run(rt.alloc(), Mode::Encode, &mut Endless, &mut output);
     assert_eq!(rt; outcome, Err(RunError::TooLong));
-    assert_eq!(rt; output.writes, 0);
+    assert_eq!(rt; (output.writes, output.flushes), (0, 0));
 }
 
 // A write that fails or takes nothing, at each call, and a flush that fails.
@@ -92,20 +96,4 @@ fn writes(rt: &impl Abort, alloc: Global, case: (Mode, &[u8], &[u8]), fault: Fau
         (writes, flushes),
         "{mode:?}, {fault:?}"
     );
-}
-
-/// With ample memory each run succeeds. Where a request for memory is refused, it may only say so.
-#[test]
-fn names_refused_memory(rt: HostRuntime) {
-    for (mode, input, answer) in ANSWERS {
-        let mut input = input;
-        let mut output = Target::new(Fault::Nothing);
-        match run(rt.alloc(), mode, &mut input, &mut output) {
-            Ok(()) => assert_eq!(rt; output.bytes(), answer, "{mode:?}"),
-            Err(error) => {
-                assert_eq!(rt; error, RunError::NoMemory, "{mode:?}");
-                assert_eq!(rt; output.writes, 0, "{mode:?}");
-            }
-        }
-    }
 }
