@@ -52,7 +52,7 @@ fn checked(answer: Result<(), FromHexError>) -> Result<Answer, Fault> {
     }
 }
 
-/// The answer of a refusal, unless it is for want of memory.
+/// The answer of a refusal, unless it is that memory was refused.
 fn refused(refusal: FromHexError) -> Result<Answer, Fault> {
     match refusal {
         FromHexError::NoMemory => Err(Fault::NoMemory),

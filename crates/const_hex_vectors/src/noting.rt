@@ -8,7 +8,7 @@ use std::alloc::{AllocError, Global};
 use std::marker::Model;
 
 /// Keeps the text of every call, also of the refused one, beside the pieces that it accepted. It
-/// refuses at a call of a given number, or for want of memory.
+/// refuses at a call of a given number, or because memory was refused.
 ///
 /// ```rust
 /// let mut sink = NotingSink::new(rt.alloc(), 2);
@@ -94,7 +94,7 @@ impl NotingSink {
         self.accepted.as_slice()
     }
 
-    /// Whether it refused for want of memory.
+    /// Whether it refused because memory was refused.
     ///
     /// ```rust
     /// let mut sink = NotingSink::new(rt.alloc(), 1);

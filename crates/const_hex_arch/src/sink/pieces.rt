@@ -7,7 +7,7 @@ use crate::sink::{Sink, SinkError};
 use std::alloc::{AllocError, Global};
 use std::marker::Model;
 
-/// Keeps a copy of each piece, and refuses at a call of a given number, or for want of memory.
+/// Keeps a copy of each piece, and refuses at a call of a given number, or because memory was refused.
 ///
 /// Contracts see it as the pieces that it accepted, that number, and whether it refused.
 ///
@@ -82,7 +82,7 @@ impl PieceSink {
         self.pieces.len() + usize::from(self.refused)
     }
 
-    /// Whether it refused, and not at the call of the given number: so for want of memory.
+    /// Whether it refused, and not at the call of the given number: so because memory was refused.
     ///
     /// ```rust
     /// let mut sink = PieceSink::new(rt.alloc(), 1);

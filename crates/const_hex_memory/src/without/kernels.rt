@@ -1,11 +1,9 @@
 //! Calls by each kernel, and the kernels' own.
 
 use crate::counting::Counting;
-use crate::inputs::{BYTES, DATA, DIGITS, KIWI, ODD, TEXT};
+use crate::inputs::{BYTES, DATA, DIGITS, ODD, TEXT};
 use crate::line::{tell, tell_of};
-use const_hex::{
-    BufferedHex, Kernel, SliceOutput, check_with, decode_to_slice_with, decode_with, encode_full,
-};
+use const_hex::{BufferedHex, Kernel, SliceOutput, check_with, decode_to_slice_with, decode_with};
 use std::alloc::Global;
 use std::io;
 
@@ -43,9 +41,6 @@ fn tell_own<K: Kernel>(rt: &impl Print, by: &str) -> io::Result<()> {
     let mut upper = [0; 114];
     K::encode(&BYTES, true, &mut SliceOutput::new(&mut upper));
     tell_of(rt, "Kernel::encode, upper,", by, &upper)?;
-    let mut full = [0; 10];
-    encode_full::<K, SliceOutput<'_>>(KIWI, true, true, &mut SliceOutput::new(&mut full));
-    tell_of(rt, "encode_full", by, &full)?;
     tell_of(rt, "Kernel::check", by, &K::check(&text))?;
     let mut bytes = [0; 57];
     let is_read = K::decode_checked(&text, &mut bytes);
