@@ -114,12 +114,6 @@ Reads-refused t InvalidStringLength even h = absurd h
 Reads-refused t (InvalidHexCharacter c i) even h = (even, h)
 Reads-refused t NoMemory even h = absurd h
 
-pub ReadsSized-refused : (t : List ℕ) (n : ℕ) (e : FromHexError) → IsEven (length t) → length (body_of t) ≡ 2 * n → NamesFirstBad t e → ReadsSized t n (Err e)
-ReadsSized-refused t n OddLength even len h = absurd h
-ReadsSized-refused t n InvalidStringLength even len h = absurd h
-ReadsSized-refused t n (InvalidHexCharacter c i) even len h = (len, (even, h))
-ReadsSized-refused t n NoMemory even len h = absurd h
-
 -- digits alone, and an even length, are read as bytes
 pub Reads-digits : (t : List ℕ) → IsEven (length t) → AllDigits (body_of t) → (bs : List ℕ) × Reads t (Ok bs)
 Reads-digits t even a = let s = Spells-some (body_of t) (body-even t even) a in (s.0, (even, s.1))

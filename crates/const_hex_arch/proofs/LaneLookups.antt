@@ -1,4 +1,4 @@
--- The values of digits by two look-ups of lanes, each in tables of 16 bytes, one for each block of 16 lanes.
+-- The values of digits by two look-ups of lanes, each in a table of 16 bytes. 32 lanes go by halves.
 use Rattle.std.proofs.Common.{◌≡◌, ℕ, zero, suc, ◌+◌, ◌*◌, ◌/◌, ◌^◌, ◌<◌, ◌≤◌, ◌↔◌, Bool, cond, ltb, T, ◌||◌, List, [], ◌∷◌, ◌++◌, map, length, replicate, take, drop, get_or, bit_and, bit_or, refl, sym, ap, subst, ◌∙◌, arith, w8, Fits, None, length-append}
 use Rattle.std.proofs.lemmas.Bool.Decides.{nat_tests}
 use Rattle.std.proofs.lemmas.List.Elements.{All-nil, All-head, All-tail, All-cons}

@@ -125,7 +125,7 @@ max_ranks (x ∷ xs) (y ∷ ys) e =
     let more = max_ranks xs ys (omega arith) in
     (λ h. (((one.0 h.0).0, (more.0 h.1).0), ((one.0 h.0).1, (more.0 h.1).1)), λ h. (one.1 (h.0.0, h.1.0), more.1 (h.0.1, h.1.1)))
 
--- ---- one test of four vectors
+-- ---- one test of two vectors, and of four
 
 pub two_tests : (t u w a b : List ℕ) → t ++ u ≡ w → length a ≡ length b → AllZip IsRankOf t a → AllZip IsRankOf u b → AllRanks (max_l a b) ↔ AllDigits w
 two_tests t u w a b whole e p q =

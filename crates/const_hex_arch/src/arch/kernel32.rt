@@ -34,7 +34,8 @@ impl Kernel for Lanes32 {
         steps::encode::<Lanes32, Lanes16, O>(input, upper, output);
     }
 
-    // Not `always`: that would make a decoder too large to be inlined, though it calls no check.
+    // Not `always`: a decoder names `CheckFirst` in a branch that this kernel never takes, and with
+    // all of `check` in it would be too large to be inlined.
     #[inline]
     fn check(input: &[u8]) -> bool {
         steps::check::<Lanes32, Lanes16>(input)

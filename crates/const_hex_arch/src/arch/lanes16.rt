@@ -136,8 +136,8 @@ pub(crate) fn decode_pair(text: [u8x16; 2]) -> (u8x16, bool)
     (bytes, lanes::are_looked_up(values))
 }
 
-/// The bytes that the lanes of a text spell, and a vector with every lane below 128 just where each
-/// of these lanes is a digit. Where one is not, the bytes mean nothing.
+/// The bytes that the lanes of a text spell, and a vector whose lanes are all below 128 exactly
+/// where all lanes of the text are digits. Where one is not, the bytes mean nothing.
 #[inline(always)]
 pub(crate) fn decode_untested(text: [u8x16; 2]) -> (u8x16, u8x16)
     ensures digits { AllLookedUp result.1 ↔ AllDigits (concat text) }
@@ -151,9 +151,9 @@ pub(crate) fn decode_untested(text: [u8x16; 2]) -> (u8x16, u8x16)
 
 /// The value of each lane that is a digit, in the low half of a lane below 128, and at least 128
 /// for every other lane.
-// Both look-ups are of lanes in a register: nothing is read from memory by the value of a byte. A
-// position of 128 or more reads as 0. The machine goes by the five bits of 0x8F alone, so this mask
-// costs nothing.
+// Both look-ups are of lanes in a register: nothing is read from memory by the value of a byte.
+// `swizzle_dyn` asks for positions below 16, or from 128 on, which read as 0: so the mask. The
+// machine looks at these five bits alone, so the mask costs nothing.
 #[inline(always)]
 pub(crate) fn looked_up(v: u8x16) -> u8x16
     ensures { map as_looked_up result ≡ map hex_value v }

@@ -127,8 +127,8 @@ pub(crate) fn decode_pair(text: [u8x32; 2]) -> (u8x32, bool)
     (bytes, lanes::are_looked_up(values))
 }
 
-/// The bytes that the lanes of a text spell, and a vector with every lane below 128 just where each
-/// of these lanes is a digit. Where one is not, the bytes mean nothing.
+/// The bytes that the lanes of a text spell, and a vector whose lanes are all below 128 exactly
+/// where all lanes of the text are digits. Where one is not, the bytes mean nothing.
 #[inline(always)]
 pub(crate) fn decode_untested(text: [u8x32; 2]) -> (u8x32, u8x32)
     ensures digits { AllLookedUp result.1 ↔ AllDigits (concat text) }
@@ -142,7 +142,8 @@ pub(crate) fn decode_untested(text: [u8x32; 2]) -> (u8x32, u8x32)
 
 /// The value of each lane that is a digit, in the low half of a lane below 128, and at least 128
 /// for every other lane.
-// By the halves, where the machine does without the mask. At AVX2 both become one.
+// By halves of 16 lanes, for which the mask costs nothing. With AVX2 the compiler makes one look-up
+// of both.
 #[inline(always)]
 fn looked_up(v: u8x32) -> u8x32
     ensures { map as_looked_up result ≡ map hex_value v }
