@@ -11,6 +11,7 @@
 mod address;
 mod fixed;
 mod hash;
+
 pub use crate::address::Address20;
 pub use crate::fixed::FixedBytes;
 pub use crate::hash::Hash32;
