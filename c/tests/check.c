@@ -165,6 +165,9 @@ static void worked_rows(void) {
     holds(!build->check("0xzz", 4, &refusal) && refusal.kind == 3 && refusal.byte == 'z' &&
               refusal.index == 2,
           "0xzz", 4, 2);
+    holds(!build->decode("0x6b6977zz", 10, bytes, 4, &refusal) && refusal.kind == 3 &&
+              refusal.byte == 'z' && refusal.index == 8,
+          "0x6b6977zz", 10, 8);
     holds(!build->check("6b6", 3, &refusal) && refusal.kind == 1 && refusal.byte == 0 &&
               refusal.index == 0,
           "6b6", 3, 0);
