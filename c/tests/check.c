@@ -280,12 +280,11 @@ static void lengths_and_alignments(void) {
 }
 
 /* A refused text: the refusal, and what is left of the output. */
-static void refused(const char *text, size_t length, unsigned char *bytes, size_t count,
-                    size_t place) {
+static void refused(const char *text, size_t length, size_t start, unsigned char *bytes,
+                    size_t count, size_t place) {
     struct const_hex_refusal any = plain_refusal(text, length, false, 0);
     struct const_hex_refusal sized = plain_refusal(text, length, true, count);
     struct const_hex_refusal refusal = {9, 9, 9};
-    size_t start = length - 2 * count;
     size_t pairs = any.kind == CONST_HEX_INVALID_CHARACTER ? (any.index - start) / 2 : 0;
     size_t done = 0;
 
@@ -302,12 +301,12 @@ static void refused(const char *text, size_t length, unsigned char *bytes, size_
     holds(!build->check_raw(text + start, length - start), "check_raw", length, place);
 }
 
-/* Bad bytes at every place of every length to 130 digits, with and without a prefix. */
+/* Bad bytes at every place of every length to 130 behind a prefix, and without one. */
 static void bad_bytes(void) {
     static const unsigned char bad[] = {0, '/', ':', '@', 'G', '`', 'g', 'x', 0x80, 0xB0, 0xFF};
     unsigned char *input = fenced();
     unsigned char *output = fenced();
-    for (size_t digits = 2; digits <= BAD_LENGTHS; digits += 2) {
+    for (size_t digits = 1; digits <= BAD_LENGTHS; digits++) {
         for (size_t prefix = 0; prefix <= 2; prefix += 2) {
             size_t length = digits + prefix;
             char *text = (char *)input + ROOM - length;
@@ -325,10 +324,11 @@ static void bad_bytes(void) {
                     if (prefix == 0 && place == 1 && text[0] == '0' && bad[which] == 'x') {
                         continue;
                     }
-                    refused(text, length, bytes, digits / 2, place);
+                    refused(text, length, prefix, bytes, digits / 2, place);
                 }
             }
-            holds(plain_refusal(text, length, false, 0).kind == CONST_HEX_INVALID_CHARACTER,
+            holds(plain_refusal(text, length, false, 0).kind ==
+                      (digits % 2 == 1 ? CONST_HEX_ODD_LENGTH : CONST_HEX_INVALID_CHARACTER),
                   "the plain loop", length, 0);
         }
     }
