@@ -1,16 +1,18 @@
 #!/usr/bin/env python3
 """Tests of libconst_hex.so, called through ctypes.
 
-    check.py LIBRARY QUESTIONS ANSWERS
+    check.py LIBRARY QUESTIONS ANSWERS PROGRAM
 
 Texts are compared with bytes.hex() and bytes.fromhex(). The questions and answers are those of
 crates/const_hex_replay, which the program there answers too: each question of a call that the
-library has is put to the library, and its answer has to be the stored one. The last line is
-"N passed, M failed": a test of one build is one.
+library has is put to the library, and its answer has to be the stored one. Those that the program
+consthex has a mode for are put to it too, and it has to answer as the library does. The last line
+is "N passed, M failed": a test of one build is one.
 """
 
 import ctypes
 import random
+import subprocess
 import sys
 
 KINDS = {1: "OddLength", 2: "InvalidStringLength", 3: "InvalidHexCharacter"}
@@ -143,6 +145,40 @@ def replay(library, questions, answers):
         raise AssertionError(f"only {asked} questions")
 
 
+MODES = {"encode": "encode", "encode_upper": "encode-upper", "encode_prefixed": "encode-prefixed",
+         "encode_upper_prefixed": "encode-upper-prefixed", "decode": "decode", "check": "check"}
+
+
+def as_program(library, mode, data):
+    """What the program is to end with, write and print, by the library's answer."""
+    if mode.startswith("encode"):
+        return 0, library.encode(data, "prefixed" in mode, "upper" in mode)[1] + b"\n", b""
+    if mode == "check":
+        refusal, out = library.check(data), b"ok\n"
+    else:
+        refusal, out = library.decode_front(data, len(data) // 2)
+    return (0, out, b"") if refusal is None else (1, b"", library.words(refusal) + b"\n")
+
+
+def against_consthex(library, questions, answers):
+    """The program, on each stored question that it has a mode for."""
+    asked = 0
+    for question in questions:
+        operation, data, *_ = question.split(" ")
+        data = b"" if data == "-" else bytes.fromhex(data)
+        if operation not in MODES or data.endswith(b"\n"):
+            continue
+        asked += 1
+        mode = MODES[operation]
+        ran = subprocess.run([PROGRAM, mode], input=data, capture_output=True, timeout=60)
+        given, wanted = (ran.returncode, ran.stdout, ran.stderr), as_program(library, mode, data)
+        if given != wanted:
+            raise AssertionError(f"{question}: consthex {given}, and the library {wanted}")
+    print(f"check.py: {asked} questions of consthex")
+    if asked < 1000:
+        raise AssertionError(f"only {asked} questions")
+
+
 def against_python(library, questions, answers):
     """bytes.hex() and bytes.fromhex(), at every length to 300 and of some bytes past the digits."""
     numbers = random.Random(20)
@@ -175,16 +211,20 @@ def version(library, questions, answers):
     assert library.call_encoded_length(2**63, False) == 2**64 - 1
 
 
+PROGRAM = sys.argv[4]
+
+
 def main():
-    path, questions, answers = sys.argv[1:]
+    path, questions, answers = sys.argv[1:4]
     with open(questions, encoding="ascii") as file:
         questions = file.read().splitlines()
     with open(answers, encoding="ascii") as file:
         answers = file.read().splitlines()
     passed = failed = 0
-    for end in ["", "_default"]:
+    tests = [replay, against_python, version]
+    for end, its_tests in [("", [*tests, against_consthex]), ("_default", tests)]:
         library = Library(path, end)
-        for test in [replay, against_python, version]:
+        for test in its_tests:
             try:
                 test(library, questions, answers)
                 passed += 1
