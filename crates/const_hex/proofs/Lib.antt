@@ -2,6 +2,7 @@ pub mod Appending
 pub mod Buffering
 pub mod EncodedStr
 pub mod Flags
+pub mod Fronts
 pub mod LentSlice
 pub mod LentText
 pub mod Lowering

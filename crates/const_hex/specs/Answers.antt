@@ -1,5 +1,5 @@
 -- The answers that a text has.
-use Rattle.std.specs.Prelude.{◌≡◌, ℕ, ◌*◌, ◌%◌, ◌≢◌, ◌<◌, List, length, slice_index, Result, Ok, Err}
+use Rattle.std.specs.Prelude.{◌≡◌, ℕ, ◌*◌, ◌%◌, ◌≢◌, ◌<◌, ◌≤◌, List, length, slice_index, Result, Ok, Err}
 use Rattle.const_hex_arch.specs.Texts.{Spells, Partial}
 use Rattle.const_hex.specs.Bodies.{body_of, NamesFirstBad}
 use Rattle.const_hex.specs.declared.error.FromHexError.{FromHexError}
@@ -35,6 +35,16 @@ ReadsSized t n (Err InvalidStringLength) = IsEven (length t) × (length (body_of
 ReadsSized t n (Err (InvalidHexCharacter c i)) =
     (length (body_of t) ≡ 2 * n) × Reads t (Err (InvalidHexCharacter c i))
 ReadsSized t n (Err NoMemory) = ⊥
+
+-- the answer of reading t into room for n bytes: a body of more digits than they have is refused
+-- after oddness, and before any of its bytes is looked at
+abbrev pub ReadsWithin : List ℕ → ℕ → Result (List ℕ) FromHexError → Type 0
+ReadsWithin t n (Ok bs) = (length (body_of t) ≤ 2 * n) × Reads t (Ok bs)
+ReadsWithin t n (Err OddLength) = IsOdd (length t)
+ReadsWithin t n (Err InvalidStringLength) = IsEven (length t) × (2 * n < length (body_of t))
+ReadsWithin t n (Err (InvalidHexCharacter c i)) =
+    (length (body_of t) ≤ 2 * n) × Reads t (Err (InvalidHexCharacter c i))
+ReadsWithin t n (Err NoMemory) = ⊥
 
 -- the answer of checking t: that of reading it, with the bytes forgotten
 abbrev pub Checks : List ℕ → Result Unit FromHexError → Type 0

@@ -31,12 +31,12 @@ pub mod traits;
 pub use crate::buffer::{Buffer, const_encode};
 pub use crate::codec::checks::{check, check_raw, check_with, const_check, const_check_raw};
 pub use crate::codec::decoders::{
-    const_decode_to_array, decode, decode_to_array, decode_to_slice, decode_to_slice_with,
-    decode_with,
+    const_decode_to_array, decode, decode_to_array, decode_to_front, decode_to_slice,
+    decode_to_slice_with, decode_with,
 };
 pub use crate::codec::encoders::{
-    encode, encode_prefixed, encode_to_slice, encode_to_slice_upper, encode_to_str,
-    encode_to_str_upper, encode_upper, encode_upper_prefixed, encode_with,
+    encode, encode_full_to_slice, encode_prefixed, encode_to_slice, encode_to_slice_upper,
+    encode_to_str, encode_to_str_upper, encode_upper, encode_upper_prefixed, encode_with,
 };
 pub use crate::error::FromHexError;
 pub use crate::formatting::display;

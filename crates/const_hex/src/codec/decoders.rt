@@ -1,9 +1,9 @@
 //! From text to bytes.
 
-ghost use Rattle.std.specs.Prelude.{◌≡◌, ℕ, List, Bool, ◌≢◌, ◌*◌, ◌↔◌, true, false, length, OnErr, IfOk, IfErr, MatchResult, Result, Ok, Err};
+ghost use Rattle.std.specs.Prelude.{◌≡◌, ℕ, List, Bool, ◌≢◌, ◌*◌, ◌↔◌, true, false, length, OnErr, IfOk, IfErr, MatchResult, Result, Ok, Err, take, drop};
 ghost use Rattle.const_hex_arch.specs.Texts.{hex_text, full_text};
 ghost use Rattle.const_hex.specs.Bodies.{body_of, lowered};
-ghost use Rattle.const_hex.specs.Answers.{IsOdd, AreBytes, Reads, ReadsSized, Leaves};
+ghost use Rattle.const_hex.specs.Answers.{IsOdd, AreBytes, Reads, ReadsSized, ReadsWithin, Leaves};
 ghost use Rattle.const_hex.specs.declared.error.FromHexError.{FromHexError};
 ghost use Rattle.const_hex.specs.declared.error.FromHexError.TheVariants.{OddLength, NoMemory};
 
@@ -132,6 +132,42 @@ pub fn decode_to_slice_with<K: Kernel>(input: &[u8], output: &mut [u8]) -> Resul
         return Err(bad_character(input));
     }
     Ok(())
+}
+
+/// Fills the front of the output with the bytes that a text spells, with or without a prefix, in
+/// either case, and answers their count. What is behind them stays as it was.
+///
+/// Refused, in this order: with [`FromHexError::OddLength`], or with
+/// [`FromHexError::InvalidStringLength`] where the text spells more bytes than the output has,
+/// which leave the output unchanged; with [`FromHexError::InvalidHexCharacter`], which may leave a
+/// front of the output decoded, no longer than the pairs before the bad byte, and the rest as it
+/// was. Takes no memory.
+///
+/// ```rust
+/// let mut bytes = *b"......";
+/// assert_eq!(rt; const_hex::decode_to_front(b"0x6b697769", &mut bytes), Ok(4));
+/// assert_eq!(rt; &bytes, b"kiwi..");
+/// ```
+#[inline]
+pub fn decode_to_front(input: &[u8], output: &mut [u8]) -> Result<usize, FromHexError>
+    ensures ok { IfOk result (λ n. ReadsWithin input.now (length output.old) (Ok (take n output.new))) }
+    ensures count { IfOk result (λ n. length (body_of input.now) ≡ 2 * n) }
+    ensures rest { IfOk result (λ n. drop n output.new ≡ drop n output.old) }
+    ensures err { IfErr result (λ e. ReadsWithin input.now (length output.old) (Err e)) }
+    ensures left { IfErr result (λ e. Leaves input.now output.old output.new e) }
+{
+    if input.len() % 2 != 0 {
+        return Err(FromHexError::OddLength);
+    }
+    let body = strip_prefix(input);
+    let count = body.len() / 2;
+    if count > output.len() {
+        return Err(FromHexError::InvalidStringLength);
+    }
+    if !decode_body::<FixedKernel>(body, &mut output[..count]) {
+        return Err(bad_character(input));
+    }
+    Ok(count)
 }
 
 /// The N bytes that a text spells, with or without a prefix, in either case.

@@ -4,6 +4,7 @@ ghost use Rattle.std.specs.Prelude.{◌≡◌, ◌*◌, ◌+◌, ◌++◌, ℕ, 
 ghost use Rattle.std.specs.Borrow.{sem};
 ghost use Rattle.std.specs.Str.{IsAscii};
 ghost use Rattle.const_hex_arch.specs.Texts.{hex_text, full_text};
+ghost use Rattle.const_hex.specs.Buffers.{text_length};
 ghost use Rattle.const_hex.specs.Loans.{EndsEncoded};
 ghost use Rattle.const_hex.specs.declared.error.FromHexError.TheVariants.{InvalidStringLength};
 
@@ -178,6 +179,49 @@ pub fn encode_to_slice_upper(input: &[u8], output: &mut [u8]) -> Result<(), From
     ensures unchanged { OnErr result (output.new ≡ output.old) }
 {
     into_slice(input, true, output)
+}
+
+/// Whether an output of one length has exactly two bytes for each of an input of another, and two
+/// more where a prefix is wanted.
+#[inline(always)]
+fn fits_full(input_length: usize, prefix: bool, output_length: usize) -> bool
+    ensures { IsTrue result ↔ (output_length ≡ text_length prefix input_length) }
+{
+    if prefix {
+        output_length >= 2 && fits(input_length, output_length - 2)
+    } else {
+        fits(input_length, output_length)
+    }
+}
+
+/// Fills the output with the text of the input, in upper or lower letters, behind `0x` where a
+/// prefix is wanted.
+///
+/// Refused with [`FromHexError::InvalidStringLength`] unless the output has exactly two bytes for
+/// each of the input, and two more for a prefix; it is then unchanged. Takes no memory.
+///
+/// ```rust
+/// let mut text = [0; 10];
+/// const_hex::encode_full_to_slice(b"kiwi", true, false, &mut text)?;
+/// assert_eq!(rt; &text, b"0x6b697769");
+/// ```
+#[inline]
+pub fn encode_full_to_slice(
+    input: &[u8],
+    prefix: bool,
+    upper: bool,
+    output: &mut [u8],
+) -> Result<(), FromHexError>
+    ensures fits { IsOk result ↔ (length output.old ≡ length (full_text prefix upper input.now)) }
+    ensures text { OnOk result (output.new ≡ full_text prefix upper input.now) }
+    ensures refusal { OnErr result (result ≡ Err InvalidStringLength) }
+    ensures unchanged { OnErr result (output.new ≡ output.old) }
+{
+    if !fits_full(input.len(), prefix, output.len()) {
+        return Err(FromHexError::InvalidStringLength);
+    }
+    fill::<FixedKernel>(input, prefix, upper, output);
+    Ok(())
 }
 
 /// ASCII bytes, as text, with no copy and no test.

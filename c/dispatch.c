@@ -1,0 +1,32 @@
+/*
+ * Picks one of the two builds of the library, once for each call, when the program is loaded: the
+ * one for x86-64-v3 (AVX2 and what comes with it) where the processor has all of that, and else the
+ * default one. No proof covers this file; it does nothing but pick.
+ */
+#include "const_hex.h"
+
+#define EITHER(answer, name, parameters)                                                          \
+    answer name##_default parameters;                                                             \
+    answer name##_v3 parameters;                                                                  \
+    static answer(*pick_##name(void)) parameters {                                                \
+        __builtin_cpu_init();                                                                     \
+        return __builtin_cpu_supports("x86-64-v3") ? name##_v3 : name##_default;                  \
+    }                                                                                             \
+    answer name parameters __attribute__((ifunc("pick_" #name)));
+
+EITHER(size_t, const_hex_encoded_length, (size_t bytes, bool prefix))
+EITHER(bool, const_hex_encode,
+       (const void *bytes, size_t bytes_length, bool prefix, bool upper, char *text,
+        size_t text_length))
+EITHER(bool, const_hex_decode,
+       (const char *text, size_t text_length, void *bytes, size_t bytes_length,
+        struct const_hex_refusal *refusal))
+EITHER(bool, const_hex_decode_front,
+       (const char *text, size_t text_length, void *bytes, size_t bytes_length, size_t *count,
+        struct const_hex_refusal *refusal))
+EITHER(bool, const_hex_check,
+       (const char *text, size_t text_length, struct const_hex_refusal *refusal))
+EITHER(bool, const_hex_check_raw, (const char *text, size_t text_length))
+EITHER(size_t, const_hex_refusal_words,
+       (const struct const_hex_refusal *refusal, char *buffer, size_t buffer_length))
+EITHER(uint32_t, const_hex_version, (void))

@@ -1,0 +1,39 @@
+/*
+ * Prints the fingerprint of a file as 16 digits: its FNV-1a of 64 bits, the high byte first.
+ *
+ *     fingerprint FILE
+ *
+ * The status is 2 where there is not one word, or the file cannot be read.
+ */
+#include "const_hex.h"
+#include <stdio.h>
+
+int main(int count, char **words) {
+    FILE *file = count == 2 ? fopen(words[1], "rb") : NULL;
+    if (file == NULL) {
+        fprintf(stderr, "fingerprint: give one file that can be read\n");
+        return 2;
+    }
+    uint64_t hash = UINT64_C(0xcbf29ce484222325);
+    int byte;
+    while ((byte = fgetc(file)) != EOF) {
+        hash = (hash ^ (uint64_t)byte) * UINT64_C(0x100000001b3);
+    }
+    if (ferror(file) != 0) {
+        fprintf(stderr, "fingerprint: %s cannot be read\n", words[1]);
+        return 2;
+    }
+    fclose(file);
+
+    unsigned char bytes[8];
+    for (int place = 0; place < 8; place++) {
+        bytes[place] = (unsigned char)(hash >> (56 - 8 * place));
+    }
+    /* Two digits a byte, and room for the NUL that puts wants. */
+    char text[2 * sizeof bytes + 1] = "";
+    if (!const_hex_encode(bytes, sizeof bytes, false, false, text, 2 * sizeof bytes)) {
+        return 1;
+    }
+    puts(text);
+    return 0;
+}

@@ -1,0 +1,427 @@
+/*
+ * Tests of the codec's calls for C, of each build by name and of the dispatcher.
+ *
+ * What is wanted comes from worked rows and from plain loops of this file. Inputs and outputs stand
+ * at the ends of pages behind and before which nothing may be read or written, so a byte out of
+ * range ends the program. The last line is "N passed, M failed": a test of one build is one.
+ */
+#ifndef _GNU_SOURCE
+#define _GNU_SOURCE
+#endif
+#include "const_hex.h"
+#include <stdio.h>
+#include <stdlib.h>
+#include <string.h>
+#include <sys/mman.h>
+#include <unistd.h>
+
+#ifdef __cplusplus
+extern "C" {
+#endif
+#define NAMED(build)                                                                              \
+    size_t const_hex_encoded_length_##build(size_t bytes, bool prefix);                           \
+    bool const_hex_encode_##build(const void *bytes, size_t bytes_length, bool prefix,            \
+                                  bool upper, char *text, size_t text_length);                    \
+    bool const_hex_decode_##build(const char *text, size_t text_length, void *bytes,              \
+                                  size_t bytes_length, struct const_hex_refusal *refusal);        \
+    bool const_hex_decode_front_##build(const char *text, size_t text_length, void *bytes,        \
+                                        size_t bytes_length, size_t *count,                       \
+                                        struct const_hex_refusal *refusal);                       \
+    bool const_hex_check_##build(const char *text, size_t text_length,                            \
+                                 struct const_hex_refusal *refusal);                              \
+    bool const_hex_check_raw_##build(const char *text, size_t text_length);                       \
+    size_t const_hex_refusal_words_##build(const struct const_hex_refusal *refusal,               \
+                                           char *buffer, size_t buffer_length);                   \
+    uint32_t const_hex_version_##build(void);
+NAMED(default)
+NAMED(v3)
+#ifdef __cplusplus
+}
+#endif
+
+struct build {
+    const char *name;
+    size_t (*encoded_length)(size_t, bool);
+    bool (*encode)(const void *, size_t, bool, bool, char *, size_t);
+    bool (*decode)(const char *, size_t, void *, size_t, struct const_hex_refusal *);
+    bool (*decode_front)(const char *, size_t, void *, size_t, size_t *,
+                         struct const_hex_refusal *);
+    bool (*check)(const char *, size_t, struct const_hex_refusal *);
+    bool (*check_raw)(const char *, size_t);
+    size_t (*words)(const struct const_hex_refusal *, char *, size_t);
+    uint32_t (*version)(void);
+};
+
+#define BUILD(name, end)                                                                          \
+    {                                                                                             \
+        name, const_hex_encoded_length##end, const_hex_encode##end, const_hex_decode##end,        \
+            const_hex_decode_front##end, const_hex_check##end, const_hex_check_raw##end,          \
+            const_hex_refusal_words##end, const_hex_version##end                                  \
+    }
+
+static const struct build BUILDS[] = {
+    BUILD("dispatcher", ), BUILD("default build", _default), BUILD("x86-64-v3 build", _v3)};
+
+enum { LONGEST = 300, ALIGNMENTS = 64, BAD_LENGTHS = 130, ROOM = 4096, MARK = 0xEE };
+
+static const struct build *build;
+static unsigned long checks;
+static unsigned long wrong;
+
+/* Counts a check, and says which failed: the first 20. */
+static void holds(bool fact, const char *what, size_t length, size_t place) {
+    checks++;
+    if (!fact && wrong++ < 20) {
+        printf("check: FAILED: %s: %s, at %zu, %zu\n", build->name, what, length, place);
+    }
+}
+
+/* A page with unreadable ones before and behind it. */
+static unsigned char *fenced(void) {
+    size_t page = (size_t)sysconf(_SC_PAGESIZE);
+    void *all = mmap(NULL, 3 * page, PROT_NONE, MAP_PRIVATE | MAP_ANONYMOUS, -1, 0);
+    if (page != ROOM || all == MAP_FAILED ||
+        mprotect((unsigned char *)all + page, page, PROT_READ | PROT_WRITE) != 0) {
+        puts("check: no pages of 4096 bytes");
+        exit(2);
+    }
+    return (unsigned char *)all + page;
+}
+
+/* The plain loops that the calls are compared with. */
+
+static size_t plain_text(const unsigned char *bytes, size_t count, bool prefix, bool upper,
+                         char *text) {
+    const char *digits = upper ? "0123456789ABCDEF" : "0123456789abcdef";
+    size_t length = 0;
+    if (prefix) {
+        text[length++] = '0';
+        text[length++] = 'x';
+    }
+    for (size_t place = 0; place < count; place++) {
+        text[length++] = digits[bytes[place] >> 4];
+        text[length++] = digits[bytes[place] & 15];
+    }
+    return length;
+}
+
+static int plain_value(unsigned char byte) {
+    const char *digits = "00112233445566778899aAbBcCdDeEfF";
+    const char *found = byte == 0 ? NULL : strchr(digits, byte);
+    return found == NULL ? -1 : (int)(found - digits) / 2;
+}
+
+/* The refusal of a text of which so many bytes are wanted, or any count where exact is false. */
+static struct const_hex_refusal plain_refusal(const char *text, size_t length, bool sized,
+                                              size_t wanted) {
+    struct const_hex_refusal refusal = {0, 0, 0};
+    size_t start = length >= 2 && text[0] == '0' && (text[1] == 'x' || text[1] == 'X') ? 2 : 0;
+    if (length % 2 == 1) {
+        refusal.kind = CONST_HEX_ODD_LENGTH;
+        return refusal;
+    }
+    if (sized && (length - start) / 2 != wanted) {
+        refusal.kind = CONST_HEX_INVALID_LENGTH;
+        return refusal;
+    }
+    for (size_t place = start; place < length; place++) {
+        if (plain_value((unsigned char)text[place]) < 0) {
+            refusal.kind = CONST_HEX_INVALID_CHARACTER;
+            refusal.byte = (unsigned char)text[place];
+            refusal.index = place;
+            return refusal;
+        }
+    }
+    return refusal;
+}
+
+static bool same(const struct const_hex_refusal *one, const struct const_hex_refusal *other) {
+    return one->kind == other->kind && one->byte == other->byte && one->index == other->index;
+}
+
+static bool marked(const unsigned char *bytes, size_t count) {
+    for (size_t place = 0; place < count; place++) {
+        if (bytes[place] != MARK) {
+            return false;
+        }
+    }
+    return true;
+}
+
+static void worked_rows(void) {
+    char text[64];
+    unsigned char bytes[32];
+    struct const_hex_refusal refusal = {9, 9, 9};
+    holds(build->encode("kiwi", 4, true, false, text, 10) && memcmp(text, "0x6b697769", 10) == 0,
+          "kiwi", 10, 0);
+    holds(build->encode("kiwi", 4, false, true, text, 8) && memcmp(text, "6B697769", 8) == 0,
+          "KIWI", 8, 0);
+    holds(build->encode("Hello world!", 12, false, false, text, 24) &&
+              memcmp(text, "48656c6c6f20776f726c6421", 24) == 0,
+          "Hello world!", 24, 0);
+    holds(build->decode("0X6B697769", 10, bytes, 4, &refusal) && memcmp(bytes, "kiwi", 4) == 0,
+          "decoded kiwi", 10, 0);
+    holds(refusal.kind == 9 && refusal.byte == 9 && refusal.index == 9, "kept refusal", 0, 0);
+    holds(!build->check("0xzz", 4, &refusal) && refusal.kind == 3 && refusal.byte == 'z' &&
+              refusal.index == 2,
+          "0xzz", 4, 2);
+    holds(!build->decode("0x6b6977zz", 10, bytes, 4, &refusal) && refusal.kind == 3 &&
+              refusal.byte == 'z' && refusal.index == 8,
+          "0x6b6977zz", 10, 8);
+    holds(!build->check("6b6", 3, &refusal) && refusal.kind == 1 && refusal.byte == 0 &&
+              refusal.index == 0,
+          "6b6", 3, 0);
+    holds(!build->check("0x0x", 4, &refusal) && refusal.index == 3, "0x0x", 4, 3);
+    holds(build->check_raw("6b6", 3) && !build->check_raw("0x6b", 4), "check_raw", 3, 0);
+    holds(build->encoded_length(20, true) == 42 && build->encoded_length(0, false) == 0,
+          "encoded_length", 20, 0);
+    holds(build->encoded_length(SIZE_MAX / 2, false) == SIZE_MAX - 1 &&
+              build->encoded_length(SIZE_MAX / 2, true) == SIZE_MAX &&
+              build->encoded_length(SIZE_MAX / 2 + 1, false) == SIZE_MAX &&
+              build->encoded_length(SIZE_MAX, true) == SIZE_MAX,
+          "encoded_length that does not fit", 0, 0);
+    holds(build->version() == 10000, "version", 0, 0);
+}
+
+static void null_with_no_bytes(void) {
+    struct const_hex_refusal refusal = {0, 0, 0};
+    size_t count = 7;
+    char text[2];
+    holds(build->encode(NULL, 0, false, false, NULL, 0), "encode of nothing", 0, 0);
+    holds(build->encode(NULL, 0, true, true, text, 2) && memcmp(text, "0x", 2) == 0,
+          "the prefix alone", 0, 0);
+    holds(build->decode(NULL, 0, NULL, 0, &refusal), "decode of nothing", 0, 0);
+    holds(build->decode("0x", 2, NULL, 0, &refusal), "decode of a prefix", 0, 0);
+    holds(build->decode_front(NULL, 0, NULL, 0, &count, &refusal) && count == 0,
+          "decode_front of nothing", 0, 0);
+    holds(build->check(NULL, 0, &refusal), "check of nothing", 0, 0);
+    holds(build->check_raw(NULL, 0), "check_raw of nothing", 0, 0);
+    holds(!build->decode("6b", 2, NULL, 0, &refusal) && refusal.kind == CONST_HEX_INVALID_LENGTH,
+          "no room", 0, 0);
+    holds(build->words(&refusal, NULL, 0) == 0, "words into nothing", 0, 0);
+}
+
+static void words(void) {
+    static const struct {
+        struct const_hex_refusal refusal;
+        const char *words;
+    } rows[] = {
+        {{CONST_HEX_ODD_LENGTH, 0, 0}, "odd number of digits"},
+        {{CONST_HEX_INVALID_LENGTH, 0, 0}, "invalid string length"},
+        {{CONST_HEX_INVALID_CHARACTER, 'z', 2}, "invalid character 'z' at position 2"},
+        {{CONST_HEX_INVALID_CHARACTER, '\n', 40}, "invalid character '\\n' at position 40"},
+        {{CONST_HEX_INVALID_CHARACTER, 0x80, SIZE_MAX},
+         "invalid character '\\u{80}' at position 18446744073709551615"},
+        {{CONST_HEX_NO_MEMORY, 0, 0}, "out of memory"},
+        {{0, 0, 0}, ""},
+        {{CONST_HEX_INVALID_CHARACTER, 0xFFFFFFFF, 0}, ""},
+    };
+    unsigned char *page = fenced();
+    for (size_t row = 0; row < sizeof rows / sizeof rows[0]; row++) {
+        size_t whole = strlen(rows[row].words);
+        for (size_t room = 1; room <= CONST_HEX_WORDS; room++) {
+            char *buffer = (char *)page + ROOM - room;
+            size_t wanted = whole < room ? whole : room - 1;
+            memset(buffer, MARK, room);
+            size_t count = build->words(&rows[row].refusal, buffer, room);
+            holds(count == wanted && buffer[count] == 0 &&
+                      memcmp(buffer, rows[row].words, wanted) == 0 &&
+                      marked((unsigned char *)buffer + count + 1, room - count - 1),
+                  "words", room, row);
+        }
+    }
+}
+
+/* One input at one place in its page, both ways. */
+static void both_ways(const unsigned char *bytes, size_t count, char *text, unsigned char *back) {
+    char wanted[2 * LONGEST + 2];
+    for (int form = 0; form < 4; form++) {
+        bool prefix = form % 2 == 1;
+        bool upper = form / 2 == 1;
+        struct const_hex_refusal refusal = {0, 0, 0};
+        size_t length = plain_text(bytes, count, prefix, upper, wanted);
+        char *start = text - length;
+        holds(build->encode(bytes, count, prefix, upper, start, length) &&
+                  memcmp(start, wanted, length) == 0,
+              "encode", count, (size_t)form);
+        unsigned char *end = back - count;
+        memset(end, MARK, count);
+        holds(build->decode(start, length, end, count, &refusal) && memcmp(end, bytes, count) == 0,
+              "decode", count, (size_t)form);
+        holds(build->check(start, length, &refusal) &&
+                  build->check_raw(start, length) == !prefix,
+              "check", count, (size_t)form);
+    }
+}
+
+/* Every length to 300 at every alignment to 63, from the start of a page and to its end. */
+static void lengths_and_alignments(void) {
+    unsigned char *input = fenced();
+    unsigned char *output = fenced();
+    unsigned char *back = fenced();
+    for (size_t count = 0; count <= LONGEST; count++) {
+        for (size_t by = 0; by < ALIGNMENTS; by++) {
+            unsigned char *low = input + by;
+            unsigned char *high = input + ROOM - by - count;
+            for (size_t place = 0; place < count; place++) {
+                low[place] = (unsigned char)(place * 37 + count * 11 + by);
+                high[place] = (unsigned char)(place * 73 + count * 5 + by);
+            }
+            both_ways(low, count, (char *)output + by + 2 * count + 2, back + by + count);
+            both_ways(high, count, (char *)output + ROOM - by, back + ROOM - by);
+            char *first = (char *)output + by;
+            struct const_hex_refusal refusal = {0, 0, 0};
+            holds(build->encode(low, count, false, false, first, 2 * count) &&
+                      build->decode(first, 2 * count, back + by, count, &refusal) &&
+                      memcmp(back + by, low, count) == 0,
+                  "from the start of a page", count, by);
+        }
+    }
+}
+
+/* A refused text: the refusal, and what is left of the output. */
+static void refused(const char *text, size_t length, size_t start, unsigned char *bytes,
+                    size_t count, size_t place) {
+    struct const_hex_refusal any = plain_refusal(text, length, false, 0);
+    struct const_hex_refusal sized = plain_refusal(text, length, true, count);
+    struct const_hex_refusal refusal = {9, 9, 9};
+    size_t pairs = any.kind == CONST_HEX_INVALID_CHARACTER ? (any.index - start) / 2 : 0;
+    size_t done = 0;
+
+    holds(!build->check(text, length, &refusal) && same(&refusal, &any), "check", length, place);
+    memset(bytes, MARK, count);
+    holds(!build->decode(text, length, bytes, count, &refusal) && same(&refusal, &sized),
+          "decode", length, place);
+    while (done < pairs &&
+           bytes[done] == plain_value((unsigned char)text[start + 2 * done]) * 16 +
+                              plain_value((unsigned char)text[start + 2 * done + 1])) {
+        done++;
+    }
+    holds(marked(bytes + done, count - done), "what a refusal leaves", length, place);
+    holds(!build->check_raw(text + start, length - start), "check_raw", length, place);
+}
+
+/* Bad bytes at every place of every length to 130 behind a prefix, and without one. */
+static void bad_bytes(void) {
+    static const unsigned char bad[] = {0, '/', ':', '@', 'G', '`', 'g', 'x', 0x80, 0xB0, 0xFF};
+    unsigned char *input = fenced();
+    unsigned char *output = fenced();
+    for (size_t digits = 1; digits <= BAD_LENGTHS; digits++) {
+        for (size_t prefix = 0; prefix <= 2; prefix += 2) {
+            size_t length = digits + prefix;
+            char *text = (char *)input + ROOM - length;
+            unsigned char *bytes = output + ROOM - digits / 2;
+            for (size_t place = prefix; place < length; place++) {
+                for (size_t which = 0; which < sizeof bad; which++) {
+                    for (size_t at = 0; at < length; at++) {
+                        text[at] = "5aF09cDe7B"[(at + length) % 10];
+                    }
+                    if (prefix == 2) {
+                        text[0] = '0';
+                        text[1] = place % 2 == 0 ? 'x' : 'X';
+                    }
+                    text[place] = (char)bad[which];
+                    if (prefix == 0 && place == 1 && text[0] == '0' && bad[which] == 'x') {
+                        continue;
+                    }
+                    refused(text, length, prefix, bytes, digits / 2, place);
+                }
+            }
+            holds(plain_refusal(text, length, false, 0).kind ==
+                      (digits % 2 == 1 ? CONST_HEX_ODD_LENGTH : CONST_HEX_INVALID_CHARACTER),
+                  "the plain loop", length, 0);
+        }
+    }
+}
+
+/* Each byte's value in a text of one pair. */
+static void every_byte(void) {
+    for (unsigned byte = 0; byte < 256; byte++) {
+        char text[2] = {'1', (char)byte};
+        unsigned char bytes[1] = {MARK};
+        struct const_hex_refusal refusal = {0, 0, 0};
+        int value = plain_value((unsigned char)byte);
+        bool decoded = build->decode(text, 2, bytes, 1, &refusal);
+        holds(decoded == (value >= 0) && (decoded ? bytes[0] == 16 + value : bytes[0] == MARK),
+              "a byte's value", 2, byte);
+        holds(build->check_raw(text + 1, 1) == (value >= 0), "check_raw of a byte", 1, byte);
+    }
+}
+
+/* Outputs of other sizes than the text needs. */
+static void wrong_sizes(void) {
+    unsigned char *page = fenced();
+    char text[2 * 40 + 2];
+    for (size_t count = 0; count <= 40; count++) {
+        unsigned char input[40];
+        memset(input, 0x5A, sizeof input);
+        for (size_t room = 0; room <= 90; room++) {
+            for (int prefix = 0; prefix <= 1; prefix++) {
+                size_t length = 2 * count + (prefix == 1 ? 2 : 0);
+                unsigned char *output = page + ROOM - room;
+                struct const_hex_refusal refusal = {9, 9, 9};
+                size_t decoded = 99;
+                memset(output, MARK, room);
+                bool fits = build->encode(input, count, prefix == 1, false, (char *)output, room);
+                holds(fits == (room == length) && (fits || marked(output, room)), "encode into",
+                      count, room);
+                plain_text(input, count, prefix == 1, false, text);
+                memset(output, MARK, room);
+                fits = build->decode(text, length, output, room, &refusal);
+                holds(fits == (room == count) &&
+                          (fits || (refusal.kind == CONST_HEX_INVALID_LENGTH &&
+                                    refusal.byte == 0 && refusal.index == 0 &&
+                                    marked(output, room))),
+                      "decode into", count, room);
+                memset(output, MARK, room);
+                refusal.kind = 9;
+                fits = build->decode_front(text, length, output, room, &decoded, &refusal);
+                holds(fits == (room >= count), "decode_front into", count, room);
+                holds(fits ? decoded == count && memcmp(output, input, count) == 0 &&
+                                 marked(output + count, room - count)
+                           : decoded == 99 && refusal.kind == CONST_HEX_INVALID_LENGTH &&
+                                 marked(output, room),
+                      "the front", count, room);
+            }
+        }
+    }
+}
+
+static const struct {
+    const char *name;
+    void (*run)(void);
+} TESTS[] = {{"worked rows", worked_rows},
+             {"null pointers with length 0", null_with_no_bytes},
+             {"words of refusals", words},
+             {"every byte", every_byte},
+             {"outputs of wrong sizes", wrong_sizes},
+             {"bad bytes at every place", bad_bytes},
+             {"every length at every alignment", lengths_and_alignments}};
+
+int main(void) {
+    size_t builds = sizeof BUILDS / sizeof BUILDS[0];
+    size_t tests = sizeof TESTS / sizeof TESTS[0];
+    unsigned long passed = 0;
+    unsigned long failed = 0;
+    __builtin_cpu_init();
+    if (!__builtin_cpu_supports("x86-64-v3")) {
+        puts("check: this processor is no x86-64-v3, so that build is not run");
+        builds--;
+    }
+    for (size_t which = 0; which < builds; which++) {
+        build = &BUILDS[which];
+        for (size_t test = 0; test < tests; test++) {
+            unsigned long before = wrong;
+            TESTS[test].run();
+            if (wrong == before) {
+                passed++;
+            } else {
+                failed++;
+                printf("check: FAILED: %s: %s\n", build->name, TESTS[test].name);
+            }
+        }
+    }
+    printf("check: %lu checks\n", checks);
+    printf("%lu passed, %lu failed\n", passed, failed);
+    return failed == 0 ? 0 : 1;
+}

@@ -1,0 +1,150 @@
+//! The codec's calls, for C.
+//!
+//! Each makes one call of `const_hex` and states that call's clauses again. None takes memory, and
+//! none asks anything of its arguments: a slice is a pointer and a length, and the null pointer
+//! may stand with length 0. The header `c/const_hex.h` says the same to C.
+//!
+//! The words of the contracts are those of `const_hex`, and one file of `specs/`:
+//!
+//! - `Crossing.antt`: a refusal as C has it.
+#![tactic(auto)]
+
+ghost use Rattle.std.specs.Prelude.{◌≡◌, ◌↔◌, ◌*◌, ◌+◌, ◌<◌, ℕ, List, true, false, length, take, drop, min, slice_index, IsTrue, Ok, Err};
+ghost use Rattle.const_hex.specs.Texts.{full_text, AllDigits};
+ghost use Rattle.const_hex.specs.Answers.{Reads, ReadsSized, ReadsWithin, Leaves};
+ghost use Rattle.const_hex.specs.Bodies.{body_of};
+ghost use Rattle.const_hex.specs.Buffers.{text_length};
+ghost use Rattle.const_hex_c.specs.Crossing.{StandsFor};
+
+mod refusal;
+mod words;
+
+use crate::refusal::Refusal;
+use crate::words::Words;
+
+/// How long the text of so many bytes is: two digits for each, and two bytes more for a prefix.
+/// The greatest number where that does not fit; no text has that length.
+#[unsafe(no_mangle)]
+pub extern "C" fn const_hex_encoded_length(bytes: usize, prefix: bool) -> usize
+    ensures { result ≡ min (text_length prefix bytes) usize.MAX }
+{
+    bytes
+        .saturating_mul(2)
+        .saturating_add(if prefix { 2 } else { 0 })
+}
+
+/// Fills the text with the digits of the bytes, in upper or lower letters, behind `0x` where a
+/// prefix is wanted. False where the text has not just that length, and it is then unchanged.
+#[unsafe(no_mangle)]
+pub extern "C" fn const_hex_encode(bytes: &[u8], prefix: bool, upper: bool, text: &mut [u8]) -> bool
+    ensures fits { IsTrue result ↔ (length text.old ≡ length (full_text prefix upper bytes.now)) }
+    ensures text { IsTrue result → text.new ≡ full_text prefix upper bytes.now }
+    ensures unchanged { result ≡ false → text.new ≡ text.old }
+{
+    const_hex::encode_full_to_slice(bytes, prefix, upper, text).is_ok()
+}
+
+/// Fills the bytes with what the text spells, with or without a prefix, in either case. False where
+/// it is refused, also where it does not spell just so many bytes, and the refusal says why.
+#[unsafe(no_mangle)]
+pub extern "C" fn const_hex_decode(text: &[u8], bytes: &mut [u8], refusal: &mut Refusal) -> bool
+    ensures ok { IsTrue result → ReadsSized text.now (length bytes.old) (Ok bytes.new) }
+    ensures kept { IsTrue result → refusal.new ≡ refusal.old }
+    ensures err { result ≡ false
+        → StandsFor refusal.new (λ e. ReadsSized text.now (length bytes.old) (Err e)) }
+    ensures left { result ≡ false
+        → StandsFor refusal.new (λ e. Leaves text.now bytes.old bytes.new e) }
+{
+    match const_hex::decode_to_slice(text, bytes) {
+        Ok(()) => true,
+        Err(error) => {
+            *refusal = Refusal::from(error);
+            false
+        }
+    }
+}
+
+/// As `const_hex_decode`, into room for more bytes: their count is answered, and what is behind
+/// them stays as it was.
+#[unsafe(no_mangle)]
+pub extern "C" fn const_hex_decode_front(
+    text: &[u8],
+    bytes: &mut [u8],
+    count: &mut usize,
+    refusal: &mut Refusal,
+) -> bool
+    ensures ok { IsTrue result
+        → ReadsWithin text.now (length bytes.old) (Ok (take count.new bytes.new)) }
+    ensures count { IsTrue result → length (body_of text.now) ≡ 2 * count.new }
+    ensures rest { IsTrue result → drop count.new bytes.new ≡ drop count.new bytes.old }
+    ensures kept { IsTrue result → refusal.new ≡ refusal.old }
+    ensures err { result ≡ false
+        → StandsFor refusal.new (λ e. ReadsWithin text.now (length bytes.old) (Err e)) }
+    ensures left { result ≡ false
+        → StandsFor refusal.new (λ e. Leaves text.now bytes.old bytes.new e) }
+    ensures uncounted { result ≡ false → count.new ≡ count.old }
+{
+    match const_hex::decode_to_front(text, bytes) {
+        Ok(decoded) => {
+            *count = decoded;
+            true
+        }
+        Err(error) => {
+            *refusal = Refusal::from(error);
+            false
+        }
+    }
+}
+
+/// Whether the text can be decoded, and else the refusal says why not.
+#[unsafe(no_mangle)]
+pub extern "C" fn const_hex_check(text: &[u8], refusal: &mut Refusal) -> bool
+    ensures accepts { IsTrue result ↔ ((bs : List ℕ) × Reads text.now (Ok bs)) }
+    ensures kept { IsTrue result → refusal.new ≡ refusal.old }
+    ensures err { result ≡ false → StandsFor refusal.new (λ e. Reads text.now (Err e)) }
+{
+    match const_hex::check(text) {
+        Ok(()) => true,
+        Err(error) => {
+            *refusal = Refusal::from(error);
+            false
+        }
+    }
+}
+
+/// Whether every byte is a digit: no prefix is allowed, and the length does not matter.
+#[unsafe(no_mangle)]
+pub extern "C" fn const_hex_check_raw(text: &[u8]) -> bool
+    ensures { IsTrue result ↔ AllDigits text.now }
+{
+    const_hex::check_raw(text)
+}
+
+/// Puts the words of a refusal into the buffer, and a NUL behind them, and answers how many bytes
+/// stand before the NUL. Where the buffer is too small the words are cut; where it is empty,
+/// nothing is written. A struct that stands for no refusal has no words.
+#[unsafe(no_mangle)]
+pub extern "C" fn const_hex_refusal_words(refusal: &Refusal, buffer: &mut [u8]) -> usize
+    ensures within { 0 < length buffer.old → result < length buffer.old }
+    ensures none { length buffer.old ≡ 0 → result ≡ 0 }
+    ensures ended { 0 < length buffer.old → slice_index buffer.new result ≡ 0 }
+    ensures rest { drop (result + 1) buffer.new ≡ drop (result + 1) buffer.old }
+{
+    if buffer.is_empty() {
+        return 0;
+    }
+    let words = Words::of(refusal.error());
+    let words = words.as_bytes();
+    let count = words.len().min(buffer.len() - 1);
+    buffer[..count].copy_from_slice(&words[..count]);
+    buffer[count] = 0;
+    count
+}
+
+/// The version of these calls: 10,000 times the major one, 100 times the minor one, and the patch.
+#[unsafe(no_mangle)]
+pub extern "C" fn const_hex_version() -> u32
+    ensures { result ≡ 10000 }
+{
+    10_000
+}

@@ -1,0 +1,57 @@
+//! Why a text was refused, as C has it.
+
+ghost use Rattle.std.specs.Prelude.{◌≡◌};
+ghost use Rattle.const_hex_c.specs.Crossing.{refusal_of};
+
+use const_hex::FromHexError;
+
+/// The kind of a text with an odd number of bytes.
+pub const ODD_LENGTH: u32 = 1;
+/// The kind of a text that does not spell as many bytes as are wanted.
+pub const INVALID_LENGTH: u32 = 2;
+/// The kind of a text with a byte that is no digit.
+pub const INVALID_CHARACTER: u32 = 3;
+/// The kind of refused memory. No call for C takes memory, so none answers it.
+pub const NO_MEMORY: u32 = 4;
+
+/// Why a text was refused: the kind, and of a bad character the byte and its place in the whole
+/// text. Of any other kind those two are 0.
+#[repr(C)]
+#[derive(Clone, Copy)]
+pub struct Refusal {
+    pub kind: u32,
+    pub byte: u32,
+    pub index: usize,
+}
+
+impl From<FromHexError> for Refusal {
+    ghost from_gives = { λ e r. r ≡ refusal_of e };
+
+    fn from(error: FromHexError) -> Refusal {
+        let (kind, byte, index) = match error {
+            FromHexError::OddLength => (ODD_LENGTH, 0, 0),
+            FromHexError::InvalidStringLength => (INVALID_LENGTH, 0, 0),
+            FromHexError::InvalidHexCharacter { c, index } => {
+                (INVALID_CHARACTER, u32::from(c), index)
+            }
+            FromHexError::NoMemory => (NO_MEMORY, 0, 0),
+        };
+        Refusal { kind, byte, index }
+    }
+}
+
+impl Refusal {
+    /// The refusal that this stands for, where there is one.
+    pub(crate) fn error(&self) -> Option<FromHexError> {
+        match self.kind {
+            ODD_LENGTH => Some(FromHexError::OddLength),
+            INVALID_LENGTH => Some(FromHexError::InvalidStringLength),
+            INVALID_CHARACTER => Some(FromHexError::InvalidHexCharacter {
+                c: char::from_u32(self.byte)?,
+                index: self.index,
+            }),
+            NO_MEMORY => Some(FromHexError::NoMemory),
+            _ => None,
+        }
+    }
+}
