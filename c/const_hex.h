@@ -1,9 +1,10 @@
 /*
  * const_hex: hexadecimal text, proved.
  *
- * Every call here is a few lines over the Rattle crate const_hex_c, whose clauses are proved for
- * every input: it is safe, it returns, and it answers what is said here. None takes memory, none
- * keeps anything between calls, and any number of threads may call at once.
+ * Every call here is one of the Rattle crate const_hex_c, whose clauses are proved for every input:
+ * it is safe, it returns, and it answers what is said here, but for the words of a refusal, which
+ * tests show. That this header says what those clauses say is seen by reading and by tests. None
+ * takes memory, none keeps anything between calls, and any number of threads may call at once.
  *
  * THE CALLER'S PART
  *
@@ -12,10 +13,11 @@
  *    writable where the pointer is to no const. A null pointer is allowed with length 0;
  *  - what a call writes (text or bytes, count, refusal, buffer) overlaps nothing else that the call
  *    is given, and no other thread touches it meanwhile;
- *  - a pointer to one value (count, refusal) is not null, and the value is writable.
+ *  - a pointer to one value (count, refusal) is not null and is aligned as its type wants; the
+ *    value is writable, but for the refusal of const_hex_refusal_words, which is only read.
  *
- * No length, no bytes and no alignment are forbidden. No text needs a NUL at its end, and none is
- * written, but by const_hex_refusal_words.
+ * No length and no bytes are forbidden, and text, bytes and buffer may stand at any address. No text
+ * needs a NUL at its end, and none is written, but by const_hex_refusal_words.
  *
  * EXAMPLE
  *
@@ -120,8 +122,10 @@ bool const_hex_check_raw(const char *text, size_t text_length);
 /*
  * Puts the words of a refusal into buffer, such as "odd number of digits", with a NUL behind them,
  * and answers how many bytes stand before the NUL. Words that do not fit are cut, so that the NUL
- * always fits; room of CONST_HEX_WORDS bytes is enough for any. Where buffer_length is 0, nothing is
- * written and the answer is 0. A struct that no call here has filled may have no words.
+ * always fits; room of CONST_HEX_WORDS bytes is enough for any. The words are UTF-8: a byte past 127
+ * is named by the character of that number, U+0080 to U+00FF, and a cut may fall inside one. Where
+ * buffer_length is 0, nothing is written and the answer is 0. A struct that no call here has filled
+ * may have no words.
  */
 size_t const_hex_refusal_words(const struct const_hex_refusal *refusal, char *buffer,
                                size_t buffer_length);

@@ -1,7 +1,8 @@
 /*
- * Picks one of the two builds of the library, once for each call, when the program is loaded: the
- * one for x86-64-v3 (AVX2 and what comes with it) where the processor has all of that, and else the
- * default one. No proof covers this file; it does nothing but pick.
+ * Picks one of the two builds of the library for each call: the one for x86-64-v3 (AVX2 and what
+ * comes with it) where the processor has all of that, and else the default one. It picks when the
+ * call is bound: at the start of the program, at dlopen, or at its first use. The choice is the same
+ * each time, so threads cannot disagree. No proof covers this file; it does nothing but pick.
  */
 #include "const_hex.h"
 

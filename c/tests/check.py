@@ -15,6 +15,9 @@ import random
 import subprocess
 import sys
 
+# What a processor has to have for the build for x86-64-v3, by Linux's names.
+V3 = {"avx2", "bmi1", "bmi2", "f16c", "fma", "abm", "movbe"}
+
 KINDS = {1: "OddLength", 2: "InvalidStringLength", 3: "InvalidHexCharacter"}
 
 
@@ -26,24 +29,28 @@ class Refusal(ctypes.Structure):
         return f"ERR {KINDS[self.kind]}{place}"
 
 
+SIZE = ctypes.c_size_t
+TEXT, REFUSAL = [ctypes.c_char_p, SIZE], [ctypes.POINTER(Refusal)]
+
+# The answer and the parameters of each call.
+FORMS = {
+    "encoded_length": (SIZE, [SIZE, ctypes.c_bool]),
+    "encode": (ctypes.c_bool, TEXT + [ctypes.c_bool, ctypes.c_bool] + TEXT),
+    "decode": (ctypes.c_bool, TEXT + TEXT + REFUSAL),
+    "decode_front": (ctypes.c_bool, TEXT + TEXT + [ctypes.POINTER(SIZE)] + REFUSAL),
+    "check": (ctypes.c_bool, TEXT + REFUSAL),
+    "check_raw": (ctypes.c_bool, TEXT),
+    "refusal_words": (SIZE, REFUSAL + TEXT),
+    "version": (ctypes.c_uint32, []),
+}
+
+
 class Library:
     """The calls of one build, by Python's types. Outputs begin as bytes 0xEE."""
 
     def __init__(self, path, end):
         shared = ctypes.CDLL(path)
-        size = ctypes.c_size_t
-        text, refusal = [ctypes.c_char_p, size], [ctypes.POINTER(Refusal)]
-        forms = {
-            "encoded_length": (size, [size, ctypes.c_bool]),
-            "encode": (ctypes.c_bool, text + [ctypes.c_bool, ctypes.c_bool] + text),
-            "decode": (ctypes.c_bool, text + text + refusal),
-            "decode_front": (ctypes.c_bool, text + text + [ctypes.POINTER(size)] + refusal),
-            "check": (ctypes.c_bool, text + refusal),
-            "check_raw": (ctypes.c_bool, text),
-            "refusal_words": (size, refusal + text),
-            "version": (ctypes.c_uint32, []),
-        }
-        for name, (answer, parameters) in forms.items():
+        for name, (answer, parameters) in FORMS.items():
             call = getattr(shared, f"const_hex_{name}{end}")
             call.restype, call.argtypes = answer, parameters
             setattr(self, "call_" + name, call)
@@ -211,6 +218,20 @@ def version(library, questions, answers):
     assert library.call_encoded_length(2**63, False) == 2**64 - 1
 
 
+def picked(library, questions, answers):
+    """Each call stands for the build that the processor is up to."""
+    with open("/proc/cpuinfo", encoding="ascii", errors="replace") as file:
+        has = next((set(line.split()) for line in file if line.startswith("flags")), set())
+    end = "_v3" if V3 <= has else "_default"
+    shared = ctypes.CDLL(sys.argv[1])
+
+    def address(name):
+        return ctypes.cast(getattr(shared, f"const_hex_{name}"), ctypes.c_void_p).value
+
+    for name in FORMS:
+        assert address(name) == address(name + end), f"{name} is not {name}{end}"
+
+
 PROGRAM = sys.argv[4]
 
 
@@ -222,7 +243,7 @@ def main():
         answers = file.read().splitlines()
     passed = failed = 0
     tests = [replay, against_python, version]
-    for end, its_tests in [("", [*tests, against_consthex]), ("_default", tests)]:
+    for end, its_tests in [("", [*tests, against_consthex, picked]), ("_default", tests)]:
         library = Library(path, end)
         for test in its_tests:
             try:
