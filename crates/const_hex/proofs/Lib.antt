@@ -1,13 +1,10 @@
 pub mod Appending
 pub mod Buffering
-pub mod EncodedStr
-pub mod Flags
 pub mod Fronts
-pub mod LentSlice
-pub mod LentText
 pub mod Lowering
 pub mod Printing
 pub mod Reading
 pub mod Reserving
 pub mod RoundTrip
 pub mod Stepping
+pub mod Walks

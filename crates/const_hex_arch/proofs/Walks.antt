@@ -1,122 +1,15 @@
--- What the walks of `decode_chunk` cite: steps that are passed on, and what is known of vectors of n lanes and of a vector
--- beside a flag.
-pub use Rattle.std.proofs.Common.{ℕ, List, [], ◌∷◌, Bool, refl, lit<, w8, IsTrue, ◌↔◌}
-pub use Rattle.std.proofs.option.Made.{Some-of, none_of}
-pub use Rattle.std.proofs.raw_atomic.Walks.{proved}
-pub use Rattle.std.specs.List.{concat}
-pub use Rattle.std.specs.Prelude.{Option, Some, None}
-pub use base.Fml.{ftrue}
-pub use base.Logic.{id⊢, emp}
-pub use contract.Monad.{fact, fact_i}
-pub use contract.Running.{tables}
-pub use denote.Array.{Array-Tells, Array-Lawful}
-pub use denote.Builtin.{u8}
-pub use denote.Exit.{yes}
-pub use denote.Laws.{shows}
-pub use denote.Plain.{uint_Makes, uint_Lawful}
-pub use denote.Simd.{Simd-Lawful, Simd-Makes}
-pub use denote.Steps.{nothing, owned, facts, peeks, heard, only}
-pub use denote.Struct.Struct.{as_fields}
-pub use denote.Triple.Call.{calls_at}
-pub use denote.Triple.Clauses.{lasts}
-pub use denote.Triple.Spec.{triple_of}
-pub use denote.Triple.Table.{framed}
-pub use denote.Triple.Walked.{Stays, walk_of, stay_dropped, Goes-dropped, ends_at}
-pub use mir.Syntax.{ty_array, ty_int, ty_bool}
-pub use mir.Val.{vbool, of_list}
-pub use types.ByLocal.{alloc_all, pass_all, free_all, look_at, get, get_in, sets, sets_last, lands_as, env}
-pub use types.Kit.{‵, raw, ◌⊛◌, some, later, at_ret, ◌$◌, ◌∵◌, !, qed, done, move, keep, drop, use0, use1, split, join, pick, await, suffices, group}
-pub use types.Match.{live}
-pub use types.Part.{agg, whole, sub}
-pub use types.Run.{enter, of_opd, lit, fld, stop, no_more, and_then, first, branches, exec, returns}
-use Rattle.const_hex_arch.specs.Texts.{AllDigits, Spells}
-use Rattle.std.proofs.Common.{◌≡◌, ◌++◌, true, false, T, ◌&&◌, not, ap, subst, ◌∙◌}
-use Rattle.std.proofs.option.Option.TheLaws.{the_loose}
-use Rattle.std.specs.Prelude.{IsNone, IfSome}
-use denote.Array.{array_vals}
-use denote.Builtin.{bool, Simd, SimdOf, ArrayOf}
-use denote.Enum.Loose.{loose_lawful}
-use denote.Laws.{Is, Tells, Lawful}
-use denote.Param.Laws.{simd_laws, of_field}
-use denote.Param.Shared.{copy_shared}
-use denote.Plain.{uint_vals, uint_Tells}
-use denote.RattleType.{RattleType}
-use denote.Signature.{Slot, plain}
-use denote.Simd.{Simd-Tells}
-use denote.Struct.Field.{u8-field}
-use denote.Struct.Laws.{u8-laws, u8-copy}
-use denote.Struct.Tuple.{Tuple}
-use mir.Val.{Val, vstruct}
-use seplogic.Ra.Ura.{Ura}
-use types.Logic.{Logic}
-use Rattle.std.specs.contracts.option.Option as OP
-
--- ---- what is told of a flag
-
-pub and_true : (b : Bool) → T b → T (b && true)
-and_true true t = tt
-and_true false t = absurd t
-
-is_true : (b : Bool) → T b → IsTrue b
-is_true true t = refl
-is_true false t = absurd t
-
-is_false : (b : Bool) → T (not b) → IsTrue b → ⊥
-is_false true t e = t
-is_false false t e = cc
-
--- ---- the clauses of `decode_chunk`, from those of the vector beside a flag
-
-abbrev pub NoneClause : List ℕ → Option (List ℕ) → Type 0
-NoneClause text result = IsNone result ↔ ¬ AllDigits text
-
-abbrev pub SpellsClause : List ℕ → Option (List ℕ) → Type 0
-SpellsClause text result = IfSome result (Spells text)
-
-is_some : (bytes : List ℕ) → IsNone (Some bytes) → ⊥
-is_some bytes e = cc
-
-module _ (text bytes : List ℕ) (are_digits : Bool) (digits : IsTrue are_digits ↔ AllDigits text) (spells : IsTrue are_digits → Spells text bytes) where
-  pub some_is : T are_digits → NoneClause text (Some bytes) × SpellsClause text (Some bytes)
-  some_is t =
-      let e = is_true are_digits t in
-      ((λ n. absurd (is_some bytes n), λ n. absurd (n (digits.0 e))), spells e)
-
-  pub none_is : T (not are_digits) → NoneClause text None × SpellsClause text None
-  none_is t = ((λ _ d. is_false are_digits t (digits.1 d), λ _. refl), tt)
-
--- ---- vectors of n lanes
-
-module _ (n : ℕ) where
-  abbrev pub Lanes : RattleType
-  Lanes = Simd u8 tt n
-
-  -- a parameter of two vectors, and its machine value
-  abbrev pub Pair : {k : ℕ} → Slot k
-  Pair = ArrayOf (SimdOf (plain (λ _. u8)) (λ _. tt) n) (λ _. tt) 2
-
-  abbrev pub lanes_vals : List ℕ → List Val
-  lanes_vals = array_vals (uint_vals w8)
-
-  abbrev pub pair_vals : List (List ℕ) → List Val
-  pair_vals = array_vals lanes_vals
-
-  pub lanes_Tells : Tells Lanes (Is Lanes) lanes_vals
-  lanes_Tells = Simd-Tells u8 (uint_vals w8) (uint_Tells w8) n
-
-  -- a vector beside a flag
-  abbrev pub Flagged : RattleType
-  Flagged = Tuple (Lanes ∷ bool ∷ [])
-
-  pub flagged_is : (r : List ℕ × Bool) (v : Val) → Is Flagged r (v ∷ []) → v ≡ vstruct (of_list (only (lanes_vals r.0) ∷ vbool r.1 ∷ []))
-  flagged_is r v is = ap only is.1.0 ∙ λ i. vstruct (of_list (lanes_Tells r.0 is.0.0 is.1.1.0 i ++ (is.1.1.1.0 i ++ [])))
-
-  pub flagged_lanes : (r : List ℕ × Bool) (v : Val) → Is Flagged r (v ∷ []) → Is Lanes r.0 (only (lanes_vals r.0) ∷ [])
-  flagged_lanes r v is = subst (λ us. Is Lanes r.0 us) (lanes_Tells r.0 is.0.0 is.1.1.0) is.1.1.0
-
-  -- what `decode_chunk` answers
-  abbrev pub Answer : RattleType
-  Answer = OP.the_row Lanes
-
-  pub Answer-Lawful : {M : Type 1} {𝓤 : Ura M} (𝓛 : Logic 𝓤) → Lawful 𝓛 Answer
-  Answer-Lawful 𝓛 = loose_lawful (OP.the_type Lanes) (the_loose Lanes (simd_laws u8 (of_field u8-field u8-laws refl (copy_shared u8-field u8-copy)) n)) tt 𝓛
+-- Proofs by hand, over the machine's steps, of functions that answer an `Option` of a vector, which
+-- the borrow checker does not cover yet.
+--
+-- `LaneOptions` has what they share: what is told of vectors of n lanes and of a vector beside a
+-- flag, the two clauses of `decode_chunk`, and the steps that a walk is written in. The walks
+-- themselves stand in `proofs/arch/lanes16/decode_chunk/Proof.antt`, and so at 32 lanes.
+--
+-- What breaks a walk: it names the function's locals by their numbers, and takes its steps in their
+-- order. Any edit of the body of `decode_chunk` ends it; an edit of what it calls does not.
+--
+-- How to mend one: after the edit `rt check --generated FOLDER --start decode_chunk` writes its steps
+-- with their locals, to `Code/Mir.antt` below that folder. Put the new numbers in place of the old,
+-- from the top down, and check after each: the first step that no longer fits is named. Both walks
+-- are the same but for the count of lanes. The guide of the toolchain is its `docs/WALKS.md`.
+pub mod LaneOptions

@@ -1,7 +1,8 @@
 //! What a mode answers to bytes in hand.
 
 ghost use Rattle.std.specs.Prelude.{◌≡◌, ◌≢◌, ◌≤◌, ◌<◌, ◌++◌, ◌*◌, ◌+◌, ◌↔◌, length, IfOk, IfErr, Ok, Err};
-ghost use Rattle.const_hex.specs.Texts.{hex_text, full_text};
+ghost use Rattle.const_hex.specs.Texts.{full_text};
+ghost use Rattle.const_hex.specs.Buffers.{text_length};
 ghost use Rattle.consthex.specs.Answer.{Answer, TakesMemory, without_newline, newline, limit};
 ghost use Rattle.consthex.specs.declared.error.RunError.TheVariants.{TooLong, NoMemory};
 
@@ -49,34 +50,21 @@ fn encoded(alloc: Global, input: &[u8], prefix: bool, upper: bool) -> Result<Vec
     requires { length input.now ≤ limit }
     ensures { IfOk result (λ v. v.items ≡ full_text prefix upper input.now ++ newline) }
 {
-    let prefix: &[u8] = if prefix { b"0x" } else { b"" };
-    let mut line = vec![in alloc; b'\n'; prefix.len() + 2 * input.len() + 1]?;
-    write_line(prefix, input, upper, &mut line);
+    let digits = 2 * input.len();
+    let length = if prefix { 2 + digits } else { digits };
+    let mut line = vec![in alloc; b'\n'; length + 1]?;
+    write_line(input, prefix, upper, &mut line);
     Ok(line)
 }
 
-/// Fills the output, which has to have just that length, with the prefix, the digits and a newline.
-fn write_line(prefix: &[u8], input: &[u8], upper: bool, output: &mut [u8])
-    requires { length output.old ≡ length prefix.now + 2 * length input.now + 1 }
-    ensures { output.new ≡ prefix.now ++ hex_text upper input.now ++ newline }
+/// Fills the output, which has to have just that length, with the text and a newline.
+fn write_line(input: &[u8], prefix: bool, upper: bool, output: &mut [u8])
+    requires { length output.old ≡ text_length prefix (length input.now) + 1 }
+    ensures { output.new ≡ full_text prefix upper input.now ++ newline }
 {
     let end = output.len() - 1;
     output[end] = b'\n';
-    output[..prefix.len()].copy_from_slice(prefix);
-    write_digits(input, upper, &mut output[prefix.len()..end]);
-}
-
-/// Fills the output, which has to have two bytes for each of the input, with the digits.
-fn write_digits(input: &[u8], upper: bool, output: &mut [u8])
-    requires { length output.old ≡ 2 * length input.now }
-    ensures { output.new ≡ hex_text upper input.now }
-{
-    let written = if upper {
-        const_hex::encode_to_slice_upper(input, output)
-    } else {
-        const_hex::encode_to_slice(input, output)
-    };
-    written.unwrap();
+    const_hex::encode_full_to_slice(input, prefix, upper, &mut output[..end]).unwrap();
 }
 
 /// The text without one newline at its end.

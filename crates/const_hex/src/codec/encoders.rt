@@ -212,7 +212,7 @@ pub fn encode_full_to_slice(
     upper: bool,
     output: &mut [u8],
 ) -> Result<(), FromHexError>
-    ensures fits { IsOk result ↔ (length output.old ≡ length (full_text prefix upper input.now)) }
+    ensures fits { IsOk result ↔ (length output.old ≡ text_length prefix (length input.now)) }
     ensures text { OnOk result (output.new ≡ full_text prefix upper input.now) }
     ensures refusal { OnErr result (result ≡ Err InvalidStringLength) }
     ensures unchanged { OnErr result (output.new ≡ output.old) }

@@ -1,6 +1,6 @@
 -- `encode_to_str_upper` lends the text in the slice, or leaves the slice unchanged.
 use Rattle.std.specs.Prelude.{true}
-use Rattle.const_hex.proofs.EncodedStr.{text_or_refused}
+use Rattle.const_hex.proofs.Walks.EncodedStr.{text_or_refused}
 use Rattle.const_hex.specs.contracts.codec.encoders.encode_to_str_upper.Key.{name}
 use Rattle.const_hex.proofs.codec.encoders.encode_to_str_upper.Statement.{statement}
 use Rattle.const_hex.proofs.codec.encoders.encode_to_str_upper.Code as code

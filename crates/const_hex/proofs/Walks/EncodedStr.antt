@@ -44,11 +44,11 @@ use Rattle.const_hex.specs.Loans.{EndsEncoded}
 use Rattle.std.specs.contracts.result.Result as Answer
 use Rattle.const_hex.specs.contracts.error.FromHexError as refusal
 use Rattle.const_hex.specs.declared.error.FromHexError.TheVariants.{InvalidStringLength}
-use Rattle.const_hex.proofs.LentSlice.{Rests-of, let_go, shared, InvalidStringLength-of}
+use Rattle.const_hex.proofs.Walks.LentSlice.{Rests-of, let_go, shared, InvalidStringLength-of}
 use Rattle.const_hex.specs.contracts.codec.encoders.fits as t
 use Rattle.const_hex.specs.contracts.codec.encoders.filled as g
 use Rattle.const_hex.specs.contracts.codec.encoders.lent_text as h
-use Rattle.const_hex.proofs.Flags.{flag, flag_lit}
+use Rattle.const_hex.proofs.Walks.Flags.{flag, flag_lit}
 
 refused_fits : {A E : Type 0} (res : Result A E) (e : E) (F : Type 0) (r : Bool) → res ≡ Err e → T (not r) → IsTrue r ↔ F → IsOk res ↔ F
 refused_fits res e F true s h f = absurd h

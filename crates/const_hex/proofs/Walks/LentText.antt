@@ -41,7 +41,7 @@ use Rattle.const_hex.specs.Buffers.{text_length, buffer_text}
 use Rattle.const_hex.specs.Loans.{EndsHolding}
 use Rattle.const_hex.specs.contracts.buffer.Buffer.{the_row}
 use Rattle.const_hex.specs.contracts.buffer.Buffer.as_str as h
-use Rattle.const_hex.proofs.Flags.{flag, flag_lit}
+use Rattle.const_hex.proofs.Walks.Flags.{flag, flag_lit}
 
 -- the parameter that names the bytes: its type, its machine value, its bytes, and what is asked of it
 pub record Input : Type 2 where
