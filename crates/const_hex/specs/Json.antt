@@ -5,7 +5,7 @@ use Rattle.const_hex_arch.specs.Sinks.{told_after}
 use Rattle.const_hex.specs.declared.serde.error.JsonError.{JsonError}
 use Rattle.const_hex.specs.declared.serde.error.JsonError.TheVariants.{NotText, Hex}
 
--- the answers of a JSON text: the type's answers for its bytes, a refusal inside `Hex`
+-- the answers to a JSON string: the type's answers for its bytes, a refusal inside `Hex`
 abbrev pub ReadsInside : {V E : Type 0} → (List ℕ → Result V E → Type 0) → List ℕ → Result V (JsonError E) → Type 0
 ReadsInside answers t (Ok v) = answers t (Ok v)
 ReadsInside answers t (Err NotText) = ⊥

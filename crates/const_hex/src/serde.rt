@@ -22,7 +22,7 @@ use crate::traits::FromHex;
 use serde_json::Value;
 use std::alloc::{AllocError, Global};
 
-/// A JSON text of `0x` and two digits for each byte, with lower letters.
+/// A JSON string of `0x` and two digits for each byte, with lower letters.
 ///
 /// Answers `AllocError` where memory is refused.
 ///
@@ -50,9 +50,9 @@ pub fn serialize_upper(alloc: Global, bytes: &[u8]) -> Result<Value, AllocError>
     Ok(Value::String(encode_upper_prefixed(alloc, bytes)?))
 }
 
-/// The value that a JSON text spells, with or without a prefix, in either case.
+/// The value that a JSON string spells, with or without a prefix, in either case.
 ///
-/// Answers [`JsonError::NotText`] where the JSON value is no text, without a look at its contents
+/// Answers [`JsonError::NotText`] where the JSON value is not a string, without a look at its contents
 /// and without memory, and else the type's refusal of the text inside [`JsonError::Hex`]: one of
 /// memory too, where the type asks for memory and that is refused.
 ///

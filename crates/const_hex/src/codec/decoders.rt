@@ -64,12 +64,12 @@ pub fn decode_with<K: Kernel>(alloc: Global, input: &[u8]) -> Result<Vec<u8>, Fr
     ensures agree { (t bs : List ℕ) → Reads t (Ok bs)
         → IfOk result (λ v. (bs ≡ v.items) ↔ (lowered (body_of t) ≡ lowered (body_of input.now))) }
 {
-    read::<K>(alloc, input)
+    decode_owned::<K>(alloc, input)
 }
 
 /// The bytes that a text spells. Memory is asked for once, of their count.
 #[inline(always)]
-fn read<K: Kernel>(alloc: Global, input: &[u8]) -> Result<Vec<u8>, FromHexError>
+fn decode_owned<K: Kernel>(alloc: Global, input: &[u8]) -> Result<Vec<u8>, FromHexError>
     ensures ok { IfOk result (λ v. Reads input.now (Ok v.items)) }
     ensures err { IfErr result (λ e. e ≢ NoMemory → Reads input.now (Err e)) }
     ensures odd { (result ≡ Err OddLength) ↔ IsOdd (length input.now) }

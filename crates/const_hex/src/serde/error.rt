@@ -14,7 +14,7 @@ use std::fmt;
 /// ```
 #[derive(PartialEq, Eq, Debug, Drop)]
 pub enum JsonError<E> {
-    /// The JSON value is no text: it is null, a truth value, a number, a list or an object.
+    /// The JSON value is not a string: it is null, a truth value, a number, a list or an object.
     NotText,
     /// The type's refusal of the text.
     Hex(E),

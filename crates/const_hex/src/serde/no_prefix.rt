@@ -10,7 +10,7 @@ pub use crate::serde::deserialize;
 use serde_json::Value;
 use std::alloc::{AllocError, Global};
 
-/// A JSON text of two digits for each byte, with lower letters.
+/// A JSON string of two digits for each byte, with lower letters.
 ///
 /// Answers `AllocError` where memory is refused.
 ///
