@@ -41,8 +41,8 @@ pub use crate::codec::encoders::{
 pub use crate::error::FromHexError;
 pub use crate::formatting::display;
 pub use crate::formatting::text::Display;
-pub use crate::serde::{deserialize, serialize, serialize_upper};
-pub use crate::traits::{FromHex, ToHex, ToHexExt};
+pub use crate::serde::{JsonError, deserialize, serialize, serialize_inner, serialize_upper};
+pub use crate::traits::{BytesToHexChars, FromHex, HexFault, ToHex, ToHexExt};
 pub use const_hex_arch::{
     BufferedHex, BufferedOutput, CheckFirst, FixedKernel, HEX_CHARS_LOWER, HEX_CHARS_UPPER,
     HEX_DECODE_LUT, Kernel, Lanes16, Lanes32, NIL, Output, PieceSink, Plain, Sink, SinkError,
