@@ -11,3 +11,4 @@ pub mod Reading
 pub mod Reserving
 pub mod RoundTrip
 pub mod Stepping
+pub mod WriteSinks
