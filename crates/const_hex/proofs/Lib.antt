@@ -8,3 +8,4 @@ pub mod Reserving
 pub mod RoundTrip
 pub mod Stepping
 pub mod Walks
+pub mod WriteSinks

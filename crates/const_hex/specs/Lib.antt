@@ -10,6 +10,7 @@ pub mod Messages
 pub mod Reserved
 pub mod TypeLaws
 pub mod Types
+pub mod WriteSinks
 pub use Rattle.const_hex_arch.specs.Digits
 pub use Rattle.const_hex_arch.specs.Gathering
 pub use Rattle.const_hex_arch.specs.Lanes

@@ -13,7 +13,8 @@
 //! - `Formatting.antt`: printing through a formatter;
 //! - `Json.antt`: reading a JSON value, and the text that a sink is handed;
 //! - `Messages.antt`: what a refusal prints;
-//! - `Reserved.antt`: what a write to a vector that has room does.
+//! - `Reserved.antt`: what a write to a vector that has room does;
+//! - `WriteSinks.antt`: what a sink over a writer does.
 //!
 //! Digits, texts and what they spell are those of `const_hex_arch`, which `specs/Lib.antt` passes
 //! on. Each text has one answer, by `proofs/Reading.antt`.
@@ -27,6 +28,7 @@ mod formatting;
 mod reserved;
 pub mod serde;
 pub mod traits;
+mod write_sink;
 
 pub use crate::buffer::{Buffer, const_encode};
 pub use crate::codec::checks::{check, check_raw, check_with, const_check, const_check_raw};
@@ -41,8 +43,9 @@ pub use crate::codec::encoders::{
 pub use crate::error::FromHexError;
 pub use crate::formatting::display;
 pub use crate::formatting::text::Display;
-pub use crate::serde::{deserialize, serialize, serialize_upper};
-pub use crate::traits::{FromHex, ToHex, ToHexExt};
+pub use crate::serde::{JsonError, deserialize, serialize, serialize_inner, serialize_upper};
+pub use crate::traits::{BytesToHexChars, FromHex, HexFault, ToHex, ToHexExt};
+pub use crate::write_sink::WriteSink;
 pub use const_hex_arch::{
     BufferedHex, BufferedOutput, CheckFirst, FixedKernel, HEX_CHARS_LOWER, HEX_CHARS_UPPER,
     HEX_DECODE_LUT, Kernel, Lanes16, Lanes32, NIL, Output, PieceSink, Plain, Sink, SinkError,

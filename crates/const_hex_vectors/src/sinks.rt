@@ -4,9 +4,11 @@ use crate::own_kernel::Backward;
 use crate::texts::{bytes, printed};
 use const_hex::{
     BufferedHex, BufferedOutput, CheckFirst, Kernel, Lanes16, Lanes32, Output, PieceSink, Plain,
-    Sink, SinkOutput,
+    Sink, SinkError, SinkOutput, WriteSink,
 };
 use std::alloc::Global;
+use std::io;
+use std::io::{ErrorKind, Write};
 use std::process::Abort;
 use std::test::Fail;
 
@@ -82,4 +84,118 @@ fn write_and_drop(sink: &mut PieceSink, first: &str, second: &str) {
     let mut output = BufferedOutput::<SinkOutput<'_, PieceSink>, 4>::new(SinkOutput::new(sink));
     output.write(first.as_bytes());
     output.write(second.as_bytes());
+}
+
+/// Takes at most 1000 bytes a call, and keeps them. At one call it fails, or takes no bytes; a
+/// further call would succeed.
+#[derive(Drop)]
+struct Target {
+    taken: Vec<u8>,
+    fail_at: usize,
+    kind: Option<ErrorKind>,
+    calls: usize,
+}
+
+impl Target {
+    fn new(alloc: Global, fail_at: usize, kind: Option<ErrorKind>) -> Target {
+        Target {
+            taken: Vec::new(alloc),
+            fail_at,
+            kind,
+            calls: 0,
+        }
+    }
+}
+
+impl Write for Target {
+    fn write(&mut self, buf: &[u8]) -> io::Result<usize> {
+        self.calls = self.calls.saturating_add(1);
+        if self.calls == self.fail_at {
+            return match self.kind {
+                Some(kind) => Err(io::Error::from(kind)),
+                None => Ok(0),
+            };
+        }
+        let count = buf.len().min(1000);
+        self.taken.extend_from_slice(&buf[..count])?;
+        Ok(count)
+    }
+
+    fn flush(&mut self) -> io::Result<()> {
+        Ok(())
+    }
+}
+
+// How many bytes of a text of 6002 such a writer has after so many calls, where the text comes in
+// pieces of 4096 and 1906.
+const TAKEN: [usize; 8] = [0, 1000, 2000, 3000, 4000, 4096, 5096, 6002];
+
+// What goes wrong at one call, `None` where it takes no bytes, and the kind of error that comes
+// back. A call that a signal interrupted is made again.
+const FAULTS: [(Option<ErrorKind>, Option<ErrorKind>); 4] = [
+    (Some(ErrorKind::Other), Some(ErrorKind::Other)),
+    (Some(ErrorKind::WouldBlock), Some(ErrorKind::WouldBlock)),
+    (None, Some(ErrorKind::WriteZero)),
+    (Some(ErrorKind::Interrupted), None),
+];
+
+#[test]
+fn writers_that_fail_at_each_call(rt: HostRuntime) -> Result<(), Fail> {
+    let alloc = rt.alloc();
+    let data = bytes(alloc, 3000)?;
+    let text = printed(alloc, &data, true, false)?;
+    for (kind, error) in FAULTS {
+        for fail_at in 0..9usize {
+            let target = Target::new(alloc, fail_at, kind);
+            let is_reached = 0 < fail_at && fail_at < 8;
+            fails_at(&rt, target, &data, &text, error.filter(|_| is_reached));
+        }
+    }
+    Ok(())
+}
+
+/// Writes to that writer, which gives that kind of error.
+fn fails_at(
+    rt: &impl Abort,
+    mut target: Target,
+    data: &[u8],
+    text: &str,
+    error: Option<ErrorKind>,
+) {
+    let (fail_at, kind) = (target.fail_at, target.kind);
+    let mut sink = WriteSink::new(&mut target);
+    let answer = BufferedHex::<false, true>::new(data).write_with::<Plain, _>(&mut sink);
+    assert_eq!(rt; sink.refused(), error.is_some());
+    assert_eq!(rt;
+        sink.error().map(|e| e.kind()),
+        error,
+        "{kind:?} at {fail_at}"
+    );
+    assert_eq!(rt; sink.finish().err().map(|e| e.kind()), error);
+    if error.is_some() {
+        assert_eq!(rt; answer, Err(SinkError));
+        assert_eq!(rt; target.calls, fail_at);
+        let taken = TAKEN.get(fail_at.saturating_sub(1)).copied().unwrap_or(0);
+        assert_eq!(rt; Some(target.taken.as_slice()), text.as_bytes().get(..taken));
+    } else {
+        assert_eq!(rt; answer, Ok(()));
+        assert_eq!(rt; target.taken.as_slice(), text.as_bytes());
+    }
+}
+
+#[test]
+fn a_writer_comes_back(rt: HostRuntime) -> Result<(), Fail> {
+    let mut file = Vec::new(rt.alloc());
+    let mut sink = WriteSink::new(&mut file);
+    assert_eq!(rt; sink.write_hex::<true, false>(&[0xab]), Ok(()));
+    let (writer, error) = sink.into_parts();
+    assert!(rt; error.is_none());
+    writer.push(b'!')?;
+    assert_eq!(rt; file.as_slice(), b"AB!".as_slice());
+    let mut sink = WriteSink::new(&mut file);
+    assert_eq!(rt; sink.write_hex::<false, true>(b"kiwi"), Ok(()));
+    assert!(rt; sink.error().is_none());
+    sink.finish()?;
+    assert_eq!(rt; file.as_slice(), b"AB!0x6b697769".as_slice());
+    Ok(())
 }

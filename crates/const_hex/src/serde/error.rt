@@ -2,11 +2,13 @@
 
 ghost use Rattle.const_hex.specs.Json.{json_message};
 
+use std::error::Error;
 use std::fmt;
 
 /// Why a JSON value has no value of a type that is read from text.
 ///
-/// It prints `expected a hex encoded string`, or as the refusal of the text does.
+/// It prints `expected a hex encoded string`, or as the refusal of the text does. As an `Error` it
+/// is handed on by `?`, to an `anyhow::Error` too.
 ///
 /// ```rust
 /// let refusal = const_hex::deserialize::<[u8; 2]>(rt.alloc(), &Value::Null).unwrap_err();
@@ -30,3 +32,5 @@ impl<E: fmt::Display> fmt::Display for JsonError<E> {
         }
     }
 }
+
+impl<E: fmt::Debug + fmt::Display + Drop> Error for JsonError<E> {}

@@ -1,0 +1,121 @@
+-- Texts that a writer is handed in pieces.
+use Rattle.std.proofs.Common.{◌≡◌, ℕ, ◌+◌, ◌-◌, ◌≤◌, Bool, true, false, List, [], ◌∷◌, ◌++◌, length, take, drop, Option, refl, sym, ap, subst, ◌∙◌, append_assoc, arith}
+use Rattle.std.proofs.KnownBytes.{Appends-nil, Appends-trans}
+use Rattle.std.proofs.Math.Seq.{take-add}
+use Rattle.std.proofs.lemmas.List.{append-nil, take_at, take_all, take-append-drop, length-drop, length-take}
+use Rattle.std.proofs.lemmas.List.Folds.{concat-append}
+use Rattle.std.specs.Io.KnownBytes.{Appends}
+use Rattle.std.specs.List.{concat}
+use Rattle.const_hex_arch.specs.Streams.{Offers, Streams}
+use Rattle.const_hex.specs.WriteSinks.{WriteStep, WritesBeginning, sink_writer, writer_name, has_failed}
+use Rattle.const_hex.specs.declared.write_sink.WriteSink.{WriteSink}
+
+-- n bytes of what lies behind the first done end inside the whole
+pub step_within : (bytes : List ℕ) (done n : ℕ) → done ≤ length bytes
+    → n ≤ length (take (length bytes - done) (drop done bytes)) → done + n ≤ length bytes
+step_within bytes done n started inside =
+    let m = simp (length-take, length-drop) at inside in omega (arith, m)
+
+-- n bytes of the rest were written, after the first done
+pub write_step : (a b c : Option (List ℕ)) (bytes : List ℕ) (done n : ℕ)
+    → Appends a b (take done bytes)
+    → Appends b c (take n (take (length bytes - done) (drop done bytes)))
+    → Appends a c (take (done + n) bytes)
+write_step a b c bytes done n p q =
+    let all = take_all (length bytes - done) (drop done bytes) (simp length-drop (omega arith)) in
+    rw (take-add done n bytes) (Appends-trans a b c (take done bytes) (take n (drop done bytes)) p (rw all at q))
+
+-- some of the bytes were written, and others follow them
+record Begins (held holds : Option (List ℕ)) (bs : List ℕ) : Type 0 where
+  written : List ℕ
+  rest : List ℕ
+  whole : written ++ rest ≡ bs
+  appended : Appends held holds written
+
+Begins-of : (held holds : Option (List ℕ)) (bs : List ℕ) → WritesBeginning held holds bs → Begins held holds bs
+Begins-of held holds bs (n, h) = record { written = take n bs; rest = drop n bs; whole = take-append-drop n bs; appended = h }
+
+Begins-shown : (held holds : Option (List ℕ)) (bs : List ℕ) → Begins held holds bs → WritesBeginning held holds bs
+Begins-shown held holds bs h =
+    (length h.written, subst (λ x. Appends held holds x) (sym (take_at h.written h.rest (length h.written) refl) ∙ ap (λ x. take (length h.written) x) h.whole) h.appended)
+
+Begins-longer : (held holds : Option (List ℕ)) (bs more : List ℕ) → Begins held holds bs → Begins held holds (bs ++ more)
+Begins-longer held holds bs more h = record {
+  written = h.written;
+  rest = h.rest ++ more;
+  whole = sym (append_assoc h.written h.rest more) ∙ ap (λ x. x ++ more) h.whole;
+  appended = h.appended;
+}
+
+Begins-after : (a b c : Option (List ℕ)) (front bs : List ℕ) → Appends a b front → Begins b c bs → Begins a c (front ++ bs)
+Begins-after a b c front bs p h = record {
+  written = front ++ h.written;
+  rest = h.rest;
+  whole = append_assoc front h.written h.rest ∙ ap (λ x. front ++ x) h.whole;
+  appended = Appends-trans a b c front h.written p h.appended;
+}
+
+module _ {W : Type 0} (contents : W → Option (List ℕ)) where
+  -- the same writer has written the text where it did not fail, and a beginning of it in any case
+  record Wrote (s : WriteSink W) (text : List ℕ) (t : WriteSink W) : Type 0 where
+    same_writer : writer_name t ≡ writer_name s
+    all : has_failed t ≡ false → Appends (contents (sink_writer s)) (contents (sink_writer t)) text
+    begun : Begins (contents (sink_writer s)) (contents (sink_writer t)) text
+
+  Wrote-none : (s : WriteSink W) → Wrote s [] s
+  Wrote-none s = record {
+    same_writer = refl;
+    all = λ _. Appends-nil (contents (sink_writer s));
+    begun = record { written = []; rest = []; whole = refl; appended = Appends-nil (contents (sink_writer s)) };
+  }
+
+  Wrote-some : (s : WriteSink W) (text : List ℕ) (t : WriteSink W) → WriteStep contents s text t → (b : Bool) → has_failed t ≡ b → Wrote s text t
+  Wrote-some s text t h false e = record {
+    same_writer = h.same_writer;
+    all = h.accepted;
+    begun = record { written = text; rest = []; whole = append-nil text; appended = h.accepted e };
+  }
+  Wrote-some s text t h true e = record {
+    same_writer = h.same_writer;
+    all = h.accepted;
+    begun = Begins-of _ _ text (h.refused e);
+  }
+
+  Wrote-more : (s : WriteSink W) (a : List ℕ) (m : WriteSink W) (b : List ℕ) (t : WriteSink W) → has_failed m ≡ false → Wrote s a m → Wrote m b t → Wrote s (a ++ b) t
+  Wrote-more s a m b t e h k = record {
+    same_writer = k.same_writer ∙ h.same_writer;
+    all = λ u. Appends-trans _ _ _ a b (h.all e) (k.all u);
+    begun = Begins-after _ _ _ a b (h.all e) k.begun;
+  }
+
+  Wrote-offered : (s : WriteSink W) (ps : List (List ℕ)) (t : WriteSink W) → Offers (WriteStep contents) has_failed s ps t → Wrote s (concat ps) t
+  Wrote-offered s [] t h = subst (λ x. Wrote s [] x) h (Wrote-none s)
+  Wrote-offered s (p ∷ []) t (e, (m, h, k)) =
+      rw (append-nil p) (subst (λ x. Wrote s p x) k (Wrote-some s p m h (has_failed m) refl))
+  Wrote-offered s (p ∷ q ∷ ps) t (e, (m, h, k)) =
+      Wrote-more s p m (concat (q ∷ ps)) t k.0 (Wrote-some s p m h (has_failed m) refl) (Wrote-offered m (q ∷ ps) t k)
+
+  WriteStep-of : (s : WriteSink W) (a text : List ℕ) (t : WriteSink W) (rest : List ℕ) → a ++ rest ≡ text → (has_failed t ≡ false → a ≡ text) → Wrote s a t → WriteStep contents s text t
+  WriteStep-of s a text t rest whole complete h = let held = contents (sink_writer s) in let holds = contents (sink_writer t) in record {
+    same_writer = h.same_writer;
+    accepted = λ u. subst (λ x. Appends held holds x) (complete u) (h.all u);
+    refused = λ _. Begins-shown held holds text (subst (λ x. Begins held holds x) whole (Begins-longer held holds a rest h.begun));
+  }
+
+  -- a text that is handed over in pieces is written as one piece is
+  pub streamed_text : (s : WriteSink W) (text : List ℕ) (t : WriteSink W) → Streams (WriteStep contents) has_failed s text t → WriteStep contents s text t
+  streamed_text s text t h =
+      let offered = take h.offered h.pieces in
+      let left = drop h.offered h.pieces in
+      let whole : concat offered ++ concat left ≡ text =
+      sym (concat-append offered left) ∙ ap (λ x. concat x) (take-append-drop h.offered h.pieces) ∙ h.cut.whole in
+      WriteStep-of s (concat offered) text t (concat left) whole
+      (λ u. ap (λ n. concat (take n h.pieces)) (h.complete u) ∙ ap (λ x. concat x) (take_all (length h.pieces) h.pieces (omega arith)) ∙ h.cut.whole)
+      (Wrote-offered s offered t h.run)
+
+  -- two texts, one after the other, are written as both together are
+  pub written_after : (s : WriteSink W) (a : List ℕ) (m : WriteSink W) (b : List ℕ) (t : WriteSink W) → has_failed m ≡ false
+      → WriteStep contents s a m → WriteStep contents m b t → WriteStep contents s (a ++ b) t
+  written_after s a m b t e h k =
+      let both = Wrote-more s a m b t e (Wrote-some s a m h (has_failed m) refl) (Wrote-some m b t k (has_failed t) refl) in
+      WriteStep-of s (a ++ b) (a ++ b) t [] (append-nil (a ++ b)) (λ _. refl) both

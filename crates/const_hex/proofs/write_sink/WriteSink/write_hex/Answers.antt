@@ -1,0 +1,5 @@
+use Rattle.const_hex.proofs.WriteSinks.{streamed_text}
+use Rattle.const_hex.proofs.write_sink.WriteSink.write_hex.Goals as goal
+
+pub returns-clause-text : goal.returns-clause-text
+returns-clause-text g c = streamed_text g.W.Write.contents _ _ _ (rw c.new.ensures at c.write_to.ensures.streams)

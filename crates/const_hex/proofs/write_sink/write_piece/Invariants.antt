@@ -1,0 +1,9 @@
+use Rattle.std.proofs.Common.{length, take, ◌≤◌}
+use Rattle.std.specs.Io.KnownBytes.{Appends}
+use Rattle.const_hex.proofs.write_sink.write_piece.Given as goal
+
+abbrev pub invariant-writes : goal.invariant-writes
+invariant-writes g l = record {
+  within : l.done ≤ length l.piece;
+  written : Appends (g.W.Write.contents l.initial.writer) (g.W.Write.contents l.writer) (take l.done l.piece);
+}

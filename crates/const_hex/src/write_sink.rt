@@ -1,0 +1,176 @@
+//! A sink over any writer of std: a file, a socket, a vector of bytes.
+
+ghost use Rattle.std.specs.Prelude.{◌≡◌, ◌≢◌, false, not, is_ok, None, IsOk, Err, OnOk, OnErr, IfErr, MatchOption};
+ghost use Rattle.std.specs.Io.KnownBytes.{Appends};
+ghost use Rattle.std.specs.IoError.{error_kind};
+ghost use Rattle.std.specs.Option.{option_copied};
+ghost use Rattle.const_hex_arch.specs.Texts.{full_text};
+ghost use Rattle.const_hex.specs.WriteSinks.{WriteStep, WritesBeginning, sink_writer, writer_name, first_error, has_failed};
+
+use const_hex_arch::{BufferedHex, Sink, SinkError};
+use std::io;
+use std::io::{ErrorKind, Write};
+
+/// Hands pieces on to a writer that it is lent, until a write fails, and keeps that error.
+///
+/// A piece is written by as many calls of `write` as the writer needs; one that a signal interrupts
+/// is made again. A piece may so be written in part before a write fails: what the writer then has
+/// is a beginning of what was offered. Nothing is written after the error: before each further
+/// text `refused` has to be false. No call flushes the writer, and none takes memory but what the
+/// writer takes.
+///
+/// ```rust
+/// let mut file = Vec::new(rt.alloc());
+/// let mut sink = WriteSink::new(&mut file);
+/// let _ = BufferedHex::<false, true>::new(b"kiwi").write_to(&mut sink);
+/// sink.finish()?;
+/// assert_eq!(rt; file.as_slice(), b"0x6b697769".as_slice());
+/// ```
+#[derive(Drop)]
+pub struct WriteSink<'a, W> {
+    writer: &'a mut W,
+    error: Option<io::Error>,
+}
+
+impl<'a, W: Write> WriteSink<'a, W> {
+    /// A sink over that writer, with no error.
+    ///
+    /// ```rust
+    /// let mut file = Vec::new(rt.alloc());
+    /// assert!(rt; !WriteSink::new(&mut file).refused());
+    /// ```
+    #[inline]
+    pub fn new(writer: &'a mut W) -> WriteSink<'a, W>
+        ensures same_writer { writer_name result ≡ writer.entry.ghost_name }
+        ensures writer { sink_writer result ≡ writer.old }
+        ensures error { first_error result ≡ None }
+    {
+        WriteSink {
+            writer,
+            error: None,
+        }
+    }
+
+    /// Writes the text of some bytes, as [`BufferedHex::write_to`] does: `Ok` where no write failed.
+    /// None may have failed before.
+    ///
+    /// ```rust
+    /// let mut file = Vec::new(rt.alloc());
+    /// let mut sink = WriteSink::new(&mut file);
+    /// assert!(rt; sink.write_hex::<false, true>(b"kiwi").is_ok());
+    /// ```
+    pub fn write_hex<const UPPER: bool, const PREFIX: bool>(
+        &mut self,
+        bytes: &[u8],
+    ) -> Result<(), SinkError>
+        requires { has_failed self.old ≡ false }
+        ensures text { WriteStep W.contents self.old (full_text PREFIX UPPER bytes.now) self.new }
+        ensures flag { is_ok result ≡ not (has_failed self.new) }
+    {
+        BufferedHex::<UPPER, PREFIX>::new(bytes).write_to(self)
+    }
+
+    /// The error of the write that failed, or `None` where none did.
+    ///
+    /// ```rust
+    /// let mut room = [0u8; 3];
+    /// let mut rest = room.as_mut_slice();
+    /// let mut sink = WriteSink::new(&mut rest);
+    /// assert!(rt; sink.error().is_none());
+    /// assert!(rt; sink.write_str("four").is_err());
+    /// assert!(rt; sink.error().is_some());
+    /// ```
+    #[inline]
+    pub fn error(&self) -> Option<&io::Error>
+        ensures { option_copied result ≡ first_error self.now }
+    {
+        self.error.as_ref()
+    }
+
+    /// `Ok` where no write failed, and else the error of the one that did. The writer is as it was
+    /// left, and is the caller's again.
+    ///
+    /// ```rust
+    /// let mut file = Vec::new(rt.alloc());
+    /// let mut sink = WriteSink::new(&mut file);
+    /// assert!(rt; sink.write_str("four").is_ok());
+    /// assert!(rt; sink.finish().is_ok());
+    /// ```
+    pub fn finish(self) -> io::Result<()>
+        ensures answer { MatchOption (first_error self.entry) (IsOk result) (λ e. result ≡ Err e) }
+        ensures unchanged { self.exit.0.now ≡ sink_writer self.entry }
+    {
+        match self.error {
+            None => Ok(()),
+            Some(error) => Err(error),
+        }
+    }
+
+    /// The writer, lent again, and the error of the write that failed, if one did.
+    ///
+    /// ```rust
+    /// let mut file = Vec::new(rt.alloc());
+    /// let (writer, error) = WriteSink::new(&mut file).into_parts();
+    /// assert!(rt; error.is_none());
+    /// writer.write_all(b"done")?;
+    /// ```
+    pub fn into_parts(self) -> (&'a mut W, Option<io::Error>)
+        ensures same_writer { result.0.ghost_name ≡ writer_name self.entry }
+        ensures writer { result.0.now ≡ sink_writer self.entry }
+        ensures error { result.1 ≡ first_error self.entry }
+    {
+        (self.writer, self.error)
+    }
+}
+
+impl<W: Write> Sink for WriteSink<'_, W> {
+    ghost step = { WriteStep W.contents };
+
+    ghost is_refused = { has_failed };
+
+    ghost told = { λ _. None };
+
+    #[inline]
+    fn refused(&self) -> bool {
+        self.error.is_some()
+    }
+
+    fn write_str(&mut self, s: &str) -> Result<(), SinkError> {
+        match write_piece(&mut *self.writer, s.as_bytes()) {
+            Ok(()) => Ok(()),
+            Err(error) => {
+                self.error = Some(error);
+                Err(SinkError)
+            }
+        }
+    }
+
+    ghost use Rattle.std.proofs.Common.{refl};
+
+    ghost tells = { λ s piece t h. refl };
+}
+
+/// Writes a piece, and makes a write that a signal interrupts again.
+fn write_piece<W: Write>(writer: &mut W, piece: &[u8]) -> io::Result<()>
+    ensures ok { OnOk result (Appends (W.contents writer.old) (W.contents writer.new) piece.now) }
+    ensures err { OnErr result
+        (WritesBeginning (W.contents writer.old) (W.contents writer.new) piece.now) }
+    ensures retried { IfErr result (λ e. error_kind e ≢ ErrorKind.Interrupted) }
+{
+    let mut done = 0;
+    'writes: for _ in 0..u64::MAX {
+        if done >= piece.len() {
+            return Ok(());
+        }
+        match writer.write(&piece[done..]) {
+            Ok(0) => return Err(io::Error::new(ErrorKind::WriteZero, "the writer took no bytes")),
+            Ok(count) => done += count,
+            Err(error) => {
+                if error.kind() != ErrorKind::Interrupted {
+                    return Err(error);
+                }
+            }
+        }
+    }
+    Err(io::Error::new(ErrorKind::TimedOut, "too many writes"))
+}
