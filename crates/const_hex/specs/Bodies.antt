@@ -10,7 +10,7 @@ body_of [] = []
 body_of (c ∷ []) = c ∷ []
 body_of (c ∷ d ∷ u) = if (c == 48) && (d == 120 || d == 88) then u else c ∷ d ∷ u
 
--- upper letters made lower, and every other byte kept
+-- `A` to `F` made `a` to `f`, and every other byte kept
 abbrev pub lowered : List ℕ → List ℕ
 lowered u = map (λ b. if nat_le 65 b && nat_le b 70 then b + 32 else b) u
 
