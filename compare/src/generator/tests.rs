@@ -9,6 +9,39 @@ const LOOKED_AT: usize = 200_000;
 /// Up to so many bytes every length is asked; of texts every even one.
 const EVERYDAY: usize = 130;
 
+/// What questions have.
+#[derive(Default)]
+struct Reached {
+    /// The lengths that each operation is asked at.
+    lengths: BTreeMap<String, BTreeSet<usize>>,
+    /// The first two bytes of texts.
+    fronts: BTreeSet<Vec<u8>>,
+    /// The bytes of texts that are no digits.
+    bad_bytes: BTreeSet<u8>,
+}
+
+impl Reached {
+    /// What these questions have.
+    fn by(questions: impl Iterator<Item = Question>) -> Reached {
+        let mut reached = Reached::default();
+        for Question {
+            operation, bytes, ..
+        } in questions
+        {
+            let lengths = reached.lengths.entry(operation.to_string());
+            lengths.or_default().insert(bytes.len());
+            if let Operation::Decode | Operation::Check | Operation::DecodeToSlice = operation {
+                reached
+                    .fronts
+                    .insert(bytes.iter().copied().take(2).collect());
+                let bad = bytes.iter().filter(|byte| !byte.is_ascii_hexdigit());
+                reached.bad_bytes.extend(bad);
+            }
+        }
+        reached
+    }
+}
+
 #[test]
 fn the_same_seed_asks_the_same() {
     let first: Vec<Question> = Generator::new(7).take(2000).collect();
@@ -30,31 +63,12 @@ fn each_question_is_one_of_the_protocol() {
 
 #[test]
 fn every_operation_length_prefix_and_bad_byte_is_reached() {
-    let mut lengths: BTreeMap<String, BTreeSet<usize>> = BTreeMap::new();
-    let mut bad_bytes: BTreeSet<u8> = BTreeSet::new();
-    let mut prefixes: BTreeSet<Vec<u8>> = BTreeSet::new();
-    for question in Generator::new(1).take(LOOKED_AT) {
-        let length = question.bytes.len();
-        lengths
-            .entry(question.operation.to_string())
-            .or_default()
-            .insert(length);
-        if question.operation == Operation::Decode {
-            prefixes.insert(question.bytes.iter().copied().take(2).collect());
-        }
-        if let Operation::Decode | Operation::Check | Operation::DecodeToSlice = question.operation
-        {
-            bad_bytes.extend(
-                question
-                    .bytes
-                    .iter()
-                    .filter(|byte| !byte.is_ascii_hexdigit()),
-            );
-        }
-    }
-    assert_eq!(lengths.len(), Operation::all().len());
-    assert_eq!(bad_bytes.len(), 256 - 22);
-    assert!(prefixes.contains(b"0x".as_slice()) && prefixes.contains(b"0X".as_slice()));
+    let reached = Reached::by(Generator::new(1).take(LOOKED_AT));
+    assert_eq!(reached.lengths.len(), Operation::all().len());
+    assert_eq!(reached.bad_bytes.len(), 256 - 22);
+    assert!([b"0x", b"0X"]
+        .iter()
+        .all(|prefix| reached.fronts.contains(prefix.as_slice())));
     for (operation, step) in [
         ("encode", 1),
         ("display", 1),
@@ -62,9 +76,9 @@ fn every_operation_length_prefix_and_bad_byte_is_reached() {
         ("decode", 2),
     ] {
         let mut wanted = (0..=EVERYDAY).step_by(step);
-        let reached = &lengths[operation];
+        let lengths = &reached.lengths[operation];
         assert!(
-            wanted.all(|length| reached.contains(&length)),
+            wanted.all(|length| lengths.contains(&length)),
             "{operation}"
         );
     }
