@@ -48,7 +48,7 @@ pub extern "C" fn const_hex_encoded_length(bytes: usize, prefix: bool) -> usize
 /// ```
 #[unsafe(no_mangle)]
 pub extern "C" fn const_hex_encode(bytes: &[u8], prefix: bool, upper: bool, text: &mut [u8]) -> bool
-    ensures fits { IsTrue result ↔ (length text.old ≡ length (full_text prefix upper bytes.now)) }
+    ensures fits { IsTrue result ↔ (length text.old ≡ text_length prefix (length bytes.now)) }
     ensures text { IsTrue result → text.new ≡ full_text prefix upper bytes.now }
     ensures unchanged { result ≡ false → text.new ≡ text.old }
 {
