@@ -2,9 +2,10 @@
  * const_hex: hexadecimal text, proved.
  *
  * Every call here is one of the Rattle crate const_hex_c, whose clauses are proved for every input:
- * it is safe, it returns, and it answers what is said here, but for the words of a refusal, which
- * tests show. That this header says what those clauses say is seen by reading and by tests. None
- * takes memory, none keeps anything between calls, and any number of threads may call at once.
+ * it is safe, it returns, and it answers what is said here. Of the words of a refusal the clauses
+ * say which they are, where any are written; that they are, and those of a bad character, is shown
+ * by tests. That this header says what the clauses say is seen by reading and by tests. None takes
+ * memory, none keeps anything between calls, and any number of threads may call at once.
  *
  * THE CALLER'S PART
  *

@@ -1,5 +1,6 @@
 -- A refusal as C has it.
-use Rattle.std.specs.Prelude.{◌≡◌}
+use Rattle.std.specs.Prelude.{◌≡◌, ◌<◌, ◌⊎◌, ℕ, List, IfSome}
+use Rattle.const_hex.specs.Messages.{message_of}
 use Rattle.const_hex.specs.declared.error.FromHexError.{FromHexError}
 use Rattle.const_hex.specs.declared.error.FromHexError.TheVariants.{OddLength, InvalidStringLength, InvalidHexCharacter, NoMemory}
 use Rattle.const_hex_c.specs.declared.refusal.Refusal.{Refusal}
@@ -14,3 +15,11 @@ refusal_of NoMemory = record { kind = 4; byte = 0; index = 0 }
 -- the struct r stands for a refusal of which that is true
 abbrev pub StandsFor : Refusal → (FromHexError → Type 0) → Type 0
 StandsFor r holds = (e : FromHexError) × (r ≡ refusal_of e) × holds e
+
+-- that is true of the words of the refusal that the struct r stands for, where its contract names them
+abbrev pub Says : Refusal → (List ℕ → Type 0) → Type 0
+Says r holds = (e : FromHexError) → r ≡ refusal_of e → IfSome (message_of e) holds
+
+-- the kind of the struct r is that of no refusal
+abbrev pub IsUnknown : Refusal → Type 0
+IsUnknown r = (r.kind ≡ 0) ⊎ (4 < r.kind)

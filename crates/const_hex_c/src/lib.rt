@@ -1,29 +1,34 @@
 //! The codec's calls, for C.
 //!
-//! Each makes one call of `const_hex` and states that call's clauses again. None takes memory, and
-//! none asks anything of its arguments: a slice is a pointer and a length, and the null pointer
-//! may stand with length 0. The header `c/const_hex.h` says the same to C.
+//! Each call that encodes, decodes or checks makes one call of `const_hex` and states that call's
+//! clauses again. The length of a text, the words of a refusal and the version stand beside them.
+//! None takes memory, and none asks anything of its arguments: a slice is a pointer and a length, and
+//! the null pointer may stand with length 0. The header `c/const_hex.h` says the same to C.
 //!
 //! The words of the contracts are those of `const_hex`, and one file of `specs/`:
 //!
-//! - `Crossing.antt`: a refusal as C has it.
+//! - `Crossing.antt`: a refusal as C has it, and its words.
 #![tactic(auto)]
 
-ghost use Rattle.std.specs.Prelude.{◌≡◌, ◌↔◌, ◌*◌, ◌+◌, ◌<◌, ℕ, List, true, false, length, take, drop, min, slice_index, IsTrue, Ok, Err};
+ghost use Rattle.std.specs.Prelude.{◌≡◌, ◌↔◌, ◌*◌, ◌+◌, ◌-◌, ◌<◌, ℕ, List, true, false, length, take, drop, min, slice_index, IsTrue, Ok, Err};
 ghost use Rattle.const_hex.specs.Texts.{full_text, AllDigits};
 ghost use Rattle.const_hex.specs.Answers.{Reads, ReadsSized, ReadsWithin, Leaves};
 ghost use Rattle.const_hex.specs.Bodies.{body_of};
 ghost use Rattle.const_hex.specs.Buffers.{text_length};
-ghost use Rattle.const_hex_c.specs.Crossing.{StandsFor};
+ghost use Rattle.const_hex_c.specs.Crossing.{StandsFor, Says, IsUnknown};
 
 mod refusal;
 mod words;
 
 use crate::refusal::Refusal;
-use crate::words::Words;
 
 /// How long the text of so many bytes is: two digits for each, and two bytes more for a prefix.
-/// The greatest number where that does not fit; no text has that length.
+/// The greatest number where that does not fit; no text has that length. Refuses nothing, and takes
+/// no memory.
+///
+/// ```c
+/// size_t length = const_hex_encoded_length(20, true); /* 42 */
+/// ```
 #[unsafe(no_mangle)]
 pub extern "C" fn const_hex_encoded_length(bytes: usize, prefix: bool) -> usize
     ensures { result ≡ min (text_length prefix bytes) usize.MAX }
@@ -34,18 +39,35 @@ pub extern "C" fn const_hex_encoded_length(bytes: usize, prefix: bool) -> usize
 }
 
 /// Fills the text with the digits of the bytes, in upper or lower letters, behind `0x` where a
-/// prefix is wanted. False where the text has not just that length, and it is then unchanged.
+/// prefix is wanted. False where the text has not just that length, and it is then unchanged. Takes
+/// no memory.
+///
+/// ```c
+/// char text[10];
+/// bool fits = const_hex_encode("kiwi", 4, true, false, text, sizeof text); /* 0x6b697769 */
+/// ```
 #[unsafe(no_mangle)]
 pub extern "C" fn const_hex_encode(bytes: &[u8], prefix: bool, upper: bool, text: &mut [u8]) -> bool
-    ensures fits { IsTrue result ↔ (length text.old ≡ length (full_text prefix upper bytes.now)) }
+    ensures fits { IsTrue result ↔ (length text.old ≡ text_length prefix (length bytes.now)) }
     ensures text { IsTrue result → text.new ≡ full_text prefix upper bytes.now }
     ensures unchanged { result ≡ false → text.new ≡ text.old }
 {
     const_hex::encode_full_to_slice(bytes, prefix, upper, text).is_ok()
 }
 
-/// Fills the bytes with what the text spells, with or without a prefix, in either case. False where
-/// it is refused, also where it does not spell just so many bytes, and the refusal says why.
+/// Fills the bytes with what the text spells, with or without a prefix, in either case.
+///
+/// False where the text is refused, and the refusal says why, in this order: an odd length; digits
+/// that are not two for each byte; the first byte that is no digit. The first two leave the bytes
+/// unchanged. The last may leave a front of them decoded, no longer than the pairs before the bad
+/// byte, and the rest as it was. Where the text is accepted, the refusal is as it was. Takes no
+/// memory.
+///
+/// ```c
+/// unsigned char bytes[4];
+/// struct const_hex_refusal refusal;
+/// bool accepted = const_hex_decode("0x6b697769", 10, bytes, sizeof bytes, &refusal); /* kiwi */
+/// ```
 #[unsafe(no_mangle)]
 pub extern "C" fn const_hex_decode(text: &[u8], bytes: &mut [u8], refusal: &mut Refusal) -> bool
     ensures ok { IsTrue result → ReadsSized text.now (length bytes.old) (Ok bytes.new) }
@@ -66,6 +88,17 @@ pub extern "C" fn const_hex_decode(text: &[u8], bytes: &mut [u8], refusal: &mut 
 
 /// As `const_hex_decode`, into room for more bytes: their count is answered, and what is behind
 /// them stays as it was.
+///
+/// False where the text is refused, and the count is then as it was. The refusals are those of
+/// `const_hex_decode`; the second comes where the text has more digits than the room takes. Takes
+/// no memory.
+///
+/// ```c
+/// unsigned char bytes[32];
+/// size_t count;
+/// struct const_hex_refusal refusal;
+/// const_hex_decode_front("6B697769", 8, bytes, sizeof bytes, &count, &refusal); /* count is 4 */
+/// ```
 #[unsafe(no_mangle)]
 pub extern "C" fn const_hex_decode_front(
     text: &[u8],
@@ -96,7 +129,15 @@ pub extern "C" fn const_hex_decode_front(
     }
 }
 
-/// Whether the text can be decoded, and else the refusal says why not.
+/// Whether the text can be decoded, with or without a prefix, in either case.
+///
+/// False where it is refused, and the refusal says why: an odd length, or else the first byte that
+/// is no digit. Where it is true, the refusal is as it was. Takes no memory.
+///
+/// ```c
+/// struct const_hex_refusal refusal;
+/// if (!const_hex_check("0xzz", 4, &refusal)) { /* byte is 'z', index is 2 */ }
+/// ```
 #[unsafe(no_mangle)]
 pub extern "C" fn const_hex_check(text: &[u8], refusal: &mut Refusal) -> bool
     ensures accepts { IsTrue result ↔ ((bs : List ℕ) × Reads text.now (Ok bs)) }
@@ -112,7 +153,12 @@ pub extern "C" fn const_hex_check(text: &[u8], refusal: &mut Refusal) -> bool
     }
 }
 
-/// Whether every byte is a digit: no prefix is allowed, and the length does not matter.
+/// Whether every byte is a digit: no prefix is allowed, and the length does not matter. Refuses
+/// nothing, and takes no memory.
+///
+/// ```c
+/// bool digits = const_hex_check_raw("6b6", 3); /* true */
+/// ```
 #[unsafe(no_mangle)]
 pub extern "C" fn const_hex_check_raw(text: &[u8]) -> bool
     ensures { IsTrue result ↔ AllDigits text.now }
@@ -121,19 +167,31 @@ pub extern "C" fn const_hex_check_raw(text: &[u8]) -> bool
 }
 
 /// Puts the words of a refusal into the buffer, and a NUL behind them, and answers how many bytes
-/// stand before the NUL. Where the buffer is too small the words are cut; where it is empty,
-/// nothing is written. A struct that stands for no refusal has no words.
+/// stand before the NUL.
+///
+/// Where the buffer is too small the words are cut; where it is empty, nothing is written. A struct
+/// that stands for no refusal has no words. The words of a bad character are shown by tests, and no
+/// contract says that there are any: printing could give up. Refuses nothing, and takes no memory.
+///
+/// ```c
+/// char words[CONST_HEX_WORDS];
+/// size_t count = const_hex_refusal_words(&refusal, words, sizeof words);
+/// ```
 #[unsafe(no_mangle)]
 pub extern "C" fn const_hex_refusal_words(refusal: &Refusal, buffer: &mut [u8]) -> usize
     ensures within { 0 < length buffer.old → result < length buffer.old }
     ensures none { length buffer.old ≡ 0 → result ≡ 0 }
     ensures ended { 0 < length buffer.old → slice_index buffer.new result ≡ 0 }
     ensures rest { drop (result + 1) buffer.new ≡ drop (result + 1) buffer.old }
+    ensures words { 0 < result → Says refusal.now (λ m. take result buffer.new ≡ take result m) }
+    ensures whole { 0 < result
+        → Says refusal.now (λ m. result ≡ min (length m) (length buffer.old - 1)) }
+    ensures wordless { IsUnknown refusal.now → result ≡ 0 }
 {
     if buffer.is_empty() {
         return 0;
     }
-    let words = Words::of(refusal.error());
+    let words = refusal.words();
     let words = words.as_bytes();
     let count = words.len().min(buffer.len() - 1);
     buffer[..count].copy_from_slice(&words[..count]);
@@ -142,6 +200,11 @@ pub extern "C" fn const_hex_refusal_words(refusal: &Refusal, buffer: &mut [u8]) 
 }
 
 /// The version of these calls: 10,000 times the major one, 100 times the minor one, and the patch.
+/// Refuses nothing, and takes no memory.
+///
+/// ```c
+/// uint32_t version = const_hex_version(); /* 10000 is 1.0.0 */
+/// ```
 #[unsafe(no_mangle)]
 pub extern "C" fn const_hex_version() -> u32
     ensures { result ≡ 10000 }

@@ -1,8 +1,10 @@
 //! Why a text was refused, as C has it.
 
-ghost use Rattle.std.specs.Prelude.{◌≡◌};
-ghost use Rattle.const_hex_c.specs.Crossing.{refusal_of};
+ghost use Rattle.std.specs.Prelude.{◌≡◌, ◌<◌, take, Some, None};
+ghost use Rattle.const_hex.specs.declared.error.FromHexError.TheVariants.{OddLength, InvalidStringLength, NoMemory};
+ghost use Rattle.const_hex_c.specs.Crossing.{refusal_of, Says, IsUnknown};
 
+use crate::words::Words;
 use const_hex::FromHexError;
 
 /// The kind of a text with an odd number of bytes.
@@ -42,7 +44,12 @@ impl From<FromHexError> for Refusal {
 
 impl Refusal {
     /// The refusal that this stands for, where there is one.
-    pub(crate) fn error(&self) -> Option<FromHexError> {
+    fn error(&self) -> Option<FromHexError>
+        ensures odd { self.now.kind ≡ 1 → result ≡ Some OddLength }
+        ensures length { self.now.kind ≡ 2 → result ≡ Some InvalidStringLength }
+        ensures memory { self.now.kind ≡ 4 → result ≡ Some NoMemory }
+        ensures unknown { IsUnknown self.now → result ≡ None }
+    {
         match self.kind {
             ODD_LENGTH => Some(FromHexError::OddLength),
             INVALID_LENGTH => Some(FromHexError::InvalidStringLength),
@@ -52,6 +59,18 @@ impl Refusal {
             }),
             NO_MEMORY => Some(FromHexError::NoMemory),
             _ => None,
+        }
+    }
+
+    /// Its words. There are none where it stands for no refusal.
+    #[tactic(auto, using(crate::proofs::Wording::says_by_kind))]
+    pub(crate) fn words(&self) -> Words
+        ensures words { Says self.now (λ m. 0 < result.count → take result.count result.bytes ≡ m) }
+        ensures wordless { IsUnknown self.now → result.count ≡ 0 }
+    {
+        match self.error() {
+            Some(error) => Words::of(error),
+            None => Words::none(),
         }
     }
 }

@@ -1,48 +1,64 @@
 //! The words of a refusal, in room of their own.
 
-ghost use Rattle.std.specs.Prelude.{◌≤◌};
+ghost use Rattle.std.specs.Prelude.{◌≡◌, ◌≤◌, ◌<◌, ◌++◌, take, IfSome};
+ghost use Rattle.const_hex.specs.Messages.{message_of};
 
+use const_hex::FromHexError;
 use std::fmt;
 
 /// Room for the words of any refusal of a text: the longest have 59 bytes.
 const ROOM: usize = 64;
 
-/// Printed words. What goes beyond the room is left out.
+/// Printed words.
 #[derive(Drop)]
 pub(crate) struct Words {
-    bytes: [u8; ROOM],
-    count: usize,
+    pub(crate) bytes: [u8; ROOM],
+    pub(crate) count: usize,
     ghost within: { count ≤ 64 },
 }
 
 impl Words {
-    /// The words of a value, or the empty text where there is none.
-    pub(crate) fn of<D: fmt::Display + Drop>(value: Option<D>) -> Words {
-        let mut words = Words {
+    /// No words.
+    pub(crate) fn none() -> Words
+        ensures { result.count ≡ 0 }
+    {
+        Words {
             bytes: [0; ROOM],
             count: 0,
-        };
-        if let Some(value) = value {
-            // No write here fails.
-            let _ = fmt::Write::write(&mut words, value);
         }
-        words
+    }
+
+    /// The words of a refusal. There are none where they could not be printed whole.
+    pub(crate) fn of(error: FromHexError) -> Words
+        ensures { IfSome (message_of error) (λ m. 0 < result.count → take result.count result.bytes ≡ m) }
+    {
+        let mut words = Words::none();
+        match fmt::Write::write(&mut words, error) {
+            Ok(()) => words,
+            Err(_) => Words::none(),
+        }
     }
 
     /// The words, as bytes.
-    pub(crate) fn as_bytes(&self) -> &[u8] {
+    pub(crate) fn as_bytes(&self) -> &[u8]
+        ensures { result.now ≡ take self.now.count self.now.bytes }
+    {
         &self.bytes[..self.count]
     }
 }
 
 impl fmt::Write for Words {
+    ghost write_str_gives = { λ old text new.
+        take new.count new.bytes ≡ take old.count old.bytes ++ text };
+
+    /// An error where the words that are there and this text are more than there is room for.
     fn write_str(&mut self, text: &str) -> fmt::Result {
-        'bytes: for byte in text.as_bytes() {
-            if self.count < ROOM {
-                self.bytes[self.count] = *byte;
-                self.count += 1;
-            }
+        if text.len() > ROOM - self.count {
+            return Err(fmt::Error);
         }
+        let end = self.count + text.len();
+        self.bytes[self.count..end].copy_from_slice(text.as_bytes());
+        self.count = end;
         Ok(())
     }
 }

@@ -20,6 +20,8 @@ pub(crate) enum Answer {
     Refused(FromHexError),
     /// A refusal, and the slice afterwards.
     RefusedWithSlice(FromHexError, Vec<u8>),
+    /// A JSON value that is no text.
+    NotText,
     /// The text that a refusal prints.
     Message(String),
     /// The size of each piece that a sink accepted, and the number of the call that it refused.
@@ -43,6 +45,7 @@ impl Answer {
                 output.write_all(b" BUF ")?;
                 write_hex(output, slice)
             }
+            Answer::NotText => output.write_all(b"ERR NotText"),
             Answer::Message(text) => {
                 output.write_all(b"MSG ")?;
                 write_hex(output, text.as_bytes())

@@ -3,7 +3,10 @@
 mod arrays;
 mod buffers;
 mod json;
+mod messages;
 mod owned;
+mod printed;
+mod sinks;
 mod slices;
 
 use crate::answer::Answer;
@@ -19,9 +22,11 @@ pub(crate) fn answer(alloc: Global, question: &Question) -> Result<Answer, Fault
     let number = question.number;
     match question.operation {
         Operation::Encode(form) => owned::encode(alloc, bytes, form),
-        Operation::Display => owned::display(alloc, bytes),
+        Operation::Display(hole, prefix) => {
+            printed::display(alloc, bytes, hole, prefix, number.unwrap_or(0))
+        }
         Operation::Decode => owned::decode(alloc, bytes),
-        Operation::DecodeMessage => owned::decode_message(alloc, bytes),
+        Operation::Message(call) => messages::message(alloc, bytes, call, number.unwrap_or(0)),
         Operation::Check => checked(const_hex::check(bytes)),
         Operation::ConstCheck => checked(const_hex::const_check(bytes)),
         Operation::CheckRaw => Ok(Answer::Truth(const_hex::check_raw(bytes))),
@@ -39,7 +44,10 @@ pub(crate) fn answer(alloc: Global, question: &Question) -> Result<Answer, Fault
         Operation::Serialize(form) => json::serialize(alloc, bytes, form),
         Operation::Deserialize => json::deserialize(alloc, bytes),
         Operation::SerializeInner(prefix) => {
-            json::serialize_inner(alloc, bytes, prefix, number.unwrap_or(0))
+            sinks::serialize_inner(alloc, bytes, prefix, number.unwrap_or(0))
+        }
+        Operation::BufferedHex(form) => {
+            sinks::buffered_hex(alloc, bytes, form, number.unwrap_or(0))
         }
     }
 }

@@ -21,8 +21,8 @@ pub(crate) enum Fault {
     NotNumber,
     /// The operation is not offered for that count of bytes.
     NotOffered,
-    /// The bytes are no JSON text.
-    NotJsonText,
+    /// The bytes are no JSON.
+    NotJson,
     /// A request for memory was refused. This ends the run.
     NoMemory,
 }
@@ -37,7 +37,7 @@ impl fmt::Display for Fault {
             Fault::NotHex => "not hex",
             Fault::NotNumber => "not a number up to 65536",
             Fault::NotOffered => "not offered for this count of bytes",
-            Fault::NotJsonText => "not a JSON text",
+            Fault::NotJson => "not JSON",
             Fault::NoMemory => "out of memory",
         })
     }

@@ -8,12 +8,13 @@ use std::str::FromStr;
 pub(crate) enum Operation {
     /// The text of bytes, owned.
     Encode(Form),
-    /// The text of bytes, printed.
-    Display,
+    /// The text of bytes, printed through a hole, with `#` where a prefix is wanted, and in a field
+    /// of so many characters where a number stands.
+    Display(Hole, Prefix),
     /// The bytes of a text, owned.
     Decode,
-    /// What the refusal of `decode` prints.
-    DecodeMessage,
+    /// What the refusal of a call prints.
+    Message(Refusing),
     /// Whether a text can be decoded.
     Check,
     /// The same, by the call for constants.
@@ -44,10 +45,12 @@ pub(crate) enum Operation {
     ConstEncode(Form),
     /// The text of bytes, in a JSON value.
     Serialize(Form),
-    /// The bytes of a JSON text.
+    /// The bytes of a JSON value.
     Deserialize,
     /// The sizes of the pieces in which a text is handed to a sink.
     SerializeInner(Prefix),
+    /// The same by `BufferedHex`, which streams a text of any length.
+    BufferedHex(Form),
 }
 
 /// The case of letters.
@@ -69,6 +72,26 @@ pub(crate) enum Prefix {
 pub(crate) struct Form {
     pub(crate) prefix: Prefix,
     pub(crate) case: Case,
+}
+
+/// The hole of a format, but for `#` and its width.
+#[derive(Clone, Copy, Debug, PartialEq, Eq)]
+pub(crate) enum Hole {
+    /// `{}`
+    Plain,
+    /// `{:x}`
+    Lower,
+    /// `{:X}`
+    Upper,
+}
+
+/// A call whose refusal is printed.
+#[derive(Clone, Copy, Debug, PartialEq, Eq)]
+pub(crate) enum Refusing {
+    Decode,
+    Check,
+    ConstCheck,
+    DecodeToSlice,
 }
 
 /// Lower letters.
@@ -129,9 +152,17 @@ fn named(word: &str) -> Option<Operation> {
         "encode_upper" => Operation::Encode(UPPER),
         "encode_prefixed" => Operation::Encode(PREFIXED),
         "encode_upper_prefixed" => Operation::Encode(UPPER_PREFIXED),
-        "display" => Operation::Display,
+        "display" => Operation::Display(Hole::Plain, Prefix::Absent),
+        "display_alternate" => Operation::Display(Hole::Plain, Prefix::Present),
+        "display_lower" => Operation::Display(Hole::Lower, Prefix::Absent),
+        "display_lower_alternate" => Operation::Display(Hole::Lower, Prefix::Present),
+        "display_upper" => Operation::Display(Hole::Upper, Prefix::Absent),
+        "display_upper_alternate" => Operation::Display(Hole::Upper, Prefix::Present),
         "decode" => Operation::Decode,
-        "msg_decode" => Operation::DecodeMessage,
+        "msg_decode" => Operation::Message(Refusing::Decode),
+        "msg_check" => Operation::Message(Refusing::Check),
+        "msg_const_check" => Operation::Message(Refusing::ConstCheck),
+        "msg_decode_to_slice" => Operation::Message(Refusing::DecodeToSlice),
         "check" => Operation::Check,
         "const_check" => Operation::ConstCheck,
         "check_raw" => Operation::CheckRaw,
@@ -157,6 +188,10 @@ fn named(word: &str) -> Option<Operation> {
         "deserialize_json" => Operation::Deserialize,
         "serialize_inner" => Operation::SerializeInner(Prefix::Absent),
         "serialize_inner_prefixed" => Operation::SerializeInner(Prefix::Present),
+        "buffered_hex" => Operation::BufferedHex(PLAIN),
+        "buffered_hex_upper" => Operation::BufferedHex(UPPER),
+        "buffered_hex_prefixed" => Operation::BufferedHex(PREFIXED),
+        "buffered_hex_upper_prefixed" => Operation::BufferedHex(UPPER_PREFIXED),
         _ => return None,
     })
 }

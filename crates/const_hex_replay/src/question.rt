@@ -2,7 +2,7 @@
 
 use crate::fault::Fault;
 use crate::hex::bytes_of;
-use crate::operation::{Operation, decimal};
+use crate::operation::{Operation, Refusing, decimal};
 use std::alloc::Global;
 
 /// The largest number of a question.
@@ -49,10 +49,11 @@ fn number_of(word: &str) -> Result<usize, Fault> {
 /// Whether an operation goes with such a number.
 fn takes(operation: Operation, number: Option<usize>) -> bool {
     match operation {
-        Operation::DecodeToSlice | Operation::EncodeToSlice(_) | Operation::EncodeToStr(_) => {
-            number.is_some()
-        }
-        Operation::SerializeInner(_) => true,
+        Operation::DecodeToSlice
+        | Operation::EncodeToSlice(_)
+        | Operation::EncodeToStr(_)
+        | Operation::Message(Refusing::DecodeToSlice) => number.is_some(),
+        Operation::Display(_, _) | Operation::SerializeInner(_) | Operation::BufferedHex(_) => true,
         _ => number.is_none(),
     }
 }

@@ -1,11 +1,10 @@
-//! JSON values and sinks.
+//! JSON values.
 
 use crate::answer::Answer;
 use crate::answers::{refused, text};
 use crate::fault::Fault;
 use crate::operation::{Case, Form, Prefix};
-use const_hex::PieceSink;
-use const_hex::serde::{JsonError, no_prefix, serialize_inner as hand_over};
+use const_hex::serde::{JsonError, no_prefix};
 use serde_json::Value;
 use std::alloc::Global;
 
@@ -19,17 +18,17 @@ pub(crate) fn serialize(alloc: Global, bytes: &[u8], form: Form) -> Result<Answe
     };
     match value.as_str() {
         Some(contents) => text(alloc, contents),
-        None => Err(Fault::NotJsonText),
+        None => Ok(Answer::NotText),
     }
 }
 
-/// The bytes of a JSON text.
+/// The bytes of a JSON value.
 pub(crate) fn deserialize(alloc: Global, json: &[u8]) -> Result<Answer, Fault> {
-    let json = str::from_utf8(json).map_err(|_| Fault::NotJsonText)?;
+    let json = str::from_utf8(json).map_err(|_| Fault::NotJson)?;
     let value = Value::from_str(alloc, json).map_err(unread)?;
     match const_hex::deserialize::<Vec<u8>>(alloc, &value) {
         Ok(bytes) => Ok(Answer::Bytes(bytes)),
-        Err(JsonError::NotText) => Err(Fault::NotJsonText),
+        Err(JsonError::NotText) => Ok(Answer::NotText),
         Err(JsonError::Hex(refusal)) => refused(refusal),
     }
 }
@@ -39,30 +38,6 @@ fn unread(error: serde_json::Error) -> Fault {
     if error.is_memory() {
         Fault::NoMemory
     } else {
-        Fault::NotJsonText
+        Fault::NotJson
     }
-}
-
-/// The pieces in which the text of bytes is handed to a sink that refuses at a call, or at 0 never.
-pub(crate) fn serialize_inner(
-    alloc: Global,
-    bytes: &[u8],
-    prefix: Prefix,
-    refuse_at: usize,
-) -> Result<Answer, Fault> {
-    let mut sink = PieceSink::new(alloc, refuse_at);
-    let written = match prefix {
-        Prefix::Absent => hand_over::<false, false, PieceSink>(bytes, &mut sink),
-        Prefix::Present => hand_over::<false, true, PieceSink>(bytes, &mut sink),
-    };
-    if sink.no_memory() {
-        return Err(Fault::NoMemory);
-    }
-    let sizes = sink
-        .pieces()
-        .iter()
-        .map(|piece| piece.len())
-        .collect(alloc)?;
-    let refused = written.err().map(|_| sink.calls());
-    Ok(Answer::Pieces(sizes, refused))
 }

@@ -4,7 +4,7 @@ use crate::answer::Answer;
 use crate::answers::{refused, text};
 use crate::fault::Fault;
 use crate::operation::{Case, Form, Prefix};
-use const_hex::{FromHex, FromHexError};
+use const_hex::FromHex;
 use std::alloc::Global;
 
 /// The text of bytes.
@@ -18,26 +18,11 @@ pub(crate) fn encode(alloc: Global, bytes: &[u8], form: Form) -> Result<Answer, 
     text(alloc, encoded.as_str())
 }
 
-/// The text of bytes, printed.
-pub(crate) fn display(alloc: Global, bytes: &[u8]) -> Result<Answer, Fault> {
-    let printed = const_hex::display(bytes).to_string(alloc)?;
-    text(alloc, printed.as_str())
-}
-
 /// The bytes of a text.
 pub(crate) fn decode(alloc: Global, input: &[u8]) -> Result<Answer, Fault> {
     match const_hex::decode(alloc, input) {
         Ok(bytes) => Ok(Answer::Bytes(bytes)),
         Err(refusal) => refused(refusal),
-    }
-}
-
-/// What the refusal of a text prints.
-pub(crate) fn decode_message(alloc: Global, input: &[u8]) -> Result<Answer, Fault> {
-    match const_hex::decode(alloc, input) {
-        Ok(_) => Ok(Answer::Done),
-        Err(FromHexError::NoMemory) => Err(Fault::NoMemory),
-        Err(refusal) => Ok(Answer::Message(refusal.to_string(alloc)?)),
     }
 }
 

@@ -101,6 +101,49 @@ const CHECKED: [(&str, &str); 9] = [
     ("const_check_raw 423543356162", "OK true"),
 ];
 
+/// Printed texts and refusals, and JSON values of any kind. The places are counted from the start of
+/// the whole text.
+const PRINTED: [(&str, &str); 20] = [
+    ("display 1b40 9", "OK 31623430"),
+    ("display_alternate 1b40", "OK 307831623430"),
+    ("display_alternate -", "OK 3078"),
+    ("display_lower 1bf0 20", "OK 31626630"),
+    ("display_lower_alternate 1bf0", "OK 307831626630"),
+    ("display_upper 1bf0", "OK 31424630"),
+    ("display_upper_alternate 1bf0 9", "OK 307831424630"),
+    (
+        "msg_check 30787a7a",
+        "MSG 696e76616c69642063686172616374657220277a2720617420706f736974696f6e2032",
+    ),
+    ("msg_check 3078", "OK"),
+    (
+        "msg_const_check 3078307a",
+        "MSG 696e76616c69642063686172616374657220277a2720617420706f736974696f6e2033",
+    ),
+    (
+        "msg_const_check 373737",
+        "MSG 6f6464206e756d626572206f6620646967697473",
+    ),
+    (
+        "msg_decode_to_slice 3667 1",
+        "MSG 696e76616c6964206368617261637465722027672720617420706f736974696f6e2031",
+    ),
+    (
+        "msg_decode_to_slice 3667 2",
+        "MSG 696e76616c696420737472696e67206c656e677468",
+    ),
+    ("msg_decode_to_slice 3666 1", "OK"),
+    ("deserialize_json 35", "ERR NotText"),
+    ("deserialize_json 6e756c6c", "ERR NotText"),
+    ("deserialize_json 5b2230783662225d", "ERR NotText"),
+    ("deserialize_json 22307836622d22", "ERR OddLength"),
+    (
+        "deserialize_json 2230787a7a22",
+        "ERR InvalidHexCharacter 122 2",
+    ),
+    ("deserialize_json 22c3a922", "ERR InvalidHexCharacter 195 0"),
+];
+
 /// JSON texts, and the pieces for a sink.
 const WRITTEN: [(&str, &str); 8] = [
     ("serialize 1b40", "OK 307831623430"),
@@ -114,7 +157,7 @@ const WRITTEN: [(&str, &str); 8] = [
 ];
 
 /// Pieces of 4097 bytes, each `ab`, for a sink that refuses at a call.
-const PIECES: [(&str, usize, &str); 8] = [
+const PIECES: [(&str, usize, &str); 12] = [
     ("serialize_inner", 1, "OK refused 1"),
     ("serialize_inner", 2, "OK 4096 refused 2"),
     ("serialize_inner", 3, "OK 4096 4096 refused 3"),
@@ -123,6 +166,10 @@ const PIECES: [(&str, usize, &str); 8] = [
     ("serialize_inner_prefixed", 2, "OK 4034 refused 2"),
     ("serialize_inner_prefixed", 3, "OK 4034 4096 refused 3"),
     ("serialize_inner_prefixed", 4, "OK 4034 4096 66"),
+    ("buffered_hex", 0, "OK 4096 4096 2"),
+    ("buffered_hex_upper", 2, "OK 4096 refused 2"),
+    ("buffered_hex_prefixed", 4, "OK 4034 4096 66"),
+    ("buffered_hex_upper_prefixed", 1, "OK refused 1"),
 ];
 
 /// Asks a question, and holds its answer against the one that was noted.
@@ -137,7 +184,9 @@ fn ask(rt: &(impl Abort + AllocGlobal), question: &str, noted: &str) -> Result<(
 
 #[test]
 fn each_operation_is_answered_as_noted(rt: HostRuntime) -> Result<(), Fail> {
-    let families: [&[(&str, &str)]; 5] = [&ENCODED, &BUFFERED, &DECODED, &CHECKED, &WRITTEN];
+    let families: [&[(&str, &str)]; 6] = [
+        &ENCODED, &BUFFERED, &DECODED, &CHECKED, &PRINTED, &WRITTEN,
+    ];
     for (question, noted) in families.iter().flat_map(|family| family.iter()) {
         ask(&rt, question, noted)?;
     }

@@ -50,9 +50,9 @@ const BAD_LINES: [(&[u8], &str); 36] = [
         b"buffer_format 6b6b6b6b6b",
         "not offered for this count of bytes",
     ),
-    (b"deserialize_json 35", "not a JSON text"),
-    (b"deserialize_json 223662", "not a JSON text"),
-    (b"deserialize_json 22ff22", "not a JSON text"),
+    (b"msg_decode_to_slice 6b", "wrong count of words"),
+    (b"deserialize_json 223662", "not JSON"),
+    (b"deserialize_json 22ff22", "not JSON"),
     (b"encode \xff", "not UTF-8"),
 ];
 

@@ -1,0 +1,263 @@
+//! The calls that are measured, by each side.
+
+use crate::bench::measure::Batch;
+use crate::ffi::builds::{Avx2Build, Build, DefaultBuild};
+use std::fmt::{self, Write};
+
+/// A call that is measured.
+#[derive(Clone, Copy, Debug, PartialEq, Eq)]
+pub enum Call {
+    EncodeToSlice,
+    DecodeToSlice,
+    CheckRaw,
+    Encode,
+    Decode,
+    Display,
+}
+
+impl Call {
+    /// Every call.
+    pub const ALL: [Call; 6] = [
+        Call::EncodeToSlice,
+        Call::DecodeToSlice,
+        Call::CheckRaw,
+        Call::Encode,
+        Call::Decode,
+        Call::Display,
+    ];
+
+    /// Its name.
+    pub fn name(self) -> &'static str {
+        match self {
+            Call::EncodeToSlice => "encode_to_slice",
+            Call::DecodeToSlice => "decode_to_slice",
+            Call::CheckRaw => "check_raw",
+            Call::Encode => "encode",
+            Call::Decode => "decode",
+            Call::Display => "display",
+        }
+    }
+}
+
+/// Whose calls are measured.
+#[derive(Clone, Copy, Debug, PartialEq, Eq)]
+pub enum Side {
+    /// The Rust crate const-hex, which picks its kernel by the processor.
+    ConstHex,
+    /// The port, as built for the default processor.
+    Default,
+    /// The port, as built for x86-64-v3.
+    Avx2,
+    /// A copy of the same output, or of the text where there is none.
+    Copy,
+    /// The Rust crate hex.
+    #[cfg(feature = "hex")]
+    Hex,
+    /// The Rust crate data-encoding.
+    #[cfg(feature = "data-encoding")]
+    DataEncoding,
+}
+
+impl Side {
+    /// Every side that can be measured here.
+    pub fn here() -> Vec<Side> {
+        let mut sides = vec![Side::ConstHex, Side::Default];
+        if Avx2Build::can_run() {
+            sides.push(Side::Avx2);
+        }
+        sides.push(Side::Copy);
+        #[cfg(feature = "hex")]
+        sides.push(Side::Hex);
+        #[cfg(feature = "data-encoding")]
+        sides.push(Side::DataEncoding);
+        sides
+    }
+
+    /// Its name.
+    pub fn name(self) -> &'static str {
+        match self {
+            Side::ConstHex => "const-hex",
+            Side::Default => "default build",
+            Side::Avx2 => "AVX2 build",
+            Side::Copy => "copy",
+            #[cfg(feature = "hex")]
+            Side::Hex => "hex",
+            #[cfg(feature = "data-encoding")]
+            Side::DataEncoding => "data-encoding",
+        }
+    }
+
+    /// Whether it is a build of the port.
+    pub fn is_port(self) -> bool {
+        matches!(self, Side::Default | Side::Avx2)
+    }
+}
+
+/// A batch of a call by a side, where the side has that call.
+pub fn batch(call: Call, side: Side) -> Option<Batch> {
+    match side {
+        Side::ConstHex => Some(by_const_hex(call)),
+        Side::Default => Some(by_build::<DefaultBuild>(call)),
+        Side::Avx2 => Some(by_build::<Avx2Build>(call)),
+        Side::Copy => Some(by_copy(call)),
+        #[cfg(feature = "hex")]
+        Side::Hex => by_hex(call),
+        #[cfg(feature = "data-encoding")]
+        Side::DataEncoding => by_data_encoding(call),
+    }
+}
+
+/// A batch of a call by the Rust crate const-hex.
+fn by_const_hex(call: Call) -> Batch {
+    match call {
+        Call::EncodeToSlice => |work, calls| {
+            work.on_bytes(calls, |bytes, text| {
+                usize::from(const_hex::encode_to_slice(bytes, text).is_ok())
+            })
+        },
+        Call::DecodeToSlice => |work, calls| {
+            work.on_text(calls, |text, bytes| {
+                usize::from(const_hex::decode_to_slice(text, bytes).is_ok())
+            })
+        },
+        Call::CheckRaw => {
+            |work, calls| work.on_text(calls, |text, _| usize::from(const_hex::check_raw(text)))
+        }
+        Call::Encode => {
+            |work, calls| work.on_bytes(calls, |bytes, _| told(const_hex::encode(bytes).as_bytes()))
+        }
+        Call::Decode => |work, calls| {
+            work.on_text(calls, |text, _| {
+                const_hex::decode(text).map_or(0, |bytes| told(&bytes))
+            })
+        },
+        Call::Display => |work, calls| {
+            work.on_bytes(calls, |bytes, _| {
+                let mut counter = Counter { count: 0 };
+                // The sink refuses nothing.
+                let _ = write!(counter, "{}", const_hex::display(bytes));
+                counter.count
+            })
+        },
+    }
+}
+
+/// A batch of a call by a build of the port.
+fn by_build<B: Build>(call: Call) -> Batch {
+    match call {
+        Call::EncodeToSlice => {
+            |work, calls| work.on_bytes(calls, |bytes, text| usize::from(B::encode(bytes, text)))
+        }
+        Call::DecodeToSlice => {
+            |work, calls| work.on_text(calls, |text, bytes| usize::from(B::decode(text, bytes)))
+        }
+        Call::CheckRaw => {
+            |work, calls| work.on_text(calls, |text, _| usize::from(B::check_raw(text)))
+        }
+        Call::Encode => |work, calls| work.on_bytes(calls, |bytes, _| B::encode_owned(bytes)),
+        Call::Decode => |work, calls| work.on_text(calls, |text, _| B::decode_owned(text)),
+        Call::Display => |work, calls| work.on_bytes(calls, |bytes, _| B::display(bytes)),
+    }
+}
+
+/// A batch of copies of what a call writes, or reads where it writes nothing.
+fn by_copy(call: Call) -> Batch {
+    match call {
+        Call::DecodeToSlice | Call::Decode => |work, calls| work.copy_bytes(calls),
+        _ => |work, calls| work.copy_text(calls),
+    }
+}
+
+/// A batch of a call by the Rust crate hex.
+#[cfg(feature = "hex")]
+fn by_hex(call: Call) -> Option<Batch> {
+    Some(match call {
+        Call::EncodeToSlice => |work, calls| {
+            work.on_bytes(calls, |bytes, text| {
+                usize::from(hex::encode_to_slice(bytes, text).is_ok())
+            })
+        },
+        Call::DecodeToSlice => |work, calls| {
+            work.on_text(calls, |text, bytes| {
+                usize::from(hex::decode_to_slice(text, bytes).is_ok())
+            })
+        },
+        Call::Encode => {
+            |work, calls| work.on_bytes(calls, |bytes, _| told(hex::encode(bytes).as_bytes()))
+        }
+        Call::Decode => |work, calls| {
+            work.on_text(calls, |text, _| {
+                hex::decode(text).map_or(0, |bytes| told(&bytes))
+            })
+        },
+        Call::CheckRaw | Call::Display => return None,
+    })
+}
+
+/// A batch of a call by the Rust crate data-encoding.
+#[cfg(feature = "data-encoding")]
+fn by_data_encoding(call: Call) -> Option<Batch> {
+    use data_encoding::{HEXLOWER, HEXLOWER_PERMISSIVE};
+    Some(match call {
+        Call::EncodeToSlice => |work, calls| {
+            work.on_bytes(calls, |bytes, text| {
+                HEXLOWER.encode_mut(bytes, text);
+                1
+            })
+        },
+        Call::DecodeToSlice => |work, calls| {
+            work.on_text(calls, |text, bytes| {
+                usize::from(HEXLOWER_PERMISSIVE.decode_mut(text, bytes).is_ok())
+            })
+        },
+        Call::Encode => {
+            |work, calls| work.on_bytes(calls, |bytes, _| told(HEXLOWER.encode(bytes).as_bytes()))
+        }
+        Call::Decode => |work, calls| {
+            work.on_text(calls, |text, _| {
+                HEXLOWER_PERMISSIVE
+                    .decode(text)
+                    .map_or(0, |bytes| told(&bytes))
+            })
+        },
+        Call::CheckRaw | Call::Display => return None,
+    })
+}
+
+/// So much of a result that it can't be left out: its length and its last byte.
+fn told(result: &[u8]) -> usize {
+    result.len() + usize::from(result.last().copied().unwrap_or(0))
+}
+
+/// A sink that counts what it is handed, and keeps nothing.
+struct Counter {
+    count: usize,
+}
+
+impl fmt::Write for Counter {
+    fn write_str(&mut self, piece: &str) -> fmt::Result {
+        self.count = self.count.wrapping_add(told(piece.as_bytes()));
+        Ok(())
+    }
+}
+
+#[cfg(test)]
+mod tests {
+    use super::*;
+    use crate::bench::measure::Work;
+
+    /// All but `display`: what a sink sums up depends on the pieces, which are each side's own.
+    #[test]
+    fn the_port_and_the_crate_answer_alike() {
+        for call in Call::ALL.into_iter().filter(|call| *call != Call::Display) {
+            for size in [1, 4, 33, 300, 5000] {
+                let mut work = Work::new(size);
+                let wanted = by_const_hex(call)(&mut work, 7);
+                let builds = Side::here().into_iter().filter(|side| side.is_port());
+                for batch in builds.filter_map(|side| batch(call, side)) {
+                    assert_eq!(batch(&mut work, 7), wanted, "{} at {size}", call.name());
+                }
+            }
+        }
+    }
+}

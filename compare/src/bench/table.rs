@@ -1,0 +1,90 @@
+//! The table of times, in Markdown.
+
+use crate::bench::calls::Side;
+use crate::bench::measure::Times;
+use crate::bench::Row;
+use std::io::{self, Write};
+
+/// Writes what the times were taken on, and the head of the table.
+pub fn write_head(output: &mut impl Write, pinned: Option<usize>) -> io::Result<()> {
+    let machine = machine().unwrap_or_else(|| "an unknown processor".to_owned());
+    match pinned {
+        Some(processor) => writeln!(output, "{machine}; pinned to processor {processor}.")?,
+        None => writeln!(output, "{machine}; not pinned to a processor.")?,
+    }
+    writeln!(
+        output,
+        "\nNanoseconds a call, least and median; ratios to const-hex of both.\n"
+    )?;
+    let mut names = vec!["call", "bytes"];
+    for side in Side::here() {
+        names.push(side.name());
+        if side.is_port() {
+            names.push("ratio");
+        }
+    }
+    writeln!(output, "| {} |", names.join(" | "))?;
+    writeln!(output, "|{}", "---|".repeat(names.len()))
+}
+
+/// The name of the processor, where the system tells it.
+fn machine() -> Option<String> {
+    let about = std::fs::read_to_string("/proc/cpuinfo").ok()?;
+    let line = about.lines().find(|line| line.starts_with("model name"))?;
+    Some(line.split_once(':')?.1.trim().to_owned())
+}
+
+/// Writes a row.
+pub fn write_row(output: &mut impl Write, row: &Row) -> io::Result<()> {
+    let mut cells = vec![format!("`{}`", row.call.name()), row.size.to_string()];
+    for side in Side::here() {
+        let times = row.of(side);
+        cells.push(times.map_or(String::new(), nanoseconds));
+        if side.is_port() {
+            cells.push(ratio(row, side).map_or(String::new(), ratios));
+        }
+    }
+    writeln!(output, "| {} |", cells.join(" | "))
+}
+
+/// What a side takes over the Rust crate const-hex, of the least times and of the medians.
+fn ratio(row: &Row, side: Side) -> Option<Times> {
+    let (times, crates) = (row.of(side)?, row.of(Side::ConstHex)?);
+    Some(Times {
+        least: times.least / crates.least,
+        median: times.median / crates.median,
+    })
+}
+
+/// Two times of a cell.
+fn nanoseconds(times: Times) -> String {
+    let digits = |time: f64| usize::from(time < 100.0);
+    let (least, median) = (times.least, times.median);
+    format!("{least:.*}, {median:.*}", digits(least), digits(median))
+}
+
+/// Two ratios of a cell.
+fn ratios(ratio: Times) -> String {
+    format!("{:.2}, {:.2}", ratio.least, ratio.median)
+}
+
+/// Writes which ratios of the least times are above 1, for each build of the port.
+pub fn write_slower(output: &mut impl Write, rows: &[Row]) -> io::Result<()> {
+    for side in Side::here().into_iter().filter(|side| side.is_port()) {
+        let slower: Vec<String> = rows.iter().filter_map(|row| slower(row, side)).collect();
+        let list = if slower.is_empty() {
+            "none".to_owned()
+        } else {
+            slower.join("; ")
+        };
+        writeln!(output, "\nAbove 1.00, {}: {list}.", side.name())?;
+    }
+    Ok(())
+}
+
+/// The cell of a row whose ratio is above 1 as it is printed.
+fn slower(row: &Row, side: Side) -> Option<String> {
+    let ratio = ratio(row, side)?.least;
+    let (call, size) = (row.call.name(), row.size);
+    (ratio >= 1.005).then(|| format!("`{call}` at {size} ({ratio:.2})"))
+}

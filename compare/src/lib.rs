@@ -1,0 +1,23 @@
+//! The proved codec beside the Rust crate const-hex: the same questions to both, and their times.
+//!
+//! - `ffi`: safe calls over the codec's calls for C, for anybody who calls the codec from Rust;
+//! - `operation`, `question`, `answer`, `words`: the protocol of `const_hex_replay`;
+//! - `answers`, `replies`, `intended`: the Rust crate's answers, and where the port's differ;
+//! - `generator`, `random`, `differ`: questions, and both sides' answers compared;
+//! - `bench`: both sides' times;
+//! - `command`: what the arguments ask for.
+#![deny(unsafe_code)]
+
+pub mod answer;
+pub mod answers;
+pub mod bench;
+pub mod command;
+pub mod differ;
+pub mod ffi;
+pub mod generator;
+pub mod intended;
+pub mod operation;
+pub mod question;
+pub mod random;
+pub mod replies;
+pub mod words;

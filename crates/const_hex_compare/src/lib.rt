@@ -1,0 +1,63 @@
+//! Calls of the codec that take memory or print, for the times beside the Rust crate.
+//!
+//! The calls for C in `const_hex_c` take no memory, so a program that calls them can't measure what
+//! an owned text costs. Each call here makes its result, gives it up, and answers so much of it that
+//! it can't be left out. A `Global` is passed as nothing.
+#![tactic(auto)]
+
+ghost use Rattle.std.specs.Prelude.{◌≡◌, ◌≢◌, ℕ, List, false, length, Ok};
+ghost use Rattle.const_hex.specs.Texts.{hex_text};
+ghost use Rattle.const_hex.specs.Answers.{Reads};
+
+mod counter;
+
+use crate::counter::Counter;
+use std::alloc::Global;
+use std::fmt::Write;
+
+/// Makes the text of the bytes, and answers how long it is, and in `last` what its last byte is. The
+/// answer is 0, and `last` as it was, where there is no byte or memory is refused.
+#[unsafe(no_mangle)]
+pub extern "C" fn const_hex_compare_encode(alloc: Global, bytes: &[u8], last: &mut u8) -> usize
+    ensures length { result ≢ 0 → result ≡ length (hex_text false bytes.now) }
+    ensures kept { result ≡ 0 → last.new ≡ last.old }
+{
+    let Ok(text) = const_hex::encode(alloc, bytes) else {
+        return 0;
+    };
+    let Some(byte) = text.as_bytes().last() else {
+        return 0;
+    };
+    *last = *byte;
+    text.len()
+}
+
+/// Makes the bytes that the text spells, and answers how many they are, and in `last` what the last
+/// of them is. The answer is 0, and `last` as it was, where there is none, or the text or memory is
+/// refused.
+#[unsafe(no_mangle)]
+pub extern "C" fn const_hex_compare_decode(alloc: Global, text: &[u8], last: &mut u8) -> usize
+    ensures bytes { result ≢ 0
+        → ((bs : List ℕ) × Reads text.now (Ok bs) × (result ≡ length bs)) }
+    ensures kept { result ≡ 0 → last.new ≡ last.old }
+{
+    let Ok(bytes) = const_hex::decode(alloc, text) else {
+        return 0;
+    };
+    let Some(byte) = bytes.last() else {
+        return 0;
+    };
+    *last = *byte;
+    bytes.len()
+}
+
+/// Prints the bytes into a sink that keeps nothing, and answers how much was printed, with the last
+/// byte of each piece added to it. It takes no memory.
+#[unsafe(no_mangle)]
+pub extern "C" fn const_hex_compare_display(bytes: &[u8]) -> usize {
+    let mut counter = Counter::new();
+    let text = const_hex::display(bytes);
+    // The sink refuses nothing.
+    let _ = write!(counter, "{text}");
+    counter.count()
+}
