@@ -1,6 +1,6 @@
 //! The calls that are measured, by each side.
 
-use crate::bench::measure::Batch;
+use crate::bench::measure::{Batch, Work};
 use crate::ffi::builds::{Avx2Build, Build, DefaultBuild};
 use std::fmt::{self, Write};
 
@@ -62,7 +62,7 @@ impl Side {
     /// Every side that can be measured here.
     pub fn here() -> Vec<Side> {
         let mut sides = vec![Side::ConstHex, Side::Default];
-        if Avx2Build::can_run() {
+        if Avx2Build::here().is_some() {
             sides.push(Side::Avx2);
         }
         sides.push(Side::Copy);
@@ -97,8 +97,8 @@ impl Side {
 pub fn batch(call: Call, side: Side) -> Option<Batch> {
     match side {
         Side::ConstHex => Some(by_const_hex(call)),
-        Side::Default => Some(by_build::<DefaultBuild>(call)),
-        Side::Avx2 => Some(by_build::<Avx2Build>(call)),
+        Side::Default => Some(by_build(DefaultBuild::here()?, call)),
+        Side::Avx2 => Some(by_build(Avx2Build::here()?, call)),
         Side::Copy => Some(by_copy(call)),
         #[cfg(feature = "hex")]
         Side::Hex => by_hex(call),
@@ -107,64 +107,54 @@ pub fn batch(call: Call, side: Side) -> Option<Batch> {
     }
 }
 
+/// A batch of calls on bytes, with room for their text.
+fn on_bytes(call: impl Fn(&[u8], &mut [u8]) -> usize + 'static) -> Batch {
+    Box::new(move |work, calls| work.on_bytes(calls, &call))
+}
+
+/// A batch of calls on a text, with room for its bytes.
+fn on_text(call: impl Fn(&[u8], &mut [u8]) -> usize + 'static) -> Batch {
+    Box::new(move |work, calls| work.on_text(calls, &call))
+}
+
 /// A batch of a call by the Rust crate const-hex.
 fn by_const_hex(call: Call) -> Batch {
     match call {
-        Call::EncodeToSlice => |work, calls| {
-            work.on_bytes(calls, |bytes, text| {
-                usize::from(const_hex::encode_to_slice(bytes, text).is_ok())
-            })
-        },
-        Call::DecodeToSlice => |work, calls| {
-            work.on_text(calls, |text, bytes| {
-                usize::from(const_hex::decode_to_slice(text, bytes).is_ok())
-            })
-        },
-        Call::CheckRaw => {
-            |work, calls| work.on_text(calls, |text, _| usize::from(const_hex::check_raw(text)))
+        Call::EncodeToSlice => {
+            on_bytes(|bytes, text| usize::from(const_hex::encode_to_slice(bytes, text).is_ok()))
         }
-        Call::Encode => {
-            |work, calls| work.on_bytes(calls, |bytes, _| told(const_hex::encode(bytes).as_bytes()))
+        Call::DecodeToSlice => {
+            on_text(|text, bytes| usize::from(const_hex::decode_to_slice(text, bytes).is_ok()))
         }
-        Call::Decode => |work, calls| {
-            work.on_text(calls, |text, _| {
-                const_hex::decode(text).map_or(0, |bytes| told(&bytes))
-            })
-        },
-        Call::Display => |work, calls| {
-            work.on_bytes(calls, |bytes, _| {
-                let mut counter = Counter { count: 0 };
-                // The sink refuses nothing.
-                let _ = write!(counter, "{}", const_hex::display(bytes));
-                counter.count
-            })
-        },
+        Call::CheckRaw => on_text(|text, _| usize::from(const_hex::check_raw(text))),
+        Call::Encode => on_bytes(|bytes, _| told(const_hex::encode(bytes).as_bytes())),
+        Call::Decode => on_text(|text, _| const_hex::decode(text).map_or(0, |bytes| told(&bytes))),
+        Call::Display => on_bytes(|bytes, _| {
+            let mut counter = Counter { count: 0 };
+            // The sink refuses nothing.
+            let _ = write!(counter, "{}", const_hex::display(bytes));
+            counter.count
+        }),
     }
 }
 
 /// A batch of a call by a build of the port.
-fn by_build<B: Build>(call: Call) -> Batch {
+fn by_build(build: impl Build, call: Call) -> Batch {
     match call {
-        Call::EncodeToSlice => {
-            |work, calls| work.on_bytes(calls, |bytes, text| usize::from(B::encode(bytes, text)))
-        }
-        Call::DecodeToSlice => {
-            |work, calls| work.on_text(calls, |text, bytes| usize::from(B::decode(text, bytes)))
-        }
-        Call::CheckRaw => {
-            |work, calls| work.on_text(calls, |text, _| usize::from(B::check_raw(text)))
-        }
-        Call::Encode => |work, calls| work.on_bytes(calls, |bytes, _| B::encode_owned(bytes)),
-        Call::Decode => |work, calls| work.on_text(calls, |text, _| B::decode_owned(text)),
-        Call::Display => |work, calls| work.on_bytes(calls, |bytes, _| B::display(bytes)),
+        Call::EncodeToSlice => on_bytes(move |bytes, text| usize::from(build.encode(bytes, text))),
+        Call::DecodeToSlice => on_text(move |text, bytes| usize::from(build.decode(text, bytes))),
+        Call::CheckRaw => on_text(move |text, _| usize::from(build.check_raw(text))),
+        Call::Encode => on_bytes(move |bytes, _| build.encode_owned(bytes)),
+        Call::Decode => on_text(move |text, _| build.decode_owned(text)),
+        Call::Display => on_bytes(move |bytes, _| build.display(bytes)),
     }
 }
 
 /// A batch of copies of what a call writes, or reads where it writes nothing.
 fn by_copy(call: Call) -> Batch {
     match call {
-        Call::DecodeToSlice | Call::Decode => |work, calls| work.copy_bytes(calls),
-        _ => |work, calls| work.copy_text(calls),
+        Call::DecodeToSlice | Call::Decode => Box::new(Work::copy_bytes),
+        _ => Box::new(Work::copy_text),
     }
 }
 
@@ -172,24 +162,14 @@ fn by_copy(call: Call) -> Batch {
 #[cfg(feature = "hex")]
 fn by_hex(call: Call) -> Option<Batch> {
     Some(match call {
-        Call::EncodeToSlice => |work, calls| {
-            work.on_bytes(calls, |bytes, text| {
-                usize::from(hex::encode_to_slice(bytes, text).is_ok())
-            })
-        },
-        Call::DecodeToSlice => |work, calls| {
-            work.on_text(calls, |text, bytes| {
-                usize::from(hex::decode_to_slice(text, bytes).is_ok())
-            })
-        },
-        Call::Encode => {
-            |work, calls| work.on_bytes(calls, |bytes, _| told(hex::encode(bytes).as_bytes()))
+        Call::EncodeToSlice => {
+            on_bytes(|bytes, text| usize::from(hex::encode_to_slice(bytes, text).is_ok()))
         }
-        Call::Decode => |work, calls| {
-            work.on_text(calls, |text, _| {
-                hex::decode(text).map_or(0, |bytes| told(&bytes))
-            })
-        },
+        Call::DecodeToSlice => {
+            on_text(|text, bytes| usize::from(hex::decode_to_slice(text, bytes).is_ok()))
+        }
+        Call::Encode => on_bytes(|bytes, _| told(hex::encode(bytes).as_bytes())),
+        Call::Decode => on_text(|text, _| hex::decode(text).map_or(0, |bytes| told(&bytes))),
         Call::CheckRaw | Call::Display => return None,
     })
 }
@@ -199,27 +179,19 @@ fn by_hex(call: Call) -> Option<Batch> {
 fn by_data_encoding(call: Call) -> Option<Batch> {
     use data_encoding::{HEXLOWER, HEXLOWER_PERMISSIVE};
     Some(match call {
-        Call::EncodeToSlice => |work, calls| {
-            work.on_bytes(calls, |bytes, text| {
-                HEXLOWER.encode_mut(bytes, text);
-                1
-            })
-        },
-        Call::DecodeToSlice => |work, calls| {
-            work.on_text(calls, |text, bytes| {
-                usize::from(HEXLOWER_PERMISSIVE.decode_mut(text, bytes).is_ok())
-            })
-        },
-        Call::Encode => {
-            |work, calls| work.on_bytes(calls, |bytes, _| told(HEXLOWER.encode(bytes).as_bytes()))
+        Call::EncodeToSlice => on_bytes(|bytes, text| {
+            HEXLOWER.encode_mut(bytes, text);
+            1
+        }),
+        Call::DecodeToSlice => {
+            on_text(|text, bytes| usize::from(HEXLOWER_PERMISSIVE.decode_mut(text, bytes).is_ok()))
         }
-        Call::Decode => |work, calls| {
-            work.on_text(calls, |text, _| {
-                HEXLOWER_PERMISSIVE
-                    .decode(text)
-                    .map_or(0, |bytes| told(&bytes))
-            })
-        },
+        Call::Encode => on_bytes(|bytes, _| told(HEXLOWER.encode(bytes).as_bytes())),
+        Call::Decode => on_text(|text, _| {
+            HEXLOWER_PERMISSIVE
+                .decode(text)
+                .map_or(0, |bytes| told(&bytes))
+        }),
         Call::CheckRaw | Call::Display => return None,
     })
 }
@@ -244,7 +216,6 @@ impl fmt::Write for Counter {
 #[cfg(test)]
 mod tests {
     use super::*;
-    use crate::bench::measure::Work;
 
     /// All but `display`: what a sink sums up depends on the pieces, which are each side's own.
     #[test]

@@ -30,7 +30,7 @@ pub struct Work {
 }
 
 /// A batch of calls: so many over that work. It answers a sum of what they answered.
-pub type Batch = fn(&mut Work, usize) -> usize;
+pub type Batch = Box<dyn Fn(&mut Work, usize) -> usize>;
 
 impl Work {
     /// Work on so many bytes of data, in no order that a processor could learn.

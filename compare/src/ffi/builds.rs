@@ -2,53 +2,61 @@
 
 use crate::ffi::RawRefusal;
 
-/// One build of the library.
-pub trait Build {
+/// One build of the library, as a token that this processor can run it.
+pub trait Build: Copy + 'static {
+    /// The build, where this processor can run it.
+    fn here() -> Option<Self>;
+
     /// Fills the lower text of bytes, where there is room for just that text.
-    fn encode(bytes: &[u8], text: &mut [u8]) -> bool;
+    fn encode(self, bytes: &[u8], text: &mut [u8]) -> bool;
 
     /// Fills the bytes that a text spells, where they are just so many.
-    fn decode(text: &[u8], bytes: &mut [u8]) -> bool;
+    fn decode(self, text: &[u8], bytes: &mut [u8]) -> bool;
 
     /// Whether every byte of a text is a digit.
-    fn check_raw(text: &[u8]) -> bool;
+    fn check_raw(self, text: &[u8]) -> bool;
 
     /// Makes the lower text of bytes, and answers its length with its last byte added.
-    fn encode_owned(bytes: &[u8]) -> usize;
+    fn encode_owned(self, bytes: &[u8]) -> usize;
 
     /// Makes the bytes of a text, and answers their count with the last of them added.
-    fn decode_owned(text: &[u8]) -> usize;
+    fn decode_owned(self, text: &[u8]) -> usize;
 
     /// Prints the lower text into a sink, and answers its length with the last byte of each piece
     /// added.
-    fn display(bytes: &[u8]) -> usize;
+    fn display(self, bytes: &[u8]) -> usize;
 }
 
-/// The build for the default processor, x86-64-v2.
-pub struct DefaultBuild;
+/// The build for the default processor, x86-64-v2. The library is for no lesser one.
+#[derive(Clone, Copy)]
+pub struct DefaultBuild(());
 
 /// The build for x86-64-v3, which has AVX2.
-pub struct Avx2Build;
+#[derive(Clone, Copy)]
+pub struct Avx2Build(());
 
-impl Avx2Build {
-    /// Whether this processor can run it.
-    pub fn can_run() -> bool {
-        #[cfg(target_arch = "x86_64")]
-        return is_x86_feature_detected!("avx2")
-            && is_x86_feature_detected!("bmi1")
-            && is_x86_feature_detected!("bmi2")
-            && is_x86_feature_detected!("f16c")
-            && is_x86_feature_detected!("fma")
-            && is_x86_feature_detected!("lzcnt")
-            && is_x86_feature_detected!("movbe");
-        #[cfg(not(target_arch = "x86_64"))]
-        return false;
-    }
+/// Any processor that the library is for runs its default build.
+fn runs_default() -> bool {
+    true
+}
+
+/// Whether this processor has all of x86-64-v3.
+fn runs_v3() -> bool {
+    #[cfg(target_arch = "x86_64")]
+    return is_x86_feature_detected!("avx2")
+        && is_x86_feature_detected!("bmi1")
+        && is_x86_feature_detected!("bmi2")
+        && is_x86_feature_detected!("f16c")
+        && is_x86_feature_detected!("fma")
+        && is_x86_feature_detected!("lzcnt")
+        && is_x86_feature_detected!("movbe");
+    #[cfg(not(target_arch = "x86_64"))]
+    return false;
 }
 
 /// Declares the calls of a build and makes them safe.
 macro_rules! build {
-    ($build:ident, $module:ident, $encode:literal, $decode:literal, $check_raw:literal,
+    ($build:ident, $module:ident, $runs:ident, $encode:literal, $decode:literal, $check_raw:literal,
         $encode_owned:literal, $decode_owned:literal, $display:literal) => {
         mod $module {
             use crate::ffi::RawRefusal;
@@ -83,42 +91,47 @@ macro_rules! build {
         }
 
         // SAFETY, of each call: a pointer and its length are those of a slice, what is written is
-        // borrowed alone, and the refusal and the last byte live in the call.
+        // borrowed alone, and the refusal and the last byte live in the call. Only `here` makes the
+        // token.
         impl Build for $build {
+            fn here() -> Option<$build> {
+                $runs().then_some($build(()))
+            }
+
             #[inline]
-            fn encode(bytes: &[u8], text: &mut [u8]) -> bool {
+            fn encode(self, bytes: &[u8], text: &mut [u8]) -> bool {
                 let (from, to) = (bytes.as_ptr(), text.as_mut_ptr());
                 unsafe { $module::encode(from, bytes.len(), false, false, to, text.len()) }
             }
 
             #[inline]
-            fn decode(text: &[u8], bytes: &mut [u8]) -> bool {
+            fn decode(self, text: &[u8], bytes: &mut [u8]) -> bool {
                 let mut raw = RawRefusal::default();
                 let (from, to) = (text.as_ptr(), bytes.as_mut_ptr());
                 unsafe { $module::decode(from, text.len(), to, bytes.len(), &mut raw) }
             }
 
             #[inline]
-            fn check_raw(text: &[u8]) -> bool {
+            fn check_raw(self, text: &[u8]) -> bool {
                 unsafe { $module::check_raw(text.as_ptr(), text.len()) }
             }
 
             #[inline]
-            fn encode_owned(bytes: &[u8]) -> usize {
+            fn encode_owned(self, bytes: &[u8]) -> usize {
                 let mut last = 0;
                 let (from, length) = (bytes.as_ptr(), bytes.len());
                 unsafe { $module::encode_owned(from, length, &mut last) + usize::from(last) }
             }
 
             #[inline]
-            fn decode_owned(text: &[u8]) -> usize {
+            fn decode_owned(self, text: &[u8]) -> usize {
                 let mut last = 0;
                 let (from, length) = (text.as_ptr(), text.len());
                 unsafe { $module::decode_owned(from, length, &mut last) + usize::from(last) }
             }
 
             #[inline]
-            fn display(bytes: &[u8]) -> usize {
+            fn display(self, bytes: &[u8]) -> usize {
                 unsafe { $module::display(bytes.as_ptr(), bytes.len()) }
             }
         }
@@ -128,6 +141,7 @@ macro_rules! build {
 build!(
     DefaultBuild,
     default_build,
+    runs_default,
     "const_hex_encode_default",
     "const_hex_decode_default",
     "const_hex_check_raw_default",
@@ -139,6 +153,7 @@ build!(
 build!(
     Avx2Build,
     avx2_build,
+    runs_v3,
     "const_hex_encode_v3",
     "const_hex_decode_v3",
     "const_hex_check_raw_v3",
