@@ -1,40 +1,76 @@
 /*
- * Reads lines of hexadecimal text and marks what is wrong with each, as compilers do.
+ * Reads lines of hexadecimal text and marks what is wrong with each, as compilers do. A line may
+ * have any bytes and any length; of its bytes, those that are no printed ASCII show as '?'.
  *
  *     mark < FILE
  *
- * The status is 1 where a line was refused.
+ * The status is 1 where a line was refused, and 2 where memory was, or a read failed.
  */
 #include "const_hex.h"
 #include <stdio.h>
-#include <string.h>
+#include <stdlib.h>
+
+struct line {
+    char *bytes;
+    size_t length;
+    size_t room;
+};
+
+/* Reads a line, without its newline. False at the end of the input. */
+static bool read_line(struct line *line) {
+    int byte;
+    line->length = 0;
+    while ((byte = getchar()) != EOF && byte != '\n') {
+        if (line->length == line->room) {
+            size_t room = 2 * line->room + 64;
+            char *bytes = (char *)realloc(line->bytes, room);
+            if (bytes == NULL) {
+                fputs("mark: out of memory\n", stderr);
+                exit(2);
+            }
+            line->bytes = bytes;
+            line->room = room;
+        }
+        line->bytes[line->length++] = (char)byte;
+    }
+    return byte != EOF || line->length > 0;
+}
+
+/* Shows a line, and marks under so many of its bytes. */
+static void show(const struct line *line, size_t place, size_t marks) {
+    fputs("  ", stdout);
+    for (size_t at = 0; at < line->length; at++) {
+        char byte = line->bytes[at];
+        putchar(byte >= ' ' && byte <= '~' ? byte : '?');
+    }
+    fputs("\n  ", stdout);
+    for (size_t at = 0; at < place + marks; at++) {
+        putchar(at < place ? ' ' : '^');
+    }
+    putchar('\n');
+}
 
 int main(void) {
-    char line[4096];
+    struct line line = {NULL, 0, 0};
     int status = 0;
-    for (unsigned long number = 1; fgets(line, sizeof line, stdin) != NULL; number++) {
+    for (unsigned long number = 1; read_line(&line); number++) {
         struct const_hex_refusal refusal;
         char words[CONST_HEX_WORDS];
-        size_t length = strcspn(line, "\n");
-        line[length] = '\0';
-        if (const_hex_check(line, length, &refusal)) {
+        if (const_hex_check(line.bytes, line.length, &refusal)) {
             continue;
         }
         status = 1;
         const_hex_refusal_words(&refusal, words, sizeof words);
         /* The mark stands under the bad character, and under the whole line where it is odd. */
-        size_t place = 0;
-        size_t marks = length;
-        if (refusal.kind == CONST_HEX_INVALID_CHARACTER) {
-            place = refusal.index;
-            marks = 1;
-        }
-        printf("%lu:%lu: %s\n  %s\n  %*s", number, (unsigned long)place + 1, words, line,
-               (int)place, "");
-        for (size_t mark = 0; mark < marks; mark++) {
-            putchar('^');
-        }
-        putchar('\n');
+        bool bad = refusal.kind == CONST_HEX_INVALID_CHARACTER;
+        size_t place = bad ? refusal.index : 0;
+        printf("%lu:%lu: %s\n", number, (unsigned long)place + 1, words);
+        show(&line, place, bad ? 1 : line.length);
+    }
+    free(line.bytes);
+    if (ferror(stdin) != 0) {
+        fputs("mark: the input cannot be read\n", stderr);
+        return 2;
     }
     return status;
 }

@@ -62,7 +62,7 @@ struct build {
 static const struct build BUILDS[] = {
     BUILD("dispatcher", ), BUILD("default build", _default), BUILD("x86-64-v3 build", _v3)};
 
-enum { LONGEST = 300, ALIGNMENTS = 64, BAD_LENGTHS = 130, ROOM = 4096, MARK = 0xEE };
+enum { LONGEST = 300, ALIGNMENTS = 64, BAD_LENGTHS = 130, ROOM = 4096, MARK = 0xEE, AROUND = 64 };
 
 static const struct build *build;
 static unsigned long checks;
@@ -148,6 +148,26 @@ static bool marked(const unsigned char *bytes, size_t count) {
     return true;
 }
 
+/* How many bytes between an end of its page and an output are looked at: at most 64. */
+static size_t around(const unsigned char *from, const unsigned char *to) {
+    size_t between = (size_t)(to - from);
+    return between < (size_t)AROUND ? between : (size_t)AROUND;
+}
+
+/* Puts the mark into an output and around it. */
+static void mark(const unsigned char *page, unsigned char *output, size_t length) {
+    size_t front = around(page, output);
+    size_t back = around(output + length, page + ROOM);
+    memset(output - front, MARK, front + length + back);
+}
+
+/* Whether what stands around an output has its mark. */
+static bool kept_around(const unsigned char *page, const unsigned char *output, size_t length) {
+    size_t front = around(page, output);
+    return marked(output - front, front) &&
+           marked(output + length, around(output + length, page + ROOM));
+}
+
 static void worked_rows(void) {
     char text[64];
     unsigned char bytes[32];
@@ -198,6 +218,11 @@ static void null_with_no_bytes(void) {
     holds(build->check_raw(NULL, 0), "check_raw of nothing", 0, 0);
     holds(!build->decode("6b", 2, NULL, 0, &refusal) && refusal.kind == CONST_HEX_INVALID_LENGTH,
           "no room", 0, 0);
+    refusal.kind = 0;
+    count = 7;
+    holds(!build->decode_front("6b", 2, NULL, 0, &count, &refusal) && count == 7 &&
+              refusal.kind == CONST_HEX_INVALID_LENGTH,
+          "no room for a front", 0, 0);
     holds(build->words(&refusal, NULL, 0) == 0, "words into nothing", 0, 0);
 }
 
@@ -232,33 +257,42 @@ static void words(void) {
     }
 }
 
-/* One input at one place in its page, both ways. */
-static void both_ways(const unsigned char *bytes, size_t count, char *text, unsigned char *back) {
+/* The pages that texts and bytes are written into. */
+struct pages {
+    unsigned char *text;
+    unsigned char *back;
+};
+
+/* One input at one place in its page, as one text at one place and back to another. */
+static void there_and_back(const struct pages *pages, const unsigned char *bytes, size_t count,
+                           int form, unsigned char *text, unsigned char *back) {
     char wanted[2 * LONGEST + 2];
-    for (int form = 0; form < 4; form++) {
-        bool prefix = form % 2 == 1;
-        bool upper = form / 2 == 1;
-        struct const_hex_refusal refusal = {0, 0, 0};
-        size_t length = plain_text(bytes, count, prefix, upper, wanted);
-        char *start = text - length;
-        holds(build->encode(bytes, count, prefix, upper, start, length) &&
-                  memcmp(start, wanted, length) == 0,
-              "encode", count, (size_t)form);
-        unsigned char *end = back - count;
-        memset(end, MARK, count);
-        holds(build->decode(start, length, end, count, &refusal) && memcmp(end, bytes, count) == 0,
-              "decode", count, (size_t)form);
-        holds(build->check(start, length, &refusal) &&
-                  build->check_raw(start, length) == !prefix,
-              "check", count, (size_t)form);
-    }
+    bool prefix = form % 2 == 1;
+    bool upper = form / 2 == 1;
+    struct const_hex_refusal refusal = {0, 0, 0};
+    size_t length = plain_text(bytes, count, prefix, upper, wanted);
+    const char *written = (const char *)text;
+    mark(pages->text, text, length);
+    holds(build->encode(bytes, count, prefix, upper, (char *)text, length) &&
+              memcmp(text, wanted, length) == 0,
+          "encode", count, (size_t)form);
+    holds(kept_around(pages->text, text, length), "around a text", count, (size_t)form);
+    mark(pages->back, back, count);
+    holds(build->decode(written, length, back, count, &refusal) && memcmp(back, bytes, count) == 0,
+          "decode", count, (size_t)form);
+    holds(kept_around(pages->back, back, count), "around bytes", count, (size_t)form);
+    holds(build->check(written, length, &refusal) && build->check_raw(written, length) == !prefix,
+          "check", count, (size_t)form);
 }
 
-/* Every length to 300 at every alignment to 63, from the start of a page and to its end. */
+/*
+ * Every length to 300 at every alignment to 63, from the start of a page and to its end. Up to 64
+ * bytes on each side of an output are looked at, and where the page ends sooner, a byte past it
+ * ends the program.
+ */
 static void lengths_and_alignments(void) {
     unsigned char *input = fenced();
-    unsigned char *output = fenced();
-    unsigned char *back = fenced();
+    struct pages pages = {fenced(), fenced()};
     for (size_t count = 0; count <= LONGEST; count++) {
         for (size_t by = 0; by < ALIGNMENTS; by++) {
             unsigned char *low = input + by;
@@ -267,38 +301,53 @@ static void lengths_and_alignments(void) {
                 low[place] = (unsigned char)(place * 37 + count * 11 + by);
                 high[place] = (unsigned char)(place * 73 + count * 5 + by);
             }
-            both_ways(low, count, (char *)output + by + 2 * count + 2, back + by + count);
-            both_ways(high, count, (char *)output + ROOM - by, back + ROOM - by);
-            char *first = (char *)output + by;
-            struct const_hex_refusal refusal = {0, 0, 0};
-            holds(build->encode(low, count, false, false, first, 2 * count) &&
-                      build->decode(first, 2 * count, back + by, count, &refusal) &&
-                      memcmp(back + by, low, count) == 0,
-                  "from the start of a page", count, by);
+            for (int form = 0; form < 4; form++) {
+                size_t length = 2 * count + (form % 2 == 1 ? 2 : 0);
+                there_and_back(&pages, low, count, form, pages.text + by, pages.back + by);
+                there_and_back(&pages, high, count, form, pages.text + ROOM - by - length,
+                               pages.back + ROOM - by - count);
+            }
         }
     }
 }
 
-/* A refused text: the refusal, and what is left of the output. */
-static void refused(const char *text, size_t length, size_t start, unsigned char *bytes,
+/* Whether a front of the output has what at most so many pairs spell, and the rest has its mark. */
+static bool front_decoded(const char *digits, size_t pairs, const unsigned char *bytes,
+                          size_t room) {
+    size_t done = 0;
+    while (done < pairs && bytes[done] == plain_value((unsigned char)digits[2 * done]) * 16 +
+                                              plain_value((unsigned char)digits[2 * done + 1])) {
+        done++;
+    }
+    return marked(bytes + done, room - done);
+}
+
+/* A refused text: the refusal, and what is left of the output, whose end is given. */
+static void refused(const char *text, size_t length, size_t start, unsigned char *end,
                     size_t count, size_t place) {
     struct const_hex_refusal any = plain_refusal(text, length, false, 0);
     struct const_hex_refusal sized = plain_refusal(text, length, true, count);
     struct const_hex_refusal refusal = {9, 9, 9};
     size_t pairs = any.kind == CONST_HEX_INVALID_CHARACTER ? (any.index - start) / 2 : 0;
-    size_t done = 0;
 
     holds(!build->check(text, length, &refusal) && same(&refusal, &any), "check", length, place);
-    memset(bytes, MARK, count);
-    holds(!build->decode(text, length, bytes, count, &refusal) && same(&refusal, &sized),
-          "decode", length, place);
-    while (done < pairs &&
-           bytes[done] == plain_value((unsigned char)text[start + 2 * done]) * 16 +
-                              plain_value((unsigned char)text[start + 2 * done + 1])) {
-        done++;
-    }
-    holds(marked(bytes + done, count - done), "what a refusal leaves", length, place);
     holds(!build->check_raw(text + start, length - start), "check_raw", length, place);
+    memset(end - count, MARK, count);
+    holds(!build->decode(text, length, end - count, count, &refusal) && same(&refusal, &sized),
+          "decode", length, place);
+    holds(front_decoded(text + start, pairs, end - count, count), "what a refusal leaves", length,
+          place);
+    for (size_t more = 0; more <= 3; more += 3) {
+        size_t room = count + more;
+        size_t decoded = 99;
+        struct const_hex_refusal of_front = {9, 9, 9};
+        memset(end - room, MARK, room);
+        holds(!build->decode_front(text, length, end - room, room, &decoded, &of_front) &&
+                  same(&of_front, &any) && decoded == 99,
+              "decode_front", length, place);
+        holds(front_decoded(text + start, pairs, end - room, room),
+              "what a refusal leaves of room", length, place);
+    }
 }
 
 /* Bad bytes at every place of every length to 130 behind a prefix, and without one. */
@@ -310,7 +359,6 @@ static void bad_bytes(void) {
         for (size_t prefix = 0; prefix <= 2; prefix += 2) {
             size_t length = digits + prefix;
             char *text = (char *)input + ROOM - length;
-            unsigned char *bytes = output + ROOM - digits / 2;
             for (size_t place = prefix; place < length; place++) {
                 for (size_t which = 0; which < sizeof bad; which++) {
                     for (size_t at = 0; at < length; at++) {
@@ -324,7 +372,7 @@ static void bad_bytes(void) {
                     if (prefix == 0 && place == 1 && text[0] == '0' && bad[which] == 'x') {
                         continue;
                     }
-                    refused(text, length, prefix, bytes, digits / 2, place);
+                    refused(text, length, prefix, output + ROOM, digits / 2, place);
                 }
             }
             holds(plain_refusal(text, length, false, 0).kind ==
@@ -334,17 +382,27 @@ static void bad_bytes(void) {
     }
 }
 
-/* Each byte's value in a text of one pair. */
+/* Each byte in each place of a text of one pair. */
 static void every_byte(void) {
     for (unsigned byte = 0; byte < 256; byte++) {
-        char text[2] = {'1', (char)byte};
-        unsigned char bytes[1] = {MARK};
-        struct const_hex_refusal refusal = {0, 0, 0};
-        int value = plain_value((unsigned char)byte);
-        bool decoded = build->decode(text, 2, bytes, 1, &refusal);
-        holds(decoded == (value >= 0) && (decoded ? bytes[0] == 16 + value : bytes[0] == MARK),
-              "a byte's value", 2, byte);
-        holds(build->check_raw(text + 1, 1) == (value >= 0), "check_raw of a byte", 1, byte);
+        for (size_t place = 0; place < 2; place++) {
+            char text[2] = {'1', '1'};
+            unsigned char bytes[1] = {MARK};
+            struct const_hex_refusal refusal = {0, 0, 0};
+            struct const_hex_refusal wanted = {CONST_HEX_INVALID_CHARACTER, byte, place};
+            int value = plain_value((unsigned char)byte);
+            text[place] = (char)byte;
+            if (build->decode(text, 2, bytes, 1, &refusal)) {
+                holds(value >= 0 && bytes[0] == (place == 0 ? 16 * value + 1 : 16 + value),
+                      "a byte's value", place, byte);
+            } else {
+                holds(value < 0 && bytes[0] == MARK && same(&refusal, &wanted), "a refused byte",
+                      place, byte);
+            }
+            holds(build->check_raw(text, 2) == (value >= 0) &&
+                      build->check_raw(text + place, 1) == (value >= 0),
+                  "check_raw of a byte", place, byte);
+        }
     }
 }
 

@@ -173,10 +173,11 @@ def against_consthex(library, questions, answers):
     for question in questions:
         operation, data, *_ = question.split(" ")
         data = b"" if data == "-" else bytes.fromhex(data)
-        if operation not in MODES or data.endswith(b"\n"):
+        mode = MODES.get(operation)
+        # The program takes one newline from the end of a text that it reads, and the library none.
+        if mode is None or (mode in ("decode", "check") and data.endswith(b"\n")):
             continue
         asked += 1
-        mode = MODES[operation]
         ran = subprocess.run([PROGRAM, mode], input=data, capture_output=True, timeout=60)
         given, wanted = (ran.returncode, ran.stdout, ran.stderr), as_program(library, mode, data)
         if given != wanted:
