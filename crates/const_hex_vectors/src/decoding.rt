@@ -3,7 +3,7 @@
 use crate::texts::digits;
 use const_hex::{
     FromHexError, Plain, check, check_raw, const_check, const_check_raw, const_decode_to_array,
-    decode, decode_to_array, decode_to_slice, decode_to_slice_with,
+    decode, decode_to_array, decode_to_front, decode_to_slice, decode_to_slice_with,
 };
 use std::test::Fail;
 
@@ -108,6 +108,44 @@ fn sized_outputs(rt: HostRuntime) {
     assert_eq!(rt; &kiwi, b"kiwi");
     assert_eq!(rt; decode_to_slice(b"0x6b697769", &mut kiwi), Ok(()));
     assert_eq!(rt; &kiwi, b"kiwi");
+}
+
+// A text, the output's length, and the bytes or the refusal. No row has a pair before a bad byte, so
+// a refusal leaves the whole output as it was.
+#[test]
+fn fronts_of_outputs(rt: HostRuntime) {
+    let rows: [(&[u8], usize, Result<&str, FromHexError>); 14] = [
+        (b"", 0, Ok("")),
+        (b"0x", 3, Ok("")),
+        (b"6b697769", 4, Ok("kiwi")),
+        (b"0X6B697769", 5, Ok("kiwi")),
+        (b"0x6b697769", 12, Ok("kiwi")),
+        (b"6b6", 0, Err(FromHexError::OddLength)),
+        (b"0xz", 12, Err(FromHexError::OddLength)),
+        (b"6b", 0, Err(FromHexError::InvalidStringLength)),
+        (b"6b697769", 3, Err(FromHexError::InvalidStringLength)),
+        (b"0xzz6977", 2, Err(FromHexError::InvalidStringLength)),
+        (b"zz", 1, Err(bad('z', 0))),
+        (b"0xzz", 12, Err(bad('z', 2))),
+        (b"0x0x", 1, Err(bad('x', 3))),
+        (&[0xFF, 0x30], 5, Err(bad('\u{FF}', 0))),
+    ];
+    for (text, length, want) in rows {
+        let mut output = [0xEE; 13];
+        let done = decode_to_front(text, &mut output[..length]);
+        let written = match want {
+            Ok(bytes) => {
+                assert_eq!(rt; done, Ok(bytes.len()));
+                assert_eq!(rt; &output[..bytes.len()], bytes.as_bytes());
+                bytes.len()
+            }
+            Err(refusal) => {
+                assert_eq!(rt; done, Err(refusal));
+                0
+            }
+        };
+        assert!(rt; output[written..].iter().all(|byte| *byte == 0xEE));
+    }
 }
 
 // What the fixed kernel leaves of 48 bytes: the front that its steps have decoded.

@@ -2,8 +2,8 @@
 
 use crate::texts::{bytes, printed};
 use const_hex::{
-    FromHexError, decode, encode, encode_prefixed, encode_to_slice, encode_to_slice_upper,
-    encode_upper, encode_upper_prefixed,
+    FromHexError, decode, encode, encode_full_to_slice, encode_prefixed, encode_to_slice,
+    encode_to_slice_upper, encode_upper, encode_upper_prefixed,
 };
 use std::test::Fail;
 
@@ -84,6 +84,44 @@ fn other_lengths_are_refused(rt: HostRuntime) -> Result<(), Fail> {
         assert_eq!(rt; output, untouched, "at {len}");
     }
     Ok(())
+}
+
+// Bytes, whether with a prefix, whether in upper letters, the output's length, and the text where it
+// has just that length.
+#[test]
+fn full_texts_in_slices(rt: HostRuntime) {
+    let rows: [(&[u8], bool, bool, usize, Option<&str>); 14] = [
+        (b"", false, false, 0, Some("")),
+        (b"", true, true, 2, Some("0x")),
+        (b"kiwi", false, false, 8, Some("6b697769")),
+        (b"kiwi", false, true, 8, Some("6B697769")),
+        (b"kiwi", true, false, 10, Some("0x6b697769")),
+        (b"kiwi", true, true, 10, Some("0x6B697769")),
+        (b"", false, false, 2, None),
+        (b"", true, false, 0, None),
+        (b"", true, false, 1, None),
+        (b"kiwi", false, false, 7, None),
+        (b"kiwi", false, false, 10, None),
+        (b"kiwi", true, false, 8, None),
+        (b"kiwi", true, true, 9, None),
+        (b"kiwi", true, true, 12, None),
+    ];
+    for (bytes, prefix, upper, length, want) in rows {
+        let mut output = [0xEE; 13];
+        let done = encode_full_to_slice(bytes, prefix, upper, &mut output[..length]);
+        let written = match want {
+            Some(text) => {
+                assert_eq!(rt; done, Ok(()));
+                assert_eq!(rt; &output[..length], text.as_bytes());
+                length
+            }
+            None => {
+                assert_eq!(rt; done, Err(FromHexError::InvalidStringLength));
+                0
+            }
+        };
+        assert!(rt; output[written..].iter().all(|byte| *byte == 0xEE));
+    }
 }
 
 // The bytes that the Rust crate's own tests go through.

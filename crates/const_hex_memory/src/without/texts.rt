@@ -5,8 +5,8 @@ use crate::line::{tell, tell_of};
 use const_hex::serde::no_prefix;
 use const_hex::{
     FromHex, check, check_raw, const_check, const_check_raw, const_decode_to_array, decode,
-    decode_to_array, decode_to_slice, deserialize, digit_at, encode_to_slice,
-    encode_to_slice_upper, encode_to_str, encode_to_str_upper, value_at,
+    decode_to_array, decode_to_front, decode_to_slice, deserialize, digit_at, encode_full_to_slice,
+    encode_to_slice, encode_to_slice_upper, encode_to_str, encode_to_str_upper, value_at,
 };
 use serde_json::{Number, Value};
 use std::alloc::Global;
@@ -39,7 +39,12 @@ pub(crate) fn tell_texts_in_slices(rt: &impl Print) -> io::Result<()> {
         "encode_to_str_upper",
         &encode_to_str_upper(KIWI, &mut text),
     )?;
+    let mut full = [0; 10];
+    let done = encode_full_to_slice(KIWI, true, false, &mut full);
+    tell(rt, "encode_full_to_slice", &(done, full))?;
     let mut short = [0; 7];
+    let done = encode_full_to_slice(KIWI, true, false, &mut short);
+    tell(rt, "encode_full_to_slice, too short", &(done, short))?;
     let done = encode_to_slice(KIWI, &mut short);
     tell(rt, "encode_to_slice, too short", &(done, short))?;
     let done = encode_to_slice_upper(KIWI, &mut short);
@@ -56,6 +61,9 @@ pub(crate) fn tell_read(rt: &impl Print, alloc: Global) -> io::Result<()> {
         let mut output = [0; 4];
         let done = decode_to_slice(bytes, &mut output);
         tell_of(rt, "decode_to_slice of", text, &(done, output))?;
+        let mut room = [0; 6];
+        let done = decode_to_front(bytes, &mut room);
+        tell_of(rt, "decode_to_front of", text, &(done, room))?;
         let read = decode_to_array::<4>(bytes);
         tell_of(rt, "decode_to_array of", text, &read)?;
         let read = const_decode_to_array::<4>(bytes);
