@@ -19,6 +19,3 @@ pub fn display(input: &[u8]) -> Display<'_>
 {
     Display::new(input)
 }
-
-#[cfg(test)]
-mod tests;

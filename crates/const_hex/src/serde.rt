@@ -72,6 +72,3 @@ pub fn deserialize<T: FromHex>(alloc: Global, value: &Value) -> Result<T, JsonEr
         },
     }
 }
-
-#[cfg(test)]
-mod tests;

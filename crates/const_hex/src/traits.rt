@@ -13,6 +13,3 @@ pub use crate::traits::chars::BytesToHexChars;
 pub use crate::traits::faults::HexFault;
 pub use crate::traits::reading::FromHex;
 pub use crate::traits::writing::{ToHex, ToHexExt};
-
-#[cfg(test)]
-mod tests;

@@ -12,8 +12,6 @@ pub mod lanes16;
 pub mod lanes32;
 pub mod plain;
 mod steps;
-#[cfg(test)]
-mod tests;
 
 use crate::arch::kernel32::Lanes32;
 use crate::output::Output;

@@ -84,6 +84,3 @@ pub(crate) fn refusal_of<S: Sink>(sink: &S) -> Result<(), SinkError>
         Ok(())
     }
 }
-
-#[cfg(test)]
-mod tests;

@@ -119,6 +119,3 @@ impl<'a, const UPPER: bool, const PREFIX: bool> BufferedHex<'a, UPPER, PREFIX> {
         refusal_of(sink)
     }
 }
-
-#[cfg(test)]
-mod tests;

@@ -55,24 +55,19 @@ pub fn empty_text() -> Buffer<0, true, 2>
 #[cfg(test)]
 mod tests {
     use super::*;
+    use crate::buffers::holds;
 
     #[test]
     fn texts(rt: HostRuntime) {
         let address = address_text(&[0xAB; 20]);
-        assert_eq!(rt;
-            address.as_str(),
-            "0xabababababababababababababababababababab"
-        );
+        let text = "0xabababababababababababababababababababab";
+        holds(&rt, &address, text);
         let digest = digest_text(&[0x0C; 32]);
-        assert_eq!(rt;
-            digest.as_str(),
-            "0C0C0C0C0C0C0C0C0C0C0C0C0C0C0C0C0C0C0C0C0C0C0C0C0C0C0C0C0C0C0C0C"
-        );
+        let text = "0C0C0C0C0C0C0C0C0C0C0C0C0C0C0C0C0C0C0C0C0C0C0C0C0C0C0C0C0C0C0C0C";
+        holds(&rt, &digest, text);
         let digest = prefixed_digest_text(&[0x0C; 32]);
-        assert_eq!(rt;
-            digest.as_str(),
-            "0x0c0c0c0c0c0c0c0c0c0c0c0c0c0c0c0c0c0c0c0c0c0c0c0c0c0c0c0c0c0c0c0c"
-        );
-        assert_eq!(rt; empty_text().as_str(), "0x");
+        let text = "0x0c0c0c0c0c0c0c0c0c0c0c0c0c0c0c0c0c0c0c0c0c0c0c0c0c0c0c0c0c0c0c0c";
+        holds(&rt, &digest, text);
+        holds(&rt, &empty_text(), "0x");
     }
 }

@@ -1,139 +1,234 @@
-//! Worked examples of encoding.
+//! Every call that writes text, on worked examples.
 
+use crate::decoding::each_call_reads;
 use crate::texts::{bytes, printed};
+use const_hex::serde::no_prefix;
+use const_hex::traits::BytesToHexChars;
 use const_hex::{
-    FromHexError, decode, encode, encode_full_to_slice, encode_prefixed, encode_to_slice,
-    encode_to_slice_upper, encode_upper, encode_upper_prefixed,
+    FromHexError, ToHex, ToHexExt, encode, encode_prefixed, encode_to_slice, encode_to_slice_upper,
+    encode_to_str, encode_to_str_upper, encode_upper, encode_upper_prefixed, serialize,
+    serialize_upper,
 };
+use std::alloc::{AllocError, Global};
+use std::process::Abort;
 use std::test::Fail;
+
+/// Bytes, and their text in both cases, also behind a prefix.
+#[derive(Drop)]
+pub(crate) struct Written {
+    pub(crate) bytes: Vec<u8>,
+    pub(crate) lower: String,
+    pub(crate) upper: String,
+    pub(crate) prefixed_lower: String,
+    pub(crate) prefixed_upper: String,
+}
+
+/// Bytes with these texts.
+pub(crate) fn with_texts(
+    alloc: Global,
+    bytes: &[u8],
+    lower: &str,
+    upper: &str,
+) -> Result<Written, AllocError> {
+    Ok(Written {
+        bytes: bytes.to_vec(alloc)?,
+        lower: lower.to_string(alloc)?,
+        upper: upper.to_string(alloc)?,
+        prefixed_lower: prefixed(alloc, lower)?,
+        prefixed_upper: prefixed(alloc, upper)?,
+    })
+}
+
+/// A text behind a prefix.
+pub(crate) fn prefixed(alloc: Global, text: &str) -> Result<String, AllocError> {
+    let mut all = "0x".to_string(alloc)?;
+    all.push_str(text)?;
+    Ok(all)
+}
+
+/// Each call that gives an owned text of bytes.
+pub(crate) fn each_call_writes(
+    rt: &impl Abort,
+    alloc: Global,
+    want: &Written,
+) -> Result<(), AllocError> {
+    encoders(rt, alloc, want)?;
+    each_form(rt, alloc, &want.bytes, want)?;
+    json_texts(rt, alloc, want)
+}
+
+fn encoders(rt: &impl Abort, alloc: Global, want: &Written) -> Result<(), AllocError> {
+    let bytes = want.bytes.as_slice();
+    assert!(rt; encode(alloc, bytes)? == want.lower);
+    assert!(rt; encode_upper(alloc, bytes)? == want.upper);
+    assert!(rt; encode_prefixed(alloc, bytes)? == want.prefixed_lower);
+    assert!(rt; encode_upper_prefixed(alloc, bytes)? == want.prefixed_upper);
+    Ok(())
+}
+
+/// The text of a value, through its bounds.
+fn each_form<T: ToHex + ToHexExt>(
+    rt: &impl Abort,
+    alloc: Global,
+    value: &T,
+    want: &Written,
+) -> Result<(), AllocError> {
+    assert!(rt; ToHex::encode_hex(value, alloc)? == want.lower);
+    assert!(rt; ToHex::encode_hex_upper(value, alloc)? == want.upper);
+    assert!(rt; ToHexExt::encode_hex(value, alloc)? == want.lower);
+    assert!(rt; ToHexExt::encode_hex_upper(value, alloc)? == want.upper);
+    assert!(rt; value.encode_hex_with_prefix(alloc)? == want.prefixed_lower);
+    assert!(rt; value.encode_hex_upper_with_prefix(alloc)? == want.prefixed_upper);
+    Ok(())
+}
+
+fn json_texts(rt: &impl Abort, alloc: Global, want: &Written) -> Result<(), AllocError> {
+    let bytes = want.bytes.as_slice();
+    assert!(rt; serialize(alloc, bytes)?.as_str() == Some(want.prefixed_lower.as_str()));
+    assert!(rt; serialize_upper(alloc, bytes)?.as_str() == Some(want.prefixed_upper.as_str()));
+    assert!(rt; no_prefix::serialize(alloc, bytes)?.as_str() == Some(want.lower.as_str()));
+    assert!(rt; no_prefix::serialize_upper(alloc, bytes)?.as_str() == Some(want.upper.as_str()));
+    Ok(())
+}
+
+const ROWS: [(&[u8], &str, &str); 5] = [
+    (b"", "", ""),
+    (b"kiwi", "6b697769", "6B697769"),
+    (
+        b"Hello world!",
+        "48656c6c6f20776f726c6421",
+        "48656C6C6F20776F726C6421",
+    ),
+    (&[1, 2, 3, 15, 16], "0102030f10", "0102030F10"),
+    (&[0xDE, 0xAD], "dead", "DEAD"),
+];
 
 #[test]
 fn owned_texts(rt: HostRuntime) -> Result<(), Fail> {
     let alloc = rt.alloc();
-    let rows: [(&[u8], &str, &str); 4] = [
-        (b"", "", ""),
-        (b"kiwi", "6b697769", "6B697769"),
-        (
-            b"Hello world!",
-            "48656c6c6f20776f726c6421",
-            "48656C6C6F20776F726C6421",
-        ),
-        (&[1, 2, 3, 15, 16], "0102030f10", "0102030F10"),
-    ];
-    for (bytes, lower, upper) in rows {
-        assert_eq!(rt; encode(alloc, bytes)?.as_str(), lower);
-        assert_eq!(rt; encode_upper(alloc, bytes)?.as_str(), upper);
+    for (bytes, lower, upper) in ROWS {
+        each_call_writes(&rt, alloc, &with_texts(alloc, bytes, lower, upper)?)?;
     }
     Ok(())
 }
 
 #[test]
-fn owned_texts_with_prefix(rt: HostRuntime) -> Result<(), Fail> {
+fn texts_of_other_types(rt: HostRuntime) -> Result<(), Fail> {
     let alloc = rt.alloc();
-    let rows: [(&[u8], &str, &str); 4] = [
-        (b"", "0x", "0x"),
-        (b"kiwi", "0x6b697769", "0x6B697769"),
-        (
-            b"Hello world!",
-            "0x48656c6c6f20776f726c6421",
-            "0x48656C6C6F20776F726C6421",
-        ),
-        (&[1, 2, 3, 15, 16], "0x0102030f10", "0x0102030F10"),
-    ];
-    for (bytes, lower, upper) in rows {
-        assert_eq!(rt; encode_prefixed(alloc, bytes)?.as_str(), lower);
-        assert_eq!(rt; encode_upper_prefixed(alloc, bytes)?.as_str(), upper);
-    }
+    let want = with_texts(alloc, b"kiwi", "6b697769", "6B697769")?;
+    each_form(&rt, alloc, b"kiwi", &want)?;
+    each_form(&rt, alloc, &"kiwi".to_string(alloc)?, &want)?;
     Ok(())
 }
 
-#[test]
-fn texts_in_slices(rt: HostRuntime) -> Result<(), Fail> {
-    let mut text = [0xEE; 8];
-    assert_eq!(rt; encode_to_slice(b"kiwi", &mut text), Ok(()));
-    assert_eq!(rt; &text, b"6b697769");
-    assert_eq!(rt; encode_to_slice_upper(b"kiwi", &mut text), Ok(()));
-    assert_eq!(rt; &text, b"6B697769");
-    assert_eq!(rt; encode_to_slice(b"", &mut []), Ok(()));
-    let mut short = [0xEE; 7];
-    let refused = Err(FromHexError::InvalidStringLength);
-    assert_eq!(rt; encode_to_slice(b"kiwi", &mut short), refused);
-    assert_eq!(rt; short, [0xEE; 7]);
-    Ok(())
-}
-
-#[test]
-fn other_lengths_are_refused(rt: HostRuntime) -> Result<(), Fail> {
-    let untouched = [0xEE; 20];
-    for len in 0..=20usize {
-        if len == 10 {
-            continue;
-        }
-        let mut output = untouched;
-        let refused = Err(FromHexError::InvalidStringLength);
-        assert_eq!(rt;
-            encode_to_slice(b"12345", &mut output[..len]),
-            refused,
-            "at {len}"
-        );
-        assert_eq!(rt;
-            encode_to_slice_upper(b"12345", &mut output[..len]),
-            refused,
-            "at {len}"
-        );
-        assert_eq!(rt; output, untouched, "at {len}");
-    }
-    Ok(())
-}
-
-// Bytes, whether with a prefix, whether in upper letters, the output's length, and the text where it
-// has just that length.
-#[test]
-fn full_texts_in_slices(rt: HostRuntime) {
-    let rows: [(&[u8], bool, bool, usize, Option<&str>); 14] = [
-        (b"", false, false, 0, Some("")),
-        (b"", true, true, 2, Some("0x")),
-        (b"kiwi", false, false, 8, Some("6b697769")),
-        (b"kiwi", false, true, 8, Some("6B697769")),
-        (b"kiwi", true, false, 10, Some("0x6b697769")),
-        (b"kiwi", true, true, 10, Some("0x6B697769")),
-        (b"", false, false, 2, None),
-        (b"", true, false, 0, None),
-        (b"", true, false, 1, None),
-        (b"kiwi", false, false, 7, None),
-        (b"kiwi", false, false, 10, None),
-        (b"kiwi", true, false, 8, None),
-        (b"kiwi", true, true, 9, None),
-        (b"kiwi", true, true, 12, None),
-    ];
-    for (bytes, prefix, upper, length, want) in rows {
-        let mut output = [0xEE; 13];
-        let done = encode_full_to_slice(bytes, prefix, upper, &mut output[..length]);
-        let written = match want {
-            Some(text) => {
-                assert_eq!(rt; done, Ok(()));
-                assert_eq!(rt; &output[..length], text.as_bytes());
-                length
-            }
-            None => {
-                assert_eq!(rt; done, Err(FromHexError::InvalidStringLength));
-                0
-            }
-        };
-        assert!(rt; output[written..].iter().all(|byte| *byte == 0xEE));
-    }
-}
-
-// The bytes that the Rust crate's own tests go through.
+// The counts of bytes that the Rust crate's own tests go through.
 #[test]
 fn there_and_back(rt: HostRuntime) -> Result<(), Fail> {
-    for count in [1usize, 8, 20, 32, 64, 128] {
-        let bytes = bytes(rt.alloc(), count)?;
-        let text = encode(rt.alloc(), &bytes)?;
-        let want = printed(rt.alloc(), &bytes, false, false)?;
-        assert_eq!(rt; text.as_str(), want.as_str(), "at {count}");
-        let back = decode(rt.alloc(), text.as_bytes())?;
-        assert_eq!(rt; back.as_slice(), bytes.as_slice(), "at {count}");
+    let alloc = rt.alloc();
+    for count in [1, 8, 20, 32, 64, 128] {
+        let want = printed_bytes(alloc, count)?;
+        each_call_writes(&rt, alloc, &want)?;
+        each_call_reads(&rt, alloc, &want.lower, &want.bytes)?;
     }
+    Ok(())
+}
+
+/// That many bytes, and what std prints of them.
+fn printed_bytes(alloc: Global, count: usize) -> Result<Written, AllocError> {
+    let bytes = bytes(alloc, count)?;
+    let lower = printed(alloc, &bytes, false, false)?;
+    let upper = printed(alloc, &bytes, false, true)?;
+    with_texts(alloc, &bytes, &lower, &upper)
+}
+
+// Outputs of each length to 24: another length than the text's is refused, and leaves the output.
+#[test]
+fn texts_in_slices(rt: HostRuntime) {
+    for row in ROWS {
+        for length in 0..=24usize {
+            filled(&rt, row, length);
+            lent(&rt, row, length);
+        }
+    }
+}
+
+fn filled(rt: &impl Abort, (bytes, lower, upper): (&[u8], &str, &str), length: usize) {
+    assert!(rt; length <= 24);
+    let mut output = [0xEE; 24];
+    let answer = encode_to_slice(bytes, &mut output[..length]);
+    assert!(rt; answer == if_it_fits(lower, length));
+    assert!(rt; output == left(lower, length));
+    let mut output = [0xEE; 24];
+    let answer = encode_to_slice_upper(bytes, &mut output[..length]);
+    assert!(rt; answer == if_it_fits(upper, length));
+    assert!(rt; output == left(upper, length));
+}
+
+fn lent(rt: &impl Abort, (bytes, lower, upper): (&[u8], &str, &str), length: usize) {
+    assert!(rt; length <= 24);
+    let mut output = [0xEE; 24];
+    lends(rt, bytes, lower, &mut output[..length]);
+    assert!(rt; output == left(lower, length));
+    let mut output = [0xEE; 24];
+    lends_upper(rt, bytes, upper, &mut output[..length]);
+    assert!(rt; output == left(upper, length));
+}
+
+fn lends(rt: &impl Abort, bytes: &[u8], text: &str, output: &mut [u8]) {
+    let want = lent_if_it_fits(text, output.len());
+    assert!(rt; encode_to_str(bytes, output) == want);
+}
+
+fn lends_upper(rt: &impl Abort, bytes: &[u8], text: &str, output: &mut [u8]) {
+    let want = lent_if_it_fits(text, output.len());
+    assert!(rt; encode_to_str_upper(bytes, output) == want);
+}
+
+fn if_it_fits(text: &str, length: usize) -> Result<(), FromHexError> {
+    lent_if_it_fits(text, length)?;
+    Ok(())
+}
+
+fn lent_if_it_fits(text: &str, length: usize) -> Result<&str, FromHexError> {
+    if text.len() == length {
+        Ok(text)
+    } else {
+        Err(FromHexError::InvalidStringLength)
+    }
+}
+
+/// What an output of that length then holds: the text, or what it held where that does not fit.
+fn left(text: &str, length: usize) -> [u8; 24] {
+    let mut output = [0xEE; 24];
+    if text.len() == length && length <= 24 {
+        output[..length].copy_from_slice(text.as_bytes());
+    }
+    output
+}
+
+#[test]
+fn characters(rt: HostRuntime) {
+    let mut upper = BytesToHexChars::<true>::new(&[0x0f]);
+    for (left, want) in [(2, Some('0')), (1, Some('F')), (0, None), (0, None)] {
+        gives(&rt, &mut upper, left, want);
+    }
+    gives(&rt, &mut BytesToHexChars::<false>::new(&[]), 0, None);
+}
+
+/// The next character, and how many are left with it.
+fn gives<const UPPER: bool>(
+    rt: &impl Abort,
+    chars: &mut BytesToHexChars<'_, UPPER>,
+    left: usize,
+    want: Option<char>,
+) {
+    assert!(rt; chars.size_hint() == (left, Some(left)));
+    assert!(rt; chars.next() == want);
+}
+
+#[test]
+fn all_characters(rt: HostRuntime) -> Result<(), AllocError> {
+    let text: String = BytesToHexChars::<false>::new(b"kiwi").collect(rt.alloc())?;
+    assert!(rt; text.as_str() == "6b697769");
     Ok(())
 }

@@ -1,5 +1,6 @@
 //! Hashes and addresses, on examples.
 
+use crate::texts::{prints, shows};
 use const_hex::serde::JsonError;
 use const_hex::{FromHex, FromHexError};
 use hash_hex::{Address20, FixedBytes, Hash32};
@@ -23,18 +24,23 @@ fn counted() -> [u8; 32] {
 fn texts_of_hashes(rt: HostRuntime) -> Result<(), Fail> {
     let alloc = rt.alloc();
     let hash = Hash32::from(counted());
-    assert_eq!(rt; hash.to_string(alloc)?.as_str(), COUNTED);
-    assert_eq!(rt; hash.to_buffer().as_str(), COUNTED);
-    assert_eq!(rt; Hash32::from_hex(alloc, COUNTED.as_bytes()), Ok(hash));
-    let letters = Hash32::from_hex(alloc, &[b'F'; 64])?;
-    assert_eq!(rt; letters, Hash32::from_bytes([255; 32]));
+    prints(&rt, alloc, &hash, COUNTED)?;
+    assert!(rt; hash.to_buffer().as_str() == COUNTED);
+    assert!(rt; Hash32::from_hex(alloc, COUNTED.as_bytes()) == Ok(hash));
+    let letters = Hash32::from([255; 32]);
+    assert!(rt; Hash32::from_hex(alloc, &[b'F'; 64]) == Ok(letters));
     let lower = "0xffffffffffffffffffffffffffffffffffffffffffffffffffffffffffffffff";
-    assert_eq!(rt; letters.to_string(alloc)?.as_str(), lower);
+    prints(&rt, alloc, &letters, lower)?;
+    Ok(())
+}
+
+#[test]
+fn refused_texts(rt: HostRuntime) {
     let refused: [(&[u8], FromHexError); 4] = [
         (b"0x0", FromHexError::OddLength),
         (b"0xzz", FromHexError::InvalidStringLength),
         (
-            COUNTED.get(..64).unwrap_or("").as_bytes(),
+            b"0x000102030405060708090a0b0c0d0e0f101112131415161718191a1b1c1d1e",
             FromHexError::InvalidStringLength,
         ),
         (
@@ -43,9 +49,8 @@ fn texts_of_hashes(rt: HostRuntime) -> Result<(), Fail> {
         ),
     ];
     for (text, refusal) in refused {
-        assert_eq!(rt; Hash32::from_hex(alloc, text), Err(refusal));
+        assert_eq!(rt; Hash32::from_hex(rt.alloc(), text).err(), Some(refusal));
     }
-    Ok(())
 }
 
 // The address that EIP-55 gives as its first example: the case of letters carries a checksum there,
@@ -55,40 +60,49 @@ fn texts_of_addresses(rt: HostRuntime) -> Result<(), Fail> {
     let alloc = rt.alloc();
     let address = Address20::from_hex(alloc, b"0x5aAeb6053F3E94C9b9A09f33669435E7Ef1BeAed")?;
     let lower = "0x5aaeb6053f3e94c9b9a09f33669435e7ef1beaed";
-    assert_eq!(rt; address.to_string(alloc)?.as_str(), lower);
-    assert_eq!(rt; address.to_buffer().as_str(), lower);
-    assert_eq!(rt; Address20::from_hex(alloc, lower.as_bytes()), Ok(address));
-    let other_case = Address20::from_hex(alloc, b"5AAEB6053F3E94C9B9A09F33669435E7EF1BEAED");
-    assert_eq!(rt; other_case, Ok(address));
-    assert_eq!(rt;
-        format!(in alloc; "{address:?}")?.as_str(),
-        "Address20(0x5aaeb6053f3e94c9b9a09f33669435e7ef1beaed)"
-    );
-    assert_eq!(rt;
-        format!(in alloc;
-            "{:?} {:?}",
-            Hash32::from(counted()),
-            FixedBytes::from([1, 0xAB])
-        )?
-        .as_str(),
-        "Hash32(0x000102030405060708090a0b0c0d0e0f101112131415161718191a1b1c1d1e1f) FixedBytes(0x01ab)"
-    );
+    prints(&rt, alloc, &address, lower)?;
+    assert!(rt; address.to_buffer().as_str() == lower);
+    let texts: [&[u8]; 2] = [
+        lower.as_bytes(),
+        b"5AAEB6053F3E94C9B9A09F33669435E7EF1BEAED",
+    ];
+    for text in texts {
+        assert!(rt; Address20::from_hex(alloc, text) == Ok(address));
+    }
     Ok(())
 }
 
 #[test]
-fn values_by_their_bytes(rt: HostRuntime) -> Result<(), Fail> {
+fn debug_forms(rt: HostRuntime) -> Result<(), Fail> {
+    let alloc = rt.alloc();
+    let address = "Address20(0xabababababababababababababababababababab)";
+    shows(&rt, alloc, &Address20::from([0xAB; 20]), address)?;
+    let hash = "Hash32(0x000102030405060708090a0b0c0d0e0f101112131415161718191a1b1c1d1e1f)";
+    shows(&rt, alloc, &Hash32::from(counted()), hash)?;
+    shows(
+        &rt,
+        alloc,
+        &FixedBytes::from([1, 0xAB]),
+        "FixedBytes(0x01ab)",
+    )
+}
+
+#[test]
+fn values_by_their_bytes(rt: HostRuntime) {
     let low = Address20::from([0xAB; 20]);
     let high = Address20::from([0xAC; 20]);
-    assert_eq!(rt; low.cmp(&high), Ordering::Less);
-    assert_eq!(rt; low.partial_cmp(&low), Some(Ordering::Equal));
-    assert_ne!(rt; low, high);
+    assert!(rt; low.cmp(&high) == Ordering::Less);
+    assert!(rt; low.partial_cmp(&low) == Some(Ordering::Equal));
+    assert!(rt; low != high);
+}
+
+#[test]
+fn sets_of_values(rt: HostRuntime) -> Result<(), Fail> {
     let mut seen = HashSet::new(rt.alloc());
-    assert!(rt; seen.insert(low)?);
-    assert!(rt;
-        !seen.insert(Address20::from_hex(rt.alloc(), &[b'a', b'B'].repeat(rt.alloc(), 20)?)?)?
-    );
-    assert!(rt; !seen.contains(&high));
+    assert!(rt; seen.insert(Address20::from([0xAB; 20]))?);
+    let same = Address20::from_hex(rt.alloc(), b"aBaBaBaBaBaBaBaBaBaBaBaBaBaBaBaBaBaBaBaB")?;
+    assert!(rt; !seen.insert(same)?);
+    assert!(rt; !seen.contains(&Address20::from([0xAC; 20])));
     Ok(())
 }
 

@@ -5,6 +5,8 @@
 
 pub mod addresses;
 #[cfg(test)]
+mod buffers;
+#[cfg(test)]
 mod decoding;
 #[cfg(test)]
 mod encoding;
@@ -13,11 +15,19 @@ mod exhausted;
 #[cfg(test)]
 mod hashes;
 #[cfg(test)]
+mod json;
+#[cfg(test)]
 mod kernels;
+#[cfg(test)]
+mod lanes;
 #[cfg(test)]
 mod long;
 pub mod noting;
+#[cfg(test)]
+mod outputs;
 pub mod own_kernel;
+#[cfg(test)]
+mod printed;
 pub mod readers;
 #[cfg(test)]
 mod refusals;
@@ -25,6 +35,8 @@ mod refusals;
 mod round_trips;
 #[cfg(test)]
 mod sinks;
+#[cfg(test)]
+mod sizes;
 #[cfg(test)]
 mod streaming;
 #[cfg(test)]

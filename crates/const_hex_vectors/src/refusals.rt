@@ -1,6 +1,11 @@
-//! What refusals print, and how they compare.
+//! What refusals print, how they compare, and which are of memory.
 
-use const_hex::FromHexError;
+ghost use Rattle.std.specs.Prelude.{IsTrue};
+
+use crate::texts::{prints, refusal, shows};
+use const_hex::serde::JsonError;
+use const_hex::traits::HexFault;
+use const_hex::{FromHexError, SinkError};
 use std::alloc::AllocError;
 use std::test::Fail;
 
@@ -13,76 +18,109 @@ fn printed(rt: HostRuntime) -> Result<(), Fail> {
         (FromHexError::NoMemory, "out of memory"),
     ];
     for (refusal, want) in rows {
-        assert_eq!(rt; format!(in alloc; "{refusal}")?.as_str(), want);
+        prints(&rt, alloc, &refusal, want)?;
+        prints(&rt, alloc, &JsonError::Hex(refusal), want)?;
     }
-    let odd = FromHexError::OddLength;
-    assert_eq!(rt; format!(in alloc; "{odd:?}")?.as_str(), "OddLength");
+    let not_text: JsonError<FromHexError> = JsonError::NotText;
+    prints(&rt, alloc, &not_text, "expected a hex encoded string")?;
+    prints(&rt, alloc, &SinkError, "sink refused")?;
     Ok(())
 }
 
-// The character stands in Rust's debug form.
 #[test]
-fn printed_characters(rt: HostRuntime) -> Result<(), Fail> {
-    let rows: [(u8, &str); 12] = [
-        (b'\n', "'\\n'"),
-        (b'\'', "'\\''"),
-        (b'"', "'\"'"),
-        (b'\\', "'\\\\'"),
-        (b' ', "' '"),
-        (b'z', "'z'"),
-        (0x00, "'\\0'"),
-        (0x7F, "'\\u{7f}'"),
-        (0x80, "'\\u{80}'"),
-        (0xA0, "'\\u{a0}'"),
-        (0xAD, "'\\u{ad}'"),
-        (0xFF, "'\u{FF}'"),
-    ];
-    for (byte, want) in rows {
-        let refusal = FromHexError::InvalidHexCharacter {
-            c: char::from(byte),
-            index: 5,
-        };
-        let want = format!(in rt.alloc(); "invalid character {want} at position 5")?;
-        assert_eq!(rt;
-            format!(in rt.alloc(); "{refusal}")?.as_str(),
-            want.as_str()
-        );
-    }
-    Ok(())
+fn debug_forms(rt: HostRuntime) -> Result<(), Fail> {
+    let alloc = rt.alloc();
+    let odd = FromHexError::OddLength;
+    let not_text: JsonError<FromHexError> = JsonError::NotText;
+    shows(&rt, alloc, &odd, "OddLength")?;
+    shows(&rt, alloc, &JsonError::Hex(odd), "Hex(OddLength)")?;
+    shows(&rt, alloc, &not_text, "NotText")?;
+    shows(&rt, alloc, &SinkError, "SinkError")
 }
 
-// Places of one figure to eight.
+// The character stands in Rust's debug form, and places have one figure to eight.
 #[test]
 fn printed_places(rt: HostRuntime) -> Result<(), Fail> {
-    let rows: [(usize, &str); 10] = [
-        (0, "0"),
-        (7, "7"),
-        (42, "42"),
-        (999, "999"),
-        (1000, "1000"),
-        (20_406, "20406"),
-        (135_790, "135790"),
-        (1_048_577, "1048577"),
-        (6_291_455, "6291455"),
-        (87_654_321, "87654321"),
+    let rows: [(u8, usize, &str); 22] = [
+        (b'\n', 5, "invalid character '\\n' at position 5"),
+        (b'\'', 5, "invalid character '\\'' at position 5"),
+        (b'"', 5, "invalid character '\"' at position 5"),
+        (b'\\', 5, "invalid character '\\\\' at position 5"),
+        (b' ', 5, "invalid character ' ' at position 5"),
+        (b'z', 5, "invalid character 'z' at position 5"),
+        (0x00, 5, "invalid character '\\0' at position 5"),
+        (0x7F, 5, "invalid character '\\u{7f}' at position 5"),
+        (0x80, 5, "invalid character '\\u{80}' at position 5"),
+        (0xA0, 5, "invalid character '\\u{a0}' at position 5"),
+        (0xAD, 5, "invalid character '\\u{ad}' at position 5"),
+        (0xFF, 5, "invalid character '\u{FF}' at position 5"),
+        (b'z', 0, "invalid character 'z' at position 0"),
+        (b'z', 7, "invalid character 'z' at position 7"),
+        (b'z', 42, "invalid character 'z' at position 42"),
+        (b'z', 999, "invalid character 'z' at position 999"),
+        (b'z', 1000, "invalid character 'z' at position 1000"),
+        (b'z', 20_406, "invalid character 'z' at position 20406"),
+        (b'z', 135_790, "invalid character 'z' at position 135790"),
+        (b'z', 1_048_577, "invalid character 'z' at position 1048577"),
+        (b'z', 6_291_455, "invalid character 'z' at position 6291455"),
+        (
+            b'z',
+            87_654_321,
+            "invalid character 'z' at position 87654321",
+        ),
     ];
-    for (index, want) in rows {
-        let refusal = FromHexError::InvalidHexCharacter { c: 'z', index };
-        let want = format!(in rt.alloc(); "invalid character 'z' at position {want}")?;
-        assert_eq!(rt;
-            format!(in rt.alloc(); "{refusal}")?.as_str(),
-            want.as_str()
-        );
+    for (byte, place, want) in rows {
+        let refusal = refusal(byte, place);
+        prints(&rt, rt.alloc(), &refusal, want)?;
+        prints(&rt, rt.alloc(), &JsonError::Hex(refusal), want)?;
     }
     Ok(())
 }
 
+fn are_equal(a: SinkError, b: SinkError) -> bool
+    ensures { IsTrue result }
+{
+    a == b
+}
+
+// Each is equal to itself alone.
 #[test]
 fn compared(rt: HostRuntime) {
-    let bad = FromHexError::InvalidHexCharacter { c: 'z', index: 1 };
-    assert_eq!(rt; bad, bad);
-    assert_ne!(rt; bad, FromHexError::InvalidHexCharacter { c: 'z', index: 2 });
-    assert_ne!(rt; bad, FromHexError::InvalidHexCharacter { c: 'x', index: 1 });
-    assert_ne!(rt; FromHexError::OddLength, FromHexError::InvalidStringLength);
+    let refusals = [
+        refusal(b'z', 1),
+        refusal(b'z', 2),
+        refusal(b'x', 1),
+        FromHexError::OddLength,
+        FromHexError::InvalidStringLength,
+        FromHexError::NoMemory,
+    ];
+    for i in 0..6usize {
+        let one = refusals[i];
+        assert!(rt; JsonError::Hex(one) != JsonError::NotText);
+        for j in 0..6usize {
+            let other = refusals[j];
+            assert_eq!(rt; one == other, i == j);
+            assert_eq!(rt; JsonError::Hex(one) == JsonError::Hex(other), i == j);
+        }
+    }
+    assert!(rt; are_equal(SinkError, SinkError));
+}
+
+// Whether an error is of memory, and whether the type's error of memory is.
+fn faults<E: HexFault + Drop>(fault: &E) -> (bool, bool) {
+    (fault.is_memory(), E::of_memory().is_memory())
+}
+
+#[test]
+fn no_memory_alone_is_of_memory(rt: HostRuntime) {
+    let rows = [
+        (FromHexError::OddLength, false),
+        (FromHexError::InvalidStringLength, false),
+        (refusal(b'z', 0), false),
+        (FromHexError::NoMemory, true),
+    ];
+    for (fault, of_memory) in rows {
+        assert_eq!(rt; faults(&fault), (of_memory, true));
+    }
     assert_eq!(rt; FromHexError::from(AllocError), FromHexError::NoMemory);
 }

@@ -21,14 +21,11 @@ fn pieces_of_each_size(rt: HostRuntime) -> Result<(), Fail> {
     for size in 1..=4096usize {
         assert!(rt; !sink.refused());
         let piece = text.get(..size).unwrap_or("");
-        assert_eq!(rt; sink.write_str(piece), Ok(()), "{size} bytes");
+        assert!(rt; sink.write_str(piece).is_ok());
     }
     assert_eq!(rt; sink.calls(), 4096);
     for (place, piece) in sink.pieces().iter().enumerate() {
-        assert!(rt;
-            text.get(..place + 1) == Some(piece.as_str()),
-            "piece {place}"
-        );
+        assert!(rt; text.get(..place + 1) == Some(piece.as_str()));
     }
     Ok(())
 }

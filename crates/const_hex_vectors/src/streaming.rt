@@ -1,4 +1,4 @@
-//! The text of bytes, handed to a sink by each kernel, also to one that refuses.
+//! The text of bytes, handed to a sink in each way, also to one that refuses.
 
 ghost use Rattle.std.specs.Prelude.{◌≡◌, false};
 
@@ -10,7 +10,8 @@ use const_hex::{
     BufferedHex, CheckFirst, Kernel, Lanes16, Lanes32, Output, PieceSink, Plain, Sink, SinkError,
     SinkOutput,
 };
-use std::alloc::Global;
+use std::alloc::{AllocError, Global};
+use std::marker::PhantomData;
 use std::process::Abort;
 use std::test::Fail;
 
@@ -18,13 +19,17 @@ use std::test::Fail;
 // digit by digit or pair by pair, by 16 lanes, and by 32.
 type Row<'a> = (usize, bool, [&'a [usize]; 3]);
 
-const ROWS: [Row<'_>; 12] = [
+const ROWS: [Row<'_>; 16] = [
     (0, false, [&[]; 3]),
     (0, true, [&[2]; 3]),
+    (1, false, [&[2]; 3]),
+    (1, true, [&[4]; 3]),
     (127, false, [&[254]; 3]),
     (127, true, [&[256]; 3]),
     (128, false, [&[256]; 3]),
     (128, true, [&[258]; 3]),
+    (129, false, [&[258]; 3]),
+    (129, true, [&[260]; 3]),
     (2047, true, [&[4096]; 3]),
     (2048, false, [&[4096]; 3]),
     (2048, true, [&[4096, 2], &[4066, 32], &[4034, 64]]),
@@ -38,166 +43,163 @@ const ROWS: [Row<'_>; 12] = [
 ];
 
 #[test]
-fn calls_by_each_kernel(rt: HostRuntime) -> Result<(), Fail> {
-    let alloc = rt.alloc();
-    for (count, prefix, [plain, lanes16, lanes32]) in ROWS {
-        let data = bytes(alloc, count)?;
-        for form in [(prefix, false), (prefix, true)] {
-            streams::<Plain>(&rt, alloc, &data, form, plain)?;
-            streams::<Lanes16>(&rt, alloc, &data, form, lanes16)?;
-            streams::<Lanes32>(&rt, alloc, &data, form, lanes32)?;
-            streams::<CheckFirst<Plain>>(&rt, alloc, &data, form, plain)?;
-            streams::<CheckFirst<Lanes16>>(&rt, alloc, &data, form, lanes16)?;
-            streams::<CheckFirst<Lanes32>>(&rt, alloc, &data, form, lanes32)?;
-            streams::<Backward>(&rt, alloc, &data, form, plain)?;
+fn calls_in_each_way(rt: HostRuntime) -> Result<(), Fail> {
+    for (count, prefix, sizes) in ROWS {
+        let data = bytes(rt.alloc(), count)?;
+        if prefix {
+            in_each_way::<false, true>(&rt, rt.alloc(), &data, sizes)?;
+            in_each_way::<true, true>(&rt, rt.alloc(), &data, sizes)?;
+        } else {
+            in_each_way::<false, false>(&rt, rt.alloc(), &data, sizes)?;
+            in_each_way::<true, false>(&rt, rt.alloc(), &data, sizes)?;
         }
     }
     Ok(())
+}
+
+// The kernel of calls that name none is that of 32 lanes. As a part of a JSON text, an empty text
+// has a call too.
+fn in_each_way<const UPPER: bool, const PREFIX: bool>(
+    rt: &impl Abort,
+    alloc: Global,
+    data: &[u8],
+    [plain, lanes16, lanes32]: [&[usize]; 3],
+) -> Result<(), AllocError> {
+    let text = printed(alloc, data, PREFIX, UPPER)?;
+    let pieces = pieces_of(rt, alloc, &text, plain)?;
+    streams::<By<Plain, UPPER, PREFIX>>(rt, alloc, data, &pieces);
+    streams::<By<CheckFirst<Plain>, UPPER, PREFIX>>(rt, alloc, data, &pieces);
+    streams::<By<Backward, UPPER, PREFIX>>(rt, alloc, data, &pieces);
+    let pieces = pieces_of(rt, alloc, &text, lanes16)?;
+    streams::<By<Lanes16, UPPER, PREFIX>>(rt, alloc, data, &pieces);
+    streams::<By<CheckFirst<Lanes16>, UPPER, PREFIX>>(rt, alloc, data, &pieces);
+    let pieces = pieces_of(rt, alloc, &text, lanes32)?;
+    streams::<By<Lanes32, UPPER, PREFIX>>(rt, alloc, data, &pieces);
+    streams::<By<CheckFirst<Lanes32>, UPPER, PREFIX>>(rt, alloc, data, &pieces);
+    streams::<ByNoName<UPPER, PREFIX>>(rt, alloc, data, &pieces);
+    let sizes = if lanes32.is_empty() { &[0] } else { lanes32 };
+    let pieces = pieces_of(rt, alloc, &text, sizes)?;
+    streams::<AsJson<UPPER, PREFIX>>(rt, alloc, data, &pieces);
+    Ok(())
+}
+
+/// A text in pieces of just these sizes.
+fn pieces_of(
+    rt: &impl Abort,
+    alloc: Global,
+    text: &str,
+    sizes: &[usize],
+) -> Result<Vec<String>, AllocError> {
+    let pieces = cut(alloc, text, sizes)?;
+    assert!(rt; pieces.len() == sizes.len());
+    Ok(pieces)
+}
+
+/// A way of handing the text of bytes to a sink.
+trait Way {
+    fn hand_over<S: Sink>(data: &[u8], sink: &mut S) -> Result<(), SinkError>
+        requires { S.is_refused sink.old ≡ false };
+}
+
+/// By a kernel.
+struct By<K, const UPPER: bool, const PREFIX: bool> {
+    kernel: PhantomData<K>,
+}
+
+impl<K: Kernel, const UPPER: bool, const PREFIX: bool> Way for By<K, UPPER, PREFIX> {
+    fn hand_over<S: Sink>(data: &[u8], sink: &mut S) -> Result<(), SinkError> {
+        BufferedHex::<UPPER, PREFIX>::new(data).write_with::<K, S>(sink)
+    }
+}
+
+/// By the kernel of calls that name none.
+struct ByNoName<const UPPER: bool, const PREFIX: bool>;
+
+impl<const UPPER: bool, const PREFIX: bool> Way for ByNoName<UPPER, PREFIX> {
+    fn hand_over<S: Sink>(data: &[u8], sink: &mut S) -> Result<(), SinkError> {
+        BufferedHex::<UPPER, PREFIX>::new(data).write_to(sink)
+    }
+}
+
+/// As a part of a JSON text.
+struct AsJson<const UPPER: bool, const PREFIX: bool>;
+
+impl<const UPPER: bool, const PREFIX: bool> Way for AsJson<UPPER, PREFIX> {
+    fn hand_over<S: Sink>(data: &[u8], sink: &mut S) -> Result<(), SinkError> {
+        serialize_inner::<UPPER, PREFIX, S>(data, sink)
+    }
 }
 
 /// With sinks that never refuse, that refuse at each call, and that are set to refuse at the call
 /// after the last.
-fn streams<K: Kernel>(
-    rt: &impl Abort,
-    alloc: Global,
-    data: &[u8],
-    form: (bool, bool),
-    sizes: &[usize],
-) -> Result<(), Fail> {
-    let pieces = cut(alloc, &printed(alloc, data, form.0, form.1)?, sizes)?;
-    assert_eq!(rt; pieces.len(), sizes.len());
+fn streams<W: Way>(rt: &impl Abort, alloc: Global, data: &[u8], pieces: &[String]) {
     for refuse_at in 0..pieces.len() + 2 {
-        notes::<K>(rt, alloc, data, form, &pieces, refuse_at);
-        keeps::<K>(rt, alloc, data, form, &pieces, refuse_at);
+        let (noted, accepted) = until(pieces, refuse_at);
+        notes::<W>(rt, (alloc, refuse_at), data, noted, accepted);
+        keeps::<W>(rt, (alloc, refuse_at), data, noted, accepted);
     }
-    Ok(())
 }
 
-fn notes<K: Kernel>(
+/// The pieces of all calls, and those that are accepted, where one call of a number is refused.
+fn until(pieces: &[String], refuse_at: usize) -> (&[String], &[String]) {
+    if refuse_at == 0 || refuse_at > pieces.len() {
+        (pieces, pieces)
+    } else {
+        (&pieces[..refuse_at], &pieces[..refuse_at - 1])
+    }
+}
+
+fn notes<W: Way>(
     rt: &impl Abort,
-    alloc: Global,
+    (alloc, refuse_at): (Global, usize),
     data: &[u8],
-    form: (bool, bool),
-    pieces: &[String],
-    refuse_at: usize,
+    noted: &[String],
+    accepted: &[String],
 ) {
     let mut sink = NotingSink::new(alloc, refuse_at);
-    let answer = write::<K, NotingSink>(data, form, &mut sink);
+    let answer = W::hand_over::<NotingSink>(data, &mut sink);
+    assert_eq!(rt; answer.is_err(), accepted.len() < noted.len());
+    assert_eq!(rt; answer.is_err(), sink.refused());
     assert!(rt; !sink.no_memory());
-    if refuse_at == 0 || refuse_at > pieces.len() {
-        assert_eq!(rt; answer, Ok(()));
-        assert_eq!(rt; sink.noted(), pieces);
-        assert_eq!(rt; sink.accepted(), pieces);
-    } else {
-        assert_eq!(rt; answer, Err(SinkError));
-        assert_eq!(rt; sink.noted(), &pieces[..refuse_at]);
-        assert_eq!(rt; sink.accepted(), &pieces[..refuse_at - 1]);
-    }
+    assert!(rt; sink.noted() == noted);
+    assert!(rt; sink.accepted() == accepted);
 }
 
-fn keeps<K: Kernel>(
+fn keeps<W: Way>(
     rt: &impl Abort,
-    alloc: Global,
+    (alloc, refuse_at): (Global, usize),
     data: &[u8],
-    form: (bool, bool),
-    pieces: &[String],
-    refuse_at: usize,
+    noted: &[String],
+    accepted: &[String],
 ) {
     let mut sink = PieceSink::new(alloc, refuse_at);
-    let answer = write::<K, PieceSink>(data, form, &mut sink);
+    let answer = W::hand_over::<PieceSink>(data, &mut sink);
+    assert_eq!(rt; answer.is_err(), accepted.len() < noted.len());
     assert!(rt; !sink.no_memory());
-    if refuse_at == 0 || refuse_at > pieces.len() {
-        assert_eq!(rt; answer, Ok(()));
-        assert_eq!(rt; sink.calls(), pieces.len());
-        assert_eq!(rt; sink.pieces(), pieces);
-    } else {
-        assert_eq!(rt; answer, Err(SinkError));
-        assert_eq!(rt; sink.calls(), refuse_at);
-        assert_eq!(rt; sink.pieces(), &pieces[..refuse_at - 1]);
-    }
-}
-
-/// Writes the text to a sink, by a prefix or not, and in upper letters or not.
-fn write<K: Kernel, S: Sink>(data: &[u8], form: (bool, bool), sink: &mut S) -> Result<(), SinkError>
-    requires { S.is_refused sink.old ≡ false }
-{
-    match form {
-        (false, false) => BufferedHex::<false, false>::new(data).write_with::<K, S>(sink),
-        (false, true) => BufferedHex::<true, false>::new(data).write_with::<K, S>(sink),
-        (true, false) => BufferedHex::<false, true>::new(data).write_with::<K, S>(sink),
-        (true, true) => BufferedHex::<true, true>::new(data).write_with::<K, S>(sink),
-    }
+    assert_eq!(rt; sink.calls(), noted.len());
+    assert!(rt; sink.pieces() == accepted);
 }
 
 #[test]
 fn writes_after_a_refusal(rt: HostRuntime) -> Result<(), Fail> {
+    let pieces = cut(rt.alloc(), "onetwo", &[3, 3])?;
     for refuse_at in 1..3usize {
         let mut sink = NotingSink::new(rt.alloc(), refuse_at);
-        let mut output = SinkOutput::new(&mut sink);
-        for piece in ["one", "two", "three", "four", "five"] {
-            assert!(rt; piece.is_ascii());
-            output.write(piece.as_bytes());
-        }
-        assert_eq!(rt; output.finish(), Err(SinkError));
-        assert_eq!(rt; sink.noted().len(), refuse_at);
-        assert_eq!(rt; sink.accepted().len(), refuse_at - 1);
-        for texts in [sink.noted(), sink.accepted()] {
-            for (text, piece) in texts.iter().zip(["one", "two"]) {
-                assert_eq!(rt; text.as_str(), piece);
-            }
-        }
+        assert!(rt; writes_on(&mut sink).is_err());
+        let (noted, accepted) = until(&pieces, refuse_at);
+        assert!(rt; sink.noted() == noted);
+        assert!(rt; sink.accepted() == accepted);
     }
     Ok(())
 }
 
-// The whole text comes in one call, an empty one too, also where that call is refused.
-#[test]
-fn texts_in_one_call(rt: HostRuntime) -> Result<(), Fail> {
-    let alloc = rt.alloc();
-    for count in [0, 1, 128, 129usize] {
-        let data = bytes(alloc, count)?;
-        for form in [(false, false), (false, true), (true, false), (true, true)] {
-            let text = printed(alloc, &data, form.0, form.1)?;
-            for refuse_at in 0..3usize {
-                in_one_call(&rt, alloc, &data, form, &text, refuse_at);
-            }
-        }
-    }
-    Ok(())
-}
-
-fn in_one_call(
-    rt: &impl Abort,
-    alloc: Global,
-    data: &[u8],
-    form: (bool, bool),
-    text: &str,
-    refuse_at: usize,
-) {
-    let mut sink = NotingSink::new(alloc, refuse_at);
-    let answer = hand_over(data, form, &mut sink);
-    assert!(rt; !sink.no_memory());
-    assert_eq!(rt; sink.noted().len(), 1);
-    assert_eq!(rt; sink.noted()[0].as_str(), text);
-    if refuse_at == 1 {
-        assert_eq!(rt; answer, Err(SinkError));
-        assert!(rt; sink.refused());
-        assert!(rt; sink.accepted().is_empty());
-    } else {
-        assert_eq!(rt; answer, Ok(()));
-        assert!(rt; !sink.refused());
-        assert_eq!(rt; sink.accepted(), sink.noted());
-    }
-}
-
-/// Hands the text to a sink, by a prefix or not, and in upper letters or not.
-fn hand_over<S: Sink>(data: &[u8], form: (bool, bool), sink: &mut S) -> Result<(), SinkError>
-    requires { S.is_refused sink.old ≡ false }
+/// Writes three pieces, whatever the sink says.
+fn writes_on(sink: &mut NotingSink) -> Result<(), SinkError>
+    requires { sink.old.refused ≡ false }
 {
-    match form {
-        (false, false) => serialize_inner::<false, false, S>(data, sink),
-        (false, true) => serialize_inner::<true, false, S>(data, sink),
-        (true, false) => serialize_inner::<false, true, S>(data, sink),
-        (true, true) => serialize_inner::<true, true, S>(data, sink),
-    }
+    let mut output = SinkOutput::new(sink);
+    output.write(b"one");
+    output.write(b"two");
+    output.write(b"three");
+    output.finish()
 }

@@ -25,8 +25,8 @@ fn values_of_digits(rt: HostRuntime) {
             Some(value) => value,
             None => 255,
         };
-        assert_eq!(rt; u32::from(HEX_DECODE_LUT[b as usize]), want, "at {b}");
-        assert_eq!(rt; u32::from(value_at(b)), want, "at {b}");
+        assert_eq!(rt; u32::from(HEX_DECODE_LUT[b as usize]), want);
+        assert_eq!(rt; u32::from(value_at(b)), want);
         if want < 16 {
             digits = digits.wrapping_add(1);
         }

@@ -2,6 +2,9 @@
 
 use const_hex::FromHexError;
 use std::alloc::{AllocError, Global};
+use std::fmt;
+use std::process::Abort;
+use std::test::Fail;
 
 const DIGITS: &[u8; 22] = b"0123456789abcdefABCDEF";
 
@@ -108,4 +111,36 @@ fn value(digit: u8) -> u8 {
         Some(value) => value as u8,
         None => 0,
     }
+}
+
+/// The numbers have the bits of these bytes.
+pub(crate) fn same_bits(rt: &impl Abort, numbers: &[i8], want: &[u8]) {
+    assert_eq!(rt; numbers.len(), want.len());
+    for (number, byte) in numbers.iter().zip(want) {
+        assert_eq!(rt; number.cast_unsigned(), *byte);
+    }
+}
+
+/// What a value prints as `{}` does.
+pub(crate) fn prints<E: fmt::Display>(
+    rt: &impl Abort,
+    alloc: Global,
+    value: &E,
+    want: &str,
+) -> Result<(), AllocError> {
+    let text = value.to_string(alloc)?;
+    assert_eq!(rt; text.as_str(), want);
+    Ok(())
+}
+
+/// What a value prints as `{:?}` does.
+pub(crate) fn shows<E: fmt::Debug>(
+    rt: &impl Abort,
+    alloc: Global,
+    value: &E,
+    want: &str,
+) -> Result<(), Fail> {
+    let text = format!(in alloc; "{value:?}")?;
+    assert_eq!(rt; text.as_str(), want);
+    Ok(())
 }

@@ -44,17 +44,16 @@ pub fn array_text<const N: usize>(alloc: Global, bytes: &[u8; N]) -> Result<Stri
 #[cfg(test)]
 mod tests {
     use super::*;
-    use std::test::Fail;
 
     #[test]
-    fn texts(rt: HostRuntime) -> Result<(), Fail> {
+    fn texts(rt: HostRuntime) -> Result<(), AllocError> {
         let alloc = rt.alloc();
-        let text = vector_text(alloc, &b"kiwi".to_vec(alloc)?)?;
-        assert_eq!(rt; text.as_str(), "6b697769");
-        let text = string_text(alloc, &"jolly".to_string(alloc)?)?;
-        assert_eq!(rt; text.as_str(), "6A6F6C6C79");
-        assert_eq!(rt; array_text(alloc, b"kiwi")?.as_str(), "0x6b697769");
-        assert_eq!(rt; array_text(alloc, &[])?.as_str(), "0x");
+        let bytes = b"kiwi".to_vec(alloc)?;
+        assert!(rt; vector_text(alloc, &bytes)?.as_str() == "6b697769");
+        let text = "jolly".to_string(alloc)?;
+        assert!(rt; string_text(alloc, &text)?.as_str() == "6A6F6C6C79");
+        assert!(rt; array_text(alloc, b"kiwi")?.as_str() == "0x6b697769");
+        assert!(rt; array_text(alloc, &[])?.as_str() == "0x");
         Ok(())
     }
 }

@@ -273,30 +273,3 @@ pub fn encode_to_str_upper<'a>(input: &[u8], output: &'a mut [u8]) -> Result<&'a
     }
     Ok(lent_text(filled(input, true, output)))
 }
-
-#[cfg(test)]
-mod tests {
-    use super::*;
-    use std::test::Fail;
-
-    #[test]
-    fn lends_the_text_where_it_fits(rt: HostRuntime) -> Result<(), Fail> {
-        let refused = Err(FromHexError::InvalidStringLength);
-        let mut output = [0xEE; 8];
-        assert_eq!(rt; encode_to_str(b"kiwi", &mut output), Ok("6b697769"));
-        assert_eq!(rt; &output, b"6b697769");
-        assert_eq!(rt; encode_to_str_upper(b"kiwi", &mut output), Ok("6B697769"));
-        assert_eq!(rt; &output, b"6B697769");
-        assert_eq!(rt; encode_to_str(b"", &mut []), Ok(""));
-        for length in [0, 6, 7] {
-            assert_eq!(rt; encode_to_str(b"wiki", &mut output[..length]), refused);
-            assert_eq!(rt;
-                encode_to_str_upper(b"wiki", &mut output[..length]),
-                refused
-            );
-        }
-        assert_eq!(rt; encode_to_str(b"kiw", &mut output), refused);
-        assert_eq!(rt; &output, b"6B697769");
-        Ok(())
-    }
-}

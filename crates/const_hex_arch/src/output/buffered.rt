@@ -171,6 +171,3 @@ impl<O: Output, const N: usize> Output for BufferedOutput<O, N> {
     ghost shrinks = { λ s piece t h.
         Gathers_room O.step O.room O.shrinks N s.0 s.1 piece t.0 t.1 h };
 }
-
-#[cfg(test)]
-mod tests;

@@ -43,7 +43,7 @@ fn refused<K: Kernel>(
     let mut output = vec![in alloc; 0xEEu8; body.len() / 2]?;
     assert_eq!(rt; decode_to_slice_with::<K>(&text, &mut output), Err(refusal));
     let decoded = front.count(body.len(), place);
-    assert_eq!(rt; output, read_front(alloc, body, decoded)?, "at {place}");
+    assert!(rt; output == read_front(alloc, body, decoded)?);
     Ok(())
 }
 
@@ -82,10 +82,10 @@ pub(crate) fn accepted<K: Kernel>(
 ) -> Result<(), Fail> {
     let bytes = read(alloc, body)?;
     assert_eq!(rt; check_with::<K>(text), Ok(()));
-    assert_eq!(rt; decode_with::<K>(alloc, text)?, bytes);
+    assert!(rt; decode_with::<K>(alloc, text)? == bytes);
     let mut output = vec![in alloc; 0xEEu8; bytes.len()]?;
     assert_eq!(rt; decode_to_slice_with::<K>(text, &mut output), Ok(()));
-    assert_eq!(rt; output, bytes);
+    assert!(rt; output == bytes);
     Ok(())
 }
 
@@ -114,11 +114,8 @@ pub(crate) fn each_value<K: Kernel>(rt: &impl Abort) {
     for place in 0..64 {
         for byte in 0..=255u8 {
             text[place] = byte;
-            assert_eq!(rt;
-                K::check(&text),
-                char::from(byte).to_digit(16).is_some(),
-                "{byte} at {place}"
-            );
+            let is_digit = char::from(byte).to_digit(16).is_some();
+            assert_eq!(rt; (byte, K::check(&text)), (byte, is_digit));
         }
         text[place] = b'a';
     }

@@ -69,18 +69,26 @@ fn encoded<K: Kernel>(
     pieces: Pieces,
 ) -> Result<(), Fail> {
     let sizes = pieces.sizes(alloc, bytes.len())?;
-    for upper in [false, true] {
-        let want = printed(alloc, bytes, false, upper)?;
-        let text = if upper {
-            encode_with::<K, true>(alloc, bytes)?
-        } else {
-            encode_with::<K, false>(alloc, bytes)?
-        };
-        assert_eq!(rt; text, want);
-        let mut sink = PieceSink::new(alloc, 0);
-        K::encode(bytes, upper, &mut SinkOutput::new(&mut sink));
-        assert_eq!(rt; sink.calls(), sizes.len());
-        assert_eq!(rt; sink.pieces(), cut(alloc, &want, &sizes)?.as_slice());
-    }
+    let lower = printed(alloc, bytes, false, false)?;
+    let upper = printed(alloc, bytes, false, true)?;
+    assert!(rt; encode_with::<K, false>(alloc, bytes)? == lower);
+    assert!(rt; encode_with::<K, true>(alloc, bytes)? == upper);
+    let pieces = cut(alloc, &lower, &sizes)?;
+    assert_eq!(rt; pieces.len(), sizes.len());
+    in_pieces::<K>(rt, alloc, (bytes, false), &pieces);
+    in_pieces::<K>(rt, alloc, (bytes, true), &cut(alloc, &upper, &sizes)?);
     Ok(())
+}
+
+/// The pieces of a text, in upper letters or not.
+fn in_pieces<K: Kernel>(
+    rt: &impl Abort,
+    alloc: Global,
+    (bytes, upper): (&[u8], bool),
+    pieces: &[String],
+) {
+    let mut sink = PieceSink::new(alloc, 0);
+    K::encode(bytes, upper, &mut SinkOutput::new(&mut sink));
+    assert_eq!(rt; sink.calls(), pieces.len());
+    assert!(rt; sink.pieces() == pieces);
 }

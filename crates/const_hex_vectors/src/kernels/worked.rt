@@ -3,8 +3,8 @@
 use crate::own_kernel::Backward;
 use crate::texts::{behind, place_in_text, printed, refusal};
 use const_hex::{
-    CheckFirst, Kernel, Lanes16, Lanes32, PieceSink, Plain, SinkOutput, decode_to_slice_with,
-    decode_with, encode_with,
+    CheckFirst, Kernel, Lanes16, Lanes32, PieceSink, Plain, SinkOutput, SliceOutput,
+    decode_to_slice_with, decode_with, encode_with,
 };
 use std::alloc::Global;
 use std::process::Abort;
@@ -38,7 +38,7 @@ fn leave<K: Kernel>(rt: &impl Abort, alloc: Global, counts: [usize; 6]) -> Resul
         let mut output = vec![in alloc; 0xEEu8; length / 2]?;
         let refusal = refusal(b'g', place_in_text(prefix.len(), place));
         assert_eq!(rt; decode_to_slice_with::<K>(&text, &mut output), Err(refusal));
-        assert_eq!(rt; output, front_of(alloc, length / 2, count)?, "at {place}");
+        assert!(rt; output == front_of(alloc, length / 2, count)?);
     }
     Ok(())
 }
@@ -92,14 +92,31 @@ fn counted<K: Kernel>(rt: &impl Abort, alloc: Global, pieces_of_49: usize) -> Re
         let bytes: Vec<u8> = (0..count).map(|i| (i % 256) as u8).collect(alloc)?;
         let text = encode_with::<K, false>(alloc, &bytes)?;
         assert_eq!(rt; text.len(), 2 * count);
-        assert!(rt; text.ends_with(last), "{count} bytes");
-        assert_eq!(rt; text, printed(alloc, &bytes, false, false)?);
-        assert_eq!(rt; decode_with::<K>(alloc, text.as_bytes())?, bytes);
+        assert!(rt; text.ends_with(last));
+        assert!(rt; text == printed(alloc, &bytes, false, false)?);
+        assert!(rt; decode_with::<K>(alloc, text.as_bytes())? == bytes);
     }
     let mut sink = PieceSink::new(alloc, 0);
     K::encode(&[0xAB; 49], false, &mut SinkOutput::new(&mut sink));
     assert_eq!(rt; sink.calls(), pieces_of_49);
+    each_call::<K>(rt, alloc)?;
     seventeen::<K>(rt, alloc)
+}
+
+/// The kernel's own calls, by a slice of 49 bytes.
+fn each_call<K: Kernel>(rt: &impl Abort, alloc: Global) -> Result<(), Fail> {
+    let bytes = *b"jklmnopqrstuvwxyz{|}~@[JKLMNOPQRSTUVWXYZ][0123456";
+    let mut text = [0; 98];
+    K::encode(&bytes, true, &mut SliceOutput::new(&mut text));
+    assert!(rt; text.as_slice() == printed(alloc, &bytes, false, true)?.as_bytes());
+    let mut back = [0; 49];
+    assert!(rt; K::decode_checked(&text, &mut back));
+    assert!(rt; back == bytes);
+    assert!(rt; K::check(&text));
+    let mut back = [0; 49];
+    K::decode_unchecked(&text, &mut back);
+    assert!(rt; back == bytes);
+    Ok(())
 }
 
 fn seventeen<K: Kernel>(rt: &impl Abort, alloc: Global) -> Result<(), Fail> {

@@ -1,0 +1,108 @@
+//! What `display` prints.
+
+use crate::texts::{bytes, printed};
+use const_hex::{Display, display};
+use std::alloc::{AllocError, Global};
+use std::fmt;
+use std::fmt::Write;
+use std::process::Abort;
+use std::test::Fail;
+
+/// Prints as `{:x}` or `{:X}` does, with the options of the hole.
+#[derive(Drop)]
+enum InRadix<'a> {
+    Lower(Display<'a>),
+    Upper(Display<'a>),
+}
+
+impl fmt::Display for InRadix<'_> {
+    fn fmt<W: fmt::Write>(&self, f: &mut fmt::Formatter<W>) -> fmt::Result {
+        match self {
+            InRadix::Lower(text) => fmt::LowerHex::fmt(text, f),
+            InRadix::Upper(text) => fmt::UpperHex::fmt(text, f),
+        }
+    }
+}
+
+#[test]
+fn printed_forms(rt: HostRuntime) -> Result<(), Fail> {
+    let bytes = [0xDE, 0xAD, 0xBE, 0xEF];
+    let lower = "deadbeef 0xdeadbeef deadbeef 0xdeadbeef";
+    let upper = "DEADBEEF 0xDEADBEEF DEADBEEF 0xDEADBEEF";
+    prints(&rt, rt.alloc(), &display(&bytes), lower)?;
+    prints(&rt, rt.alloc(), &InRadix::Lower(display(&bytes)), lower)?;
+    prints(&rt, rt.alloc(), &InRadix::Upper(display(&bytes)), upper)?;
+    Ok(())
+}
+
+/// Width, fill and alignment change nothing.
+fn prints<D: fmt::Display>(
+    rt: &impl Abort,
+    alloc: Global,
+    value: &D,
+    want: &str,
+) -> Result<(), Fail> {
+    let text = format!(in alloc; "{value} {value:#} {value:*^20} {value:#020}")?;
+    assert_eq!(rt; text.as_str(), want);
+    Ok(())
+}
+
+// 100,000 bytes, and each count that is printed in one piece.
+#[test]
+fn printed_bytes(rt: HostRuntime) -> Result<(), Fail> {
+    let alloc = rt.alloc();
+    let data = bytes(alloc, 100_000)?;
+    let lower = printed(alloc, &data, true, false)?;
+    let upper = printed(alloc, &data, true, true)?;
+    prints_both(&rt, alloc, &display(&data), &lower)?;
+    prints_both(&rt, alloc, &InRadix::Upper(display(&data)), &upper)?;
+    for count in 0..=2048usize {
+        let front = data.get(..count).unwrap_or(&[]);
+        let text = lower.get(..2 + 2 * count).unwrap_or("");
+        prints_both(&rt, alloc, &display(front), text)?;
+    }
+    Ok(())
+}
+
+/// A text, with its prefix and without.
+fn prints_both<D: fmt::Display>(
+    rt: &impl Abort,
+    alloc: Global,
+    value: &D,
+    prefixed: &str,
+) -> Result<(), AllocError> {
+    let text = format!(in alloc; "{value:#}")?;
+    assert!(rt; text.as_str() == prefixed);
+    let text = format!(in alloc; "{value}")?;
+    assert!(rt; prefixed.strip_prefix("0x") == Some(text.as_str()));
+    Ok(())
+}
+
+/// Counts its calls, and fails at the one of that number.
+#[derive(Drop)]
+struct FailingWriter {
+    calls: u32,
+    fail_at: u32,
+}
+
+impl Write for FailingWriter {
+    fn write_str(&mut self, _s: &str) -> fmt::Result {
+        self.calls = self.calls.saturating_add(1);
+        if self.calls == self.fail_at {
+            return Err(fmt::Error);
+        }
+        Ok(())
+    }
+}
+
+#[test]
+fn nothing_follows_an_error(rt: HostRuntime) {
+    let bytes = [0xABu8; 5000];
+    let rows = [(1, 1), (2, 2), (3, 3), (4, 3)];
+    for (fail_at, calls) in rows {
+        let mut writer = FailingWriter { calls: 0, fail_at };
+        let text = display(&bytes);
+        assert_eq!(rt; write!(writer, "{text}").is_err(), fail_at < 4);
+        assert_eq!(rt; writer.calls, calls);
+    }
+}
