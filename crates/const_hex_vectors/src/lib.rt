@@ -3,7 +3,8 @@
 //! Expected values come from the codec's written rules or from what std prints.
 #![tactic(auto)]
 
-pub mod addresses;
+#[cfg(test)]
+mod addresses;
 #[cfg(test)]
 mod decoding;
 #[cfg(test)]
@@ -17,8 +18,8 @@ mod kernels;
 #[cfg(test)]
 mod long;
 pub mod noting;
-pub mod own_kernel;
-pub mod readers;
+#[cfg(test)]
+mod readers;
 #[cfg(test)]
 mod refusals;
 #[cfg(test)]
@@ -31,4 +32,8 @@ mod streaming;
 mod tables;
 #[cfg(test)]
 mod texts;
-pub mod writers;
+#[cfg(test)]
+mod writers;
+
+#[cfg(test)]
+use const_hex_uses::own_kernel;
