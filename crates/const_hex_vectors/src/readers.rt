@@ -1,5 +1,6 @@
 //! Texts that are read as each type, by callers that know its law alone.
 
+use const_hex::FromHexError;
 use const_hex_uses::readers::{read_both, read_twice};
 use std::boxed::BoxedSlice;
 use std::rc::Rc;
