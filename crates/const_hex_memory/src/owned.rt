@@ -9,7 +9,7 @@ use const_hex::{
     ToHexExt, const_encode, decode, decode_with, deserialize, encode, encode_prefixed,
     encode_upper, encode_upper_prefixed, encode_with, serialize, serialize_upper,
 };
-use const_hex_vectors::own_kernel::Backward;
+use const_hex_uses::own_kernel::Backward;
 use hash_hex::{Address20, Hash32};
 use std::alloc::Global;
 use std::boxed::BoxedSlice;

@@ -10,7 +10,7 @@ mod texts;
 
 use crate::inputs::Inputs;
 use const_hex::{CheckFirst, Lanes16, Lanes32, Plain};
-use const_hex_vectors::own_kernel::Backward;
+use const_hex_uses::own_kernel::Backward;
 use std::alloc::Global;
 use std::io;
 

@@ -3,7 +3,8 @@
 //! Expected values come from the codec's written rules or from what std prints.
 #![tactic(auto)]
 
-pub mod addresses;
+#[cfg(test)]
+mod addresses;
 #[cfg(test)]
 mod buffers;
 #[cfg(test)]
@@ -25,10 +26,10 @@ mod long;
 pub mod noting;
 #[cfg(test)]
 mod outputs;
-pub mod own_kernel;
 #[cfg(test)]
 mod printed;
-pub mod readers;
+#[cfg(test)]
+mod readers;
 #[cfg(test)]
 mod refusals;
 #[cfg(test)]
@@ -43,4 +44,8 @@ mod streaming;
 mod tables;
 #[cfg(test)]
 mod texts;
-pub mod writers;
+#[cfg(test)]
+mod writers;
+
+#[cfg(test)]
+use const_hex_uses::own_kernel;

@@ -1,25 +1,10 @@
--- Steps of the loops that read and write pieces.
+-- Steps of the loop that reads pieces.
 use borrow.Rule.Slice.PartMut.{put_mid, post_of}
-use Rattle.std.proofs.Common.{◌≡◌, ℕ, ◌+◌, ◌-◌, ◌≤◌, List, ◌++◌, length, take, drop, Option, ap, ◌∙◌, append_assoc, arith}
-use Rattle.std.proofs.KnownBytes.{Appends-trans, Consumes-trans}
-use Rattle.std.proofs.Math.Seq.{take-add, take-append-add}
-use Rattle.std.proofs.lemmas.List.{take_all, take-append-le, length-drop, length-take, length-take-le, take-take}
-use Rattle.std.specs.Io.KnownBytes.{Appends, Consumes}
-
--- n bytes of what lies behind the first count end inside the whole
-pub step_within : (xs : List ℕ) (count n : ℕ) → count ≤ length xs
-    → n ≤ length (take (length xs - count) (drop count xs)) → count + n ≤ length xs
-step_within xs count n started inside =
-    let m = simp (length-take, length-drop) at inside in omega (arith, m)
-
--- n bytes of the rest were written, after the first done
-pub write_step : (o a b : Option (List ℕ)) (bytes : List ℕ) (done n : ℕ)
-    → Appends o a (take done bytes)
-    → Appends a b (take n (take (length bytes - done) (drop done bytes)))
-    → Appends o b (take (done + n) bytes)
-write_step o a b bytes done n p q =
-    let all = take_all (length bytes - done) (drop done bytes) (simp length-drop (omega arith)) in
-    rw (take-add done n bytes) (Appends-trans o a b (take done bytes) (take n (drop done bytes)) p (rw all at q))
+use Rattle.std.proofs.Common.{◌≡◌, ℕ, ◌+◌, ◌-◌, ◌≤◌, List, ◌++◌, length, take, drop, Option, ap, ◌∙◌, append_assoc}
+use Rattle.std.proofs.KnownBytes.{Consumes-trans}
+use Rattle.std.proofs.Math.Seq.{take-append-add}
+use Rattle.std.proofs.lemmas.List.{take-append-le, length-take-le, take-take}
+use Rattle.std.specs.Io.KnownBytes.{Consumes}
 
 take_two : (front piece rest : List ℕ) (n : ℕ) → n ≤ length piece
     → take (length front + n) (front ++ (piece ++ rest)) ≡ front ++ take n piece

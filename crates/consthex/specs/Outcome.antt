@@ -1,6 +1,6 @@
 -- What a run reads and writes.
-use Rattle.std.specs.Prelude.{ℕ, ◌<◌, List, length, take, Option, Result}
-use Rattle.std.specs.Io.KnownBytes.{Appends, Consumes, IsAtEnd}
+use Rattle.std.specs.Prelude.{ℕ, ◌<◌, List, length, Option, Result}
+use Rattle.std.specs.Io.KnownBytes.{Consumes, IsAtEnd}
 use Rattle.consthex.specs.Answer.{Answer, limit}
 use Rattle.consthex.specs.declared.mode.Mode.{Mode}
 use Rattle.consthex.specs.declared.error.RunError.{RunError}
@@ -16,7 +16,3 @@ Answers m had left r = (x : List ℕ) × ReadsAll had left x × Answer m x r
 -- more was read than an input may have
 abbrev pub ReadsTooMuch : Option (List ℕ) → Option (List ℕ) → Type 0
 ReadsTooMuch had left = (x : List ℕ) × (limit < length x) × Consumes had left x
-
--- a beginning of the bytes was written
-abbrev pub WritesBeginning : Option (List ℕ) → Option (List ℕ) → List ℕ → Type 0
-WritesBeginning held holds bs = (n : ℕ) × Appends held holds (take n bs)

@@ -3,8 +3,9 @@
 ghost use Rattle.std.specs.Prelude.{◌≡◌, ◌≢◌, ◌≤◌, ◌<◌, ◌+◌, List, ℕ, take, vec_len, OnOk, OnErr, IfOk, Ok, Err};
 ghost use Rattle.std.specs.Io.KnownBytes.{Appends, Keeps};
 ghost use Rattle.const_hex.specs.declared.error.FromHexError.{FromHexError};
+ghost use Rattle.const_hex.specs.WriteSinks.{WritesBeginning};
 ghost use Rattle.consthex.specs.Answer.{limit};
-ghost use Rattle.consthex.specs.Outcome.{ReadsAll, Answers, ReadsTooMuch, WritesBeginning};
+ghost use Rattle.consthex.specs.Outcome.{ReadsAll, Answers, ReadsTooMuch};
 ghost use Rattle.consthex.specs.declared.error.RunError.TheVariants.{Text, WriteFailed, TooLong};
 
 use crate::answer::{LIMIT, answer};

@@ -1,5 +1,6 @@
 use Rattle.std.proofs.Common.{◌≤◌, length, arith}
-use Rattle.consthex.proofs.Pieces.{read_step, step_within}
+use Rattle.const_hex.proofs.WriteSinks.{step_within}
+use Rattle.consthex.proofs.Pieces.{read_step}
 use Rattle.consthex.proofs.run.read_all.Goals as goal
 
 pub reads-preserved : goal.reads-preserved

@@ -1,4 +1,4 @@
-use Rattle.consthex.proofs.Pieces.{step_within, write_step}
+use Rattle.const_hex.proofs.WriteSinks.{step_within, write_step}
 use Rattle.consthex.proofs.run.write_all.Goals as goal
 
 pub writes-preserved : goal.writes-preserved

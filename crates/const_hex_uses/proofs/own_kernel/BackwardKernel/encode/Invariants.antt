@@ -1,7 +1,7 @@
 use Rattle.std.proofs.Common.{◌-◌, ◌*◌, length, take}
 use Rattle.const_hex_arch.specs.Runs.{HasRoom, Writes}
 use Rattle.const_hex_arch.specs.Texts.{hex_text}
-use Rattle.const_hex_vectors.proofs.own_kernel.BackwardKernel.encode.Given as goal
+use Rattle.const_hex_uses.proofs.own_kernel.BackwardKernel.encode.Given as goal
 
 abbrev pub invariant-loop-byte : goal.invariant-loop-byte
 invariant-loop-byte g l = record {

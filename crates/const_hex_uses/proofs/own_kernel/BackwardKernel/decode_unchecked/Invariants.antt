@@ -1,6 +1,6 @@
 use Rattle.std.proofs.Common.{◌*◌, ◌≤◌, length, drop}
 use Rattle.const_hex_arch.specs.Texts.{Spells}
-use Rattle.const_hex_vectors.proofs.own_kernel.BackwardKernel.decode_unchecked.Given as goal
+use Rattle.const_hex_uses.proofs.own_kernel.BackwardKernel.decode_unchecked.Given as goal
 
 abbrev pub invariant-loop-left : goal.invariant-loop-left
 invariant-loop-left l = record {

@@ -1,6 +1,6 @@
 use Rattle.std.proofs.Common.{Ok, inr}
 use Rattle.const_hex.proofs.Lowering.{agree}
-use Rattle.const_hex_vectors.proofs.readers.read_both.Goals as goal
+use Rattle.const_hex_uses.proofs.readers.read_both.Goals as goal
 
 pub returns-in-Ok-read-clause-agree : goal.returns-in-Ok-read-clause-agree
 returns-in-Ok-read-clause-agree g c =

@@ -1,6 +1,6 @@
 use Rattle.const_hex_arch.proofs.Spelling.{Spells-same}
 use Rattle.const_hex.specs.Bodies.{body_of}
-use Rattle.const_hex_vectors.proofs.readers.read_twice.Goals as goal
+use Rattle.const_hex_uses.proofs.readers.read_twice.Goals as goal
 
 pub returns-clause-agree : goal.returns-clause-agree
 returns-clause-agree g c =

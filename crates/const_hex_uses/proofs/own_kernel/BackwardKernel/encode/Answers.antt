@@ -1,8 +1,8 @@
 use Rattle.std.proofs.Common.{◌≡◌, ◌*◌, length, ◌-◌, arith}
 use Rattle.const_hex_arch.proofs.Running.{Writes-none}
 use Rattle.const_hex_arch.proofs.Writing.{hex_text-nil}
-use Rattle.const_hex_vectors.proofs.Backward.{pair_written, room_for_less, room_after_pair}
-use Rattle.const_hex_vectors.proofs.own_kernel.BackwardKernel.encode.Goals as goal
+use Rattle.const_hex_uses.proofs.Backward.{pair_written, room_for_less, room_after_pair}
+use Rattle.const_hex_uses.proofs.own_kernel.BackwardKernel.encode.Goals as goal
 
 pub loop-byte-init : goal.loop-byte-init
 loop-byte-init g c = record {

@@ -1,0 +1,28 @@
+//! A file or a socket that takes text.
+
+ghost use Rattle.std.specs.Prelude.{◌≡◌, true, false, OnOk, OnErr};
+ghost use Rattle.std.specs.Io.KnownBytes.{Appends};
+ghost use Rattle.const_hex.specs.Texts.{full_text};
+ghost use Rattle.const_hex.specs.WriteSinks.{WritesBeginning};
+
+use const_hex::WriteSink;
+use std::io;
+use std::io::Write;
+
+/// Writes the text of some bytes, and answers the writer's error where it fails.
+///
+/// ```rust
+/// let mut file = Vec::new(rt.alloc());
+/// write_text(b"kiwi", &mut file)?;
+/// assert_eq!(rt; file.as_slice(), b"0x6b697769".as_slice());
+/// ```
+pub fn write_text<W: Write>(bytes: &[u8], writer: &mut W) -> io::Result<()>
+    ensures ok { OnOk result
+        (Appends (W.contents writer.old) (W.contents writer.new) (full_text true false bytes.now)) }
+    ensures err { OnErr result (WritesBeginning (W.contents writer.old) (W.contents writer.new)
+        (full_text true false bytes.now)) }
+{
+    let mut sink = WriteSink::new(writer);
+    let _ = sink.write_hex::<false, true>(bytes);
+    sink.finish()
+}

@@ -1,0 +1,80 @@
+//! A request of Ethereum's JSON-RPC for a contract's code, and the answer to it.
+
+ghost use Rattle.std.specs.Prelude.{◌≡◌, ◌↔◌, ◌++◌, ◌∷◌, [], true, false, codes, replicate, string_bytes, None, Some, Ok, Err, IfOk, IfSome, option_and_then};
+ghost use Rattle.serde_json.specs.Data.{array, item, no_items, string};
+ghost use Rattle.serde_json.specs.Find.{as_str, get};
+ghost use Rattle.serde_json.specs.View.{view};
+ghost use Rattle.const_hex.specs.Answers.{Reads};
+ghost use Rattle.const_hex.specs.Texts.{full_text};
+ghost use Rattle.const_hex.specs.declared.serde.error.JsonError.TheVariants.{NotText};
+
+use const_hex::{FromHexError, JsonError, deserialize, serialize};
+use serde_json::{Value, json};
+use std::alloc::{AllocError, Global};
+
+/// Asks for the code at an address, as of the latest block.
+///
+/// ```rust
+/// let request = code_request(rt.alloc(), &[0xab; 20])?;
+/// assert!(rt; request.get("params").is_some());
+/// ```
+pub fn code_request(alloc: Global, address: &[u8; 20]) -> Result<Value, AllocError>
+    ensures { IfOk result (λ v. get (codes "params") (view v)
+        ≡ Some (array (item (string (full_text true false address.now))
+        (item (string (codes "latest")) no_items)))) }
+{
+    let account = serialize(alloc, address)?;
+    json!(in alloc; {
+        "jsonrpc": "2.0", "id": 1, "method": "eth_getCode", "params": [account, "latest"]
+    })
+}
+
+/// The code in an answer, whose member `result` is `0x` and its bytes.
+///
+/// ```rust
+/// let answer = json!(in rt.alloc(); {"id": 1, "result": "0x6001"})?;
+/// assert_eq!(rt; code_of(rt.alloc(), &answer)?.as_slice(), [0x60, 0x01].as_slice());
+/// ```
+pub fn code_of(alloc: Global, answer: &Value) -> Result<Vec<u8>, JsonError<FromHexError>>
+    ensures code { IfOk result (λ v.
+        IfSome (option_and_then as_str (get (codes "result") (view answer.now)))
+        (λ t. Reads t (Ok v.items))) }
+    ensures not_text { (result ≡ Err NotText)
+        ↔ (option_and_then as_str (get (codes "result") (view answer.now)) ≡ None) }
+{
+    match answer.get("result") {
+        Some(code) => deserialize(alloc, code),
+        None => Err(JsonError::NotText),
+    }
+}
+
+/// A text, and on the next line a mark under the byte at that place.
+///
+/// ```rust
+/// assert_eq!(rt; marked(rt.alloc(), "0xzz", 2)?.as_str(), "0xzz\n  ^");
+/// ```
+pub fn marked(alloc: Global, text: &str, place: usize) -> Result<String, AllocError>
+    ensures { IfOk result
+        (λ s. string_bytes s ≡ text.now ++ 10 ∷ replicate place 32 ++ 94 ∷ []) }
+{
+    let mut shown = String::from_str(alloc, text)?;
+    shown.push('\n')?;
+    for _ in 0..place {
+        shown.push(' ')?;
+    }
+    shown.push('^')?;
+    Ok(shown)
+}
+
+/// What a user is shown of a refused text: the place of a bad byte under it, and else the refusal.
+///
+/// ```rust
+/// let refusal = const_hex::check(b"0xzz").unwrap_err();
+/// assert_eq!(rt; explained(rt.alloc(), "0xzz", refusal)?.as_str(), "0xzz\n  ^");
+/// ```
+pub fn explained(alloc: Global, text: &str, refusal: FromHexError) -> Result<String, AllocError> {
+    match refusal {
+        FromHexError::InvalidHexCharacter { index, .. } => marked(alloc, text, index),
+        other => format!(in alloc; "{text}\n{other}"),
+    }
+}

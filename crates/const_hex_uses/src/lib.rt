@@ -1,0 +1,16 @@
+//! Callers of `const_hex`, small and whole, each with the contract that its users would want.
+//!
+//! Most have no proof of their own: they rest on the codec's clauses alone.
+#![tactic(auto)]
+
+pub mod accounts;
+pub mod addresses;
+pub mod files;
+pub mod json_rpc;
+pub mod own_kernel;
+pub mod readers;
+pub mod settings;
+pub mod store;
+#[cfg(test)]
+mod tests;
+pub mod writers;

@@ -1,0 +1,78 @@
+//! Callers over any type that is read from text, which rest on the law of such types alone.
+
+ghost use Rattle.std.specs.Prelude.{◌≡◌, ◌≢◌, ◌↔◌, ◌⊎◌, false, length, IfOk, IfErr, Ok};
+ghost use Rattle.const_hex.specs.Answers.{Reads};
+ghost use Rattle.const_hex.specs.Bodies.{body_of, lowered};
+ghost use Rattle.const_hex.specs.Types.{IsCount, RefusesOrMisfits};
+ghost use Rattle.const_hex.specs.declared.error.FromHexError.TheVariants.{NoMemory};
+
+use const_hex::{FromHex, FromHexError};
+use std::alloc::Global;
+
+/// Reads a text: a value has the bytes that it spells, and where the error is not of memory the
+/// text is refused or its count of bytes does not fit.
+///
+/// ```rust
+/// assert_eq!(rt; read::<[u8; 2]>(rt.alloc(), b"0xff80")?, [0xff, 0x80]);
+/// ```
+pub fn read<T: FromHex>(alloc: Global, text: &[u8]) -> Result<T, T::Error>
+    ensures bytes { IfOk result (λ v. Reads text.now (Ok (T.bytes v))) }
+    ensures fits { IfOk result (λ v. T.fits (length (T.bytes v))) }
+    ensures refused { IfErr result (λ e. T.Error.is_of_memory e ≡ false
+        → RefusesOrMisfits T.fits text.now) }
+{
+    T::from_hex(alloc, text)
+}
+
+/// Reads two texts: each value has the bytes that its text spells, and the values have the same
+/// bytes exactly where the texts differ in their prefixes and in case alone. Where the error is not
+/// of memory, one of the texts is refused or its count of bytes does not fit.
+///
+/// ```rust
+/// let (one, two) = read_both::<[u8; 2]>(rt.alloc(), b"0xff80", b"FF80")?;
+/// assert_eq!(rt; one, two);
+/// ```
+pub fn read_both<T: FromHex + Drop>(
+    alloc: Global,
+    first: &[u8],
+    second: &[u8],
+) -> Result<(T, T), T::Error>
+    ensures first_bytes { IfOk result (λ both. Reads first.now (Ok (T.bytes both.0))) }
+    ensures second_bytes { IfOk result (λ both. Reads second.now (Ok (T.bytes both.1))) }
+    ensures first_fits { IfOk result (λ both. T.fits (length (T.bytes both.0))) }
+    ensures second_fits { IfOk result (λ both. T.fits (length (T.bytes both.1))) }
+    ensures agree { IfOk result (λ both. (T.bytes both.0 ≡ T.bytes both.1)
+        ↔ (lowered (body_of first.now) ≡ lowered (body_of second.now))) }
+    ensures refused { IfErr result (λ e. T.Error.is_of_memory e ≡ false
+        → RefusesOrMisfits T.fits first.now ⊎ RefusesOrMisfits T.fits second.now) }
+{
+    match read::<T>(alloc, first) {
+        Ok(one) => match read::<T>(alloc, second) {
+            Ok(two) => Ok((one, two)),
+            Err(fault) => Err(fault),
+        },
+        Err(fault) => Err(fault),
+    }
+}
+
+/// Reads a text as a vector and as an array, which both have the bytes that it spells, N of them.
+/// Where the error is not of memory, the text is refused or spells another count of bytes.
+///
+/// ```rust
+/// let (list, array) = read_twice::<2>(rt.alloc(), b"ff80")?;
+/// assert_eq!(rt; list.as_slice(), array.as_slice());
+/// ```
+pub fn read_twice<const N: usize>(
+    alloc: Global,
+    text: &[u8],
+) -> Result<(Vec<u8>, [u8; N]), FromHexError>
+    ensures list_bytes { IfOk result (λ both. Reads text.now (Ok both.0.items)) }
+    ensures array_bytes { IfOk result (λ both. Reads text.now (Ok both.1)) }
+    ensures list_fits { IfOk result (λ both. length both.0.items ≡ N) }
+    ensures agree { IfOk result (λ both. both.0.items ≡ both.1) }
+    ensures refused { IfErr result (λ e. e ≢ NoMemory → RefusesOrMisfits (IsCount N) text.now) }
+{
+    let list = read::<Vec<u8>>(alloc, text)?;
+    let array = read::<[u8; N]>(alloc, text)?;
+    Ok((list, array))
+}

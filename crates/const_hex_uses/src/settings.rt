@@ -1,0 +1,75 @@
+//! Lines of the form `key=hex`.
+
+ghost use Rattle.std.specs.Prelude.{◌≡◌, ◌≢◌, ◌==◌, ◌+◌, ◌↔◌, ℕ, Ok, Err, IfOk, length};
+ghost use Rattle.std.specs.List.{after_first, position_or_len};
+ghost use Rattle.const_hex.specs.Answers.{Reads};
+ghost use Rattle.const_hex.specs.declared.error.FromHexError.{FromHexError};
+ghost use Rattle.const_hex.specs.declared.error.FromHexError.TheVariants.{NoMemory};
+ghost use Rattle.const_hex_uses.specs.declared.settings.LineFault.TheVariants.{NoSign, Refused};
+
+use const_hex::{FromHexError, decode};
+use std::alloc::Global;
+
+/// Why a line has no value.
+#[derive(Clone, Copy, PartialEq, Eq, Debug)]
+pub enum LineFault {
+    /// There is no `=` in the line.
+    NoSign,
+    /// The value begins at that place of the line, counted from 0, and is refused.
+    Refused(usize, FromHexError),
+}
+
+impl LineFault {
+    /// The column of the byte that is no digit, counted from 1, where there is one.
+    ///
+    /// ```rust
+    /// let fault = value_of(rt.alloc(), "salt=6b!9").unwrap_err();
+    /// assert_eq!(rt; fault.column(), Some(8));
+    /// ```
+    pub fn column(&self) -> Option<usize> {
+        match self {
+            LineFault::Refused(start, FromHexError::InvalidHexCharacter { index, .. }) => {
+                Some(start.saturating_add(*index).saturating_add(1))
+            }
+            _ => None,
+        }
+    }
+}
+
+/// The value of a line: what stands behind its first `=`.
+///
+/// ```rust
+/// assert_eq!(rt; value_of(rt.alloc(), "salt=6b69")?.as_slice(), b"ki".as_slice());
+/// ```
+pub fn value_of(alloc: Global, line: &str) -> Result<Vec<u8>, LineFault>
+    ensures value { IfOk result (λ v. Reads (after_first (λ b. b == 61) line.now) (Ok v.items)) }
+    ensures no_sign { (result ≡ Err NoSign)
+        ↔ (position_or_len (λ b. b == 61) line.now ≡ length line.now) }
+    ensures start { (start : ℕ) (e : FromHexError) → result ≡ Err (Refused start e)
+        → start ≡ position_or_len (λ b. b == 61) line.now + 1 }
+    ensures refusal { (start : ℕ) (e : FromHexError) → result ≡ Err (Refused start e)
+        → e ≢ NoMemory → Reads (after_first (λ b. b == 61) line.now) (Err e) }
+{
+    let Some((key, text)) = line.split_once('=') else {
+        return Err(LineFault::NoSign);
+    };
+    match decode(alloc, text.as_bytes()) {
+        Ok(value) => Ok(value),
+        Err(refusal) => Err(LineFault::Refused(key.len() + 1, refusal)),
+    }
+}
+
+/// The first line of a text that has no value: its number, counted from 1, and why.
+///
+/// ```rust
+/// let (line, fault) = first_fault(rt.alloc(), "salt=6b69\nkey=6b!9").unwrap();
+/// assert_eq!(rt; (line, fault.column()), (2, Some(7)));
+/// ```
+pub fn first_fault(alloc: Global, text: &str) -> Option<(usize, LineFault)> {
+    for (number, line) in text.lines().enumerate() {
+        if let Err(fault) = value_of(alloc, line) {
+            return Some((number + 1, fault));
+        }
+    }
+    None
+}

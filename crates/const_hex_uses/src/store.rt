@@ -1,0 +1,58 @@
+//! A store whose keys are bytes, spelled in any way: each spelling finds what another put there.
+
+ghost use Rattle.std.specs.Prelude.{◌≡◌, Some, string_bytes, IfOk, OnOk};
+ghost use Rattle.std.specs.HashMap.{get_by_text};
+ghost use Rattle.const_hex.specs.Bodies.{body_of, lowered};
+
+use const_hex::{FromHexError, decode, encode};
+use std::alloc::Global;
+use std::collections::HashMap;
+
+/// The one spelling of bytes: no prefix, and lower letters.
+///
+/// ```rust
+/// assert_eq!(rt; canonical(rt.alloc(), b"0x6B69")?.as_str(), "6b69");
+/// ```
+pub fn canonical(alloc: Global, spelling: &[u8]) -> Result<String, FromHexError>
+    ensures { IfOk result (λ s. string_bytes s ≡ lowered (body_of spelling.now)) }
+{
+    let bytes = decode(alloc, spelling)?;
+    let text = encode(alloc, &bytes)?;
+    Ok(text)
+}
+
+/// Stores a number under a key.
+///
+/// ```rust
+/// let mut store = HashMap::new(rt.alloc());
+/// put(rt.alloc(), &mut store, b"0x6B69", 7)?;
+/// assert_eq!(rt; find(rt.alloc(), &store, b"6b69")?, Some(7));
+/// ```
+pub fn put(
+    alloc: Global,
+    store: &mut HashMap<String, u64>,
+    key: &[u8],
+    number: u64,
+) -> Result<(), FromHexError>
+    ensures { OnOk result (get_by_text store.new (lowered (body_of key.now)) ≡ Some number) }
+{
+    store.insert(canonical(alloc, key)?, number)?;
+    Ok(())
+}
+
+/// The number that was stored last under a key, in whatever spelling.
+///
+/// ```rust
+/// let store = HashMap::new(rt.alloc());
+/// assert_eq!(rt; find(rt.alloc(), &store, b"6b69")?, None);
+/// ```
+pub fn find(
+    alloc: Global,
+    store: &HashMap<String, u64>,
+    key: &[u8],
+) -> Result<Option<u64>, FromHexError>
+    ensures { IfOk result (λ found. found ≡ get_by_text store.now (lowered (body_of key.now))) }
+{
+    let key = canonical(alloc, key)?;
+    Ok(store.get(key.as_str()).copied())
+}
