@@ -80,11 +80,7 @@ impl Steps for Lanes16 {
 
     #[inline(always)]
     fn check_four_steps(text: &[u8]) -> bool {
-        let first = lanes::ranks(u8x16::from_slice(text));
-        let second = lanes::ranks(u8x16::from_slice(&text[16..]));
-        let third = lanes::ranks(u8x16::from_slice(&text[32..]));
-        let fourth = lanes::ranks(u8x16::from_slice(&text[48..]));
-        lanes::are_ranks(first.simd_max(second).simd_max(third.simd_max(fourth)))
+        lanes::check_four_steps::<16>(text)
     }
 
     #[inline(always)]

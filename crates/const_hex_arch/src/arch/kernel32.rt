@@ -81,11 +81,7 @@ impl Steps for Lanes32 {
 
     #[inline(always)]
     fn check_four_steps(text: &[u8]) -> bool {
-        let first = lanes::ranks(u8x32::from_slice(text));
-        let second = lanes::ranks(u8x32::from_slice(&text[32..]));
-        let third = lanes::ranks(u8x32::from_slice(&text[64..]));
-        let fourth = lanes::ranks(u8x32::from_slice(&text[96..]));
-        lanes::are_ranks(first.simd_max(second).simd_max(third.simd_max(fourth)))
+        lanes::check_four_steps::<32>(text)
     }
 
     #[inline(always)]

@@ -1,11 +1,12 @@
-//! The values of digits, for vectors of any number of lanes.
+//! The test and the values of digits, for vectors of any number of lanes.
 
-ghost use Rattle.std.specs.Prelude.{◌≡◌, ◌≤◌, ◌↔◌, map, IsTrue};
+ghost use Rattle.std.specs.Prelude.{◌≡◌, ◌*◌, ◌≤◌, ◌↔◌, length, map, IsTrue};
 ghost use Rattle.std.specs.List.{AllZip};
 ghost use Rattle.const_hex_arch.specs.Digits.{hex_value};
 ghost use Rattle.const_hex_arch.specs.Lanes.{AllRanks};
 ghost use Rattle.const_hex_arch.specs.Lookups.{AllLookedUp};
 ghost use Rattle.const_hex_arch.specs.Nibbles.{as_value, IsValueOf, IsRankOf};
+ghost use Rattle.const_hex_arch.specs.Texts.{AllDigits};
 
 use std::simd::prelude::*;
 
@@ -51,6 +52,27 @@ pub(crate) fn are_ranks<const N: usize>(ranks: Simd<u8, N>) -> bool
     ensures { IsTrue result ↔ AllRanks ranks.entry }
 {
     ranks.saturating_sub(Simd::splat(5)).reduce_or() == 0
+}
+
+/// Whether every lane is a digit.
+#[inline(always)]
+pub(crate) fn check_chunk<const N: usize>(v: Simd<u8, N>) -> bool
+    ensures { IsTrue result ↔ AllDigits v.entry }
+{
+    are_ranks(ranks(v))
+}
+
+/// Whether every byte of the text of four vectors is a digit, by one test.
+#[inline(always)]
+pub(crate) fn check_four_steps<const N: usize>(text: &[u8]) -> bool
+    requires { length text.now ≡ 4 * N }
+    ensures { IsTrue result ↔ AllDigits text.now }
+{
+    let first = ranks(Simd::<u8, N>::from_slice(text));
+    let second = ranks(Simd::<u8, N>::from_slice(&text[N..]));
+    let third = ranks(Simd::<u8, N>::from_slice(&text[2 * N..]));
+    let fourth = ranks(Simd::<u8, N>::from_slice(&text[3 * N..]));
+    are_ranks(first.simd_max(second).simd_max(third.simd_max(fourth)))
 }
 
 /// The value of each lane that is a digit.

@@ -52,7 +52,7 @@ pub fn encode_chunk<const UPPER: bool>(v: u8x16) -> [u8x16; 2]
 pub fn check_chunk(v: u8x16) -> bool
     ensures { IsTrue result ↔ AllDigits v }
 {
-    lanes::are_ranks(lanes::ranks(v))
+    lanes::check_chunk(v)
 }
 
 /// The value of each lane that is a digit, and more than 15 for every other lane.

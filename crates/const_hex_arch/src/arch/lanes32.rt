@@ -47,7 +47,7 @@ pub fn encode_chunk<const UPPER: bool>(v: u8x32) -> [u8x32; 2]
 pub fn check_chunk(v: u8x32) -> bool
     ensures { IsTrue result ↔ AllDigits v }
 {
-    lanes::are_ranks(lanes::ranks(v))
+    lanes::check_chunk(v)
 }
 
 /// The value of each lane that is a digit, and more than 15 for every other lane.
