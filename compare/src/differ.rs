@@ -4,7 +4,6 @@
 //! through a pipe. Both sides make the questions from the seed, so none has to be kept.
 
 use crate::generator::Generator;
-use crate::operation::Operation;
 use crate::question::Question;
 use crate::replies::Answers;
 use std::collections::BTreeMap;
@@ -41,7 +40,7 @@ impl Asked {
 pub struct Tally {
     /// Equal answers.
     pub agree: usize,
-    /// Answers that differ as is intended, by the operation.
+    /// Answers that differ as is intended, by the family of the operation.
     pub intended: BTreeMap<String, usize>,
     /// Answers that differ and should not.
     pub differ: usize,
@@ -67,8 +66,8 @@ impl Tally {
         if wanted == crates {
             self.agree += 1;
         } else {
-            let name = family(question.operation);
-            *self.intended.entry(name).or_default() += 1;
+            let family = question.operation.family();
+            *self.intended.entry(family).or_default() += 1;
         }
         Ok(())
     }
@@ -92,14 +91,6 @@ fn write_difference(
         lines.extend_from_slice(answer);
     }
     output.write_all(&lines)
-}
-
-/// The name of an operation, one for all lengths of arrays.
-fn family(operation: Operation) -> String {
-    operation
-        .to_string()
-        .trim_end_matches(|digit: char| digit.is_ascii_digit())
-        .to_owned()
 }
 
 /// Asks both, and writes each difference that is not intended.
