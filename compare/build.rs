@@ -5,15 +5,20 @@
 //! toolchain's `rt`, or taken from the folder that `CONST_HEX_LIBRARIES` names.
 
 use std::env;
+use std::ffi::OsString;
 use std::path::{Path, PathBuf};
 use std::process::{Command, Stdio};
 
 /// What names the folder with both libraries.
 const FOLDER: &str = "CONST_HEX_LIBRARIES";
 
+/// The libraries.
+const LIBRARIES: [&str; 2] = ["const_hex", "const_hex_compare"];
+
 /// What the libraries are made from, as seen from the top of the repository.
-const SOURCES: [&str; 11] = [
+const SOURCES: [&str; 12] = [
     "c/build",
+    "c/const_hex.h",
     "c/dispatch.c",
     "compare/build",
     "crates/const_hex_arch/src",
@@ -28,10 +33,21 @@ const SOURCES: [&str; 11] = [
 
 fn main() {
     println!("cargo:rerun-if-env-changed={FOLDER}");
-    let folder = env::var_os(FOLDER).map_or_else(made, PathBuf::from);
+    let folder = env::var_os(FOLDER).map_or_else(made, taken);
     println!("cargo:rustc-link-search=native={}", folder.display());
-    println!("cargo:rustc-link-lib=static=const_hex");
-    println!("cargo:rustc-link-lib=static=const_hex_compare");
+    for library in LIBRARIES {
+        println!("cargo:rustc-link-lib=static={library}");
+    }
+}
+
+/// Answers the folder that is named, whose libraries are linked anew where they are new.
+fn taken(folder: OsString) -> PathBuf {
+    let folder = PathBuf::from(folder);
+    for library in LIBRARIES {
+        let archive = folder.join(format!("lib{library}.a"));
+        println!("cargo:rerun-if-changed={}", archive.display());
+    }
+    folder
 }
 
 /// Makes both libraries, and answers the folder that they are in.

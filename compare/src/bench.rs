@@ -1,7 +1,7 @@
 //! The command `bench`: the times of both codecs, side by side.
 //!
 //! For each call and size every side makes a batch of calls in turn, many times over, so that a
-//! drift of the machine falls on all of them. What is printed is a table in Markdown: nanoseconds a
+//! drift of the machine falls on all of them. The order is drawn anew each time. What is printed is a table in Markdown: nanoseconds a
 //! call, the least and the median of the batches, and what the port takes over the Rust crate.
 
 mod calls;

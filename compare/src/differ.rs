@@ -4,7 +4,6 @@
 //! through a pipe. Both sides make the questions from the seed, so none has to be kept.
 
 use crate::generator::Generator;
-use crate::operation::Operation;
 use crate::question::Question;
 use crate::replies::Answers;
 use std::collections::BTreeMap;
@@ -41,14 +40,15 @@ impl Asked {
 pub struct Tally {
     /// Equal answers.
     pub agree: usize,
-    /// Answers that differ as is intended, by the operation.
+    /// Answers that differ as is intended, by the family of the operation.
     pub intended: BTreeMap<String, usize>,
     /// Answers that differ and should not.
     pub differ: usize,
 }
 
 impl Tally {
-    /// Counts the port's answer to a question, and writes it where it should not differ.
+    /// Counts the port's answer to a question, and writes it where it is not the one that the port
+    /// has to give. A question without an answer is a fault too, whatever the port says.
     fn count(
         &mut self,
         question: &Question,
@@ -56,27 +56,20 @@ impl Tally {
         output: &mut impl Write,
     ) -> io::Result<()> {
         let asked = Ok(question.clone());
-        let mut crates = Vec::new();
-        Answers::TheCrates.write(&asked, &mut crates);
-        if port == crates {
-            self.agree += 1;
-            return Ok(());
-        }
-        let mut wanted = Vec::new();
+        let (mut crates, mut wanted) = (Vec::new(), Vec::new());
+        let is_answered = Answers::TheCrates.write(&asked, &mut crates);
         Answers::ThePorts.write(&asked, &mut wanted);
-        if port == wanted {
-            let name = family(question.operation);
-            *self.intended.entry(name).or_default() += 1;
-            return Ok(());
+        if port != wanted || !is_answered {
+            self.differ += 1;
+            return write_difference(question, [&crates, &wanted, port], output);
         }
-        self.differ += 1;
-        let mut line = Vec::new();
-        question.write(&mut line);
-        output.write_all(&line)?;
-        output.write_all(b"  the crate: ")?;
-        output.write_all(&crates)?;
-        output.write_all(b"  the port:  ")?;
-        output.write_all(port)
+        if wanted == crates {
+            self.agree += 1;
+        } else {
+            let family = question.operation.family();
+            *self.intended.entry(family).or_default() += 1;
+        }
+        Ok(())
     }
 
     /// How many answers differ as is intended.
@@ -85,12 +78,19 @@ impl Tally {
     }
 }
 
-/// The name of an operation, one for all lengths of arrays.
-fn family(operation: Operation) -> String {
-    operation
-        .to_string()
-        .trim_end_matches(|digit: char| digit.is_ascii_digit())
-        .to_owned()
+/// Writes a question, the crate's answer, the one that is wanted, and the port's.
+fn write_difference(
+    question: &Question,
+    answers: [&[u8]; 3],
+    output: &mut impl Write,
+) -> io::Result<()> {
+    let mut lines = Vec::new();
+    question.write(&mut lines);
+    for (name, answer) in ["the crate", "wanted   ", "the port "].iter().zip(answers) {
+        write!(lines, "  {name}: ")?;
+        lines.extend_from_slice(answer);
+    }
+    output.write_all(&lines)
 }
 
 /// Asks both, and writes each difference that is not intended.
@@ -143,7 +143,7 @@ fn ask(asked: Asked, mut port: impl Write) -> io::Result<()> {
     port.flush()
 }
 
-/// Compares the port's answers with the crate's.
+/// Compares the port's answers with the crate's. Behind the last one nothing may come.
 fn compare(asked: Asked, mut port: impl BufRead, output: &mut impl Write) -> io::Result<Tally> {
     let mut tally = Tally::default();
     let mut line = Vec::new();
@@ -155,6 +155,10 @@ fn compare(asked: Asked, mut port: impl BufRead, output: &mut impl Write) -> io:
         }
         tally.count(&question, &line, output)?;
     }
+    if !port.fill_buf()?.is_empty() {
+        let why = "the port wrote more than its answers";
+        return Err(io::Error::new(io::ErrorKind::InvalidData, why));
+    }
     Ok(tally)
 }
 
@@ -164,7 +168,7 @@ mod tests {
 
     #[test]
     fn what_is_not_intended_is_written() {
-        let rows: [(&str, &str, [usize; 3]); 4] = [
+        let rows: [(&str, &str, [usize; 3]); 6] = [
             ("encode 6b", "OK 3662\n", [1, 0, 0]),
             (
                 "decode 30787a7a",
@@ -176,7 +180,15 @@ mod tests {
                 "ERR InvalidHexCharacter 122 3\n",
                 [0, 0, 1],
             ),
+            // The crate's own answer, which the port must not give.
+            (
+                "decode 30787a7a",
+                "ERR InvalidHexCharacter 122 0\n",
+                [0, 0, 1],
+            ),
             ("encode 6b", "OK 3663\n", [0, 0, 1]),
+            // No JSON: there is nothing to compare.
+            ("deserialize_json 7b", "BAD not JSON\n", [0, 0, 1]),
         ];
         for (line, port, counts) in rows {
             let question = Question::read(line.as_bytes()).unwrap();
@@ -185,8 +197,32 @@ mod tests {
             tally
                 .count(&question, port.as_bytes(), &mut output)
                 .unwrap();
-            assert_eq!([tally.agree, tally.intended(), tally.differ], counts);
+            let counted = [tally.agree, tally.intended(), tally.differ];
+            assert_eq!(counted, counts, "{line}: {port}");
             assert_eq!(output.is_empty(), tally.differ == 0);
+        }
+    }
+
+    #[test]
+    fn just_one_answer_a_question() {
+        let asked = Asked { seed: 7, count: 50 };
+        let mut wanted = Vec::new();
+        for question in asked.questions() {
+            Answers::ThePorts.write(&Ok(question), &mut wanted);
+        }
+        let more = [wanted.as_slice(), b"O"].concat();
+        let less = wanted.strip_suffix(b"\n").unwrap();
+        let less = &less[..=less.iter().rposition(|byte| *byte == b'\n').unwrap()];
+        let rows = [
+            (wanted.as_slice(), None),
+            (&more, Some(io::ErrorKind::InvalidData)),
+            (less, Some(io::ErrorKind::UnexpectedEof)),
+        ];
+        for (port, refused) in rows {
+            let mut output = Vec::new();
+            let compared = compare(asked, port, &mut output);
+            assert_eq!(compared.map_err(|error| error.kind()).err(), refused);
+            assert!(output.is_empty());
         }
     }
 }

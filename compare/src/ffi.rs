@@ -7,8 +7,16 @@
 //! of `const_hex_compare`, and one call of the system.
 #![allow(unsafe_code)]
 
-use crate::operation::{Case, Form, Prefix};
 use std::fmt;
+
+/// The form of a text.
+#[derive(Clone, Copy, Debug, Default, PartialEq, Eq)]
+pub struct Form {
+    /// Whether `0x` stands in front.
+    pub prefix: bool,
+    /// Whether letters are upper.
+    pub upper: bool,
+}
 
 /// A refusal as the library fills it.
 #[repr(C)]
@@ -79,11 +87,12 @@ impl Refusal {
         match raw.kind {
             ODD_LENGTH => Refusal::OddLength,
             INVALID_LENGTH => Refusal::InvalidLength,
-            _ => Refusal::InvalidCharacter {
+            INVALID_CHARACTER => Refusal::InvalidCharacter {
                 // The header promises 0 to 255.
                 byte: raw.byte as u8,
                 index: raw.index,
             },
+            kind => panic!("no call of the library refuses by the kind {kind}"),
         }
     }
 
@@ -110,41 +119,22 @@ impl fmt::Display for Refusal {
 
 impl std::error::Error for Refusal {}
 
-/// Whether upper letters are wanted.
-fn upper(form: Form) -> bool {
-    form.case == Case::Upper
-}
-
-/// Whether `0x` is wanted.
-fn prefixed(form: Form) -> bool {
-    form.prefix == Prefix::Present
-}
-
 /// How long the text of so many bytes is, or `usize::MAX` where that does not fit.
-pub fn encoded_length(bytes: usize, prefix: Prefix) -> usize {
-    // SAFETY: numbers alone are passed.
-    unsafe { const_hex_encoded_length(bytes, prefix == Prefix::Present) }
+pub fn encoded_length(bytes: usize, form: Form) -> usize {
+    // SAFETY: a number and a `bool` are passed.
+    unsafe { const_hex_encoded_length(bytes, form.prefix) }
 }
 
 /// Fills the text of bytes, where there is room for just that text, and else tells so by `false`.
 pub fn encode(bytes: &[u8], form: Form, text: &mut [u8]) -> bool {
     let (from, to) = (bytes.as_ptr(), text.as_mut_ptr());
     // SAFETY: each pointer and its length are those of a slice; `text` is borrowed alone.
-    unsafe {
-        const_hex_encode(
-            from,
-            bytes.len(),
-            prefixed(form),
-            upper(form),
-            to,
-            text.len(),
-        )
-    }
+    unsafe { const_hex_encode(from, bytes.len(), form.prefix, form.upper, to, text.len()) }
 }
 
 /// The text of bytes, in a string of its own.
 pub fn encoded(bytes: &[u8], form: Form) -> String {
-    let mut text = vec![0; encoded_length(bytes.len(), form.prefix)];
+    let mut text = vec![0; encoded_length(bytes.len(), form)];
     assert!(
         encode(bytes, form, &mut text),
         "there is room for just the text"

@@ -231,6 +231,13 @@ impl Operation {
         found.map(|(_, operation)| *operation)
     }
 
+    /// Its name without a length: one for all lengths of arrays.
+    pub fn family(self) -> String {
+        let name = self.to_string();
+        let front = name.trim_end_matches(|digit: char| digit.is_ascii_digit());
+        front.to_owned()
+    }
+
     /// Which numbers it goes with.
     pub fn numbers(self) -> Numbers {
         match self {

@@ -40,6 +40,13 @@ impl Random {
         several[self.below(several.len())]
     }
 
+    /// Puts several into any order, each as likely.
+    pub fn shuffle<T>(&mut self, several: &mut [T]) {
+        for last in (1..several.len()).rev() {
+            several.swap(last, self.below(last + 1));
+        }
+    }
+
     /// So many bytes.
     pub fn bytes(&mut self, count: usize) -> Vec<u8> {
         let mut bytes = vec![0; count];

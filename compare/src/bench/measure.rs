@@ -11,6 +11,9 @@ const ROUNDS: usize = 501;
 /// How many rounds go before, and are not counted.
 const WARMING: usize = 5;
 
+/// The seed of the orders in which the sides take turns.
+const ORDERS: u64 = 1;
+
 /// How many bytes of data go through a call in one batch, where one call takes fewer.
 const BATCH_BYTES: usize = 32_768;
 
@@ -102,6 +105,16 @@ fn turns(
     sum
 }
 
+/// The time of a batch. One call goes before it and is not counted: it reads and writes what the
+/// batch does, so the batch finds in the caches what its own side leaves there, and not what the
+/// side before it did.
+fn time_of(batch: &Batch, work: &mut Work, calls: usize) -> Duration {
+    black_box(batch(work, 1));
+    let start = Instant::now();
+    black_box(batch(work, calls));
+    start.elapsed()
+}
+
 /// The time of a call, in nanoseconds.
 #[derive(Clone, Copy)]
 pub struct Times {
@@ -121,17 +134,17 @@ impl Times {
     }
 }
 
-/// Measures the batches of several sides, which take turns. The first of a round is another each
-/// time.
+/// Measures the batches of several sides, which take turns. The order of a round is drawn anew for
+/// each, so that no side always comes behind the same other.
 pub fn measure(sides: &[(Side, Batch)], work: &mut Work) -> Vec<(Side, Times)> {
     let calls = work.calls();
+    let mut random = Random::new(ORDERS);
+    let mut order: Vec<usize> = (0..sides.len()).collect();
     let mut taken = vec![Vec::with_capacity(ROUNDS); sides.len()];
     for round in 0..WARMING + ROUNDS {
-        for turn in 0..sides.len() {
-            let which = (round + turn) % sides.len();
-            let start = Instant::now();
-            black_box(sides[which].1(work, calls));
-            let passed = start.elapsed();
+        random.shuffle(&mut order);
+        for &which in &order {
+            let passed = time_of(&sides[which].1, work, calls);
             if round >= WARMING {
                 taken[which].push(passed);
             }

@@ -68,7 +68,8 @@ fn ratios(ratio: Times) -> String {
     format!("{:.2}, {:.2}", ratio.least, ratio.median)
 }
 
-/// Writes which ratios of the least times are above 1, for each build of the port.
+/// Writes which ratios, of the least times or of the medians, are above 1, for each build of the
+/// port.
 pub fn write_slower(output: &mut impl Write, rows: &[Row]) -> io::Result<()> {
     for side in Side::here().into_iter().filter(|side| side.is_port()) {
         let slower: Vec<String> = rows.iter().filter_map(|row| slower(row, side)).collect();
@@ -77,14 +78,15 @@ pub fn write_slower(output: &mut impl Write, rows: &[Row]) -> io::Result<()> {
         } else {
             slower.join("; ")
         };
-        writeln!(output, "\nAbove 1.00, {}: {list}.", side.name())?;
+        writeln!(output, "\nAbove 1.00 in either, {}: {list}.", side.name())?;
     }
     Ok(())
 }
 
-/// The cell of a row whose ratio is above 1 as it is printed.
+/// The cell of a row where one of the two ratios is above 1 as it is printed.
 fn slower(row: &Row, side: Side) -> Option<String> {
-    let ratio = ratio(row, side)?.least;
+    let ratio = ratio(row, side)?;
     let (call, size) = (row.call.name(), row.size);
-    (ratio >= 1.005).then(|| format!("`{call}` at {size} ({ratio:.2})"))
+    let is_slower = ratio.least.max(ratio.median) >= 1.005;
+    is_slower.then(|| format!("`{call}` at {size} ({})", ratios(ratio)))
 }

@@ -4,21 +4,17 @@ use super::builds::{Avx2Build, Build, DefaultBuild};
 use super::*;
 
 /// A form of texts.
-const fn form(prefix: Prefix, case: Case) -> Form {
-    Form { prefix, case }
+const fn form(prefix: bool, upper: bool) -> Form {
+    Form { prefix, upper }
 }
 
 /// Bytes and their texts.
 const TEXTS: [(&[u8], Form, &str); 5] = [
-    (b"", form(Prefix::Absent, Case::Lower), ""),
-    (b"", form(Prefix::Present, Case::Lower), "0x"),
-    (b"kiwi", form(Prefix::Absent, Case::Lower), "6b697769"),
-    (b"kiwi", form(Prefix::Present, Case::Upper), "0x6B697769"),
-    (
-        b"\xde\xad\xbe\xef",
-        form(Prefix::Absent, Case::Upper),
-        "DEADBEEF",
-    ),
+    (b"", form(false, false), ""),
+    (b"", form(true, false), "0x"),
+    (b"kiwi", form(false, false), "6b697769"),
+    (b"kiwi", form(true, true), "0x6B697769"),
+    (b"\xde\xad\xbe\xef", form(false, true), "DEADBEEF"),
 ];
 
 /// Texts, room for bytes, and what decoding into just that room answers.
@@ -49,10 +45,10 @@ const READ: [(&str, usize, Result<(), Refusal>); 6] = [
 fn texts_of_bytes() {
     for (bytes, form, text) in TEXTS {
         assert_eq!(encoded(bytes, form), text);
-        assert_eq!(encoded_length(bytes.len(), form.prefix), text.len());
+        assert_eq!(encoded_length(bytes.len(), form), text.len());
         assert!(!encode(bytes, form, &mut vec![0; text.len() + 1]));
     }
-    assert_eq!(encoded_length(usize::MAX, Prefix::Absent), usize::MAX);
+    assert_eq!(encoded_length(usize::MAX, Form::default()), usize::MAX);
 }
 
 #[test]

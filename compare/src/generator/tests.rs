@@ -1,45 +1,100 @@
 //! What the questions reach.
 
 use super::*;
+use crate::answers::text_of_json;
 use std::collections::{BTreeMap, BTreeSet};
 
 /// How many questions are looked at.
-const LOOKED_AT: usize = 200_000;
+const LOOKED_AT: usize = 500_000;
 
-/// Up to so many bytes every length is asked; of texts every even one.
+/// Up to so many bytes every count is asked.
 const EVERYDAY: usize = 130;
 
-/// What questions have.
+/// The ends of kernels' steps are multiples of this, up to the last that is asked of every call.
+const STEP: usize = 16;
+const LAST_STEP: usize = 33 * STEP;
+
+/// The ends of a stream's pieces.
+const PIECES: [usize; 5] = [2016, 2048, 4064, 4096, 6144];
+
+/// Bytes that are no digits.
+const NO_DIGITS: usize = 256 - 22;
+
+/// What the questions of one operation have.
 #[derive(Default)]
 struct Reached {
-    /// The lengths that each operation is asked at.
-    lengths: BTreeMap<String, BTreeSet<usize>>,
-    /// The first two bytes of texts.
-    fronts: BTreeSet<Vec<u8>>,
-    /// The bytes of texts that are no digits.
-    bad_bytes: BTreeSet<u8>,
+    /// How many bytes are encoded, or how many pairs stand behind the prefix of a text.
+    counts: BTreeSet<usize>,
+    /// The prefixes of texts.
+    prefixes: BTreeSet<String>,
+    /// The characters of texts, up to U+00FF, that are no digits.
+    no_digits: BTreeSet<char>,
 }
 
 impl Reached {
-    /// What these questions have.
-    fn by(questions: impl Iterator<Item = Question>) -> Reached {
-        let mut reached = Reached::default();
-        for Question {
-            operation, bytes, ..
-        } in questions
-        {
-            let lengths = reached.lengths.entry(operation.to_string());
-            lengths.or_default().insert(bytes.len());
-            if let Operation::Decode | Operation::Check | Operation::DecodeToSlice = operation {
-                reached
-                    .fronts
-                    .insert(bytes.iter().copied().take(2).collect());
-                let bad = bytes.iter().filter(|byte| !byte.is_ascii_hexdigit());
-                reached.bad_bytes.extend(bad);
+    /// What questions have by the names of operations, and by their families.
+    fn by(questions: impl Iterator<Item = Question>) -> BTreeMap<String, Reached> {
+        let mut reached: BTreeMap<String, Reached> = BTreeMap::new();
+        for question in questions {
+            let operation = question.operation;
+            for name in BTreeSet::from([operation.to_string(), operation.family()]) {
+                reached.entry(name).or_default().add(&question);
             }
         }
         reached
     }
+
+    /// Adds what a question has.
+    fn add(&mut self, question: &Question) {
+        let Some(text) = text_of(question) else {
+            if question.operation != Operation::Deserialize {
+                self.counts.insert(question.bytes.len());
+            }
+            return;
+        };
+        let prefix = ["0x", "0X"].into_iter().find(|two| text.starts_with(two));
+        let body = &text[prefix.map_or(0, str::len)..];
+        self.prefixes.insert(prefix.unwrap_or_default().to_owned());
+        let body_length = body.chars().count();
+        if body_length % 2 == 0 {
+            self.counts.insert(body_length / 2);
+        }
+        let no_digit = |read: &char| *read <= '\u{FF}' && !read.is_ascii_hexdigit();
+        self.no_digits.extend(body.chars().filter(no_digit));
+    }
+}
+
+/// The text that a question asks to read, with a character for each byte, where it asks to read one.
+fn text_of(question: &Question) -> Option<String> {
+    match question.operation {
+        Operation::Deserialize => text_of_json(&question.bytes),
+        Operation::Decode
+        | Operation::Check
+        | Operation::ConstCheck
+        | Operation::Message(_)
+        | Operation::CheckRaw
+        | Operation::ConstCheckRaw
+        | Operation::DecodeToSlice
+        | Operation::DecodeToArray(_)
+        | Operation::ConstDecodeToArray(_)
+        | Operation::SignedVec
+        | Operation::SignedArray => Some(
+            question
+                .bytes
+                .iter()
+                .map(|byte| char::from(*byte))
+                .collect(),
+        ),
+        _ => None,
+    }
+}
+
+/// The counts that questions of any count have to reach: the everyday ones, and two to either side
+/// of each end of a step.
+fn everyday_and_steps() -> BTreeSet<usize> {
+    let ends = (0..=LAST_STEP).step_by(STEP);
+    let around = ends.flat_map(|end| end.saturating_sub(2)..=end + 2);
+    (0..=EVERYDAY).chain(around).collect()
 }
 
 #[test]
@@ -61,25 +116,49 @@ fn each_question_is_one_of_the_protocol() {
     }
 }
 
+/// Of arrays each byte that is no digit comes at some length, and each length with one more and one
+/// less. Of JSON texts, which are short, no step is asked past 200 bytes.
 #[test]
-fn every_operation_length_prefix_and_bad_byte_is_reached() {
+fn each_operation_is_asked_all_around() {
     let reached = Reached::by(Generator::new(1).take(LOOKED_AT));
-    assert_eq!(reached.lengths.len(), Operation::all().len());
-    assert_eq!(reached.bad_bytes.len(), 256 - 22);
-    assert!([b"0x", b"0X"]
-        .iter()
-        .all(|prefix| reached.fronts.contains(prefix.as_slice())));
-    for (operation, step) in [
-        ("encode", 1),
-        ("display", 1),
-        ("check_raw", 2),
-        ("decode", 2),
-    ] {
-        let mut wanted = (0..=EVERYDAY).step_by(step);
-        let lengths = &reached.lengths[operation];
+    let steps = everyday_and_steps();
+    for operation in Operation::all() {
+        let (name, family) = (operation.to_string(), operation.family());
+        let counts = &reached[&name].counts;
+        if !reached[&name].prefixes.is_empty() {
+            assert_eq!(reached[&name].prefixes.len(), 3, "{name}");
+            assert_eq!(reached[&family].no_digits.len(), NO_DIGITS, "{family}");
+        }
+        let wanted: BTreeSet<usize> = match operation {
+            Operation::DecodeToArray(size) | Operation::ConstDecodeToArray(size) => {
+                (size.saturating_sub(1)..=size + 1).collect()
+            }
+            Operation::SignedArray => (3..=5).collect(),
+            Operation::BufferFormat(_) | Operation::BufferDebug | Operation::ConstEncode(_) => {
+                OFFERED.into_iter().collect()
+            }
+            Operation::Deserialize => steps.iter().copied().filter(|size| *size <= 200).collect(),
+            Operation::BufferedHex(_) => steps.range(STREAMED..).copied().collect(),
+            _ => steps.clone(),
+        };
+        let missing: Vec<usize> = wanted.difference(counts).copied().collect();
+        assert!(missing.is_empty(), "{name} at {missing:?}");
+    }
+}
+
+#[test]
+fn streams_are_asked_around_the_ends_of_pieces() {
+    let streams = Generator::new(1).take(LOOKED_AT).filter(|question| {
+        matches!(
+            question.operation,
+            Operation::SerializeInner(_) | Operation::BufferedHex(_)
+        )
+    });
+    let lengths: BTreeSet<usize> = streams.map(|question| question.bytes.len()).collect();
+    for end in PIECES {
         assert!(
-            wanted.all(|length| lengths.contains(&length)),
-            "{operation}"
+            (end - 2..=end + 2).all(|length| lengths.contains(&length)),
+            "{end}"
         );
     }
 }

@@ -85,7 +85,8 @@ impl Texts {
         let length = if self.random.one_in(4) {
             self.long()
         } else {
-            self.length() + least
+            // Whole steps are added, so that the ends of steps stay where they are.
+            (self.length() + least / STEP * STEP).max(least)
         };
         self.random.bytes(length)
     }

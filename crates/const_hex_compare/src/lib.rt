@@ -15,8 +15,8 @@ use crate::counter::Counter;
 use std::alloc::Global;
 use std::fmt::Write;
 
-/// Makes the text of the bytes, and answers how long it is, and in `last` what its last byte is. The
-/// answer is 0, and `last` as it was, where there is no byte or memory is refused.
+/// Makes the text of the bytes, and answers how long it is. The answer is 0, and `last` as it was,
+/// where there is no byte or memory is refused.
 #[unsafe(no_mangle)]
 pub extern "C" fn const_hex_compare_encode(alloc: Global, bytes: &[u8], last: &mut u8) -> usize
     ensures length { result ≢ 0 → result ≡ length (hex_text false bytes.now) }
@@ -32,9 +32,8 @@ pub extern "C" fn const_hex_compare_encode(alloc: Global, bytes: &[u8], last: &m
     text.len()
 }
 
-/// Makes the bytes that the text spells, and answers how many they are, and in `last` what the last
-/// of them is. The answer is 0, and `last` as it was, where there is none, or the text or memory is
-/// refused.
+/// Makes the bytes that the text spells, and answers how many they are. The answer is 0, and `last`
+/// as it was, where there is none, or the text or memory is refused.
 #[unsafe(no_mangle)]
 pub extern "C" fn const_hex_compare_decode(alloc: Global, text: &[u8], last: &mut u8) -> usize
     ensures bytes { result ≢ 0
