@@ -15,7 +15,9 @@
  *  - what a call writes (text or bytes, count, refusal, buffer) overlaps nothing else that the call
  *    is given, and no other thread touches it meanwhile;
  *  - a pointer to one value (count, refusal) is not null and is aligned as its type wants; the
- *    value is writable, but for the refusal of const_hex_refusal_words, which is only read.
+ *    value is writable, but for the refusal of const_hex_refusal_words, which is only read;
+ *  - prefix and upper are 0 or 1. C and C++ see to that by the type bool; another language has to
+ *    hand on its own bool, and no int.
  *
  * No length and no bytes are forbidden, and text, bytes and buffer may stand at any address. No text
  * needs a NUL at its end, and none is written, but by const_hex_refusal_words.

@@ -9,11 +9,9 @@
 #define _GNU_SOURCE
 #endif
 #include "const_hex.h"
+#include "pages.h"
 #include <stdio.h>
-#include <stdlib.h>
 #include <string.h>
-#include <sys/mman.h>
-#include <unistd.h>
 
 #ifdef __cplusplus
 extern "C" {
@@ -62,7 +60,7 @@ struct build {
 static const struct build BUILDS[] = {
     BUILD("dispatcher", ), BUILD("default build", _default), BUILD("x86-64-v3 build", _v3)};
 
-enum { LONGEST = 300, ALIGNMENTS = 64, BAD_LENGTHS = 130, ROOM = 4096, MARK = 0xEE, AROUND = 64 };
+enum { LONGEST = 300, ALIGNMENTS = 64, BAD_LENGTHS = 130, SPARE = 3, LANES = 64 };
 
 static const struct build *build;
 static unsigned long checks;
@@ -74,18 +72,6 @@ static void holds(bool fact, const char *what, size_t length, size_t place) {
     if (!fact && wrong++ < 20) {
         printf("check: FAILED: %s: %s, at %zu, %zu\n", build->name, what, length, place);
     }
-}
-
-/* A page with unreadable ones before and behind it. */
-static unsigned char *fenced(void) {
-    size_t page = (size_t)sysconf(_SC_PAGESIZE);
-    void *all = mmap(NULL, 3 * page, PROT_NONE, MAP_PRIVATE | MAP_ANONYMOUS, -1, 0);
-    if (page != ROOM || all == MAP_FAILED ||
-        mprotect((unsigned char *)all + page, page, PROT_READ | PROT_WRITE) != 0) {
-        puts("check: no pages of 4096 bytes");
-        exit(2);
-    }
-    return (unsigned char *)all + page;
 }
 
 /* The plain loops that the calls are compared with. */
@@ -137,35 +123,6 @@ static struct const_hex_refusal plain_refusal(const char *text, size_t length, b
 
 static bool same(const struct const_hex_refusal *one, const struct const_hex_refusal *other) {
     return one->kind == other->kind && one->byte == other->byte && one->index == other->index;
-}
-
-static bool marked(const unsigned char *bytes, size_t count) {
-    for (size_t place = 0; place < count; place++) {
-        if (bytes[place] != MARK) {
-            return false;
-        }
-    }
-    return true;
-}
-
-/* How many bytes between an end of its page and an output are looked at: at most 64. */
-static size_t around(const unsigned char *from, const unsigned char *to) {
-    size_t between = (size_t)(to - from);
-    return between < (size_t)AROUND ? between : (size_t)AROUND;
-}
-
-/* Puts the mark into an output and around it. */
-static void mark(const unsigned char *page, unsigned char *output, size_t length) {
-    size_t front = around(page, output);
-    size_t back = around(output + length, page + ROOM);
-    memset(output - front, MARK, front + length + back);
-}
-
-/* Whether what stands around an output has its mark. */
-static bool kept_around(const unsigned char *page, const unsigned char *output, size_t length) {
-    size_t front = around(page, output);
-    return marked(output - front, front) &&
-           marked(output + length, around(output + length, page + ROOM));
 }
 
 static void worked_rows(void) {
@@ -263,6 +220,21 @@ struct pages {
     unsigned char *back;
 };
 
+/* A text into room for up to three bytes more than it spells: as many as its page has. */
+static void front_and_back(const unsigned char *page, const unsigned char *bytes, size_t count,
+                           const char *text, size_t length, unsigned char *back) {
+    struct const_hex_refusal refusal = {0, 0, 0};
+    size_t decoded = 999;
+    size_t behind = (size_t)(page + ROOM - back) - count;
+    size_t room = count + (behind < (size_t)SPARE ? behind : (size_t)SPARE);
+    mark(page, back, room);
+    holds(build->decode_front(text, length, back, room, &decoded, &refusal) && decoded == count &&
+              memcmp(back, bytes, count) == 0,
+          "decode_front", count, room);
+    holds(marked(back + count, room - count) && kept_around(page, back, room), "around a front",
+          count, room);
+}
+
 /* One input at one place in its page, as one text at one place and back to another. */
 static void there_and_back(const struct pages *pages, const unsigned char *bytes, size_t count,
                            int form, unsigned char *text, unsigned char *back) {
@@ -281,6 +253,7 @@ static void there_and_back(const struct pages *pages, const unsigned char *bytes
     holds(build->decode(written, length, back, count, &refusal) && memcmp(back, bytes, count) == 0,
           "decode", count, (size_t)form);
     holds(kept_around(pages->back, back, count), "around bytes", count, (size_t)form);
+    front_and_back(pages->back, bytes, count, written, length, back);
     holds(build->check(written, length, &refusal) && build->check_raw(written, length) == !prefix,
           "check", count, (size_t)form);
 }
@@ -322,30 +295,32 @@ static bool front_decoded(const char *digits, size_t pairs, const unsigned char 
     return marked(bytes + done, room - done);
 }
 
-/* A refused text: the refusal, and what is left of the output, whose end is given. */
-static void refused(const char *text, size_t length, size_t start, unsigned char *end,
+/* A refused text: the refusal, and what is left of the output, which ends where its page does. */
+static void refused(const char *text, size_t length, size_t start, unsigned char *page,
                     size_t count, size_t place) {
     struct const_hex_refusal any = plain_refusal(text, length, false, 0);
     struct const_hex_refusal sized = plain_refusal(text, length, true, count);
     struct const_hex_refusal refusal = {9, 9, 9};
     size_t pairs = any.kind == CONST_HEX_INVALID_CHARACTER ? (any.index - start) / 2 : 0;
+    unsigned char *output = page + ROOM - count;
 
     holds(!build->check(text, length, &refusal) && same(&refusal, &any), "check", length, place);
     holds(!build->check_raw(text + start, length - start), "check_raw", length, place);
-    memset(end - count, MARK, count);
-    holds(!build->decode(text, length, end - count, count, &refusal) && same(&refusal, &sized),
+    mark(page, output, count);
+    holds(!build->decode(text, length, output, count, &refusal) && same(&refusal, &sized),
           "decode", length, place);
-    holds(front_decoded(text + start, pairs, end - count, count), "what a refusal leaves", length,
-          place);
-    for (size_t more = 0; more <= 3; more += 3) {
+    holds(front_decoded(text + start, pairs, output, count) && kept_around(page, output, count),
+          "what a refusal leaves", length, place);
+    for (size_t more = 0; more <= SPARE; more += SPARE) {
         size_t room = count + more;
         size_t decoded = 99;
         struct const_hex_refusal of_front = {9, 9, 9};
-        memset(end - room, MARK, room);
-        holds(!build->decode_front(text, length, end - room, room, &decoded, &of_front) &&
+        output = page + ROOM - room;
+        mark(page, output, room);
+        holds(!build->decode_front(text, length, output, room, &decoded, &of_front) &&
                   same(&of_front, &any) && decoded == 99,
               "decode_front", length, place);
-        holds(front_decoded(text + start, pairs, end - room, room),
+        holds(front_decoded(text + start, pairs, output, room) && kept_around(page, output, room),
               "what a refusal leaves of room", length, place);
     }
 }
@@ -372,7 +347,7 @@ static void bad_bytes(void) {
                     if (prefix == 0 && place == 1 && text[0] == '0' && bad[which] == 'x') {
                         continue;
                     }
-                    refused(text, length, prefix, output + ROOM, digits / 2, place);
+                    refused(text, length, prefix, output, digits / 2, place);
                 }
             }
             holds(plain_refusal(text, length, false, 0).kind ==
@@ -402,6 +377,35 @@ static void every_byte(void) {
             holds(build->check_raw(text, 2) == (value >= 0) &&
                       build->check_raw(text + place, 1) == (value >= 0),
                   "check_raw of a byte", place, byte);
+        }
+    }
+}
+
+/* Each byte in each place of a text of 64 digits, which the lanes of each build go through. */
+static void every_byte_in_lanes(void) {
+    char *text = (char *)fenced() + ROOM - LANES;
+    unsigned char *page = fenced();
+    unsigned char *output = page + ROOM - LANES / 2;
+    for (unsigned byte = 0; byte < 256; byte++) {
+        for (size_t place = 0; place < (size_t)LANES; place++) {
+            unsigned char wanted[LANES / 2];
+            struct const_hex_refusal refusal = {9, 9, 9};
+            int value = plain_value((unsigned char)byte);
+            memset(text, '1', LANES);
+            text[place] = (char)byte;
+            if (value < 0) {
+                refused(text, LANES, 0, page, LANES / 2, place);
+                continue;
+            }
+            memset(wanted, 0x11, sizeof wanted);
+            wanted[place / 2] = (unsigned char)(place % 2 == 0 ? 16 * value + 1 : 16 + value);
+            mark(page, output, LANES / 2);
+            holds(build->decode(text, LANES, output, LANES / 2, &refusal) &&
+                      memcmp(output, wanted, sizeof wanted) == 0 &&
+                      kept_around(page, output, LANES / 2),
+                  "a byte's value in lanes", place, byte);
+            holds(build->check(text, LANES, &refusal) && build->check_raw(text, LANES),
+                  "check of a byte in lanes", place, byte);
         }
     }
 }
@@ -452,6 +456,7 @@ static const struct {
              {"null pointers with length 0", null_with_no_bytes},
              {"words of refusals", words},
              {"every byte", every_byte},
+             {"every byte in lanes", every_byte_in_lanes},
              {"outputs of wrong sizes", wrong_sizes},
              {"bad bytes at every place", bad_bytes},
              {"every length at every alignment", lengths_and_alignments}};

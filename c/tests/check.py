@@ -109,6 +109,10 @@ def decoded_sized(library, text, count, with_left):
     return f"{refusal} BUF {shown(out)}" if with_left else str(refusal)
 
 
+def message(library, refusal):
+    return "OK" if refusal is None else f"MSG {shown(library.words(refusal))}"
+
+
 def answer(library, operation, data, number):
     """The library's answer to a question, as the replay writes it, or None where it has no such call."""
     forms = {"encode": (False, False), "encode_upper": (False, True), "encode_prefixed": (True, False),
@@ -129,9 +133,10 @@ def answer(library, operation, data, number):
         return "OK" if refusal is None else str(refusal)
     if operation in ("check_raw", "const_check_raw"):
         return "OK true" if library.call_check_raw(data, len(data)) else "OK false"
-    if operation == "msg_decode":
-        refusal = library.check(data)
-        return "OK" if refusal is None else f"MSG {shown(library.words(refusal))}"
+    if operation in ("msg_decode", "msg_check", "msg_const_check"):
+        return message(library, library.check(data))
+    if operation == "msg_decode_to_slice":
+        return message(library, library.decode(data, number)[0])
     return None
 
 
