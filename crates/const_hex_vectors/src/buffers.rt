@@ -25,9 +25,11 @@ fn formats_over_what_stood_there(rt: HostRuntime) {
         "ab0cdef0",
         "AB0CDEF0",
     );
+    let mut short = Buffer::<2, true, 6>::new();
+    assert!(rt; short.format_slice_upper(&[0xAB, 0x0C]) == "0xAB0C");
 }
 
-/// Each call that writes and lends.
+/// Each call that writes and lends, over the text of other bytes.
 fn formats<const N: usize, const PREFIX: bool, const LEN: usize>(
     rt: &impl Abort,
     buffer: &mut Buffer<N, PREFIX, LEN>,
@@ -38,6 +40,8 @@ fn formats<const N: usize, const PREFIX: bool, const LEN: usize>(
     requires { LEN ≡ text_length PREFIX N }
 {
     assert!(rt; buffer.format(bytes) == lower);
+    holds(rt, buffer, lower);
+    buffer.format(&[0; N]);
     assert!(rt; buffer.format_upper(bytes) == upper);
     holds(rt, buffer, upper);
     formats_slices(rt, buffer, bytes, lower, upper);
@@ -52,8 +56,10 @@ fn formats_slices<const N: usize, const PREFIX: bool, const LEN: usize>(
 )
     requires { LEN ≡ text_length PREFIX N }
 {
+    buffer.format_upper(&[0xFF; N]);
     assert!(rt; buffer.format_slice(bytes) == lower);
     holds(rt, buffer, lower);
+    buffer.format(&[0; N]);
     assert!(rt; buffer.format_slice_upper(bytes) == upper);
 }
 
@@ -95,6 +101,10 @@ fn made_at_once(rt: HostRuntime) {
         &Buffer::<4, false, 8>::new().const_format_upper(b"kiwi"),
         "6B697769",
     );
+    let full = const_encode::<4, false, 8>(b"1234");
+    holds(&rt, &full.const_format_upper(b"kiwi"), "6B697769");
+    let full = const_encode::<4, true, 10>(b"1234");
+    holds(&rt, &full.const_format(b"kiwi"), "0x6b697769");
     holds(&rt, &Buffer::<0, false, 0>::new(), "");
     holds(&rt, &Buffer::<0, true, 2>::new(), "0x");
 }
@@ -102,11 +112,11 @@ fn made_at_once(rt: HostRuntime) {
 #[test]
 fn debug_form(rt: HostRuntime) -> Result<(), Fail> {
     let alloc = rt.alloc();
-    let blank = Buffer::<1, false, 2>::new();
-    let text = format!(in alloc; "{blank:?}")?;
+    let mut buffer = Buffer::<1, false, 2>::new();
+    let text = format!(in alloc; "{buffer:?}")?;
     assert_eq!(rt; text.as_str(), "Buffer(\"\\0\\0\")");
-    let full = const_encode::<1, false, 2>(&[0xAB]);
-    let text = format!(in alloc; "{full:?}")?;
+    buffer.format(&[0xAB]);
+    let text = format!(in alloc; "{buffer:?}")?;
     assert_eq!(rt; text.as_str(), "Buffer(\"ab\")");
     Ok(())
 }
@@ -142,9 +152,21 @@ fn agrees_with_std<const N: usize, const PREFIX: bool, const LEN: usize>(
     assert_eq!(rt; Buffer::<N, PREFIX, LEN>::LEN, lower.len());
     formats(rt, &mut buffer, &bytes, &lower, &upper);
     copies(rt, alloc, &buffer, &upper)?;
+    is_read_back(rt, &buffer, bytes);
+    buffer.format(&bytes);
+    copies(rt, alloc, &buffer, &lower)?;
+    is_read_back(rt, &buffer, bytes);
+    Ok(())
+}
+
+/// What a buffer holds spells these bytes.
+fn is_read_back<const N: usize, const PREFIX: bool, const LEN: usize>(
+    rt: &impl Abort,
+    buffer: &Buffer<N, PREFIX, LEN>,
+    bytes: [u8; N],
+) {
     assert!(rt; decode_to_array::<N>(buffer.as_bytes()) == Ok(bytes));
     assert!(rt; const_decode_to_array::<N>(buffer.as_bytes()) == Ok(bytes));
-    Ok(())
 }
 
 /// N bytes, of all values in turn.

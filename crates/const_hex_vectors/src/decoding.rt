@@ -115,7 +115,7 @@ fn json_refuses(
 
 #[test]
 fn accepted_texts(rt: HostRuntime) -> Result<(), Fail> {
-    let rows: [(&str, &[u8]); 11] = [
+    let rows: [(&str, &[u8]); 12] = [
         ("", b""),
         ("0x", b""),
         ("0X", b""),
@@ -124,6 +124,7 @@ fn accepted_texts(rt: HostRuntime) -> Result<(), Fail> {
         ("7F80", &[127, 128]),
         ("0X6B697769", b"kiwi"),
         ("6b697769", b"kiwi"),
+        ("48656c6c6f20776f726c6421", b"Hello world!"),
         ("0x48656c6c6f20776f726c6421", b"Hello world!"),
         ("48656C6C6F20776f726c6421", b"Hello world!"),
         ("0X48656C6C6F20776F726C6421", b"Hello world!"),
@@ -194,23 +195,30 @@ fn signed_sized<const N: usize>(
     left: &[u8; N],
 ) {
     match <[i8; N]>::from_hex(alloc, text) {
-        Ok(numbers) => same_bits(rt, &numbers, left),
+        Ok(numbers) => {
+            assert_eq!(rt; answer, Ok(()));
+            same_bits(rt, &numbers, left);
+        }
         Err(refusal) => assert_eq!(rt; Err(refusal), answer),
     }
     match <Box<[i8; N]>>::from_hex(alloc, text) {
-        Ok(numbers) => same_bits(rt, &*numbers, left),
+        Ok(numbers) => {
+            assert_eq!(rt; answer, Ok(()));
+            same_bits(rt, &*numbers, left);
+        }
         Err(refusal) => assert_eq!(rt; Err(refusal), answer),
     }
 }
 
 #[test]
 fn one_byte(rt: HostRuntime) {
-    let rows: [(&[u8], Result<(), FromHexError>, u8); 8] = [
+    let rows: [(&[u8], Result<(), FromHexError>, u8); 9] = [
         (b"0xff", Ok(()), 0xFF),
         (b"0x0", Err(ODD), 0xEE),
         (b"0x1", Err(ODD), 0xEE),
         (b"foo", Err(ODD), 0xEE),
         (b"123", Err(ODD), 0xEE),
+        (b"48656c6c6f20776f726c642", Err(ODD), 0xEE),
         (b"0x", Err(OTHER_LENGTH), 0xEE),
         (b"0xzz", Err(bad('z', 2)), 0xEE),
         (b"zz", Err(bad('z', 0)), 0xEE),
@@ -218,6 +226,8 @@ fn one_byte(rt: HostRuntime) {
     for (text, answer, byte) in rows {
         sized(&rt, rt.alloc(), text, answer, [byte]);
     }
+    let shared = <Rc<[u8; 1]>>::from_hex(rt.alloc(), b"0x0");
+    assert!(rt; shared.err() == Some(ODD));
 }
 
 #[test]

@@ -115,9 +115,11 @@ fn owned_texts(rt: HostRuntime) -> Result<(), Fail> {
 #[test]
 fn texts_of_other_types(rt: HostRuntime) -> Result<(), Fail> {
     let alloc = rt.alloc();
-    let want = with_texts(alloc, b"kiwi", "6b697769", "6B697769")?;
-    each_form(&rt, alloc, b"kiwi", &want)?;
-    each_form(&rt, alloc, &"kiwi".to_string(alloc)?, &want)?;
+    let lower = "48656c6c6f20776f726c6421";
+    let upper = "48656C6C6F20776F726C6421";
+    let want = with_texts(alloc, b"Hello world!", lower, upper)?;
+    each_form(&rt, alloc, b"Hello world!", &want)?;
+    each_form(&rt, alloc, &"Hello world!".to_string(alloc)?, &want)?;
     Ok(())
 }
 
@@ -212,7 +214,9 @@ fn characters(rt: HostRuntime) {
     for (left, want) in [(2, Some('0')), (1, Some('F')), (0, None), (0, None)] {
         gives(&rt, &mut upper, left, want);
     }
-    gives(&rt, &mut BytesToHexChars::<false>::new(&[]), 0, None);
+    let mut none = BytesToHexChars::<false>::new(&[]);
+    gives(&rt, &mut none, 0, None);
+    gives(&rt, &mut none, 0, None);
 }
 
 /// The next character, and how many are left with it.

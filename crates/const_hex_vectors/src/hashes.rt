@@ -27,7 +27,7 @@ fn texts_of_hashes(rt: HostRuntime) -> Result<(), Fail> {
     prints(&rt, alloc, &hash, COUNTED)?;
     assert!(rt; hash.to_buffer().as_str() == COUNTED);
     assert!(rt; Hash32::from_hex(alloc, COUNTED.as_bytes()) == Ok(hash));
-    let letters = Hash32::from([255; 32]);
+    let letters = Hash32::from_bytes([255; 32]);
     assert!(rt; Hash32::from_hex(alloc, &[b'F'; 64]) == Ok(letters));
     let lower = "0xffffffffffffffffffffffffffffffffffffffffffffffffffffffffffffffff";
     prints(&rt, alloc, &letters, lower)?;
@@ -75,8 +75,9 @@ fn texts_of_addresses(rt: HostRuntime) -> Result<(), Fail> {
 #[test]
 fn debug_forms(rt: HostRuntime) -> Result<(), Fail> {
     let alloc = rt.alloc();
-    let address = "Address20(0xabababababababababababababababababababab)";
-    shows(&rt, alloc, &Address20::from([0xAB; 20]), address)?;
+    let address = Address20::from_hex(alloc, b"0x5aAeb6053F3E94C9b9A09f33669435E7Ef1BeAed")?;
+    let text = "Address20(0x5aaeb6053f3e94c9b9a09f33669435e7ef1beaed)";
+    shows(&rt, alloc, &address, text)?;
     let hash = "Hash32(0x000102030405060708090a0b0c0d0e0f101112131415161718191a1b1c1d1e1f)";
     shows(&rt, alloc, &Hash32::from(counted()), hash)?;
     shows(

@@ -46,7 +46,10 @@ fn there_and_back(rt: HostRuntime) -> Result<(), Fail> {
     let bytes = deserialize::<[u8; 12]>(rt.alloc(), text);
     assert_eq!(rt; bytes, Ok(*b"Hello world!"));
     let refused = deserialize::<[u8; 2]>(rt.alloc(), text);
-    let other_length = JsonError::Hex(FromHexError::InvalidStringLength);
-    assert_eq!(rt; refused, Err(other_length));
+    let other_length = FromHexError::InvalidStringLength;
+    assert_eq!(rt; refused, Err(JsonError::Hex(other_length)));
+    let short = Value::String("0xff".to_string(rt.alloc())?);
+    let refused = deserialize::<[u8; 2]>(rt.alloc(), &short);
+    assert_eq!(rt; refused, Err(JsonError::Hex(other_length)));
     Ok(())
 }

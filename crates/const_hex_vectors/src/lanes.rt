@@ -74,10 +74,14 @@ fn text_of_a_step(rt: HostRuntime) {
     let [first, second] = lanes16::encode_chunk::<false>(lanes);
     assert_eq!(rt; first.to_array(), *b"0001020304050607");
     assert_eq!(rt; second.to_array(), *b"08090a0b0c0d0e0f");
-    let lanes = u8x32::from_array(*b"@ABCDEFGHIJKLMNOPQRSTUVWXYZ[\\]^_");
+    let lanes = u8x32::from_array([
+        0xA0, 0xA1, 0xA2, 0xA3, 0xA4, 0xA5, 0xA6, 0xA7, 0xA8, 0xA9, 0xAA, 0xAB, 0xAC, 0xAD, 0xAE,
+        0xAF, 0xB0, 0xB1, 0xB2, 0xB3, 0xB4, 0xB5, 0xB6, 0xB7, 0xB8, 0xB9, 0xBA, 0xBB, 0xBC, 0xBD,
+        0xBE, 0xBF,
+    ]);
     let [first, second] = lanes32::encode_chunk::<true>(lanes);
-    assert_eq!(rt; first.to_array(), *b"404142434445464748494A4B4C4D4E4F");
-    assert_eq!(rt; second.to_array(), *b"505152535455565758595A5B5C5D5E5F");
+    assert_eq!(rt; first.to_array(), *b"A0A1A2A3A4A5A6A7A8A9AAABACADAEAF");
+    assert_eq!(rt; second.to_array(), *b"B0B1B2B3B4B5B6B7B8B9BABBBCBDBEBF");
 }
 
 /// What decodes a step of vectors `V`. Generated proofs cover an option of a type parameter, and

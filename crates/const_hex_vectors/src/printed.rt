@@ -27,22 +27,24 @@ impl fmt::Display for InRadix<'_> {
 #[test]
 fn printed_forms(rt: HostRuntime) -> Result<(), Fail> {
     let bytes = [0xDE, 0xAD, 0xBE, 0xEF];
-    let lower = "deadbeef 0xdeadbeef deadbeef 0xdeadbeef";
-    let upper = "DEADBEEF 0xDEADBEEF DEADBEEF 0xDEADBEEF";
+    let lower = "deadbeef 0xdeadbeef deadbeef 0xdeadbeef deadbeef deadbeef deadbeef";
+    let upper = "DEADBEEF 0xDEADBEEF DEADBEEF 0xDEADBEEF DEADBEEF DEADBEEF DEADBEEF";
     prints(&rt, rt.alloc(), &display(&bytes), lower)?;
     prints(&rt, rt.alloc(), &InRadix::Lower(display(&bytes)), lower)?;
     prints(&rt, rt.alloc(), &InRadix::Upper(display(&bytes)), upper)?;
     Ok(())
 }
 
-/// Width, fill and alignment change nothing.
+/// Width, fill and alignment change nothing; `#` as the fill makes no prefix.
 fn prints<D: fmt::Display>(
     rt: &impl Abort,
     alloc: Global,
     value: &D,
     want: &str,
 ) -> Result<(), Fail> {
-    let text = format!(in alloc; "{value} {value:#} {value:*^20} {value:#020}")?;
+    let mut text = format!(in alloc; "{value} {value:#} {value:*^20} {value:#020}")?;
+    let aligned = format!(in alloc; " {value:#<20} {value:*<20} {value:*>20}")?;
+    text.push_str(&aligned)?;
     assert_eq!(rt; text.as_str(), want);
     Ok(())
 }
@@ -52,6 +54,7 @@ fn prints<D: fmt::Display>(
 fn printed_bytes(rt: HostRuntime) -> Result<(), Fail> {
     let alloc = rt.alloc();
     let data = bytes(alloc, 100_000)?;
+    assert_eq!(rt; data.len(), 100_000);
     let lower = printed(alloc, &data, true, false)?;
     let upper = printed(alloc, &data, true, true)?;
     prints_both(&rt, alloc, &display(&data), &lower)?;

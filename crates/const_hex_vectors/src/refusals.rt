@@ -33,6 +33,8 @@ fn debug_forms(rt: HostRuntime) -> Result<(), Fail> {
     let odd = FromHexError::OddLength;
     let not_text: JsonError<FromHexError> = JsonError::NotText;
     shows(&rt, alloc, &odd, "OddLength")?;
+    let bad = refusal(b'z', 5);
+    shows(&rt, alloc, &bad, "InvalidHexCharacter { c: 'z', index: 5 }")?;
     shows(&rt, alloc, &JsonError::Hex(odd), "Hex(OddLength)")?;
     shows(&rt, alloc, &not_text, "NotText")?;
     shows(&rt, alloc, &SinkError, "SinkError")
@@ -97,12 +99,15 @@ fn compared(rt: HostRuntime) {
     for i in 0..6usize {
         let one = refusals[i];
         assert!(rt; JsonError::Hex(one) != JsonError::NotText);
+        assert!(rt; JsonError::NotText != JsonError::Hex(one));
         for j in 0..6usize {
             let other = refusals[j];
             assert_eq!(rt; one == other, i == j);
             assert_eq!(rt; JsonError::Hex(one) == JsonError::Hex(other), i == j);
         }
     }
+    let not_text: JsonError<FromHexError> = JsonError::NotText;
+    assert!(rt; not_text == JsonError::NotText);
     assert!(rt; are_equal(SinkError, SinkError));
 }
 

@@ -24,6 +24,7 @@ fn pieces_of_each_size(rt: HostRuntime) -> Result<(), Fail> {
         assert!(rt; sink.write_str(piece).is_ok());
     }
     assert_eq!(rt; sink.calls(), 4096);
+    assert_eq!(rt; sink.pieces().len(), 4096);
     for (place, piece) in sink.pieces().iter().enumerate() {
         assert!(rt; text.get(..place + 1) == Some(piece.as_str()));
     }

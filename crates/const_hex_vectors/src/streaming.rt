@@ -180,6 +180,19 @@ fn keeps<W: Way>(
     assert!(rt; sink.pieces() == accepted);
 }
 
+// Two forms, one behind the other into one sink.
+#[test]
+fn two_texts_into_one_sink(rt: HostRuntime) -> Result<(), SinkError> {
+    let mut sink = PieceSink::new(rt.alloc(), 0);
+    BufferedHex::<false, true>::new(b"kiwi").write_to(&mut sink)?;
+    BufferedHex::<true, false>::new(b"kiwi").write_to(&mut sink)?;
+    assert_eq!(rt; sink.pieces().len(), 2);
+    for (piece, want) in sink.pieces().iter().zip(["0x6b697769", "6B697769"]) {
+        assert!(rt; piece.as_str() == want);
+    }
+    Ok(())
+}
+
 #[test]
 fn writes_after_a_refusal(rt: HostRuntime) -> Result<(), Fail> {
     let pieces = cut(rt.alloc(), "onetwo", &[3, 3])?;
@@ -193,7 +206,7 @@ fn writes_after_a_refusal(rt: HostRuntime) -> Result<(), Fail> {
     Ok(())
 }
 
-/// Writes three pieces, whatever the sink says.
+/// Writes five pieces, whatever the sink says.
 fn writes_on(sink: &mut NotingSink) -> Result<(), SinkError>
     requires { sink.old.refused ≡ false }
 {
@@ -201,5 +214,7 @@ fn writes_on(sink: &mut NotingSink) -> Result<(), SinkError>
     output.write(b"one");
     output.write(b"two");
     output.write(b"three");
+    output.write(b"four");
+    output.write(b"five");
     output.finish()
 }
