@@ -18,6 +18,10 @@ use std::fmt;
 /// asks for that, and writes the prefix anew. No call but [`to_string`](Self::to_string) and
 /// [`to_vec`](Self::to_vec) takes memory.
 ///
+/// A wrong LEN is refused where the buffer is made: there, the check says, "it is not proved that
+/// what `new` requires holds". The line `must prove` of its report ends in the right number, as
+/// `≡ 42`.
+///
 /// ```rust
 /// let mut buffer = Buffer::<4, true, 10>::new();
 /// assert_eq!(rt; buffer.format(b"kiwi"), "0x6b697769");

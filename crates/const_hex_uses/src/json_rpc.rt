@@ -1,12 +1,13 @@
 //! A request of Ethereum's JSON-RPC for a contract's code, and the answer to it.
 
-ghost use Rattle.std.specs.Prelude.{◌≡◌, ◌↔◌, ◌++◌, ◌∷◌, [], true, false, codes, replicate, string_bytes, None, Some, Ok, Err, IfOk, IfSome, option_and_then};
+ghost use Rattle.std.specs.Prelude.{◌≡◌, ◌↔◌, true, false, codes, string_bytes, None, Some, Ok, Err, IfOk, IfSome, option_and_then};
 ghost use Rattle.serde_json.specs.Data.{array, item, no_items, string};
 ghost use Rattle.serde_json.specs.Find.{as_str, get};
 ghost use Rattle.serde_json.specs.View.{view};
 ghost use Rattle.const_hex.specs.Answers.{Reads};
 ghost use Rattle.const_hex.specs.Texts.{full_text};
 ghost use Rattle.const_hex.specs.declared.serde.error.JsonError.TheVariants.{NotText};
+ghost use Rattle.const_hex_uses.specs.Refusals.{explained_text, marked_text};
 
 use const_hex::{FromHexError, JsonError, deserialize, serialize};
 use serde_json::{Value, json};
@@ -54,8 +55,7 @@ pub fn code_of(alloc: Global, answer: &Value) -> Result<Vec<u8>, JsonError<FromH
 /// assert_eq!(rt; marked(rt.alloc(), "0xzz", 2)?.as_str(), "0xzz\n  ^");
 /// ```
 pub fn marked(alloc: Global, text: &str, place: usize) -> Result<String, AllocError>
-    ensures { IfOk result
-        (λ s. string_bytes s ≡ text.now ++ 10 ∷ replicate place 32 ++ 94 ∷ []) }
+    ensures { IfOk result (λ s. string_bytes s ≡ marked_text text.now place) }
 {
     let mut shown = String::from_str(alloc, text)?;
     shown.push('\n')?;
@@ -72,7 +72,9 @@ pub fn marked(alloc: Global, text: &str, place: usize) -> Result<String, AllocEr
 /// let refusal = const_hex::check(b"0xzz").unwrap_err();
 /// assert_eq!(rt; explained(rt.alloc(), "0xzz", refusal)?.as_str(), "0xzz\n  ^");
 /// ```
-pub fn explained(alloc: Global, text: &str, refusal: FromHexError) -> Result<String, AllocError> {
+pub fn explained(alloc: Global, text: &str, refusal: FromHexError) -> Result<String, AllocError>
+    ensures { IfOk result (λ s. string_bytes s ≡ explained_text text.now refusal) }
+{
     match refusal {
         FromHexError::InvalidHexCharacter { index, .. } => marked(alloc, text, index),
         other => format!(in alloc; "{text}\n{other}"),

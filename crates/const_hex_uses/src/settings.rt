@@ -1,10 +1,11 @@
 //! Lines of the form `key=hex`.
 
-ghost use Rattle.std.specs.Prelude.{◌≡◌, ◌≢◌, ◌==◌, ◌+◌, ◌↔◌, ℕ, Ok, Err, IfOk, length};
-ghost use Rattle.std.specs.List.{after_first, position_or_len};
+ghost use Rattle.std.specs.Prelude.{◌≡◌, ◌≢◌, ◌+◌, ◌↔◌, ℕ, Ok, Err, IfOk, length};
+ghost use Rattle.std.specs.Str.Lines.{lines};
 ghost use Rattle.const_hex.specs.Answers.{Reads};
 ghost use Rattle.const_hex.specs.declared.error.FromHexError.{FromHexError};
 ghost use Rattle.const_hex.specs.declared.error.FromHexError.TheVariants.{NoMemory};
+ghost use Rattle.const_hex_uses.specs.Settings.{FirstFault, column_of, sign_place, value_text};
 ghost use Rattle.const_hex_uses.specs.declared.settings.LineFault.TheVariants.{NoSign, Refused};
 
 use const_hex::{FromHexError, decode};
@@ -26,7 +27,9 @@ impl LineFault {
     /// let fault = value_of(rt.alloc(), "salt=6b!9").unwrap_err();
     /// assert_eq!(rt; fault.column(), Some(8));
     /// ```
-    pub fn column(&self) -> Option<usize> {
+    pub fn column(&self) -> Option<usize>
+        ensures { result ≡ column_of self.now }
+    {
         match self {
             LineFault::Refused(start, FromHexError::InvalidHexCharacter { index, .. }) => {
                 Some(start.saturating_add(*index).saturating_add(1))
@@ -42,13 +45,12 @@ impl LineFault {
 /// assert_eq!(rt; value_of(rt.alloc(), "salt=6b69")?.as_slice(), b"ki".as_slice());
 /// ```
 pub fn value_of(alloc: Global, line: &str) -> Result<Vec<u8>, LineFault>
-    ensures value { IfOk result (λ v. Reads (after_first (λ b. b == 61) line.now) (Ok v.items)) }
-    ensures no_sign { (result ≡ Err NoSign)
-        ↔ (position_or_len (λ b. b == 61) line.now ≡ length line.now) }
+    ensures value { IfOk result (λ v. Reads (value_text line.now) (Ok v.items)) }
+    ensures no_sign { (result ≡ Err NoSign) ↔ (sign_place line.now ≡ length line.now) }
     ensures start { (start : ℕ) (e : FromHexError) → result ≡ Err (Refused start e)
-        → start ≡ position_or_len (λ b. b == 61) line.now + 1 }
+        → start ≡ sign_place line.now + 1 }
     ensures refusal { (start : ℕ) (e : FromHexError) → result ≡ Err (Refused start e)
-        → e ≢ NoMemory → Reads (after_first (λ b. b == 61) line.now) (Err e) }
+        → e ≢ NoMemory → Reads (value_text line.now) (Err e) }
 {
     let Some((key, text)) = line.split_once('=') else {
         return Err(LineFault::NoSign);
@@ -65,7 +67,9 @@ pub fn value_of(alloc: Global, line: &str) -> Result<Vec<u8>, LineFault>
 /// let (line, fault) = first_fault(rt.alloc(), "salt=6b69\nkey=6b!9").unwrap();
 /// assert_eq!(rt; (line, fault.column()), (2, Some(7)));
 /// ```
-pub fn first_fault(alloc: Global, text: &str) -> Option<(usize, LineFault)> {
+pub fn first_fault(alloc: Global, text: &str) -> Option<(usize, LineFault)>
+    ensures { FirstFault (lines text.now) result }
+{
     for (number, line) in text.lines().enumerate() {
         if let Err(fault) = value_of(alloc, line) {
             return Some((number + 1, fault));
