@@ -10,6 +10,7 @@ pub mod json_rpc;
 pub mod own_kernel;
 pub mod readers;
 pub mod settings;
+pub mod sinks;
 pub mod store;
 #[cfg(test)]
 mod tests;

@@ -2,8 +2,9 @@ use crate::accounts::is_same_account;
 use crate::files::write_text;
 use crate::json_rpc::{code_of, code_request, explained};
 use crate::settings::{LineFault, first_fault};
+use crate::sinks::send;
 use crate::store::{find, put};
-use const_hex::JsonError;
+use const_hex::{JsonError, PieceSink};
 use serde_json::json;
 use std::collections::HashMap;
 use std::test::Fail;
@@ -20,6 +21,12 @@ fn texts_of_users(rt: HostRuntime) -> Result<(), Fail> {
     let mut file = Vec::new(alloc);
     write_text(b"kiwi", &mut file)?;
     assert_eq!(rt; file.as_slice(), b"0x6b697769".as_slice());
+    let mut sink = PieceSink::new(alloc, 0);
+    send(b"kiwi", &mut sink)?;
+    assert_eq!(rt;
+        sink.pieces().first().map(|p| p.as_str()),
+        Some("0x6b697769")
+    );
     Ok(())
 }
 
