@@ -1,8 +1,10 @@
 //! A store whose keys are bytes, spelled in any way: each spelling finds what another put there.
 
-ghost use Rattle.std.specs.Prelude.{◌≡◌, Some, string_bytes, IfOk, OnOk};
+ghost use Rattle.std.specs.Prelude.{◌≡◌, ◌≢◌, ℕ, List, Some, Err, string_bytes, IfOk, IfErr, OnOk, OnErr};
 ghost use Rattle.std.specs.HashMap.{get_by_text};
+ghost use Rattle.const_hex.specs.Answers.{Reads};
 ghost use Rattle.const_hex.specs.Bodies.{body_of, lowered};
+ghost use Rattle.const_hex.specs.declared.error.FromHexError.TheVariants.{NoMemory};
 
 use const_hex::{FromHexError, decode, encode};
 use std::alloc::Global;
@@ -14,7 +16,8 @@ use std::collections::HashMap;
 /// assert_eq!(rt; canonical(rt.alloc(), b"0x6B69")?.as_str(), "6b69");
 /// ```
 pub fn canonical(alloc: Global, spelling: &[u8]) -> Result<String, FromHexError>
-    ensures { IfOk result (λ s. string_bytes s ≡ lowered (body_of spelling.now)) }
+    ensures text { IfOk result (λ s. string_bytes s ≡ lowered (body_of spelling.now)) }
+    ensures refused { IfErr result (λ e. e ≢ NoMemory → Reads spelling.now (Err e)) }
 {
     let bytes = decode(alloc, spelling)?;
     let text = encode(alloc, &bytes)?;
@@ -34,7 +37,12 @@ pub fn put(
     key: &[u8],
     number: u64,
 ) -> Result<(), FromHexError>
-    ensures { OnOk result (get_by_text store.new (lowered (body_of key.now)) ≡ Some number) }
+    ensures stored { OnOk result (get_by_text store.new (lowered (body_of key.now)) ≡ Some number) }
+    ensures others { OnOk result ((other : List ℕ) → other ≢ lowered (body_of key.now)
+        → get_by_text store.new other ≡ get_by_text store.old other) }
+    ensures refused { IfErr result (λ e. e ≢ NoMemory → Reads key.now (Err e)) }
+    ensures unchanged { OnErr result ((other : List ℕ)
+        → get_by_text store.new other ≡ get_by_text store.old other) }
 {
     store.insert(canonical(alloc, key)?, number)?;
     Ok(())
@@ -51,7 +59,8 @@ pub fn find(
     store: &HashMap<String, u64>,
     key: &[u8],
 ) -> Result<Option<u64>, FromHexError>
-    ensures { IfOk result (λ found. found ≡ get_by_text store.now (lowered (body_of key.now))) }
+    ensures found { IfOk result (λ found. found ≡ get_by_text store.now (lowered (body_of key.now))) }
+    ensures refused { IfErr result (λ e. e ≢ NoMemory → Reads key.now (Err e)) }
 {
     let key = canonical(alloc, key)?;
     Ok(store.get(key.as_str()).copied())
