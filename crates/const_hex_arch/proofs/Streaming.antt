@@ -1,8 +1,8 @@
 -- From writes in small pieces to the calls of a sink.
-use Rattle.std.proofs.Common.{◌≡◌, ℕ, suc, ◌+◌, ◌*◌, ◌/◌, ◌<◌, ◌≤◌, ◌⊎◌, Bool, true, false, List, [], ◌∷◌, ◌++◌, length, take, refl, sym, ap, subst, ◌∙◌, arith, inl, inr, length-append}
+use Rattle.std.proofs.Common.{◌≡◌, ℕ, suc, ◌+◌, ◌*◌, ◌/◌, ◌<◌, ◌≤◌, Bool, true, false, List, [], ◌∷◌, ◌++◌, length, take, refl, sym, ap, subst, ◌∙◌, arith, inl, inr, length-append}
 use Rattle.std.specs.Prelude.{Option, Some, None, ◌-◌, if◌then◌else◌}
 use Rattle.std.specs.List.{FoldsTo, concat, All}
-use Rattle.std.proofs.Math.Nat.{le-div_iff_mul-le, eq-or-lt_of_le}
+use Rattle.std.proofs.Math.Nat.{le-div_iff_mul-le}
 use Rattle.std.proofs.lemmas.List.{append-nil, append_assoc, take_all, take_at}
 use Rattle.std.proofs.lemmas.List.Elements.{All-nil, All-cons, All-head, All-tail, All-append, All-take, All-weaker, All-same}
 use Rattle.std.proofs.lemmas.List.Folds.{concat-append}
@@ -26,55 +26,35 @@ record Gathered {O : Type 0} (step : O → List ℕ → O → Type 0) (old : O) 
   sizes : All IsHandedOn handed
   bound : length rest ≤ 4096
 
--- n bytes are gathered: 4096, or fewer where no more come
-module _ (n : ℕ) (least : 65 ≤ n) (most : n ≤ 4096) where
-  large_held : (held piece : List ℕ) → IsKernelPiece piece → (n < 4096 → length held + length piece ≤ n) → n < length held + length piece → (n ≡ 4096) ⊎ (n < 4096) → 4033 ≤ length held
-  large_held held piece k fits m (inl e) = omega arith
-  large_held held piece k fits m (inr u) = let h = fits u in absurd (omega (arith, h))
+handed_sizes : (held piece : List ℕ) (handed : List (List ℕ)) → length held ≤ 4096 → IsKernelPiece piece → HandsOnHeld 4096 held piece handed → All IsHandedOn handed
+unfolding IsHandedOn
+handed_sizes held piece handed f k (inl e) = All-same IsHandedOn handed [] e (All-nil IsHandedOn)
+handed_sizes held piece handed f k (inr (e, m)) =
+    All-same IsHandedOn handed (held ∷ []) e (All-cons IsHandedOn held [] (omega arith, omega arith) (All-nil IsHandedOn))
 
-  handed_sizes : (held piece : List ℕ) (handed : List (List ℕ)) → length held ≤ n → IsKernelPiece piece → (n < 4096 → length held + length piece ≤ n) → HandsOnHeld n held piece handed → All IsHandedOn handed
-  unfolding IsHandedOn
-  handed_sizes held piece handed f k fits (inl e) = All-same IsHandedOn handed [] e (All-nil IsHandedOn)
-  handed_sizes held piece handed f k fits (inr (e, m)) =
-      All-same IsHandedOn handed (held ∷ []) e (All-cons IsHandedOn held [] (large_held held piece k fits m (eq-or-lt_of_le most), omega arith) (All-nil IsHandedOn))
+module _ {O : Type 0} (step : O → List ℕ → O → Type 0) (room : O → Option ℕ) where
+  gathered_none : (o : O) (held : List ℕ) → length held ≤ 4096 → Gathered step o held [] o held
+  gathered_none o held f = record { handed = []; run = refl; whole = sym (append-nil held); sizes = All-nil IsHandedOn; bound = omega arith }
 
-  still_fits : (held piece kept text : List ℕ) (handed : List (List ℕ)) → concat handed ++ kept ≡ held ++ piece → HandsOnHeld n held piece handed
-      → (n < 4096 → length held + length (piece ++ text) ≤ n) → n < 4096 → length kept + length text ≤ n
-  still_fits held piece kept text handed w (inl e) fits u =
-      let whole : kept ≡ held ++ piece = rw e at w in
-      let long = ap length whole in
-      let h = fits u in
-      let a = length-append held piece in
-      let b = length-append piece text in
-      omega (arith, long, h, a, b)
-  still_fits held piece kept text handed w (inr (e, m)) fits u = let h = fits u in let b = length-append piece text in absurd (omega (arith, h, b))
+  gathered_more : (old : O) (held piece : List ℕ) (mid : O) (kept text : List ℕ) (new : O) (rest : List ℕ) → length held ≤ 4096 → IsKernelPiece piece
+      → Gathers step room 4096 old held piece mid kept → Gathered step mid kept text new rest → Gathered step old held (piece ++ text) new rest
+  gathered_more old held piece mid kept text new rest f k g r = record {
+    handed = g.handed ++ r.handed;
+    run = run_append step old g.handed mid r.handed new g.run r.run;
+    whole = ap (λ x. x ++ rest) (concat-append g.handed r.handed) ∙ append_assoc (concat g.handed) (concat r.handed) rest ∙ ap (λ x. concat g.handed ++ x) r.whole
+        ∙ sym (append_assoc (concat g.handed) kept text) ∙ ap (λ x. x ++ text) g.whole ∙ append_assoc held piece text;
+    sizes = All-append IsHandedOn g.handed r.handed (handed_sizes held piece g.handed f k (g.short (omega arith))) r.sizes;
+    bound = r.bound;
+  }
 
-  module _ {O : Type 0} (step : O → List ℕ → O → Type 0) (room : O → Option ℕ) where
-    gathered_none : (o : O) (held : List ℕ) → length held ≤ n → Gathered step o held [] o held
-    gathered_none o held f = record { handed = []; run = refl; whole = sym (append-nil held); sizes = All-nil IsHandedOn; bound = omega arith }
-
-    gathered_more : (old : O) (held piece : List ℕ) (mid : O) (kept text : List ℕ) (new : O) (rest : List ℕ) → length held ≤ n → IsKernelPiece piece → (n < 4096 → length held + length piece ≤ n)
-        → Gathers step room n old held piece mid kept → Gathered step mid kept text new rest → Gathered step old held (piece ++ text) new rest
-    gathered_more old held piece mid kept text new rest f k fits g r = record {
-      handed = g.handed ++ r.handed;
-      run = run_append step old g.handed mid r.handed new g.run r.run;
-      whole = ap (λ x. x ++ rest) (concat-append g.handed r.handed) ∙ append_assoc (concat g.handed) (concat r.handed) rest ∙ ap (λ x. concat g.handed ++ x) r.whole
-          ∙ sym (append_assoc (concat g.handed) kept text) ∙ ap (λ x. x ++ text) g.whole ∙ append_assoc held piece text;
-      sizes = All-append IsHandedOn g.handed r.handed (handed_sizes held piece g.handed f k fits (g.short (omega arith))) r.sizes;
-      bound = r.bound;
-    }
-
-    module _ {B : Type 0} (inner : B → O) (pending : B → List ℕ) where
-      gathered_run : (s : B) (ps : List (List ℕ)) (t : B) → length (pending s) ≤ n → All IsKernelPiece ps → (n < 4096 → length (pending s) + length (concat ps) ≤ n)
-          → FoldsTo (λ s p t. Gathers step room n (inner s) (pending s) p (inner t) (pending t)) s ps t
-          → Gathered step (inner s) (pending s) (concat ps) (inner t) (pending t)
-      gathered_run s [] t f a fits h = subst (λ x. Gathered step (inner s) (pending s) [] (inner x) (pending x)) h (gathered_none (inner s) (pending s) f)
-      gathered_run s (p ∷ ps) t f a fits (m, h, k) =
-          let piece = All-head IsKernelPiece p ps a in
-          let next = still_fits (pending s) p (pending m) (concat ps) h.handed h.whole (h.short (omega arith)) fits in
-          gathered_more (inner s) (pending s) p (inner m) (pending m) (concat ps) (inner t) (pending t) f piece
-          (λ u. let l = fits u in let b = length-append p (concat ps) in omega (arith, l, b)) h
-          (gathered_run m ps t h.bound (All-tail IsKernelPiece p ps a) next k)
+  module _ {B : Type 0} (inner : B → O) (pending : B → List ℕ) where
+    gathered_run : (s : B) (ps : List (List ℕ)) (t : B) → length (pending s) ≤ 4096 → All IsKernelPiece ps
+        → FoldsTo (λ s p t. Gathers step room 4096 (inner s) (pending s) p (inner t) (pending t)) s ps t
+        → Gathered step (inner s) (pending s) (concat ps) (inner t) (pending t)
+    gathered_run s [] t f a h = subst (λ x. Gathered step (inner s) (pending s) [] (inner x) (pending x)) h (gathered_none (inner s) (pending s) f)
+    gathered_run s (p ∷ ps) t f a (m, h, k) =
+        gathered_more (inner s) (pending s) p (inner m) (pending m) (concat ps) (inner t) (pending t) f (All-head IsKernelPiece p ps a) h
+        (gathered_run m ps t h.bound (All-tail IsKernelPiece p ps a) k)
 
 -- ---- what was handed on, and then what is pending, is a cut
 
@@ -166,18 +146,14 @@ module _ {S : Type 0} (step : S → List ℕ → S → Type 0) (is_refused : S �
   offered_run s (p ∷ ps) t e (m, h, k) = offered_one s p m ps t e h k (λ u. offered_run m ps t u k) (is_refused (output_sink m)) refl
 
   -- a run of small writes through a gathering output, and then what is pending
-  pub Streams-from_writes : {B : Type 0} (room : SinkOutput S → Option ℕ) (inner : B → SinkOutput S) (pending : B → List ℕ) (n : ℕ) (s : B) (text : List ℕ) (t : B) (out : SinkOutput S)
-      → 65 ≤ n
-      → n ≤ 4096
-      → (n < 4096 → length text ≤ n)
+  pub Streams-from_writes : {B : Type 0} (room : SinkOutput S → Option ℕ) (inner : B → SinkOutput S) (pending : B → List ℕ) (s : B) (text : List ℕ) (t : B) (out : SinkOutput S)
       → pending s ≡ []
-      → Writes (λ s p t. Gathers (SinkStep step is_refused) room n (inner s) (pending s) p (inner t) (pending t)) s text t
+      → Writes (λ s p t. Gathers (SinkStep step is_refused) room 4096 (inner s) (pending s) p (inner t) (pending t)) s text t
       → FoldsTo (SinkStep step is_refused) (inner t) (piece_of (pending t)) out
       → is_refused (output_sink (inner s)) ≡ false
       → (sink_name out ≡ sink_name (inner s)) × Streams step is_refused (output_sink (inner s)) text (output_sink out)
-  Streams-from_writes room inner pending n s text t out least most fits none w k e =
-      let fit : n < 4096 → length (pending s) + length (concat w.pieces) ≤ n = rw (none, w.whole) (λ u. let h = fits u in omega (arith, h)) in
-      let g = gathered_run n least most (SinkStep step is_refused) room inner pending s w.pieces t (rw none (omega arith)) w.sizes fit w.run in
+  Streams-from_writes room inner pending s text t out none w k e =
+      let g = gathered_run (SinkStep step is_refused) room inner pending s w.pieces t (rw none (omega arith)) w.sizes w.run in
       let pieces = g.handed ++ piece_of (pending t) in
       let whole : concat g.handed ++ pending t ≡ text = g.whole ∙ ap (λ x. x ++ concat w.pieces) none ∙ w.whole in
       let run = run_append (SinkStep step is_refused) (inner s) g.handed (inner t) (piece_of (pending t)) out g.run k in
@@ -194,6 +170,34 @@ module _ {S : Type 0} (step : S → List ℕ → S → Type 0) (is_refused : S �
           calls = let h = o.within in omega (arith, h, few);
         },
       )
+
+  -- a text that is one piece
+  pub Streams-one : (s : S) (text : List ℕ) (t : S) → 0 < length text → length text ≤ 4096 → is_refused s ≡ false → step s text t → Streams step is_refused s text t
+  Streams-one s text t some most e h = record {
+    pieces = text ∷ [];
+    offered = 1;
+    cut = record {
+      whole = append-nil text;
+      sizes = All-cons IsCallPiece text [] (omega arith, most) (All-nil IsCallPiece);
+      large = All-nil IsLargePiece;
+    };
+    within = omega arith;
+    run = (e, (t, h, refl));
+    complete = λ _. refl;
+    calls = (le-div_iff_mul-le {k = 4033} (omega arith)).1 (omega arith);
+  }
+
+  -- a text of no bytes
+  pub Streams-none : (s : S) (text : List ℕ) → text ≡ [] → Streams step is_refused s text s
+  Streams-none s text e = rw e (record {
+    pieces = [];
+    offered = 0;
+    cut = record { whole = refl; sizes = All-nil IsCallPiece; large = All-nil IsLargePiece };
+    within = omega arith;
+    run = refl;
+    complete = λ _. refl;
+    calls = omega arith;
+  })
 
 -- ---- what is offered to a sink that accepts all
 

@@ -1,5 +1,6 @@
 -- The text of bytes.
-use Rattle.std.proofs.Common.{◌≡◌, ℕ, suc, ◌+◌, ◌*◌, ◌/◌, ◌%◌, ◌<◌, ◌≤◌, Bool, true, false, List, [], ◌∷◌, ◌++◌, length, take, get_or, slice_index, Some, refl, ap, ◌∙◌, sym, arith, length-append}
+use Rattle.std.proofs.Common.{◌≡◌, ℕ, suc, ◌+◌, ◌*◌, ◌/◌, ◌%◌, ◌<◌, Bool, true, false, List, [], ◌∷◌, ◌++◌, length, take, get_or, slice_index, Some, refl, ap, ◌∙◌, sym, arith, length-append}
+use Rattle.std.specs.Prelude.{if◌then◌else◌}
 use Rattle.std.specs.Str.{IsAscii}
 use Rattle.std.proofs.lemmas.Bool.Decides.{nat_tests}
 use Rattle.std.proofs.lemmas.List.{append_assoc, take_more}
@@ -26,10 +27,10 @@ length-hex_text up (b ∷ bs) = let e = length-hex_text up bs in omega (arith, e
 pub length-full_text : (prefix up : Bool) (bs : List ℕ) → length (full_text prefix up bs) ≡ length (prefix_of prefix) + 2 * length bs
 length-full_text prefix up bs = length-append (prefix_of prefix) (hex_text up bs) ∙ ap (λ n. length (prefix_of prefix) + n) (length-hex_text up bs)
 
--- the text of at most 127 bytes, also behind a prefix
-pub short_text : (prefix up : Bool) (bs : List ℕ) → length bs < 128 → length (full_text prefix up bs) ≤ 256
-short_text true up bs h = let l = length-full_text true up bs in omega (arith, l)
-short_text false up bs h = let l = length-full_text false up bs in omega (arith, l)
+-- how long the text is, by whether there is a prefix
+pub full_text_size : (prefix up : Bool) (bs : List ℕ) → length (full_text prefix up bs) ≡ 2 * length bs + (if prefix then 2 else 0)
+full_text_size true up bs = let l = length-full_text true up bs in omega (arith, l)
+full_text_size false up bs = let l = length-full_text false up bs in omega (arith, l)
 
 -- the text of one byte more
 pub hex_text-more : (up : Bool) (bs : List ℕ) (i : ℕ) → i < length bs

@@ -1,19 +1,23 @@
 //! The text of bytes, handed to a sink in large pieces.
 
-ghost use Rattle.std.specs.Prelude.{◌≡◌, ◌<◌, ◌≤◌, false, not, is_ok, length};
+ghost use Rattle.std.specs.Prelude.{◌≡◌, ◌≤◌, ◌↔◌, false, not, is_ok, length, IsTrue};
+ghost use Rattle.std.specs.Str.{IsAscii};
 ghost use Rattle.const_hex_arch.specs.Texts.{full_text};
 ghost use Rattle.const_hex_arch.specs.Streams.{Streams, TellsCut, hex_bytes};
 
 use crate::arch::{FixedKernel, Kernel, encode_full};
 use crate::output::buffered::BufferedOutput;
+use crate::output::slice::SliceOutput;
 use crate::sink::output::SinkOutput;
 use crate::sink::{Sink, SinkError, refusal_of};
 
 /// How many bytes are gathered for one call of a sink.
 const GATHERED: usize = 4096;
 
-/// How many bytes are gathered where the whole text is no longer, so that less is set to zero.
+/// Two smaller sizes of the room for a whole text, so that less is set to zero.
 const SHORT: usize = 256;
+
+const MIDDLE: usize = 1024;
 
 /// Bytes that are written as text, in upper or lower digits, with or without `0x` in front.
 ///
@@ -75,7 +79,6 @@ impl<'a, const UPPER: bool, const PREFIX: bool> BufferedHex<'a, UPPER, PREFIX> {
     /// assert!(rt; hex.write_with::<Plain, PieceSink>(&mut sink).is_ok());
     /// assert_eq!(rt; sink.pieces()[0].as_str(), "6b697769");
     /// ```
-    #[tactic(auto, using(crate::proofs::Writing::short_text))]
     pub fn write_with<K: Kernel, S: Sink>(&self, sink: &mut S) -> Result<(), SinkError>
         requires { S.is_refused sink.old ≡ false }
         ensures streams { Streams S.step S.is_refused sink.old
@@ -85,18 +88,44 @@ impl<'a, const UPPER: bool, const PREFIX: bool> BufferedHex<'a, UPPER, PREFIX> {
             → TellsCut (S.told sink.old) (full_text PREFIX UPPER (hex_bytes self.now))
             (S.told sink.new) }
     {
-        if self.bytes.len() < SHORT / 2 {
-            self.gather::<K, S, SHORT>(sink)
+        if self.fits(SHORT) {
+            self.write_whole::<K, S, SHORT>(sink)
+        } else if self.fits(MIDDLE) {
+            self.write_whole::<K, S, MIDDLE>(sink)
+        } else if self.fits(GATHERED) {
+            self.write_whole::<K, S, GATHERED>(sink)
         } else {
-            self.gather::<K, S, GATHERED>(sink)
+            self.gather::<K, S>(sink)
         }
     }
 
-    /// The same by gathering up to `N` bytes: 4096, or fewer where the text is no longer than that.
-    fn gather<K: Kernel, S: Sink, const N: usize>(&self, sink: &mut S) -> Result<(), SinkError>
+    /// Whether the text has at most so many bytes, which are at least two.
+    #[inline(always)]
+    #[tactic(auto, using(crate::proofs::Writing::full_text_size))]
+    fn fits(&self, room: usize) -> bool
+        requires { 2 ≤ room }
+        ensures { IsTrue result ↔ (length (full_text PREFIX UPPER (hex_bytes self.now)) ≤ room) }
+    {
+        let digits = if PREFIX { room - 2 } else { room };
+        self.bytes.len() <= digits / 2
+    }
+
+    /// How long the text is.
+    #[inline(always)]
+    #[tactic(auto, using(crate::proofs::Writing::full_text_size))]
+    fn size(&self) -> usize
+        requires { length (full_text PREFIX UPPER (hex_bytes self.now)) ≤ 4096 }
+        ensures { result ≡ length (full_text PREFIX UPPER (hex_bytes self.now)) }
+    {
+        let digits = 2 * self.bytes.len();
+        if PREFIX { 2 + digits } else { digits }
+    }
+
+    /// The same of a text of at most `N` bytes, by one call, or by none where there is no byte.
+    fn write_whole<K: Kernel, S: Sink, const N: usize>(&self, sink: &mut S) -> Result<(), SinkError>
         requires accepting { S.is_refused sink.old ≡ false }
-        requires size { (65 ≤ N) × (N ≤ 4096) }
-        requires fits { N < 4096 → length (full_text PREFIX UPPER (hex_bytes self.now)) ≤ N }
+        requires size { N ≤ 4096 }
+        requires fits { length (full_text PREFIX UPPER (hex_bytes self.now)) ≤ N }
         ensures streams { Streams S.step S.is_refused sink.old
             (full_text PREFIX UPPER (hex_bytes self.now)) sink.new }
         ensures flag { is_ok result ≡ not (S.is_refused sink.new) }
@@ -104,8 +133,29 @@ impl<'a, const UPPER: bool, const PREFIX: bool> BufferedHex<'a, UPPER, PREFIX> {
             → TellsCut (S.told sink.old) (full_text PREFIX UPPER (hex_bytes self.now))
             (S.told sink.new) }
     {
-        let mut output = BufferedOutput::<SinkOutput<'_, S>, N>::new(SinkOutput::new(sink));
-        encode_full::<K, BufferedOutput<SinkOutput<'_, S>, N>>(
+        let mut buffer = [0; N];
+        let text = &mut buffer[..self.size()];
+        fill::<K>(self.bytes, PREFIX, UPPER, text);
+        if text.is_empty() {
+            return Ok(());
+        }
+        sink.write_str(unsafe { str::from_utf8_unchecked(text) })
+    }
+
+    /// The same by gathering up to 4096 bytes.
+    // Not inlined: on its own the machine's code for long texts is the faster one.
+    #[inline(never)]
+    fn gather<K: Kernel, S: Sink>(&self, sink: &mut S) -> Result<(), SinkError>
+        requires { S.is_refused sink.old ≡ false }
+        ensures streams { Streams S.step S.is_refused sink.old
+            (full_text PREFIX UPPER (hex_bytes self.now)) sink.new }
+        ensures flag { is_ok result ≡ not (S.is_refused sink.new) }
+        ensures told { S.is_refused sink.new ≡ false
+            → TellsCut (S.told sink.old) (full_text PREFIX UPPER (hex_bytes self.now))
+            (S.told sink.new) }
+    {
+        let mut output = BufferedOutput::<SinkOutput<'_, S>, GATHERED>::new(SinkOutput::new(sink));
+        encode_full::<K, BufferedOutput<SinkOutput<'_, S>, GATHERED>>(
             self.bytes,
             PREFIX,
             UPPER,
@@ -118,4 +168,15 @@ impl<'a, const UPPER: bool, const PREFIX: bool> BufferedHex<'a, UPPER, PREFIX> {
         let _ = &*back;
         refusal_of(sink)
     }
+}
+
+/// Fills an output of the text's length with the text.
+#[inline(always)]
+fn fill<K: Kernel>(input: &[u8], prefix: bool, upper: bool, output: &mut [u8])
+    requires { length output.old ≡ length (full_text prefix upper input.now) }
+    ensures text { output.new ≡ full_text prefix upper input.now }
+    ensures ascii { IsAscii output.new }
+{
+    let mut written = SliceOutput::new(output);
+    encode_full::<K, SliceOutput>(input, prefix, upper, &mut written);
 }
