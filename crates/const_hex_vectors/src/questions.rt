@@ -1,7 +1,10 @@
-//! Lines that are no questions, long lines, and readers and writers that fail.
+//! Lines of questions: what is no question, long lines, and readers and writers that fail.
 
-use super::*;
-use std::io::BufReader;
+use const_hex_answers::answer_lines;
+use std::alloc::Global;
+use std::io;
+use std::io::{BufRead, BufReader, Read, Write};
+use std::process::Abort;
 use std::test::Fail;
 
 /// Lines that are no questions, and why.
@@ -59,12 +62,24 @@ const BAD_LINES: [(&[u8], &str); 36] = [
 #[test]
 fn what_is_no_question_is_answered_bad(rt: HostRuntime) -> Result<(), Fail> {
     for (line, why) in BAD_LINES {
-        let mut output = Vec::new(rt.alloc());
-        let mut input = line.chain(b"\nencode 6b".as_slice());
-        assert!(rt; !replay(rt.alloc(), &mut input, &mut output)?);
         let want = format!(in rt.alloc(); "BAD {why}\nOK 3662\n")?;
-        assert_eq!(rt; output.as_slice(), want.as_bytes(), "{line:?}");
+        let mut input = line.chain(b"\nencode 6b".as_slice());
+        are_answered(&rt, rt.alloc(), &mut input, false, &want)?;
     }
+    Ok(())
+}
+
+/// These lines get these answers, and that tells whether all are questions.
+fn are_answered<R: BufRead>(
+    rt: &impl Abort,
+    alloc: Global,
+    input: &mut R,
+    are_questions: bool,
+    answers: &str,
+) -> Result<(), Fail> {
+    let mut output = Vec::new(alloc);
+    assert!(rt; answer_lines(alloc, input, &mut output)? == are_questions);
+    assert!(rt; output.as_slice() == answers.as_bytes());
     Ok(())
 }
 
@@ -81,10 +96,13 @@ fn the_last_line_needs_no_line_break(rt: HostRuntime) -> Result<(), Fail> {
         ("no\nencode 6b\n", false, "BAD unknown operation\nOK 3662\n"),
     ];
     for (lines, are_questions, answers) in rows {
-        let mut output = Vec::new(rt.alloc());
-        let mut input = lines.as_bytes();
-        assert_eq!(rt; replay(rt.alloc(), &mut input, &mut output)?, are_questions);
-        assert_eq!(rt; output.as_slice(), answers.as_bytes(), "{lines:?}");
+        are_answered(
+            &rt,
+            rt.alloc(),
+            &mut lines.as_bytes(),
+            are_questions,
+            answers,
+        )?;
     }
     Ok(())
 }
@@ -107,12 +125,10 @@ fn a_line_has_up_to_65536_bytes(rt: HostRuntime) -> Result<(), Fail> {
     ];
     for (digits, rest, are_questions, answers) in rows {
         let line = vec![in rt.alloc(); b'0'; digits]?;
-        let mut output = Vec::new(rt.alloc());
         let rest = line.as_slice().chain(rest.as_bytes());
         let lines = b"check_raw ".as_slice().chain(rest);
         let mut input = BufReader::new(rt.alloc(), lines)?;
-        assert_eq!(rt; replay(rt.alloc(), &mut input, &mut output)?, are_questions);
-        assert_eq!(rt; output.as_slice(), answers.as_bytes());
+        are_answered(&rt, rt.alloc(), &mut input, are_questions, answers)?;
     }
     Ok(())
 }
@@ -152,8 +168,8 @@ fn a_failed_read_ends_the_run(rt: HostRuntime) -> Result<(), Fail> {
     for (bytes, answers) in rows {
         let mut input = BufReader::new(rt.alloc(), ShortReader { bytes })?;
         let mut output = Vec::new(rt.alloc());
-        assert!(rt; replay(rt.alloc(), &mut input, &mut output).is_err());
-        assert_eq!(rt; output.as_slice(), answers.as_bytes());
+        assert!(rt; answer_lines(rt.alloc(), &mut input, &mut output).is_err());
+        assert!(rt; output.as_slice() == answers.as_bytes());
     }
     Ok(())
 }
@@ -183,7 +199,7 @@ impl Write for ShortWriter {
 fn a_failed_write_ends_the_run(rt: HostRuntime) {
     for room in 0..16usize {
         let mut input = b"encode 6b\nno\ncheck 36\n".as_slice();
-        let ended = replay(rt.alloc(), &mut input, &mut ShortWriter { room });
-        assert!(rt; ended.is_err(), "{room}");
+        let ended = answer_lines(rt.alloc(), &mut input, &mut ShortWriter { room });
+        assert!(rt; ended.is_err());
     }
 }
