@@ -7,64 +7,91 @@ use std::io::{BufRead, BufReader, Read, Write};
 use std::process::Abort;
 use std::test::Fail;
 
-/// Lines that are no questions, and why.
-const BAD_LINES: [(&[u8], &str); 36] = [
-    (b"", "unknown operation"),
-    (b" encode 6b", "unknown operation"),
-    (b"Encode 6b", "unknown operation"),
-    (b"encode\t6b", "unknown operation"),
-    (b"decode_to_array 6b", "unknown operation"),
-    (b"decode_to_array+4 6b", "unknown operation"),
-    (b"const_decode_to_array-1 6b", "unknown operation"),
-    (b"encode", "wrong count of words"),
-    (b"encode 6b 5", "wrong count of words"),
-    (b"encode 6b 5 5", "wrong count of words"),
-    (b"check_raw 6b 0", "wrong count of words"),
-    (b"decode_to_slice 6b", "wrong count of words"),
-    (b"encode_to_slice_upper 6b", "wrong count of words"),
-    (b"encode_to_str 6b", "wrong count of words"),
-    (b"decode_to_slice 6b 5 ", "wrong count of words"),
-    (b"encode ", "not hex"),
-    (b"encode  6b", "not hex"),
-    (b"encode 6", "not hex"),
-    (b"encode 6B", "not hex"),
-    (b"encode 6g", "not hex"),
-    (b"encode --", "not hex"),
-    (b"encode 6b\r", "not hex"),
-    (b"encode 6\xc3\xa9", "not hex"),
-    (b"encode 6b ", "not a number up to 65536"),
-    (b"decode_to_slice 6b x", "not a number up to 65536"),
-    (b"decode_to_slice 6b -1", "not a number up to 65536"),
-    (b"decode_to_slice 6b +1", "not a number up to 65536"),
-    (b"decode_to_slice 6b 65537", "not a number up to 65536"),
+/// Answers, and lines that are no questions and get them, with `encode 6b` behind.
+const NO_QUESTIONS: [(&str, &[&[u8]]); 7] = [
     (
-        b"serialize_inner 6b 99999999999999999999",
-        "not a number up to 65536",
+        "BAD unknown operation\nOK 3662\n",
+        &[
+            b"",
+            b" encode 6b",
+            b"Encode 6b",
+            b"encode\t6b",
+            b"decode_to_array 6b",
+            b"decode_to_array+4 6b",
+            b"const_decode_to_array-1 6b",
+        ],
     ),
     (
-        b"decode_to_array5 6b",
-        "not offered for this count of bytes",
+        "BAD wrong count of words\nOK 3662\n",
+        &[
+            b"encode",
+            b"encode 6b 5",
+            b"encode 6b 5 5",
+            b"check_raw 6b 0",
+            b"decode_to_slice 6b",
+            b"encode_to_slice_upper 6b",
+            b"encode_to_str 6b",
+            b"decode_to_slice 6b 5 ",
+            b"msg_decode_to_slice 6b",
+        ],
     ),
     (
-        b"const_decode_to_array5 6b",
-        "not offered for this count of bytes",
+        "BAD not hex\nOK 3662\n",
+        &[
+            b"encode ",
+            b"encode  6b",
+            b"encode 6",
+            b"encode 6B",
+            b"encode 6g",
+            b"encode --",
+            b"encode 6b\r",
+            b"encode 6\xc3\xa9",
+        ],
     ),
     (
-        b"buffer_format 6b6b6b6b6b",
-        "not offered for this count of bytes",
+        "BAD not a number up to 65536\nOK 3662\n",
+        &[
+            b"encode 6b ",
+            b"decode_to_slice 6b x",
+            b"decode_to_slice 6b -1",
+            b"decode_to_slice 6b +1",
+            b"decode_to_slice 6b 65537",
+            b"serialize_inner 6b 99999999999999999999",
+        ],
     ),
-    (b"msg_decode_to_slice 6b", "wrong count of words"),
-    (b"deserialize_json 223662", "not JSON"),
-    (b"deserialize_json 22ff22", "not JSON"),
-    (b"encode \xff", "not UTF-8"),
+    (
+        "BAD not offered for this count of bytes\nOK 3662\n",
+        &[
+            b"decode_to_array5 6b",
+            b"const_decode_to_array5 6b",
+            b"buffer_format 6b6b6b6b6b",
+        ],
+    ),
+    (
+        "BAD not JSON\nOK 3662\n",
+        &[b"deserialize_json 223662", b"deserialize_json 22ff22"],
+    ),
+    ("BAD not UTF-8\nOK 3662\n", &[b"encode \xff"]),
 ];
 
 #[test]
 fn what_is_no_question_is_answered_bad(rt: HostRuntime) -> Result<(), Fail> {
-    for (line, why) in BAD_LINES {
-        let want = format!(in rt.alloc(); "BAD {why}\nOK 3662\n")?;
+    for (answers, lines) in NO_QUESTIONS {
+        each_is_answered(&rt, rt.alloc(), lines, answers)?;
+    }
+    Ok(())
+}
+
+/// Each of these lines is no question, and gets these answers with `encode 6b` behind it.
+fn each_is_answered(
+    rt: &impl Abort,
+    alloc: Global,
+    lines: &[&[u8]],
+    answers: &str,
+) -> Result<(), Fail> {
+    for line in lines {
         let mut input = line.chain(b"\nencode 6b".as_slice());
-        are_answered(&rt, rt.alloc(), &mut input, false, &want)?;
+        are_answered(rt, alloc, &mut input, false, answers)?;
     }
     Ok(())
 }
@@ -155,22 +182,20 @@ impl Read for ShortReader<'_> {
 
 #[test]
 fn a_failed_read_ends_the_run(rt: HostRuntime) -> Result<(), Fail> {
-    let rows: [(&[u8], &str); 5] = [
-        (b"", ""),
-        (b"encode 6b", ""),
-        (b"encode 6b\n", "OK 3662\n"),
-        (
-            b"no\nencode 6b\nencode 6",
-            "BAD unknown operation\nOK 3662\n",
-        ),
-        (&[b'0'; 66_000], ""),
-    ];
-    for (bytes, answers) in rows {
-        let mut input = BufReader::new(rt.alloc(), ShortReader { bytes })?;
-        let mut output = Vec::new(rt.alloc());
-        assert!(rt; answer_lines(rt.alloc(), &mut input, &mut output).is_err());
-        assert!(rt; output.as_slice() == answers.as_bytes());
-    }
+    fails(&rt, rt.alloc(), b"", "")?;
+    fails(&rt, rt.alloc(), b"encode 6b", "")?;
+    fails(&rt, rt.alloc(), b"encode 6b\n", "OK 3662\n")?;
+    let answers = "BAD unknown operation\nOK 3662\n";
+    fails(&rt, rt.alloc(), b"no\nencode 6b\nencode 6", answers)?;
+    fails(&rt, rt.alloc(), &vec![in rt.alloc(); b'0'; 66_000]?, "")
+}
+
+/// A reader that fails behind these bytes ends the run, after these answers.
+fn fails(rt: &impl Abort, alloc: Global, bytes: &[u8], answers: &str) -> Result<(), Fail> {
+    let mut input = BufReader::new(alloc, ShortReader { bytes })?;
+    let mut output = Vec::new(alloc);
+    assert!(rt; answer_lines(alloc, &mut input, &mut output).is_err());
+    assert!(rt; output.as_slice() == answers.as_bytes());
     Ok(())
 }
 
