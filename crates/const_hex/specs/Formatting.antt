@@ -23,7 +23,11 @@ sink_formatter s = s.formatter.now
 abbrev pub formatter_name : {W : Type 0} → FormatterSink W → GName
 formatter_name s = s.formatter.ghost_name
 
+-- that the formatter of a sink has failed
+abbrev pub formatter_failed : {W : Type 0} → FormatterSink W → Bool
+formatter_failed s = s.failed
+
 -- the same formatter writes the piece, whatever its options, where that doesn't fail
 pub record FormatterStep {W : Type 0} (took : W → List ℕ → W → Type 0) (s : FormatterSink W) (piece : List ℕ) (t : FormatterSink W) : Type 0 where
   pub same_formatter : formatter_name t ≡ formatter_name s
-  pub writes : t.failed ≡ false → IsFlush (sink_formatter s) → HasWrittenStyled took (sink_formatter s) piece (sink_formatter t)
+  pub writes : formatter_failed t ≡ false → IsFlush (sink_formatter s) → HasWrittenStyled took (sink_formatter s) piece (sink_formatter t)

@@ -3,7 +3,7 @@
 ghost use Rattle.std.specs.Prelude.{◌≡◌};
 ghost use Rattle.const_hex.specs.Formatting.{display_bytes};
 
-mod sink;
+pub(crate) mod sink;
 pub mod text;
 
 use crate::formatting::text::Display;

@@ -42,6 +42,7 @@ pub use crate::codec::encoders::{
 };
 pub use crate::error::FromHexError;
 pub use crate::formatting::display;
+pub use crate::formatting::sink::FormatterSink;
 pub use crate::formatting::text::Display;
 pub use crate::serde::{JsonError, deserialize, serialize, serialize_inner, serialize_upper};
 pub use crate::traits::{BytesToHexChars, FromHex, HexFault, ToHex, ToHexExt};

@@ -4,7 +4,7 @@ use std::fmt::Debug;
 use std::io;
 
 /// Prints a call and its answer.
-pub(crate) fn tell(rt: &impl Print, call: &str, answer: &impl Debug) -> io::Result<()> {
+pub(crate) fn tell(rt: &impl Print, call: &str, answer: impl Debug + Drop) -> io::Result<()> {
     println!(rt; "{call} = {answer:?}")
 }
 
@@ -13,7 +13,7 @@ pub(crate) fn tell_of(
     rt: &impl Print,
     call: &str,
     of: &str,
-    answer: &impl Debug,
+    answer: impl Debug + Drop,
 ) -> io::Result<()> {
     println!(rt; "{call} {of} = {answer:?}")
 }

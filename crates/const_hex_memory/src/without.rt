@@ -18,6 +18,7 @@ use std::io;
 pub(crate) fn tell_all(rt: &impl Print, alloc: Global, inputs: &Inputs) -> io::Result<()> {
     texts::tell_digits(rt)?;
     texts::tell_texts_in_slices(rt)?;
+    texts::tell_short_slices(rt)?;
     texts::tell_read(rt, alloc)?;
     texts::tell_odd(rt, alloc)?;
     texts::tell_no_texts(rt, alloc, inputs)?;

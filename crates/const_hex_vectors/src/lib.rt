@@ -29,6 +29,8 @@ mod outputs;
 #[cfg(test)]
 mod printed;
 #[cfg(test)]
+mod questions;
+#[cfg(test)]
 mod readers;
 #[cfg(test)]
 mod refusals;

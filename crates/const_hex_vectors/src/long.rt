@@ -111,13 +111,23 @@ fn by_kernel<K: Kernel>(rt: &impl Abort, alloc: Global, long: &Written) -> Resul
     assert!(rt; encode_with::<K, true>(alloc, &long.bytes)? == long.upper);
     assert!(rt; decode_with::<K>(alloc, long.lower.as_bytes())? == long.bytes);
     assert!(rt; decode_with::<K>(alloc, long.prefixed_upper.as_bytes())? == long.bytes);
-    let place = long.lower.len().saturating_sub(1);
-    let text = with_a_bad_byte(alloc, "0x", &long.lower, place)?;
+    refused_by_kernel::<K>(rt, alloc, &long.lower)?;
+    Ok(())
+}
+
+/// A bad byte at the end of a body behind a prefix.
+fn refused_by_kernel<K: Kernel>(
+    rt: &impl Abort,
+    alloc: Global,
+    body: &str,
+) -> Result<(), AllocError> {
+    let place = body.len().saturating_sub(1);
+    let text = with_a_bad_byte(alloc, "0x", body, place)?;
     let refusal = refusal(b'g', place_in_text(2, place));
-    assert_eq!(rt; check_with::<K>(&text), Err(refusal));
-    assert_eq!(rt; decode_with::<K>(alloc, &text).err(), Some(refusal));
-    let mut output = vec![in alloc; 0xEEu8; long.bytes.len()]?;
-    assert_eq!(rt; decode_to_slice_with::<K>(&text, &mut output), Err(refusal));
+    assert!(rt; check_with::<K>(&text) == Err(refusal));
+    assert!(rt; decode_with::<K>(alloc, &text).err() == Some(refusal));
+    let mut output = vec![in alloc; 0xEEu8; body.len() / 2]?;
+    assert!(rt; decode_to_slice_with::<K>(&text, &mut output) == Err(refusal));
     Ok(())
 }
 

@@ -1,6 +1,7 @@
 //! Full texts in slices of their length, and bytes in the front of an output.
 
 use const_hex::{FromHexError, decode_to_front, encode_full_to_slice};
+use std::process::Abort;
 
 fn bad(c: char, index: usize) -> FromHexError {
     FromHexError::InvalidHexCharacter { c, index }
@@ -26,22 +27,34 @@ fn full_texts_in_slices(rt: HostRuntime) {
         (b"kiwi", true, true, 9, None),
         (b"kiwi", true, true, 12, None),
     ];
-    for (bytes, prefix, upper, length, want) in rows {
-        let mut output = [0xEE; 13];
-        let done = encode_full_to_slice(bytes, prefix, upper, &mut output[..length]);
-        let written = match want {
-            Some(text) => {
-                assert_eq!(rt; done, Ok(()));
-                assert_eq!(rt; &output[..length], text.as_bytes());
-                length
-            }
-            None => {
-                assert_eq!(rt; done, Err(FromHexError::InvalidStringLength));
-                0
-            }
-        };
-        assert!(rt; output[written..].iter().all(|byte| *byte == 0xEE));
+    for row in rows {
+        fills(&rt, row);
     }
+}
+
+/// What one row's output holds: the text, or what it held.
+fn fills(
+    rt: &impl Abort,
+    (bytes, prefix, upper, length, want): (&[u8], bool, bool, usize, Option<&str>),
+) {
+    assert!(rt; length <= 13);
+    let mut output = [0xEE; 13];
+    let done = encode_full_to_slice(bytes, prefix, upper, &mut output[..length]);
+    let (answer, text) = match want {
+        Some(text) => (Ok(()), text),
+        None => (Err(FromHexError::InvalidStringLength), ""),
+    };
+    assert!(rt; done == answer);
+    assert!(rt; output == left(text));
+}
+
+/// An output of bytes 0xEE with these in front.
+fn left(front: &str) -> [u8; 13] {
+    let mut output = [0xEE; 13];
+    if front.len() <= 13 {
+        output[..front.len()].copy_from_slice(front.as_bytes());
+    }
+    output
 }
 
 // A text, the output's length, and the bytes or the refusal. No row has a pair before a bad byte, so
@@ -65,19 +78,19 @@ fn fronts_of_outputs(rt: HostRuntime) {
         (&[0xFF, 0x30], 5, Err(bad('\u{FF}', 0))),
     ];
     for (text, length, want) in rows {
-        let mut output = [0xEE; 13];
-        let done = decode_to_front(text, &mut output[..length]);
-        let written = match want {
-            Ok(bytes) => {
-                assert_eq!(rt; done, Ok(bytes.len()));
-                assert_eq!(rt; &output[..bytes.len()], bytes.as_bytes());
-                bytes.len()
-            }
-            Err(refusal) => {
-                assert_eq!(rt; done, Err(refusal));
-                0
-            }
-        };
-        assert!(rt; output[written..].iter().all(|byte| *byte == 0xEE));
+        reads(&rt, text, length, want);
     }
+}
+
+/// What an output of that length holds in front, and what it held behind that.
+fn reads(rt: &impl Abort, text: &[u8], length: usize, want: Result<&str, FromHexError>) {
+    assert!(rt; length <= 13);
+    let mut output = [0xEE; 13];
+    let done = decode_to_front(text, &mut output[..length]);
+    let (answer, bytes) = match want {
+        Ok(bytes) => (Ok(bytes.len()), bytes),
+        Err(refusal) => (Err(refusal), ""),
+    };
+    assert!(rt; done == answer);
+    assert!(rt; output == left(bytes));
 }

@@ -1,24 +1,37 @@
 //! A formatter as a sink.
 
 ghost use Rattle.std.specs.Prelude.{◌≡◌, false, None};
-ghost use Rattle.const_hex.specs.Formatting.{FormatterStep, sink_formatter, formatter_name};
+ghost use Rattle.const_hex.specs.Formatting.{FormatterStep, sink_formatter, formatter_name, formatter_failed};
 
 use const_hex_arch::{Sink, SinkError};
 use std::fmt;
 
 /// Hands pieces on to a formatter, and refuses from its first error on.
+///
+/// ```rust
+/// fn in_upper_digits<W: fmt::Write>(bytes: &[u8], f: &mut fmt::Formatter<W>) -> fmt::Result {
+///     let mut sink = FormatterSink::new(f);
+///     let hex = BufferedHex::<true, false>::new(bytes);
+///     hex.write_with::<Lanes16, _>(&mut sink).map_err(|_| fmt::Error)
+/// }
+/// ```
 #[derive(Drop)]
-pub(crate) struct FormatterSink<'f, W> {
+pub struct FormatterSink<'f, W> {
     formatter: &'f mut fmt::Formatter<W>,
     failed: bool,
 }
 
 impl<'f, W: fmt::Write> FormatterSink<'f, W> {
+    /// A sink over that formatter, which has not refused.
+    ///
+    /// ```rust
+    /// let sink = FormatterSink::new(f);
+    /// ```
     #[inline]
-    pub(crate) fn new(formatter: &'f mut fmt::Formatter<W>) -> FormatterSink<'f, W>
+    pub fn new(formatter: &'f mut fmt::Formatter<W>) -> FormatterSink<'f, W>
         ensures same_formatter { formatter_name result ≡ formatter.entry.ghost_name }
         ensures formatter { sink_formatter result ≡ formatter.old }
-        ensures open { result.failed ≡ false }
+        ensures open { formatter_failed result ≡ false }
     {
         FormatterSink {
             formatter,
@@ -30,7 +43,7 @@ impl<'f, W: fmt::Write> FormatterSink<'f, W> {
 impl<W: fmt::Write> Sink for FormatterSink<'_, W> {
     ghost step = { FormatterStep W.write_str_gives };
 
-    ghost is_refused = { λ s. s.failed };
+    ghost is_refused = { λ s. formatter_failed s };
 
     ghost told = { λ _. None };
 

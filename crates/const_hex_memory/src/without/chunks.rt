@@ -42,51 +42,51 @@ where
 pub(crate) fn tell_lanes16(rt: &impl Print) -> io::Result<()> {
     let digits = u8x16::splat(b'a');
     let bad = u8x16::splat(b'g');
-    tell(rt, "lanes16::nibbles", &lanes16::nibbles(digits).to_array())?;
-    tell(rt, "lanes16::unhex", &lanes16::unhex(digits).to_array())?;
-    tell(rt, "lanes16::check_chunk", &lanes16::check_chunk(digits))?;
-    tell(rt, "lanes16::check_chunk, bad", &lanes16::check_chunk(bad))?;
+    tell(rt, "lanes16::nibbles", lanes16::nibbles(digits).to_array())?;
+    tell(rt, "lanes16::unhex", lanes16::unhex(digits).to_array())?;
+    tell(rt, "lanes16::check_chunk", lanes16::check_chunk(digits))?;
+    tell(rt, "lanes16::check_chunk, bad", lanes16::check_chunk(bad))?;
     let [low, high] = lanes16::encode_chunk::<false>(u8x16::splat(0xAB));
     tell(
         rt,
         "lanes16::encode_chunk",
-        &(low.to_array(), high.to_array()),
+        (low.to_array(), high.to_array()),
     )?;
     let [low, high] = lanes16::encode_chunk::<true>(u8x16::splat(0xAB));
     tell(
         rt,
         "lanes16::encode_chunk, upper",
-        &(low.to_array(), high.to_array()),
+        (low.to_array(), high.to_array()),
     )?;
     let other = u8x16::splat(0);
     let read = decoded_or::<u8x16, Chunk16>([digits, digits], other);
-    tell(rt, "lanes16::decode_chunk", &read.to_array())?;
+    tell(rt, "lanes16::decode_chunk", read.to_array())?;
     let read = decoded_or::<u8x16, Chunk16>([digits, bad], other);
-    tell(rt, "lanes16::decode_chunk, bad", &read.to_array())
+    tell(rt, "lanes16::decode_chunk, bad", read.to_array())
 }
 
 pub(crate) fn tell_lanes32(rt: &impl Print) -> io::Result<()> {
     let digits = u8x32::splat(b'a');
     let bad = u8x32::splat(b'g');
-    tell(rt, "lanes32::nibbles", &lanes32::nibbles(digits).to_array())?;
-    tell(rt, "lanes32::unhex", &lanes32::unhex(digits).to_array())?;
-    tell(rt, "lanes32::check_chunk", &lanes32::check_chunk(digits))?;
-    tell(rt, "lanes32::check_chunk, bad", &lanes32::check_chunk(bad))?;
+    tell(rt, "lanes32::nibbles", lanes32::nibbles(digits).to_array())?;
+    tell(rt, "lanes32::unhex", lanes32::unhex(digits).to_array())?;
+    tell(rt, "lanes32::check_chunk", lanes32::check_chunk(digits))?;
+    tell(rt, "lanes32::check_chunk, bad", lanes32::check_chunk(bad))?;
     let [low, high] = lanes32::encode_chunk::<false>(u8x32::splat(0xAB));
     tell(
         rt,
         "lanes32::encode_chunk",
-        &(low.to_array(), high.to_array()),
+        (low.to_array(), high.to_array()),
     )?;
     let [low, high] = lanes32::encode_chunk::<true>(u8x32::splat(0xAB));
     tell(
         rt,
         "lanes32::encode_chunk, upper",
-        &(low.to_array(), high.to_array()),
+        (low.to_array(), high.to_array()),
     )?;
     let other = u8x32::splat(0);
     let read = decoded_or::<u8x32, Chunk32>([digits, digits], other);
-    tell(rt, "lanes32::decode_chunk", &read.to_array())?;
+    tell(rt, "lanes32::decode_chunk", read.to_array())?;
     let read = decoded_or::<u8x32, Chunk32>([digits, bad], other);
-    tell(rt, "lanes32::decode_chunk, bad", &read.to_array())
+    tell(rt, "lanes32::decode_chunk, bad", read.to_array())
 }

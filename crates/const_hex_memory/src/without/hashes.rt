@@ -14,20 +14,20 @@ const BAD_HASH: &str = "0xzz0000000000000000000000000000000000000000000000000000
 pub(crate) fn tell_hashes(rt: &impl Print, alloc: Global, inputs: &Inputs) -> io::Result<()> {
     for text in [HASH, ODD, BAD, BAD_HASH] {
         let read = Hash32::from_hex(alloc, text.as_bytes());
-        tell_of(rt, "Hash32::from_hex of", text, &read)?;
+        tell_of(rt, "Hash32::from_hex of", text, read)?;
     }
     tell_value(rt, alloc, "a text", &inputs.hash)?;
     tell_value(rt, alloc, "an odd text", &inputs.odd)?;
     tell_value(rt, alloc, "null", &Value::Null)?;
     let hash = Hash32::from_bytes([0xAB; 32]);
-    tell(rt, "Hash32::to_buffer", &hash.to_buffer())?;
+    tell(rt, "Hash32::to_buffer", hash.to_buffer())?;
     let address = Address20::from([0xAB; 20]);
     tell(rt, "Address20::as_bytes", address.as_bytes())?;
-    tell(rt, "Address20::to_buffer", &address.to_buffer())?;
+    tell(rt, "Address20::to_buffer", address.to_buffer())?;
     println!(rt; "Display of an address = {address}")
 }
 
 fn tell_value(rt: &impl Print, alloc: Global, of: &str, value: &Value) -> io::Result<()> {
     let read = Hash32::from_value(alloc, value);
-    tell_of(rt, "Hash32::from_value of", of, &read)
+    tell_of(rt, "Hash32::from_value of", of, read)
 }

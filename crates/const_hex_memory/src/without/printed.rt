@@ -27,18 +27,18 @@ pub(crate) fn tell_errors(rt: &impl Print) -> io::Result<()> {
     let no_text: JsonError<FromHexError> = JsonError::NotText;
     println!(rt; "Display of {no_text:?} = {no_text}")?;
     println!(rt; "Display of {:?} = {}", SinkError, SinkError)?;
-    tell(rt, "of_memory", &FromHexError::of_memory())?;
-    tell(rt, "FromHexError::from", &FromHexError::from(AllocError))
+    tell(rt, "of_memory", FromHexError::of_memory())?;
+    tell(rt, "FromHexError::from", FromHexError::from(AllocError))
 }
 
 pub(crate) fn tell_chars(rt: &impl Print) -> io::Result<()> {
     let mut lower = BytesToHexChars::<false>::new(&[0x0F]);
-    tell(rt, "BytesToHexChars::size_hint", &lower.size_hint())?;
+    tell(rt, "BytesToHexChars::size_hint", lower.size_hint())?;
     for place in 0..3u8 {
         println!(rt; "BytesToHexChars::next, {place} = {:?}", lower.next())?;
     }
     let is_equal = BytesToHexChars::<true>::new(KIWI).eq("6B697769".chars());
-    tell(rt, "BytesToHexChars, upper", &is_equal)
+    tell(rt, "BytesToHexChars, upper", is_equal)
 }
 
 /// Prints as `{:x}` or `{:X}` does, with the options of the hole.
@@ -72,20 +72,20 @@ pub(crate) fn tell_displays(rt: &impl Print) -> io::Result<()> {
     tell(
         rt,
         "display of 4097 bytes",
-        &(done, writer.calls, writer.bytes),
+        (done, writer.calls, writer.bytes),
     )?;
     let mut writer = Counting::new(0);
     let done = write!(writer, "{lower}{lower:#}");
     tell(
         rt,
         "LowerHex of 4097 bytes",
-        &(done, writer.calls, writer.bytes),
+        (done, writer.calls, writer.bytes),
     )?;
     let mut writer = Counting::new(0);
     let done = write!(writer, "{upper}{upper:#}");
     tell(
         rt,
         "UpperHex of 4097 bytes",
-        &(done, writer.calls, writer.bytes),
+        (done, writer.calls, writer.bytes),
     )
 }

@@ -13,22 +13,22 @@ pub(crate) fn tell_outputs(rt: &impl Print) -> io::Result<()> {
     let mut output = BufferedOutput::<SliceOutput<'_>, 4>::new(SliceOutput::new(&mut text));
     output.write(b"abc");
     output.write_byte(b'd');
-    tell(rt, "BufferedOutput::remaining", &output.remaining())?;
+    tell(rt, "BufferedOutput::remaining", output.remaining())?;
     output.write(b"ef");
     let left = output.finish().remaining();
     tell(
         rt,
         "BufferedOutput::finish, SliceOutput::remaining",
-        &(left, text),
+        (left, text),
     )?;
     let mut sink = Counting::new(2);
     let mut output = SinkOutput::new(&mut sink);
     output.write(b"one");
     output.write_byte(b'2');
     output.write(b"three");
-    tell(rt, "SinkOutput::remaining", &output.remaining())?;
+    tell(rt, "SinkOutput::remaining", output.remaining())?;
     let done = output.finish();
-    tell(rt, "SinkOutput::finish", &(done, sink.calls, sink.bytes))
+    tell(rt, "SinkOutput::finish", (done, sink.calls, sink.bytes))
 }
 
 pub(crate) fn tell_streams(rt: &impl Print, alloc: Global) -> io::Result<()> {
@@ -37,7 +37,7 @@ pub(crate) fn tell_streams(rt: &impl Print, alloc: Global) -> io::Result<()> {
     tell(
         rt,
         "write_to a sink that counts",
-        &(done, sink.calls, sink.bytes),
+        (done, sink.calls, sink.bytes),
     )?;
     for count in [0, 128, 129, 4097] {
         let mut sink = Counting::new(0);
@@ -49,17 +49,17 @@ pub(crate) fn tell_streams(rt: &impl Print, alloc: Global) -> io::Result<()> {
     }
     let mut sink = Counting::new(1);
     let done = serialize_inner::<true, true, Counting>(&DATA[..128], &mut sink);
-    tell(rt, "serialize_inner, refused", &(done, sink.calls))?;
+    tell(rt, "serialize_inner, refused", (done, sink.calls))?;
     let mut sink = PieceSink::new(alloc, 1);
     tell(
         rt,
         "PieceSink::new",
-        &(sink.calls(), sink.pieces().len(), sink.no_memory()),
+        (sink.calls(), sink.pieces().len(), sink.no_memory()),
     )?;
     let done = sink.write_str("piece");
     tell(
         rt,
         "PieceSink::write_str, refused by its number",
-        &(done, sink.calls(), sink.pieces().len(), sink.no_memory()),
+        (done, sink.calls(), sink.pieces().len(), sink.no_memory()),
     )
 }

@@ -15,44 +15,52 @@ use std::io;
 use std::rc::Rc;
 
 pub(crate) fn tell_digits(rt: &impl Print) -> io::Result<()> {
-    tell(rt, "digit_at of 11, upper", &digit_at(true, 11))?;
-    tell(rt, "value_at of B", &value_at(b'B'))?;
+    tell(rt, "digit_at of 11, upper", digit_at(true, 11))?;
+    tell(rt, "value_at of B", value_at(b'B'))?;
     for text in [TEXT, ODD, BAD, "6B697769"] {
-        let bytes = text.as_bytes();
-        tell_of(rt, "check of", text, &check(bytes))?;
-        tell_of(rt, "const_check of", text, &const_check(bytes))?;
-        tell_of(rt, "check_raw of", text, &check_raw(bytes))?;
-        tell_of(rt, "const_check_raw of", text, &const_check_raw(bytes))?;
+        tell_checks(rt, text)?;
     }
     Ok(())
+}
+
+fn tell_checks(rt: &impl Print, text: &str) -> io::Result<()> {
+    let bytes = text.as_bytes();
+    tell_of(rt, "check of", text, check(bytes))?;
+    tell_of(rt, "const_check of", text, const_check(bytes))?;
+    tell_of(rt, "check_raw of", text, check_raw(bytes))?;
+    tell_of(rt, "const_check_raw of", text, const_check_raw(bytes))
 }
 
 pub(crate) fn tell_texts_in_slices(rt: &impl Print) -> io::Result<()> {
     let mut text = [0; 8];
     let done = encode_to_slice(KIWI, &mut text);
-    tell(rt, "encode_to_slice", &(done, text))?;
+    tell(rt, "encode_to_slice", (done, text))?;
     let done = encode_to_slice_upper(KIWI, &mut text);
-    tell(rt, "encode_to_slice_upper", &(done, text))?;
-    tell(rt, "encode_to_str", &encode_to_str(KIWI, &mut text))?;
+    tell(rt, "encode_to_slice_upper", (done, text))?;
+    tell(rt, "encode_to_str", encode_to_str(KIWI, &mut text))?;
     tell(
         rt,
         "encode_to_str_upper",
-        &encode_to_str_upper(KIWI, &mut text),
+        encode_to_str_upper(KIWI, &mut text),
     )?;
     let mut full = [0; 10];
     let done = encode_full_to_slice(KIWI, true, false, &mut full);
-    tell(rt, "encode_full_to_slice", &(done, full))?;
+    tell(rt, "encode_full_to_slice", (done, full))
+}
+
+/// A slice that is too short for the text.
+pub(crate) fn tell_short_slices(rt: &impl Print) -> io::Result<()> {
     let mut short = [0; 7];
     let done = encode_full_to_slice(KIWI, true, false, &mut short);
-    tell(rt, "encode_full_to_slice, too short", &(done, short))?;
+    tell(rt, "encode_full_to_slice, too short", (done, short))?;
     let done = encode_to_slice(KIWI, &mut short);
-    tell(rt, "encode_to_slice, too short", &(done, short))?;
+    tell(rt, "encode_to_slice, too short", (done, short))?;
     let done = encode_to_slice_upper(KIWI, &mut short);
-    tell(rt, "encode_to_slice_upper, too short", &(done, short))?;
+    tell(rt, "encode_to_slice_upper, too short", (done, short))?;
     let lent = encode_to_str(KIWI, &mut short);
-    tell(rt, "encode_to_str, too short", &lent)?;
+    tell(rt, "encode_to_str, too short", lent)?;
     let lent = encode_to_str_upper(KIWI, &mut short);
-    tell(rt, "encode_to_str_upper, too short", &lent)
+    tell(rt, "encode_to_str_upper, too short", lent)
 }
 
 pub(crate) fn tell_read(rt: &impl Print, alloc: Global) -> io::Result<()> {
@@ -60,18 +68,18 @@ pub(crate) fn tell_read(rt: &impl Print, alloc: Global) -> io::Result<()> {
         let bytes = text.as_bytes();
         let mut output = [0; 4];
         let done = decode_to_slice(bytes, &mut output);
-        tell_of(rt, "decode_to_slice of", text, &(done, output))?;
+        tell_of(rt, "decode_to_slice of", text, (done, output))?;
         let mut room = [0; 6];
         let done = decode_to_front(bytes, &mut room);
-        tell_of(rt, "decode_to_front of", text, &(done, room))?;
+        tell_of(rt, "decode_to_front of", text, (done, room))?;
         let read = decode_to_array::<4>(bytes);
-        tell_of(rt, "decode_to_array of", text, &read)?;
+        tell_of(rt, "decode_to_array of", text, read)?;
         let read = const_decode_to_array::<4>(bytes);
-        tell_of(rt, "const_decode_to_array of", text, &read)?;
+        tell_of(rt, "const_decode_to_array of", text, read)?;
         let read = <[u8; 4]>::from_hex(alloc, bytes);
-        tell_of(rt, "[u8; 4]::from_hex of", text, &read)?;
+        tell_of(rt, "[u8; 4]::from_hex of", text, read)?;
         let read = <[i8; 4]>::from_hex(alloc, bytes);
-        tell_of(rt, "[i8; 4]::from_hex of", text, &read)?;
+        tell_of(rt, "[i8; 4]::from_hex of", text, read)?;
     }
     Ok(())
 }
@@ -79,17 +87,17 @@ pub(crate) fn tell_read(rt: &impl Print, alloc: Global) -> io::Result<()> {
 /// An odd text is refused before memory is asked for.
 pub(crate) fn tell_odd(rt: &impl Print, alloc: Global) -> io::Result<()> {
     let odd = ODD.as_bytes();
-    tell(rt, "decode of an odd text", &decode(alloc, odd))?;
+    tell(rt, "decode of an odd text", decode(alloc, odd))?;
     let read = <Vec<u8>>::from_hex(alloc, odd);
-    tell(rt, "Vec<u8>::from_hex of an odd text", &read)?;
+    tell(rt, "Vec<u8>::from_hex of an odd text", read)?;
     let read = <Vec<i8>>::from_hex(alloc, odd);
-    tell(rt, "Vec<i8>::from_hex of an odd text", &read)?;
+    tell(rt, "Vec<i8>::from_hex of an odd text", read)?;
     let read = <BoxedSlice<u8>>::from_hex(alloc, odd);
-    tell(rt, "BoxedSlice<u8>::from_hex of an odd text", &read)?;
+    tell(rt, "BoxedSlice<u8>::from_hex of an odd text", read)?;
     let read = <BoxedSlice<i8>>::from_hex(alloc, odd);
-    tell(rt, "BoxedSlice<i8>::from_hex of an odd text", &read)?;
+    tell(rt, "BoxedSlice<i8>::from_hex of an odd text", read)?;
     let read = <Box<Rc<Vec<u8>>>>::from_hex(alloc, odd);
-    tell(rt, "Box<Rc<Vec<u8>>>::from_hex of an odd text", &read)
+    tell(rt, "Box<Rc<Vec<u8>>>::from_hex of an odd text", read)
 }
 
 /// A JSON value that is no text is refused without a look inside, and an odd text as above.
@@ -101,12 +109,12 @@ pub(crate) fn tell_no_texts(rt: &impl Print, alloc: Global, inputs: &Inputs) -> 
     tell_no_text(rt, alloc, "of a list", &inputs.list)?;
     tell_no_text(rt, alloc, "of an object", &inputs.object)?;
     let read = deserialize::<Vec<u8>>(alloc, &inputs.odd);
-    tell(rt, "deserialize of an odd text", &read)
+    tell(rt, "deserialize of an odd text", read)
 }
 
 fn tell_no_text(rt: &impl Print, alloc: Global, of: &str, value: &Value) -> io::Result<()> {
     let read = deserialize::<Vec<u8>>(alloc, value);
-    tell_of(rt, "deserialize", of, &read)?;
+    tell_of(rt, "deserialize", of, read)?;
     let read = no_prefix::deserialize::<Vec<u8>>(alloc, value);
-    tell_of(rt, "no_prefix::deserialize", of, &read)
+    tell_of(rt, "no_prefix::deserialize", of, read)
 }

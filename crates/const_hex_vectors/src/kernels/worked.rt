@@ -33,13 +33,23 @@ fn decoded_fronts(rt: HostRuntime) -> Result<(), Fail> {
 }
 
 fn leave<K: Kernel>(rt: &impl Abort, alloc: Global, counts: [usize; 6]) -> Result<(), Fail> {
-    for ((prefix, length, place), count) in PLACES.into_iter().zip(counts) {
-        let text = behind(alloc, prefix, &replaced(alloc, length, place)?)?;
-        let mut output = vec![in alloc; 0xEEu8; length / 2]?;
-        let refusal = refusal(b'g', place_in_text(prefix.len(), place));
-        assert_eq!(rt; decode_to_slice_with::<K>(&text, &mut output), Err(refusal));
-        assert!(rt; output == front_of(alloc, length / 2, count)?);
+    for (row, count) in PLACES.into_iter().zip(counts) {
+        leaves::<K>(rt, alloc, row, count)?;
     }
+    Ok(())
+}
+
+fn leaves<K: Kernel>(
+    rt: &impl Abort,
+    alloc: Global,
+    (prefix, length, place): (&str, usize, usize),
+    count: usize,
+) -> Result<(), Fail> {
+    let text = behind(alloc, prefix, &replaced(alloc, length, place)?)?;
+    let mut output = vec![in alloc; 0xEEu8; length / 2]?;
+    let refusal = refusal(b'g', place_in_text(prefix.len(), place));
+    assert!(rt; decode_to_slice_with::<K>(&text, &mut output) == Err(refusal));
+    assert!(rt; output == front_of(alloc, length / 2, count)?);
     Ok(())
 }
 
@@ -89,18 +99,24 @@ fn counted<K: Kernel>(rt: &impl Abort, alloc: Global, pieces_of_49: usize) -> Re
         (65, "40"),
     ];
     for (count, last) in rows {
-        let bytes: Vec<u8> = (0..count).map(|i| (i % 256) as u8).collect(alloc)?;
-        let text = encode_with::<K, false>(alloc, &bytes)?;
-        assert_eq!(rt; text.len(), 2 * count);
-        assert!(rt; text.ends_with(last));
-        assert!(rt; text == printed(alloc, &bytes, false, false)?);
-        assert!(rt; decode_with::<K>(alloc, text.as_bytes())? == bytes);
+        up_to::<K>(rt, alloc, count, last)?;
     }
     let mut sink = PieceSink::new(alloc, 0);
     K::encode(&[0xAB; 49], false, &mut SinkOutput::new(&mut sink));
-    assert_eq!(rt; sink.calls(), pieces_of_49);
+    assert!(rt; sink.calls() == pieces_of_49);
     each_call::<K>(rt, alloc)?;
     seventeen::<K>(rt, alloc)
+}
+
+/// That many bytes, 0 and on, whose text ends so.
+fn up_to<K: Kernel>(rt: &impl Abort, alloc: Global, count: usize, last: &str) -> Result<(), Fail> {
+    let bytes: Vec<u8> = (0..count).map(|i| (i % 256) as u8).collect(alloc)?;
+    let text = encode_with::<K, false>(alloc, &bytes)?;
+    assert!(rt; text.len() == count.saturating_mul(2));
+    assert!(rt; text.ends_with(last));
+    assert!(rt; text == printed(alloc, &bytes, false, false)?);
+    assert!(rt; decode_with::<K>(alloc, text.as_bytes())? == bytes);
+    Ok(())
 }
 
 /// The kernel's own calls, by a slice of 49 bytes.

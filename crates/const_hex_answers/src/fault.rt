@@ -5,7 +5,7 @@ use std::alloc::AllocError;
 use std::fmt;
 
 /// Why a line has no answer.
-#[derive(Clone, Copy, Debug, PartialEq, Eq)]
+#[derive(Clone, Copy)]
 pub(crate) enum Fault {
     /// The line has more than 65,536 bytes.
     TooLong,

@@ -38,9 +38,7 @@ pub(crate) fn answer(alloc: Global, question: &Question) -> Result<Answer, Fault
         Operation::ConstDecodeToArray(size) => arrays::const_decode(alloc, bytes, size),
         Operation::SignedVec => owned::signed(alloc, bytes),
         Operation::SignedArray => arrays::signed(alloc, bytes),
-        Operation::BufferFormat(form) => buffers::format(alloc, bytes, form),
-        Operation::BufferDebug => buffers::debug(alloc, bytes),
-        Operation::ConstEncode(form) => buffers::const_encode(alloc, bytes, form),
+        Operation::Buffer(call, form) => buffers::made(alloc, bytes, call, form),
         Operation::Serialize(form) => json::serialize(alloc, bytes, form),
         Operation::Deserialize => json::deserialize(alloc, bytes),
         Operation::SerializeInner(prefix) => {
@@ -72,6 +70,3 @@ fn refused(refusal: FromHexError) -> Result<Answer, Fault> {
 fn text(alloc: Global, text: &str) -> Result<Answer, Fault> {
     Ok(Answer::Bytes(text.as_bytes().to_vec(alloc)?))
 }
-
-#[cfg(test)]
-mod tests;

@@ -5,6 +5,9 @@ use std::alloc::Global;
 use std::io;
 use std::io::Write;
 
+/// The lower digits, by their values.
+const DIGITS: &[u8; 16] = b"0123456789abcdef";
+
 /// The bytes that a word stands for: two lower digits for each, and `-` for none.
 pub(crate) fn bytes_of(alloc: Global, word: &str) -> Result<Vec<u8>, Fault> {
     if word == "-" {
@@ -34,12 +37,10 @@ fn value_of(digit: u8) -> Result<u8, Fault> {
     }
 }
 
-/// The lower digit of the low half of a byte.
-fn digit_of(byte: u8) -> u8 {
-    match byte & 15 {
-        value @ 0..=9 => b'0' + value,
-        value => b'a' + (value - 10),
-    }
+/// The two lower digits of a byte.
+fn digits_of(byte: u8) -> [u8; 2] {
+    let byte = usize::from(byte);
+    [DIGITS[byte / 16], DIGITS[byte % 16]]
 }
 
 /// Writes two lower digits for each byte, and `-` for none.
@@ -48,7 +49,7 @@ pub(crate) fn write_hex<W: Write>(output: &mut W, bytes: &[u8]) -> io::Result<()
         return output.write_all(b"-");
     }
     for byte in bytes {
-        output.write_all(&[digit_of(*byte >> 4), digit_of(*byte)])?;
+        output.write_all(&digits_of(*byte))?;
     }
     Ok(())
 }

@@ -1,4 +1,4 @@
-//! A whole run.
+//! Lines, each with its answer.
 
 use crate::answer::Answer;
 use crate::answers::answer;
@@ -12,8 +12,15 @@ use std::io::{BufRead, Read, Write};
 const LONGEST: usize = 65_536;
 
 /// Answers each line of the input by a line of the output, and tells whether each was a question.
-/// It keeps one line at a time.
-pub(crate) fn replay<R: BufRead, W: Write>(
+/// A line has at most 65,536 bytes. One line is kept at a time. A failed read or write, or a refused
+/// request for memory, ends the run.
+///
+/// ```rust
+/// let mut answers = Vec::new(rt.alloc());
+/// assert!(rt; answer_lines(rt.alloc(), &mut b"encode 6b".as_slice(), &mut answers)?);
+/// assert!(rt; answers.as_slice() == b"OK 3662\n".as_slice());
+/// ```
+pub fn answer_lines<R: BufRead, W: Write>(
     alloc: Global,
     input: &mut R,
     output: &mut W,
@@ -69,6 +76,3 @@ fn answer_of(alloc: Global, line: &[u8]) -> Result<Answer, Fault> {
     }
     answer(alloc, &Question::read(alloc, line)?)
 }
-
-#[cfg(test)]
-mod tests;
