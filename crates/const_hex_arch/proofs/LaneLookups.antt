@@ -3,7 +3,7 @@ use Rattle.std.proofs.Common.{◌≡◌, ℕ, zero, suc, ◌+◌, ◌*◌, ◌/�
 use Rattle.std.proofs.lemmas.Bool.Decides.{nat_tests}
 use Rattle.std.proofs.lemmas.List.Elements.{All-nil, All-head, All-tail, All-cons}
 use Rattle.std.proofs.lemmas.Nat.{and_mask, le_or_l, le_or_r, or_lt}
-use Rattle.std.specs.List.{range_with_len}
+use Rattle.std.specs.List.{AllByRecursion, range_with_len}
 use Rattle.std.proofs.lemmas.Grind.{common_steps}
 use Rattle.std.proofs.lemmas.List.{map-append}
 use Rattle.std.proofs.lemmas.Simd.{swz_l, SwzOk, SwzOk-from_Each1, length-zip2, length-replicate, pick_l-range_with_len}
@@ -77,34 +77,43 @@ module _ (low high : List ℕ) where
   pub read_are : (b n : ℕ) → T (is_right b) → (v : List ℕ) → n ≡ b * 16 → (length v ≡ n) × Each1 (Fits w8) v → map as_looked_up (read_l n 0 v) ≡ map hex_value v
   read_are b n t v blocks f = subst (λ n. map as_looked_up (read_l n 0 v) ≡ map hex_value v) f.0 (read_all b t 0 v (omega (arith, f.0)) f.1)
 
--- by the halves of a vector of twice n lanes, which are picked from it and itself again
-pub halves_looked_up : (n : ℕ) (v a b : List ℕ) → length v ≡ 2 * n → map as_looked_up a ≡ map hex_value (pick_l 0 (v ++ v) (range_with_len 0 n)) → map as_looked_up b ≡ map hex_value (pick_l 0 (v ++ v) (range_with_len n n))
-    → map as_looked_up (a ++ b) ≡ map hex_value v
-halves_looked_up n v a b e p q =
+-- the halves of a vector of twice n lanes, which are picked from it and itself again
+pub halves : (n : ℕ) (v : List ℕ) → length v ≡ 2 * n → pick_l 0 (v ++ v) (range_with_len 0 n) ++ pick_l 0 (v ++ v) (range_with_len n n) ≡ v
+halves n v e =
     let long = length-append v v in
     let front : take n (v ++ v) ≡ take n v = grind (arith, common_steps) in
     let back : take n (drop n (v ++ v)) ≡ take n (drop n v) = grind (arith, common_steps) in
-    map-append as_looked_up a b
-    ∙ rw (p, q, pick_l-range_with_len 0 (v ++ v) 0 n (omega arith), pick_l-range_with_len 0 (v ++ v) n n (omega arith), front, back) (sym (map-append hex_value (take n v) (take n (drop n v))))
-    ∙ ap (map hex_value) (in_two n v e)
+    rw (pick_l-range_with_len 0 (v ++ v) 0 n (omega arith), pick_l-range_with_len 0 (v ++ v) n n (omega arith), front, back) (in_two n v e)
+
+pub halves_looked_up : (n : ℕ) (v a b : List ℕ) → length v ≡ 2 * n → map as_looked_up a ≡ map hex_value (pick_l 0 (v ++ v) (range_with_len 0 n)) → map as_looked_up b ≡ map hex_value (pick_l 0 (v ++ v) (range_with_len n n))
+    → map as_looked_up (a ++ b) ≡ map hex_value v
+halves_looked_up n v a b e p q =
+    map-append as_looked_up a b ∙ rw (p, q) (sym (map-append hex_value (pick_l 0 (v ++ v) (range_with_len 0 n)) (pick_l 0 (v ++ v) (range_with_len n n)))) ∙ ap (map hex_value) (halves n v e)
 
 -- ---- one test for several vectors
 
-pub both_looked_up : (ys zs : List ℕ) → length ys ≡ length zs → AllLookedUp (zip2 bit_or ys zs) ↔ (AllLookedUp ys × AllLookedUp zs)
-both_looked_up [] [] e = (λ h. (tt, tt), λ h. tt)
-both_looked_up [] (z ∷ zs) e = absurd (omega arith)
-both_looked_up (y ∷ ys) [] e = absurd (omega arith)
-both_looked_up (y ∷ ys) (z ∷ zs) e =
-    let more = both_looked_up ys zs (omega arith) in
-    (λ h. ((omega (arith, h.0, le_or_l y z), (more.0 h.1).0), (omega (arith, h.0, le_or_r y z), (more.0 h.1).1)), λ h. (or_lt 7 y z h.0.0 h.1.0, more.1 (h.0.1, h.1.1)))
+-- of lanes for which P holds, and of what they stand for
+module _ (P : ℕ → Type 0) (one : (y z : ℕ) → P (bit_or y z) ↔ (P y × P z)) where
+  both_hold : (ys zs : List ℕ) → length ys ≡ length zs → AllByRecursion P (zip2 bit_or ys zs) ↔ (AllByRecursion P ys × AllByRecursion P zs)
+  both_hold [] [] e = (λ h. (tt, tt), λ h. tt)
+  both_hold [] (z ∷ zs) e = absurd (omega arith)
+  both_hold (y ∷ ys) [] e = absurd (omega arith)
+  both_hold (y ∷ ys) (z ∷ zs) e =
+      let here = one y z in
+      let more = both_hold ys zs (omega arith) in
+      (λ h. (((here.0 h.0).0, (more.0 h.1).0), ((here.0 h.0).1, (more.0 h.1).1)), λ h. (here.1 (h.0.0, h.1.0), more.1 (h.0.1, h.1.1)))
 
--- the text of both
-pub joint_test : (ys zs t u w : List ℕ) → t ++ u ≡ w → length ys ≡ length zs → AllLookedUp ys ↔ AllDigits t → AllLookedUp zs ↔ AllDigits u → AllLookedUp (zip2 bit_or ys zs) ↔ AllDigits w
-joint_test ys zs t u w whole e first second =
-    let both = both_looked_up ys zs e in
-    let parts = digits_append t u in
-    subst (λ w. AllLookedUp (zip2 bit_or ys zs) ↔ AllDigits w) whole
-    (λ h. parts.1 (first.0 (both.0 h).0, second.0 (both.0 h).1), λ d. both.1 (first.1 (parts.0 d).0, second.1 (parts.0 d).1))
+  -- the text of both
+  pub joint_test : (ys zs t u w : List ℕ) → t ++ u ≡ w → length ys ≡ length zs → AllByRecursion P ys ↔ AllDigits t → AllByRecursion P zs ↔ AllDigits u → AllByRecursion P (zip2 bit_or ys zs) ↔ AllDigits w
+  joint_test ys zs t u w whole e first second =
+      let both = both_hold ys zs e in
+      let parts = digits_append t u in
+      subst (λ w. AllByRecursion P (zip2 bit_or ys zs) ↔ AllDigits w) whole
+      (λ h. parts.1 (first.0 (both.0 h).0, second.0 (both.0 h).1), λ d. both.1 (first.1 (parts.0 d).0, second.1 (parts.0 d).1))
+
+-- a lane of two together
+pub both_looked_up : (y z : ℕ) → (bit_or y z < 128) ↔ ((y < 128) × (z < 128))
+both_looked_up y z = (λ h. (omega (arith, h, le_or_l y z), omega (arith, h, le_or_r y z)), λ h. or_lt 7 y z h.0 h.1)
 
 -- ---- what lanes hold is values where what they stand for is digits
 
@@ -134,7 +143,7 @@ low_values (z ∷ zs) (x ∷ u) e d =
 -- ---- two vectors of n lanes: w is their text, t and u its parts, a and b what is looked up
 module _ (n : ℕ) (w t u a b : List ℕ) (whole : w ≡ t ++ u) (long_a : length a ≡ n) (long_b : length b ≡ n) (of_a : map as_looked_up a ≡ map hex_value t) (of_b : map as_looked_up b ≡ map hex_value u) where
   pub one_test : AllLookedUp (zip2 bit_or a b) ↔ AllDigits w
-  one_test = joint_test a b t u w (sym whole) (long_a ∙ sym long_b) (looked_up_are_digits a t of_a) (looked_up_are_digits b u of_b)
+  one_test = joint_test (λ z. z < 128) both_looked_up a b t u w (sym whole) (long_a ∙ sym long_b) (looked_up_are_digits a t of_a) (looked_up_are_digits b u of_b)
 
   abbrev low : List ℕ → List ℕ
   low a = zip2 bit_and a (replicate n 15)

@@ -9,7 +9,7 @@ ghost use Rattle.std.specs.Str.{IsAscii};
 ghost use Rattle.const_hex_arch.specs.Digits.{hex_value};
 ghost use Rattle.const_hex_arch.specs.Lanes.{AllNibbles, low_digit, byte_pairs};
 ghost use Rattle.const_hex_arch.specs.Lookups.{as_looked_up, AllLookedUp};
-ghost use Rattle.const_hex_arch.specs.Nibbles.{as_value, IsValueOf};
+ghost use Rattle.const_hex_arch.specs.Nibbles.{as_value, IsValueOf, IsMarkOf};
 ghost use Rattle.const_hex_arch.specs.Texts.{hex_text, AllDigits, Spells};
 
 use crate::arch::{lanes, lanes16};
@@ -47,7 +47,7 @@ pub fn encode_chunk<const UPPER: bool>(v: u8x32) -> [u8x32; 2]
 pub fn check_chunk(v: u8x32) -> bool
     ensures { IsTrue result ↔ AllDigits v }
 {
-    lanes::check_chunk(v)
+    lanes::are_unmarked(marks(v))
 }
 
 /// The value of each lane that is a digit, and more than 15 for every other lane.
@@ -152,6 +152,19 @@ fn looked_up(v: u8x32) -> u8x32
         lanes16::looked_up(v.extract::<0, 16>()),
         lanes16::looked_up(v.extract::<16, 16>()),
     )
+}
+
+/// Sets one of the bits 7, 4 and 0 in each lane that is no digit, and clears the three in every
+/// other lane.
+// What is added is looked up by halves, as in `looked_up`; the sum is one of 32 lanes, or the
+// compiler would go by halves with AVX2 too.
+#[inline(always)]
+pub(crate) fn marks(v: u8x32) -> u8x32
+    ensures { AllZip IsMarkOf v result }
+{
+    let first = lanes16::added(v.extract::<0, 16>());
+    let second = lanes16::added(v.extract::<16, 16>());
+    lanes::marks(v, lanes16::join(first, second))
 }
 
 /// The bytes that the lanes of a text spell, which have to be digits.
