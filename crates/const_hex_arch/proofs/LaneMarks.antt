@@ -1,19 +1,20 @@
 -- The test of digits alone, by one look-up of lanes. 32 lanes go by halves.
-use Rattle.std.proofs.Common.{◌≡◌, ℕ, zero, suc, ◌+◌, ◌-◌, ◌*◌, ◌/◌, ◌%◌, ◌<◌, ◌≤◌, ◌↔◌, Bool, true, false, eqb, cond, T, List, [], ◌∷◌, ◌++◌, length, replicate, get_or, bit_and, bit_or, refl, sym, subst, arith, w8, Fits, eqb→eq, eqb-true, eq-eqb, IsTrue, IsSome, Option, Some, None}
-use Rattle.std.specs.List.{AllZip, range_with_len}
+use Rattle.std.proofs.Common.{◌≡◌, ℕ, zero, suc, ◌+◌, ◌-◌, ◌*◌, ◌/◌, ◌%◌, ◌<◌, ◌≤◌, ◌↔◌, Bool, true, false, eqb, cond, T, List, [], ◌∷◌, length, replicate, get_or, bit_and, bit_or, refl, sym, subst, arith, w8, Fits, eqb→eq, eqb-true, eq-eqb, IsTrue, IsSome, Option, Some, None}
+use Rattle.std.specs.List.{AllByRecursion, AllZip}
 use Rattle.std.specs.Int.{bit_at}
 use Rattle.std.proofs.lemmas.List.Elements.{All-nil, All-head, All-tail, All-cons}
 use Rattle.std.proofs.lemmas.Nat.{le_or_l, le_or_r}
 use Rattle.std.proofs.lemmas.Nat.Bits.{bit_at_or}
 use Rattle.std.proofs.lemmas.Simd.{swz_l}
-use lib.Lanes.{zip2, fold_l, Each1, pick_l}
+use lib.Lanes.{zip2, fold_l, Each1}
 use mir.Val.{zeroes}
 use Rattle.const_hex_arch.specs.Digits.{hex_value, IsDigit}
 use Rattle.const_hex_arch.specs.Lanes.{IsUnmarked, AllUnmarked}
+use Rattle.const_hex_arch.specs.Lookups.{IsLookedUp, AllLookedUp}
 use Rattle.const_hex_arch.specs.Nibbles.{IsMarkOf, IsAddedTo}
 use Rattle.const_hex_arch.specs.Texts.{AllDigits}
 use Rattle.const_hex_arch.proofs.Computed.{all_below, every_below}
-use Rattle.const_hex_arch.proofs.LaneLookups.{low_halves, halves}
+use Rattle.const_hex_arch.proofs.LaneLookups.{low_halves}
 use Rattle.const_hex_arch.proofs.LaneValues.{add8, satsub_l}
 use Rattle.const_hex_arch.proofs.Spelling.{false_is_true}
 
@@ -74,16 +75,6 @@ module _ (table : List ℕ) where
   pub added_are : T is_right → (v : List ℕ) → (length v ≡ 16) × Each1 (Fits w8) v → AllZip IsAddedTo v (swz_l w8 16 table 0 (low_halves 16 v))
   added_are t v f = subst (λ n. AllZip IsAddedTo v (swz_l w8 16 table 0 (low_halves n v))) f.0 (added_all t 0 v (omega (arith, f.0)) f.1)
 
-both_zip : (v w a b : List ℕ) → AllZip IsAddedTo v a → AllZip IsAddedTo w b → AllZip IsAddedTo (v ++ w) (a ++ b)
-both_zip [] w [] b p q = q
-both_zip [] w (y ∷ a) b p q = absurd p
-both_zip (x ∷ v) w [] b p q = absurd p
-both_zip (x ∷ v) w (y ∷ a) b p q = (p.0, both_zip v w a b p.1 q)
-
--- by the halves of a vector of twice n lanes
-pub halves_added : (n : ℕ) (v a b : List ℕ) → length v ≡ 2 * n → AllZip IsAddedTo (pick_l 0 (v ++ v) (range_with_len 0 n)) a → AllZip IsAddedTo (pick_l 0 (v ++ v) (range_with_len n n)) b → AllZip IsAddedTo v (a ++ b)
-halves_added n v a b e p q = subst (λ v. AllZip IsAddedTo v (a ++ b)) (halves n v e) (both_zip _ _ a b p q)
-
 -- ---- the sum, less 2
 
 abbrev less_two : ℕ → ℕ
@@ -131,21 +122,37 @@ unmarked_at x h =
     let other = zero_is (mark_bits x) in
     (λ e. other.0 (same.0 (one.1 e)), λ p. one.0 (same.1 (other.1 p)))
 
-no_mark : (a : ℕ) (xs : List ℕ) → Each1 (Fits w8) xs → (fold_l bit_or a (zip2 bit_and xs (replicate (length xs) 145)) ≡ 0) ↔ ((a ≡ 0) × AllUnmarked xs)
-no_mark a [] f = (λ e. (e, tt), λ h. h.0)
-no_mark a (x ∷ xs) f =
-    let one = unmarked_at x f.0.fits in
-    let more = no_mark (bit_or a (marked x)) xs f.1 in (
-      λ e. (
-          let none = (more.0 e).0 in (omega (arith, none, le_or_l a (marked x)), (one.0 (omega (arith, none, le_or_r a (marked x))), (more.0 e).1))
-          ),
-      λ h. (let none : marked x ≡ 0 = one.1 h.1.0 in more.1 (rw (none, h.0) refl, h.1.1)),
-    )
+-- of a value that is looked up
+looked_up_at : (x : ℕ) → x < 256 → (bit_and x 48 ≡ 0) ↔ IsLookedUp x
+looked_up_at x h =
+    let same = same_truth-cases (eqb (bit_and x 48) 0) (eqb (bit_at x 5 + bit_at x 4) 0) (every_below (λ x. same_truth (eqb (bit_and x 48) 0) (eqb (bit_at x 5 + bit_at x 4) 0)) 256 tt x h) in
+    let one = zero_is (bit_and x 48) in
+    let other = zero_is (bit_at x 5 + bit_at x 4) in
+    (λ e. other.0 (same.0 (one.1 e)), λ p. one.0 (same.1 (other.1 p)))
+
+-- P holds of a byte that has none of the bits of m
+module _ (m : ℕ) (P : ℕ → Type 0) (at : (x : ℕ) → x < 256 → (bit_and x m ≡ 0) ↔ P x) where
+  no_bit : (a : ℕ) (xs : List ℕ) → Each1 (Fits w8) xs → (fold_l bit_or a (zip2 bit_and xs (replicate (length xs) m)) ≡ 0) ↔ ((a ≡ 0) × AllByRecursion P xs)
+  no_bit a [] f = (λ e. (e, tt), λ h. h.0)
+  no_bit a (x ∷ xs) f =
+      let one = at x f.0.fits in
+      let more = no_bit (bit_or a (bit_and x m)) xs f.1 in (
+        λ e. (
+            let none = (more.0 e).0 in (omega (arith, none, le_or_l a (bit_and x m)), (one.0 (omega (arith, none, le_or_r a (bit_and x m))), (more.0 e).1))
+            ),
+        λ h. (let none : bit_and x m ≡ 0 = one.1 h.1.0 in more.1 (rw (none, h.0) refl, h.1.1)),
+      )
+
+  pub all_clear : (n : ℕ) (xs : List ℕ) → (length xs ≡ n) × Each1 (Fits w8) xs → IsTrue (eqb (fold_l bit_or 0 (zip2 bit_and xs (replicate n m))) 0) ↔ AllByRecursion P xs
+  all_clear n xs f =
+      let all = no_bit 0 xs f.1 in
+      let as_many = λ (n : ℕ). fold_l bit_or 0 (zip2 bit_and xs (replicate n m)) in
+      let zero_is_zero : zero ≡ 0 = refl in
+      subst (λ n. IsTrue (eqb (as_many n) 0) ↔ AllByRecursion P xs) f.0
+      (λ t. (all.0 (eqb-true (as_many (length xs)) 0 t)).1, λ a. eq-eqb (as_many (length xs)) 0 (all.1 (zero_is_zero, a)))
 
 pub are_unmarked : (n : ℕ) (xs : List ℕ) → (length xs ≡ n) × Each1 (Fits w8) xs → IsTrue (eqb (fold_l bit_or 0 (zip2 bit_and xs (replicate n 145))) 0) ↔ AllUnmarked xs
-are_unmarked n xs f =
-    let all = no_mark 0 xs f.1 in
-    let as_many = λ (n : ℕ). fold_l bit_or 0 (zip2 bit_and xs (replicate n 145)) in
-    let zero_is_zero : zero ≡ 0 = refl in
-    subst (λ n. IsTrue (eqb (as_many n) 0) ↔ AllUnmarked xs) f.0
-    (λ t. (all.0 (eqb-true (as_many (length xs)) 0 t)).1, λ a. eq-eqb (as_many (length xs)) 0 (all.1 (zero_is_zero, a)))
+are_unmarked = all_clear 145 IsUnmarked unmarked_at
+
+pub are_looked_up : (n : ℕ) (xs : List ℕ) → (length xs ≡ n) × Each1 (Fits w8) xs → IsTrue (eqb (fold_l bit_or 0 (zip2 bit_and xs (replicate n 48))) 0) ↔ AllLookedUp xs
+are_looked_up = all_clear 48 IsLookedUp looked_up_at

@@ -1,10 +1,10 @@
 //! The values of digits and the tests of lanes, for vectors of any number of lanes.
 
-ghost use Rattle.std.specs.Prelude.{◌≡◌, ◌≤◌, ◌↔◌, map, IsTrue};
+ghost use Rattle.std.specs.Prelude.{◌≡◌, ◌↔◌, map, IsTrue};
 ghost use Rattle.std.specs.List.{AllZip};
 ghost use Rattle.const_hex_arch.specs.Digits.{hex_value};
 ghost use Rattle.const_hex_arch.specs.Lanes.{AllUnmarked};
-ghost use Rattle.const_hex_arch.specs.Lookups.{AllLookedUp};
+ghost use Rattle.const_hex_arch.specs.Lookups.{as_looked_up, AllLookedUp, IsTakenFrom};
 ghost use Rattle.const_hex_arch.specs.Nibbles.{as_value, IsValueOf, IsMarkOf, IsAddedTo};
 
 use std::simd::prelude::*;
@@ -23,13 +23,22 @@ pub(crate) fn nibbles<const N: usize>(v: Simd<u8, N>) -> Simd<u8, N>
     decimal.simd_min(letter)
 }
 
-/// Whether no lane is above 127, of at most 64 lanes.
+/// The value of each lane that is a digit, in the low half of a lane with the bits 5 and 4 clear,
+/// and one of the two bits set for every other lane.
+#[inline(always)]
+pub(crate) fn looked_up<const N: usize>(v: Simd<u8, N>, taken: Simd<u8, N>) -> Simd<u8, N>
+    requires { AllZip IsTakenFrom v taken }
+    ensures { map as_looked_up result ≡ map hex_value v.entry }
+{
+    v - (v.saturating_sub(taken) ^ Simd::splat(0x30))
+}
+
+/// Whether each lane holds a value: all have the bits 5 and 4 clear.
 #[inline(always)]
 pub(crate) fn are_looked_up<const N: usize>(values: Simd<u8, N>) -> bool
-    requires { N ≤ 64 }
     ensures { IsTrue result ↔ AllLookedUp values.entry }
 {
-    !values.simd_gt(Simd::splat(127)).any()
+    (values & Simd::splat(0x30)).reduce_or() == 0
 }
 
 /// Sets one of the bits 7, 4 and 0 in each lane that is no digit, and clears the three in every
