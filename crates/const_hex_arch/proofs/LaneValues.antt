@@ -1,15 +1,12 @@
 -- The values of digits, in vectors of any number of lanes.
-use Rattle.std.proofs.Common.{◌≡◌, ℕ, zero, suc, ◌+◌, ◌*◌, ◌-◌, ◌%◌, ◌^◌, ◌<◌, ◌≤◌, ◌↔◌, Bool, true, false, cond, eqb, ltb, not, T, ltb-true, ltb-false, ◌||◌, List, [], ◌∷◌, map, length, replicate, drop, get_or, bit_and, refl, ap, subst, arith, w8, Fits, Option, Some, None, IsSome, IsTrue, eqb→eq, eqb-true, eq-eqb}
+use Rattle.std.proofs.Common.{◌≡◌, ℕ, zero, suc, ◌+◌, ◌-◌, ◌%◌, ◌^◌, ◌<◌, ◌≤◌, Bool, true, false, cond, eqb, ltb, T, ◌||◌, List, [], ◌∷◌, map, length, replicate, drop, get_or, bit_and, refl, ap, subst, arith, w8, Fits, Option, Some, None, IsSome, eqb→eq}
 use Rattle.std.specs.List.{AllZip}
-use Rattle.std.proofs.Math.Bool.{not-not}
 use Rattle.std.proofs.lemmas.Bool.Decides.{nat_tests}
 use Rattle.std.proofs.lemmas.List.Elements.{All-head, All-tail}
-use Rattle.std.proofs.lemmas.Simd.{mask_l-mod}
-use lib.Lanes.{zip2, sel_l, top, mask_l, Each1}
+use lib.Lanes.{zip2, sel_l, top, Each1}
 use Rattle.const_hex_arch.specs.Digits.{hex_value, IsDigit}
 use Rattle.const_hex_arch.specs.Texts.{AllDigits}
 use Rattle.const_hex_arch.specs.Lanes.{AllNibbles}
-use Rattle.const_hex_arch.specs.Lookups.{AllLookedUp}
 use Rattle.const_hex_arch.specs.Nibbles.{as_value, IsValueOf}
 use Rattle.const_hex_arch.proofs.Computed.{every_below}
 use Rattle.const_hex_arch.proofs.Spelling.{false_is_true, hex_value-small}
@@ -108,35 +105,6 @@ values_of_digits [] (n ∷ ns) z d = absurd z
 values_of_digits (b ∷ v) [] z d = absurd z
 values_of_digits (b ∷ v) (n ∷ ns) z d =
     cons_same (one_value b n (z.0 (All-head IsDigit b v d))) (values_of_digits v ns z.1 (All-tail IsDigit b v d))
-
--- ---- the test of all lanes
-
--- the lanes above 127
-abbrev high_lanes : ℕ → List ℕ → List Bool
-high_lanes n xs = map (top 7) (zip2 below_mask (replicate n 127) xs)
-
-one_high : (x m : ℕ) (b : Bool) → ltb 127 x ≡ b → (cond (top 7 (cond b 255 0)) 1 0 + 2 * m ≡ 0) ↔ ((x < 128) × (m ≡ 0))
-one_high x m true e = (λ h. absurd (omega (arith, h)), λ h. absurd (omega (arith, ltb-true 127 x e, h.0)))
-one_high x m false e = (λ h. (omega (arith, ltb-false 127 x e), omega (arith, h)), λ h. rw h.1 refl)
-
-none_high : (xs : List ℕ) → (mask_l (high_lanes (length xs) xs) ≡ 0) ↔ AllLookedUp xs
-none_high [] = (λ _. tt, λ _. refl)
-none_high (x ∷ xs) =
-    let one = one_high x (mask_l (high_lanes (length xs) xs)) (ltb 127 x) refl in
-    let more = none_high xs in
-    (λ h. ((one.0 h).0, more.0 (one.0 h).1), λ h. one.1 (h.0, more.1 h.1))
-
-length-high_lanes : (xs : List ℕ) → length (high_lanes (length xs) xs) ≡ length xs
-length-high_lanes [] = refl
-length-high_lanes (x ∷ xs) = ap suc (length-high_lanes xs)
-
-pub are_looked_up : (n : ℕ) (xs : List ℕ) → n ≤ 64 → length xs ≡ n → IsTrue (not (not (eqb (mask_l (high_lanes n xs) % 2 ^ 64) 0))) ↔ AllLookedUp xs
-are_looked_up n xs most e =
-    let all = none_high xs in
-    let mask = mask_l (high_lanes (length xs) xs) in
-    let whole : mask % 2 ^ 64 ≡ mask = mask_l-mod (high_lanes (length xs) xs) 64 (omega (arith, length-high_lanes xs)) in
-    subst (λ n. IsTrue (not (not (eqb (mask_l (high_lanes n xs) % 2 ^ 64) 0))) ↔ AllLookedUp xs) e
-    (rw (whole, not-not (eqb mask 0)) (λ t. all.0 (eqb-true mask 0 t), λ a. eq-eqb mask 0 (all.1 a)))
 
 one_small : (n x : ℕ) → as_value n ≡ hex_value x → IsDigit x → n ≤ 15
 one_small n x e = rw (← e) (λ s. grind (arith, nat_tests))

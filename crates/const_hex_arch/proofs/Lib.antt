@@ -2,7 +2,7 @@ pub mod Computed
 pub mod Gathering
 pub mod LaneBytes
 pub mod LaneLookups
-pub mod LaneRanks
+pub mod LaneMarks
 pub mod LaneText
 pub mod LaneValues
 pub mod Running

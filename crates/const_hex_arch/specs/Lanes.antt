@@ -1,5 +1,6 @@
 -- What the parts of the steps make of lanes.
-use Rattle.std.specs.Prelude.{ℕ, ◌+◌, ◌*◌, ◌%◌, ◌≤◌, Bool, List, [], ◌∷◌}
+use Rattle.std.specs.Prelude.{◌≡◌, ℕ, ◌+◌, ◌*◌, ◌%◌, ◌≤◌, Bool, List, [], ◌∷◌}
+use Rattle.std.specs.Int.{bit_at}
 use Rattle.std.specs.List.{AllByRecursion}
 use Rattle.const_hex_arch.specs.Digits.{hex_digit}
 
@@ -7,9 +8,13 @@ use Rattle.const_hex_arch.specs.Digits.{hex_digit}
 abbrev pub AllNibbles : List ℕ → Type 0
 AllNibbles = AllByRecursion (λ n. n ≤ 15)
 
--- every lane is a rank
-abbrev pub AllRanks : List ℕ → Type 0
-AllRanks = AllByRecursion (λ n. n ≤ 5)
+-- a lane without a mark: three of its bits are clear
+abbrev pub IsUnmarked : ℕ → Type 0
+IsUnmarked z = bit_at z 7 + bit_at z 4 + bit_at z 0 ≡ 0
+
+-- no lane has a mark
+abbrev pub AllUnmarked : List ℕ → Type 0
+AllUnmarked = AllByRecursion IsUnmarked
 
 -- the digit of the low half of a byte
 abbrev pub low_digit : Bool → ℕ → ℕ

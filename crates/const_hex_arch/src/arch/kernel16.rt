@@ -2,6 +2,7 @@
 
 ghost use Rattle.std.specs.Prelude.{◌≡◌, ◌*◌, ◌++◌, ◌↔◌, IsTrue, false, length};
 ghost use Rattle.std.specs.List.{concat};
+ghost use Rattle.const_hex_arch.specs.Lanes.{AllUnmarked};
 ghost use Rattle.const_hex_arch.specs.Texts.{AllDigits, Spells};
 
 use crate::arch::plain::Plain;
@@ -73,14 +74,13 @@ impl Steps for Lanes16 {
 
     #[inline(always)]
     fn check_two_steps(text: &[u8]) -> bool {
-        let first = lanes::ranks(u8x16::from_slice(text));
-        let second = lanes::ranks(u8x16::from_slice(&text[16..]));
-        lanes::are_ranks(first.simd_max(second))
+        lanes::are_unmarked(two_marks(text))
     }
 
     #[inline(always)]
     fn check_four_steps(text: &[u8]) -> bool {
-        lanes::check_four_steps::<16>(text)
+        let (front, back) = text.split_at(32);
+        lanes::are_unmarked(two_marks(front) | two_marks(back))
     }
 
     #[inline(always)]
@@ -111,6 +111,17 @@ impl Steps for Lanes16 {
     ghost use Rattle.std.proofs.Common.{arith};
 
     ghost sizes = { (Prim.omega arith, Prim.omega arith) };
+}
+
+/// Marks of the text of two steps: there are none exactly where each byte is a digit.
+#[inline(always)]
+fn two_marks(text: &[u8]) -> u8x16
+    requires { length text.now ≡ 32 }
+    ensures { AllUnmarked result ↔ AllDigits text.now }
+{
+    let first = lanes16::marks(u8x16::from_slice(text));
+    let second = lanes16::marks(u8x16::from_slice(&text[16..]));
+    first | second
 }
 
 /// The text of a step.

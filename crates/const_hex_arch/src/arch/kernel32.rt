@@ -2,6 +2,7 @@
 
 ghost use Rattle.std.specs.Prelude.{◌≡◌, ◌*◌, ◌++◌, ◌↔◌, IsTrue, false, length};
 ghost use Rattle.std.specs.List.{concat};
+ghost use Rattle.const_hex_arch.specs.Lanes.{AllUnmarked};
 ghost use Rattle.const_hex_arch.specs.Texts.{AllDigits, Spells};
 
 use crate::arch::kernel16::Lanes16;
@@ -74,14 +75,13 @@ impl Steps for Lanes32 {
 
     #[inline(always)]
     fn check_two_steps(text: &[u8]) -> bool {
-        let first = lanes::ranks(u8x32::from_slice(text));
-        let second = lanes::ranks(u8x32::from_slice(&text[32..]));
-        lanes::are_ranks(first.simd_max(second))
+        lanes::are_unmarked(two_marks(text))
     }
 
     #[inline(always)]
     fn check_four_steps(text: &[u8]) -> bool {
-        lanes::check_four_steps::<32>(text)
+        let (front, back) = text.split_at(64);
+        lanes::are_unmarked(two_marks(front) | two_marks(back))
     }
 
     #[inline(always)]
@@ -112,6 +112,17 @@ impl Steps for Lanes32 {
     ghost use Rattle.std.proofs.Common.{arith};
 
     ghost sizes = { (Prim.omega arith, Prim.omega arith) };
+}
+
+/// Marks of the text of two steps: there are none exactly where each byte is a digit.
+#[inline(always)]
+fn two_marks(text: &[u8]) -> u8x32
+    requires { length text.now ≡ 64 }
+    ensures { AllUnmarked result ↔ AllDigits text.now }
+{
+    let first = lanes32::marks(u8x32::from_slice(text));
+    let second = lanes32::marks(u8x32::from_slice(&text[32..]));
+    first | second
 }
 
 /// The text of a step.

@@ -1,12 +1,11 @@
-//! The test and the values of digits, for vectors of any number of lanes.
+//! The values of digits and the tests of lanes, for vectors of any number of lanes.
 
-ghost use Rattle.std.specs.Prelude.{◌≡◌, ◌*◌, ◌≤◌, ◌↔◌, length, map, IsTrue};
+ghost use Rattle.std.specs.Prelude.{◌≡◌, ◌↔◌, map, IsTrue};
 ghost use Rattle.std.specs.List.{AllZip};
 ghost use Rattle.const_hex_arch.specs.Digits.{hex_value};
-ghost use Rattle.const_hex_arch.specs.Lanes.{AllRanks};
-ghost use Rattle.const_hex_arch.specs.Lookups.{AllLookedUp};
-ghost use Rattle.const_hex_arch.specs.Nibbles.{as_value, IsValueOf, IsRankOf};
-ghost use Rattle.const_hex_arch.specs.Texts.{AllDigits};
+ghost use Rattle.const_hex_arch.specs.Lanes.{AllUnmarked};
+ghost use Rattle.const_hex_arch.specs.Lookups.{as_looked_up, AllLookedUp, IsTakenFrom};
+ghost use Rattle.const_hex_arch.specs.Nibbles.{as_value, IsValueOf, IsMarkOf, IsAddedTo};
 
 use std::simd::prelude::*;
 
@@ -24,55 +23,40 @@ pub(crate) fn nibbles<const N: usize>(v: Simd<u8, N>) -> Simd<u8, N>
     decimal.simd_min(letter)
 }
 
-/// Whether no lane is above 127, of at most 64 lanes.
+/// The value of each lane that is a digit, in the low half of a lane with the bits 5 and 4 clear,
+/// and one of the two bits set for every other lane.
+#[inline(always)]
+pub(crate) fn looked_up<const N: usize>(v: Simd<u8, N>, taken: Simd<u8, N>) -> Simd<u8, N>
+    requires { AllZip IsTakenFrom v taken }
+    ensures { map as_looked_up result ≡ map hex_value v.entry }
+{
+    v - (v.saturating_sub(taken) ^ Simd::splat(0x30))
+}
+
+/// Whether each lane holds a value: all have the bits 5 and 4 clear.
 #[inline(always)]
 pub(crate) fn are_looked_up<const N: usize>(values: Simd<u8, N>) -> bool
-    requires { N ≤ 64 }
     ensures { IsTrue result ↔ AllLookedUp values.entry }
 {
-    !values.simd_gt(Simd::splat(127)).any()
+    (values & Simd::splat(0x30)).reduce_or() == 0
 }
 
-/// At most 5 for each lane that is a digit, and more for every other lane.
-///
-/// It tells less than [`nibbles`], which is all that a check wants: the digits `0` to `4` are 0,
-/// and up to `9` they are 1 to 5; the letters are 0 to 5.
+/// Sets one of the bits 7, 4 and 0 in each lane that is no digit, and clears the three in every
+/// other lane: the sum of both, less 2 and not below 0.
 #[inline(always)]
-pub(crate) fn ranks<const N: usize>(v: Simd<u8, N>) -> Simd<u8, N>
-    ensures { AllZip IsRankOf v.entry result }
+pub(crate) fn marks<const N: usize>(v: Simd<u8, N>, added: Simd<u8, N>) -> Simd<u8, N>
+    requires { AllZip IsAddedTo v added }
+    ensures { AllZip IsMarkOf v.entry result }
 {
-    let decimal = (v - Simd::splat(b'0')).saturating_sub(Simd::splat(4));
-    let letter = (v | Simd::splat(0x20)) - Simd::splat(b'a');
-    decimal.simd_min(letter)
+    (v + added).saturating_sub(Simd::splat(2))
 }
 
-/// Whether no lane is above 5.
+/// Whether no lane has a mark: all have the bits 7, 4 and 0 clear.
 #[inline(always)]
-pub(crate) fn are_ranks<const N: usize>(ranks: Simd<u8, N>) -> bool
-    ensures { IsTrue result ↔ AllRanks ranks.entry }
+pub(crate) fn are_unmarked<const N: usize>(marks: Simd<u8, N>) -> bool
+    ensures { IsTrue result ↔ AllUnmarked marks.entry }
 {
-    ranks.saturating_sub(Simd::splat(5)).reduce_or() == 0
-}
-
-/// Whether every lane is a digit.
-#[inline(always)]
-pub(crate) fn check_chunk<const N: usize>(v: Simd<u8, N>) -> bool
-    ensures { IsTrue result ↔ AllDigits v.entry }
-{
-    are_ranks(ranks(v))
-}
-
-/// Whether every byte of the text of four vectors is a digit, by one test.
-#[inline(always)]
-pub(crate) fn check_four_steps<const N: usize>(text: &[u8]) -> bool
-    requires { length text.now ≡ 4 * N }
-    ensures { IsTrue result ↔ AllDigits text.now }
-{
-    let first = ranks(Simd::<u8, N>::from_slice(text));
-    let second = ranks(Simd::<u8, N>::from_slice(&text[N..]));
-    let third = ranks(Simd::<u8, N>::from_slice(&text[2 * N..]));
-    let fourth = ranks(Simd::<u8, N>::from_slice(&text[3 * N..]));
-    are_ranks(first.simd_max(second).simd_max(third.simd_max(fourth)))
+    (marks & Simd::splat(0x91)).reduce_or() == 0
 }
 
 /// The value of each lane that is a digit.

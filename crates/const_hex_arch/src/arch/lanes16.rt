@@ -8,22 +8,20 @@ ghost use Rattle.std.specs.List.{AllZip, concat};
 ghost use Rattle.std.specs.Str.{IsAscii};
 ghost use Rattle.const_hex_arch.specs.Digits.{hex_value};
 ghost use Rattle.const_hex_arch.specs.Lanes.{AllNibbles, low_digit, byte_pairs};
-ghost use Rattle.const_hex_arch.specs.Lookups.{as_looked_up, AllLookedUp};
-ghost use Rattle.const_hex_arch.specs.Nibbles.{as_value, IsValueOf};
+ghost use Rattle.const_hex_arch.specs.Lookups.{as_looked_up, AllLookedUp, IsTakenFrom};
+ghost use Rattle.const_hex_arch.specs.Nibbles.{as_value, IsValueOf, IsMarkOf, IsAddedTo};
 ghost use Rattle.const_hex_arch.specs.Texts.{hex_text, AllDigits, Spells};
 
 use crate::arch::lanes;
 use crate::tables::{HEX_CHARS_LOWER, HEX_CHARS_UPPER};
 use std::simd::prelude::*;
 
-/// By the low half of a byte: the half itself, and 16 more where no letter that is a digit ends in
-/// it, or 32 more where no digit does.
-const BY_LOW_HALF: [u8; 16] = [16, 1, 2, 3, 4, 5, 6, 23, 24, 25, 42, 43, 44, 45, 46, 47];
+/// By the low half of a byte: what is taken from the byte where its value is wanted.
+const TO_VALUE: [u8; 16] = [64, 58, 59, 60, 61, 62, 63, 64, 64, 64, 0, 0, 0, 0, 0, 0];
 
-/// By the high half of a byte: what is added, so that the sum is below 128 where the byte is a
-/// digit, and nowhere else.
-const BY_HIGH_HALF: [u8; 16] = [
-    192, 192, 192, 96, 121, 192, 121, 192, 192, 192, 192, 192, 192, 192, 192, 192,
+/// By the low half of a byte: what is added to the byte where only its test is wanted.
+const TO_TEST: [u8; 16] = [
+    209, 207, 206, 205, 204, 203, 202, 202, 201, 200, 1, 0, 1, 0, 1, 0,
 ];
 
 /// Two digits for each lane, in order: the text of the first 8 lanes, and that of the last 8.
@@ -52,7 +50,7 @@ pub fn encode_chunk<const UPPER: bool>(v: u8x16) -> [u8x16; 2]
 pub fn check_chunk(v: u8x16) -> bool
     ensures { IsTrue result ↔ AllDigits v }
 {
-    lanes::check_chunk(v)
+    lanes::are_unmarked(marks(v))
 }
 
 /// The value of each lane that is a digit, and more than 15 for every other lane.
@@ -136,7 +134,7 @@ pub(crate) fn decode_pair(text: [u8x16; 2]) -> (u8x16, bool)
     (bytes, lanes::are_looked_up(values))
 }
 
-/// The bytes that the lanes of a text spell, and a vector whose lanes are all below 128 exactly
+/// The bytes that the lanes of a text spell, and a vector whose lanes all hold values exactly
 /// where all lanes of the text are digits. Where one is not, the bytes mean nothing.
 #[inline(always)]
 pub(crate) fn decode_untested(text: [u8x16; 2]) -> (u8x16, u8x16)
@@ -149,18 +147,44 @@ pub(crate) fn decode_untested(text: [u8x16; 2]) -> (u8x16, u8x16)
     (merge(first & fifteen, second & fifteen), first | second)
 }
 
-/// The value of each lane that is a digit, in the low half of a lane below 128, and at least 128
-/// for every other lane.
-// Both look-ups are of lanes in a register: nothing is read from memory by the value of a byte.
+/// What is taken from each lane for its value.
+// The look-up is of lanes in a register: nothing is read from memory by the value of a byte.
 // `swizzle_dyn` asks for positions below 16, or from 128 on, which read as 0: so the mask. The
 // machine looks at these five bits alone, so the mask costs nothing.
 #[inline(always)]
-pub(crate) fn looked_up(v: u8x16) -> u8x16
+pub(crate) fn taken(v: u8x16) -> u8x16
+    ensures { AllZip IsTakenFrom v result }
+{
+    u8x16::from_array(TO_VALUE).swizzle_dyn(v & u8x16::splat(0x8F))
+}
+
+/// The value of each lane that is a digit, in the low half of a lane with the bits 5 and 4 clear,
+/// and one of the two bits set for every other lane.
+#[inline(always)]
+fn looked_up(v: u8x16) -> u8x16
     ensures { map as_looked_up result ≡ map hex_value v }
 {
-    let by_low = u8x16::from_array(BY_LOW_HALF);
-    let by_high = u8x16::from_array(BY_HIGH_HALF);
-    by_low.swizzle_dyn(v & u8x16::splat(0x8F)) + by_high.swizzle_dyn(v >> u8x16::splat(4))
+    lanes::looked_up(v, taken(v))
+}
+
+/// What is added to each lane for its test.
+// The sum is 0 or 1 for `0` to `9`, and 16 or 48 for the letters that are digits; less 2, and not
+// below 0, that is 0, 14 or 46, which have the bits 7, 4 and 0 clear. No other byte comes out so.
+// The mask costs nothing, as in `taken`.
+#[inline(always)]
+pub(crate) fn added(v: u8x16) -> u8x16
+    ensures { AllZip IsAddedTo v result }
+{
+    u8x16::from_array(TO_TEST).swizzle_dyn(v & u8x16::splat(0x8F))
+}
+
+/// Sets one of the bits 7, 4 and 0 in each lane that is no digit, and clears the three in every
+/// other lane.
+#[inline(always)]
+pub(crate) fn marks(v: u8x16) -> u8x16
+    ensures { AllZip IsMarkOf v result }
+{
+    lanes::marks(v, added(v))
 }
 
 /// The bytes that the lanes of a text spell, which have to be digits.

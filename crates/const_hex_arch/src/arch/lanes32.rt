@@ -9,7 +9,7 @@ ghost use Rattle.std.specs.Str.{IsAscii};
 ghost use Rattle.const_hex_arch.specs.Digits.{hex_value};
 ghost use Rattle.const_hex_arch.specs.Lanes.{AllNibbles, low_digit, byte_pairs};
 ghost use Rattle.const_hex_arch.specs.Lookups.{as_looked_up, AllLookedUp};
-ghost use Rattle.const_hex_arch.specs.Nibbles.{as_value, IsValueOf};
+ghost use Rattle.const_hex_arch.specs.Nibbles.{as_value, IsValueOf, IsMarkOf};
 ghost use Rattle.const_hex_arch.specs.Texts.{hex_text, AllDigits, Spells};
 
 use crate::arch::{lanes, lanes16};
@@ -47,7 +47,7 @@ pub fn encode_chunk<const UPPER: bool>(v: u8x32) -> [u8x32; 2]
 pub fn check_chunk(v: u8x32) -> bool
     ensures { IsTrue result ↔ AllDigits v }
 {
-    lanes::check_chunk(v)
+    lanes::are_unmarked(marks(v))
 }
 
 /// The value of each lane that is a digit, and more than 15 for every other lane.
@@ -127,7 +127,7 @@ pub(crate) fn decode_pair(text: [u8x32; 2]) -> (u8x32, bool)
     (bytes, lanes::are_looked_up(values))
 }
 
-/// The bytes that the lanes of a text spell, and a vector whose lanes are all below 128 exactly
+/// The bytes that the lanes of a text spell, and a vector whose lanes all hold values exactly
 /// where all lanes of the text are digits. Where one is not, the bytes mean nothing.
 #[inline(always)]
 pub(crate) fn decode_untested(text: [u8x32; 2]) -> (u8x32, u8x32)
@@ -140,18 +140,29 @@ pub(crate) fn decode_untested(text: [u8x32; 2]) -> (u8x32, u8x32)
     (merge(first & fifteen, second & fifteen), first | second)
 }
 
-/// The value of each lane that is a digit, in the low half of a lane below 128, and at least 128
-/// for every other lane.
+/// The value of each lane that is a digit, in the low half of a lane with the bits 5 and 4 clear,
+/// and one of the two bits set for every other lane.
 // By halves of 16 lanes, for which the mask costs nothing. With AVX2 the compiler makes one look-up
-// of both.
+// of both; the rest is of 32 lanes, or it would go by halves there too.
 #[inline(always)]
 fn looked_up(v: u8x32) -> u8x32
     ensures { map as_looked_up result ≡ map hex_value v }
 {
-    lanes16::join(
-        lanes16::looked_up(v.extract::<0, 16>()),
-        lanes16::looked_up(v.extract::<16, 16>()),
-    )
+    let first = lanes16::taken(v.extract::<0, 16>());
+    let second = lanes16::taken(v.extract::<16, 16>());
+    lanes::looked_up(v, lanes16::join(first, second))
+}
+
+/// Sets one of the bits 7, 4 and 0 in each lane that is no digit, and clears the three in every
+/// other lane.
+// By halves as in `looked_up`.
+#[inline(always)]
+pub(crate) fn marks(v: u8x32) -> u8x32
+    ensures { AllZip IsMarkOf v result }
+{
+    let first = lanes16::added(v.extract::<0, 16>());
+    let second = lanes16::added(v.extract::<16, 16>());
+    lanes::marks(v, lanes16::join(first, second))
 }
 
 /// The bytes that the lanes of a text spell, which have to be digits.

@@ -1,6 +1,5 @@
-use Rattle.std.proofs.Common.{arith}
-use Rattle.const_hex_arch.proofs.LaneValues.{are_looked_up}
+use Rattle.const_hex_arch.proofs.LaneMarks.{are_looked_up}
 use Rattle.const_hex_arch.proofs.arch.lanes.are_looked_up.Goals as goal
 
 pub returns : goal.returns
-returns g c = are_looked_up g.row.N c.args.values (omega arith) c.fits-values.0
+returns g c = are_looked_up g.row.N c.args.values c.fits-values

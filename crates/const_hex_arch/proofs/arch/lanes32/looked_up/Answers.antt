@@ -1,5 +1,7 @@
-use Rattle.const_hex_arch.proofs.LaneLookups.{halves_looked_up}
+use Rattle.std.proofs.Common.{arith}
+use Rattle.const_hex_arch.specs.Lookups.{IsTakenFrom}
+use Rattle.const_hex_arch.proofs.LaneLookups.{by_halves}
 use Rattle.const_hex_arch.proofs.arch.lanes32.looked_up.Goals as goal
 
-pub returns : goal.returns
-returns c = rw c.join.ensures (halves_looked_up 16 c.args.v _ _ c.fits-v.0 c.looked_up.ensures c.looked_up-2.ensures)
+pub looked_up-requires : goal.looked_up-requires
+looked_up-requires c = (omega arith, rw c.join.ensures (by_halves IsTakenFrom 16 c.args.v _ _ c.fits-v.0 c.taken-first.ensures c.taken-second.ensures))

@@ -1,0 +1,158 @@
+-- The test of digits alone, by one look-up of lanes. 32 lanes go by halves.
+use Rattle.std.proofs.Common.{◌≡◌, ℕ, zero, suc, ◌+◌, ◌-◌, ◌*◌, ◌/◌, ◌%◌, ◌<◌, ◌≤◌, ◌↔◌, Bool, true, false, eqb, cond, T, List, [], ◌∷◌, length, replicate, get_or, bit_and, bit_or, refl, sym, subst, arith, w8, Fits, eqb→eq, eqb-true, eq-eqb, IsTrue, IsSome, Option, Some, None}
+use Rattle.std.specs.List.{AllByRecursion, AllZip}
+use Rattle.std.specs.Int.{bit_at}
+use Rattle.std.proofs.lemmas.List.Elements.{All-nil, All-head, All-tail, All-cons}
+use Rattle.std.proofs.lemmas.Nat.{le_or_l, le_or_r}
+use Rattle.std.proofs.lemmas.Nat.Bits.{bit_at_or}
+use Rattle.std.proofs.lemmas.Simd.{swz_l}
+use lib.Lanes.{zip2, fold_l, Each1}
+use mir.Val.{zeroes}
+use Rattle.const_hex_arch.specs.Digits.{hex_value, IsDigit}
+use Rattle.const_hex_arch.specs.Lanes.{IsUnmarked, AllUnmarked}
+use Rattle.const_hex_arch.specs.Lookups.{IsLookedUp, AllLookedUp}
+use Rattle.const_hex_arch.specs.Nibbles.{IsMarkOf, IsAddedTo}
+use Rattle.const_hex_arch.specs.Texts.{AllDigits}
+use Rattle.const_hex_arch.proofs.Computed.{all_below, every_below}
+use Rattle.const_hex_arch.proofs.LaneLookups.{low_halves}
+use Rattle.const_hex_arch.proofs.LaneValues.{add8, satsub_l}
+use Rattle.const_hex_arch.proofs.Spelling.{false_is_true}
+
+-- ---- tests that compute
+
+abbrev same_truth : Bool → Bool → Bool
+same_truth true b = b
+same_truth false true = false
+same_truth false false = true
+
+same_truth-cases : (a b : Bool) → T (same_truth a b) → T a ↔ T b
+same_truth-cases true b t = (λ _. t, λ _. tt)
+same_truth-cases false true t = absurd t
+same_truth-cases false false t = (λ h. h, λ h. h)
+
+abbrev has_value : Option ℕ → Bool
+has_value None = false
+has_value (Some v) = true
+
+has_value-IsSome : (o : Option ℕ) → T (has_value o) ↔ IsSome o
+has_value-IsSome None = (λ h. absurd h, λ h. absurd (false_is_true h))
+has_value-IsSome (Some v) = (λ _. refl, λ _. tt)
+
+zero_is : (n : ℕ) → T (eqb n 0) ↔ (n ≡ 0)
+zero_is n = (λ t. eqb→eq n 0 t, λ e. subst T (sym (eq-eqb n 0 e)) tt)
+
+-- the bits that mark a lane
+abbrev mark_bits : ℕ → ℕ
+mark_bits z = bit_at z 7 + bit_at z 4 + bit_at z 0
+
+-- ---- what is added to 16 lanes, by a table of the low halves
+
+module _ (table : List ℕ) where
+  abbrev read : ℕ → ℕ → ℕ
+  read q j = cond (zeroes 16 w8 j) zero (get_or table (16 * q + j) zero)
+
+  abbrev mark_of : ℕ → ℕ
+  mark_of b = (b + read 0 (bit_and b 143)) % 256 - 2
+
+  -- each of the 256 bytes
+  abbrev pub is_right : Bool
+  is_right = all_below (λ b. same_truth (eqb (mark_bits (mark_of b)) 0) (has_value (hex_value b))) 256
+
+  added_at : T is_right → (b : ℕ) → b < 256 → IsAddedTo b (read 0 (bit_and b 143))
+  added_at t b h =
+      let same = same_truth-cases (eqb (mark_bits (mark_of b)) 0) (has_value (hex_value b)) (every_below (λ b. same_truth (eqb (mark_bits (mark_of b)) 0) (has_value (hex_value b))) 256 t b h) in
+      let none = zero_is (mark_bits (mark_of b)) in
+      let value = has_value-IsSome (hex_value b) in
+      (λ p. value.0 (same.0 (none.1 p)), λ d. none.0 (same.1 (value.1 d)))
+
+  -- from lane i on
+  added_all : T is_right → (i : ℕ) (v : List ℕ) → i + length v ≤ 16 → Each1 (Fits w8) v → AllZip IsAddedTo v (swz_l w8 16 table i (low_halves (length v) v))
+  added_all t i [] h f = tt
+  added_all t i (x ∷ xs) h f =
+      let first : zero ≡ i / 16 = omega arith in
+      (subst (λ q. IsAddedTo x (read q (bit_and x 143))) first (added_at t x f.0.fits), added_all t (suc i) xs (omega arith) f.1)
+
+  pub added_are : T is_right → (v : List ℕ) → (length v ≡ 16) × Each1 (Fits w8) v → AllZip IsAddedTo v (swz_l w8 16 table 0 (low_halves 16 v))
+  added_are t v f = subst (λ n. AllZip IsAddedTo v (swz_l w8 16 table 0 (low_halves n v))) f.0 (added_all t 0 v (omega (arith, f.0)) f.1)
+
+-- ---- the sum, less 2
+
+abbrev less_two : ℕ → ℕ
+less_two x = get_or (satsub_l (x ∷ []) (2 ∷ [])) 0 0
+
+less_two-is : (x : ℕ) → x < 256 → x - 2 ≡ less_two x
+less_two-is x h = eqb→eq _ _ (every_below (λ x. eqb (x - 2) (less_two x)) 256 tt x h)
+
+marks_all : (v a : List ℕ) → AllZip IsAddedTo v a → AllZip IsMarkOf v (satsub_l (zip2 add8 v a) (replicate (length v) 2))
+marks_all [] [] z = tt
+marks_all [] (y ∷ a) z = absurd z
+marks_all (x ∷ v) [] z = absurd z
+marks_all (x ∷ v) (y ∷ a) z = (subst (IsMarkOf x) (less_two-is ((x + y) % 256) (omega arith)) z.0, marks_all v a z.1)
+
+pub marks_are : (n : ℕ) (v a : List ℕ) → length v ≡ n → AllZip IsAddedTo v a → AllZip IsMarkOf v (satsub_l (zip2 add8 v a) (replicate n 2))
+marks_are n v a e z = subst (λ n. AllZip IsMarkOf v (satsub_l (zip2 add8 v a) (replicate n 2))) e (marks_all v a z)
+
+-- ---- lanes have no mark where what they stand for is digits
+
+pub unmarked_are_digits : (v zs : List ℕ) → AllZip IsMarkOf v zs → AllUnmarked zs ↔ AllDigits v
+unmarked_are_digits [] [] z = (λ _. All-nil IsDigit, λ _. tt)
+unmarked_are_digits [] (n ∷ ns) z = absurd z
+unmarked_are_digits (b ∷ v) [] z = absurd z
+unmarked_are_digits (b ∷ v) (n ∷ ns) z =
+    let more = unmarked_are_digits v ns z.1 in
+    (λ a. All-cons IsDigit b v (z.0.0 a.0) (more.0 a.1), λ a. (z.0.1 (All-head IsDigit b v a), more.1 (All-tail IsDigit b v a)))
+
+-- a lane of two together
+pub both_unmarked : (y z : ℕ) → IsUnmarked (bit_or y z) ↔ (IsUnmarked y × IsUnmarked z)
+both_unmarked y z =
+    let seven = bit_at_or y z 7 in
+    let four = bit_at_or y z 4 in
+    let none = bit_at_or y z 0 in
+    (λ h. (omega (arith, seven, four, none, h), omega (arith, seven, four, none, h)), λ h. omega (arith, seven, four, none, h.0, h.1))
+
+-- ---- one test of all lanes
+
+abbrev marked : ℕ → ℕ
+marked x = bit_and x 145
+
+unmarked_at : (x : ℕ) → x < 256 → (marked x ≡ 0) ↔ IsUnmarked x
+unmarked_at x h =
+    let same = same_truth-cases (eqb (marked x) 0) (eqb (mark_bits x) 0) (every_below (λ x. same_truth (eqb (marked x) 0) (eqb (mark_bits x) 0)) 256 tt x h) in
+    let one = zero_is (marked x) in
+    let other = zero_is (mark_bits x) in
+    (λ e. other.0 (same.0 (one.1 e)), λ p. one.0 (same.1 (other.1 p)))
+
+-- of a value that is looked up
+looked_up_at : (x : ℕ) → x < 256 → (bit_and x 48 ≡ 0) ↔ IsLookedUp x
+looked_up_at x h =
+    let same = same_truth-cases (eqb (bit_and x 48) 0) (eqb (bit_at x 5 + bit_at x 4) 0) (every_below (λ x. same_truth (eqb (bit_and x 48) 0) (eqb (bit_at x 5 + bit_at x 4) 0)) 256 tt x h) in
+    let one = zero_is (bit_and x 48) in
+    let other = zero_is (bit_at x 5 + bit_at x 4) in
+    (λ e. other.0 (same.0 (one.1 e)), λ p. one.0 (same.1 (other.1 p)))
+
+-- P holds of a byte that has none of the bits of m
+module _ (m : ℕ) (P : ℕ → Type 0) (at : (x : ℕ) → x < 256 → (bit_and x m ≡ 0) ↔ P x) where
+  no_bit : (a : ℕ) (xs : List ℕ) → Each1 (Fits w8) xs → (fold_l bit_or a (zip2 bit_and xs (replicate (length xs) m)) ≡ 0) ↔ ((a ≡ 0) × AllByRecursion P xs)
+  no_bit a [] f = (λ e. (e, tt), λ h. h.0)
+  no_bit a (x ∷ xs) f =
+      let one = at x f.0.fits in
+      let more = no_bit (bit_or a (bit_and x m)) xs f.1 in (
+        λ e. (
+            let none = (more.0 e).0 in (omega (arith, none, le_or_l a (bit_and x m)), (one.0 (omega (arith, none, le_or_r a (bit_and x m))), (more.0 e).1))
+            ),
+        λ h. (let none : bit_and x m ≡ 0 = one.1 h.1.0 in more.1 (rw (none, h.0) refl, h.1.1)),
+      )
+
+  pub all_clear : (n : ℕ) (xs : List ℕ) → (length xs ≡ n) × Each1 (Fits w8) xs → IsTrue (eqb (fold_l bit_or 0 (zip2 bit_and xs (replicate n m))) 0) ↔ AllByRecursion P xs
+  all_clear n xs f =
+      let all = no_bit 0 xs f.1 in
+      let as_many = λ (n : ℕ). fold_l bit_or 0 (zip2 bit_and xs (replicate n m)) in
+      let zero_is_zero : zero ≡ 0 = refl in
+      subst (λ n. IsTrue (eqb (as_many n) 0) ↔ AllByRecursion P xs) f.0
+      (λ t. (all.0 (eqb-true (as_many (length xs)) 0 t)).1, λ a. eq-eqb (as_many (length xs)) 0 (all.1 (zero_is_zero, a)))
+
+pub are_unmarked : (n : ℕ) (xs : List ℕ) → (length xs ≡ n) × Each1 (Fits w8) xs → IsTrue (eqb (fold_l bit_or 0 (zip2 bit_and xs (replicate n 145))) 0) ↔ AllUnmarked xs
+are_unmarked = all_clear 145 IsUnmarked unmarked_at
+
+pub are_looked_up : (n : ℕ) (xs : List ℕ) → (length xs ≡ n) × Each1 (Fits w8) xs → IsTrue (eqb (fold_l bit_or 0 (zip2 bit_and xs (replicate n 48))) 0) ↔ AllLookedUp xs
+are_looked_up = all_clear 48 IsLookedUp looked_up_at
