@@ -4,4 +4,3 @@ pub(crate) mod body;
 pub(crate) mod checks;
 pub(crate) mod decoders;
 pub(crate) mod encoders;
-mod long;

@@ -1,6 +1,6 @@
 //! The text of bytes, in a vector with room for just that text.
 
-ghost use Rattle.std.specs.Prelude.{◌≡◌, ◌+◌, ◌-◌, ◌≤◌, ◌++◌, length, Some, IfOk, vec_len, vec_capacity};
+ghost use Rattle.std.specs.Prelude.{◌≡◌, Some, IfOk};
 ghost use Rattle.const_hex_arch.specs.Texts.{full_text};
 ghost use Rattle.const_hex.specs.Reserved.{ReservedStep, spare_room};
 
@@ -24,28 +24,17 @@ impl Output for ReservedOutput {
         Some(self.bytes.capacity().saturating_sub(self.bytes.len()))
     }
 
+    // The length of a kernel's piece is known where this is compiled, so the machine stores it whole.
     #[inline(always)]
     fn write(&mut self, bytes: &[u8]) {
-        put(&mut self.bytes, bytes);
+        for byte in bytes {
+            self.bytes.push_reserved(*byte);
+        }
     }
 
     ghost use Rattle.std.proofs.Common.{arith};
 
     ghost shrinks = { λ s piece t h. Prim.grind (arith) };
-}
-
-/// Puts a piece into the room of a vector, behind what it holds. There has to be room for it.
-// Where the length of a piece is known when this is compiled, the machine stores it whole.
-#[inline(always)]
-pub(crate) fn put(bytes: &mut Vec<u8>, piece: &[u8])
-    requires { length piece.now ≤ vec_capacity bytes.old - vec_len bytes.old }
-    ensures capacity { vec_capacity bytes.new ≡ vec_capacity bytes.old }
-    ensures count { vec_len bytes.new ≡ vec_len bytes.old + length piece.now }
-    ensures items { bytes.new.items ≡ bytes.old.items ++ piece.now }
-{
-    for byte in piece {
-        bytes.push_reserved(*byte);
-    }
 }
 
 /// The bytes of the text, behind `0x` where a prefix is wanted. Memory is asked for once, of the

@@ -8,7 +8,6 @@ ghost use Rattle.const_hex.specs.declared.error.FromHexError.{FromHexError};
 ghost use Rattle.const_hex.specs.declared.error.FromHexError.TheVariants.{OddLength, NoMemory};
 
 use crate::codec::body::{bad_character, decode_body, strip_prefix};
-use crate::codec::long::{LONG, decode_reserved};
 use crate::error::FromHexError;
 use const_hex_arch::{FixedKernel, Kernel};
 use std::alloc::Global;
@@ -79,13 +78,6 @@ fn decode_owned<K: Kernel>(alloc: Global, input: &[u8]) -> Result<Vec<u8>, FromH
         return Err(FromHexError::OddLength);
     }
     let body = strip_prefix(input);
-    if body.len() >= 2 * LONG {
-        let mut long = Vec::with_capacity(alloc, body.len() / 2)?;
-        if !decode_reserved::<K>(body, &mut long) {
-            return Err(bad_character(input));
-        }
-        return Ok(long);
-    }
     let mut bytes = vec![in alloc; 0u8; body.len() / 2]?;
     if !decode_body::<K>(body, &mut bytes) {
         return Err(bad_character(input));
