@@ -11,12 +11,13 @@ use crate::output::slice::SliceOutput;
 use crate::sink::output::SinkOutput;
 use crate::sink::{Sink, SinkError, refusal_of};
 
-/// How many bytes are gathered for one call of a sink.
+/// How many bytes are gathered for one call of a sink, and the longest text that is handed over whole.
 const GATHERED: usize = 4096;
 
-/// Two smaller sizes of the room for a whole text, so that less is set to zero.
+/// The room for a short text, so that less is set to zero.
 const SHORT: usize = 256;
 
+/// The same for a text of middle length.
 const MIDDLE: usize = 1024;
 
 /// Bytes that are written as text, in upper or lower digits, with or without `0x` in front.

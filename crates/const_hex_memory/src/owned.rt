@@ -40,6 +40,8 @@ pub(crate) fn tell_all(rt: &impl Print, alloc: Global, inputs: &Inputs) -> io::R
     tell_stream(rt, alloc)
 }
 
+// One function for each type of answer, so that its printing is proved once and not at each call.
+
 /// Prints a call and the text that it answers.
 fn tell_text(rt: &impl Print, call: &str, answer: Result<String, AllocError>) -> io::Result<()> {
     tell(rt, call, answer)

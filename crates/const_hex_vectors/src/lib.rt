@@ -1,6 +1,8 @@
-//! Tests of `const_hex` from outside: worked examples, tables, and every kernel.
+//! Tests of `const_hex` from outside: worked examples, tables, every kernel, and the
+//! line protocol.
 //!
-//! Expected values come from the codec's written rules or from what std prints.
+//! Expected values come from the codec's written rules, from what std prints, and for lines that are
+//! no questions from the protocol of `const_hex_answers`.
 #![tactic(auto)]
 
 #[cfg(test)]

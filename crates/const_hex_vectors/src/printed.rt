@@ -1,7 +1,7 @@
 //! What `display` prints.
 
 use crate::texts::{bytes, printed};
-use const_hex::{Display, display};
+use const_hex::{BufferedHex, Display, FormatterSink, Lanes16, display};
 use std::alloc::{AllocError, Global};
 use std::fmt;
 use std::fmt::Write;
@@ -24,6 +24,23 @@ impl fmt::Display for InRadix<'_> {
     }
 }
 
+/// Prints the upper text by 16 lanes, through the library's sink over a formatter.
+#[derive(Drop)]
+struct ByLanes<'a> {
+    bytes: &'a [u8],
+}
+
+impl fmt::Display for ByLanes<'_> {
+    fn fmt<W: fmt::Write>(&self, f: &mut fmt::Formatter<W>) -> fmt::Result {
+        let mut sink = FormatterSink::new(f);
+        let hex = BufferedHex::<true, false>::new(self.bytes);
+        match hex.write_with::<Lanes16, FormatterSink<'_, W>>(&mut sink) {
+            Ok(()) => Ok(()),
+            Err(_) => Err(fmt::Error),
+        }
+    }
+}
+
 #[test]
 fn printed_forms(rt: HostRuntime) -> Result<(), Fail> {
     let bytes = [0xDE, 0xAD, 0xBE, 0xEF];
@@ -32,6 +49,8 @@ fn printed_forms(rt: HostRuntime) -> Result<(), Fail> {
     prints(&rt, rt.alloc(), &display(&bytes), lower)?;
     prints(&rt, rt.alloc(), &InRadix::Lower(display(&bytes)), lower)?;
     prints(&rt, rt.alloc(), &InRadix::Upper(display(&bytes)), upper)?;
+    let text = format!(in rt.alloc(); "{}", ByLanes { bytes: &bytes })?;
+    assert!(rt; text.as_str() == "DEADBEEF");
     Ok(())
 }
 
@@ -103,9 +122,14 @@ fn nothing_follows_an_error(rt: HostRuntime) {
     let bytes = [0xABu8; 5000];
     let rows = [(1, 1), (2, 2), (3, 3), (4, 3)];
     for (fail_at, calls) in rows {
-        let mut writer = FailingWriter { calls: 0, fail_at };
-        let text = display(&bytes);
-        assert_eq!(rt; write!(writer, "{text}").is_err(), fail_at < 4);
-        assert_eq!(rt; writer.calls, calls);
+        fails_once(&rt, &display(&bytes), fail_at, calls);
+        fails_once(&rt, &ByLanes { bytes: &bytes }, fail_at, calls);
     }
+}
+
+/// A writer that fails at one call is called so often, and its error is answered.
+fn fails_once<D: fmt::Display>(rt: &impl Abort, text: &D, fail_at: u32, calls: u32) {
+    let mut writer = FailingWriter { calls: 0, fail_at };
+    assert!(rt; write!(writer, "{text}").is_err() == (fail_at < 4));
+    assert!(rt; writer.calls == calls);
 }

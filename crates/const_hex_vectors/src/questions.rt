@@ -7,10 +7,12 @@ use std::io::{BufRead, BufReader, Read, Write};
 use std::process::Abort;
 use std::test::Fail;
 
-/// Answers, and lines that are no questions and get them, with `encode 6b` behind.
-const NO_QUESTIONS: [(&str, &[&[u8]]); 7] = [
+/// What comes out, how many lines bring it, and those lines: each is no question, and `encode 6b`
+/// stands behind it.
+const NO_QUESTIONS: [(&str, usize, &[&[u8]]); 7] = [
     (
         "BAD unknown operation\nOK 3662\n",
+        7,
         &[
             b"",
             b" encode 6b",
@@ -23,6 +25,7 @@ const NO_QUESTIONS: [(&str, &[&[u8]]); 7] = [
     ),
     (
         "BAD wrong count of words\nOK 3662\n",
+        9,
         &[
             b"encode",
             b"encode 6b 5",
@@ -37,6 +40,7 @@ const NO_QUESTIONS: [(&str, &[&[u8]]); 7] = [
     ),
     (
         "BAD not hex\nOK 3662\n",
+        8,
         &[
             b"encode ",
             b"encode  6b",
@@ -50,6 +54,7 @@ const NO_QUESTIONS: [(&str, &[&[u8]]); 7] = [
     ),
     (
         "BAD not a number up to 65536\nOK 3662\n",
+        6,
         &[
             b"encode 6b ",
             b"decode_to_slice 6b x",
@@ -61,6 +66,7 @@ const NO_QUESTIONS: [(&str, &[&[u8]]); 7] = [
     ),
     (
         "BAD not offered for this count of bytes\nOK 3662\n",
+        3,
         &[
             b"decode_to_array5 6b",
             b"const_decode_to_array5 6b",
@@ -69,26 +75,23 @@ const NO_QUESTIONS: [(&str, &[&[u8]]); 7] = [
     ),
     (
         "BAD not JSON\nOK 3662\n",
+        2,
         &[b"deserialize_json 223662", b"deserialize_json 22ff22"],
     ),
-    ("BAD not UTF-8\nOK 3662\n", &[b"encode \xff"]),
+    ("BAD not UTF-8\nOK 3662\n", 1, &[b"encode \xff"]),
 ];
 
 #[test]
 fn what_is_no_question_is_answered_bad(rt: HostRuntime) -> Result<(), Fail> {
-    for (answers, lines) in NO_QUESTIONS {
-        each_is_answered(&rt, rt.alloc(), lines, answers)?;
+    for (answers, count, lines) in NO_QUESTIONS {
+        assert!(rt; lines.len() == count);
+        each_is_bad(&rt, rt.alloc(), lines, answers)?;
     }
     Ok(())
 }
 
 /// Each of these lines is no question, and gets these answers with `encode 6b` behind it.
-fn each_is_answered(
-    rt: &impl Abort,
-    alloc: Global,
-    lines: &[&[u8]],
-    answers: &str,
-) -> Result<(), Fail> {
+fn each_is_bad(rt: &impl Abort, alloc: Global, lines: &[&[u8]], answers: &str) -> Result<(), Fail> {
     for line in lines {
         let mut input = line.chain(b"\nencode 6b".as_slice());
         are_answered(rt, alloc, &mut input, false, answers)?;
@@ -96,7 +99,7 @@ fn each_is_answered(
     Ok(())
 }
 
-/// These lines get these answers, and that tells whether all are questions.
+/// These lines get these answers, and `answer_lines` tells whether all were questions.
 fn are_answered<R: BufRead>(
     rt: &impl Abort,
     alloc: Global,
@@ -182,19 +185,20 @@ impl Read for ShortReader<'_> {
 
 #[test]
 fn a_failed_read_ends_the_run(rt: HostRuntime) -> Result<(), Fail> {
-    fails(&rt, rt.alloc(), b"", "")?;
-    fails(&rt, rt.alloc(), b"encode 6b", "")?;
-    fails(&rt, rt.alloc(), b"encode 6b\n", "OK 3662\n")?;
+    ends_after(&rt, rt.alloc(), b"", "")?;
+    ends_after(&rt, rt.alloc(), b"encode 6b", "")?;
+    ends_after(&rt, rt.alloc(), b"encode 6b\n", "OK 3662\n")?;
     let answers = "BAD unknown operation\nOK 3662\n";
-    fails(&rt, rt.alloc(), b"no\nencode 6b\nencode 6", answers)?;
-    fails(&rt, rt.alloc(), &vec![in rt.alloc(); b'0'; 66_000]?, "")
+    ends_after(&rt, rt.alloc(), b"no\nencode 6b\nencode 6", answers)?;
+    ends_after(&rt, rt.alloc(), &vec![in rt.alloc(); b'0'; 66_000]?, "")
 }
 
 /// A reader that fails behind these bytes ends the run, after these answers.
-fn fails(rt: &impl Abort, alloc: Global, bytes: &[u8], answers: &str) -> Result<(), Fail> {
+fn ends_after(rt: &impl Abort, alloc: Global, bytes: &[u8], answers: &str) -> Result<(), Fail> {
     let mut input = BufReader::new(alloc, ShortReader { bytes })?;
     let mut output = Vec::new(alloc);
-    assert!(rt; answer_lines(alloc, &mut input, &mut output).is_err());
+    let ended = answer_lines(alloc, &mut input, &mut output);
+    assert!(rt; ended.err().map(|e| e.kind()) == Some(io::ErrorKind::ConnectionReset));
     assert!(rt; output.as_slice() == answers.as_bytes());
     Ok(())
 }
@@ -225,6 +229,6 @@ fn a_failed_write_ends_the_run(rt: HostRuntime) {
     for room in 0..16usize {
         let mut input = b"encode 6b\nno\ncheck 36\n".as_slice();
         let ended = answer_lines(rt.alloc(), &mut input, &mut ShortWriter { room });
-        assert!(rt; ended.is_err());
+        assert!(rt; ended.err().map(|e| e.kind()) == Some(io::ErrorKind::BrokenPipe));
     }
 }

@@ -173,9 +173,10 @@ fn kind_of(error: Option<&io::Error>) -> Option<ErrorKind> {
     Some(error?.kind())
 }
 
-/// The writer was called up to its failure and no more, and has the text up to there; or it has all.
-fn took(rt: &impl Abort, target: &Target, text: &str, is_reached: bool) {
-    let count = if is_reached {
+/// Where the writer failed it was called up to there and no more, and has the text up to there; else
+/// it has all.
+fn took(rt: &impl Abort, target: &Target, text: &str, has_failed: bool) {
+    let count = if has_failed {
         assert!(rt; target.calls == target.fail_at);
         TAKEN
             .get(target.fail_at.saturating_sub(1))

@@ -3,6 +3,9 @@
 use const_hex::{FromHexError, decode_to_front, encode_full_to_slice};
 use std::process::Abort;
 
+/// How long the longest output of a row may be.
+const ROOM: usize = 13;
+
 fn bad(c: char, index: usize) -> FromHexError {
     FromHexError::InvalidHexCharacter { c, index }
 }
@@ -28,32 +31,31 @@ fn full_texts_in_slices(rt: HostRuntime) {
         (b"kiwi", true, true, 12, None),
     ];
     for row in rows {
-        fills(&rt, row);
+        writes_full_text(&rt, row);
     }
 }
 
 /// What one row's output holds: the text, or what it held.
-fn fills(
+fn writes_full_text(
     rt: &impl Abort,
     (bytes, prefix, upper, length, want): (&[u8], bool, bool, usize, Option<&str>),
 ) {
-    assert!(rt; length <= 13);
-    let mut output = [0xEE; 13];
+    assert!(rt; length <= ROOM);
+    let mut output = [0xEE; ROOM];
     let done = encode_full_to_slice(bytes, prefix, upper, &mut output[..length]);
     let (answer, text) = match want {
         Some(text) => (Ok(()), text),
         None => (Err(FromHexError::InvalidStringLength), ""),
     };
     assert!(rt; done == answer);
-    assert!(rt; output == left(text));
+    assert!(rt; output == with_front(rt, text));
 }
 
 /// An output of bytes 0xEE with these in front.
-fn left(front: &str) -> [u8; 13] {
-    let mut output = [0xEE; 13];
-    if front.len() <= 13 {
-        output[..front.len()].copy_from_slice(front.as_bytes());
-    }
+fn with_front(rt: &impl Abort, front: &str) -> [u8; ROOM] {
+    assert!(rt; front.len() <= ROOM);
+    let mut output = [0xEE; ROOM];
+    output[..front.len()].copy_from_slice(front.as_bytes());
     output
 }
 
@@ -78,19 +80,19 @@ fn fronts_of_outputs(rt: HostRuntime) {
         (&[0xFF, 0x30], 5, Err(bad('\u{FF}', 0))),
     ];
     for (text, length, want) in rows {
-        reads(&rt, text, length, want);
+        reads_into_front(&rt, text, length, want);
     }
 }
 
 /// What an output of that length holds in front, and what it held behind that.
-fn reads(rt: &impl Abort, text: &[u8], length: usize, want: Result<&str, FromHexError>) {
-    assert!(rt; length <= 13);
-    let mut output = [0xEE; 13];
+fn reads_into_front(rt: &impl Abort, text: &[u8], length: usize, want: Result<&str, FromHexError>) {
+    assert!(rt; length <= ROOM);
+    let mut output = [0xEE; ROOM];
     let done = decode_to_front(text, &mut output[..length]);
     let (answer, bytes) = match want {
         Ok(bytes) => (Ok(bytes.len()), bytes),
         Err(refusal) => (Err(refusal), ""),
     };
     assert!(rt; done == answer);
-    assert!(rt; output == left(bytes));
+    assert!(rt; output == with_front(rt, bytes));
 }

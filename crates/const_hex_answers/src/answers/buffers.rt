@@ -42,7 +42,7 @@ pub(crate) fn made(
         16 32 34, 20 40 42, 32 64 66, 33 66 68, 48 96 98, 64 128 130, 65 130 132, 128 256 258)
 }
 
-/// What that buffer makes of the first bytes.
+/// What that buffer makes of the first bytes. For `ConstEncode` it tells the lengths alone.
 fn answered<const N: usize, const PREFIX: bool, const LEN: usize>(
     alloc: Global,
     mut buffer: Buffer<N, PREFIX, LEN>,

@@ -24,7 +24,8 @@ pub(crate) fn nibbles<const N: usize>(v: Simd<u8, N>) -> Simd<u8, N>
 }
 
 /// The value of each lane that is a digit, in the low half of a lane with the bits 5 and 4 clear,
-/// and one of the two bits set for every other lane.
+/// and at least one of the two bits set for every other lane: what is left of a byte less `taken`,
+/// not below 0, with the two bits turned, is taken from the byte.
 #[inline(always)]
 pub(crate) fn looked_up<const N: usize>(v: Simd<u8, N>, taken: Simd<u8, N>) -> Simd<u8, N>
     requires { AllZip IsTakenFrom v taken }
@@ -41,8 +42,8 @@ pub(crate) fn are_looked_up<const N: usize>(values: Simd<u8, N>) -> bool
     (values & Simd::splat(0x30)).reduce_or() == 0
 }
 
-/// Sets one of the bits 7, 4 and 0 in each lane that is no digit, and clears the three in every
-/// other lane: the sum of both, less 2 and not below 0.
+/// Sets at least one of the bits 7, 4 and 0 in each lane that is no digit, and clears the three in
+/// every other lane: the sum of both, less 2 and not below 0.
 #[inline(always)]
 pub(crate) fn marks<const N: usize>(v: Simd<u8, N>, added: Simd<u8, N>) -> Simd<u8, N>
     requires { AllZip IsAddedTo v added }

@@ -148,6 +148,8 @@ pub(crate) fn decode_untested(text: [u8x16; 2]) -> (u8x16, u8x16)
 }
 
 /// What is taken from each lane for its value.
+// `0` to `9` leave 0, `A` to `F` 7 and `a` to `f` 39; with the bits 5 and 4 turned these are 48, 55
+// and 23, and the byte less that is its value, or 64 more.
 // The look-up is of lanes in a register: nothing is read from memory by the value of a byte.
 // `swizzle_dyn` asks for positions below 16, or from 128 on, which read as 0: so the mask. The
 // machine looks at these five bits alone, so the mask costs nothing.
@@ -159,7 +161,7 @@ pub(crate) fn taken(v: u8x16) -> u8x16
 }
 
 /// The value of each lane that is a digit, in the low half of a lane with the bits 5 and 4 clear,
-/// and one of the two bits set for every other lane.
+/// and at least one of the two bits set for every other lane.
 #[inline(always)]
 fn looked_up(v: u8x16) -> u8x16
     ensures { map as_looked_up result ≡ map hex_value v }
@@ -178,8 +180,8 @@ pub(crate) fn added(v: u8x16) -> u8x16
     u8x16::from_array(TO_TEST).swizzle_dyn(v & u8x16::splat(0x8F))
 }
 
-/// Sets one of the bits 7, 4 and 0 in each lane that is no digit, and clears the three in every
-/// other lane.
+/// Sets at least one of the bits 7, 4 and 0 in each lane that is no digit, and clears the three in
+/// every other lane.
 #[inline(always)]
 pub(crate) fn marks(v: u8x16) -> u8x16
     ensures { AllZip IsMarkOf v result }

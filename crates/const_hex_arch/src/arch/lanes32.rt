@@ -141,7 +141,7 @@ pub(crate) fn decode_untested(text: [u8x32; 2]) -> (u8x32, u8x32)
 }
 
 /// The value of each lane that is a digit, in the low half of a lane with the bits 5 and 4 clear,
-/// and one of the two bits set for every other lane.
+/// and at least one of the two bits set for every other lane.
 // By halves of 16 lanes, for which the mask costs nothing. With AVX2 the compiler makes one look-up
 // of both; the rest is of 32 lanes, or it would go by halves there too.
 #[inline(always)]
@@ -153,8 +153,8 @@ fn looked_up(v: u8x32) -> u8x32
     lanes::looked_up(v, lanes16::join(first, second))
 }
 
-/// Sets one of the bits 7, 4 and 0 in each lane that is no digit, and clears the three in every
-/// other lane.
+/// Sets at least one of the bits 7, 4 and 0 in each lane that is no digit, and clears the three in
+/// every other lane.
 // By halves as in `looked_up`.
 #[inline(always)]
 pub(crate) fn marks(v: u8x32) -> u8x32

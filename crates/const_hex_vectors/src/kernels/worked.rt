@@ -23,23 +23,28 @@ const PLACES: [(&str, usize, usize); 6] = [
 #[test]
 fn decoded_fronts(rt: HostRuntime) -> Result<(), Fail> {
     let alloc = rt.alloc();
-    leave::<Plain>(&rt, alloc, [15, 16, 49, 31, 35, 16])?;
-    leave::<Lanes16>(&rt, alloc, [0, 16, 49, 16, 32, 16])?;
-    leave::<Lanes32>(&rt, alloc, [0, 0, 49, 0, 32, 0])?;
-    leave::<CheckFirst<Plain>>(&rt, alloc, [0; 6])?;
-    leave::<CheckFirst<Lanes16>>(&rt, alloc, [0; 6])?;
-    leave::<CheckFirst<Lanes32>>(&rt, alloc, [0; 6])?;
-    leave::<Backward>(&rt, alloc, [0; 6])
+    each_leaves_its_front::<Plain>(&rt, alloc, [15, 16, 49, 31, 35, 16])?;
+    each_leaves_its_front::<Lanes16>(&rt, alloc, [0, 16, 49, 16, 32, 16])?;
+    each_leaves_its_front::<Lanes32>(&rt, alloc, [0, 0, 49, 0, 32, 0])?;
+    each_leaves_its_front::<CheckFirst<Plain>>(&rt, alloc, [0; 6])?;
+    each_leaves_its_front::<CheckFirst<Lanes16>>(&rt, alloc, [0; 6])?;
+    each_leaves_its_front::<CheckFirst<Lanes32>>(&rt, alloc, [0; 6])?;
+    each_leaves_its_front::<Backward>(&rt, alloc, [0; 6])
 }
 
-fn leave<K: Kernel>(rt: &impl Abort, alloc: Global, counts: [usize; 6]) -> Result<(), Fail> {
+fn each_leaves_its_front<K: Kernel>(
+    rt: &impl Abort,
+    alloc: Global,
+    counts: [usize; 6],
+) -> Result<(), Fail> {
     for (row, count) in PLACES.into_iter().zip(counts) {
-        leaves::<K>(rt, alloc, row, count)?;
+        leaves_front::<K>(rt, alloc, row, count)?;
     }
     Ok(())
 }
 
-fn leaves<K: Kernel>(
+/// A refused text leaves that many bytes decoded, and the rest as it was.
+fn leaves_front<K: Kernel>(
     rt: &impl Abort,
     alloc: Global,
     (prefix, length, place): (&str, usize, usize),
@@ -99,7 +104,7 @@ fn counted<K: Kernel>(rt: &impl Abort, alloc: Global, pieces_of_49: usize) -> Re
         (65, "40"),
     ];
     for (count, last) in rows {
-        up_to::<K>(rt, alloc, count, last)?;
+        first_bytes::<K>(rt, alloc, count, last)?;
     }
     let mut sink = PieceSink::new(alloc, 0);
     K::encode(&[0xAB; 49], false, &mut SinkOutput::new(&mut sink));
@@ -109,7 +114,12 @@ fn counted<K: Kernel>(rt: &impl Abort, alloc: Global, pieces_of_49: usize) -> Re
 }
 
 /// That many bytes, 0 and on, whose text ends so.
-fn up_to<K: Kernel>(rt: &impl Abort, alloc: Global, count: usize, last: &str) -> Result<(), Fail> {
+fn first_bytes<K: Kernel>(
+    rt: &impl Abort,
+    alloc: Global,
+    count: usize,
+    last: &str,
+) -> Result<(), Fail> {
     let bytes: Vec<u8> = (0..count).map(|i| (i % 256) as u8).collect(alloc)?;
     let text = encode_with::<K, false>(alloc, &bytes)?;
     assert!(rt; text.len() == count.saturating_mul(2));
