@@ -2,7 +2,7 @@
 use Rattle.std.proofs.Common.{◌≡◌, ℕ, ◌+◌, ◌-◌, ◌*◌, ◌≤◌, ◌↔◌, Bool, List, [], ◌++◌, length, take, drop, refl, sym, ap, subst, ◌∙◌, arith, take-add, take-append-drop, drop-drop, length-take, length-append, Option}
 use Rattle.std.proofs.lemmas.Grind.{common_steps}
 use Rattle.std.proofs.lemmas.List.{append-nil, append_assoc, take_at, drop_at}
-use Rattle.std.proofs.lemmas.List.Elements.{All-nil, All-take}
+use Rattle.std.proofs.lemmas.List.Elements.{All-take}
 use Rattle.std.proofs.lemmas.Slice.{take-put_mid, drop-put_mid}
 use borrow.Rule.Slice.PartMut.{put_mid}
 use Rattle.const_hex_arch.specs.Digits.{IsDigit}
@@ -25,9 +25,6 @@ pub record IsChecked (u left : List ℕ) : Type 0 where
   pub front : List ℕ
   pub whole : front ++ left ≡ u
   pub digits : AllDigits front
-
-pub none_checked : (u : List ℕ) → IsChecked u u
-none_checked u = record { front = []; whole = refl; digits = All-nil IsDigit }
 
 -- some bytes more
 pub checked_step : (u left part rest : List ℕ) → IsChecked u left → part ++ rest ≡ left → AllDigits part → IsChecked u rest
