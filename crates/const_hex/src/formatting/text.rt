@@ -11,9 +11,9 @@ use std::fmt;
 
 /// Bytes that are printed as text: two digits for each.
 ///
-/// `{}` and `{:x}` print lower digits and `{:X}` upper ones; with `#` they put `0x` in front. Width
-/// and fill are ignored. Where the formatter fails, nothing more is written, and the error is the
-/// answer. It takes no memory.
+/// `{}` and `LowerHex` print lower digits, `UpperHex` upper ones; with `#` they put `0x` in front.
+/// Width and fill are ignored. Where the formatter fails, nothing more is written, and the error is
+/// the answer. It takes no memory.
 ///
 /// ```rust
 /// let bytes = const_hex::display(&[0xde, 0xad]);
