@@ -1,9 +1,9 @@
-//! A sink and a writer that keep counts alone, and so ask for no memory.
+//! A sink and writers that keep counts alone, and so ask for no memory.
 
 ghost use Rattle.std.specs.Prelude.{◌≡◌, false, None, refl};
 
 use const_hex::{Sink, SinkError};
-use std::fmt;
+use std::{fmt, io};
 
 /// Counts its calls and the bytes of its pieces, and refuses at the call of that number.
 #[derive(Drop)]
@@ -26,12 +26,12 @@ impl Counting {
         }
     }
 
-    fn count(&mut self, piece: &str)
+    fn count(&mut self, size: usize)
         ensures refused { self.new.refused ≡ self.old.refused }
         ensures refuse_at { self.new.refuse_at ≡ self.old.refuse_at }
     {
         self.calls = self.calls.saturating_add(1);
-        self.bytes = self.bytes.saturating_add(piece.len());
+        self.bytes = self.bytes.saturating_add(size);
     }
 }
 
@@ -47,7 +47,7 @@ impl Sink for Counting {
     }
 
     fn write_str(&mut self, s: &str) -> Result<(), SinkError> {
-        self.count(s);
+        self.count(s.len());
         if self.calls == self.refuse_at {
             self.refused = true;
             return Err(SinkError);
@@ -60,7 +60,18 @@ impl Sink for Counting {
 
 impl fmt::Write for Counting {
     fn write_str(&mut self, s: &str) -> fmt::Result {
-        self.count(s);
+        self.count(s.len());
+        Ok(())
+    }
+}
+
+impl io::Write for Counting {
+    fn write(&mut self, buf: &[u8]) -> io::Result<usize> {
+        self.count(buf.len());
+        Ok(buf.len())
+    }
+
+    fn flush(&mut self) -> io::Result<()> {
         Ok(())
     }
 }

@@ -15,6 +15,15 @@ pub(crate) const ODD: &str = "0x1";
 /// A text with characters that are no digits.
 pub(crate) const BAD: &str = "zz";
 
+/// A line of these bytes, with a large prefix.
+pub(crate) const LINE: &[u8] = b"0X6b697769\n";
+
+/// A line with a prefix and characters that are no digits.
+pub(crate) const BAD_LINE: &[u8] = b"0xzz\n";
+
+/// No bytes.
+pub(crate) const NOTHING: &[u8] = b"";
+
 /// The text of a hash of bytes 0xAB.
 pub(crate) const HASH: &str = "0xabababababababababababababababababababababababababababababababab";
 
@@ -26,6 +35,9 @@ pub(crate) const DIGITS: [u8; 114] = [b'a'; 114];
 
 /// Bytes whose text goes to a sink in three calls.
 pub(crate) const DATA: [u8; 4097] = [0xAB; 4097];
+
+/// Digits of 2049 bytes.
+pub(crate) const LONG: [u8; 4098] = [b'a'; 4098];
 
 /// The values that take memory.
 #[derive(Drop)]

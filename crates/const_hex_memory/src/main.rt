@@ -10,6 +10,7 @@ mod counting;
 mod inputs;
 mod kept;
 mod line;
+mod modes;
 mod owned;
 mod without;
 
@@ -26,5 +27,6 @@ fn main(rt: HostRuntime) -> io::Result<()> {
     };
     println!(rt; "the program's inputs = made")?;
     without::tell_all(&rt, alloc, &inputs)?;
-    owned::tell_all(&rt, alloc, &inputs)
+    owned::tell_all(&rt, alloc, &inputs)?;
+    modes::tell_all(&rt, alloc)
 }

@@ -4,6 +4,7 @@ mod buffers;
 mod chunks;
 mod hashes;
 mod kernels;
+mod modes;
 mod printed;
 mod sinks;
 mod texts;
@@ -37,5 +38,6 @@ pub(crate) fn tell_all(rt: &impl Print, alloc: Global, inputs: &Inputs) -> io::R
     chunks::tell_lanes16(rt)?;
     chunks::tell_lanes32(rt)?;
     sinks::tell_outputs(rt)?;
-    sinks::tell_streams(rt, alloc)
+    sinks::tell_streams(rt, alloc)?;
+    modes::tell_answers(rt, alloc)
 }

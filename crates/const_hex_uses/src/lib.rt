@@ -12,6 +12,4 @@ pub mod readers;
 pub mod settings;
 pub mod sinks;
 pub mod store;
-#[cfg(test)]
-mod tests;
 pub mod writers;

@@ -1,5 +1,5 @@
-//! Tests of `const_hex` from outside: worked examples, tables, every kernel, and the
-//! line protocol.
+//! Tests of `const_hex` from outside: worked examples, tables, every kernel, the line protocol,
+//! and the program.
 //!
 //! Expected values come from the codec's written rules, from what std prints, and for lines that are
 //! no questions from the protocol of `const_hex_answers`.
@@ -9,6 +9,8 @@
 mod addresses;
 #[cfg(test)]
 mod buffers;
+#[cfg(test)]
+mod callers;
 #[cfg(test)]
 mod decoding;
 #[cfg(test)]
@@ -30,6 +32,8 @@ pub mod noting;
 mod outputs;
 #[cfg(test)]
 mod printed;
+#[cfg(test)]
+mod program;
 #[cfg(test)]
 mod questions;
 #[cfg(test)]

@@ -1,0 +1,93 @@
+//! The modes of the program `consthex`: what each answers to bytes in hand, and whole runs.
+
+use crate::counting::Counting;
+use crate::inputs::{BAD_LINE, DATA, KIWI, LINE, LONG, NOTHING, ODD};
+use consthex_modes::{Mode, answer, run};
+use std::alloc::Global;
+use std::io;
+
+const ENCODERS: [Mode; 4] = [
+    Mode::Encode,
+    Mode::EncodeUpper,
+    Mode::EncodePrefixed,
+    Mode::EncodeUpperPrefixed,
+];
+
+const READERS: [Mode; 2] = [Mode::Decode, Mode::Check];
+
+/// Makes all these calls that ask for memory.
+pub(crate) fn tell_all(rt: &impl Print, alloc: Global) -> io::Result<()> {
+    tell_answers(rt, alloc)?;
+    tell_runs(rt, alloc)?;
+    tell_long_runs(rt, alloc)?;
+    tell_vector(rt, alloc)
+}
+
+/// Prints what the mode answers to the input.
+pub(crate) fn tell_answer(
+    rt: &impl Print,
+    alloc: Global,
+    mode: Mode,
+    of: &str,
+    input: &[u8],
+) -> io::Result<()> {
+    let answered = answer(alloc, mode, input);
+    println!(rt; "answer {mode:?} of {of} = {answered:?}")
+}
+
+fn tell_answers(rt: &impl Print, alloc: Global) -> io::Result<()> {
+    for mode in ENCODERS {
+        tell_answer(rt, alloc, mode, "kiwi", KIWI)?;
+        tell_answer(rt, alloc, mode, "nothing", NOTHING)?;
+    }
+    tell_answer(rt, alloc, Mode::Decode, "a text", LINE)?;
+    tell_answer(rt, alloc, Mode::Decode, "a bad text", BAD_LINE)?;
+    tell_answer(rt, alloc, Mode::Check, "a text", LINE)?;
+    tell_answer(rt, alloc, Mode::Check, "nothing", NOTHING)
+}
+
+/// Prints how a run ends, how often it writes, and how many bytes. The writer asks for no memory.
+fn tell_run(rt: &impl Print, alloc: Global, mode: Mode, of: &str, input: &[u8]) -> io::Result<()> {
+    let mut input = input;
+    let mut output = Counting::new(0);
+    let done = run(alloc, mode, &mut input, &mut output);
+    println!(rt;
+        "run {mode:?} of {of} = {done:?} {} {}",
+        output.calls, output.bytes
+    )
+}
+
+fn tell_runs(rt: &impl Print, alloc: Global) -> io::Result<()> {
+    for mode in ENCODERS {
+        tell_run(rt, alloc, mode, "kiwi", KIWI)?;
+    }
+    for mode in READERS {
+        tell_run(rt, alloc, mode, "a text", LINE)?;
+        tell_run(rt, alloc, mode, "an odd text", ODD.as_bytes())?;
+        tell_run(rt, alloc, mode, "a bad text", BAD_LINE)?;
+    }
+    Ok(())
+}
+
+/// Inputs for which the room of the first 4096 bytes has to grow.
+fn tell_long_runs(rt: &impl Print, alloc: Global) -> io::Result<()> {
+    for mode in ENCODERS {
+        tell_run(rt, alloc, mode, "4097 bytes", &DATA)?;
+    }
+    let mut bad = LONG;
+    bad[4097] = b'z';
+    for mode in READERS {
+        tell_run(rt, alloc, mode, "4098 digits", &LONG)?;
+        tell_run(rt, alloc, mode, "4097 digits", &LONG[..4097])?;
+        tell_run(rt, alloc, mode, "a long bad text", &bad)?;
+    }
+    Ok(())
+}
+
+/// A run into a vector, which asks for memory of its own: refused to it, a write fails.
+fn tell_vector(rt: &impl Print, alloc: Global) -> io::Result<()> {
+    let mut input = KIWI;
+    let mut output = Vec::new(alloc);
+    let done = run(alloc, Mode::EncodeUpper, &mut input, &mut output);
+    println!(rt; "run into a vector = {done:?} {output:?}")
+}

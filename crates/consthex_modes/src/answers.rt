@@ -1,0 +1,78 @@
+//! What a mode answers to bytes in hand.
+
+ghost use Rattle.std.specs.Prelude.{◌≡◌, ◌≢◌, ◌≤◌, ◌<◌, ◌++◌, ◌*◌, ◌+◌, ◌↔◌, length, IfOk, IfErr, Ok, Err};
+ghost use Rattle.const_hex.specs.Texts.{full_text};
+ghost use Rattle.const_hex.specs.Buffers.{text_length};
+ghost use Rattle.consthex_modes.specs.Answer.{Answer, TakesMemory, without_newline, newline, limit};
+ghost use Rattle.consthex_modes.specs.declared.error.RunError.TheVariants.{TooLong, NoMemory};
+
+use crate::error::RunError;
+use crate::mode::Mode;
+use std::alloc::{AllocError, Global};
+
+/// The most bytes that an input may have.
+pub(crate) const LIMIT: usize = 1_048_576;
+
+/// What a mode answers to an input: the bytes to write, or the refusal.
+///
+/// Refused with [`RunError::TooLong`] where the input has more than 1,048,576 bytes; with
+/// [`RunError::NoMemory`], where memory is refused; with [`RunError::Text`], where the mode reads
+/// a text that can't be decoded. One newline at the end of that text is no part of it.
+///
+/// ```rust
+/// let line = answer(rt.alloc(), Mode::EncodeUpper, b"kiwi")?;
+/// assert_eq!(rt; line.as_slice(), b"6B697769\n".as_slice());
+/// ```
+pub fn answer(alloc: Global, mode: Mode, input: &[u8]) -> Result<Vec<u8>, RunError>
+    ensures ok { IfOk result (λ v. Answer mode input.now (Ok v.items)) }
+    ensures err { IfErr result (λ e. e ≢ NoMemory → Answer mode input.now (Err e)) }
+    ensures too_long { (result ≡ Err TooLong) ↔ (limit < length input.now) }
+    ensures no_memory { result ≡ Err NoMemory → TakesMemory mode input.now }
+{
+    if input.len() > LIMIT {
+        return Err(RunError::TooLong);
+    }
+    match mode {
+        Mode::Encode => Ok(encoded(alloc, input, false, false)?),
+        Mode::EncodeUpper => Ok(encoded(alloc, input, false, true)?),
+        Mode::EncodePrefixed => Ok(encoded(alloc, input, true, false)?),
+        Mode::EncodeUpperPrefixed => Ok(encoded(alloc, input, true, true)?),
+        Mode::Decode => Ok(const_hex::decode(alloc, trimmed(input))?),
+        Mode::Check => {
+            const_hex::check(trimmed(input))?;
+            Ok(b"ok\n".to_vec(alloc)?)
+        }
+    }
+}
+
+/// The text of the bytes and a newline. Memory is asked for once, of that length.
+fn encoded(alloc: Global, input: &[u8], prefix: bool, upper: bool) -> Result<Vec<u8>, AllocError>
+    requires { length input.now ≤ limit }
+    ensures { IfOk result (λ v. v.items ≡ full_text prefix upper input.now ++ newline) }
+{
+    let digits = 2 * input.len();
+    let length = if prefix { 2 + digits } else { digits };
+    let mut line = vec![in alloc; b'\n'; length + 1]?;
+    write_line(input, prefix, upper, &mut line);
+    Ok(line)
+}
+
+/// Fills the output, which has to have just that length, with the text and a newline.
+fn write_line(input: &[u8], prefix: bool, upper: bool, output: &mut [u8])
+    requires { length output.old ≡ text_length prefix (length input.now) + 1 }
+    ensures { output.new ≡ full_text prefix upper input.now ++ newline }
+{
+    let end = output.len() - 1;
+    output[end] = b'\n';
+    const_hex::encode_full_to_slice(input, prefix, upper, &mut output[..end]).unwrap();
+}
+
+/// The text without one newline at its end.
+fn trimmed(text: &[u8]) -> &[u8]
+    ensures { result.now ≡ without_newline text.now }
+{
+    match text {
+        [front @ .., b'\n'] => front,
+        _ => text,
+    }
+}

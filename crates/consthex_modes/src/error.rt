@@ -1,0 +1,81 @@
+//! Why a run does not succeed.
+
+ghost use Rattle.std.specs.Prelude.{◌≡◌};
+ghost use Rattle.consthex_modes.specs.Errors.{refusal_of, line_of, status_of};
+ghost use Rattle.consthex_modes.specs.declared.error.RunError.TheVariants.{NoMemory};
+
+use const_hex::FromHexError;
+use std::alloc::AllocError;
+use std::fmt;
+
+/// Why a run does not succeed.
+///
+/// ```rust
+/// let mut output = Vec::new(rt.alloc());
+/// let outcome = run(rt.alloc(), Mode::Decode, &mut b"123".as_slice(), &mut output);
+/// assert_eq!(rt; outcome, Err(RunError::Text(FromHexError::OddLength)));
+/// ```
+#[derive(Clone, Copy, PartialEq, Eq, Debug)]
+pub enum RunError {
+    /// The text is refused. [`FromHexError::NoMemory`] never stands inside.
+    Text(FromHexError),
+    /// A read failed.
+    ReadFailed,
+    /// A write failed or took nothing, or the last flush failed.
+    WriteFailed,
+    /// The input has more than 1,048,576 bytes.
+    TooLong,
+    /// A request for memory was refused.
+    NoMemory,
+}
+
+impl RunError {
+    /// The exit status of the program: 1 where the text is refused, 3 for input and output, 4 for
+    /// memory.
+    ///
+    /// ```rust
+    /// assert_eq!(rt; RunError::TooLong.status(), 3);
+    /// ```
+    pub fn status(&self) -> u8
+        ensures { result ≡ status_of self.now }
+    {
+        match self {
+            RunError::Text(_) => 1,
+            RunError::ReadFailed | RunError::WriteFailed | RunError::TooLong => 3,
+            RunError::NoMemory => 4,
+        }
+    }
+}
+
+impl fmt::Display for RunError {
+    ghost output = { λ e. line_of e };
+
+    fn fmt<W: fmt::Write>(&self, f: &mut fmt::Formatter<W>) -> fmt::Result {
+        match *self {
+            RunError::Text(refusal) => write!(f, "{refusal}"),
+            RunError::ReadFailed => f.write_str("read failed"),
+            RunError::WriteFailed => f.write_str("write failed"),
+            RunError::TooLong => f.write_str("input too long"),
+            RunError::NoMemory => f.write_str("out of memory"),
+        }
+    }
+}
+
+impl From<FromHexError> for RunError {
+    ghost from_gives = { λ refusal e. e ≡ refusal_of refusal };
+
+    fn from(refusal: FromHexError) -> RunError {
+        match refusal {
+            FromHexError::NoMemory => RunError::NoMemory,
+            _ => RunError::Text(refusal),
+        }
+    }
+}
+
+impl From<AllocError> for RunError {
+    ghost from_gives = { λ _ e. e ≡ NoMemory };
+
+    fn from(_refused: AllocError) -> RunError {
+        RunError::NoMemory
+    }
+}

@@ -1,0 +1,79 @@
+//! What the program is asked to do.
+
+ghost use Rattle.std.specs.Prelude.{◌≡◌, ◌↔◌, ◌∷◌, [], map, string_bytes, Some, Ok, IfErr};
+ghost use Rattle.consthex_modes.specs.declared.mode.Mode.{Mode};
+ghost use Rattle.consthex_modes.specs.Words.{word_of};
+
+/// What a run makes of its input.
+///
+/// ```rust
+/// let mut output = Vec::new(rt.alloc());
+/// run(rt.alloc(), Mode::Check, &mut b"0x6b\n".as_slice(), &mut output)?;
+/// assert_eq!(rt; output.as_slice(), b"ok\n".as_slice());
+/// ```
+#[derive(Clone, Copy, PartialEq, Eq, Debug)]
+pub enum Mode {
+    /// Two lower digits for each byte, and a newline.
+    Encode,
+    /// Two upper digits for each byte, and a newline.
+    EncodeUpper,
+    /// `0x`, two lower digits for each byte, and a newline.
+    EncodePrefixed,
+    /// `0x`, two upper digits for each byte, and a newline.
+    EncodeUpperPrefixed,
+    /// The bytes that the text spells, and nothing else.
+    Decode,
+    /// `ok` and a newline, where the text can be decoded.
+    Check,
+}
+
+/// The line that is printed where the arguments name no mode.
+///
+/// ```rust
+/// assert!(rt; USAGE.starts_with("usage: consthex encode|"));
+/// ```
+pub const USAGE: &str = "usage: consthex \
+    encode|encode-upper|encode-prefixed|encode-upper-prefixed|decode|check";
+
+/// The status of a run whose words name no mode.
+const WRONG_USAGE: u8 = 2;
+
+/// The mode that the words behind the program's name ask for, or the status 2 where they name none.
+///
+/// ```rust
+/// assert_eq!(rt; mode_or_status(&[]), Err(2));
+/// ```
+pub fn mode_or_status(words: &[String]) -> Result<Mode, u8>
+    ensures mode { (m : Mode) → (result ≡ Ok m) ↔ (map string_bytes words.now ≡ word_of m ∷ []) }
+    ensures status { IfErr result (λ status. status ≡ 2) }
+{
+    match mode_of(words) {
+        Some(mode) => Ok(mode),
+        None => Err(WRONG_USAGE),
+    }
+}
+
+/// The mode that the arguments name, without the program's name: exactly one word, compared byte
+/// for byte.
+///
+/// ```rust
+/// let words = [String::from_str(rt.alloc(), "decode")?];
+/// assert_eq!(rt; mode_of(&words), Some(Mode::Decode));
+/// assert_eq!(rt; mode_of(&[]), None);
+/// ```
+pub fn mode_of(words: &[String]) -> Option<Mode>
+    ensures { (m : Mode) → (result ≡ Some m) ↔ (map string_bytes words.now ≡ word_of m ∷ []) }
+{
+    let [word] = words else {
+        return None;
+    };
+    match word.as_str() {
+        "encode" => Some(Mode::Encode),
+        "encode-upper" => Some(Mode::EncodeUpper),
+        "encode-prefixed" => Some(Mode::EncodePrefixed),
+        "encode-upper-prefixed" => Some(Mode::EncodeUpperPrefixed),
+        "decode" => Some(Mode::Decode),
+        "check" => Some(Mode::Check),
+        _ => None,
+    }
+}

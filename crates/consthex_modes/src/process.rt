@@ -1,0 +1,80 @@
+//! The whole program, from its words to its exit status.
+
+ghost use Rattle.std.specs.Prelude.{◌≡◌, ◌≢◌, ◌≤◌, ◌⊎◌, List, ℕ, Ok, Err};
+ghost use Rattle.std.specs.Io.KnownBytes.{Appends, Keeps};
+ghost use Rattle.std.specs.Process.{exit_status};
+ghost use Rattle.const_hex.specs.declared.error.FromHexError.{FromHexError};
+ghost use Rattle.const_hex.specs.WriteSinks.{WritesBeginning};
+ghost use Rattle.consthex_modes.specs.Errors.{status_of};
+ghost use Rattle.consthex_modes.specs.Outcome.{Answers};
+ghost use Rattle.consthex_modes.specs.declared.error.RunError.TheVariants.{Text};
+ghost use Rattle.consthex_modes.specs.declared.mode.Mode.{Mode};
+
+use crate::error::RunError;
+use crate::mode::{USAGE, mode_or_status};
+use crate::runs::run;
+use crate::words::words;
+use std::env::Env;
+use std::io::{Eprint, Read, Write};
+use std::process::ExitCode;
+
+/// Does what the words behind the program's name ask for, and gives the exit status: 0; 1 where the
+/// text is refused; 2 where the words name no mode; 3 where reading or writing fails or the input
+/// is too long; 4 where memory is refused. What went wrong is one line on standard error.
+///
+/// ```rust
+/// fn main(rt: HostRuntime) -> ExitCode {
+///     program(&rt, &mut rt.reader(), &mut io::writer(&rt))
+/// }
+/// ```
+pub fn program<R: Read, W: Write>(
+    rt: &(impl Env + Eprint + AllocGlobal),
+    input: &mut R,
+    output: &mut W,
+) -> ExitCode
+    // All that the reader had was read, and a mode's answer to it was written.
+    ensures done { exit_status result ≡ 0 → (m : Mode) × (bs : List ℕ)
+        × Answers m (R.remaining input.old) (R.remaining input.new) (Ok bs)
+        × Appends (W.contents output.old) (W.contents output.new) bs }
+    // All that the reader had was read, and a mode refuses it as a text.
+    ensures refused { exit_status result ≡ 1 → (m : Mode) × (e : FromHexError)
+        × Answers m (R.remaining input.old) (R.remaining input.new) (Err (Text e)) }
+    // Nothing was read or written.
+    ensures misused { exit_status result ≡ 2
+        → (input.new ≡ input.old) × (output.new ≡ output.old) }
+    ensures nothing_written { exit_status result ≢ 0 → exit_status result ≢ 3
+        → Keeps (W.contents output.old) (W.contents output.new) }
+    // Nothing was written, or a beginning of a mode's answer to all that the reader had.
+    ensures failed { exit_status result ≡ 3
+        → Keeps (W.contents output.old) (W.contents output.new) ⊎ ((m : Mode) × (bs : List ℕ)
+        × Answers m (R.remaining input.old) (R.remaining input.new) (Ok bs)
+        × WritesBeginning (W.contents output.old) (W.contents output.new) bs) }
+    ensures statuses { exit_status result ≤ 4 }
+{
+    let Ok(words) = words(rt) else {
+        return refused(rt, RunError::NoMemory);
+    };
+    match mode_or_status(&words) {
+        Ok(mode) => match run(rt.alloc(), mode, input, output) {
+            Ok(()) => ExitCode::SUCCESS,
+            Err(error) => refused(rt, error),
+        },
+        Err(status) => misused(rt, status),
+    }
+}
+
+/// Prints the usage, and gives that status. A failure of standard error is ignored.
+fn misused(rt: &impl Eprint, status: u8) -> ExitCode
+    ensures { exit_status result ≡ status }
+{
+    let _ = eprintln!(rt; "{USAGE}");
+    ExitCode::from(status)
+}
+
+/// Prints the error, and gives its status. A failure of standard error is ignored.
+fn refused(rt: &impl Eprint, error: RunError) -> ExitCode
+    ensures { exit_status result ≡ status_of error }
+{
+    let _ = eprintln!(rt; "{error}");
+    ExitCode::from(error.status())
+}
