@@ -14,7 +14,7 @@ use Rattle.const_hex_arch.specs.Nibbles.{IsMarkOf, IsValueOf, IsLimitOf}
 use Rattle.const_hex_arch.specs.Texts.{AllDigits}
 use Rattle.const_hex_arch.proofs.Computed.{all_below, every_below}
 use Rattle.const_hex_arch.proofs.LaneLookups.{low_halves}
-use Rattle.const_hex_arch.proofs.LaneValues.{same_value, is_none, same_if_some, sub8, min_l, satsub_l}
+use Rattle.const_hex_arch.proofs.LaneValues.{same_value, is_none, same_if_some, sub8, min_l}
 use Rattle.const_hex_arch.proofs.Spelling.{false_is_true}
 
 -- ---- tests that compute
@@ -91,9 +91,9 @@ module _ (table : List ℕ) where
 -- ---- what is above the limit, and what is not
 
 abbrev above : ℕ → ℕ → ℕ
-above x y = get_or (satsub_l (x ∷ []) (y ∷ [])) 0 0
+above x y = get_or (zip2 sub8 (x ∷ []) (min_l (x ∷ []) (y ∷ []))) 0 0
 
-above_by : (x y : ℕ) (b : Bool) → x < 256 → y < 256 → ltb x y ≡ b → x - y ≡ get_or (zip2 sub8 (sel_l (top 7 (cond b 255 0) ∷ []) (y ∷ []) (x ∷ [])) (y ∷ [])) 0 0
+above_by : (x y : ℕ) (b : Bool) → x < 256 → y < 256 → ltb x y ≡ b → x - y ≡ get_or (zip2 sub8 (x ∷ []) (sel_l (top 7 (cond b 255 0) ∷ []) (x ∷ []) (y ∷ []))) 0 0
 above_by x y true h k e = let l = ltb-true x y e in omega (arith, l, h, k)
 above_by x y false h k e = let l = ltb-false x y e in omega (arith, l, h, k)
 
@@ -113,14 +113,18 @@ within_is x y = within_by x y (ltb x y)
 abbrev less_l : ℕ → List ℕ → List ℕ
 less_l n v = zip2 sub8 v (replicate n 48)
 
-marks_all : (v t : List ℕ) → Each1 (Fits w8) t → AllZip IsLimitOf v t → AllZip IsMarkOf v (satsub_l (less_l (length v) v) t)
+-- what `marks` computes of n lanes
+abbrev marks_l : ℕ → List ℕ → List ℕ → List ℕ
+marks_l n v t = zip2 sub8 (less_l n v) (min_l (less_l n v) t)
+
+marks_all : (v t : List ℕ) → Each1 (Fits w8) t → AllZip IsLimitOf v t → AllZip IsMarkOf v (marks_l (length v) v t)
 marks_all [] [] g z = tt
 marks_all [] (y ∷ t) g z = absurd z
 marks_all (x ∷ v) [] g z = absurd z
 marks_all (x ∷ v) (y ∷ t) g z = (subst (IsMarkOf x) (above_is (less x) y (omega arith) g.0.fits) z.0.0, marks_all v t g.1 z.1)
 
-pub marks_are : (n : ℕ) (v t : List ℕ) → length v ≡ n → Each1 (Fits w8) t → AllZip IsLimitOf v t → AllZip IsMarkOf v (satsub_l (less_l n v) t)
-marks_are n v t e g z = subst (λ n. AllZip IsMarkOf v (satsub_l (less_l n v) t)) e (marks_all v t g z)
+pub marks_are : (n : ℕ) (v t : List ℕ) → length v ≡ n → Each1 (Fits w8) t → AllZip IsLimitOf v t → AllZip IsMarkOf v (marks_l n v t)
+marks_are n v t e g z = subst (λ n. AllZip IsMarkOf v (marks_l n v t)) e (marks_all v t g z)
 
 values_all : (v t : List ℕ) → AllZip IsLimitOf v t → AllZip IsValueOf v (min_l (less_l (length v) v) t)
 values_all [] [] z = tt

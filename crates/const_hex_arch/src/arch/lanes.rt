@@ -34,12 +34,15 @@ pub(crate) fn values<const N: usize>(v: Simd<u8, N>, limits: Simd<u8, N>) -> Sim
 
 /// Sets at least one of the bits 7, 6, 4 and 3 in each lane that is no digit, and clears the four
 /// in every other lane: what the lane less 48 has above its limit.
+// Not `saturating_sub`: beside `values` that took a register more for each vector while the test was
+// waited for, and the default processor has too few. Alone it is compiled to that.
 #[inline(always)]
 pub(crate) fn marks<const N: usize>(v: Simd<u8, N>, limits: Simd<u8, N>) -> Simd<u8, N>
     requires { AllZip IsLimitOf v limits }
     ensures { AllZip IsMarkOf v.entry result }
 {
-    (v - Simd::splat(0x30)).saturating_sub(limits)
+    let less = v - Simd::splat(0x30);
+    less - less.simd_min(limits)
 }
 
 /// Whether no lane has a mark: all have the bits 7, 6, 4 and 3 clear.
