@@ -15,7 +15,6 @@ pub use Rattle.const_hex_arch.specs.Digits
 pub use Rattle.const_hex_arch.specs.Gathering
 pub use Rattle.const_hex_arch.specs.Lanes
 pub use Rattle.const_hex_arch.specs.Laws
-pub use Rattle.const_hex_arch.specs.Lookups
 pub use Rattle.const_hex_arch.specs.Nibbles
 pub use Rattle.const_hex_arch.specs.Pieces
 pub use Rattle.const_hex_arch.specs.Runs

@@ -1,21 +1,20 @@
--- The test of digits alone, by a look-up of lanes, and the tests of all lanes of a vector.
-use Rattle.std.proofs.Common.{◌≡◌, ℕ, zero, suc, ◌+◌, ◌-◌, ◌*◌, ◌/◌, ◌%◌, ◌<◌, ◌≤◌, ◌↔◌, Bool, true, false, eqb, cond, T, List, [], ◌∷◌, length, replicate, get_or, bit_and, bit_or, refl, sym, subst, arith, w8, Fits, eqb→eq, eqb-true, eq-eqb, IsTrue, IsSome, Option, Some, None}
+-- The values of digits and the test of digits by one look-up of lanes, and the test of all lanes of a vector.
+use Rattle.std.proofs.Common.{◌≡◌, ℕ, zero, suc, ◌+◌, ◌-◌, ◌*◌, ◌/◌, ◌%◌, ◌<◌, ◌≤◌, ◌↔◌, Bool, true, false, eqb, cond, ltb, ltb-true, ltb-false, ◌||◌, T, List, [], ◌∷◌, length, replicate, get_or, bit_and, bit_or, refl, sym, subst, arith, w8, Fits, eqb→eq, eqb-true, eq-eqb, IsTrue, IsSome, Option, Some, None}
 use Rattle.std.specs.List.{AllByRecursion, AllZip}
 use Rattle.std.specs.Int.{bit_at}
 use Rattle.std.proofs.lemmas.List.Elements.{All-nil, All-head, All-tail, All-cons}
 use Rattle.std.proofs.lemmas.Nat.{le_or_l, le_or_r}
 use Rattle.std.proofs.lemmas.Nat.Bits.{bit_at_or}
 use Rattle.std.proofs.lemmas.Simd.{swz_l}
-use lib.Lanes.{zip2, fold_l, Each1}
+use lib.Lanes.{zip2, sel_l, top, fold_l, Each1}
 use mir.Val.{zeroes}
 use Rattle.const_hex_arch.specs.Digits.{hex_value, IsDigit}
 use Rattle.const_hex_arch.specs.Lanes.{IsUnmarked, AllUnmarked}
-use Rattle.const_hex_arch.specs.Lookups.{IsLookedUp, AllLookedUp}
-use Rattle.const_hex_arch.specs.Nibbles.{IsMarkOf, IsAddedTo}
+use Rattle.const_hex_arch.specs.Nibbles.{IsMarkOf, IsValueOf, IsLimitOf}
 use Rattle.const_hex_arch.specs.Texts.{AllDigits}
 use Rattle.const_hex_arch.proofs.Computed.{all_below, every_below}
 use Rattle.const_hex_arch.proofs.LaneLookups.{low_halves}
-use Rattle.const_hex_arch.proofs.LaneValues.{add8, satsub_l}
+use Rattle.const_hex_arch.proofs.LaneValues.{same_value, is_none, same_if_some, sub8, min_l}
 use Rattle.const_hex_arch.proofs.Spelling.{false_is_true}
 
 -- ---- tests that compute
@@ -43,54 +42,98 @@ zero_is n = (λ t. eqb→eq n 0 t, λ e. subst T (sym (eq-eqb n 0 e)) tt)
 
 -- the bits that mark a lane
 abbrev mark_bits : ℕ → ℕ
-mark_bits z = bit_at z 7 + bit_at z 4 + bit_at z 0
+mark_bits z = bit_at z 7 + bit_at z 6 + bit_at z 4 + bit_at z 3
 
--- ---- what is added to 16 lanes, by a table of the low halves
+-- ---- the limits of 16 lanes, by a table of the low halves
+
+abbrev less : ℕ → ℕ
+less b = (b + 208) % 256
 
 module _ (table : List ℕ) where
   abbrev read : ℕ → ℕ → ℕ
   read q j = cond (zeroes 16 w8 j) zero (get_or table (16 * q + j) zero)
 
+  abbrev limit : ℕ → ℕ
+  limit b = read 0 (bit_and b 143)
+
   abbrev mark_of : ℕ → ℕ
-  mark_of b = (b + read 0 (bit_and b 143)) % 256 - 2
+  mark_of b = less b - limit b
+
+  abbrev value_of : ℕ → ℕ
+  value_of b = cond (ltb (less b) (limit b)) (less b) (limit b)
 
   -- each of the 256 bytes
-  abbrev pub is_right : Bool
-  is_right = all_below (λ b. same_truth (eqb (mark_bits (mark_of b)) 0) (has_value (hex_value b))) 256
+  abbrev pub marks_are_right : Bool
+  marks_are_right = all_below (λ b. same_truth (eqb (mark_bits (mark_of b)) 0) (has_value (hex_value b))) 256
 
-  added_at : T is_right → (b : ℕ) → b < 256 → IsAddedTo b (read 0 (bit_and b 143))
-  added_at t b h =
-      let same = same_truth-cases (eqb (mark_bits (mark_of b)) 0) (has_value (hex_value b)) (every_below (λ b. same_truth (eqb (mark_bits (mark_of b)) 0) (has_value (hex_value b))) 256 t b h) in
-      let none = zero_is (mark_bits (mark_of b)) in
-      let value = has_value-IsSome (hex_value b) in
-      (λ p. value.0 (same.0 (none.1 p)), λ d. none.0 (same.1 (value.1 d)))
+  abbrev pub values_are_right : Bool
+  values_are_right = all_below (λ b. is_none (hex_value b) || same_value (hex_value b) (Some (value_of b))) 256
 
-  -- from lane i on
-  added_all : T is_right → (i : ℕ) (v : List ℕ) → i + length v ≤ 16 → Each1 (Fits w8) v → AllZip IsAddedTo v (swz_l w8 16 table i (low_halves (length v) v))
-  added_all t i [] h f = tt
-  added_all t i (x ∷ xs) h f =
-      let first : zero ≡ i / 16 = omega arith in
-      (subst (λ q. IsAddedTo x (read q (bit_and x 143))) first (added_at t x f.0.fits), added_all t (suc i) xs (omega arith) f.1)
+  module _ (t : T marks_are_right) (u : T values_are_right) where
+    limit_at : (b : ℕ) → b < 256 → IsLimitOf b (limit b)
+    limit_at b h =
+        let same = same_truth-cases (eqb (mark_bits (mark_of b)) 0) (has_value (hex_value b)) (every_below (λ b. same_truth (eqb (mark_bits (mark_of b)) 0) (has_value (hex_value b))) 256 t b h) in
+        let none = zero_is (mark_bits (mark_of b)) in
+        let value = has_value-IsSome (hex_value b) in
+        let right = every_below (λ b. is_none (hex_value b) || same_value (hex_value b) (Some (value_of b))) 256 u b h in
+        ((λ p. value.0 (same.0 (none.1 p)), λ d. none.0 (same.1 (value.1 d))), λ d. same_if_some (hex_value b) (Some (value_of b)) right d)
 
-  pub added_are : T is_right → (v : List ℕ) → (length v ≡ 16) × Each1 (Fits w8) v → AllZip IsAddedTo v (swz_l w8 16 table 0 (low_halves 16 v))
-  added_are t v f = subst (λ n. AllZip IsAddedTo v (swz_l w8 16 table 0 (low_halves n v))) f.0 (added_all t 0 v (omega (arith, f.0)) f.1)
+    -- from lane i on
+    limits_all : (i : ℕ) (v : List ℕ) → i + length v ≤ 16 → Each1 (Fits w8) v → AllZip IsLimitOf v (swz_l w8 16 table i (low_halves (length v) v))
+    limits_all i [] h f = tt
+    limits_all i (x ∷ xs) h f =
+        let first : zero ≡ i / 16 = omega arith in
+        (subst (λ q. IsLimitOf x (read q (bit_and x 143))) first (limit_at x f.0.fits), limits_all (suc i) xs (omega arith) f.1)
 
--- ---- the sum, less 2
+    pub limits_are : (v : List ℕ) → (length v ≡ 16) × Each1 (Fits w8) v → AllZip IsLimitOf v (swz_l w8 16 table 0 (low_halves 16 v))
+    limits_are v f = subst (λ n. AllZip IsLimitOf v (swz_l w8 16 table 0 (low_halves n v))) f.0 (limits_all 0 v (omega (arith, f.0)) f.1)
 
-abbrev less_two : ℕ → ℕ
-less_two x = get_or (satsub_l (x ∷ []) (2 ∷ [])) 0 0
+-- ---- what is above the limit, and what is not
 
-less_two-is : (x : ℕ) → x < 256 → x - 2 ≡ less_two x
-less_two-is x h = eqb→eq _ _ (every_below (λ x. eqb (x - 2) (less_two x)) 256 tt x h)
+abbrev above : ℕ → ℕ → ℕ
+above x y = get_or (zip2 sub8 (x ∷ []) (min_l (x ∷ []) (y ∷ []))) 0 0
 
-marks_all : (v a : List ℕ) → AllZip IsAddedTo v a → AllZip IsMarkOf v (satsub_l (zip2 add8 v a) (replicate (length v) 2))
-marks_all [] [] z = tt
-marks_all [] (y ∷ a) z = absurd z
-marks_all (x ∷ v) [] z = absurd z
-marks_all (x ∷ v) (y ∷ a) z = (subst (IsMarkOf x) (less_two-is ((x + y) % 256) (omega arith)) z.0, marks_all v a z.1)
+above_by : (x y : ℕ) (b : Bool) → x < 256 → y < 256 → ltb x y ≡ b → x - y ≡ get_or (zip2 sub8 (x ∷ []) (sel_l (top 7 (cond b 255 0) ∷ []) (x ∷ []) (y ∷ []))) 0 0
+above_by x y true h k e = let l = ltb-true x y e in omega (arith, l, h, k)
+above_by x y false h k e = let l = ltb-false x y e in omega (arith, l, h, k)
 
-pub marks_are : (n : ℕ) (v a : List ℕ) → length v ≡ n → AllZip IsAddedTo v a → AllZip IsMarkOf v (satsub_l (zip2 add8 v a) (replicate n 2))
-marks_are n v a e z = subst (λ n. AllZip IsMarkOf v (satsub_l (zip2 add8 v a) (replicate n 2))) e (marks_all v a z)
+above_is : (x y : ℕ) → x < 256 → y < 256 → x - y ≡ above x y
+above_is x y h k = above_by x y (ltb x y) h k refl
+
+abbrev within : ℕ → ℕ → ℕ
+within x y = get_or (min_l (x ∷ []) (y ∷ [])) 0 0
+
+within_by : (x y : ℕ) (b : Bool) → cond b x y ≡ get_or (sel_l (top 7 (cond b 255 0) ∷ []) (x ∷ []) (y ∷ [])) 0 0
+within_by x y true = refl
+within_by x y false = refl
+
+within_is : (x y : ℕ) → cond (ltb x y) x y ≡ within x y
+within_is x y = within_by x y (ltb x y)
+
+abbrev less_l : ℕ → List ℕ → List ℕ
+less_l n v = zip2 sub8 v (replicate n 48)
+
+-- what `marks` computes of n lanes
+abbrev marks_l : ℕ → List ℕ → List ℕ → List ℕ
+marks_l n v t = zip2 sub8 (less_l n v) (min_l (less_l n v) t)
+
+marks_all : (v t : List ℕ) → Each1 (Fits w8) t → AllZip IsLimitOf v t → AllZip IsMarkOf v (marks_l (length v) v t)
+marks_all [] [] g z = tt
+marks_all [] (y ∷ t) g z = absurd z
+marks_all (x ∷ v) [] g z = absurd z
+marks_all (x ∷ v) (y ∷ t) g z = (subst (IsMarkOf x) (above_is (less x) y (omega arith) g.0.fits) z.0.0, marks_all v t g.1 z.1)
+
+pub marks_are : (n : ℕ) (v t : List ℕ) → length v ≡ n → Each1 (Fits w8) t → AllZip IsLimitOf v t → AllZip IsMarkOf v (marks_l n v t)
+marks_are n v t e g z = subst (λ n. AllZip IsMarkOf v (marks_l n v t)) e (marks_all v t g z)
+
+values_all : (v t : List ℕ) → AllZip IsLimitOf v t → AllZip IsValueOf v (min_l (less_l (length v) v) t)
+values_all [] [] z = tt
+values_all [] (y ∷ t) z = absurd z
+values_all (x ∷ v) [] z = absurd z
+values_all (x ∷ v) (y ∷ t) z = (subst (IsValueOf x) (within_is (less x) y) z.0.1, values_all v t z.1)
+
+pub values_are : (n : ℕ) (v t : List ℕ) → length v ≡ n → AllZip IsLimitOf v t → AllZip IsValueOf v (min_l (less_l n v) t)
+values_are n v t e z = subst (λ n. AllZip IsValueOf v (min_l (less_l n v) t)) e (values_all v t z)
 
 -- ---- lanes have no mark where what they stand for is digits
 
@@ -107,27 +150,20 @@ pub both_unmarked : (y z : ℕ) → IsUnmarked (bit_or y z) ↔ (IsUnmarked y ×
 both_unmarked y z =
     let seven = bit_at_or y z 7 in
     let four = bit_at_or y z 4 in
-    let none = bit_at_or y z 0 in
-    (λ h. (omega (arith, seven, four, none, h), omega (arith, seven, four, none, h)), λ h. omega (arith, seven, four, none, h.0, h.1))
+    let three = bit_at_or y z 3 in
+    let six = bit_at_or y z 6 in
+    (λ h. (omega (arith, seven, six, four, three, h), omega (arith, seven, six, four, three, h)), λ h. omega (arith, seven, six, four, three, h.0, h.1))
 
 -- ---- one test of all lanes
 
 abbrev marked : ℕ → ℕ
-marked x = bit_and x 145
+marked x = bit_and x 216
 
 unmarked_at : (x : ℕ) → x < 256 → (marked x ≡ 0) ↔ IsUnmarked x
 unmarked_at x h =
     let same = same_truth-cases (eqb (marked x) 0) (eqb (mark_bits x) 0) (every_below (λ x. same_truth (eqb (marked x) 0) (eqb (mark_bits x) 0)) 256 tt x h) in
     let one = zero_is (marked x) in
     let other = zero_is (mark_bits x) in
-    (λ e. other.0 (same.0 (one.1 e)), λ p. one.0 (same.1 (other.1 p)))
-
--- of a value that is looked up
-looked_up_at : (x : ℕ) → x < 256 → (bit_and x 48 ≡ 0) ↔ IsLookedUp x
-looked_up_at x h =
-    let same = same_truth-cases (eqb (bit_and x 48) 0) (eqb (bit_at x 5 + bit_at x 4) 0) (every_below (λ x. same_truth (eqb (bit_and x 48) 0) (eqb (bit_at x 5 + bit_at x 4) 0)) 256 tt x h) in
-    let one = zero_is (bit_and x 48) in
-    let other = zero_is (bit_at x 5 + bit_at x 4) in
     (λ e. other.0 (same.0 (one.1 e)), λ p. one.0 (same.1 (other.1 p)))
 
 -- P holds of a byte that has none of the bits of m
@@ -151,8 +187,5 @@ module _ (m : ℕ) (P : ℕ → Type 0) (at : (x : ℕ) → x < 256 → (bit_and
       subst (λ n. IsTrue (eqb (as_many n) 0) ↔ AllByRecursion P xs) f.0
       (λ t. (all.0 (eqb-true (as_many (length xs)) 0 t)).1, λ a. eq-eqb (as_many (length xs)) 0 (all.1 (zero_is_zero, a)))
 
-pub are_unmarked : (n : ℕ) (xs : List ℕ) → (length xs ≡ n) × Each1 (Fits w8) xs → IsTrue (eqb (fold_l bit_or 0 (zip2 bit_and xs (replicate n 145))) 0) ↔ AllUnmarked xs
-are_unmarked = all_clear 145 IsUnmarked unmarked_at
-
-pub are_looked_up : (n : ℕ) (xs : List ℕ) → (length xs ≡ n) × Each1 (Fits w8) xs → IsTrue (eqb (fold_l bit_or 0 (zip2 bit_and xs (replicate n 48))) 0) ↔ AllLookedUp xs
-are_looked_up = all_clear 48 IsLookedUp looked_up_at
+pub are_unmarked : (n : ℕ) (xs : List ℕ) → (length xs ≡ n) × Each1 (Fits w8) xs → IsTrue (eqb (fold_l bit_or 0 (zip2 bit_and xs (replicate n 216))) 0) ↔ AllUnmarked xs
+are_unmarked = all_clear 216 IsUnmarked unmarked_at

@@ -25,11 +25,11 @@ same_value-true None (Some b) t = absurd t
 same_value-true (Some a) None t = absurd t
 same_value-true (Some a) (Some b) t = ap Some (eqb→eq a b t)
 
-abbrev is_none : Option ℕ → Bool
+abbrev pub is_none : Option ℕ → Bool
 is_none None = true
 is_none (Some v) = false
 
-same_if_some : (o p : Option ℕ) → T (is_none o || same_value o p) → IsSome o → o ≡ p
+pub same_if_some : (o p : Option ℕ) → T (is_none o || same_value o p) → IsSome o → o ≡ p
 same_if_some None p t s = absurd (false_is_true s)
 same_if_some (Some v) p t s = same_value-true (Some v) p t
 

@@ -8,9 +8,9 @@ use Rattle.const_hex_arch.specs.Digits.{hex_digit}
 abbrev pub AllNibbles : List ℕ → Type 0
 AllNibbles = AllByRecursion (λ n. n ≤ 15)
 
--- a lane without a mark: three of its bits are clear
+-- a lane without a mark: four of its bits are clear
 abbrev pub IsUnmarked : ℕ → Type 0
-IsUnmarked z = bit_at z 7 + bit_at z 4 + bit_at z 0 ≡ 0
+IsUnmarked z = bit_at z 7 + bit_at z 6 + bit_at z 4 + bit_at z 3 ≡ 0
 
 -- no lane has a mark
 abbrev pub AllUnmarked : List ℕ → Type 0

@@ -2,7 +2,6 @@ pub mod Digits
 pub mod Gathering
 pub mod Lanes
 pub mod Laws
-pub mod Lookups
 pub mod Nibbles
 pub mod Pieces
 pub mod Runs

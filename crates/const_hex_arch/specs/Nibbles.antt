@@ -1,5 +1,5 @@
 -- Values of digits, in lanes.
-use Rattle.std.specs.Prelude.{◌≡◌, ℕ, ◌+◌, ◌-◌, ◌%◌, ◌↔◌, nat_le, if◌then◌else◌, Option, Some, None}
+use Rattle.std.specs.Prelude.{◌≡◌, ℕ, ◌+◌, ◌-◌, ◌%◌, ◌↔◌, nat_le, nat_lt, if◌then◌else◌, Option, Some, None}
 use Rattle.const_hex_arch.specs.Digits.{hex_value, IsDigit}
 use Rattle.const_hex_arch.specs.Lanes.{IsUnmarked}
 
@@ -15,6 +15,7 @@ IsValueOf b n = IsDigit b → hex_value b ≡ Some n
 abbrev pub IsMarkOf : ℕ → ℕ → Type 0
 IsMarkOf b z = IsUnmarked z ↔ IsDigit b
 
--- the sum of both, less 2, has no mark exactly where the byte is a digit
-abbrev pub IsAddedTo : ℕ → ℕ → Type 0
-IsAddedTo b a = IsMarkOf b ((b + a) % 256 - 2)
+-- of the byte less 48: what is above the limit tells whether the byte is a digit, and if it is one,
+-- what is not above the limit is its value
+abbrev pub IsLimitOf : ℕ → ℕ → Type 0
+IsLimitOf b t = IsMarkOf b ((b + 208) % 256 - t) × IsValueOf b (if nat_lt ((b + 208) % 256) t then (b + 208) % 256 else t)

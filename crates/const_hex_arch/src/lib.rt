@@ -7,7 +7,6 @@
 //! - `Texts.antt`: the text of bytes, and the bytes that a text spells;
 //! - `Lanes.antt`: what the parts of a step make of lanes;
 //! - `Nibbles.antt`: values of digits, in lanes;
-//! - `Lookups.antt`: values of digits, as a look-up of lanes gives them;
 //! - `Runs.antt`: pieces that are written one after another, and the room that they leave;
 //! - `SliceOutputs.antt`: a write into a slice;
 //! - `Gathering.antt`: a write to an output that gathers;

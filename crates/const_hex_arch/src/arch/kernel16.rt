@@ -142,7 +142,7 @@ fn decode_two_pairs(text: &[u8]) -> (u8x16, u8x16, bool)
     ensures spells { IsTrue result.2 → Spells text.now (result.0 ++ result.1) }
 {
     let (text, next) = text.split_at(32);
-    let (first, values) = lanes16::decode_untested(two_vectors(text));
+    let (first, marks) = lanes16::decode_untested(two_vectors(text));
     let (second, more) = lanes16::decode_untested(two_vectors(next));
-    (first, second, lanes::are_looked_up(values | more))
+    (first, second, lanes::are_unmarked(marks | more))
 }

@@ -143,7 +143,7 @@ fn decode_two_pairs(text: &[u8]) -> (u8x32, u8x32, bool)
     ensures spells { IsTrue result.2 → Spells text.now (result.0 ++ result.1) }
 {
     let (text, next) = text.split_at(64);
-    let (first, values) = lanes32::decode_untested(two_vectors(text));
+    let (first, marks) = lanes32::decode_untested(two_vectors(text));
     let (second, more) = lanes32::decode_untested(two_vectors(next));
-    (first, second, lanes::are_looked_up(values | more))
+    (first, second, lanes::are_unmarked(marks | more))
 }

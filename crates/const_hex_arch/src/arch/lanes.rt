@@ -4,8 +4,7 @@ ghost use Rattle.std.specs.Prelude.{◌≡◌, ◌↔◌, map, IsTrue};
 ghost use Rattle.std.specs.List.{AllZip};
 ghost use Rattle.const_hex_arch.specs.Digits.{hex_value};
 ghost use Rattle.const_hex_arch.specs.Lanes.{AllUnmarked};
-ghost use Rattle.const_hex_arch.specs.Lookups.{as_looked_up, AllLookedUp, IsTakenFrom};
-ghost use Rattle.const_hex_arch.specs.Nibbles.{as_value, IsValueOf, IsMarkOf, IsAddedTo};
+ghost use Rattle.const_hex_arch.specs.Nibbles.{as_value, IsValueOf, IsMarkOf, IsLimitOf};
 
 use std::simd::prelude::*;
 
@@ -23,41 +22,35 @@ pub(crate) fn nibbles<const N: usize>(v: Simd<u8, N>) -> Simd<u8, N>
     decimal.simd_min(letter)
 }
 
-/// The value of each lane that is a digit, in the low half of a lane with the bits 5 and 4 clear,
-/// and at least one of the two bits set for every other lane: what is left of a byte less `taken`,
-/// not below 0, with the two bits turned, is taken from the byte.
+/// The value of each lane that is a digit: the lane less 48, and no more than its limit. Of the
+/// other lanes nothing is said.
 #[inline(always)]
-pub(crate) fn looked_up<const N: usize>(v: Simd<u8, N>, taken: Simd<u8, N>) -> Simd<u8, N>
-    requires { AllZip IsTakenFrom v taken }
-    ensures { map as_looked_up result ≡ map hex_value v.entry }
+pub(crate) fn values<const N: usize>(v: Simd<u8, N>, limits: Simd<u8, N>) -> Simd<u8, N>
+    requires { AllZip IsLimitOf v limits }
+    ensures { AllZip IsValueOf v.entry result }
 {
-    v - (v.saturating_sub(taken) ^ Simd::splat(0x30))
+    (v - Simd::splat(0x30)).simd_min(limits)
 }
 
-/// Whether each lane holds a value: all have the bits 5 and 4 clear.
+/// Sets at least one of the bits 7, 6, 4 and 3 in each lane that is no digit, and clears the four
+/// in every other lane: what the lane less 48 has above its limit.
+// Not `saturating_sub`: beside `values` that took a register more for each vector while the test was
+// waited for, and the default processor has too few. Alone it is compiled to that.
 #[inline(always)]
-pub(crate) fn are_looked_up<const N: usize>(values: Simd<u8, N>) -> bool
-    ensures { IsTrue result ↔ AllLookedUp values.entry }
-{
-    (values & Simd::splat(0x30)).reduce_or() == 0
-}
-
-/// Sets at least one of the bits 7, 4 and 0 in each lane that is no digit, and clears the three in
-/// every other lane: the sum of both, less 2 and not below 0.
-#[inline(always)]
-pub(crate) fn marks<const N: usize>(v: Simd<u8, N>, added: Simd<u8, N>) -> Simd<u8, N>
-    requires { AllZip IsAddedTo v added }
+pub(crate) fn marks<const N: usize>(v: Simd<u8, N>, limits: Simd<u8, N>) -> Simd<u8, N>
+    requires { AllZip IsLimitOf v limits }
     ensures { AllZip IsMarkOf v.entry result }
 {
-    (v + added).saturating_sub(Simd::splat(2))
+    let less = v - Simd::splat(0x30);
+    less - less.simd_min(limits)
 }
 
-/// Whether no lane has a mark: all have the bits 7, 4 and 0 clear.
+/// Whether no lane has a mark: all have the bits 7, 6, 4 and 3 clear.
 #[inline(always)]
 pub(crate) fn are_unmarked<const N: usize>(marks: Simd<u8, N>) -> bool
     ensures { IsTrue result ↔ AllUnmarked marks.entry }
 {
-    (marks & Simd::splat(0x91)).reduce_or() == 0
+    (marks & Simd::splat(0xD8)).reduce_or() == 0
 }
 
 /// The value of each lane that is a digit.

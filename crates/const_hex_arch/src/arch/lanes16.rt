@@ -7,22 +7,16 @@ ghost use Rattle.std.specs.Prelude.{◌≡◌, ◌↔◌, [], ◌∷◌, ◌++�
 ghost use Rattle.std.specs.List.{AllZip, concat};
 ghost use Rattle.std.specs.Str.{IsAscii};
 ghost use Rattle.const_hex_arch.specs.Digits.{hex_value};
-ghost use Rattle.const_hex_arch.specs.Lanes.{AllNibbles, low_digit, byte_pairs};
-ghost use Rattle.const_hex_arch.specs.Lookups.{as_looked_up, AllLookedUp, IsTakenFrom};
-ghost use Rattle.const_hex_arch.specs.Nibbles.{as_value, IsValueOf, IsMarkOf, IsAddedTo};
+ghost use Rattle.const_hex_arch.specs.Lanes.{AllNibbles, AllUnmarked, low_digit, byte_pairs};
+ghost use Rattle.const_hex_arch.specs.Nibbles.{as_value, IsValueOf, IsMarkOf, IsLimitOf};
 ghost use Rattle.const_hex_arch.specs.Texts.{hex_text, AllDigits, Spells};
 
 use crate::arch::lanes;
 use crate::tables::{HEX_CHARS_LOWER, HEX_CHARS_UPPER};
 use std::simd::prelude::*;
 
-/// By the low half of a byte: what is taken from the byte where its value is wanted.
-const TO_VALUE: [u8; 16] = [64, 58, 59, 60, 61, 62, 63, 64, 64, 64, 0, 0, 0, 0, 0, 0];
-
-/// By the low half of a byte: what is added to the byte where only its test is wanted.
-const TO_TEST: [u8; 16] = [
-    209, 207, 206, 205, 204, 203, 202, 202, 201, 200, 1, 0, 1, 0, 1, 0,
-];
+/// By the low half of a byte: what its value is at most, if it is a digit.
+const LIMITS: [u8; 16] = [1, 10, 11, 12, 13, 14, 15, 8, 9, 10, 0, 0, 0, 0, 0, 0];
 
 /// Two digits for each lane, in order: the text of the first 8 lanes, and that of the last 8.
 ///
@@ -130,63 +124,49 @@ pub(crate) fn decode_pair(text: [u8x16; 2]) -> (u8x16, bool)
     ensures digits { IsTrue result.1 ↔ AllDigits (concat text) }
     ensures spells { IsTrue result.1 → Spells (concat text) result.0 }
 {
-    let (bytes, values) = decode_untested(text);
-    (bytes, lanes::are_looked_up(values))
+    let (bytes, marks) = decode_untested(text);
+    (bytes, lanes::are_unmarked(marks))
 }
 
-/// The bytes that the lanes of a text spell, and a vector whose lanes all hold values exactly
-/// where all lanes of the text are digits. Where one is not, the bytes mean nothing.
+/// The bytes that the lanes of a text spell, and a vector that has no mark exactly where all lanes
+/// of the text are digits. Where one is not, the bytes mean nothing.
 #[inline(always)]
 pub(crate) fn decode_untested(text: [u8x16; 2]) -> (u8x16, u8x16)
-    ensures digits { AllLookedUp result.1 ↔ AllDigits (concat text) }
+    ensures digits { AllUnmarked result.1 ↔ AllDigits (concat text) }
     ensures spells { AllDigits (concat text) → Spells (concat text) result.0 }
 {
-    let first = looked_up(text[0]);
-    let second = looked_up(text[1]);
-    let fifteen = u8x16::splat(15);
-    (merge(first & fifteen, second & fifteen), first | second)
+    let first = limits(text[0]);
+    let second = limits(text[1]);
+    let marks = lanes::marks(text[0], first) | lanes::marks(text[1], second);
+    let bytes = merge(
+        lanes::values(text[0], first),
+        lanes::values(text[1], second),
+    );
+    (bytes, marks)
 }
 
-/// What is taken from each lane for its value.
-// `0` to `9` leave 0, `A` to `F` 7 and `a` to `f` 39; with the bits 5 and 4 turned these are 48, 55
-// and 23, and the byte less that is its value, or 64 more.
+/// What the value of each lane is at most, if it is a digit.
+// A byte less 48 is the value of `0` to `9`, and more than that of a letter. The limit is the value
+// of the letters with this low half, so what is not above it is the value of each of the digits. What
+// is above it is 0 for `0` to `9`, 7 for `A` to `F` and 39 for `a` to `f`: all have the bits 7, 6, 4
+// and 3 clear. No other byte comes out so.
 // The look-up is of lanes in a register: nothing is read from memory by the value of a byte.
 // `swizzle_dyn` asks for positions below 16, or from 128 on, which read as 0: so the mask. The
 // machine looks at these five bits alone, so the mask costs nothing.
 #[inline(always)]
-pub(crate) fn taken(v: u8x16) -> u8x16
-    ensures { AllZip IsTakenFrom v result }
+pub(crate) fn limits(v: u8x16) -> u8x16
+    ensures { AllZip IsLimitOf v result }
 {
-    u8x16::from_array(TO_VALUE).swizzle_dyn(v & u8x16::splat(0x8F))
+    u8x16::from_array(LIMITS).swizzle_dyn(v & u8x16::splat(0x8F))
 }
 
-/// The value of each lane that is a digit, in the low half of a lane with the bits 5 and 4 clear,
-/// and at least one of the two bits set for every other lane.
-#[inline(always)]
-fn looked_up(v: u8x16) -> u8x16
-    ensures { map as_looked_up result ≡ map hex_value v }
-{
-    lanes::looked_up(v, taken(v))
-}
-
-/// What is added to each lane for its test.
-// The sum is 0 or 1 for `0` to `9`, and 16 or 48 for the letters that are digits; less 2, and not
-// below 0, that is 0, 14 or 46, which have the bits 7, 4 and 0 clear. No other byte comes out so.
-// The mask costs nothing, as in `taken`.
-#[inline(always)]
-pub(crate) fn added(v: u8x16) -> u8x16
-    ensures { AllZip IsAddedTo v result }
-{
-    u8x16::from_array(TO_TEST).swizzle_dyn(v & u8x16::splat(0x8F))
-}
-
-/// Sets at least one of the bits 7, 4 and 0 in each lane that is no digit, and clears the three in
-/// every other lane.
+/// Sets at least one of the bits 7, 6, 4 and 3 in each lane that is no digit, and clears the four
+/// in every other lane.
 #[inline(always)]
 pub(crate) fn marks(v: u8x16) -> u8x16
     ensures { AllZip IsMarkOf v result }
 {
-    lanes::marks(v, added(v))
+    lanes::marks(v, limits(v))
 }
 
 /// The bytes that the lanes of a text spell, which have to be digits.

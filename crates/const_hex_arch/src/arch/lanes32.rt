@@ -7,9 +7,8 @@ ghost use Rattle.std.specs.Prelude.{◌≡◌, ◌↔◌, [], ◌∷◌, ◌++�
 ghost use Rattle.std.specs.List.{AllZip, concat};
 ghost use Rattle.std.specs.Str.{IsAscii};
 ghost use Rattle.const_hex_arch.specs.Digits.{hex_value};
-ghost use Rattle.const_hex_arch.specs.Lanes.{AllNibbles, low_digit, byte_pairs};
-ghost use Rattle.const_hex_arch.specs.Lookups.{as_looked_up, AllLookedUp};
-ghost use Rattle.const_hex_arch.specs.Nibbles.{as_value, IsValueOf, IsMarkOf};
+ghost use Rattle.const_hex_arch.specs.Lanes.{AllNibbles, AllUnmarked, low_digit, byte_pairs};
+ghost use Rattle.const_hex_arch.specs.Nibbles.{as_value, IsValueOf, IsMarkOf, IsLimitOf};
 ghost use Rattle.const_hex_arch.specs.Texts.{hex_text, AllDigits, Spells};
 
 use crate::arch::{lanes, lanes16};
@@ -123,46 +122,46 @@ pub(crate) fn decode_pair(text: [u8x32; 2]) -> (u8x32, bool)
     ensures digits { IsTrue result.1 ↔ AllDigits (concat text) }
     ensures spells { IsTrue result.1 → Spells (concat text) result.0 }
 {
-    let (bytes, values) = decode_untested(text);
-    (bytes, lanes::are_looked_up(values))
+    let (bytes, marks) = decode_untested(text);
+    (bytes, lanes::are_unmarked(marks))
 }
 
-/// The bytes that the lanes of a text spell, and a vector whose lanes all hold values exactly
-/// where all lanes of the text are digits. Where one is not, the bytes mean nothing.
+/// The bytes that the lanes of a text spell, and a vector that has no mark exactly where all lanes
+/// of the text are digits. Where one is not, the bytes mean nothing.
 #[inline(always)]
 pub(crate) fn decode_untested(text: [u8x32; 2]) -> (u8x32, u8x32)
-    ensures digits { AllLookedUp result.1 ↔ AllDigits (concat text) }
+    ensures digits { AllUnmarked result.1 ↔ AllDigits (concat text) }
     ensures spells { AllDigits (concat text) → Spells (concat text) result.0 }
 {
-    let first = looked_up(text[0]);
-    let second = looked_up(text[1]);
-    let fifteen = u8x32::splat(15);
-    (merge(first & fifteen, second & fifteen), first | second)
+    let first = limits(text[0]);
+    let second = limits(text[1]);
+    let marks = lanes::marks(text[0], first) | lanes::marks(text[1], second);
+    let bytes = merge(
+        lanes::values(text[0], first),
+        lanes::values(text[1], second),
+    );
+    (bytes, marks)
 }
 
-/// The value of each lane that is a digit, in the low half of a lane with the bits 5 and 4 clear,
-/// and at least one of the two bits set for every other lane.
+/// What the value of each lane is at most, if it is a digit.
 // By halves of 16 lanes, for which the mask costs nothing. With AVX2 the compiler makes one look-up
 // of both; the rest is of 32 lanes, or it would go by halves there too.
 #[inline(always)]
-fn looked_up(v: u8x32) -> u8x32
-    ensures { map as_looked_up result ≡ map hex_value v }
+fn limits(v: u8x32) -> u8x32
+    ensures { AllZip IsLimitOf v result }
 {
-    let first = lanes16::taken(v.extract::<0, 16>());
-    let second = lanes16::taken(v.extract::<16, 16>());
-    lanes::looked_up(v, lanes16::join(first, second))
+    let first = lanes16::limits(v.extract::<0, 16>());
+    let second = lanes16::limits(v.extract::<16, 16>());
+    lanes16::join(first, second)
 }
 
-/// Sets at least one of the bits 7, 4 and 0 in each lane that is no digit, and clears the three in
-/// every other lane.
-// By halves as in `looked_up`.
+/// Sets at least one of the bits 7, 6, 4 and 3 in each lane that is no digit, and clears the four
+/// in every other lane.
 #[inline(always)]
 pub(crate) fn marks(v: u8x32) -> u8x32
     ensures { AllZip IsMarkOf v result }
 {
-    let first = lanes16::added(v.extract::<0, 16>());
-    let second = lanes16::added(v.extract::<16, 16>());
-    lanes::marks(v, lanes16::join(first, second))
+    lanes::marks(v, limits(v))
 }
 
 /// The bytes that the lanes of a text spell, which have to be digits.
