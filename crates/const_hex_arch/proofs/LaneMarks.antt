@@ -10,7 +10,7 @@ use lib.Lanes.{zip2, sel_l, top, fold_l, Each1}
 use mir.Val.{zeroes}
 use Rattle.const_hex_arch.specs.Digits.{hex_value, IsDigit}
 use Rattle.const_hex_arch.specs.Lanes.{IsUnmarked, AllUnmarked}
-use Rattle.const_hex_arch.specs.Nibbles.{IsMarkOf, IsValueOf, IsLimitOf}
+use Rattle.const_hex_arch.specs.Nibbles.{IsMarkOf, IsValueOf, IsPartOf, IsLimitOf}
 use Rattle.const_hex_arch.specs.Texts.{AllDigits}
 use Rattle.const_hex_arch.proofs.Computed.{all_below, every_below}
 use Rattle.const_hex_arch.proofs.LaneLookups.{low_halves}
@@ -56,11 +56,11 @@ module _ (table : List ℕ) where
   abbrev limit : ℕ → ℕ
   limit b = read 0 (bit_and b 143)
 
-  abbrev mark_of : ℕ → ℕ
-  mark_of b = less b - limit b
-
   abbrev value_of : ℕ → ℕ
   value_of b = cond (ltb (less b) (limit b)) (less b) (limit b)
+
+  abbrev mark_of : ℕ → ℕ
+  mark_of b = (less b + (256 - value_of b)) % 256
 
   -- each of the 256 bytes
   abbrev pub marks_are_right : Bool
@@ -76,7 +76,7 @@ module _ (table : List ℕ) where
         let none = zero_is (mark_bits (mark_of b)) in
         let value = has_value-IsSome (hex_value b) in
         let right = every_below (λ b. is_none (hex_value b) || same_value (hex_value b) (Some (value_of b))) 256 u b h in
-        ((λ p. value.0 (same.0 (none.1 p)), λ d. none.0 (same.1 (value.1 d))), λ d. same_if_some (hex_value b) (Some (value_of b)) right d)
+        (λ d. same_if_some (hex_value b) (Some (value_of b)) right d, (λ p. value.0 (same.0 (none.1 p)), λ d. none.0 (same.1 (value.1 d))))
 
     -- from lane i on
     limits_all : (i : ℕ) (v : List ℕ) → i + length v ≤ 16 → Each1 (Fits w8) v → AllZip IsLimitOf v (swz_l w8 16 table i (low_halves (length v) v))
@@ -88,17 +88,7 @@ module _ (table : List ℕ) where
     pub limits_are : (v : List ℕ) → (length v ≡ 16) × Each1 (Fits w8) v → AllZip IsLimitOf v (swz_l w8 16 table 0 (low_halves 16 v))
     limits_are v f = subst (λ n. AllZip IsLimitOf v (swz_l w8 16 table 0 (low_halves n v))) f.0 (limits_all 0 v (omega (arith, f.0)) f.1)
 
--- ---- what is above the limit, and what is not
-
-abbrev above : ℕ → ℕ → ℕ
-above x y = get_or (zip2 sub8 (x ∷ []) (min_l (x ∷ []) (y ∷ []))) 0 0
-
-above_by : (x y : ℕ) (b : Bool) → x < 256 → y < 256 → ltb x y ≡ b → x - y ≡ get_or (zip2 sub8 (x ∷ []) (sel_l (top 7 (cond b 255 0) ∷ []) (x ∷ []) (y ∷ []))) 0 0
-above_by x y true h k e = let l = ltb-true x y e in omega (arith, l, h, k)
-above_by x y false h k e = let l = ltb-false x y e in omega (arith, l, h, k)
-
-above_is : (x y : ℕ) → x < 256 → y < 256 → x - y ≡ above x y
-above_is x y h k = above_by x y (ltb x y) h k refl
+-- ---- what is not above the limit, and what is left
 
 abbrev within : ℕ → ℕ → ℕ
 within x y = get_or (min_l (x ∷ []) (y ∷ [])) 0 0
@@ -113,27 +103,29 @@ within_is x y = within_by x y (ltb x y)
 abbrev less_l : ℕ → List ℕ → List ℕ
 less_l n v = zip2 sub8 v (replicate n 48)
 
--- what `marks` computes of n lanes
-abbrev marks_l : ℕ → List ℕ → List ℕ → List ℕ
-marks_l n v t = zip2 sub8 (less_l n v) (min_l (less_l n v) t)
+parts_all : (v t : List ℕ) → AllZip IsLimitOf v t → AllZip IsPartOf v (min_l (less_l (length v) v) t)
+parts_all [] [] z = tt
+parts_all [] (y ∷ t) z = absurd z
+parts_all (x ∷ v) [] z = absurd z
+parts_all (x ∷ v) (y ∷ t) z = (subst (IsPartOf x) (within_is (less x) y) z.0, parts_all v t z.1)
 
-marks_all : (v t : List ℕ) → Each1 (Fits w8) t → AllZip IsLimitOf v t → AllZip IsMarkOf v (marks_l (length v) v t)
-marks_all [] [] g z = tt
-marks_all [] (y ∷ t) g z = absurd z
-marks_all (x ∷ v) [] g z = absurd z
-marks_all (x ∷ v) (y ∷ t) g z = (subst (IsMarkOf x) (above_is (less x) y (omega arith) g.0.fits) z.0.0, marks_all v t g.1 z.1)
+pub parts_are : (n : ℕ) (v t : List ℕ) → length v ≡ n → AllZip IsLimitOf v t → AllZip IsPartOf v (min_l (less_l n v) t)
+parts_are n v t e z = subst (λ n. AllZip IsPartOf v (min_l (less_l n v) t)) e (parts_all v t z)
 
-pub marks_are : (n : ℕ) (v t : List ℕ) → length v ≡ n → Each1 (Fits w8) t → AllZip IsLimitOf v t → AllZip IsMarkOf v (marks_l n v t)
-marks_are n v t e g z = subst (λ n. AllZip IsMarkOf v (marks_l n v t)) e (marks_all v t g z)
+pub values_of_parts : (v ns : List ℕ) → AllZip IsPartOf v ns → AllZip IsValueOf v ns
+values_of_parts [] [] z = tt
+values_of_parts [] (n ∷ ns) z = absurd z
+values_of_parts (x ∷ v) [] z = absurd z
+values_of_parts (x ∷ v) (n ∷ ns) z = (z.0.0, values_of_parts v ns z.1)
 
-values_all : (v t : List ℕ) → AllZip IsLimitOf v t → AllZip IsValueOf v (min_l (less_l (length v) v) t)
-values_all [] [] z = tt
-values_all [] (y ∷ t) z = absurd z
-values_all (x ∷ v) [] z = absurd z
-values_all (x ∷ v) (y ∷ t) z = (subst (IsValueOf x) (within_is (less x) y) z.0.1, values_all v t z.1)
+marks_all : (v ns : List ℕ) → AllZip IsPartOf v ns → AllZip IsMarkOf v (zip2 sub8 (less_l (length v) v) ns)
+marks_all [] [] z = tt
+marks_all [] (n ∷ ns) z = absurd z
+marks_all (x ∷ v) [] z = absurd z
+marks_all (x ∷ v) (n ∷ ns) z = (z.0.1, marks_all v ns z.1)
 
-pub values_are : (n : ℕ) (v t : List ℕ) → length v ≡ n → AllZip IsLimitOf v t → AllZip IsValueOf v (min_l (less_l n v) t)
-values_are n v t e z = subst (λ n. AllZip IsValueOf v (min_l (less_l n v) t)) e (values_all v t z)
+pub marks_are : (n : ℕ) (v ns : List ℕ) → length v ≡ n → AllZip IsPartOf v ns → AllZip IsMarkOf v (zip2 sub8 (less_l n v) ns)
+marks_are n v ns e z = subst (λ n. AllZip IsMarkOf v (zip2 sub8 (less_l n v) ns)) e (marks_all v ns z)
 
 -- ---- lanes have no mark where what they stand for is digits
 

@@ -15,7 +15,10 @@ IsValueOf b n = IsDigit b → hex_value b ≡ Some n
 abbrev pub IsMarkOf : ℕ → ℕ → Type 0
 IsMarkOf b z = IsUnmarked z ↔ IsDigit b
 
--- of the byte less 48: what is above the limit tells whether the byte is a digit, and if it is one,
--- what is not above the limit is its value
+-- n is the byte's value, if it is a digit, and what is left of the byte less 48 tells whether it is
+abbrev pub IsPartOf : ℕ → ℕ → Type 0
+IsPartOf b n = IsValueOf b n × IsMarkOf b (((b + 208) % 256 + (256 - n)) % 256)
+
+-- the byte less 48, but no more than t, is such a part
 abbrev pub IsLimitOf : ℕ → ℕ → Type 0
-IsLimitOf b t = IsMarkOf b ((b + 208) % 256 - t) × IsValueOf b (if nat_lt ((b + 208) % 256) t then (b + 208) % 256 else t)
+IsLimitOf b t = IsPartOf b (if nat_lt ((b + 208) % 256) t then (b + 208) % 256 else t)

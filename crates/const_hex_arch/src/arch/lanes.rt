@@ -4,7 +4,7 @@ ghost use Rattle.std.specs.Prelude.{◌≡◌, ◌↔◌, map, IsTrue};
 ghost use Rattle.std.specs.List.{AllZip};
 ghost use Rattle.const_hex_arch.specs.Digits.{hex_value};
 ghost use Rattle.const_hex_arch.specs.Lanes.{AllUnmarked};
-ghost use Rattle.const_hex_arch.specs.Nibbles.{as_value, IsValueOf, IsMarkOf, IsLimitOf};
+ghost use Rattle.const_hex_arch.specs.Nibbles.{as_value, IsValueOf, IsMarkOf, IsPartOf, IsLimitOf};
 
 use std::simd::prelude::*;
 
@@ -22,27 +22,27 @@ pub(crate) fn nibbles<const N: usize>(v: Simd<u8, N>) -> Simd<u8, N>
     decimal.simd_min(letter)
 }
 
-/// The value of each lane that is a digit: the lane less 48, and no more than its limit. Of the
-/// other lanes nothing is said.
+/// The value of each lane that is a digit, and what its mark is found by: the lane less 48, but no
+/// more than its limit.
 #[inline(always)]
 pub(crate) fn values<const N: usize>(v: Simd<u8, N>, limits: Simd<u8, N>) -> Simd<u8, N>
     requires { AllZip IsLimitOf v limits }
-    ensures { AllZip IsValueOf v.entry result }
+    ensures parts { AllZip IsPartOf v.entry result }
+    ensures values { AllZip IsValueOf v.entry result }
 {
     (v - Simd::splat(0x30)).simd_min(limits)
 }
 
 /// Sets at least one of the bits 7, 6, 4 and 3 in each lane that is no digit, and clears the four
-/// in every other lane: what the lane less 48 has above its limit.
-// Not `saturating_sub`: beside `values` that took a register more for each vector while the test was
-// waited for, and the default processor has too few. Alone it is compiled to that.
+/// in every other lane: what is left of the lane less 48.
+// Not by `saturating_sub` of the limits: else the default processor has too few registers for both
+// while the test of the marks is waited for.
 #[inline(always)]
-pub(crate) fn marks<const N: usize>(v: Simd<u8, N>, limits: Simd<u8, N>) -> Simd<u8, N>
-    requires { AllZip IsLimitOf v limits }
+pub(crate) fn marks<const N: usize>(v: Simd<u8, N>, values: Simd<u8, N>) -> Simd<u8, N>
+    requires { AllZip IsPartOf v values }
     ensures { AllZip IsMarkOf v.entry result }
 {
-    let less = v - Simd::splat(0x30);
-    less - less.simd_min(limits)
+    v - Simd::splat(0x30) - values
 }
 
 /// Whether no lane has a mark: all have the bits 7, 6, 4 and 3 clear.

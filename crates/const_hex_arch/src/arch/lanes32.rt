@@ -133,14 +133,10 @@ pub(crate) fn decode_untested(text: [u8x32; 2]) -> (u8x32, u8x32)
     ensures digits { AllUnmarked result.1 ↔ AllDigits (concat text) }
     ensures spells { AllDigits (concat text) → Spells (concat text) result.0 }
 {
-    let first = limits(text[0]);
-    let second = limits(text[1]);
+    let first = lanes::values(text[0], limits(text[0]));
+    let second = lanes::values(text[1], limits(text[1]));
     let marks = lanes::marks(text[0], first) | lanes::marks(text[1], second);
-    let bytes = merge(
-        lanes::values(text[0], first),
-        lanes::values(text[1], second),
-    );
-    (bytes, marks)
+    (merge(first, second), marks)
 }
 
 /// What the value of each lane is at most, if it is a digit.
@@ -161,7 +157,7 @@ fn limits(v: u8x32) -> u8x32
 pub(crate) fn marks(v: u8x32) -> u8x32
     ensures { AllZip IsMarkOf v result }
 {
-    lanes::marks(v, limits(v))
+    lanes::marks(v, lanes::values(v, limits(v)))
 }
 
 /// The bytes that the lanes of a text spell, which have to be digits.

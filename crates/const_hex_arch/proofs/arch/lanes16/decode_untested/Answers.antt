@@ -10,9 +10,11 @@ use Rattle.const_hex_arch.proofs.arch.lanes16.decode_untested.Goals as goal
 
 pub returns : goal.returns
 returns c =
-    let whole = concat-pair c.args.text (omega arith) in record {
+    let whole = concat-pair c.args.text (omega arith) in
+    let first = c.values-first.ensures in
+    let second = c.values-second.ensures in record {
       digits = joint_test IsUnmarked both_unmarked _ _ _ _ _ (sym whole) (omega arith) (unmarked_are_digits _ _ c.marks.ensures) (unmarked_are_digits _ _ c.marks-2.ensures);
       spells = λ d.
           let parts = (digits_append _ _).0 (rw whole at d) in
-          merge_spells 16 _ _ _ _ _ whole (omega arith) (omega arith) (values_of_digits _ _ c.values.ensures parts.0) (values_of_digits _ _ c.values-2.ensures parts.1) c.merge-bytes.result c.merge-bytes.ensures d;
+          merge_spells 16 _ _ _ _ _ whole (omega arith) (omega arith) (values_of_digits _ _ first.values parts.0) (values_of_digits _ _ second.values parts.1) c.merge.result c.merge.ensures d;
     }
