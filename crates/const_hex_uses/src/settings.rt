@@ -1,6 +1,6 @@
 //! Lines of the form `key=hex`.
 
-ghost use Rattle.std.specs.Prelude.{◌≡◌, ◌≢◌, ◌+◌, ◌↔◌, ℕ, Ok, Err, IfOk, length};
+ghost use Rattle.std.specs.Prelude.{◌≡◌, ◌≢◌, ◌<◌, ◌+◌, ◌-◌, ◌^◌, ◌↔◌, ℕ, Ok, Err, IfOk, length};
 ghost use Rattle.std.specs.Str.Lines.{lines};
 ghost use Rattle.const_hex.specs.Answers.{Reads};
 ghost use Rattle.const_hex.specs.declared.error.FromHexError.{FromHexError};
@@ -61,6 +61,14 @@ pub fn value_of(alloc: Global, line: &str) -> Result<Vec<u8>, LineFault>
     }
 }
 
+/// The number of the line at a place: places count from 0, and numbers from 1.
+fn line_number(place: usize) -> usize
+    requires { place < 2 ^ 64 - 1 }
+    ensures { result ≡ place + 1 }
+{
+    place + 1
+}
+
 /// The first line of a text that has no value: its number, counted from 1, and why.
 ///
 /// ```rust
@@ -72,7 +80,7 @@ pub fn first_fault(alloc: Global, text: &str) -> Option<(usize, LineFault)>
 {
     for (number, line) in text.lines().enumerate() {
         if let Err(fault) = value_of(alloc, line) {
-            return Some((number + 1, fault));
+            return Some((line_number(number), fault));
         }
     }
     None

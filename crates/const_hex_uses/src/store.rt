@@ -31,6 +31,7 @@ pub fn canonical(alloc: Global, spelling: &[u8]) -> Result<String, FromHexError>
 /// put(rt.alloc(), &mut store, b"0x6B69", 7)?;
 /// assert_eq!(rt; find(rt.alloc(), &store, b"6b69")?, Some(7));
 /// ```
+#[tactic(auto, using(std::proofs::lemmas::Map::Text::text_keys))]
 pub fn put(
     alloc: Global,
     store: &mut HashMap<String, u64>,

@@ -27,7 +27,7 @@ returns-in-Err c =
     (λ s e q. c.value_of.ensures.refusal s e (c.in-Err.is ∙ ap Err q)) in (
       length c.loop-number.yielded,
       item.0,
-      ap (λ n. n + 1) item.1,
+      c.line_number.ensures ∙ ap (λ n. n + 1) item.1,
       rw (← item.2) fault,
       c.loop-number.invariant,
     )
