@@ -15,7 +15,7 @@ IsValueOf b n = IsDigit b → hex_value b ≡ Some n
 abbrev pub IsMarkOf : ℕ → ℕ → Type 0
 IsMarkOf b z = IsUnmarked z ↔ IsDigit b
 
--- n is the byte's value, if it is a digit, and what is left of the byte less 48 tells whether it is
+-- n is the byte's value, if it is a digit; what is left of the byte less 48 when n is taken away tells whether it is one
 abbrev pub IsPartOf : ℕ → ℕ → Type 0
 IsPartOf b n = IsValueOf b n × IsMarkOf b (((b + 208) % 256 + (256 - n)) % 256)
 

@@ -34,9 +34,9 @@ pub(crate) fn values<const N: usize>(v: Simd<u8, N>, limits: Simd<u8, N>) -> Sim
 }
 
 /// Sets at least one of the bits 7, 6, 4 and 3 in each lane that is no digit, and clears the four
-/// in every other lane: what is left of the lane less 48.
-// Not by `saturating_sub` of the limits: else the default processor has too few registers for both
-// while the test of the marks is waited for.
+/// in every other lane: what is left of the lane less 48 when its value is taken away.
+// Not by `saturating_sub` of the limits: else the limits and the values are both kept until the test
+// of the marks is done, and for that the default processor has too few registers.
 #[inline(always)]
 pub(crate) fn marks<const N: usize>(v: Simd<u8, N>, values: Simd<u8, N>) -> Simd<u8, N>
     requires { AllZip IsPartOf v values }

@@ -15,7 +15,7 @@ use crate::arch::lanes;
 use crate::tables::{HEX_CHARS_LOWER, HEX_CHARS_UPPER};
 use std::simd::prelude::*;
 
-/// By the low half of a byte: what its value is at most, if it is a digit.
+/// By the low half of a byte: a number that a digit's value is not above.
 const LIMITS: [u8; 16] = [1, 10, 11, 12, 13, 14, 15, 8, 9, 10, 0, 0, 0, 0, 0, 0];
 
 /// Two digits for each lane, in order: the text of the first 8 lanes, and that of the last 8.
@@ -141,11 +141,14 @@ pub(crate) fn decode_untested(text: [u8x16; 2]) -> (u8x16, u8x16)
     (merge(first, second), marks)
 }
 
-/// What the value of each lane is at most, if it is a digit.
-// A byte less 48 is the value of `0` to `9`, and more than that of a letter. The limit is the value
-// of the letters with this low half, so what is not above it is the value of each of the digits. What
-// is above it is 0 for `0` to `9`, 7 for `A` to `F` and 39 for `a` to `f`: all have the bits 7, 6, 4
-// and 3 clear. No other byte comes out so.
+/// The limit of each lane: if the lane is a digit, its value is not above it.
+// A byte less 48 is the value of `0` to `9`, and more than that of a letter. So the lesser of that
+// and the limit is the value of each digit, where the limit is the value of the letters from `A` to
+// `F` that have this low half. Where none has it, but a digit from `0` to `9` does, the limit is one
+// more than that digit's value; else it is 0.
+// What the value leaves of a byte less 48 is 0 for `0` to `9`, 7 for `A` to `F` and 39 for `a` to
+// `f`: all have the bits 7, 6, 4 and 3 clear. No other byte leaves such a number. (By limits that
+// are not one more, `P`, `W`, `X` and `Y` would: they would leave 32.)
 // The look-up is of lanes in a register: nothing is read from memory by the value of a byte.
 // `swizzle_dyn` asks for positions below 16, or from 128 on, which read as 0: so the mask. The
 // machine looks at these five bits alone, so the mask costs nothing.

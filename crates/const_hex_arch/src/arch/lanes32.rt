@@ -139,7 +139,7 @@ pub(crate) fn decode_untested(text: [u8x32; 2]) -> (u8x32, u8x32)
     (merge(first, second), marks)
 }
 
-/// What the value of each lane is at most, if it is a digit.
+/// The limit of each lane: if the lane is a digit, its value is not above it.
 // By halves of 16 lanes, for which the mask costs nothing. With AVX2 the compiler makes one look-up
 // of both; the rest is of 32 lanes, or it would go by halves there too.
 #[inline(always)]
