@@ -1,5 +1,5 @@
 -- Texts that are worked through by steps, and then by another kernel.
-use Rattle.std.proofs.Common.{◌≡◌, ℕ, ◌+◌, ◌-◌, ◌*◌, ◌≤◌, ◌↔◌, Bool, List, [], ◌++◌, length, take, drop, refl, sym, ap, subst, ◌∙◌, arith, take-add, take-append-drop, drop-drop, length-take, length-append, Option}
+use Rattle.std.proofs.Common.{◌≡◌, ℕ, ◌+◌, ◌-◌, ◌*◌, ◌≤◌, ◌↔◌, Bool, List, [], ◌++◌, length, take, drop, sym, ap, subst, ◌∙◌, arith, take-add, take-append-drop, drop-drop, length-take, length-drop, length-append, Option, Some, None}
 use Rattle.std.proofs.lemmas.Grind.{common_steps}
 use Rattle.std.proofs.lemmas.List.{append-nil, append_assoc, take_at, drop_at}
 use Rattle.std.proofs.lemmas.List.Elements.{All-take}
@@ -13,7 +13,7 @@ use Rattle.const_hex_arch.proofs.Spelling.{Spells-append, digits_append, none_de
 use Rattle.const_hex_arch.proofs.Writing.{hex_text-nil, hex_text-append, length-hex_text}
 
 -- the rest of a list
-all_of : (m : ℕ) (u : List ℕ) → take (length u - m) (drop m u) ≡ drop m u
+pub all_of : (m : ℕ) (u : List ℕ) → take (length u - m) (drop m u) ≡ drop m u
 all_of m u = grind (arith, common_steps)
 
 -- two parts of a list
@@ -45,34 +45,45 @@ digits_rest u left d = (
 pub digits_left : (u left part rest : List ℕ) → IsChecked u left → part ++ rest ≡ left → AllDigits u → AllDigits part
 digits_left u left part rest d e whole = ((digits_append part rest).0 (rw e ((digits_rest u left d).1 whole))).0
 
--- ---- the text of the bytes in front of what is left is written, and there is room for the rest
-pub record IsWritten {S : Type 0} (step : S → List ℕ → S → Type 0) (room : S → Option ℕ) (up : Bool) (u : List ℕ) (old new : S) (left : List ℕ) : Type 0 where
-  pub front : List ℕ
-  pub whole : front ++ left ≡ u
-  pub text : Writes step old (hex_text up front) new
-  pub has_room : HasRoom (room new) (2 * length left)
+-- room for n bytes is room for fewer
+pub room_within : (room : Option ℕ) (m n : ℕ) → m ≤ n → HasRoom room n → HasRoom room m
+room_within (Some r) m n h k = omega arith
+room_within None m n h k = omega arith
+
+-- ---- the text of the first bytes is written, and there is room for the rest
+pub record IsWritten {S : Type 0} (step : S → List ℕ → S → Type 0) (room : S → Option ℕ) (up : Bool) (u : List ℕ) (old new : S) (i : ℕ) : Type 0 where
+  pub within : i ≤ length u
+  pub text : Writes step old (hex_text up (take i u)) new
+  pub has_room : HasRoom (room new) (2 * (length u - i))
 
 module _ {S : Type 0} (step : S → List ℕ → S → Type 0) (room : S → Option ℕ) (shrinks : (s : S) (piece : List ℕ) (t : S) → step s piece t → room t ≡ less_room (room s) (length piece)) (up : Bool) (u : List ℕ) where
-  pub none_written : (old : S) → HasRoom (room old) (2 * length u) → IsWritten step room up u old old u
-  none_written old h = record { front = []; whole = refl; text = rw (hex_text-nil up) (Writes-none step old); has_room = h }
+  pub none_written : (old : S) → HasRoom (room old) (2 * length u) → IsWritten step room up u old old 0
+  none_written old h = record { within = omega arith; text = rw (hex_text-nil up) (Writes-none step old); has_room = let all : length u - 0 ≡ length u = omega arith in rw all h }
 
-  -- the text of some bytes more, as one piece
-  pub written_step : (old mid new : S) (left part rest : List ℕ) → IsWritten step room up u old mid left → part ++ rest ≡ left → step mid (hex_text up part) new → 1 ≤ length part → length part ≤ 32 → IsWritten step room up u old new rest
-  written_step old mid new left part rest d e h some few =
+  -- the text of n bytes more, as one piece
+  pub written_step : (old mid new : S) (i n end : ℕ) → IsWritten step room up u old mid i → end ≡ i + n → end ≤ length u → step mid (hex_text up (take n (drop i u))) new → 1 ≤ n → n ≤ 32 → IsWritten step room up u old new end
+  written_step old mid new i n end d e h s some few =
+      let part = take n (drop i u) in
       let piece = hex_text up part in
+      let size : length part ≡ n = grind (arith, common_steps) in
       let long = length-hex_text up part in
-      let sizes = length-append part rest in
-      let all = ap length e in
-      let room_left : 2 * length left ≡ length piece + 2 * length rest = omega (arith, long, sizes, all) in record {
-        front = d.front ++ part;
-        whole = append_assoc d.front part rest ∙ ap (λ x. d.front ++ x) e ∙ d.whole;
-        text = rw (hex_text-append up d.front part) (Writes-more step _ _ _ _ _ d.text h (omega (arith, long), omega (arith, long)));
-        has_room = rw (shrinks mid piece new h) (HasRoom-less (room mid) (length piece) (2 * length rest) (subst (HasRoom (room mid)) room_left d.has_room));
+      let room_left : 2 * (length u - i) ≡ length piece + 2 * (length u - end) = omega (arith, long, size) in record {
+        within = h;
+        text = rw (e, take-add i n u, hex_text-append up (take i u) part) (Writes-more step _ _ _ _ _ d.text s (omega (arith, long, size), omega (arith, long, size)));
+        has_room = rw (shrinks mid piece new s) (HasRoom-less (room mid) (length piece) (2 * (length u - end)) (subst (HasRoom (room mid)) room_left d.has_room));
       }
 
-  -- the rest by another kernel
-  pub written_rest : (old mid new : S) (left : List ℕ) → IsWritten step room up u old mid left → Writes step mid (hex_text up left) new → Writes step old (hex_text up u) new
-  written_rest old mid new left d w = rw (← d.whole, hex_text-append up d.front left) (Writes-append step _ _ _ _ _ d.text w)
+  -- there is room for the rest
+  pub room_rest : (old mid : S) (i : ℕ) (rest : List ℕ) → IsWritten step room up u old mid i → rest ≡ drop i u → HasRoom (room mid) (2 * length rest)
+  room_rest old mid i rest d e = let size : length rest ≡ length u - i = rw e (length-drop i u) in rw size d.has_room
+
+  -- the rest is written by other steps
+  pub written_rest : (old mid new : S) (i : ℕ) (rest : List ℕ) → IsWritten step room up u old mid i → rest ≡ drop i u → Writes step mid (hex_text up rest) new → Writes step old (hex_text up u) new
+  written_rest old mid new i rest d e w = subst (λ x. Writes step old (hex_text up x) new) (take-append-drop i u) (rw (hex_text-append up (take i u) (drop i u)) (Writes-append step _ _ _ _ _ d.text (rw e at w)))
+
+  -- one step, and then the rest
+  pub first_written : (old mid : S) (n : ℕ) (part rest : List ℕ) → HasRoom (room old) (2 * length u) → n ≤ length u → part ≡ take n u → rest ≡ drop n u → step old (hex_text up part) mid → 1 ≤ n → n ≤ 32 → IsWritten step room up u old mid n
+  first_written old mid n part rest h k e f s some few = written_step old old mid 0 n n (none_written old h) (omega arith) k (rw e at s) some few
 
 -- ---- what the first bytes of an output hold is spelled by the first pairs of a text, and the rest is as before
 pub record IsDecoded (u old new : List ℕ) (i : ℕ) : Type 0 where

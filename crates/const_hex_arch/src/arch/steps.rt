@@ -64,14 +64,31 @@ pub(crate) trait Steps {
     ghost sizes: { (1 ≤ LANES) × (LANES ≤ 32) };
 }
 
-/// Encodes by steps, and the rest by another kernel.
+/// Encodes by two steps a turn, then by a step where one is left, and the rest by another kernel.
 #[inline(always)]
 pub(crate) fn encode<S: Steps, R: Kernel, O: Output>(input: &[u8], upper: bool, output: &mut O)
     requires { HasRoom (O.room output.old) (2 * length input.now) }
     ensures { Writes O.step output.old (hex_text upper input.now) output.new }
 {
+    let mut at = 0;
+    while input.len() - at >= 2 * S::LANES {
+        let middle = at + S::LANES;
+        let end = middle + S::LANES;
+        S::encode_step(&input[at..middle], upper, output);
+        S::encode_step(&input[middle..end], upper, output);
+        at = end;
+    }
+    encode_last::<S, R, O>(&input[at..], upper, output);
+}
+
+/// Encodes by a step where one is left, and the rest by another kernel.
+#[inline(always)]
+fn encode_last<S: Steps, R: Kernel, O: Output>(input: &[u8], upper: bool, output: &mut O)
+    requires { HasRoom (O.room output.old) (2 * length input.now) }
+    ensures { Writes O.step output.old (hex_text upper input.now) output.new }
+{
     let mut left = input;
-    while left.len() >= S::LANES {
+    if left.len() >= S::LANES {
         let (bytes, rest) = left.split_at(S::LANES);
         S::encode_step(bytes, upper, output);
         left = rest;
@@ -79,7 +96,7 @@ pub(crate) fn encode<S: Steps, R: Kernel, O: Output>(input: &[u8], upper: bool, 
     R::encode(left, upper, output);
 }
 
-/// Checks by four steps at a time, then by two, then by steps, and the rest by another kernel.
+/// Checks by four steps at a time, then by two, then by one, and the rest by another kernel.
 #[inline(always)]
 pub(crate) fn check<S: Steps, R: Kernel>(input: &[u8]) -> bool
     ensures { IsTrue result ↔ AllDigits input.now }
@@ -95,7 +112,7 @@ pub(crate) fn check<S: Steps, R: Kernel>(input: &[u8]) -> bool
     check_pairs::<S, R>(left)
 }
 
-/// Checks by two steps at a time, then by steps, and the rest by another kernel.
+/// Checks by two steps at a time, then by a step where one is left, and the rest by another kernel.
 #[inline(always)]
 fn check_pairs<S: Steps, R: Kernel>(input: &[u8]) -> bool
     ensures { IsTrue result ↔ AllDigits input.now }
@@ -108,23 +125,19 @@ fn check_pairs<S: Steps, R: Kernel>(input: &[u8]) -> bool
         }
         left = rest;
     }
-    check_steps::<S, R>(left)
+    check_last::<S, R>(left)
 }
 
-/// Checks by steps, and the rest by another kernel.
+/// Checks by a step where one is left, and the rest by another kernel.
 #[inline(always)]
-fn check_steps<S: Steps, R: Kernel>(input: &[u8]) -> bool
+fn check_last<S: Steps, R: Kernel>(input: &[u8]) -> bool
     ensures { IsTrue result ↔ AllDigits input.now }
 {
-    let mut left = input;
-    while left.len() >= S::LANES {
-        let (text, rest) = left.split_at(S::LANES);
-        if !S::check_step(text) {
-            return false;
-        }
-        left = rest;
+    if input.len() < S::LANES {
+        return R::check(input);
     }
-    R::check(left)
+    let (text, rest) = input.split_at(S::LANES);
+    S::check_step(text) && R::check(rest)
 }
 
 /// Decodes by two steps at a time, then by steps, and the rest by another kernel. Two steps that are

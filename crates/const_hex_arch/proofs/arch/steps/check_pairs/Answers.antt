@@ -17,5 +17,5 @@ loop-left-preserved g c =
 pub returns : goal.returns
 returns g c =
     let rest = digits_rest _ _ c.loop-left.invariant in
-    let is = c.check_steps.ensures in
+    let is = c.check_last.ensures in
     (λ t. rest.0 (is.0 t), λ d. is.1 (rest.1 d))

@@ -1,17 +1,27 @@
-use Rattle.std.proofs.Common.{arith}
-use Rattle.const_hex_arch.proofs.Stepping.{none_written, written_step, written_rest, parts}
+use Rattle.std.proofs.Common.{◌+◌, ◌-◌, ◌*◌, length, arith}
+use Rattle.const_hex_arch.proofs.Stepping.{all_of, none_written, written_step, written_rest, room_within}
 use Rattle.const_hex_arch.proofs.arch.steps.encode.Goals as goal
 
-pub loop-left-init : goal.loop-left-init
-loop-left-init g c = none_written g.O.Output.step g.O.Output.room g.met.O.Output.shrinks c.args.upper c.args.input.now c.args.output.now c.requires
+pub loop-at-init : goal.loop-at-init
+loop-at-init g c = none_written g.O.Output.step g.O.Output.room g.met.O.Output.shrinks c.args.upper c.args.input.now c.args.output.now c.requires
 
-pub loop-left-preserved : goal.loop-left-preserved
-loop-left-preserved g c =
+pub encode_step-requires-in-loop-at-clause-room : goal.encode_step-requires-in-loop-at-clause-room
+encode_step-requires-in-loop-at-clause-room g c =
     let sizes = g.met.S.Steps.sizes in
-    let halves = parts _ _ _ _ c.split_at.ensures.front c.split_at.ensures.back in
-    written_step g.O.Output.step g.O.Output.room g.met.O.Output.shrinks c.args.upper c.args.input.now c.args.output.now c.loop-left.output c.encode_step.new.output _ _ _
-    c.loop-left.invariant halves c.encode_step.ensures (omega arith) (omega arith)
+    let middle = c.loop-at.at + c.LANES-in-loop-at.result in
+    let first = written_step g.O.Output.step g.O.Output.room g.met.O.Output.shrinks c.args.upper c.args.input.now c.args.output.now c.loop-at.output c.encode_step.new.output c.loop-at.at _ middle
+    c.loop-at.invariant (omega arith) (omega arith) c.encode_step.ensures (omega arith) (omega arith) in
+    room_within (g.O.Output.room c.encode_step.new.output) _ (2 * (length c.args.input.now - middle)) (omega arith) first.has_room
+
+pub loop-at-preserved : goal.loop-at-preserved
+loop-at-preserved g c =
+    let sizes = g.met.S.Steps.sizes in
+    let middle = c.loop-at.at + c.LANES-in-loop-at.result in
+    let first = written_step g.O.Output.step g.O.Output.room g.met.O.Output.shrinks c.args.upper c.args.input.now c.args.output.now c.loop-at.output c.encode_step.new.output c.loop-at.at _ middle
+    c.loop-at.invariant (omega arith) (omega arith) c.encode_step.ensures (omega arith) (omega arith) in
+    written_step g.O.Output.step g.O.Output.room g.met.O.Output.shrinks c.args.upper c.args.input.now c.args.output.now c.encode_step.new.output c.encode_step-in-loop-at.new.output middle _ _
+    first (omega arith) (omega arith) c.encode_step-in-loop-at.ensures (omega arith) (omega arith)
 
 pub returns : goal.returns
 returns g c =
-    written_rest g.O.Output.step g.O.Output.room g.met.O.Output.shrinks c.args.upper c.args.input.now c.args.output.now c.loop-left.output c.encode.new.output _ c.loop-left.invariant c.encode.ensures
+    written_rest g.O.Output.step g.O.Output.room g.met.O.Output.shrinks c.args.upper c.args.input.now c.args.output.now c.loop-at.output c.encode_last.new.output c.loop-at.at _ c.loop-at.invariant (all_of c.loop-at.at c.args.input.now) c.encode_last.ensures
