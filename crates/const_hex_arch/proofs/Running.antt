@@ -1,5 +1,5 @@
 -- Runs of steps over pieces, and the room that they leave.
-use Rattle.std.proofs.Common.{◌≡◌, ℕ, ◌+◌, ◌*◌, List, [], ◌∷◌, ◌++◌, length, refl, sym, ap, subst, ◌∙◌, arith}
+use Rattle.std.proofs.Common.{◌≡◌, ℕ, ◌+◌, ◌*◌, ◌≤◌, List, [], ◌∷◌, ◌++◌, length, refl, sym, ap, subst, ◌∙◌, arith}
 use Rattle.std.specs.Prelude.{Option, Some, None}
 use Rattle.std.specs.List.{FoldsTo, concat}
 use Rattle.std.proofs.lemmas.List.{append-nil}
@@ -12,6 +12,11 @@ pub use Rattle.const_hex_arch.specs.Laws.{less_room-add, run_shrinks}
 pub HasRoom-less : (room : Option ℕ) (m n : ℕ) → HasRoom room (m + n) → HasRoom (less_room room m) n
 HasRoom-less (Some r) m n h = omega arith
 HasRoom-less None m n h = omega arith
+
+-- room for n bytes is room for fewer
+pub HasRoom-fewer : (room : Option ℕ) (m n : ℕ) → m ≤ n → HasRoom room n → HasRoom room m
+HasRoom-fewer (Some r) m n h k = omega arith
+HasRoom-fewer None m n h k = omega arith
 
 module _ {S : Type 0} (step : S → List ℕ → S → Type 0) (room : S → Option ℕ) (shrinks : (s : S) (piece : List ℕ) (t : S) → step s piece t → room t ≡ less_room (room s) (length piece)) where
   -- two bytes leave room for the pairs that are left

@@ -1,5 +1,5 @@
 -- Texts that are worked through by steps, and then by another kernel.
-use Rattle.std.proofs.Common.{◌≡◌, ℕ, ◌+◌, ◌-◌, ◌*◌, ◌≤◌, ◌↔◌, Bool, List, [], ◌++◌, length, take, drop, sym, ap, subst, ◌∙◌, arith, take-add, take-append-drop, drop-drop, length-take, length-drop, length-append, Option, Some, None}
+use Rattle.std.proofs.Common.{◌≡◌, ℕ, ◌+◌, ◌-◌, ◌*◌, ◌≤◌, ◌↔◌, Bool, List, [], ◌++◌, length, take, drop, sym, ap, subst, ◌∙◌, arith, take-add, take-append-drop, drop-drop, length-take, length-drop, length-append, Option}
 use Rattle.std.proofs.lemmas.Grind.{common_steps}
 use Rattle.std.proofs.lemmas.List.{append-nil, append_assoc, take_at, drop_at}
 use Rattle.std.proofs.lemmas.List.Elements.{All-take}
@@ -45,11 +45,6 @@ digits_rest u left d = (
 pub digits_left : (u left part rest : List ℕ) → IsChecked u left → part ++ rest ≡ left → AllDigits u → AllDigits part
 digits_left u left part rest d e whole = ((digits_append part rest).0 (rw e ((digits_rest u left d).1 whole))).0
 
--- room for n bytes is room for fewer
-pub room_within : (room : Option ℕ) (m n : ℕ) → m ≤ n → HasRoom room n → HasRoom room m
-room_within (Some r) m n h k = omega arith
-room_within None m n h k = omega arith
-
 -- ---- the text of the first bytes is written, and there is room for the rest
 pub record IsWritten {S : Type 0} (step : S → List ℕ → S → Type 0) (room : S → Option ℕ) (up : Bool) (u : List ℕ) (old new : S) (i : ℕ) : Type 0 where
   pub within : i ≤ length u
@@ -77,13 +72,13 @@ module _ {S : Type 0} (step : S → List ℕ → S → Type 0) (room : S → Opt
   pub room_rest : (old mid : S) (i : ℕ) (rest : List ℕ) → IsWritten step room up u old mid i → rest ≡ drop i u → HasRoom (room mid) (2 * length rest)
   room_rest old mid i rest d e = let size : length rest ≡ length u - i = rw e (length-drop i u) in rw size d.has_room
 
-  -- the rest is written by other steps
+  -- the rest is written by another call
   pub written_rest : (old mid new : S) (i : ℕ) (rest : List ℕ) → IsWritten step room up u old mid i → rest ≡ drop i u → Writes step mid (hex_text up rest) new → Writes step old (hex_text up u) new
   written_rest old mid new i rest d e w = subst (λ x. Writes step old (hex_text up x) new) (take-append-drop i u) (rw (hex_text-append up (take i u) (drop i u)) (Writes-append step _ _ _ _ _ d.text (rw e at w)))
 
-  -- one step, and then the rest
-  pub first_written : (old mid : S) (n : ℕ) (part rest : List ℕ) → HasRoom (room old) (2 * length u) → n ≤ length u → part ≡ take n u → rest ≡ drop n u → step old (hex_text up part) mid → 1 ≤ n → n ≤ 32 → IsWritten step room up u old mid n
-  first_written old mid n part rest h k e f s some few = written_step old old mid 0 n n (none_written old h) (omega arith) k (rw e at s) some few
+  -- the first n bytes, as one piece
+  pub first_written : (old mid : S) (n : ℕ) (part : List ℕ) → HasRoom (room old) (2 * length u) → n ≤ length u → part ≡ take n u → step old (hex_text up part) mid → 1 ≤ n → n ≤ 32 → IsWritten step room up u old mid n
+  first_written old mid n part h k e s some few = written_step old old mid 0 n n (none_written old h) (omega arith) k (rw e at s) some few
 
 -- ---- what the first bytes of an output hold is spelled by the first pairs of a text, and the rest is as before
 pub record IsDecoded (u old new : List ℕ) (i : ℕ) : Type 0 where

@@ -64,7 +64,8 @@ pub(crate) trait Steps {
     ghost sizes: { (1 ≤ LANES) × (LANES ≤ 32) };
 }
 
-/// Encodes by two steps a turn, then by a step where one is left, and the rest by another kernel.
+/// Encodes by steps, two in each turn of the loop, then by one where a whole one is left, and the
+/// rest by another kernel.
 #[inline(always)]
 pub(crate) fn encode<S: Steps, R: Kernel, O: Output>(input: &[u8], upper: bool, output: &mut O)
     requires { HasRoom (O.room output.old) (2 * length input.now) }
@@ -81,7 +82,8 @@ pub(crate) fn encode<S: Steps, R: Kernel, O: Output>(input: &[u8], upper: bool, 
     encode_last::<S, R, O>(&input[at..], upper, output);
 }
 
-/// Encodes by a step where one is left, and the rest by another kernel.
+/// Encodes by one step where the input has one, and the rest by another kernel. The input is less
+/// than two steps, so that the rest is less than one.
 #[inline(always)]
 fn encode_last<S: Steps, R: Kernel, O: Output>(input: &[u8], upper: bool, output: &mut O)
     requires { HasRoom (O.room output.old) (2 * length input.now) }
@@ -96,7 +98,8 @@ fn encode_last<S: Steps, R: Kernel, O: Output>(input: &[u8], upper: bool, output
     R::encode(left, upper, output);
 }
 
-/// Checks by four steps at a time, then by two, then by one, and the rest by another kernel.
+/// Checks by four steps under one test while four are left, then by two, then by one, and the rest
+/// by another kernel.
 #[inline(always)]
 pub(crate) fn check<S: Steps, R: Kernel>(input: &[u8]) -> bool
     ensures { IsTrue result ↔ AllDigits input.now }
@@ -112,7 +115,8 @@ pub(crate) fn check<S: Steps, R: Kernel>(input: &[u8]) -> bool
     check_pairs::<S, R>(left)
 }
 
-/// Checks by two steps at a time, then by a step where one is left, and the rest by another kernel.
+/// Checks by two steps under one test while two are left, then by one, and the rest by another
+/// kernel.
 #[inline(always)]
 fn check_pairs<S: Steps, R: Kernel>(input: &[u8]) -> bool
     ensures { IsTrue result ↔ AllDigits input.now }
@@ -128,16 +132,21 @@ fn check_pairs<S: Steps, R: Kernel>(input: &[u8]) -> bool
     check_last::<S, R>(left)
 }
 
-/// Checks by a step where one is left, and the rest by another kernel.
+/// Checks by one step where the input has one, and the rest by another kernel. The input is less
+/// than two steps, so that the rest is less than one.
 #[inline(always)]
 fn check_last<S: Steps, R: Kernel>(input: &[u8]) -> bool
     ensures { IsTrue result ↔ AllDigits input.now }
 {
-    if input.len() < S::LANES {
-        return R::check(input);
+    let mut left = input;
+    if left.len() >= S::LANES {
+        let (text, rest) = left.split_at(S::LANES);
+        if !S::check_step(text) {
+            return false;
+        }
+        left = rest;
     }
-    let (text, rest) = input.split_at(S::LANES);
-    S::check_step(text) && R::check(rest)
+    R::check(left)
 }
 
 /// Decodes by two steps at a time, then by steps, and the rest by another kernel. Two steps that are

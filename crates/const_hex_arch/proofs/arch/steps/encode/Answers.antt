@@ -1,5 +1,6 @@
 use Rattle.std.proofs.Common.{◌+◌, ◌-◌, ◌*◌, length, arith}
-use Rattle.const_hex_arch.proofs.Stepping.{all_of, none_written, written_step, written_rest, room_within}
+use Rattle.const_hex_arch.proofs.Running.{HasRoom-fewer}
+use Rattle.const_hex_arch.proofs.Stepping.{all_of, none_written, written_step, written_rest}
 use Rattle.const_hex_arch.proofs.arch.steps.encode.Goals as goal
 
 pub loop-at-init : goal.loop-at-init
@@ -11,7 +12,7 @@ encode_step-requires-in-loop-at-clause-room g c =
     let middle = c.loop-at.at + c.LANES-in-loop-at.result in
     let first = written_step g.O.Output.step g.O.Output.room g.met.O.Output.shrinks c.args.upper c.args.input.now c.args.output.now c.loop-at.output c.encode_step.new.output c.loop-at.at _ middle
     c.loop-at.invariant (omega arith) (omega arith) c.encode_step.ensures (omega arith) (omega arith) in
-    room_within (g.O.Output.room c.encode_step.new.output) _ (2 * (length c.args.input.now - middle)) (omega arith) first.has_room
+    HasRoom-fewer (g.O.Output.room c.encode_step.new.output) _ (2 * (length c.args.input.now - middle)) (omega arith) first.has_room
 
 pub loop-at-preserved : goal.loop-at-preserved
 loop-at-preserved g c =

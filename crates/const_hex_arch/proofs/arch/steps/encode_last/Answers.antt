@@ -9,7 +9,7 @@ encode-requires g c =
     elim c.if-left-LANES.branch [
       | then-left-LANES w ↦
           let halves = w.split_at.ensures in
-          let first = first_written g.O.Output.step g.O.Output.room g.met.O.Output.shrinks c.args.upper c.args.input.now c.args.output.now w.encode_step.new.output w.LANES-then-left-LANES.result _ _ c.requires (omega arith) halves.front halves.back w.encode_step.ensures (omega arith) (omega arith) in
+          let first = first_written g.O.Output.step g.O.Output.room g.met.O.Output.shrinks c.args.upper c.args.input.now c.args.output.now w.encode_step.new.output w.LANES-then-left-LANES.result _ c.requires (omega arith) halves.front w.encode_step.ensures (omega arith) (omega arith) in
           rw (w.output-is, w.left-is) (room_rest g.O.Output.step g.O.Output.room g.met.O.Output.shrinks c.args.upper c.args.input.now c.args.output.now w.encode_step.new.output _ _ first halves.back)
       | else-left-LANES w ↦ rw (w.output-is, w.left-is) c.requires
     ]
@@ -20,7 +20,7 @@ returns g c =
     elim c.if-left-LANES.branch [
       | then-left-LANES w ↦
           let halves = w.split_at.ensures in
-          let first = first_written g.O.Output.step g.O.Output.room g.met.O.Output.shrinks c.args.upper c.args.input.now c.args.output.now w.encode_step.new.output w.LANES-then-left-LANES.result _ _ c.requires (omega arith) halves.front halves.back w.encode_step.ensures (omega arith) (omega arith) in
+          let first = first_written g.O.Output.step g.O.Output.room g.met.O.Output.shrinks c.args.upper c.args.input.now c.args.output.now w.encode_step.new.output w.LANES-then-left-LANES.result _ c.requires (omega arith) halves.front w.encode_step.ensures (omega arith) (omega arith) in
           written_rest g.O.Output.step g.O.Output.room g.met.O.Output.shrinks c.args.upper c.args.input.now c.args.output.now w.encode_step.new.output c.encode.new.output _ _ first halves.back (rw (w.output-is, w.left-is) at c.encode.ensures)
       | else-left-LANES w ↦ rw (w.output-is, w.left-is) at c.encode.ensures
     ]
