@@ -52,7 +52,7 @@ fn encoded(alloc: Global, input: &[u8], prefix: bool, upper: bool) -> Result<Vec
 {
     let digits = 2 * input.len();
     let length = if prefix { 2 + digits } else { digits };
-    let mut line = vec![in alloc; b'\n'; length + 1]?;
+    let mut line = vec![in alloc; 0u8; length + 1]?;
     write_line(input, prefix, upper, &mut line);
     Ok(line)
 }
