@@ -1,14 +1,21 @@
 /*
  * Picks one of the two builds of the library for each call: the one for x86-64-v3 (AVX2 and what
- * comes with it) where the processor has all of that, and else the default one. It picks when the
- * call is bound: at the start of the program, at dlopen, or at its first use. The choice is the same
- * each time, so threads cannot disagree. No proof covers this file; it does nothing but pick.
+ * comes with it) if the processor has all of that, and else the default one. It picks when the call
+ * is bound: at the start of the program, at dlopen, or at its first use. The choice is the same each
+ * time, so threads cannot disagree. No proof covers this file; it does nothing but pick.
+ *
+ * The builds are hidden. So a shared object exports the calls of the header alone, and another
+ * library cannot put a call of its own before a build. And what picks finds the builds by their
+ * distance from itself: the loader may ask it before it has filled in this library's addresses, as it
+ * does if another library calls this one and was not linked with it.
  */
 #include "const_hex.h"
 
+#define HIDDEN __attribute__((visibility("hidden")))
+
 #define EITHER(answer, name, parameters)                                                          \
-    answer name##_default parameters;                                                             \
-    answer name##_v3 parameters;                                                                  \
+    HIDDEN answer name##_default parameters;                                                      \
+    HIDDEN answer name##_v3 parameters;                                                           \
     static answer(*pick_##name(void)) parameters {                                                \
         __builtin_cpu_init();                                                                     \
         return __builtin_cpu_supports("x86-64-v3") ? name##_v3 : name##_default;                  \

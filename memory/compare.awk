@@ -1,15 +1,24 @@
 # Compares a run with requests for memory refused with the answers that are allowed.
 #
-# The three files are, in this order: what the program prints with ample memory, a line a call; the
-# answers that a call may give instead where a request of its own is refused; and the run, in which
-# lines that begin with ">" mark requests. What stands before " = " in a line names its call.
+# The four files are, in this order: what the program prints with ample memory, a line a call; the
+# answers that a call may give instead if a request of its own is refused; how many requests a call
+# makes; and the run. In the run, lines that begin with ">" mark requests, and the last one says how
+# many blocks of memory live on. What stands before " = " in a line names its call.
 #
-# A line of the run is right where it is the line with ample memory; or where one of the requests
-# right before it was refused, and it is one of the answers allowed then. A call of which the second
-# file has no answer must not ask for memory at all. A line that is wrong is printed, and the
-# status is then 1. Each answer of the second file that came is added to the file SEEN.
+# A line of the run is right if it is the line with ample memory; or if one of the requests right
+# before it was refused, and it is one of the answers allowed then. A call none of whose requests
+# was refused has to make just as many as it is to: none if the second file has no answer of it,
+# else one if the third does not name it. The line of the program's own values, which may be ENDS, is
+# none of a call. At the end no block may live on. A line that is wrong is
+# printed, and the status is then 1. Each answer of the second file that came is added to the file
+# SEEN.
 
 function call_of(line) { return substr(line, 1, index(line, " = ") - 1) }
+
+function requests_of(call) {
+    if (call in stored) return stored[call]
+    return call in takes_memory ? 1 : 0
+}
 
 function complain(why) {
     print "    " why ": " $0
@@ -26,6 +35,17 @@ FILENAME == ARGV[2] {
     next
 }
 
+FILENAME == ARGV[3] {
+    if ($0 !~ /^#/) stored[substr($0, index($0, " ") + 1)] = $1
+    next
+}
+
+/^> alive / {
+    has_ended = 1
+    if ($3 != 0) complain("blocks of memory live on at the end")
+    next
+}
+
 /^>/ {
     requests++
     if ($0 == "> refused") refused = 1
@@ -35,7 +55,11 @@ FILENAME == ARGV[2] {
 {
     place++
     if ($0 == ample[place]) {
-        if (requests > 0 && !(call_of($0) in takes_memory)) complain("asks for memory")
+        call = call_of($0)
+        if (refused && !(call in takes_memory)) complain("asks for memory")
+        if (!refused && call != call_of(ENDS) && requests != requests_of(call)) {
+            complain("makes " requests + 0 " requests for memory, and not " requests_of(call))
+        }
     } else if (refused && ($0 in instead) && call_of($0) == call_of(ample[place])) {
         print >> SEEN
     } else {
@@ -49,6 +73,10 @@ FILENAME == ARGV[2] {
 END {
     if (place < count && !ends_early) {
         print "    the run ends before: " ample[place + 1]
+        wrong = 1
+    }
+    if (!has_ended) {
+        print "    the run does not say how many blocks of memory live on"
         wrong = 1
     }
     exit wrong

@@ -8,11 +8,13 @@
  *
  * The aligned forms, which these programs do not call, it always refuses, so that none passes by.
  *
- * For each request it writes a line to file descriptor 3: "> refused" or "> request". Where that
- * is the program's own output, the lines show which request was made for which line of output.
+ * For each request it writes a line to file descriptor 3: "> refused" or "> request". If that is
+ * the program's own output, the lines show which request was made for which line of output. When the
+ * program ends it writes how many of the blocks that it gave have not been freed: "> alive 0".
  */
 #include <errno.h>
 #include <stddef.h>
+#include <stdio.h>
 #include <stdlib.h>
 #include <unistd.h>
 
@@ -20,9 +22,13 @@
 void *__libc_malloc(size_t size);
 void *__libc_calloc(size_t count, size_t size);
 void *__libc_realloc(void *block, size_t size);
+void __libc_free(void *block);
 
 static int has_started;
 static unsigned long requests, refuse_from, refuse_to;
+
+/* How many blocks live that were given since the program has started. */
+static long alive;
 
 static unsigned long number(const char *name) {
     const char *text = getenv(name);
@@ -33,6 +39,20 @@ __attribute__((constructor)) static void start(void) {
     refuse_from = number("REFUSE_FROM");
     refuse_to = number("REFUSE_TO");
     has_started = 1;
+}
+
+/* Says how many blocks live on. Runs behind all that the program does. */
+__attribute__((destructor)) static void end(void) {
+    char line[32];
+    int length = snprintf(line, sizeof line, "> alive %ld\n", alive);
+    ssize_t written = write(3, line, (size_t)length);
+    (void)written;
+}
+
+/* Counts a block that was given, and hands it on. */
+static void *given(void *block) {
+    if (has_started && block) alive++;
+    return block;
 }
 
 /* Counts a request and notes it. Says whether it is to be refused. */
@@ -46,14 +66,21 @@ static int is_refused(void) {
     return refused;
 }
 
-void *malloc(size_t size) { return is_refused() ? NULL : __libc_malloc(size); }
+void *malloc(size_t size) { return is_refused() ? NULL : given(__libc_malloc(size)); }
 
 void *calloc(size_t count, size_t size) {
-    return is_refused() ? NULL : __libc_calloc(count, size);
+    return is_refused() ? NULL : given(__libc_calloc(count, size));
 }
 
+/* A block that moves is one block still. These programs ask for no size 0, which would free it. */
 void *realloc(void *block, size_t size) {
-    return is_refused() ? NULL : __libc_realloc(block, size);
+    if (is_refused()) return NULL;
+    return block ? __libc_realloc(block, size) : given(__libc_malloc(size));
+}
+
+void free(void *block) {
+    if (has_started && block) alive--;
+    __libc_free(block);
 }
 
 /* Refuses a request in an aligned form, and marks it. */

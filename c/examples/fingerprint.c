@@ -3,7 +3,7 @@
  *
  *     fingerprint FILE
  *
- * The status is 2 where there is not one word, or the file cannot be read.
+ * The status is 2 if there is not one word, the file cannot be read, or the line cannot be written.
  */
 #include "const_hex.h"
 #include <stdio.h>
@@ -29,11 +29,15 @@ int main(int count, char **words) {
     for (int place = 0; place < 8; place++) {
         bytes[place] = (unsigned char)(hash >> (56 - 8 * place));
     }
-    /* Two digits a byte, and room for the NUL that puts wants. */
-    char text[2 * sizeof bytes + 1] = "";
-    if (!const_hex_encode(bytes, sizeof bytes, false, false, text, 2 * sizeof bytes)) {
+    /* The digits, and room for the NUL that puts wants: none is written behind them. */
+    char text[CONST_HEX_TEXT_LENGTH(sizeof bytes, false) + 1] = "";
+    if (!const_hex_encode(bytes, sizeof bytes, false, false, text, sizeof text - 1)) {
         return 1;
     }
-    puts(text);
+    /* What is written may only fail once it leaves the program. */
+    if (puts(text) < 0 || fflush(stdout) != 0) {
+        fprintf(stderr, "fingerprint: the line cannot be written\n");
+        return 2;
+    }
     return 0;
 }

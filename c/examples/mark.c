@@ -4,7 +4,7 @@
  *
  *     mark < FILE
  *
- * The status is 1 where a line was refused, and 2 where memory was, or a read failed.
+ * The status is 1 if a line was refused, and 2 if memory was, or a read or a write failed.
  */
 #include "const_hex.h"
 #include <stdio.h>
@@ -61,7 +61,7 @@ int main(void) {
         }
         status = 1;
         const_hex_refusal_words(&refusal, words, sizeof words);
-        /* The mark stands under the bad character, and under the whole line where it is odd. */
+        /* The mark stands under the bad character, or under the whole line if that is odd. */
         bool bad = refusal.kind == CONST_HEX_INVALID_CHARACTER;
         size_t place = bad ? refusal.index : 0;
         printf("%lu:%lu: %s\n", number, (unsigned long)place + 1, words);
@@ -70,6 +70,11 @@ int main(void) {
     free(line.bytes);
     if (ferror(stdin) != 0) {
         fputs("mark: the input cannot be read\n", stderr);
+        return 2;
+    }
+    /* A write that failed before has left its mark on the output. */
+    if (fflush(stdout) != 0 || ferror(stdout) != 0) {
+        fputs("mark: the output cannot be written\n", stderr);
         return 2;
     }
     return status;

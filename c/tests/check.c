@@ -1,129 +1,28 @@
 /*
  * Tests of the codec's calls for C, of each build by name and of the dispatcher.
  *
- * What is wanted comes from worked rows and from plain loops of this file. Inputs and outputs stand
- * at the ends of pages behind and before which nothing may be read or written, so a byte out of
- * range ends the program. The last line is "N passed, M failed": a test of one build is one.
+ *     check [STEP]
+ *
+ * What is wanted comes from worked rows and from plain loops of this folder. Inputs and outputs
+ * stand at the ends of pages behind and before which nothing may be read or written, so a byte out
+ * of range ends the program. Only each STEPth alignment is tried if a number is given, for a
+ * processor that is emulated. The last line is "N passed, M failed": a test of one build is one.
  */
 #ifndef _GNU_SOURCE
 #define _GNU_SOURCE
 #endif
-#include "const_hex.h"
+#include "builds.h"
 #include "pages.h"
+#include "plain.h"
+#include "tally.h"
 #include <stdio.h>
+#include <stdlib.h>
 #include <string.h>
-
-#ifdef __cplusplus
-extern "C" {
-#endif
-#define NAMED(build)                                                                              \
-    size_t const_hex_encoded_length_##build(size_t bytes, bool prefix);                           \
-    bool const_hex_encode_##build(const void *bytes, size_t bytes_length, bool prefix,            \
-                                  bool upper, char *text, size_t text_length);                    \
-    bool const_hex_decode_##build(const char *text, size_t text_length, void *bytes,              \
-                                  size_t bytes_length, struct const_hex_refusal *refusal);        \
-    bool const_hex_decode_front_##build(const char *text, size_t text_length, void *bytes,        \
-                                        size_t bytes_length, size_t *count,                       \
-                                        struct const_hex_refusal *refusal);                       \
-    bool const_hex_check_##build(const char *text, size_t text_length,                            \
-                                 struct const_hex_refusal *refusal);                              \
-    bool const_hex_check_raw_##build(const char *text, size_t text_length);                       \
-    size_t const_hex_refusal_words_##build(const struct const_hex_refusal *refusal,               \
-                                           char *buffer, size_t buffer_length);                   \
-    uint32_t const_hex_version_##build(void);
-NAMED(default)
-NAMED(v3)
-#ifdef __cplusplus
-}
-#endif
-
-struct build {
-    const char *name;
-    size_t (*encoded_length)(size_t, bool);
-    bool (*encode)(const void *, size_t, bool, bool, char *, size_t);
-    bool (*decode)(const char *, size_t, void *, size_t, struct const_hex_refusal *);
-    bool (*decode_front)(const char *, size_t, void *, size_t, size_t *,
-                         struct const_hex_refusal *);
-    bool (*check)(const char *, size_t, struct const_hex_refusal *);
-    bool (*check_raw)(const char *, size_t);
-    size_t (*words)(const struct const_hex_refusal *, char *, size_t);
-    uint32_t (*version)(void);
-};
-
-#define BUILD(name, end)                                                                          \
-    {                                                                                             \
-        name, const_hex_encoded_length##end, const_hex_encode##end, const_hex_decode##end,        \
-            const_hex_decode_front##end, const_hex_check##end, const_hex_check_raw##end,          \
-            const_hex_refusal_words##end, const_hex_version##end                                  \
-    }
-
-static const struct build BUILDS[] = {
-    BUILD("dispatcher", ), BUILD("default build", _default), BUILD("x86-64-v3 build", _v3)};
 
 enum { LONGEST = 300, ALIGNMENTS = 64, BAD_LENGTHS = 130, SPARE = 3, LANES = 64 };
 
-static const struct build *build;
-static unsigned long checks;
-static unsigned long wrong;
-
-/* Counts a check, and says which failed: the first 20. */
-static void holds(bool fact, const char *what, size_t length, size_t place) {
-    checks++;
-    if (!fact && wrong++ < 20) {
-        printf("check: FAILED: %s: %s, at %zu, %zu\n", build->name, what, length, place);
-    }
-}
-
-/* The plain loops that the calls are compared with. */
-
-static size_t plain_text(const unsigned char *bytes, size_t count, bool prefix, bool upper,
-                         char *text) {
-    const char *digits = upper ? "0123456789ABCDEF" : "0123456789abcdef";
-    size_t length = 0;
-    if (prefix) {
-        text[length++] = '0';
-        text[length++] = 'x';
-    }
-    for (size_t place = 0; place < count; place++) {
-        text[length++] = digits[bytes[place] >> 4];
-        text[length++] = digits[bytes[place] & 15];
-    }
-    return length;
-}
-
-static int plain_value(unsigned char byte) {
-    const char *digits = "00112233445566778899aAbBcCdDeEfF";
-    const char *found = byte == 0 ? NULL : strchr(digits, byte);
-    return found == NULL ? -1 : (int)(found - digits) / 2;
-}
-
-/* The refusal of a text of which so many bytes are wanted, or any count where exact is false. */
-static struct const_hex_refusal plain_refusal(const char *text, size_t length, bool sized,
-                                              size_t wanted) {
-    struct const_hex_refusal refusal = {0, 0, 0};
-    size_t start = length >= 2 && text[0] == '0' && (text[1] == 'x' || text[1] == 'X') ? 2 : 0;
-    if (length % 2 == 1) {
-        refusal.kind = CONST_HEX_ODD_LENGTH;
-        return refusal;
-    }
-    if (sized && (length - start) / 2 != wanted) {
-        refusal.kind = CONST_HEX_INVALID_LENGTH;
-        return refusal;
-    }
-    for (size_t place = start; place < length; place++) {
-        if (plain_value((unsigned char)text[place]) < 0) {
-            refusal.kind = CONST_HEX_INVALID_CHARACTER;
-            refusal.byte = (unsigned char)text[place];
-            refusal.index = place;
-            return refusal;
-        }
-    }
-    return refusal;
-}
-
-static bool same(const struct const_hex_refusal *one, const struct const_hex_refusal *other) {
-    return one->kind == other->kind && one->byte == other->byte && one->index == other->index;
-}
+/* From one alignment that is tried to the next. */
+static size_t alignment_step = 1;
 
 static void worked_rows(void) {
     char text[64];
@@ -157,7 +56,9 @@ static void worked_rows(void) {
               build->encoded_length(SIZE_MAX / 2 + 1, false) == SIZE_MAX &&
               build->encoded_length(SIZE_MAX, true) == SIZE_MAX,
           "encoded_length that does not fit", 0, 0);
-    holds(build->version() == 10000, "version", 0, 0);
+    holds(build->version() == 10000 && CONST_HEX_VERSION == 10000, "version", 0, 0);
+    holds(CONST_HEX_TEXT_LENGTH(20, true) == 42 && CONST_HEX_TEXT_LENGTH(3 + 1, false) == 8,
+          "CONST_HEX_TEXT_LENGTH", 0, 0);
 }
 
 static void null_with_no_bytes(void) {
@@ -214,6 +115,43 @@ static void words(void) {
     }
 }
 
+/* What the words name a byte by: its character, or an escape of it. */
+static void plain_name(unsigned byte, char *name) {
+    static const char short_ones[] = {0, '0', '\t', 't', '\n', 'n', '\r', 'r', '\'', '\'', '\\', '\\'};
+    for (size_t at = 0; at < sizeof short_ones; at += 2) {
+        if (byte == (unsigned char)short_ones[at]) {
+            sprintf(name, "\\%c", short_ones[at + 1]);
+            return;
+        }
+    }
+    if (byte < 0x20 || (byte >= 0x7F && byte <= 0xA0) || byte == 0xAD) {
+        sprintf(name, "\\u{%x}", byte);
+    } else if (byte < 0x80) {
+        sprintf(name, "%c", (int)byte);
+    } else {
+        sprintf(name, "%c%c", (int)(0xC0 | (byte >> 6)), (int)(0x80 | (byte & 0x3F)));
+    }
+}
+
+/* A byte that is no digit is named by its character, or by an escape of it. */
+static void words_of_every_byte(void) {
+    for (unsigned byte = 0; byte < 256; byte++) {
+        char text[4] = {'6', 'b', (char)byte, '0'};
+        char name[8];
+        char wanted[CONST_HEX_WORDS];
+        char buffer[CONST_HEX_WORDS];
+        struct const_hex_refusal refusal = {0, 0, 0};
+        if (build->check(text, 4, &refusal)) {
+            continue;
+        }
+        plain_name(byte, name);
+        sprintf(wanted, "invalid character '%s' at position 2", name);
+        holds(build->words(&refusal, buffer, sizeof buffer) == strlen(wanted) &&
+                  strcmp(buffer, wanted) == 0,
+              "words of a byte", byte, 2);
+    }
+}
+
 /* The pages that texts and bytes are written into. */
 struct pages {
     unsigned char *text;
@@ -267,7 +205,7 @@ static void lengths_and_alignments(void) {
     unsigned char *input = fenced();
     struct pages pages = {fenced(), fenced()};
     for (size_t count = 0; count <= LONGEST; count++) {
-        for (size_t by = 0; by < ALIGNMENTS; by++) {
+        for (size_t by = 0; by < ALIGNMENTS; by += alignment_step) {
             unsigned char *low = input + by;
             unsigned char *high = input + ROOM - by - count;
             for (size_t place = 0; place < count; place++) {
@@ -449,42 +387,19 @@ static void wrong_sizes(void) {
     }
 }
 
-static const struct {
-    const char *name;
-    void (*run)(void);
-} TESTS[] = {{"worked rows", worked_rows},
-             {"null pointers with length 0", null_with_no_bytes},
-             {"words of refusals", words},
-             {"every byte", every_byte},
-             {"every byte in lanes", every_byte_in_lanes},
-             {"outputs of wrong sizes", wrong_sizes},
-             {"bad bytes at every place", bad_bytes},
-             {"every length at every alignment", lengths_and_alignments}};
+static const struct test TESTS[] = {{"worked rows", worked_rows},
+                                    {"null pointers with length 0", null_with_no_bytes},
+                                    {"words of refusals", words},
+                                    {"words of every byte", words_of_every_byte},
+                                    {"every byte", every_byte},
+                                    {"every byte in lanes", every_byte_in_lanes},
+                                    {"outputs of wrong sizes", wrong_sizes},
+                                    {"bad bytes at every place", bad_bytes},
+                                    {"every length at every alignment", lengths_and_alignments}};
 
-int main(void) {
-    size_t builds = sizeof BUILDS / sizeof BUILDS[0];
-    size_t tests = sizeof TESTS / sizeof TESTS[0];
-    unsigned long passed = 0;
-    unsigned long failed = 0;
-    __builtin_cpu_init();
-    if (!__builtin_cpu_supports("x86-64-v3")) {
-        puts("check: this processor is no x86-64-v3, so that build is not run");
-        builds--;
+int main(int count, char **arguments) {
+    if (count == 2 && atoi(arguments[1]) > 0) {
+        alignment_step = (size_t)atoi(arguments[1]);
     }
-    for (size_t which = 0; which < builds; which++) {
-        build = &BUILDS[which];
-        for (size_t test = 0; test < tests; test++) {
-            unsigned long before = wrong;
-            TESTS[test].run();
-            if (wrong == before) {
-                passed++;
-            } else {
-                failed++;
-                printf("check: FAILED: %s: %s\n", build->name, TESTS[test].name);
-            }
-        }
-    }
-    printf("check: %lu checks\n", checks);
-    printf("%lu passed, %lu failed\n", passed, failed);
-    return failed == 0 ? 0 : 1;
+    return run_all(TESTS, sizeof TESTS / sizeof TESTS[0]);
 }

@@ -1,22 +1,19 @@
 #!/usr/bin/env python3
 """Tests of libconst_hex.so, called through ctypes.
 
-    check.py LIBRARY QUESTIONS ANSWERS PROGRAM
+    check.py LIBRARY QUESTIONS ANSWERS [PROGRAM]
 
 Texts are compared with bytes.hex() and bytes.fromhex(). The questions and answers are those of
 crates/const_hex_replay, which the program there answers too: each question of a call that the
-library has is put to the library, and its answer has to be the stored one. Those that the program
-consthex has a mode for are put to it too, and it has to answer as the library does. The last line
-is "N passed, M failed": a test of one build is one.
+library has is put to the library, and its answer has to be the stored one. If PROGRAM, which is
+consthex, is given, each question that it has a mode for is put to it too, and it has to answer as
+the library does. The last line is "N passed, M failed".
 """
 
 import ctypes
 import random
 import subprocess
 import sys
-
-# What a processor has to have for the build for x86-64-v3, by Linux's names.
-V3 = {"avx2", "bmi1", "bmi2", "f16c", "fma", "abm", "movbe"}
 
 KINDS = {1: "OddLength", 2: "InvalidStringLength", 3: "InvalidHexCharacter"}
 
@@ -46,12 +43,12 @@ FORMS = {
 
 
 class Library:
-    """The calls of one build, by Python's types. Outputs begin as bytes 0xEE."""
+    """The calls of the library, by Python's types. Outputs begin as bytes 0xEE."""
 
-    def __init__(self, path, end):
+    def __init__(self, path):
         shared = ctypes.CDLL(path)
         for name, (answer, parameters) in FORMS.items():
-            call = getattr(shared, f"const_hex_{name}{end}")
+            call = getattr(shared, f"const_hex_{name}")
             call.restype, call.argtypes = answer, parameters
             setattr(self, "call_" + name, call)
 
@@ -224,21 +221,7 @@ def version(library, questions, answers):
     assert library.call_encoded_length(2**63, False) == 2**64 - 1
 
 
-def picked(library, questions, answers):
-    """Each call stands for the build that the processor is up to."""
-    with open("/proc/cpuinfo", encoding="ascii", errors="replace") as file:
-        has = next((set(line.split()) for line in file if line.startswith("flags")), set())
-    end = "_v3" if V3 <= has else "_default"
-    shared = ctypes.CDLL(sys.argv[1])
-
-    def address(name):
-        return ctypes.cast(getattr(shared, f"const_hex_{name}"), ctypes.c_void_p).value
-
-    for name in FORMS:
-        assert address(name) == address(name + end), f"{name} is not {name}{end}"
-
-
-PROGRAM = sys.argv[4]
+PROGRAM = sys.argv[4] if len(sys.argv) > 4 else None
 
 
 def main():
@@ -248,16 +231,14 @@ def main():
     with open(answers, encoding="ascii") as file:
         answers = file.read().splitlines()
     passed = failed = 0
-    tests = [replay, against_python, version]
-    for end, its_tests in [("", [*tests, against_consthex, picked]), ("_default", tests)]:
-        library = Library(path, end)
-        for test in its_tests:
-            try:
-                test(library, questions, answers)
-                passed += 1
-            except AssertionError as error:
-                failed += 1
-                print(f"check.py: FAILED: {test.__name__}{end}: {error}")
+    library = Library(path)
+    for test in [replay, against_python, version] + [against_consthex] * (PROGRAM is not None):
+        try:
+            test(library, questions, answers)
+            passed += 1
+        except AssertionError as error:
+            failed += 1
+            print(f"check.py: FAILED: {test.__name__}: {error}")
     print(f"{passed} passed, {failed} failed")
     return 0 if failed == 0 else 1
 

@@ -13,19 +13,24 @@
 
 enum { ROOM = 4096, MARK = 0xEE, AROUND = 64 };
 
-/* A page with unreadable ones before and behind it. */
-static unsigned char *fenced(void) {
-    size_t page = (size_t)sysconf(_SC_PAGESIZE);
-    void *all = mmap(NULL, 3 * page, PROT_NONE, MAP_PRIVATE | MAP_ANONYMOUS, -1, 0);
-    if (page != ROOM || all == MAP_FAILED ||
-        mprotect((unsigned char *)all + page, page, PROT_READ | PROT_WRITE) != 0) {
-        puts("check: no pages of 4096 bytes");
+/* So many pages with an unreadable one before and behind them. */
+static inline unsigned char *fenced_pages(size_t pages) {
+    size_t room = pages * ROOM;
+    void *all = mmap(NULL, room + 2 * ROOM, PROT_NONE, MAP_PRIVATE | MAP_ANONYMOUS, -1, 0);
+    if (sysconf(_SC_PAGESIZE) != ROOM || all == MAP_FAILED ||
+        mprotect((unsigned char *)all + ROOM, room, PROT_READ | PROT_WRITE) != 0) {
+        puts("no pages of 4096 bytes");
         exit(2);
     }
-    return (unsigned char *)all + page;
+    return (unsigned char *)all + ROOM;
 }
 
-static bool marked(const unsigned char *bytes, size_t count) {
+/* A page with an unreadable one before and behind it. */
+static inline unsigned char *fenced(void) {
+    return fenced_pages(1);
+}
+
+static inline bool marked(const unsigned char *bytes, size_t count) {
     for (size_t place = 0; place < count; place++) {
         if (bytes[place] != MARK) {
             return false;
@@ -35,20 +40,20 @@ static bool marked(const unsigned char *bytes, size_t count) {
 }
 
 /* How many bytes between an end of its page and an output are looked at: at most 64. */
-static size_t around(const unsigned char *from, const unsigned char *to) {
+static inline size_t around(const unsigned char *from, const unsigned char *to) {
     size_t between = (size_t)(to - from);
     return between < (size_t)AROUND ? between : (size_t)AROUND;
 }
 
 /* Puts the mark into an output and around it. */
-static void mark(const unsigned char *page, unsigned char *output, size_t length) {
+static inline void mark(const unsigned char *page, unsigned char *output, size_t length) {
     size_t front = around(page, output);
     size_t back = around(output + length, page + ROOM);
     memset(output - front, MARK, front + length + back);
 }
 
 /* Whether what stands around an output has its mark. */
-static bool kept_around(const unsigned char *page, const unsigned char *output, size_t length) {
+static inline bool kept_around(const unsigned char *page, const unsigned char *output, size_t length) {
     size_t front = around(page, output);
     return marked(output - front, front) &&
            marked(output + length, around(output + length, page + ROOM));

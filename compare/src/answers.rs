@@ -20,7 +20,7 @@ pub fn answer(question: &Question) -> Result<Answer, Fault> {
     let number = question.number.unwrap_or(0);
     Ok(match question.operation {
         Operation::Encode(form) => owned::encode(bytes, form),
-        Operation::Display(hole) => owned::display(bytes, hole, number),
+        Operation::Display(hole) => owned::display(bytes, hole, number)?,
         Operation::Decode => owned::decode(bytes),
         Operation::Message(call) => owned::message(bytes, call, number),
         Operation::Check => checked(const_hex::check(bytes)),

@@ -18,6 +18,9 @@ const REPLAY: &str = "CONST_HEX_REPLAY";
 /// Where `rt run` leaves it, as seen from this project.
 const BUILT: &str = "../crates/const_hex_replay/out/const_hex_replay";
 
+/// What both sides answer to what is no JSON.
+const NOT_JSON: &[u8] = b"BAD not JSON\n";
+
 /// How much of the questions is written at once.
 const WRITTEN: usize = 1 << 16;
 
@@ -44,11 +47,14 @@ pub struct Tally {
     pub intended: BTreeMap<String, usize>,
     /// Answers that differ and should not.
     pub differ: usize,
+    /// Questions of what is no JSON, behind which the port ends with the status 1.
+    no_json: usize,
 }
 
 impl Tally {
-    /// Counts the port's answer to a question, and writes it where it is not the one that the port
-    /// has to give. A question without an answer is a fault too, whatever the port says.
+    /// Counts the port's answer to a question, and writes it if it is not the one that the port has
+    /// to give. What is no JSON has to be none to both. Any other question without an answer is a
+    /// fault, whatever the port says.
     fn count(
         &mut self,
         question: &Question,
@@ -59,7 +65,9 @@ impl Tally {
         let (mut crates, mut wanted) = (Vec::new(), Vec::new());
         let is_answered = Answers::TheCrates.write(&asked, &mut crates);
         Answers::ThePorts.write(&asked, &mut wanted);
-        if port != wanted || !is_answered {
+        let is_no_json = wanted == NOT_JSON;
+        self.no_json += usize::from(is_no_json);
+        if port != wanted || !(is_answered || is_no_json) {
             self.differ += 1;
             return write_difference(question, [&crates, &wanted, port], output);
         }
@@ -108,10 +116,11 @@ pub fn differ(asked: Asked, output: &mut impl Write) -> io::Result<Tally> {
         compared.and_then(|tally| written.map(|()| tally))
     });
     let ended = child.wait()?;
-    if compared.is_ok() && !ended.success() {
+    let tally = compared?;
+    if ended.code() != Some(i32::from(tally.no_json > 0)) {
         return Err(io::Error::other(format!("the port ended with {ended}")));
     }
-    compared
+    Ok(tally)
 }
 
 /// Starts the program that answers for the port.
@@ -168,7 +177,7 @@ mod tests {
 
     #[test]
     fn what_is_not_intended_is_written() {
-        let rows: [(&str, &str, [usize; 3]); 6] = [
+        let rows: [(&str, &str, [usize; 3]); 8] = [
             ("encode 6b", "OK 3662\n", [1, 0, 0]),
             (
                 "decode 30787a7a",
@@ -187,8 +196,14 @@ mod tests {
                 [0, 0, 1],
             ),
             ("encode 6b", "OK 3663\n", [0, 0, 1]),
-            // No JSON: there is nothing to compare.
-            ("deserialize_json 7b", "BAD not JSON\n", [0, 0, 1]),
+            ("deserialize_json 7b", "BAD not JSON\n", [1, 0, 0]),
+            ("deserialize_json 7b", "ERR NotText\n", [0, 0, 1]),
+            // No question of the protocol: there is nothing to compare.
+            (
+                "decode_to_array5 6b",
+                "BAD not offered for this count of bytes\n",
+                [0, 0, 1],
+            ),
         ];
         for (line, port, counts) in rows {
             let question = Question::read(line.as_bytes()).unwrap();

@@ -2,20 +2,27 @@
 //!
 //! Every operation is asked in turn. Lengths and the places of bad bytes lie mostly where a kernel
 //! ends a step and begins another, every byte that is no digit takes its turn as the bad one, and
-//! texts have no prefix, `0x` or `0X`.
+//! texts have no prefix, `0x` or `0X`. One question in ten is odd: any length up to a great one, many
+//! bad bytes, other starts, JSON that few programs write, wide fields, and late refusals.
 
 mod json;
+mod odd;
 mod texts;
 
 use crate::generator::texts::Texts;
 use crate::operation::{Operation, Refusing, OFFERED};
 use crate::question::Question;
 
-/// How wide a field is at most.
+/// How wide a field is at most, and how wide in an odd question: no format of Rust takes more.
 const WIDEST: usize = 300;
+const WIDEST_OF_ODD: usize = u16::MAX as usize;
 
-/// At which call a sink refuses at the latest.
+/// At which call a sink refuses at the latest, and at which in an odd question.
 const LATEST: usize = 6;
+const LATEST_OF_ODD: usize = 20;
+
+/// One question in so many is odd.
+const ODD: usize = 10;
 
 /// From so many bytes on a text is streamed.
 const STREAMED: usize = 129;
@@ -40,6 +47,7 @@ impl Generator {
 
     /// The next question of an operation.
     fn question(&mut self, operation: Operation) -> Question {
+        self.texts.is_odd = self.texts.random.one_in(ODD);
         let (bytes, number) = match operation {
             Operation::Encode(_) | Operation::Serialize(_) => (self.texts.data(), None),
             Operation::Display(_) => (self.texts.data(), self.width()),
@@ -76,16 +84,21 @@ impl Generator {
         }
     }
 
-    /// How wide a field is, where it is said.
+    /// How wide a field is, if that is said.
     fn width(&mut self) -> Option<usize> {
-        let random = &mut self.texts.random;
-        random.one_in(2).then(|| random.below(WIDEST + 1))
+        self.number_up_to(WIDEST, WIDEST_OF_ODD)
     }
 
-    /// At which call a sink refuses, where it does.
+    /// At which call a sink refuses, if it does.
     fn refuse_at(&mut self) -> Option<usize> {
+        self.number_up_to(LATEST, LATEST_OF_ODD)
+    }
+
+    /// A number or none: up to the first, or in an odd question up to the second.
+    fn number_up_to(&mut self, most: usize, most_of_odd: usize) -> Option<usize> {
+        let most = if self.texts.is_odd { most_of_odd } else { most };
         let random = &mut self.texts.random;
-        random.one_in(2).then(|| random.below(LATEST + 1))
+        random.one_in(2).then(|| random.below(most + 1))
     }
 }
 

@@ -30,6 +30,7 @@ pub enum Fault {
     NotNumber,
     NotOffered,
     NotJson,
+    TooWide,
 }
 
 impl fmt::Display for Fault {
@@ -43,6 +44,7 @@ impl fmt::Display for Fault {
             Fault::NotNumber => "not a number up to 65536",
             Fault::NotOffered => "not offered for this count of bytes",
             Fault::NotJson => "not JSON",
+            Fault::TooWide => "wider than the crate's formats take",
         })
     }
 }

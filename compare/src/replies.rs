@@ -62,7 +62,7 @@ mod tests {
 
     #[test]
     fn lines_are_answered_in_order() {
-        let rows: [(&str, bool, &str); 4] = [
+        let rows: [(&str, bool, &str); 5] = [
             ("", true, ""),
             ("encode 6b", true, "OK 3662\n"),
             (
@@ -71,6 +71,11 @@ mod tests {
                 "OK 3662\nBAD unknown operation\nOK\n",
             ),
             ("deserialize_json 35\n", true, "ERR NotText\n"),
+            (
+                "display - 65536\ndisplay - 0\n",
+                false,
+                "BAD wider than the crate's formats take\nOK -\n",
+            ),
         ];
         for (lines, are_questions, answers) in rows {
             let mut output = Vec::new();

@@ -3,6 +3,7 @@
 use crate::answer::Answer;
 use crate::answers::{decoded, text};
 use crate::operation::{Case, Form, Hole, Prefix, Refusing};
+use crate::question::Fault;
 use const_hex::{FromHex, FromHexError};
 
 /// The text of bytes.
@@ -15,17 +16,21 @@ pub fn encode(bytes: &[u8], form: Form) -> Answer {
     })
 }
 
-/// The text of bytes, printed in a field of so many characters.
-pub fn display(bytes: &[u8], hole: Hole, width: usize) -> Answer {
+/// The text of bytes, printed in a field of so many characters. A format of Rust that is asked for
+/// more than 65,535 of them panics.
+pub fn display(bytes: &[u8], hole: Hole, width: usize) -> Result<Answer, Fault> {
+    if width > usize::from(u16::MAX) {
+        return Err(Fault::TooWide);
+    }
     let shown = const_hex::display(bytes);
-    text(&match hole {
+    Ok(text(&match hole {
         Hole::Plain => format!("{shown:width$}"),
         Hole::Alternate => format!("{shown:#width$}"),
         Hole::Lower => format!("{shown:width$x}"),
         Hole::LowerAlternate => format!("{shown:#width$x}"),
         Hole::Upper => format!("{shown:width$X}"),
         Hole::UpperAlternate => format!("{shown:#width$X}"),
-    })
+    }))
 }
 
 /// The bytes of a text.

@@ -26,6 +26,9 @@ const CHARACTERS: [char; 14] = [
 impl Texts {
     /// A JSON value: mostly a text, which mostly spells bytes.
     pub fn json(&mut self) -> Vec<u8> {
+        if self.is_odd {
+            return self.odd_json();
+        }
         let value = if self.random.one_in(8) {
             self.random.one_of(&OTHERS).to_owned()
         } else {

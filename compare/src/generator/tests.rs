@@ -162,3 +162,41 @@ fn streams_are_asked_around_the_ends_of_pieces() {
         );
     }
 }
+
+#[test]
+fn each_kind_of_odd_question_comes() {
+    type Row = (&'static str, fn(&Question) -> bool);
+    let rows: [Row; 10] = [
+        ("a long text", |asked| {
+            asked.operation == Operation::Decode && asked.bytes.len() > 20_000
+        }),
+        ("many bytes past 127", |asked| {
+            let past_127 = |byte: &&u8| **byte > 127;
+            asked.operation == Operation::Check && asked.bytes.iter().filter(past_127).count() > 100
+        }),
+        ("0X0x", |asked| asked.bytes.starts_with(b"0X0x")),
+        ("a control byte for a letter", |asked| {
+            asked.bytes.starts_with(b"0\x18")
+        }),
+        ("a wide field", |asked| {
+            matches!(asked.operation, Operation::Display(_)) && asked.number > Some(WIDEST)
+        }),
+        ("a late refusal", |asked| {
+            matches!(asked.operation, Operation::BufferedHex(_)) && asked.number > Some(LATEST)
+        }),
+        ("half of a character", |asked| asked.bytes == br#""\uD800""#),
+        ("no UTF-8", |asked| {
+            asked.operation == Operation::Deserialize && std::str::from_utf8(&asked.bytes).is_err()
+        }),
+        ("a deep value", |asked| {
+            asked.bytes.starts_with(&[b'['; 200])
+        }),
+        ("a great number", |asked| asked.bytes == b"1e309"),
+    ];
+    let mut left: Vec<Row> = rows.to_vec();
+    for asked in Generator::new(1).take(LOOKED_AT) {
+        left.retain(|(_, is_asked)| !is_asked(&asked));
+    }
+    let left: Vec<&str> = left.into_iter().map(|(name, _)| name).collect();
+    assert!(left.is_empty(), "{left:?}");
+}

@@ -27,6 +27,8 @@ const PIECES: [usize; 5] = [2016, 2048, 4064, 4096, 6144];
 #[derive(Clone, Debug)]
 pub struct Texts {
     pub random: Random,
+    /// Whether what is made is for an odd question.
+    pub is_odd: bool,
     /// Every byte that is no digit.
     bad_bytes: Vec<u8>,
     /// How many bad bytes there were.
@@ -38,6 +40,7 @@ impl Texts {
     pub fn new(seed: u64) -> Texts {
         Texts {
             random: Random::new(seed),
+            is_odd: false,
             bad_bytes: (0..=255).filter(|byte| !DIGITS.contains(byte)).collect(),
             bad_turn: 0,
         }
@@ -45,6 +48,9 @@ impl Texts {
 
     /// A count of bytes: an everyday one, one at the boundary of a step, or a great one.
     pub fn length(&mut self) -> usize {
+        if self.is_odd {
+            return self.odd_length();
+        }
         match self.random.below(128) {
             0 => self.long(),
             1..=64 => self.random.below(EVERYDAY + 1),
@@ -58,8 +64,11 @@ impl Texts {
         (boundary + self.random.below(5)).saturating_sub(2)
     }
 
-    /// A length near the end of a piece of a stream.
+    /// A length near the end of a piece of a stream, or any in an odd question.
     fn long(&mut self) -> usize {
+        if self.is_odd {
+            return self.odd_length();
+        }
         self.random.one_of(&PIECES) + self.random.below(80) - 40
     }
 
@@ -86,9 +95,9 @@ impl Texts {
             self.long()
         } else {
             // Whole steps are added, so that the ends of steps stay where they are.
-            (self.length() + least / STEP * STEP).max(least)
+            self.length() + least / STEP * STEP
         };
-        self.random.bytes(length)
+        self.random.bytes(length.max(least))
     }
 
     /// A text to decode, mostly of so many pairs.
@@ -104,6 +113,7 @@ impl Texts {
         let body = text.len();
         text.extend(self.digits(2 * pairs));
         match self.random.below(8) {
+            _ if self.is_odd => self.spoil_much(&mut text[body..]),
             0 => drop(text.pop()),
             1 => text.push(self.random.one_of(DIGITS)),
             2..=4 if pairs > 0 => self.spoil(&mut text[body..]),
@@ -114,6 +124,9 @@ impl Texts {
 
     /// A prefix, or none, or what only looks like one.
     fn prefix(&mut self) -> Vec<u8> {
+        if self.is_odd {
+            return self.odd_start();
+        }
         let prefix: &[u8] = match self.random.below(16) {
             0..=3 => b"0x",
             4..=7 => b"0X",

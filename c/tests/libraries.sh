@@ -1,0 +1,116 @@
+# Tests of the libraries on this processor, for c/test.
+
+# The instructions of a build in the archive. $1 is its name.
+code() { objdump -d --no-show-raw-insn "$room/const_hex_$1.o" > "$room/code"; }
+
+# Only the build for x86-64-v3 may use what the default processor lacks: AVX, AVX2, FMA and F16C,
+# whose names begin with v, LZCNT, MOVBE, BMI1 and BMI2. tzcnt is left out, as it stands in code for
+# older processors too, which take it for bsf.
+newer='v[a-z0-9]+|lzcnt|movbe|andn|bextr|bls(i|r|msk)|bzhi|mulx|pdep|pext|rorx|sarx|shlx|shrx'
+uses_newer() { grep -Eq "^ *[0-9a-f]+:[[:space:]]+($newer)[wlq]?[[:space:]]" "$room/code"; }
+wide() { code v3 && uses_newer && grep -q '%ymm' "$room/code"; }
+narrow() { code default && grep -q '<const_hex_decode' "$room/code" && ! uses_newer; }
+
+test_code() {
+    (cd "$room" && ar x both/libconst_hex.a const_hex_default.o const_hex_v3.o)
+    does "the build for x86-64-v3 has its lanes" wide
+    does "the default build goes without them" narrow
+}
+
+# Whether the shared object exports the calls of the header, and nothing else.
+exports() {
+    nm -D --defined-only "$shared" | sed 's/.* //' | sort | diff "$room/calls" -
+}
+
+soname() { objdump -p "$shared" | grep -q 'SONAME *libconst_hex.so.1$'; }
+
+test_symbols() {
+    does "the shared object exports the calls of the header" exports
+    does "the shared object names its version" soname
+}
+
+test_answers() {
+    does "check.c as C" compiled check c/tests/check.c "$archive"
+    does "check.c as C++" c++ -x c++ "${warnings[@]}" c/tests/check.c -x none "$archive" \
+        -o "$room/check++"
+    counts "check.c as C" "$room/check"
+    # The same code, so fewer of the alignments.
+    counts "check.c as C++" "$room/check++" 8
+    does "lengths.c" compiled lengths c/tests/lengths.c "$archive"
+    counts "lengths.c" "$room/lengths"
+    # -E: no variable of the environment takes its assertions away.
+    counts "check.py" python3 -E c/tests/check.py "$shared" crates/const_hex_replay/stdin \
+        crates/const_hex_replay/stdout crates/consthex/out/consthex
+    does "the default build alone, as a shared object" cc -shared -Wl,--whole-archive "$single" \
+        -Wl,--no-whole-archive -o "$room/single.so"
+    counts "check.py of the default build" python3 -E c/tests/check.py "$room/single.so" \
+        crates/const_hex_replay/stdin crates/const_hex_replay/stdout
+}
+
+# A device that takes nothing: what is written is lost, which a program has to say.
+full() { ! "$@" > /dev/full 2> "$room/complaint" && grep -q 'cannot be written' "$room/complaint"; }
+
+test_examples() {
+    local build
+    for build in both single; do
+        does "fingerprint.c ($build)" compiled fingerprint c/examples/fingerprint.c \
+            "$room/$build/libconst_hex.a"
+        does "mark.c ($build)" compiled mark c/examples/mark.c "$room/$build/libconst_hex.a"
+        examples_run "$build"
+        does "mark of other lines ($build)" writes 1 "$room/lines.stdout" "$room/mark" < "$room/lines"
+    done
+    does "fingerprint to a full device" full "$room/fingerprint" "$room/foobar"
+    does "mark to a full device" full "$room/mark" < c/examples/mark.stdin
+    does "mark of many lines to a full device" full "$room/mark" < "$room/lines"
+}
+
+# Whether the compiler warns of an ignored answer, and of nothing else. $1 is the number of a call.
+warns() {
+    local status=0
+    cc -std=c99 "${warnings[@]}" -DCALL="$1" -c c/tests/ignored.c -o "$room/ignored.o" \
+        2> "$room/complaint" || status=1
+    if [ "$1" -eq 0 ]; then return "$status"; fi
+    grep -q 'Werror=unused-result' "$room/complaint" && [ "$(grep -c 'error:' "$room/complaint")" -eq 1 ]
+}
+
+test_warnings() {
+    local call
+    for call in 0 1 2 3 4 5 6; do
+        does "a warning of ignored answer $call" warns "$call"
+    done
+}
+
+# Ways of linking. A program that is bound at its start asks for each build before it begins; one
+# that is static and may lie anywhere does so without a loader.
+test_linking() {
+    local with=("-L$room/both" -lconst_hex "-Wl,-rpath,$room/both")
+    does "fingerprint.c, bound at once" compiled now c/examples/fingerprint.c "${with[@]}" -Wl,-z,now
+    does "fingerprint, bound at once" writes 0 "$room/foobar.stdout" "$room/now" "$room/foobar"
+    does "fingerprint.c, static and anywhere" compiled anywhere c/examples/fingerprint.c \
+        -static-pie "$archive"
+    does "fingerprint, static and anywhere" writes 0 "$room/foobar.stdout" "$room/anywhere" \
+        "$room/foobar"
+    does "loaded.c" compiled loaded c/tests/loaded.c -ldl
+    does "loaded again and again" "$room/loaded" "$shared"
+    does "between.c, the library" compiled libbetween.so c/tests/between.c -DLIBRARY -shared -fPIC
+    does "between.c, the program" compiled between c/tests/between.c -Wl,--no-as-needed "${with[@]}" \
+        "-L$room" -lbetween "-Wl,-rpath,$room"
+    does "a library that was not linked with it" writes 0 "$room/kiwi.stdout" "$room/between"
+    does "the same, bound at once" writes 0 "$room/kiwi.stdout" env LD_BIND_NOW=1 "$room/between" \
+        2> "$room/complaint"
+}
+
+# Whether a script shows its own usage, and its status is 2.
+misused() { "$@" 2> "$room/complaint"; [ $? -eq 2 ] && grep -q "^usage: $1 " "$room/complaint"; }
+
+test_words_of_build() {
+    local words
+    for words in --bogus --help "--target riscv" --target "a b" "--single a b"; do
+        # Each row is one line of words.
+        # shellcheck disable=SC2086
+        does "c/build $words" misused c/build $words
+    done
+    does "c/install --bogus" misused c/install --bogus
+    does "c/install --prefix with no folder" misused c/install --prefix
+    does "c/install --prefix with a folder of the caller's" misused c/install --prefix here
+}

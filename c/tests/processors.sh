@@ -1,0 +1,64 @@
+# Tests of which build is picked, on this processor and on others that qemu emulates, and of the
+# library on ARM; for c/test.
+
+# What a processor has to have for the build for x86-64-v3, by Linux's names.
+wanted_flags="avx avx2 bmi1 bmi2 f16c fma abm movbe xsave"
+
+# Processors by qemu's names, and the build that each has to be given: one with all that qemu knows,
+# older ones, and ones that lack just one thing.
+emulated=("max v3" "Haswell v3" "Westmere default" "SandyBridge default" "max,-avx default"
+    "max,-avx2 default" "max,-bmi1 default" "max,-bmi2 default" "max,-f16c default"
+    "max,-fma default" "max,-abm default" "max,-movbe default" "max,-xsave default")
+
+# The build that this processor is up to.
+build_here() {
+    local flags flag
+    flags=" $(grep -m 1 '^flags' /proc/cpuinfo) "
+    for flag in $wanted_flags; do
+        [[ $flags == *" $flag "* ]] || { echo default; return; }
+    done
+    echo v3
+}
+
+# Whether each call of the shared object stands for one build. $1 is the build's name, and the rest is
+# what runs a program. nm knows where each build lies.
+picks() {
+    local build=$1
+    shift
+    nm "$shared" | sed -n "s/ t \(.*\)_$build\$/ \1/p" | sort > "$room/builds"
+    [ "$(wc -l < "$room/builds")" -eq "${#calls[@]}" ] &&
+        "$@" "$room/loaded" "$shared" "${calls[@]}" 2> "$room/complaint" | sort |
+        diff "$room/builds" -
+}
+
+test_processors() {
+    local row
+    does "each call picks the build for this processor" picks "$(build_here)"
+    has $((${#emulated[@]} + 22)) "other processors" qemu-x86_64 || return
+    for row in "${emulated[@]}"; do
+        does "${row% *} picks the build ${row#* }" picks "${row#* }" qemu-x86_64 -cpu "${row% *}"
+    done
+    # An instruction that an older processor lacks ends the program.
+    counts "check.c on an older processor" qemu-x86_64 -cpu Westmere "$room/check" 32
+    does "fingerprint on an older processor" compiled fingerprint c/examples/fingerprint.c "$archive"
+    does "mark on an older processor" compiled mark c/examples/mark.c "$archive"
+    examples_run "an older processor" qemu-x86_64 -cpu Westmere
+}
+
+# Compiles a program for ARM, as `compiled` does for this processor.
+compiled_for_arm() {
+    aarch64-linux-gnu-gcc -std=c99 "${warnings[@]}" -DCONST_HEX_SINGLE -static "$2" \
+        "$room/arm/libconst_hex.a" -o "$room/$1"
+}
+
+test_arm() {
+    local program
+    has 19 ARM qemu-aarch64 aarch64-linux-gnu-gcc || return
+    does "c/build --target aarch64" c/build --target aarch64 "$room/arm"
+    for program in tests/check tests/lengths examples/fingerprint examples/mark; do
+        does "${program##*/}.c for ARM" compiled_for_arm "${program##*/}" "c/$program.c"
+    done
+    counts "check.c on ARM" qemu-aarch64 "$room/check" 32
+    counts "lengths.c on ARM" qemu-aarch64 "$room/lengths"
+    examples_run ARM qemu-aarch64
+}
