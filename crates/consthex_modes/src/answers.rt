@@ -50,9 +50,7 @@ fn encoded(alloc: Global, input: &[u8], prefix: bool, upper: bool) -> Result<Vec
     requires { length input.now ≤ limit }
     ensures { IfOk result (λ v. v.items ≡ full_text prefix upper input.now ++ newline) }
 {
-    let digits = 2 * input.len();
-    let length = if prefix { 2 + digits } else { digits };
-    let mut line = vec![in alloc; b'\n'; length + 1]?;
+    let mut line = vec![in alloc; b'\n'; const_hex::text_size(prefix, input.len()) + 1]?;
     write_line(input, prefix, upper, &mut line);
     Ok(line)
 }
