@@ -112,10 +112,3 @@ module _ {W : Type 0} (contents : W → Option (List ℕ)) where
       WriteStep-of s (concat offered) text t (concat left) whole
       (λ u. ap (λ n. concat (take n h.pieces)) (h.complete u) ∙ ap (λ x. concat x) (take_all (length h.pieces) h.pieces (omega arith)) ∙ h.cut.whole)
       (Wrote-offered s offered t h.run)
-
-  -- two texts, one after the other, are written as both together are
-  pub written_after : (s : WriteSink W) (a : List ℕ) (m : WriteSink W) (b : List ℕ) (t : WriteSink W) → has_failed m ≡ false
-      → WriteStep contents s a m → WriteStep contents m b t → WriteStep contents s (a ++ b) t
-  written_after s a m b t e h k =
-      let both = Wrote-more s a m b t e (Wrote-some s a m h (has_failed m) refl) (Wrote-some m b t k (has_failed t) refl) in
-      WriteStep-of s (a ++ b) (a ++ b) t [] (append-nil (a ++ b)) (λ _. refl) both
