@@ -1,13 +1,13 @@
 -- Reading a text is a function: it has one answer, and never two.
-use Rattle.std.proofs.Common.{◌≡◌, ℕ, ◌*◌, ◌==◌, ◌&&◌, ◌||◌, if◌then◌else◌, true, false, List, [], ◌∷◌, length, Result, Ok, Err, refl, ap, arith, inl, inr}
-use Rattle.std.proofs.lemmas.Bool.{cases_eq, and_parts, and_from}
+use Rattle.std.proofs.Common.{◌≡◌, ℕ, ◌*◌, ◌==◌, ◌&&◌, ◌||◌, if◌then◌else◌, true, false, List, [], ◌∷◌, length, Result, Ok, Err, refl, ap, arith}
+use Rattle.std.proofs.lemmas.Bool.{and_parts, and_from}
 use Rattle.std.proofs.lemmas.List.Sums.{AllPass-from_list_all, list_all-from_AllPass}
-use Rattle.std.specs.Prelude.{IsOk, IsTrue, ◌↔◌, ◌⊎◌, ◌≢◌}
+use Rattle.std.specs.Prelude.{IsOk, IsTrue, ◌↔◌}
 use Rattle.const_hex_arch.specs.Texts.{Spells, AllDigits, FirstBad}
 use Rattle.const_hex_arch.proofs.Spelling.{Spells-same, Spells-digits, Spells-some, FirstBad-same, digits_no_bad}
 use Rattle.const_hex.specs.Bodies.{body_of, NamesFirstBad}
 use Rattle.const_hex.specs.Answers.{Reads, ReadsSized, Checks, IsEven, IsOdd, is_text_of}
-use Rattle.const_hex.specs.TypeLaws.{body-even, Reads-some}
+use Rattle.const_hex.specs.TypeLaws.{body-even}
 use Rattle.const_hex.specs.declared.error.FromHexError.{FromHexError}
 use Rattle.const_hex.specs.declared.error.FromHexError.TheVariants.{OddLength, InvalidStringLength, InvalidHexCharacter, NoMemory}
 
@@ -84,20 +84,6 @@ one_sized_answer t n (Err (InvalidHexCharacter c i)) (Err (InvalidHexCharacter d
     one_answer t (Err (InvalidHexCharacter c i)) (Err (InvalidHexCharacter d j)) h.1 k.1
 one_sized_answer t n (Err (InvalidHexCharacter c i)) (Err NoMemory) h k = absurd k
 one_sized_answer t n (Err NoMemory) s h k = absurd h
-
--- every text has an answer as n bytes
-pub ReadsSized-some : (t : List ℕ) (n : ℕ) → (r : Result (List ℕ) FromHexError) × ReadsSized t n r
-ReadsSized-some t n = go (Reads-some t) (cases_eq (length (body_of t)) (2 * n))
-  where
-    go : (r : Result (List ℕ) FromHexError) × Reads t r → (length (body_of t) ≡ 2 * n) ⊎ (length (body_of t) ≢ 2 * n)
-        → (r : Result (List ℕ) FromHexError) × ReadsSized t n r
-    go (Err OddLength, h) sized = (Err OddLength, h)
-    go (Err InvalidStringLength, h) sized = absurd h
-    go (Err NoMemory, h) sized = absurd h
-    go (Ok bs, h) (inl same) = (Ok bs, (same, h))
-    go (Ok bs, h) (inr other) = (Err InvalidStringLength, (h.0, other))
-    go (Err (InvalidHexCharacter c i), h) (inl same) = (Err (InvalidHexCharacter c i), (same, h))
-    go (Err (InvalidHexCharacter c i), h) (inr other) = (Err InvalidStringLength, (h.0, other))
 
 -- checking leaves one answer
 pub one_check_answer : (t : List ℕ) (r s : Result Unit FromHexError) → Checks t r → Checks t s → r ≡ s
