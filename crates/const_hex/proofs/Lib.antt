@@ -1,11 +1,10 @@
 pub mod Appending
-pub mod Buffering
+pub mod Characters
 pub mod Fronts
 pub mod Lowering
 pub mod Printing
 pub mod Reading
 pub mod Reserving
 pub mod RoundTrip
-pub mod Stepping
 pub mod Walks
 pub mod WriteSinks

@@ -1,12 +1,13 @@
 -- Reading a text is a function: it has one answer, and never two.
-use Rattle.std.proofs.Common.{◌≡◌, ℕ, ◌*◌, List, length, Result, Ok, Err, refl, ap, arith, inl, inr}
-use Rattle.std.proofs.lemmas.Bool.{cases_eq}
-use Rattle.std.specs.Prelude.{IsOk, ◌↔◌, ◌⊎◌, ◌≢◌}
+use Rattle.std.proofs.Common.{◌≡◌, ℕ, ◌*◌, ◌==◌, ◌&&◌, ◌||◌, if◌then◌else◌, true, false, List, [], ◌∷◌, length, Result, Ok, Err, refl, ap, arith}
+use Rattle.std.proofs.lemmas.Bool.{and_parts, and_from}
+use Rattle.std.proofs.lemmas.List.Sums.{AllPass-from_list_all, list_all-from_AllPass}
+use Rattle.std.specs.Prelude.{IsOk, IsTrue, ◌↔◌}
 use Rattle.const_hex_arch.specs.Texts.{Spells, AllDigits, FirstBad}
 use Rattle.const_hex_arch.proofs.Spelling.{Spells-same, Spells-digits, Spells-some, FirstBad-same, digits_no_bad}
 use Rattle.const_hex.specs.Bodies.{body_of, NamesFirstBad}
-use Rattle.const_hex.specs.Answers.{Reads, ReadsSized, Checks, IsEven, IsOdd}
-use Rattle.const_hex.specs.TypeLaws.{body-even, Reads-some}
+use Rattle.const_hex.specs.Answers.{Reads, ReadsSized, Checks, IsEven, IsOdd, is_text_of}
+use Rattle.const_hex.specs.TypeLaws.{body-even}
 use Rattle.const_hex.specs.declared.error.FromHexError.{FromHexError}
 use Rattle.const_hex.specs.declared.error.FromHexError.TheVariants.{OddLength, InvalidStringLength, InvalidHexCharacter, NoMemory}
 
@@ -84,20 +85,6 @@ one_sized_answer t n (Err (InvalidHexCharacter c i)) (Err (InvalidHexCharacter d
 one_sized_answer t n (Err (InvalidHexCharacter c i)) (Err NoMemory) h k = absurd k
 one_sized_answer t n (Err NoMemory) s h k = absurd h
 
--- every text has an answer as n bytes
-pub ReadsSized-some : (t : List ℕ) (n : ℕ) → (r : Result (List ℕ) FromHexError) × ReadsSized t n r
-ReadsSized-some t n = go (Reads-some t) (cases_eq (length (body_of t)) (2 * n))
-  where
-    go : (r : Result (List ℕ) FromHexError) × Reads t r → (length (body_of t) ≡ 2 * n) ⊎ (length (body_of t) ≢ 2 * n)
-        → (r : Result (List ℕ) FromHexError) × ReadsSized t n r
-    go (Err OddLength, h) sized = (Err OddLength, h)
-    go (Err InvalidStringLength, h) sized = absurd h
-    go (Err NoMemory, h) sized = absurd h
-    go (Ok bs, h) (inl same) = (Ok bs, (same, h))
-    go (Ok bs, h) (inr other) = (Err InvalidStringLength, (h.0, other))
-    go (Err (InvalidHexCharacter c i), h) (inl same) = (Err (InvalidHexCharacter c i), (same, h))
-    go (Err (InvalidHexCharacter c i), h) (inr other) = (Err InvalidStringLength, (h.0, other))
-
 -- checking leaves one answer
 pub one_check_answer : (t : List ℕ) (r s : Result Unit FromHexError) → Checks t r → Checks t s → r ≡ s
 one_check_answer t (Ok u) (Ok v) h k = refl
@@ -122,3 +109,41 @@ Reads-digits t even a = let s = Spells-some (body_of t) (body-even t even) a in 
 pub Checks-accepts : (t : List ℕ) (r : Result Unit FromHexError) → Checks t r → IsOk r ↔ ((bs : List ℕ) × Reads t (Ok bs))
 Checks-accepts t (Ok u) h = (λ _. h, λ _. refl)
 Checks-accepts t (Err e) h = (λ gone. absurd (cc gone), λ b. absurd (Reads-not_both t b.0 e b.1 h))
+
+-- ---- texts of n bytes
+
+-- the length of the body is odd where that of the text is
+body-odd : (t : List ℕ) → IsOdd (length t) → IsOdd (length (body_of t))
+body-odd [] h = h
+body-odd (c ∷ []) h = h
+body-odd (c ∷ d ∷ u) h =
+    let P : List ℕ → Type 0 = λ v. IsOdd (length v) in
+    elim ((c == 48) && (d == 120 || d == 88)) as (λ b. P (if b then u else c ∷ d ∷ u)) [
+      | true ↦ omega arith
+      | false ↦ h
+    ]
+
+twice_not_odd : (m n : ℕ) → m ≡ 2 * n → IsOdd m → ⊥
+twice_not_odd m n e o = omega (arith, e, o)
+
+same_count : (m n : ℕ) → m ≡ n → (m == n) ≡ true
+same_count m n e = grind (arith, e)
+
+count_same : (m n : ℕ) → (m == n) ≡ true → m ≡ n
+count_same m n e = grind (arith, e)
+
+-- what the test says of a text
+is_text-parts : (n : ℕ) (t : List ℕ) → IsTrue (is_text_of n t) → (length (body_of t) ≡ 2 * n) × AllDigits (body_of t)
+is_text-parts n t e = let p = and_parts _ _ e in (count_same _ _ p.0, AllPass-from_list_all _ (body_of t) p.1)
+
+-- reading as n bytes is Ok exactly where the test says so
+pub ReadsSized-accepts : (n : ℕ) (t : List ℕ) (r : Result (List ℕ) FromHexError) → ReadsSized t n r → IsOk r ↔ IsTrue (is_text_of n t)
+ReadsSized-accepts n t (Ok bs) h =
+    (λ _. and_from _ _ (same_count _ _ h.0) (list_all-from_AllPass _ (body_of t) (Spells-digits (body_of t) bs h.1.1)), λ _. refl)
+ReadsSized-accepts n t (Err OddLength) h =
+    (λ gone. absurd (cc gone), λ e. absurd (twice_not_odd _ n (is_text-parts n t e).0 (body-odd t h)))
+ReadsSized-accepts n t (Err InvalidStringLength) h =
+    (λ gone. absurd (cc gone), λ e. absurd (h.1 (is_text-parts n t e).0))
+ReadsSized-accepts n t (Err (InvalidHexCharacter c i)) h =
+    (λ gone. absurd (cc gone), λ e. absurd (digits_no_bad (body_of t) h.1.1.0 (is_text-parts n t e).1 h.1.1.1))
+ReadsSized-accepts n t (Err NoMemory) h = absurd h

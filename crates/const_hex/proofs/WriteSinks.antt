@@ -1,12 +1,13 @@
 -- Texts that a writer is handed in pieces.
-use Rattle.std.proofs.Common.{◌≡◌, ℕ, ◌+◌, ◌-◌, ◌≤◌, Bool, true, false, List, [], ◌∷◌, ◌++◌, length, take, drop, Option, refl, sym, ap, subst, ◌∙◌, append_assoc, arith}
+use Rattle.std.proofs.Common.{◌≡◌, ℕ, suc, zero, ◌+◌, ◌-◌, ◌≤◌, Bool, true, false, List, [], ◌∷◌, ◌++◌, length, take, drop, Option, refl, sym, ap, subst, ◌∙◌, append_assoc, arith}
 use Rattle.std.proofs.KnownBytes.{Appends-nil, Appends-trans}
-use Rattle.std.proofs.Math.Seq.{take-add}
+use Rattle.std.proofs.Math.Seq.{take-add, take-nil}
 use Rattle.std.proofs.lemmas.List.{append-nil, take_at, take_all, take-append-drop, length-drop, length-take}
+use Rattle.std.proofs.lemmas.List.Elements.{All-head}
 use Rattle.std.proofs.lemmas.List.Folds.{concat-append}
 use Rattle.std.specs.Io.KnownBytes.{Appends}
-use Rattle.std.specs.List.{concat}
-use Rattle.const_hex_arch.specs.Streams.{Offers, Streams}
+use Rattle.std.specs.List.{All, concat}
+use Rattle.const_hex_arch.specs.Streams.{IsCallPiece, Offers, Streams}
 use Rattle.const_hex.specs.WriteSinks.{WriteStep, WritesBeginning, sink_writer, writer_name, has_failed}
 use Rattle.const_hex.specs.declared.write_sink.WriteSink.{WriteSink}
 
@@ -24,6 +25,12 @@ pub write_step : (a b c : Option (List ℕ)) (bytes : List ℕ) (done n : ℕ)
 write_step a b c bytes done n p q =
     let all = take_all (length bytes - done) (drop done bytes) (simp length-drop (omega arith)) in
     rw (take-add done n bytes) (Appends-trans a b c (take done bytes) (take n (drop done bytes)) p (rw all at q))
+
+-- no text is cut into no pieces
+no_pieces : (ps : List (List ℕ)) → All IsCallPiece ps → concat ps ≡ [] → ps ≡ []
+no_pieces [] a e = refl
+no_pieces ([] ∷ ps) a e = absurd (let h = (All-head IsCallPiece [] ps a).0 in omega arith)
+no_pieces ((b ∷ bs) ∷ ps) a e = absurd (let q : suc (length (bs ++ concat ps)) ≡ zero = ap length e in omega arith)
 
 -- some of the bytes were written, and others follow them
 record Begins (held holds : Option (List ℕ)) (bs : List ℕ) : Type 0 where
@@ -95,27 +102,27 @@ module _ {W : Type 0} (contents : W → Option (List ℕ)) where
   Wrote-offered s (p ∷ q ∷ ps) t (e, (m, h, k)) =
       Wrote-more s p m (concat (q ∷ ps)) t k.0 (Wrote-some s p m h (has_failed m) refl) (Wrote-offered m (q ∷ ps) t k)
 
-  WriteStep-of : (s : WriteSink W) (a text : List ℕ) (t : WriteSink W) (rest : List ℕ) → a ++ rest ≡ text → (has_failed t ≡ false → a ≡ text) → Wrote s a t → WriteStep contents s text t
-  WriteStep-of s a text t rest whole complete h = let held = contents (sink_writer s) in let holds = contents (sink_writer t) in record {
-    same_writer = h.same_writer;
-    accepted = λ u. subst (λ x. Appends held holds x) (complete u) (h.all u);
-    refused = λ _. Begins-shown held holds text (subst (λ x. Begins held holds x) whole (Begins-longer held holds a rest h.begun));
-  }
+  -- a sink is offered nothing of no pieces
+  offered_none : (s : WriteSink W) (n : ℕ) (ps : List (List ℕ)) (t : WriteSink W) → ps ≡ []
+      → Offers (WriteStep contents) has_failed s (take n ps) t → t ≡ s
+  offered_none s n ps t e h = sym (rw (e, take-nil n) at h)
 
   -- a text that is handed over in pieces is written as one piece is
-  pub streamed_text : (s : WriteSink W) (text : List ℕ) (t : WriteSink W) → Streams (WriteStep contents) has_failed s text t → WriteStep contents s text t
+  pub streamed_text : (s : WriteSink W) (text : List ℕ) (t : WriteSink W)
+      → Streams (WriteStep contents) has_failed s text t → WriteStep contents s text t
   streamed_text s text t h =
       let offered = take h.offered h.pieces in
       let left = drop h.offered h.pieces in
+      let held = contents (sink_writer s) in
+      let holds = contents (sink_writer t) in
+      let wrote = Wrote-offered s offered t h.run in
       let whole : concat offered ++ concat left ≡ text =
       sym (concat-append offered left) ∙ ap (λ x. concat x) (take-append-drop h.offered h.pieces) ∙ h.cut.whole in
-      WriteStep-of s (concat offered) text t (concat left) whole
-      (λ u. ap (λ n. concat (take n h.pieces)) (h.complete u) ∙ ap (λ x. concat x) (take_all (length h.pieces) h.pieces (omega arith)) ∙ h.cut.whole)
-      (Wrote-offered s offered t h.run)
-
-  -- two texts, one after the other, are written as both together are
-  pub written_after : (s : WriteSink W) (a : List ℕ) (m : WriteSink W) (b : List ℕ) (t : WriteSink W) → has_failed m ≡ false
-      → WriteStep contents s a m → WriteStep contents m b t → WriteStep contents s (a ++ b) t
-  written_after s a m b t e h k =
-      let both = Wrote-more s a m b t e (Wrote-some s a m h (has_failed m) refl) (Wrote-some m b t k (has_failed t) refl) in
-      WriteStep-of s (a ++ b) (a ++ b) t [] (append-nil (a ++ b)) (λ _. refl) both
+      let all : h.offered ≡ length h.pieces → concat offered ≡ text =
+      λ e. ap (λ x. concat x) (take_all h.offered h.pieces (omega (arith, e))) ∙ h.cut.whole in
+      record {
+        same_writer = wrote.same_writer;
+        accepted = λ u. subst (λ x. Appends held holds x) (all (h.complete u)) (wrote.all u);
+        refused = λ _. Begins-shown held holds text (subst (λ x. Begins held holds x) whole (Begins-longer held holds (concat offered) (concat left) wrote.begun));
+        nothing = λ e. offered_none s h.offered h.pieces t (no_pieces h.pieces h.cut.sizes (h.cut.whole ∙ e)) h.run;
+      }

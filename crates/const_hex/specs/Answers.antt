@@ -1,5 +1,8 @@
 -- The answers that a text has.
-use Rattle.std.specs.Prelude.{◌≡◌, ℕ, ◌*◌, ◌%◌, ◌≢◌, ◌<◌, ◌≤◌, List, length, slice_index, Result, Ok, Err}
+use Rattle.std.specs.Prelude.{◌≡◌, ℕ, ◌*◌, ◌%◌, ◌≢◌, ◌<◌, ◌≤◌, ◌==◌, ◌&&◌, Bool, List, length, slice_index, Result, Ok, Err}
+use Rattle.std.specs.List.{list_all}
+use Rattle.std.specs.Option.{is_some}
+use Rattle.const_hex_arch.specs.Digits.{hex_value}
 use Rattle.const_hex_arch.specs.Texts.{Spells, Partial}
 use Rattle.const_hex.specs.Bodies.{body_of, NamesFirstBad}
 use Rattle.const_hex.specs.declared.error.FromHexError.{FromHexError}
@@ -35,6 +38,14 @@ ReadsSized t n (Err InvalidStringLength) = IsEven (length t) × (length (body_of
 ReadsSized t n (Err (InvalidHexCharacter c i)) =
     (length (body_of t) ≡ 2 * n) × Reads t (Err (InvalidHexCharacter c i))
 ReadsSized t n (Err NoMemory) = ⊥
+
+-- whether every byte of u is a digit, as a test that computes
+abbrev pub all_digits : List ℕ → Bool
+all_digits u = list_all (λ b. is_some (hex_value b)) u
+
+-- whether t is a text of n bytes: its body is 2 * n digits
+abbrev pub is_text_of : ℕ → List ℕ → Bool
+is_text_of n t = (length (body_of t) == 2 * n) && all_digits (body_of t)
 
 -- the answer of reading t into room for n bytes: a body of more digits than they have is refused
 -- after oddness, and before any of its bytes is looked at

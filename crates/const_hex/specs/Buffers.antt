@@ -1,11 +1,8 @@
 -- What a buffer holds.
-use Rattle.std.specs.Prelude.{ℕ, ◌+◌, ◌*◌, Bool, if◌then◌else◌, List, ◌++◌, replicate}
+use Rattle.std.specs.Prelude.{ℕ, ◌*◌, Bool, List, ◌++◌, replicate}
 use Rattle.const_hex_arch.specs.Texts.{prefix_of}
+pub use Rattle.const_hex_arch.specs.Texts.{text_length}
 use Rattle.const_hex.specs.declared.buffer.Buffer.{Buffer}
-
--- the length of the text of n bytes: two digits for each, and two bytes more for a prefix
-abbrev pub text_length : Bool → ℕ → ℕ
-text_length prefix n = 2 * n + (if prefix then 2 else 0)
 
 -- what stands in a buffer before any bytes were formatted: `0x`, or nothing, and a NUL byte in
 -- place of each digit

@@ -1,5 +1,5 @@
 -- A sink over a writer.
-use Rattle.std.specs.Prelude.{◌≡◌, ℕ, Bool, true, false, List, take, Option, is_some}
+use Rattle.std.specs.Prelude.{◌≡◌, ℕ, Bool, true, false, List, [], take, Option, is_some}
 use Rattle.std.specs.Borrow.{GName}
 use Rattle.std.specs.Io.KnownBytes.{Appends}
 use Rattle.std.specs.declared.io.Error.{Error}
@@ -25,8 +25,10 @@ first_error s = s.error
 abbrev pub has_failed : {W : Type 0} → WriteSink W → Bool
 has_failed s = is_some s.error
 
--- the same writer has written the text where it did not fail, and a beginning of the text where it did
+-- the same writer has written the text if it did not fail, and a beginning of the text if it did;
+-- of no text nothing changes
 pub record WriteStep {W : Type 0} (contents : W → Option (List ℕ)) (s : WriteSink W) (text : List ℕ) (t : WriteSink W) : Type 0 where
   pub same_writer : writer_name t ≡ writer_name s
   pub accepted : has_failed t ≡ false → Appends (contents (sink_writer s)) (contents (sink_writer t)) text
   pub refused : has_failed t ≡ true → WritesBeginning (contents (sink_writer s)) (contents (sink_writer t)) text
+  pub nothing : text ≡ [] → t ≡ s

@@ -23,7 +23,6 @@
 mod buffer;
 mod codec;
 mod error;
-mod fill;
 mod formatting;
 mod reserved;
 pub mod serde;
@@ -33,7 +32,7 @@ mod write_sink;
 pub use crate::buffer::{Buffer, const_encode};
 pub use crate::codec::checks::{check, check_raw, check_with, const_check, const_check_raw};
 pub use crate::codec::decoders::{
-    const_decode_to_array, decode, decode_to_array, decode_to_front, decode_to_slice,
+    bytes_of, const_decode_to_array, decode, decode_to_array, decode_to_front, decode_to_slice,
     decode_to_slice_with, decode_with,
 };
 pub use crate::codec::encoders::{
@@ -50,5 +49,6 @@ pub use crate::write_sink::WriteSink;
 pub use const_hex_arch::{
     BufferedHex, BufferedOutput, CheckFirst, FixedKernel, HEX_CHARS_LOWER, HEX_CHARS_UPPER,
     HEX_DECODE_LUT, Kernel, Lanes16, Lanes32, NIL, Output, PieceSink, Plain, Sink, SinkError,
-    SinkOutput, SliceOutput, digit_at, encode_full, lanes16, lanes32, value_at,
+    SinkOutput, SliceOutput, digit_at, encode_full, fill_text, lanes16, lanes32, text_size,
+    value_at,
 };

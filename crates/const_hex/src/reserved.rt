@@ -4,8 +4,7 @@ ghost use Rattle.std.specs.Prelude.{◌≡◌, Some, IfOk};
 ghost use Rattle.const_hex_arch.specs.Texts.{full_text};
 ghost use Rattle.const_hex.specs.Reserved.{ReservedStep, spare_room};
 
-use crate::fill::text_size;
-use const_hex_arch::{Kernel, Output, encode_full};
+use const_hex_arch::{Kernel, Output, encode_full, text_size};
 use std::alloc::{AllocError, Global};
 
 /// Puts each piece into the room of a vector, behind what it holds.
@@ -48,9 +47,6 @@ pub(crate) fn reserved_bytes<K: Kernel>(
 ) -> Result<Vec<u8>, AllocError>
     ensures { IfOk result (λ v. v.items ≡ full_text prefix upper input.now) }
 {
-    if input.len() > (usize::MAX - 2) / 2 {
-        return Err(AllocError);
-    }
     let mut output = ReservedOutput {
         bytes: Vec::with_capacity(alloc, text_size(prefix, input.len()))?,
     };

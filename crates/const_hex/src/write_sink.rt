@@ -1,6 +1,6 @@
 //! A sink over any writer of std: a file, a socket, a vector of bytes.
 
-ghost use Rattle.std.specs.Prelude.{◌≡◌, ◌≢◌, false, not, is_ok, None, IsOk, Err, OnOk, OnErr, IfErr, MatchOption};
+ghost use Rattle.std.specs.Prelude.{◌≡◌, ◌≢◌, true, false, not, is_ok, None, IsOk, Err, OnOk, OnErr, IfErr, MatchOption};
 ghost use Rattle.std.specs.Io.KnownBytes.{Appends};
 ghost use Rattle.std.specs.IoError.{error_kind};
 ghost use Rattle.std.specs.Option.{option_copied};
@@ -11,13 +11,12 @@ use const_hex_arch::{BufferedHex, Sink, SinkError};
 use std::io;
 use std::io::{ErrorKind, Write};
 
-/// Hands pieces on to a writer that it is lent, until a write fails, and keeps that error.
+/// Hands pieces on to a writer until a write fails, and keeps that error.
 ///
-/// A piece is written by as many calls of `write` as the writer needs; one that a signal interrupts
-/// is made again. A piece may so be written in part before a write fails: what the writer then has
-/// is a beginning of what was offered. Nothing is written after the error: before each further
-/// text `refused` has to be false. No call flushes the writer, and none takes memory but what the
-/// writer takes.
+/// A piece may take several calls of `write`. A call that a signal interrupts is made again. If a
+/// write fails, the writer has a beginning of what was offered. Nothing is written after that:
+/// [`write_hex`](WriteSink::write_hex) then only answers the error, and `write_str` may not be
+/// called. No call flushes the writer. Only the writer itself takes memory.
 ///
 /// ```rust
 /// let mut file = Vec::new(rt.alloc());
@@ -51,8 +50,10 @@ impl<'a, W: Write> WriteSink<'a, W> {
         }
     }
 
-    /// Writes the text of some bytes, as [`BufferedHex::write_to`] does: `Ok` where no write failed.
-    /// None may have failed before.
+    /// Writes the text of some bytes, as [`BufferedHex::write_to`] does.
+    ///
+    /// Answers `Ok` if no write failed, neither now nor before. After a failed write it calls nothing
+    /// and changes nothing, so a loop may call it again and again.
     ///
     /// ```rust
     /// let mut file = Vec::new(rt.alloc());
@@ -63,10 +64,14 @@ impl<'a, W: Write> WriteSink<'a, W> {
         &mut self,
         bytes: &[u8],
     ) -> Result<(), SinkError>
-        requires { has_failed self.old ≡ false }
-        ensures text { WriteStep W.contents self.old (full_text PREFIX UPPER bytes.now) self.new }
+        ensures text { has_failed self.old ≡ false
+            → WriteStep W.contents self.old (full_text PREFIX UPPER bytes.now) self.new }
+        ensures after_error { has_failed self.old ≡ true → self.new ≡ self.old }
         ensures flag { is_ok result ≡ not (has_failed self.new) }
     {
+        if self.refused() {
+            return Err(SinkError);
+        }
         BufferedHex::<UPPER, PREFIX>::new(bytes).write_to(self)
     }
 
@@ -136,6 +141,9 @@ impl<W: Write> Sink for WriteSink<'_, W> {
     }
 
     fn write_str(&mut self, s: &str) -> Result<(), SinkError> {
+        if s.is_empty() {
+            return Ok(());
+        }
         match write_piece(&mut *self.writer, s.as_bytes()) {
             Ok(()) => Ok(()),
             Err(error) => {

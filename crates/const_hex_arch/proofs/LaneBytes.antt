@@ -1,17 +1,17 @@
 -- From the values of two vectors of text to the bytes that it spells.
 use Rattle.std.proofs.Common.{◌≡◌, ℕ, zero, suc, ◌+◌, ◌*◌, ◌%◌, ◌/◌, ◌≤◌, eqb, List, [], ◌∷◌, ◌++◌, map, length, take, drop, get_or, refl, sym, ap, subst, ◌∙◌, arith, Some, None, eqb→eq, le-leb, length-append}
-use Rattle.std.specs.List.{range_with_len}
+use Rattle.std.specs.List.{AllZip, range_with_len}
 use Rattle.std.proofs.lemmas.Grind.{common_steps}
 use Rattle.std.proofs.lemmas.List.{map-append}
 use Rattle.std.proofs.lemmas.Simd.{pick_l_whole}
 use lib.Lanes.{number_l, digits_l, pick_l}
 use Rattle.const_hex_arch.specs.Digits.{hex_value}
 use Rattle.const_hex_arch.specs.Lanes.{AllNibbles, byte_pairs}
-use Rattle.const_hex_arch.specs.Nibbles.{as_value}
+use Rattle.const_hex_arch.specs.Nibbles.{as_value, IsValueOf}
 use Rattle.const_hex_arch.specs.Texts.{AllDigits, Spells}
 use Rattle.const_hex_arch.proofs.Computed.{all_below, every_below}
-use Rattle.const_hex_arch.proofs.LaneValues.{small_values}
-use Rattle.const_hex_arch.proofs.Spelling.{IsPair-of}
+use Rattle.const_hex_arch.proofs.LaneValues.{values_of_digits, small_values}
+use Rattle.const_hex_arch.proofs.Spelling.{digits_append, IsPair-of}
 
 -- ---- two values in a lane of twice the width
 
@@ -55,16 +55,16 @@ Spells-byte_pairs (suc k) (h ∷ m ∷ ns) (x ∷ y ∷ u) l e a =
     let low = value_is m y (ap (λ l. get_or l 1 None) e) a.1.0 in
     (IsPair-of x y h m (16 * h + m) high low refl, Spells-byte_pairs k ns u (omega arith) (ap (drop 2) e) a.1.1)
 
--- ---- two vectors of n lanes: w is their text, t and u its parts, a and b the values
-module _ (n : ℕ) (w t u a b : List ℕ) (whole : w ≡ t ++ u) (long_a : length a ≡ n) (long_b : length b ≡ n) (values_a : map as_value a ≡ map hex_value t) (values_b : map as_value b ≡ map hex_value u) where
-  values : map as_value (a ++ b) ≡ map hex_value w
-  values = map-append as_value a b ∙ rw (values_a, values_b) refl ∙ sym (map-append hex_value t u) ∙ ap (map hex_value) (sym whole)
-
-  -- of digits
-  pub merge_spells : (r : List ℕ) → (AllNibbles (a ++ b) → r ≡ byte_pairs (a ++ b)) → AllDigits w → Spells w r
-  merge_spells r is d =
-      let h = small_values (a ++ b) w values d in
-      subst (Spells w) (sym (is h)) (Spells-byte_pairs n (a ++ b) w (omega (arith, length-append a b)) values h)
+-- the values a and b of the digits of two vectors t and u of n lanes, merged into r
+pub merge_spells : (n : ℕ) (t u a b : List ℕ) → length a ≡ n → length b ≡ n → AllZip IsValueOf t a → AllZip IsValueOf u b
+    → (r : List ℕ) → (AllNibbles (a ++ b) → r ≡ byte_pairs (a ++ b)) → AllDigits (t ++ u) → Spells (t ++ u) r
+merge_spells n t u a b p q first second r is d =
+    let parts = (digits_append t u).0 d in
+    let high = values_of_digits t a first parts.0 in
+    let low = values_of_digits u b second parts.1 in
+    let values : map as_value (a ++ b) ≡ map hex_value (t ++ u) = map-append as_value a b ∙ rw (high, low) (sym (map-append hex_value t u)) in
+    let small = small_values (a ++ b) (t ++ u) values d in
+    subst (Spells (t ++ u)) (sym (is small)) (Spells-byte_pairs n (a ++ b) (t ++ u) (omega (arith, length-append a b)) values small)
 
 -- ---- the vectors of a slice
 

@@ -1,6 +1,6 @@
 -- The values of digits and the test of digits by one look-up of lanes, and the test of all lanes of a vector.
-use Rattle.std.proofs.Common.{◌≡◌, ℕ, zero, suc, ◌+◌, ◌-◌, ◌*◌, ◌/◌, ◌%◌, ◌<◌, ◌≤◌, ◌↔◌, Bool, true, false, eqb, cond, ltb, ◌||◌, T, List, [], ◌∷◌, length, replicate, get_or, bit_and, bit_or, refl, sym, subst, arith, w8, Fits, eqb→eq, eqb-true, eq-eqb, IsTrue, IsSome, Option, Some, None}
-use Rattle.std.specs.List.{AllByRecursion, AllZip}
+use Rattle.std.proofs.Common.{◌≡◌, ℕ, zero, suc, ◌+◌, ◌-◌, ◌*◌, ◌/◌, ◌%◌, ◌<◌, ◌≤◌, ◌↔◌, Bool, true, false, eqb, cond, ltb, ◌||◌, T, List, [], ◌∷◌, ◌++◌, length, replicate, get_or, bit_and, bit_or, refl, sym, subst, arith, w8, Fits, eqb→eq, eqb-true, eq-eqb, IsTrue, IsSome, Option, Some, None}
+use Rattle.std.specs.List.{AllZip}
 use Rattle.std.specs.Int.{bit_at}
 use Rattle.std.proofs.lemmas.List.Elements.{All-nil, All-head, All-tail, All-cons}
 use Rattle.std.proofs.lemmas.Nat.{le_or_l, le_or_r}
@@ -13,9 +13,8 @@ use Rattle.const_hex_arch.specs.Lanes.{IsUnmarked, AllUnmarked}
 use Rattle.const_hex_arch.specs.Nibbles.{IsMarkOf, IsValueOf, IsPartOf, IsLimitOf}
 use Rattle.const_hex_arch.specs.Texts.{AllDigits}
 use Rattle.const_hex_arch.proofs.Computed.{all_below, every_below}
-use Rattle.const_hex_arch.proofs.LaneLookups.{low_halves}
 use Rattle.const_hex_arch.proofs.LaneValues.{same_value, is_none, same_if_some, sub8, min_l}
-use Rattle.const_hex_arch.proofs.Spelling.{false_is_true}
+use Rattle.const_hex_arch.proofs.Spelling.{false_is_true, digits_append}
 
 -- ---- tests that compute
 
@@ -79,14 +78,14 @@ module _ (table : List ℕ) where
         (λ d. same_if_some (hex_value b) (Some (value_of b)) right d, (λ p. value.0 (same.0 (none.1 p)), λ d. none.0 (same.1 (value.1 d))))
 
     -- from lane i on
-    limits_all : (i : ℕ) (v : List ℕ) → i + length v ≤ 16 → Each1 (Fits w8) v → AllZip IsLimitOf v (swz_l w8 16 table i (low_halves (length v) v))
+    limits_all : (i : ℕ) (v : List ℕ) → i + length v ≤ 16 → Each1 (Fits w8) v → AllZip IsLimitOf v (swz_l w8 16 table i (zip2 bit_and v (replicate (length v) 143)))
     limits_all i [] h f = tt
     limits_all i (x ∷ xs) h f =
         let first : zero ≡ i / 16 = omega arith in
         (subst (λ q. IsLimitOf x (read q (bit_and x 143))) first (limit_at x f.0.fits), limits_all (suc i) xs (omega arith) f.1)
 
-    pub limits_are : (v : List ℕ) → (length v ≡ 16) × Each1 (Fits w8) v → AllZip IsLimitOf v (swz_l w8 16 table 0 (low_halves 16 v))
-    limits_are v f = subst (λ n. AllZip IsLimitOf v (swz_l w8 16 table 0 (low_halves n v))) f.0 (limits_all 0 v (omega (arith, f.0)) f.1)
+    pub limits_are : (v : List ℕ) → (length v ≡ 16) × Each1 (Fits w8) v → AllZip IsLimitOf v (swz_l w8 16 table 0 (zip2 bit_and v (replicate 16 143)))
+    limits_are v f = subst (λ n. AllZip IsLimitOf v (swz_l w8 16 table 0 (zip2 bit_and v (replicate n 143)))) f.0 (limits_all 0 v (omega (arith, f.0)) f.1)
 
 -- ---- what is not above the limit, and what is left
 
@@ -138,13 +137,31 @@ unmarked_are_digits (b ∷ v) (n ∷ ns) z =
     (λ a. All-cons IsDigit b v (z.0.0 a.0) (more.0 a.1), λ a. (z.0.1 (All-head IsDigit b v a), more.1 (All-tail IsDigit b v a)))
 
 -- a lane of two together
-pub both_unmarked : (y z : ℕ) → IsUnmarked (bit_or y z) ↔ (IsUnmarked y × IsUnmarked z)
+both_unmarked : (y z : ℕ) → IsUnmarked (bit_or y z) ↔ (IsUnmarked y × IsUnmarked z)
 both_unmarked y z =
     let seven = bit_at_or y z 7 in
     let four = bit_at_or y z 4 in
     let three = bit_at_or y z 3 in
     let six = bit_at_or y z 6 in
     (λ h. (omega (arith, seven, six, four, three, h), omega (arith, seven, six, four, three, h)), λ h. omega (arith, seven, six, four, three, h.0, h.1))
+
+all_unmarked : (ys zs : List ℕ) → length ys ≡ length zs → AllUnmarked (zip2 bit_or ys zs) ↔ (AllUnmarked ys × AllUnmarked zs)
+all_unmarked [] [] e = (λ h. (tt, tt), λ h. tt)
+all_unmarked [] (z ∷ zs) e = absurd (omega arith)
+all_unmarked (y ∷ ys) [] e = absurd (omega arith)
+all_unmarked (y ∷ ys) (z ∷ zs) e =
+    let here = both_unmarked y z in
+    let more = all_unmarked ys zs (omega arith) in
+    (λ h. (((here.0 h.0).0, (more.0 h.1).0), ((here.0 h.0).1, (more.0 h.1).1)), λ h. (here.1 (h.0.0, h.1.0), more.1 (h.0.1, h.1.1)))
+
+-- the marks of two texts joined, for the text of both
+pub joint_test : (ys zs t u w : List ℕ) → t ++ u ≡ w → length ys ≡ length zs → AllUnmarked ys ↔ AllDigits t → AllUnmarked zs ↔ AllDigits u
+    → AllUnmarked (zip2 bit_or ys zs) ↔ AllDigits w
+joint_test ys zs t u w whole e first second =
+    let both = all_unmarked ys zs e in
+    let parts = digits_append t u in
+    subst (λ w. AllUnmarked (zip2 bit_or ys zs) ↔ AllDigits w) whole
+    (λ h. parts.1 (first.0 (both.0 h).0, second.0 (both.0 h).1), λ d. both.1 (first.1 (parts.0 d).0, second.1 (parts.0 d).1))
 
 -- ---- one test of all lanes
 
@@ -158,26 +175,26 @@ unmarked_at x h =
     let other = zero_is (mark_bits x) in
     (λ e. other.0 (same.0 (one.1 e)), λ p. one.0 (same.1 (other.1 p)))
 
--- P holds of a byte that has none of the bits of m
-module _ (m : ℕ) (P : ℕ → Type 0) (at : (x : ℕ) → x < 256 → (bit_and x m ≡ 0) ↔ P x) where
-  no_bit : (a : ℕ) (xs : List ℕ) → Each1 (Fits w8) xs → (fold_l bit_or a (zip2 bit_and xs (replicate (length xs) m)) ≡ 0) ↔ ((a ≡ 0) × AllByRecursion P xs)
-  no_bit a [] f = (λ e. (e, tt), λ h. h.0)
-  no_bit a (x ∷ xs) f =
-      let one = at x f.0.fits in
-      let more = no_bit (bit_or a (bit_and x m)) xs f.1 in (
-        λ e. (
-            let none = (more.0 e).0 in (omega (arith, none, le_or_l a (bit_and x m)), (one.0 (omega (arith, none, le_or_r a (bit_and x m))), (more.0 e).1))
-            ),
-        λ h. (let none : bit_and x m ≡ 0 = one.1 h.1.0 in more.1 (rw (none, h.0) refl, h.1.1)),
-      )
-
-  pub all_clear : (n : ℕ) (xs : List ℕ) → (length xs ≡ n) × Each1 (Fits w8) xs → IsTrue (eqb (fold_l bit_or 0 (zip2 bit_and xs (replicate n m))) 0) ↔ AllByRecursion P xs
-  all_clear n xs f =
-      let all = no_bit 0 xs f.1 in
-      let as_many = λ (n : ℕ). fold_l bit_or 0 (zip2 bit_and xs (replicate n m)) in
-      let zero_is_zero : zero ≡ 0 = refl in
-      subst (λ n. IsTrue (eqb (as_many n) 0) ↔ AllByRecursion P xs) f.0
-      (λ t. (all.0 (eqb-true (as_many (length xs)) 0 t)).1, λ a. eq-eqb (as_many (length xs)) 0 (all.1 (zero_is_zero, a)))
+unmarked_fold : (a : ℕ) (xs : List ℕ) → Each1 (Fits w8) xs → (fold_l bit_or a (zip2 bit_and xs (replicate (length xs) 216)) ≡ 0) ↔ ((a ≡ 0) × AllUnmarked xs)
+unmarked_fold a [] f = (λ e. (e, tt), λ h. h.0)
+unmarked_fold a (x ∷ xs) f =
+    let one = unmarked_at x f.0.fits in
+    let more = unmarked_fold (bit_or a (marked x)) xs f.1 in (
+      λ e.
+          let none = (more.0 e).0 in
+          (omega (arith, none, le_or_l a (marked x)), (one.0 (omega (arith, none, le_or_r a (marked x))), (more.0 e).1)),
+      λ h. let none : marked x ≡ 0 = one.1 h.1.0 in more.1 (rw (none, h.0) refl, h.1.1),
+    )
 
 pub are_unmarked : (n : ℕ) (xs : List ℕ) → (length xs ≡ n) × Each1 (Fits w8) xs → IsTrue (eqb (fold_l bit_or 0 (zip2 bit_and xs (replicate n 216))) 0) ↔ AllUnmarked xs
-are_unmarked = all_clear 216 IsUnmarked unmarked_at
+are_unmarked n xs f =
+    let all = unmarked_fold 0 xs f.1 in
+    let joined = λ (n : ℕ). fold_l bit_or 0 (zip2 bit_and xs (replicate n 216)) in
+    let none : zero ≡ 0 = refl in
+    subst (λ n. IsTrue (eqb (joined n) 0) ↔ AllUnmarked xs) f.0
+    (λ t. (all.0 (eqb-true (joined (length xs)) 0 t)).1, λ a. eq-eqb (joined (length xs)) 0 (all.1 (none, a)))
+
+-- ---- one condition through another
+
+pub through : {A B C : Type 0} → A ↔ B → B ↔ C → A ↔ C
+through p q = (λ a. q.0 (p.0 a), λ c. p.1 (q.1 c))

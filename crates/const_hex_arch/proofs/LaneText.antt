@@ -16,13 +16,6 @@ use Rattle.const_hex_arch.proofs.Writing.{IsAscii-hex_text}
 
 -- ---- the digits of the low halves
 
--- no position is past its block
-pub low_halves_ok : (b n : ℕ) (v : List ℕ) → n ≡ b * 16 → length v ≡ n → SwzOk w8 16 n 0 (zip2 bit_and v (replicate n 15))
-low_halves_ok b n v blocks long =
-    let small = Each1-all (λ a. bit_and a 15 < 16) (λ a. omega (arith, and_le_r a 15)) v in
-    SwzOk-from_below w8 16 b n 0 (zip2 bit_and v (replicate n 15)) blocks (omega (arith, length-zip2 bit_and v (replicate n 15) (omega (arith, length-replicate {A = ℕ} n 15))))
-    (Each1-zip2 bit_and (λ j. j < 16) v (replicate n 15) (Each2-splat (λ a b. bit_and a b < 16) v n 15 small))
-
 -- each block of t has the digits
 abbrev pub is_table : Bool → List ℕ → ℕ → Bool
 is_table up t n = all_below (λ i. all_below (λ j. eqb (get_or t (16 * ((0 + i) / 16) + j) 0) (hex_digit up j)) 16) n

@@ -1,8 +1,8 @@
 -- Texts that are worked through by steps, and then by another kernel.
-use Rattle.std.proofs.Common.{◌≡◌, ℕ, ◌+◌, ◌-◌, ◌*◌, ◌≤◌, ◌↔◌, Bool, List, [], ◌++◌, length, take, drop, sym, ap, subst, ◌∙◌, arith, take-add, take-append-drop, drop-drop, length-take, length-drop, length-append, Option}
+use Rattle.std.proofs.Common.{◌≡◌, ℕ, ◌+◌, ◌-◌, ◌*◌, ◌≤◌, ◌↔◌, Bool, List, [], ◌++◌, length, take, drop, refl, sym, ap, subst, ◌∙◌, arith, take-add, take-append-drop, drop-drop, length-take, length-drop, length-append, Option}
 use Rattle.std.proofs.lemmas.Grind.{common_steps}
 use Rattle.std.proofs.lemmas.List.{append-nil, append_assoc, take_at, drop_at}
-use Rattle.std.proofs.lemmas.List.Elements.{All-take}
+use Rattle.std.proofs.lemmas.List.Elements.{All-nil, All-take}
 use Rattle.std.proofs.lemmas.Slice.{take-put_mid, drop-put_mid}
 use borrow.Rule.Slice.PartMut.{put_mid}
 use Rattle.const_hex_arch.specs.Digits.{IsDigit}
@@ -17,8 +17,8 @@ pub all_of : (m : ℕ) (u : List ℕ) → take (length u - m) (drop m u) ≡ dro
 all_of m u = grind (arith, common_steps)
 
 -- two parts of a list
-pub parts : (n : ℕ) (u front back : List ℕ) → front ≡ take n u → back ≡ drop n u → front ++ back ≡ u
-parts n u front back f b = rw (f, b) (take-append-drop n u)
+pub parts : (n : ℕ) {u front back : List ℕ} → front ≡ take n u → back ≡ drop n u → front ++ back ≡ u
+parts n {u} f b = rw (f, b) (take-append-drop n u)
 
 -- ---- the bytes in front of what is left are digits
 pub record IsChecked (u left : List ℕ) : Type 0 where
@@ -26,24 +26,28 @@ pub record IsChecked (u left : List ℕ) : Type 0 where
   pub whole : front ++ left ≡ u
   pub digits : AllDigits front
 
+-- none of them yet
+pub none_checked : (u : List ℕ) → IsChecked u u
+none_checked u = record { front = []; whole = refl; digits = All-nil IsDigit }
+
 -- some bytes more
-pub checked_step : (u left part rest : List ℕ) → IsChecked u left → part ++ rest ≡ left → AllDigits part → IsChecked u rest
-checked_step u left part rest d e digits = record {
+pub checked_step : {u left rest : List ℕ} (part : List ℕ) → IsChecked u left → part ++ rest ≡ left → AllDigits part → IsChecked u rest
+checked_step {rest = rest} part d e digits = record {
   front = d.front ++ part;
   whole = append_assoc d.front part rest ∙ ap (λ x. d.front ++ x) e ∙ d.whole;
   digits = (digits_append d.front part).1 (d.digits, digits);
 }
 
 -- of all bytes, by the rest
-pub digits_rest : (u left : List ℕ) → IsChecked u left → AllDigits left ↔ AllDigits u
-digits_rest u left d = (
+pub digits_rest : {u left : List ℕ} → IsChecked u left → AllDigits left ↔ AllDigits u
+digits_rest {left = left} d = (
   λ part. rw (← d.whole) ((digits_append d.front left).1 (d.digits, part)),
   λ whole. ((digits_append d.front left).0 (rw d.whole whole)).1,
 )
 
 -- and of what is left, the first bytes
-pub digits_left : (u left part rest : List ℕ) → IsChecked u left → part ++ rest ≡ left → AllDigits u → AllDigits part
-digits_left u left part rest d e whole = ((digits_append part rest).0 (rw e ((digits_rest u left d).1 whole))).0
+pub digits_left : {u left : List ℕ} (part rest : List ℕ) → IsChecked u left → part ++ rest ≡ left → AllDigits u → AllDigits part
+digits_left part rest d e whole = ((digits_append part rest).0 (rw e ((digits_rest d).1 whole))).0
 
 -- ---- the text of the first bytes is written, and there is room for the rest
 pub record IsWritten {S : Type 0} (step : S → List ℕ → S → Type 0) (room : S → Option ℕ) (up : Bool) (u : List ℕ) (old new : S) (i : ℕ) : Type 0 where
@@ -51,13 +55,19 @@ pub record IsWritten {S : Type 0} (step : S → List ℕ → S → Type 0) (room
   pub text : Writes step old (hex_text up (take i u)) new
   pub has_room : HasRoom (room new) (2 * (length u - i))
 
-module _ {S : Type 0} (step : S → List ℕ → S → Type 0) (room : S → Option ℕ) (shrinks : (s : S) (piece : List ℕ) (t : S) → step s piece t → room t ≡ less_room (room s) (length piece)) (up : Bool) (u : List ℕ) where
-  pub none_written : (old : S) → HasRoom (room old) (2 * length u) → IsWritten step room up u old old 0
-  none_written old h = record { within = omega arith; text = rw (hex_text-nil up) (Writes-none step old); has_room = let all : length u - 0 ≡ length u = omega arith in rw all h }
+module _ {S : Type 0} {step : S → List ℕ → S → Type 0} {room : S → Option ℕ} (shrinks : (s : S) (piece : List ℕ) (t : S) → step s piece t → room t ≡ less_room (room s) (length piece))
+    {up : Bool} {u : List ℕ} {old : S} where
+  pub none_written : HasRoom (room old) (2 * length u) → IsWritten step room up u old old 0
+  none_written h = record {
+    within = omega arith;
+    text = rw (hex_text-nil up) (Writes-none step old);
+    has_room = let all : length u - 0 ≡ length u = omega arith in rw all h;
+  }
 
   -- the text of n bytes more, as one piece
-  pub written_step : (old mid new : S) (i n end : ℕ) → IsWritten step room up u old mid i → end ≡ i + n → end ≤ length u → step mid (hex_text up (take n (drop i u))) new → 1 ≤ n → n ≤ 32 → IsWritten step room up u old new end
-  written_step old mid new i n end d e h s some few =
+  pub written_step : {mid new : S} {i : ℕ} (n end : ℕ) → IsWritten step room up u old mid i → end ≡ i + n → end ≤ length u
+      → step mid (hex_text up (take n (drop i u))) new → 1 ≤ n → n ≤ 32 → IsWritten step room up u old new end
+  written_step {mid} {new} {i} n end d e h s some few =
       let part = take n (drop i u) in
       let piece = hex_text up part in
       let size : length part ≡ n = grind (arith, common_steps) in
@@ -69,16 +79,20 @@ module _ {S : Type 0} (step : S → List ℕ → S → Type 0) (room : S → Opt
       }
 
   -- there is room for the rest
-  pub room_rest : (old mid : S) (i : ℕ) (rest : List ℕ) → IsWritten step room up u old mid i → rest ≡ drop i u → HasRoom (room mid) (2 * length rest)
-  room_rest old mid i rest d e = let size : length rest ≡ length u - i = rw e (length-drop i u) in rw size d.has_room
+  pub room_rest : {mid : S} {i : ℕ} {rest : List ℕ} → IsWritten step room up u old mid i → rest ≡ drop i u → HasRoom (room mid) (2 * length rest)
+  room_rest {i = i} {rest} d e = let size : length rest ≡ length u - i = rw e (length-drop i u) in rw size d.has_room
 
   -- the rest is written by another call
-  pub written_rest : (old mid new : S) (i : ℕ) (rest : List ℕ) → IsWritten step room up u old mid i → rest ≡ drop i u → Writes step mid (hex_text up rest) new → Writes step old (hex_text up u) new
-  written_rest old mid new i rest d e w = subst (λ x. Writes step old (hex_text up x) new) (take-append-drop i u) (rw (hex_text-append up (take i u) (drop i u)) (Writes-append step _ _ _ _ _ d.text (rw e at w)))
+  pub written_rest : {mid new : S} {i : ℕ} {rest : List ℕ} → IsWritten step room up u old mid i → rest ≡ drop i u
+      → Writes step mid (hex_text up rest) new → Writes step old (hex_text up u) new
+  written_rest {new = new} {i} d e w =
+      subst (λ x. Writes step old (hex_text up x) new) (take-append-drop i u)
+      (rw (hex_text-append up (take i u) (drop i u)) (Writes-append step _ _ _ _ _ d.text (rw e at w)))
 
   -- the first n bytes, as one piece
-  pub first_written : (old mid : S) (n : ℕ) (part : List ℕ) → HasRoom (room old) (2 * length u) → n ≤ length u → part ≡ take n u → step old (hex_text up part) mid → 1 ≤ n → n ≤ 32 → IsWritten step room up u old mid n
-  first_written old mid n part h k e s some few = written_step old old mid 0 n n (none_written old h) (omega arith) k (rw e at s) some few
+  pub first_written : {mid : S} (n : ℕ) {part : List ℕ} → HasRoom (room old) (2 * length u) → n ≤ length u → part ≡ take n u
+      → step old (hex_text up part) mid → 1 ≤ n → n ≤ 32 → IsWritten step room up u old mid n
+  first_written n h k e s some few = written_step n n (none_written h) (omega arith) k (rw e at s) some few
 
 -- ---- what the first bytes of an output hold is spelled by the first pairs of a text, and the rest is as before
 pub record IsDecoded (u old new : List ℕ) (i : ℕ) : Type 0 where
@@ -88,8 +102,9 @@ pub record IsDecoded (u old new : List ℕ) (i : ℕ) : Type 0 where
   pub rest : drop i new ≡ drop i old
 
 -- n bytes more, of m bytes of text
-pub decoded_step : (u old new r : List ℕ) (i n m end : ℕ) → IsDecoded u old new i → end ≡ i + n → end ≤ length new → m ≡ 2 * n → length r ≡ n → Spells (take m (drop (2 * i) u)) r → IsDecoded u old (put_mid i n new r) end
-decoded_step u old new r i n m end d e h f l s =
+pub decoded_step : {u old new : List ℕ} {i end : ℕ} (r : List ℕ) (n m : ℕ) → IsDecoded u old new i → end ≡ i + n → end ≤ length new → m ≡ 2 * n → length r ≡ n
+    → Spells (take m (drop (2 * i) u)) r → IsDecoded u old (put_mid i n new r) end
+decoded_step {u} {old} {new} {i} {end} r n m d e h f l s =
     let within = d.within in
     let same = d.same_length in
     let text : take (2 * end) u ≡ take (2 * i) u ++ take m (drop (2 * i) u) = let q : 2 * end ≡ 2 * i + m = omega arith in rw q (take-add (2 * i) m u) in
@@ -107,14 +122,16 @@ pub kept_step : (new r : List ℕ) (i n : ℕ) → r ≡ take n (drop i new) →
 kept_step new r i n e = rw e (ap (λ x. take i new ++ x) (take-append-drop n (drop i new)) ∙ take-append-drop i new)
 
 -- a step that is refused, and wrote nothing
-pub refused_step : (u old new r : List ℕ) (i n m : ℕ) → IsDecoded u old new i → length u ≡ 2 * length old → r ≡ take n (drop i new) → (AllDigits (take m (drop (2 * i) u)) → ⊥) → Partial old u (put_mid i n new r)
-refused_step u old new r i n m d size e none =
+pub refused_step : {u old new r : List ℕ} {i : ℕ} (n m : ℕ) → IsDecoded u old new i → length u ≡ 2 * length old → r ≡ take n (drop i new)
+    → (AllDigits (take m (drop (2 * i) u)) → ⊥) → Partial old u (put_mid i n new r)
+refused_step {u} {old} {new} {r} {i} n m d size e none =
     let within = d.within in
     let same = d.same_length in
-    rw (kept_step new r i n e) (Partial-after old u new i (2 * i) (omega arith) (omega arith) same within d.front (rw (← d.rest) (none_decoded (drop i new) (drop (2 * i) u) (λ a. none (All-take IsDigit m (drop (2 * i) u) a)))))
+    let rest = none_decoded (drop i new) (drop (2 * i) u) (λ a. none (All-take IsDigit m (drop (2 * i) u) a)) in
+    rw (kept_step new r i n e) (Partial-after old u new i (2 * i) (omega arith) (omega arith) same within d.front (rw (← d.rest) rest))
 
 -- the rest by another kernel
-module _ (u old new r : List ℕ) (i : ℕ) (d : IsDecoded u old new i) (size : length u ≡ 2 * length old) (long : length r ≡ length new - i) where
+module _ {u old new : List ℕ} {i : ℕ} (r : List ℕ) (d : IsDecoded u old new i) (size : length u ≡ 2 * length old) (long : length r ≡ length new - i) where
   whole : put_mid i (length new - i) new r ≡ take i new ++ r
   whole =
       let over : drop (length new - i) (drop i new) ≡ [] = grind (arith, common_steps) in
@@ -130,4 +147,5 @@ module _ (u old new r : List ℕ) (i : ℕ) (d : IsDecoded u old new i) (size : 
       let front : length (take i new) ≡ i = omega (arith, length-take i new) in
       let length_kept : length (take i new ++ r) ≡ length old = omega (arith, length-append (take i new) r) in
       let behind : Partial (drop i old) (drop (2 * i) u) r = rw (all_of, all_of, d.rest) at p in
-      rw whole (Partial-after old u (take i new ++ r) i (2 * i) (omega arith) (omega arith) length_kept (omega arith) (rw (take_at (take i new) r i front) d.front) (rw (drop_at (take i new) r i front) behind))
+      rw whole (Partial-after old u (take i new ++ r) i (2 * i) (omega arith) (omega arith) length_kept (omega arith)
+      (rw (take_at (take i new) r i front) d.front) (rw (drop_at (take i new) r i front) behind))

@@ -1,5 +1,5 @@
 -- From writes in small pieces to the calls of a sink.
-use Rattle.std.proofs.Common.{◌≡◌, ℕ, suc, ◌+◌, ◌*◌, ◌/◌, ◌<◌, ◌≤◌, Bool, true, false, List, [], ◌∷◌, ◌++◌, length, take, refl, sym, ap, subst, ◌∙◌, arith, inl, inr, length-append}
+use Rattle.std.proofs.Common.{◌≡◌, ℕ, suc, ◌+◌, ◌*◌, ◌/◌, ◌<◌, ◌≤◌, Bool, true, false, not, List, [], ◌∷◌, ◌++◌, length, take, refl, sym, ap, subst, ◌∙◌, arith, inl, inr, length-append}
 use Rattle.std.specs.Prelude.{Option, Some, None, ◌-◌, if◌then◌else◌}
 use Rattle.std.specs.List.{FoldsTo, concat, All}
 use Rattle.std.proofs.Math.Nat.{le-div_iff_mul-le}
@@ -10,7 +10,7 @@ use Rattle.const_hex_arch.specs.Runs.{Writes, IsKernelPiece}
 use Rattle.const_hex_arch.specs.Gathering.{Gathers, piece_of, HandsOnHeld}
 use Rattle.const_hex_arch.specs.Sinks.{SinkStep, output_sink, sink_name, told_after}
 use Rattle.const_hex_arch.specs.declared.sink.output.SinkOutput.{SinkOutput}
-use Rattle.const_hex_arch.specs.Streams.{IsCallPiece, IsLargePiece, all_but_last, Cut, Offers, Streams, TellsCut}
+use Rattle.const_hex_arch.specs.Streams.{IsCallPiece, IsLargePiece, all_but_last, Cut, Offers, Streams, Handed}
 use Rattle.const_hex_arch.proofs.Running.{run_append}
 use Rattle.const_hex_arch.proofs.Gathering.{concat-piece_of}
 
@@ -202,25 +202,15 @@ module _ {S : Type 0} (step : S → List ℕ → S → Type 0) (is_refused : S �
 -- ---- what is offered to a sink that accepts all
 
 module _ {S : Type 0} (step : S → List ℕ → S → Type 0) (is_refused : S → Bool) where
-  Offers-accepting : (s : S) (ps : List (List ℕ)) (t : S) → is_refused t ≡ false → Offers step is_refused s ps t → is_refused s ≡ false
+  pub Offers-accepting : (s : S) (ps : List (List ℕ)) (t : S) → is_refused t ≡ false → Offers step is_refused s ps t → is_refused s ≡ false
   Offers-accepting s [] t e h = ap is_refused h ∙ e
   Offers-accepting s (p ∷ ps) t e h = h.0
 
   -- all pieces of a stream are offered
-  Streams-all : (s : S) (text : List ℕ) (t : S) → is_refused t ≡ false → (h : Streams step is_refused s text t) → Offers step is_refused s h.pieces t
+  pub Streams-all : (s : S) (text : List ℕ) (t : S) → is_refused t ≡ false → (h : Streams step is_refused s text t) → Offers step is_refused s h.pieces t
   Streams-all s text t e h =
       let all : take h.offered h.pieces ≡ h.pieces = rw (h.complete e) (take_all (length h.pieces) h.pieces (omega arith)) in
       rw all at h.run
-
-  -- a relation that holds of each piece that is accepted, and of texts that are joined, holds of the text
-  module _ (R : S → List ℕ → S → Type 0) (none : (s : S) → R s [] s) (join : (s : S) (a : List ℕ) (m : S) (b : List ℕ) (t : S) → R s a m → R m b t → R s (a ++ b) t)
-      (one : (s : S) (p : List ℕ) (t : S) → step s p t → is_refused t ≡ false → R s p t) where
-    joined_offers : (s : S) (ps : List (List ℕ)) (t : S) → is_refused t ≡ false → Offers step is_refused s ps t → R s (concat ps) t
-    joined_offers s [] t e h = subst (λ x. R s [] x) h (none s)
-    joined_offers s (p ∷ ps) t e (o, (m, h, k)) = join s p m (concat ps) t (one s p m h (Offers-accepting m ps t e k)) (joined_offers m ps t e k)
-
-    pub joined_stream : (s : S) (text : List ℕ) (t : S) → is_refused t ≡ false → Streams step is_refused s text t → R s text t
-    joined_stream s text t e h = rw h.cut.whole at (joined_offers s h.pieces t e (Streams-all s text t e h))
 
 -- ---- what a sink tells
 
@@ -241,9 +231,12 @@ module _ {S : Type 0} (step : S → List ℕ → S → Type 0) (is_refused : S �
       let accepted = Offers-accepting step is_refused m ps t e k in
       told-Offers m ps t e k ∙ ap (λ x. told_after x ps) (tells s p m h ∙ ap (λ b. told_after (told s) (if b then [] else p ∷ [])) accepted) ∙ told_after-more (told s) (p ∷ []) ps
 
-  pub TellsCut-Streams : (s : S) (text : List ℕ) (t : S) → Streams step is_refused s text t → is_refused t ≡ false → TellsCut (told s) text (told t)
-  TellsCut-Streams s text t h e =
-      record { pieces = h.pieces; cut = h.cut; told = told-Offers s h.pieces t e (Streams-all step is_refused s text t e h) }
+  pub Handed-of : (s : S) (text : List ℕ) (ok : Bool) (t : S) → Streams step is_refused s text t → ok ≡ not (is_refused t) → Handed step is_refused told s text ok t
+  Handed-of s text ok t h flag = record {
+    streams = h;
+    flag = flag;
+    told = λ e. record { pieces = h.pieces; cut = h.cut; told = told-Offers s h.pieces t e (Streams-all step is_refused s text t e h) };
+  }
 
 -- the same at the value that the sink ends as
 pub Streams-at : {S : Type 0} (step : S → List ℕ → S → Type 0) (is_refused : S → Bool) (old : S) (text : List ℕ) (new : S) → Streams step is_refused old text new → (end : S) → end ≡ new → Streams step is_refused old text end

@@ -1,12 +1,11 @@
 -- The text of bytes.
 use Rattle.std.proofs.Common.{◌≡◌, ℕ, suc, ◌+◌, ◌*◌, ◌/◌, ◌%◌, ◌<◌, Bool, true, false, List, [], ◌∷◌, ◌++◌, length, take, get_or, slice_index, Some, refl, ap, ◌∙◌, sym, arith, length-append}
-use Rattle.std.specs.Prelude.{if◌then◌else◌}
 use Rattle.std.specs.Str.{IsAscii}
 use Rattle.std.proofs.lemmas.Bool.Decides.{nat_tests}
 use Rattle.std.proofs.lemmas.List.{append_assoc, take_more}
 use Rattle.std.proofs.lemmas.Str.Ascii.{IsAscii-nil, IsAscii-cons}
 use Rattle.const_hex_arch.specs.Digits.{hex_value, hex_digit}
-use Rattle.const_hex_arch.specs.Texts.{hex_text, prefix_of, full_text, Spells}
+use Rattle.const_hex_arch.specs.Texts.{hex_text, prefix_of, full_text, text_length, Spells}
 
 -- no bytes
 pub hex_text-nil : (up : Bool) → hex_text up [] ≡ []
@@ -28,7 +27,7 @@ pub length-full_text : (prefix up : Bool) (bs : List ℕ) → length (full_text 
 length-full_text prefix up bs = length-append (prefix_of prefix) (hex_text up bs) ∙ ap (λ n. length (prefix_of prefix) + n) (length-hex_text up bs)
 
 -- how long the text is, by whether there is a prefix
-pub full_text_size : (prefix up : Bool) (bs : List ℕ) → length (full_text prefix up bs) ≡ 2 * length bs + (if prefix then 2 else 0)
+pub full_text_size : (prefix up : Bool) (bs : List ℕ) → length (full_text prefix up bs) ≡ text_length prefix (length bs)
 full_text_size true up bs = let l = length-full_text true up bs in omega (arith, l)
 full_text_size false up bs = let l = length-full_text false up bs in omega (arith, l)
 

@@ -1,5 +1,5 @@
 -- A text that is handed to a sink in large pieces.
-use Rattle.std.specs.Prelude.{◌≡◌, ℕ, ◌+◌, ◌-◌, ◌/◌, ◌≤◌, Bool, false, List, [], ◌∷◌, length, take, Option}
+use Rattle.std.specs.Prelude.{◌≡◌, ℕ, ◌+◌, ◌-◌, ◌/◌, ◌≤◌, Bool, false, not, List, [], ◌∷◌, length, take, Option}
 use Rattle.std.specs.List.{concat, All}
 use Rattle.const_hex_arch.specs.Sinks.{told_after}
 use Rattle.const_hex_arch.specs.declared.stream.BufferedHex.{BufferedHex}
@@ -47,3 +47,9 @@ pub record TellsCut (old : Option (List (List ℕ))) (text : List ℕ) (new : Op
   pub pieces : List (List ℕ)
   pub cut : Cut text pieces
   pub told : new ≡ told_after old pieces
+
+-- what a text that is handed over does to a sink, and the answer
+pub record Handed {S : Type 0} (step : S → List ℕ → S → Type 0) (is_refused : S → Bool) (tells : S → Option (List (List ℕ))) (old : S) (text : List ℕ) (ok : Bool) (new : S) : Type 0 where
+  pub streams : Streams step is_refused old text new
+  pub flag : ok ≡ not (is_refused new)
+  pub told : is_refused new ≡ false → TellsCut (tells old) text (tells new)

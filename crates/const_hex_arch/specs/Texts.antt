@@ -16,6 +16,10 @@ prefix_of prefix = if prefix then 48 ∷ 120 ∷ [] else []
 abbrev pub full_text : Bool → Bool → List ℕ → List ℕ
 full_text prefix up bs = prefix_of prefix ++ hex_text up bs
 
+-- the length of the text of n bytes: two digits for each, and two bytes more for a prefix
+abbrev pub text_length : Bool → ℕ → ℕ
+text_length prefix n = 2 * n + (if prefix then 2 else 0)
+
 -- two digits spell one byte: 16 times the first value, and the second
 pub record IsPair (c d b : ℕ) : Type 0 where
   pub high : ℕ

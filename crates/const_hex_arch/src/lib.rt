@@ -21,6 +21,7 @@ pub mod output;
 pub mod sink;
 pub mod stream;
 pub mod tables;
+pub mod text;
 
 pub use crate::arch::check_first::CheckFirst;
 pub use crate::arch::kernel16::Lanes16;
@@ -37,3 +38,4 @@ pub use crate::stream::BufferedHex;
 pub use crate::tables::{
     HEX_CHARS_LOWER, HEX_CHARS_UPPER, HEX_DECODE_LUT, NIL, digit_at, value_at,
 };
+pub use crate::text::{fill_text, text_size};

@@ -1,15 +1,14 @@
 //! The text of bytes, handed to a sink in large pieces.
 
 ghost use Rattle.std.specs.Prelude.{◌≡◌, ◌≤◌, ◌↔◌, false, not, is_ok, length, IsTrue};
-ghost use Rattle.std.specs.Str.{IsAscii};
 ghost use Rattle.const_hex_arch.specs.Texts.{full_text};
-ghost use Rattle.const_hex_arch.specs.Streams.{Streams, TellsCut, hex_bytes};
+ghost use Rattle.const_hex_arch.specs.Streams.{Handed, Streams, TellsCut, hex_bytes};
 
 use crate::arch::{FixedKernel, Kernel, encode_full};
 use crate::output::buffered::BufferedOutput;
-use crate::output::slice::SliceOutput;
 use crate::sink::output::SinkOutput;
 use crate::sink::{Sink, SinkError, refusal_of};
+use crate::text::{fill_text, text_size};
 
 /// How many bytes are gathered for one call of a sink, and the longest text that is handed over whole.
 const GATHERED: usize = 4096;
@@ -111,32 +110,18 @@ impl<'a, const UPPER: bool, const PREFIX: bool> BufferedHex<'a, UPPER, PREFIX> {
         self.bytes.len() <= digits / 2
     }
 
-    /// How long the text is.
-    #[inline(always)]
-    #[tactic(auto, using(crate::proofs::Writing::full_text_size))]
-    fn size(&self) -> usize
-        requires { length (full_text PREFIX UPPER (hex_bytes self.now)) ≤ 4096 }
-        ensures { result ≡ length (full_text PREFIX UPPER (hex_bytes self.now)) }
-    {
-        let digits = 2 * self.bytes.len();
-        if PREFIX { 2 + digits } else { digits }
-    }
-
     /// The same of a text of at most `N` bytes, by one call, or by none where there is no byte.
+    #[tactic(auto, using(crate::proofs::Writing::full_text_size))]
     fn write_whole<K: Kernel, S: Sink, const N: usize>(&self, sink: &mut S) -> Result<(), SinkError>
         requires accepting { S.is_refused sink.old ≡ false }
         requires size { N ≤ 4096 }
         requires fits { length (full_text PREFIX UPPER (hex_bytes self.now)) ≤ N }
-        ensures streams { Streams S.step S.is_refused sink.old
-            (full_text PREFIX UPPER (hex_bytes self.now)) sink.new }
-        ensures flag { is_ok result ≡ not (S.is_refused sink.new) }
-        ensures told { S.is_refused sink.new ≡ false
-            → TellsCut (S.told sink.old) (full_text PREFIX UPPER (hex_bytes self.now))
-            (S.told sink.new) }
+        ensures { Handed S.step S.is_refused S.told sink.old
+            (full_text PREFIX UPPER (hex_bytes self.now)) (is_ok result) sink.new }
     {
         let mut buffer = [0; N];
-        let text = &mut buffer[..self.size()];
-        fill::<K>(self.bytes, PREFIX, UPPER, text);
+        let text = &mut buffer[..text_size(PREFIX, self.bytes.len())];
+        fill_text::<K>(self.bytes, PREFIX, UPPER, text);
         if text.is_empty() {
             return Ok(());
         }
@@ -148,12 +133,8 @@ impl<'a, const UPPER: bool, const PREFIX: bool> BufferedHex<'a, UPPER, PREFIX> {
     #[inline(never)]
     fn gather<K: Kernel, S: Sink>(&self, sink: &mut S) -> Result<(), SinkError>
         requires { S.is_refused sink.old ≡ false }
-        ensures streams { Streams S.step S.is_refused sink.old
-            (full_text PREFIX UPPER (hex_bytes self.now)) sink.new }
-        ensures flag { is_ok result ≡ not (S.is_refused sink.new) }
-        ensures told { S.is_refused sink.new ≡ false
-            → TellsCut (S.told sink.old) (full_text PREFIX UPPER (hex_bytes self.now))
-            (S.told sink.new) }
+        ensures { Handed S.step S.is_refused S.told sink.old
+            (full_text PREFIX UPPER (hex_bytes self.now)) (is_ok result) sink.new }
     {
         let mut output = BufferedOutput::<SinkOutput<'_, S>, GATHERED>::new(SinkOutput::new(sink));
         encode_full::<K, BufferedOutput<SinkOutput<'_, S>, GATHERED>>(
@@ -169,15 +150,4 @@ impl<'a, const UPPER: bool, const PREFIX: bool> BufferedHex<'a, UPPER, PREFIX> {
         let _ = &*back;
         refusal_of(sink)
     }
-}
-
-/// Fills an output of the text's length with the text.
-#[inline(always)]
-fn fill<K: Kernel>(input: &[u8], prefix: bool, upper: bool, output: &mut [u8])
-    requires { length output.old ≡ length (full_text prefix upper input.now) }
-    ensures text { output.new ≡ full_text prefix upper input.now }
-    ensures ascii { IsAscii output.new }
-{
-    let mut written = SliceOutput::new(output);
-    encode_full::<K, SliceOutput>(input, prefix, upper, &mut written);
 }

@@ -33,9 +33,7 @@ use crate::refusal::Refusal;
 pub extern "C" fn const_hex_encoded_length(bytes: usize, prefix: bool) -> usize
     ensures { result ≡ min (text_length prefix bytes) usize.MAX }
 {
-    bytes
-        .saturating_mul(2)
-        .saturating_add(if prefix { 2 } else { 0 })
+    const_hex::text_size(prefix, bytes)
 }
 
 /// Fills the text with the digits of the bytes, in upper or lower letters, behind `0x` where a

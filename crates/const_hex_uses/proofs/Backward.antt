@@ -1,6 +1,6 @@
 -- One digit or pair in front of what was read from the end on, and room for a pair of digits.
 use Rattle.std.proofs.Common.{◌≡◌, ℕ, ◌+◌, ◌*◌, ◌/◌, ◌%◌, ◌<◌, ◌≤◌, Bool, List, [], ◌∷◌, length, take, drop, get_or, set, sym, arith}
-use Rattle.std.specs.Prelude.{Option, Some, None}
+use Rattle.std.specs.Prelude.{Option, Some}
 use Rattle.std.proofs.lemmas.List.{append_assoc, drop_more, drop-set}
 use Rattle.std.proofs.lemmas.List.Elements.{All-cons}
 use Rattle.const_hex_arch.specs.Digits.{hex_value, hex_digit, IsDigit}
@@ -20,11 +20,6 @@ pair_before u new i n high low e h k p q s =
     let twice : 2 * n ≡ 2 * i + 1 + 1 = omega arith in
     rw (drop_more u (2 * i) 0 (omega arith), drop_more u (2 * i + 1) 0 h, drop-set new i (high * 16 + low) k)
     (IsPair-of _ _ high low _ p q (omega arith), rw (twice, e) at s)
-
--- where more fits, less does
-pub room_for_less : (room : Option ℕ) (m n : ℕ) → m ≤ n → HasRoom room n → HasRoom room m
-room_for_less (Some r) m n h k = omega arith
-room_for_less None m n h k = omega arith
 
 -- a pair of digits leaves room for the pairs of the bytes that are left
 pub room_after_pair : {S : Type 0} (step : S → List ℕ → S → Type 0) (room : S → Option ℕ)

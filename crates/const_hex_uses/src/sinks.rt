@@ -1,10 +1,11 @@
-//! A text for any sink.
+//! A text for any sink, and its pieces.
 
-ghost use Rattle.std.specs.Prelude.{◌≡◌, true, false, not, is_ok};
-ghost use Rattle.const_hex_arch.specs.Streams.{Streams};
+ghost use Rattle.std.specs.Prelude.{◌≡◌, true, false, not, is_ok, IfOk};
+ghost use Rattle.const_hex_arch.specs.Streams.{Cut, Streams};
 ghost use Rattle.const_hex_arch.specs.Texts.{full_text};
 
-use const_hex_arch::{BufferedHex, Sink, SinkError};
+use const_hex_arch::{BufferedHex, PieceSink, Sink, SinkError};
+use std::alloc::Global;
 
 /// Sends the text of some bytes, behind `0x`, to a sink that has refused nothing so far.
 ///
@@ -20,4 +21,19 @@ pub fn send<S: Sink>(bytes: &[u8], sink: &mut S) -> Result<(), SinkError>
     ensures flag { is_ok result ≡ not (S.is_refused sink.new) }
 {
     BufferedHex::<false, true>::new(bytes).write_to(sink)
+}
+
+/// The text of some bytes, behind `0x`, in pieces of at most 4096 bytes, as a network takes them.
+///
+/// Answers an error if memory is refused.
+///
+/// ```rust
+/// assert_eq!(rt; packets(rt.alloc(), &[0xAB; 5000])?.pieces().len(), 3);
+/// ```
+pub fn packets(alloc: Global, bytes: &[u8]) -> Result<PieceSink, SinkError>
+    ensures { IfOk result (λ sink. Cut (full_text true false bytes.now) sink.pieces) }
+{
+    let mut sink = PieceSink::new(alloc, 0);
+    BufferedHex::<false, true>::new(bytes).write_to(&mut sink)?;
+    Ok(sink)
 }

@@ -6,7 +6,7 @@ mod failures;
 mod hosts;
 
 use const_hex::FromHexError;
-use consthex_modes::{Mode, RunError, USAGE, mode_of, mode_or_status, run};
+use consthex_modes::{Mode, RunError, USAGE, mode_of, run};
 use std::alloc::AllocError;
 use std::io;
 use std::io::Read;
@@ -160,10 +160,8 @@ fn knows_six_words(rt: HostRuntime) -> Result<(), Fail> {
     for (word, mode) in named {
         let one = strings(&rt, &[word])?;
         assert_eq!(rt; mode_of(&one), Some(mode), "{word}");
-        assert_eq!(rt; mode_or_status(&one), Ok(mode), "{word}");
         let two = strings(&rt, &[word, word])?;
         assert_eq!(rt; mode_of(&two), None, "{word}");
-        assert_eq!(rt; mode_or_status(&two), Err(2), "{word}");
     }
     let unknown: [&[&str]; 9] = [
         &[],
@@ -179,7 +177,6 @@ fn knows_six_words(rt: HostRuntime) -> Result<(), Fail> {
     for words in unknown {
         let strings = strings(&rt, words)?;
         assert_eq!(rt; mode_of(&strings), None, "{words:?}");
-        assert_eq!(rt; mode_or_status(&strings), Err(2), "{words:?}");
     }
     Ok(())
 }

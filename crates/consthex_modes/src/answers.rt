@@ -8,6 +8,7 @@ ghost use Rattle.consthex_modes.specs.declared.error.RunError.TheVariants.{TooLo
 
 use crate::error::RunError;
 use crate::mode::Mode;
+use const_hex::{FixedKernel, fill_text, text_size};
 use std::alloc::{AllocError, Global};
 
 /// The most bytes that an input may have.
@@ -50,9 +51,7 @@ fn encoded(alloc: Global, input: &[u8], prefix: bool, upper: bool) -> Result<Vec
     requires { length input.now ≤ limit }
     ensures { IfOk result (λ v. v.items ≡ full_text prefix upper input.now ++ newline) }
 {
-    let digits = 2 * input.len();
-    let length = if prefix { 2 + digits } else { digits };
-    let mut line = vec![in alloc; b'\n'; length + 1]?;
+    let mut line = vec![in alloc; 0u8; text_size(prefix, input.len()) + 1]?;
     write_line(input, prefix, upper, &mut line);
     Ok(line)
 }
@@ -64,7 +63,7 @@ fn write_line(input: &[u8], prefix: bool, upper: bool, output: &mut [u8])
 {
     let end = output.len() - 1;
     output[end] = b'\n';
-    const_hex::encode_full_to_slice(input, prefix, upper, &mut output[..end]).unwrap();
+    fill_text::<FixedKernel>(input, prefix, upper, &mut output[..end]);
 }
 
 /// The text without one newline at its end.

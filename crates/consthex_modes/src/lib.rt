@@ -16,6 +16,6 @@ mod words;
 
 pub use crate::answers::answer;
 pub use crate::error::RunError;
-pub use crate::mode::{Mode, USAGE, mode_of, mode_or_status};
+pub use crate::mode::{Mode, USAGE, mode_of};
 pub use crate::process::program;
 pub use crate::runs::run;

@@ -1,6 +1,6 @@
 //! What the program is asked to do.
 
-ghost use Rattle.std.specs.Prelude.{◌≡◌, ◌↔◌, ◌∷◌, [], map, string_bytes, Some, Ok, IfErr};
+ghost use Rattle.std.specs.Prelude.{◌≡◌, ◌↔◌, ◌∷◌, [], map, string_bytes, Some};
 ghost use Rattle.consthex_modes.specs.declared.mode.Mode.{Mode};
 ghost use Rattle.consthex_modes.specs.Words.{word_of};
 
@@ -34,24 +34,6 @@ pub enum Mode {
 /// ```
 pub const USAGE: &str = "usage: consthex \
     encode|encode-upper|encode-prefixed|encode-upper-prefixed|decode|check";
-
-/// The status of a run whose words name no mode.
-const WRONG_USAGE: u8 = 2;
-
-/// The mode that the words behind the program's name ask for, or the status 2 where they name none.
-///
-/// ```rust
-/// assert_eq!(rt; mode_or_status(&[]), Err(2));
-/// ```
-pub fn mode_or_status(words: &[String]) -> Result<Mode, u8>
-    ensures mode { (m : Mode) → (result ≡ Ok m) ↔ (map string_bytes words.now ≡ word_of m ∷ []) }
-    ensures status { IfErr result (λ status. status ≡ 2) }
-{
-    match mode_of(words) {
-        Some(mode) => Ok(mode),
-        None => Err(WRONG_USAGE),
-    }
-}
 
 /// The mode that the arguments name, without the program's name: exactly one word, compared byte
 /// for byte.

@@ -11,7 +11,7 @@ ghost use Rattle.consthex_modes.specs.declared.error.RunError.TheVariants.{Text}
 ghost use Rattle.consthex_modes.specs.declared.mode.Mode.{Mode};
 
 use crate::error::RunError;
-use crate::mode::{USAGE, mode_or_status};
+use crate::mode::{USAGE, mode_of};
 use crate::runs::run;
 use crate::words::words;
 use std::env::Env;
@@ -54,21 +54,21 @@ pub fn program<R: Read, W: Write>(
     let Ok(words) = words(rt) else {
         return refused(rt, RunError::NoMemory);
     };
-    match mode_or_status(&words) {
-        Ok(mode) => match run(rt.alloc(), mode, input, output) {
+    match mode_of(&words) {
+        Some(mode) => match run(rt.alloc(), mode, input, output) {
             Ok(()) => ExitCode::SUCCESS,
             Err(error) => refused(rt, error),
         },
-        Err(status) => misused(rt, status),
+        None => misused(rt),
     }
 }
 
-/// Prints the usage, and gives that status. A failure of standard error is ignored.
-fn misused(rt: &impl Eprint, status: u8) -> ExitCode
-    ensures { exit_status result ≡ status }
+/// Prints the usage, and gives the status 2. A failure of standard error is ignored.
+fn misused(rt: &impl Eprint) -> ExitCode
+    ensures { exit_status result ≡ 2 }
 {
     let _ = eprintln!(rt; "{USAGE}");
-    ExitCode::from(status)
+    ExitCode::from(2)
 }
 
 /// Prints the error, and gives its status. A failure of standard error is ignored.

@@ -1,10 +1,10 @@
 //! A value of a fixed count of bytes, its text and its JSON string.
 
-ghost use Rattle.std.specs.Prelude.{◌≡◌, ◌↔◌, ℕ, List, Bool, length, true, false, Some, None, Ok, Err, IfOk, IfSome, MatchResult};
+ghost use Rattle.std.specs.Prelude.{◌≡◌, ◌↔◌, ℕ, List, Bool, length, true, false, Some, None, Ok, Err, IfOk, IfSome, IsOk, IsTrue, MatchResult};
 ghost use Rattle.serde_json.specs.Data.{string};
 ghost use Rattle.serde_json.specs.Find.{as_str};
 ghost use Rattle.serde_json.specs.View.{view};
-ghost use Rattle.const_hex.specs.Answers.{AreBytes, ReadsSized};
+ghost use Rattle.const_hex.specs.Answers.{AreBytes, ReadsSized, is_text_of};
 ghost use Rattle.const_hex.specs.Bodies.{body_of, lowered};
 ghost use Rattle.const_hex.specs.Json.{ReadsInside};
 ghost use Rattle.const_hex.specs.Texts.{full_text};
@@ -107,6 +107,8 @@ impl<const N: usize> FromHex for FixedBytes<N> {
 
     fn from_hex(alloc: Global, hex: &[u8]) -> Result<FixedBytes<N>, FromHexError>
         ensures answers { ReadsFixed N hex.now result }
+        // Of a constant this computes, so the check proves an `unwrap`.
+        ensures accepts { IsOk result ↔ IsTrue (is_text_of N hex.now) }
         // The text of N bytes, with or without a prefix and in either case, gives their value.
         ensures round_trip { (prefix up : Bool) (bs : List ℕ) → AreBytes bs → length bs ≡ N
             → hex.now ≡ full_text prefix up bs

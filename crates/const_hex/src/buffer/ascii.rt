@@ -2,10 +2,9 @@
 
 ghost use Rattle.std.specs.Prelude.{◌≡◌, ◌<◌, length, replicate, slice_set};
 ghost use Rattle.std.specs.Str.{IsAscii};
-ghost use Rattle.const_hex_arch.specs.Texts.{full_text};
+ghost use Rattle.const_hex_arch.specs.Texts.{full_text, text_length};
 
-use crate::fill::fill;
-use const_hex_arch::FixedKernel;
+use const_hex_arch::{FixedKernel, fill_text};
 
 /// An array of LEN bytes, all of them ASCII.
 #[derive(Clone, Copy)]
@@ -38,10 +37,10 @@ impl<const LEN: usize> AsciiArray<LEN> {
     /// has to have the length of that text.
     #[inline]
     pub(crate) fn fill(&mut self, input: &[u8], prefix: bool, upper: bool)
-        requires { LEN ≡ length (full_text prefix upper input.now) }
+        requires { LEN ≡ text_length prefix (length input.now) }
         ensures { self.new.bytes ≡ full_text prefix upper input.now }
     {
-        fill::<FixedKernel>(input, prefix, upper, &mut self.bytes);
+        fill_text::<FixedKernel>(input, prefix, upper, &mut self.bytes);
     }
 
     /// The bytes.

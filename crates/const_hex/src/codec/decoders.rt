@@ -1,9 +1,9 @@
 //! From text to bytes.
 
-ghost use Rattle.std.specs.Prelude.{◌≡◌, ℕ, List, Bool, ◌≢◌, ◌*◌, ◌↔◌, true, false, length, OnErr, IfOk, IfErr, MatchResult, Result, Ok, Err, take, drop};
+ghost use Rattle.std.specs.Prelude.{◌≡◌, ℕ, List, Bool, ◌≢◌, ◌*◌, ◌↔◌, true, false, length, OnErr, IfOk, IfErr, IsOk, IsTrue, MatchResult, Result, Ok, Err, take, drop};
 ghost use Rattle.const_hex_arch.specs.Texts.{hex_text, full_text};
 ghost use Rattle.const_hex.specs.Bodies.{body_of, lowered};
-ghost use Rattle.const_hex.specs.Answers.{IsOdd, AreBytes, Reads, ReadsSized, ReadsWithin, Leaves};
+ghost use Rattle.const_hex.specs.Answers.{IsOdd, AreBytes, Reads, ReadsSized, ReadsWithin, Leaves, all_digits, is_text_of};
 ghost use Rattle.const_hex.specs.declared.error.FromHexError.{FromHexError};
 ghost use Rattle.const_hex.specs.declared.error.FromHexError.TheVariants.{OddLength, NoMemory};
 
@@ -184,6 +184,8 @@ pub fn decode_to_front(input: &[u8], output: &mut [u8]) -> Result<usize, FromHex
 #[tactic(auto, using(crate::proofs::RoundTrip::sized_round_trip, crate::proofs::RoundTrip::sized_agree))]
 pub fn decode_to_array<const N: usize>(input: &[u8]) -> Result<[u8; N], FromHexError>
     ensures answer { ReadsSized input.now N result }
+    // Of a constant this computes, so the check proves an `unwrap`.
+    ensures accepts { IsOk result ↔ IsTrue (is_text_of N input.now) }
     // What was encoded of N bytes is decoded to the same bytes.
     ensures round_trip { (prefix up : Bool) (bs : List ℕ) → AreBytes bs → length bs ≡ N
         → input.now ≡ full_text prefix up bs → result ≡ Ok bs }
@@ -216,8 +218,28 @@ fn read_array<const N: usize>(input: &[u8]) -> Result<[u8; N], FromHexError>
 #[tactic(auto, using(crate::proofs::Reading::one_sized_answer))]
 pub fn const_decode_to_array<const N: usize>(input: &[u8]) -> Result<[u8; N], FromHexError>
     ensures answer { ReadsSized input.now N result }
+    // Of a constant this computes, so the check proves an `unwrap`.
+    ensures accepts { IsOk result ↔ IsTrue (is_text_of N input.now) }
     // Only this answer meets `ReadsSized`.
     ensures alone { (r : Result (List ℕ) FromHexError) → ReadsSized input.now N r → r ≡ result }
 {
     decode_to_array(input)
+}
+
+/// The N bytes of a constant text, which the check proves to spell them.
+///
+/// The text has to be 2 * N digits, behind a prefix or none. A wrong digit, an odd length or another
+/// length is refused when the program is checked, and never runs. Takes no memory.
+///
+/// ```rust
+/// let bytes: [u8; 4] = const_hex::bytes_of(b"0x6b697769");
+/// assert_eq!(rt; &bytes, b"kiwi");
+/// ```
+#[inline]
+pub fn bytes_of<const N: usize>(text: &[u8]) -> [u8; N]
+    requires size { length (body_of text.now) ≡ 2 * N }
+    requires digits { IsTrue (all_digits (body_of text.now)) }
+    ensures { ReadsSized text.now N (Ok result) }
+{
+    decode_to_array(text).unwrap()
 }

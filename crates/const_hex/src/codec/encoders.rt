@@ -9,9 +9,8 @@ ghost use Rattle.const_hex.specs.Loans.{EndsEncoded};
 ghost use Rattle.const_hex.specs.declared.error.FromHexError.TheVariants.{InvalidStringLength};
 
 use crate::error::FromHexError;
-use crate::fill::fill;
 use crate::reserved::reserved_bytes;
-use const_hex_arch::{FixedKernel, Kernel};
+use const_hex_arch::{FixedKernel, Kernel, fill_text, text_size};
 use std::alloc::{AllocError, Global};
 
 /// The text, owned.
@@ -124,7 +123,7 @@ fn filled<'a>(input: &[u8], upper: bool, output: &'a mut [u8]) -> &'a mut [u8]
     ensures text { result.now ≡ hex_text upper input.now }
     ensures ascii { IsAscii result.now }
 {
-    fill::<FixedKernel>(input, false, upper, output);
+    fill_text::<FixedKernel>(input, false, upper, output);
     output
 }
 
@@ -181,19 +180,6 @@ pub fn encode_to_slice_upper(input: &[u8], output: &mut [u8]) -> Result<(), From
     into_slice(input, true, output)
 }
 
-/// Whether an output of one length has exactly two bytes for each of an input of another, and two
-/// more where a prefix is wanted.
-#[inline(always)]
-fn fits_full(input_length: usize, prefix: bool, output_length: usize) -> bool
-    ensures { IsTrue result ↔ (output_length ≡ text_length prefix input_length) }
-{
-    if prefix {
-        output_length >= 2 && fits(input_length, output_length - 2)
-    } else {
-        fits(input_length, output_length)
-    }
-}
-
 /// Fills the output with the text of the input, in upper or lower letters, behind `0x` where a
 /// prefix is wanted.
 ///
@@ -217,10 +203,10 @@ pub fn encode_full_to_slice(
     ensures refusal { OnErr result (result ≡ Err InvalidStringLength) }
     ensures unchanged { OnErr result (output.new ≡ output.old) }
 {
-    if !fits_full(input.len(), prefix, output.len()) {
+    if output.len() != text_size(prefix, input.len()) {
         return Err(FromHexError::InvalidStringLength);
     }
-    fill::<FixedKernel>(input, prefix, upper, output);
+    fill_text::<FixedKernel>(input, prefix, upper, output);
     Ok(())
 }
 

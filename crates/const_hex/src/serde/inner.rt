@@ -5,8 +5,7 @@ ghost use Rattle.const_hex_arch.specs.Texts.{full_text};
 ghost use Rattle.const_hex_arch.specs.Streams.{Streams, TellsCut};
 ghost use Rattle.const_hex.specs.Json.{TellsWhole};
 
-use crate::fill::{fill, text_size};
-use const_hex_arch::{BufferedHex, FixedKernel, Sink, SinkError};
+use const_hex_arch::{BufferedHex, FixedKernel, Sink, SinkError, fill_text, text_size};
 
 /// How many bytes are handed over in one call.
 const AT_ONCE: usize = 128;
@@ -53,7 +52,7 @@ fn text_in<'a>(buffer: &'a mut [u8], bytes: &[u8], prefix: bool, upper: bool) ->
     ensures { result.now ≡ full_text prefix upper bytes.now }
 {
     let text = &mut buffer[..text_size(prefix, bytes.len())];
-    fill::<FixedKernel>(bytes, prefix, upper, text);
+    fill_text::<FixedKernel>(bytes, prefix, upper, text);
     let text: &'a [u8] = text;
     unsafe { str::from_utf8_unchecked(text) }
 }

@@ -1,8 +1,8 @@
 //! Reading into arrays.
 
-ghost use Rattle.std.specs.Prelude.{◌≡◌, ◌↔◌, ℕ, List, Bool, length, Ok, IfOk};
+ghost use Rattle.std.specs.Prelude.{◌≡◌, ◌↔◌, ℕ, List, Bool, length, Ok, IfOk, IsOk, IsTrue};
 ghost use Rattle.const_hex_arch.specs.Texts.{full_text};
-ghost use Rattle.const_hex.specs.Answers.{AreBytes, ReadsSized};
+ghost use Rattle.const_hex.specs.Answers.{AreBytes, ReadsSized, is_text_of};
 ghost use Rattle.const_hex.specs.Bodies.{body_of, lowered};
 ghost use Rattle.const_hex.specs.Types.{IsCount};
 ghost use Rattle.const_hex.specs.TypeLaws.{ReadsSized-faithful};
@@ -26,6 +26,8 @@ impl<const N: usize> FromHex for [u8; N] {
 
     fn from_hex(_alloc: Global, hex: &[u8]) -> Result<[u8; N], FromHexError>
         ensures answers { ReadsSized hex.now N result }
+        // Of a constant this computes, so the check proves an `unwrap`.
+        ensures accepts { IsOk result ↔ IsTrue (is_text_of N hex.now) }
         // What was encoded of N bytes is decoded to the same bytes.
         ensures round_trip { (prefix up : Bool) (bs : List ℕ) → AreBytes bs → length bs ≡ N
             → hex.now ≡ full_text prefix up bs → result ≡ Ok bs }

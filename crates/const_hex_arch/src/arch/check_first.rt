@@ -35,7 +35,9 @@ impl<K: Kernel> Kernel for CheckFirst<K> {
         K::check(input)
     }
 
-    #[inline(always)]
+    // Not `always`: a decoder names this in a branch that most kernels never take, and with all of
+    // it would be too large to be inlined.
+    #[inline]
     fn decode_checked(input: &[u8], output: &mut [u8]) -> bool {
         if !K::check(input) {
             return false;

@@ -1,12 +1,36 @@
 //! The values of digits and the tests of lanes, for vectors of any number of lanes.
 
-ghost use Rattle.std.specs.Prelude.{◌≡◌, ◌↔◌, map, IsTrue};
+ghost use Rattle.std.specs.Prelude.{◌≡◌, ◌*◌, ◌++◌, ◌≤◌, ◌↔◌, length, map, IsTrue};
 ghost use Rattle.std.specs.List.{AllZip};
 ghost use Rattle.const_hex_arch.specs.Digits.{hex_value};
-ghost use Rattle.const_hex_arch.specs.Lanes.{AllUnmarked};
+ghost use Rattle.const_hex_arch.specs.Lanes.{AllNibbles, AllUnmarked, byte_pairs};
 ghost use Rattle.const_hex_arch.specs.Nibbles.{as_value, IsValueOf, IsMarkOf, IsPartOf, IsLimitOf};
+ghost use Rattle.const_hex_arch.specs.Runs.{HasRoom};
+ghost use Rattle.const_hex_arch.specs.Texts.{hex_text, AllDigits, Spells};
 
+use crate::output::Output;
 use std::simd::prelude::*;
+
+/// What vectors of `N` lanes have of their own. All else of a kernel is the same at any number.
+pub(crate) trait Vectors<const N: usize> {
+    /// Writes two digits for each byte, as one piece.
+    fn encode_step<O: Output>(bytes: &[u8], upper: bool, output: &mut O)
+        requires size { length bytes.now ≡ N }
+        requires room { HasRoom (O.room output.old) (2 * N) }
+        ensures { O.step output.old (hex_text upper bytes.now) output.new };
+
+    /// The limit of each lane: if the lane is a digit, its value is not above it.
+    fn limits(v: Simd<u8, N>) -> Simd<u8, N>
+        ensures { AllZip IsLimitOf v.entry result };
+
+    /// One byte of each two values, the higher half first.
+    fn merge(first: Simd<u8, N>, second: Simd<u8, N>) -> Simd<u8, N>
+        ensures { AllNibbles (first.entry ++ second.entry)
+            → result ≡ byte_pairs (first.entry ++ second.entry) };
+
+    /// A step has some bytes, and its text is no longer than a piece.
+    ghost sizes: { (1 ≤ N) × (N ≤ 32) };
+}
 
 /// The value of each lane that is a digit, and more than 15 for every other lane.
 ///
@@ -60,4 +84,62 @@ pub(crate) fn unhex<const N: usize>(v: Simd<u8, N>) -> Simd<u8, N>
 {
     let nine = Simd::splat(9);
     (v & Simd::splat(15)) + v.simd_gt(Simd::splat(64)).select(nine, Simd::splat(0))
+}
+
+/// What the mark of each lane is found by: its value, where it is a digit.
+#[inline(always)]
+fn digit_values<const N: usize, V: Vectors<N>>(v: Simd<u8, N>) -> Simd<u8, N>
+    ensures { AllZip IsPartOf v.entry result }
+{
+    values(v, V::limits(v))
+}
+
+/// Marks of a vector: there are none exactly where each lane is a digit.
+#[inline(always)]
+fn digit_marks<const N: usize, V: Vectors<N>>(v: Simd<u8, N>) -> Simd<u8, N>
+    ensures { AllUnmarked result ↔ AllDigits v.entry }
+{
+    marks(v, digit_values::<N, V>(v))
+}
+
+/// Whether every lane is a digit.
+#[inline(always)]
+pub(crate) fn check<const N: usize, V: Vectors<N>>(v: Simd<u8, N>) -> bool
+    ensures { IsTrue result ↔ AllDigits v.entry }
+{
+    are_unmarked(digit_marks::<N, V>(v))
+}
+
+/// The marks of two vectors, joined.
+#[inline(always)]
+pub(crate) fn two_marks<const N: usize, V: Vectors<N>>(
+    first: Simd<u8, N>,
+    second: Simd<u8, N>,
+) -> Simd<u8, N>
+    ensures { AllUnmarked result ↔ AllDigits (first.entry ++ second.entry) }
+{
+    digit_marks::<N, V>(first) | digit_marks::<N, V>(second)
+}
+
+/// The bytes that the text of two vectors spells, if each of its lanes is a digit. Else they mean
+/// nothing.
+#[inline(always)]
+pub(crate) fn decode<const N: usize, V: Vectors<N>>(
+    first: Simd<u8, N>,
+    second: Simd<u8, N>,
+) -> Simd<u8, N>
+    ensures { AllDigits (first.entry ++ second.entry) → Spells (first.entry ++ second.entry) result }
+{
+    V::merge(digit_values::<N, V>(first), digit_values::<N, V>(second))
+}
+
+/// The same by [`unhex`], for a text that was tested before.
+#[inline(always)]
+pub(crate) fn decode_digits<const N: usize, V: Vectors<N>>(
+    first: Simd<u8, N>,
+    second: Simd<u8, N>,
+) -> Simd<u8, N>
+    ensures { AllDigits (first.entry ++ second.entry) → Spells (first.entry ++ second.entry) result }
+{
+    V::merge(unhex(first), unhex(second))
 }

@@ -7,15 +7,24 @@ ghost use Rattle.std.specs.Prelude.{◌≡◌, ◌↔◌, [], ◌∷◌, ◌++�
 ghost use Rattle.std.specs.List.{AllZip, concat};
 ghost use Rattle.std.specs.Str.{IsAscii};
 ghost use Rattle.const_hex_arch.specs.Digits.{hex_value};
-ghost use Rattle.const_hex_arch.specs.Lanes.{AllNibbles, AllUnmarked, low_digit, byte_pairs};
-ghost use Rattle.const_hex_arch.specs.Nibbles.{as_value, IsValueOf, IsMarkOf, IsLimitOf};
+ghost use Rattle.const_hex_arch.specs.Lanes.{AllNibbles, low_digit, byte_pairs};
+ghost use Rattle.const_hex_arch.specs.Nibbles.{as_value, IsValueOf, IsLimitOf};
 ghost use Rattle.const_hex_arch.specs.Texts.{hex_text, AllDigits, Spells};
 
-use crate::arch::lanes;
+use crate::arch::kernel16::Lanes16;
+use crate::arch::lanes::{self, Vectors};
+use crate::output::Output;
 use crate::tables::{HEX_CHARS_LOWER, HEX_CHARS_UPPER};
 use std::simd::prelude::*;
 
 /// By the low half of a byte: a number that a digit's value is not above.
+// A byte less 48 is the value of `0` to `9`, and more than that of a letter. So the lesser of that
+// and the limit is the value of each digit, where the limit is the value of the letters from `A` to
+// `F` that have this low half. Where none has it, but a digit from `0` to `9` does, the limit is one
+// more than that digit's value; else it is 0.
+// What the value leaves of a byte less 48 is 0 for `0` to `9`, 7 for `A` to `F` and 39 for `a` to
+// `f`: all have the bits 7, 6, 4 and 3 clear. No other byte leaves such a number. (By limits that
+// are not one more, `P`, `W`, `X` and `Y` would: they would leave 32.)
 const LIMITS: [u8; 16] = [1, 10, 11, 12, 13, 14, 15, 8, 9, 10, 0, 0, 0, 0, 0, 0];
 
 /// Two digits for each lane, in order: the text of the first 8 lanes, and that of the last 8.
@@ -44,7 +53,7 @@ pub fn encode_chunk<const UPPER: bool>(v: u8x16) -> [u8x16; 2]
 pub fn check_chunk(v: u8x16) -> bool
     ensures { IsTrue result ↔ AllDigits v }
 {
-    lanes::are_unmarked(marks(v))
+    lanes::check::<16, Lanes16>(v)
 }
 
 /// The value of each lane that is a digit, and more than 15 for every other lane.
@@ -91,6 +100,39 @@ pub fn unhex(v: u8x16) -> u8x16
     lanes::unhex(v)
 }
 
+impl Vectors<16> for Lanes16 {
+    #[inline(always)]
+    fn encode_step<O: Output>(bytes: &[u8], upper: bool, output: &mut O) {
+        let lanes = u8x16::from_slice(bytes);
+        if upper {
+            output.write(&encode_piece::<true>(lanes));
+        } else {
+            output.write(&encode_piece::<false>(lanes));
+        }
+    }
+
+    // The look-up is of lanes in a register: nothing is read from memory by the value of a byte.
+    // `swizzle_dyn` asks for positions below 16, or from 128 on, which read as 0: so the mask. The
+    // machine looks at these five bits alone, so the mask costs nothing.
+    #[inline(always)]
+    fn limits(v: u8x16) -> u8x16
+        ensures { AllZip IsLimitOf v result }
+    {
+        u8x16::from_array(LIMITS).swizzle_dyn(v & u8x16::splat(0x8F))
+    }
+
+    #[inline(always)]
+    fn merge(first: u8x16, second: u8x16) -> u8x16
+        ensures { AllNibbles (first ++ second) → result ≡ byte_pairs (first ++ second) }
+    {
+        bytes_of(join(first, second))
+    }
+
+    ghost use Rattle.std.proofs.Common.{arith};
+
+    ghost sizes = { (Prim.omega arith, Prim.omega arith) };
+}
+
 /// The digit of the low half of each lane.
 #[inline(always)]
 fn low_digits<const UPPER: bool>(v: u8x16) -> u8x16
@@ -124,65 +166,9 @@ pub(crate) fn decode_pair(text: [u8x16; 2]) -> (u8x16, bool)
     ensures digits { IsTrue result.1 ↔ AllDigits (concat text) }
     ensures spells { IsTrue result.1 → Spells (concat text) result.0 }
 {
-    let (bytes, marks) = decode_untested(text);
+    let marks = lanes::two_marks::<16, Lanes16>(text[0], text[1]);
+    let bytes = lanes::decode::<16, Lanes16>(text[0], text[1]);
     (bytes, lanes::are_unmarked(marks))
-}
-
-/// The bytes that the lanes of a text spell, and a vector that has no mark exactly where all lanes
-/// of the text are digits. Where one is not, the bytes mean nothing.
-#[inline(always)]
-pub(crate) fn decode_untested(text: [u8x16; 2]) -> (u8x16, u8x16)
-    ensures digits { AllUnmarked result.1 ↔ AllDigits (concat text) }
-    ensures spells { AllDigits (concat text) → Spells (concat text) result.0 }
-{
-    let first = lanes::values(text[0], limits(text[0]));
-    let second = lanes::values(text[1], limits(text[1]));
-    let marks = lanes::marks(text[0], first) | lanes::marks(text[1], second);
-    (merge(first, second), marks)
-}
-
-/// The limit of each lane: if the lane is a digit, its value is not above it.
-// A byte less 48 is the value of `0` to `9`, and more than that of a letter. So the lesser of that
-// and the limit is the value of each digit, where the limit is the value of the letters from `A` to
-// `F` that have this low half. Where none has it, but a digit from `0` to `9` does, the limit is one
-// more than that digit's value; else it is 0.
-// What the value leaves of a byte less 48 is 0 for `0` to `9`, 7 for `A` to `F` and 39 for `a` to
-// `f`: all have the bits 7, 6, 4 and 3 clear. No other byte leaves such a number. (By limits that
-// are not one more, `P`, `W`, `X` and `Y` would: they would leave 32.)
-// The look-up is of lanes in a register: nothing is read from memory by the value of a byte.
-// `swizzle_dyn` asks for positions below 16, or from 128 on, which read as 0: so the mask. The
-// machine looks at these five bits alone, so the mask costs nothing.
-#[inline(always)]
-pub(crate) fn limits(v: u8x16) -> u8x16
-    ensures { AllZip IsLimitOf v result }
-{
-    u8x16::from_array(LIMITS).swizzle_dyn(v & u8x16::splat(0x8F))
-}
-
-/// Sets at least one of the bits 7, 6, 4 and 3 in each lane that is no digit, and clears the four
-/// in every other lane.
-#[inline(always)]
-pub(crate) fn marks(v: u8x16) -> u8x16
-    ensures { AllZip IsMarkOf v result }
-{
-    lanes::marks(v, lanes::values(v, limits(v)))
-}
-
-/// The bytes that the lanes of a text spell, which have to be digits.
-#[inline(always)]
-pub(crate) fn decode_digits(text: [u8x16; 2]) -> u8x16
-    requires { AllDigits (concat text) }
-    ensures { Spells (concat text) result }
-{
-    merge(unhex(text[0]), unhex(text[1]))
-}
-
-/// One byte of each two values, the higher half first.
-#[inline(always)]
-fn merge(first: u8x16, second: u8x16) -> u8x16
-    ensures { AllNibbles (first ++ second) → result ≡ byte_pairs (first ++ second) }
-{
-    bytes_of(join(first, second))
 }
 
 /// The lanes of both.

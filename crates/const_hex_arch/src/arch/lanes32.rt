@@ -7,11 +7,15 @@ ghost use Rattle.std.specs.Prelude.{◌≡◌, ◌↔◌, [], ◌∷◌, ◌++�
 ghost use Rattle.std.specs.List.{AllZip, concat};
 ghost use Rattle.std.specs.Str.{IsAscii};
 ghost use Rattle.const_hex_arch.specs.Digits.{hex_value};
-ghost use Rattle.const_hex_arch.specs.Lanes.{AllNibbles, AllUnmarked, low_digit, byte_pairs};
-ghost use Rattle.const_hex_arch.specs.Nibbles.{as_value, IsValueOf, IsMarkOf, IsLimitOf};
+ghost use Rattle.const_hex_arch.specs.Lanes.{AllNibbles, low_digit, byte_pairs};
+ghost use Rattle.const_hex_arch.specs.Nibbles.{as_value, IsValueOf, IsLimitOf};
 ghost use Rattle.const_hex_arch.specs.Texts.{hex_text, AllDigits, Spells};
 
-use crate::arch::{lanes, lanes16};
+use crate::arch::kernel16::Lanes16;
+use crate::arch::kernel32::Lanes32;
+use crate::arch::lanes::{self, Vectors};
+use crate::arch::lanes16;
+use crate::output::Output;
 use std::simd::prelude::*;
 
 /// The digits of each value, for each half of the lanes.
@@ -46,7 +50,7 @@ pub fn encode_chunk<const UPPER: bool>(v: u8x32) -> [u8x32; 2]
 pub fn check_chunk(v: u8x32) -> bool
     ensures { IsTrue result ↔ AllDigits v }
 {
-    lanes::are_unmarked(marks(v))
+    lanes::check::<32, Lanes32>(v)
 }
 
 /// The value of each lane that is a digit, and more than 15 for every other lane.
@@ -93,6 +97,40 @@ pub fn unhex(v: u8x32) -> u8x32
     lanes::unhex(v)
 }
 
+impl Vectors<32> for Lanes32 {
+    #[inline(always)]
+    fn encode_step<O: Output>(bytes: &[u8], upper: bool, output: &mut O) {
+        let lanes = u8x32::from_slice(bytes);
+        if upper {
+            output.write(&encode_piece::<true>(lanes));
+        } else {
+            output.write(&encode_piece::<false>(lanes));
+        }
+    }
+
+    // By halves of 16 lanes, for which the mask costs nothing. With AVX2 the compiler makes one
+    // look-up of both; the rest is of 32 lanes, or it would go by halves there too.
+    #[inline(always)]
+    fn limits(v: u8x32) -> u8x32
+        ensures { AllZip IsLimitOf v result }
+    {
+        let first = Lanes16::limits(v.extract::<0, 16>());
+        let second = Lanes16::limits(v.extract::<16, 16>());
+        lanes16::join(first, second)
+    }
+
+    #[inline(always)]
+    fn merge(first: u8x32, second: u8x32) -> u8x32
+        ensures { AllNibbles (first ++ second) → result ≡ byte_pairs (first ++ second) }
+    {
+        bytes_of(join(first, second))
+    }
+
+    ghost use Rattle.std.proofs.Common.{arith};
+
+    ghost sizes = { (Prim.omega arith, Prim.omega arith) };
+}
+
 /// The digit of the low half of each lane.
 #[inline(always)]
 fn low_digits<const UPPER: bool>(v: u8x32) -> u8x32
@@ -122,59 +160,9 @@ pub(crate) fn decode_pair(text: [u8x32; 2]) -> (u8x32, bool)
     ensures digits { IsTrue result.1 ↔ AllDigits (concat text) }
     ensures spells { IsTrue result.1 → Spells (concat text) result.0 }
 {
-    let (bytes, marks) = decode_untested(text);
+    let marks = lanes::two_marks::<32, Lanes32>(text[0], text[1]);
+    let bytes = lanes::decode::<32, Lanes32>(text[0], text[1]);
     (bytes, lanes::are_unmarked(marks))
-}
-
-/// The bytes that the lanes of a text spell, and a vector that has no mark exactly where all lanes
-/// of the text are digits. Where one is not, the bytes mean nothing.
-#[inline(always)]
-pub(crate) fn decode_untested(text: [u8x32; 2]) -> (u8x32, u8x32)
-    ensures digits { AllUnmarked result.1 ↔ AllDigits (concat text) }
-    ensures spells { AllDigits (concat text) → Spells (concat text) result.0 }
-{
-    let first = lanes::values(text[0], limits(text[0]));
-    let second = lanes::values(text[1], limits(text[1]));
-    let marks = lanes::marks(text[0], first) | lanes::marks(text[1], second);
-    (merge(first, second), marks)
-}
-
-/// The limit of each lane: if the lane is a digit, its value is not above it.
-// By halves of 16 lanes, for which the mask costs nothing. With AVX2 the compiler makes one look-up
-// of both; the rest is of 32 lanes, or it would go by halves there too.
-#[inline(always)]
-fn limits(v: u8x32) -> u8x32
-    ensures { AllZip IsLimitOf v result }
-{
-    let first = lanes16::limits(v.extract::<0, 16>());
-    let second = lanes16::limits(v.extract::<16, 16>());
-    lanes16::join(first, second)
-}
-
-/// Sets at least one of the bits 7, 6, 4 and 3 in each lane that is no digit, and clears the four
-/// in every other lane.
-#[inline(always)]
-pub(crate) fn marks(v: u8x32) -> u8x32
-    ensures { AllZip IsMarkOf v result }
-{
-    lanes::marks(v, lanes::values(v, limits(v)))
-}
-
-/// The bytes that the lanes of a text spell, which have to be digits.
-#[inline(always)]
-pub(crate) fn decode_digits(text: [u8x32; 2]) -> u8x32
-    requires { AllDigits (concat text) }
-    ensures { Spells (concat text) result }
-{
-    merge(unhex(text[0]), unhex(text[1]))
-}
-
-/// One byte of each two values, the higher half first.
-#[inline(always)]
-fn merge(first: u8x32, second: u8x32) -> u8x32
-    ensures { AllNibbles (first ++ second) → result ≡ byte_pairs (first ++ second) }
-{
-    bytes_of(join(first, second))
 }
 
 /// The lanes of both.

@@ -1,147 +1,92 @@
 //! Kernels by steps of lanes, with another kernel for what is left.
 
-ghost use Rattle.std.specs.Prelude.{◌≡◌, ℕ, ◌+◌, ◌*◌, ◌<◌, ◌≤◌, ◌↔◌, IsTrue, false, length};
+ghost use Rattle.std.specs.Prelude.{◌≡◌, ◌+◌, ◌*◌, ◌<◌, ◌++◌, ◌↔◌, IsTrue, false, length};
+ghost use Rattle.const_hex_arch.specs.Lanes.{AllUnmarked};
 ghost use Rattle.const_hex_arch.specs.Runs.{HasRoom, Writes};
 ghost use Rattle.const_hex_arch.specs.Texts.{hex_text, AllDigits, Spells, Partial};
 
 use crate::arch::Kernel;
+use crate::arch::lanes::{self, Vectors};
 use crate::output::Output;
-
-/// What a kernel does with as many bytes as it has lanes.
-pub(crate) trait Steps {
-    /// The same as the constant, for contracts.
-    ghost LANES: { ℕ };
-
-    /// How many bytes a step takes to encode or to check, and gives where it decodes.
-    const LANES: usize;
-
-    /// Writes two digits for each byte, as one piece.
-    fn encode_step<O: Output>(bytes: &[u8], upper: bool, output: &mut O)
-        requires size { length bytes.now ≡ LANES }
-        requires room { HasRoom (O.room output.old) (2 * LANES) }
-        ensures { O.step output.old (hex_text upper bytes.now) output.new };
-
-    /// Whether every byte is a digit.
-    fn check_step(text: &[u8]) -> bool
-        requires { length text.now ≡ LANES }
-        ensures { IsTrue result ↔ AllDigits text.now };
-
-    /// The same of the text of two steps, by one test.
-    fn check_two_steps(text: &[u8]) -> bool
-        requires { length text.now ≡ 2 * LANES }
-        ensures { IsTrue result ↔ AllDigits text.now };
-
-    /// The same of the text of four steps, by one test.
-    fn check_four_steps(text: &[u8]) -> bool
-        requires { length text.now ≡ 4 * LANES }
-        ensures { IsTrue result ↔ AllDigits text.now };
-
-    /// Fills the output with the bytes that the text spells, or leaves it as it is where some byte
-    /// is no digit, and tells which.
-    fn decode_step(text: &[u8], output: &mut [u8]) -> bool
-        requires text { length text.now ≡ 2 * LANES }
-        requires output { length output.old ≡ LANES }
-        ensures digits { IsTrue result ↔ AllDigits text.now }
-        ensures spells { IsTrue result → Spells text.now output.new }
-        ensures unchanged { result ≡ false → output.new ≡ output.old };
-
-    /// The same of the text of two steps, by one test.
-    fn decode_two_steps(text: &[u8], output: &mut [u8]) -> bool
-        requires text { length text.now ≡ 4 * LANES }
-        requires output { length output.old ≡ 2 * LANES }
-        ensures digits { IsTrue result ↔ AllDigits text.now }
-        ensures spells { IsTrue result → Spells text.now output.new }
-        ensures unchanged { result ≡ false → output.new ≡ output.old };
-
-    /// Fills the output with the bytes that digits spell.
-    fn decode_digits_step(text: &[u8], output: &mut [u8])
-        requires text { length text.now ≡ 2 * LANES }
-        requires output { length output.old ≡ LANES }
-        requires digits { AllDigits text.now }
-        ensures { Spells text.now output.new };
-
-    /// A step has some bytes, and its text is no longer than a piece.
-    ghost sizes: { (1 ≤ LANES) × (LANES ≤ 32) };
-}
+use std::simd::prelude::*;
 
 /// Encodes by steps, two in each turn of the loop, then by one where a whole one is left, and the
 /// rest by another kernel.
 #[inline(always)]
-pub(crate) fn encode<S: Steps, R: Kernel, O: Output>(input: &[u8], upper: bool, output: &mut O)
+pub(crate) fn encode<const N: usize, V: Vectors<N>, R: Kernel, O: Output>(
+    input: &[u8],
+    upper: bool,
+    output: &mut O,
+)
     requires { HasRoom (O.room output.old) (2 * length input.now) }
     ensures { Writes O.step output.old (hex_text upper input.now) output.new }
 {
     let mut at = 0;
-    while input.len() - at >= 2 * S::LANES {
-        let middle = at + S::LANES;
-        let end = middle + S::LANES;
-        S::encode_step(&input[at..middle], upper, output);
-        S::encode_step(&input[middle..end], upper, output);
+    while input.len() - at >= 2 * N {
+        let middle = at + N;
+        let end = middle + N;
+        V::encode_step(&input[at..middle], upper, output);
+        V::encode_step(&input[middle..end], upper, output);
         at = end;
     }
-    encode_last::<S, R, O>(&input[at..], upper, output);
+    encode_last::<N, V, R, O>(&input[at..], upper, output);
 }
 
-/// Encodes by one step where the input has one, and the rest by another kernel. The input is less
-/// than two steps, so that the rest is less than one.
+/// Encodes by one step where the input has one, and the rest, which is less than a step, by another
+/// kernel.
 #[inline(always)]
-fn encode_last<S: Steps, R: Kernel, O: Output>(input: &[u8], upper: bool, output: &mut O)
-    requires { HasRoom (O.room output.old) (2 * length input.now) }
+fn encode_last<const N: usize, V: Vectors<N>, R: Kernel, O: Output>(
+    input: &[u8],
+    upper: bool,
+    output: &mut O,
+)
+    requires fewer { length input.now < 2 * N }
+    requires room { HasRoom (O.room output.old) (2 * length input.now) }
     ensures { Writes O.step output.old (hex_text upper input.now) output.new }
 {
     let mut left = input;
-    if left.len() >= S::LANES {
-        let (bytes, rest) = left.split_at(S::LANES);
-        S::encode_step(bytes, upper, output);
+    if left.len() >= N {
+        let (bytes, rest) = left.split_at(N);
+        V::encode_step(bytes, upper, output);
         left = rest;
     }
     R::encode(left, upper, output);
 }
 
-/// Checks by four steps under one test while four are left, then by two, then by one, and the rest
-/// by another kernel.
+/// Checks by four steps under one test while four are left, and then what is less than that.
 #[inline(always)]
-pub(crate) fn check<S: Steps, R: Kernel>(input: &[u8]) -> bool
+pub(crate) fn check<const N: usize, V: Vectors<N>, R: Kernel>(input: &[u8]) -> bool
     ensures { IsTrue result ↔ AllDigits input.now }
 {
     let mut left = input;
-    while left.len() >= 4 * S::LANES {
-        let (text, rest) = left.split_at(4 * S::LANES);
-        if !S::check_four_steps(text) {
+    while left.len() >= 4 * N {
+        let (text, rest) = left.split_at(4 * N);
+        if !check_four_steps::<N, V>(text) {
             return false;
         }
         left = rest;
     }
-    check_pairs::<S, R>(left)
+    check_last::<N, V, R>(left)
 }
 
-/// Checks by two steps under one test while two are left, then by one, and the rest by another
-/// kernel.
+/// Checks by two steps under one test where the input has two, then by one where one is left, and
+/// the rest, which is less than a step, by another kernel.
 #[inline(always)]
-fn check_pairs<S: Steps, R: Kernel>(input: &[u8]) -> bool
+fn check_last<const N: usize, V: Vectors<N>, R: Kernel>(input: &[u8]) -> bool
+    requires { length input.now < 4 * N }
     ensures { IsTrue result ↔ AllDigits input.now }
 {
     let mut left = input;
-    while left.len() >= 2 * S::LANES {
-        let (text, rest) = left.split_at(2 * S::LANES);
-        if !S::check_two_steps(text) {
+    if left.len() >= 2 * N {
+        let (text, rest) = left.split_at(2 * N);
+        if !check_two_steps::<N, V>(text) {
             return false;
         }
         left = rest;
     }
-    check_last::<S, R>(left)
-}
-
-/// Checks by one step where the input has one, and the rest by another kernel. The input is less
-/// than two steps, so that the rest is less than one.
-#[inline(always)]
-fn check_last<S: Steps, R: Kernel>(input: &[u8]) -> bool
-    ensures { IsTrue result ↔ AllDigits input.now }
-{
-    let mut left = input;
-    if left.len() >= S::LANES {
-        let (text, rest) = left.split_at(S::LANES);
-        if !S::check_step(text) {
+    if left.len() >= N {
+        let (text, rest) = left.split_at(N);
+        if !check_step::<N, V>(text) {
             return false;
         }
         left = rest;
@@ -152,33 +97,36 @@ fn check_last<S: Steps, R: Kernel>(input: &[u8]) -> bool
 /// Decodes by two steps at a time, then by steps, and the rest by another kernel. Two steps that are
 /// refused are left to the single ones, so that the first of them is decoded where it can be.
 #[inline(always)]
-pub(crate) fn decode_checked<S: Steps, R: Kernel>(input: &[u8], output: &mut [u8]) -> bool
+pub(crate) fn decode_checked<const N: usize, V: Vectors<N>, R: Kernel>(
+    input: &[u8],
+    output: &mut [u8],
+) -> bool
     requires { length input.now ≡ 2 * length output.old }
     ensures spells { IsTrue result → Spells input.now output.new }
     ensures refused { result ≡ false → Partial output.old input.now output.new }
 {
     let mut at = 0;
-    while output.len() - at >= 2 * S::LANES {
-        let end = at + 2 * S::LANES;
-        if !S::decode_two_steps(&input[2 * at..2 * end], &mut output[at..end]) {
+    while output.len() - at >= 2 * N {
+        let end = at + 2 * N;
+        if !decode_two_steps::<N, V>(&input[2 * at..2 * end], &mut output[at..end]) {
             break;
         }
         at = end;
     }
-    decode_steps::<S, R>(&input[2 * at..], &mut output[at..])
+    decode_steps::<N, V, R>(&input[2 * at..], &mut output[at..])
 }
 
 /// Decodes by steps, and the rest by another kernel. A step that is refused ends it.
 #[inline(always)]
-fn decode_steps<S: Steps, R: Kernel>(input: &[u8], output: &mut [u8]) -> bool
+fn decode_steps<const N: usize, V: Vectors<N>, R: Kernel>(input: &[u8], output: &mut [u8]) -> bool
     requires { length input.now ≡ 2 * length output.old }
     ensures spells { IsTrue result → Spells input.now output.new }
     ensures refused { result ≡ false → Partial output.old input.now output.new }
 {
     let mut at = 0;
-    while output.len() - at >= S::LANES {
-        let end = at + S::LANES;
-        if !S::decode_step(&input[2 * at..2 * end], &mut output[at..end]) {
+    while output.len() - at >= N {
+        let end = at + N;
+        if !decode_step::<N, V>(&input[2 * at..2 * end], &mut output[at..end]) {
             return false;
         }
         at = end;
@@ -188,16 +136,117 @@ fn decode_steps<S: Steps, R: Kernel>(input: &[u8], output: &mut [u8]) -> bool
 
 /// Decodes digits by steps, and the rest by another kernel.
 #[inline(always)]
-pub(crate) fn decode_unchecked<S: Steps, R: Kernel>(input: &[u8], output: &mut [u8])
+pub(crate) fn decode_unchecked<const N: usize, V: Vectors<N>, R: Kernel>(
+    input: &[u8],
+    output: &mut [u8],
+)
     requires size { length input.now ≡ 2 * length output.old }
     requires digits { AllDigits input.now }
     ensures { Spells input.now output.new }
 {
     let mut at = 0;
-    while output.len() - at >= S::LANES {
-        let end = at + S::LANES;
-        S::decode_digits_step(&input[2 * at..2 * end], &mut output[at..end]);
+    while output.len() - at >= N {
+        let end = at + N;
+        decode_digits_step::<N, V>(&input[2 * at..2 * end], &mut output[at..end]);
         at = end;
     }
     R::decode_unchecked(&input[2 * at..], &mut output[at..]);
+}
+
+/// Whether every byte of a step is a digit.
+#[inline(always)]
+fn check_step<const N: usize, V: Vectors<N>>(text: &[u8]) -> bool
+    requires { length text.now ≡ N }
+    ensures { IsTrue result ↔ AllDigits text.now }
+{
+    lanes::check::<N, V>(Simd::from_slice(text))
+}
+
+/// The same of the text of two steps, by one test.
+#[inline(always)]
+fn check_two_steps<const N: usize, V: Vectors<N>>(text: &[u8]) -> bool
+    requires { length text.now ≡ 2 * N }
+    ensures { IsTrue result ↔ AllDigits text.now }
+{
+    lanes::are_unmarked(two_marks::<N, V>(text))
+}
+
+/// The same of the text of four steps, by one test.
+#[inline(always)]
+fn check_four_steps<const N: usize, V: Vectors<N>>(text: &[u8]) -> bool
+    requires { length text.now ≡ 4 * N }
+    ensures { IsTrue result ↔ AllDigits text.now }
+{
+    let (front, back) = text.split_at(2 * N);
+    lanes::are_unmarked(two_marks::<N, V>(front) | two_marks::<N, V>(back))
+}
+
+/// Marks of the text of two steps: there are none exactly where each byte is a digit.
+#[inline(always)]
+fn two_marks<const N: usize, V: Vectors<N>>(text: &[u8]) -> Simd<u8, N>
+    requires { length text.now ≡ 2 * N }
+    ensures { AllUnmarked result ↔ AllDigits text.now }
+{
+    lanes::two_marks::<N, V>(Simd::from_slice(text), Simd::from_slice(&text[N..]))
+}
+
+/// Fills the output with the bytes that the text of a step spells, or leaves it as it is where some
+/// byte is no digit, and tells which.
+#[inline(always)]
+fn decode_step<const N: usize, V: Vectors<N>>(text: &[u8], output: &mut [u8]) -> bool
+    requires text { length text.now ≡ 2 * N }
+    requires output { length output.old ≡ N }
+    ensures digits { IsTrue result ↔ AllDigits text.now }
+    ensures spells { IsTrue result → Spells text.now output.new }
+    ensures unchanged { result ≡ false → output.new ≡ output.old }
+{
+    let are_digits = check_two_steps::<N, V>(text);
+    if are_digits {
+        decoded::<N, V>(text).copy_to_slice(output);
+    }
+    are_digits
+}
+
+/// The same of the text of two steps, by one test.
+#[inline(always)]
+fn decode_two_steps<const N: usize, V: Vectors<N>>(text: &[u8], output: &mut [u8]) -> bool
+    requires text { length text.now ≡ 4 * N }
+    requires output { length output.old ≡ 2 * N }
+    ensures digits { IsTrue result ↔ AllDigits text.now }
+    ensures spells { IsTrue result → Spells text.now output.new }
+    ensures unchanged { result ≡ false → output.new ≡ output.old }
+{
+    let are_digits = check_four_steps::<N, V>(text);
+    if are_digits {
+        let (text, next) = text.split_at(2 * N);
+        let first = decoded::<N, V>(text);
+        let second = decoded::<N, V>(next);
+        let (front, back) = output.split_at_mut(N);
+        first.copy_to_slice(front);
+        second.copy_to_slice(back);
+    }
+    are_digits
+}
+
+/// The bytes that the text of a step spells.
+// The values are found again here: the compiler takes those that the test has found.
+#[inline(always)]
+fn decoded<const N: usize, V: Vectors<N>>(text: &[u8]) -> Simd<u8, N>
+    requires text { length text.now ≡ 2 * N }
+    requires digits { AllDigits text.now }
+    ensures { Spells text.now result }
+{
+    lanes::decode::<N, V>(Simd::from_slice(text), Simd::from_slice(&text[N..]))
+}
+
+/// Fills the output with the bytes that the digits of a step spell.
+#[inline(always)]
+fn decode_digits_step<const N: usize, V: Vectors<N>>(text: &[u8], output: &mut [u8])
+    requires text { length text.now ≡ 2 * N }
+    requires output { length output.old ≡ N }
+    requires digits { AllDigits text.now }
+    ensures { Spells text.now output.new }
+{
+    let first = Simd::from_slice(text);
+    lanes::decode_digits::<N, V>(first, Simd::from_slice(&text[N..])).copy_to_slice(output);
 }

@@ -2,4 +2,4 @@ use Rattle.const_hex.proofs.WriteSinks.{streamed_text}
 use Rattle.const_hex.proofs.write_sink.WriteSink.write_hex.Goals as goal
 
 pub returns-clause-text : goal.returns-clause-text
-returns-clause-text g c = streamed_text g.W.Write.contents _ _ _ (rw c.new.ensures at c.write_to.ensures.streams)
+returns-clause-text g c = λ _. streamed_text g.W.Write.contents _ _ _ (rw c.new.ensures at c.write_to.ensures.streams)

@@ -2,12 +2,13 @@ use Rattle.std.proofs.Common.{refl, true, false, rules, ◌≡◌}
 use denote.Param.{number}
 use Rattle.const_hex_arch.specs.contracts.arch.lanes16.low_digits.{UPPER-type}
 use Rattle.const_hex_arch.specs.declared.tables.TheConstants.{HEX_CHARS_LOWER, HEX_CHARS_UPPER}
-use Rattle.const_hex_arch.proofs.LaneText.{low_halves_ok, low_digits_are}
+use Rattle.const_hex_arch.proofs.LaneLookups.{masked_ok}
+use Rattle.const_hex_arch.proofs.LaneText.{low_digits_are}
 use Rattle.const_hex_arch.proofs.arch.lanes16.low_digits.Goals as goal
 use Rattle.const_hex_arch.proofs.arch.lanes16.low_digits.Goals.{then-this-ne0, else-this-ne0}
 
 pub swizzle : goal.swizzle
-swizzle g c = low_halves_ok 1 16 c.args.v refl c.fits-v.0
+swizzle g c = masked_ok 15 tt 1 16 c.args.v refl c.fits-v
 
 pub returns : goal.returns
 returns g c =

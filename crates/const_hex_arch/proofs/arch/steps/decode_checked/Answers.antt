@@ -5,17 +5,17 @@ use Rattle.const_hex_arch.proofs.arch.steps.decode_checked.Goals.{else-loop-outp
 
 pub loop-output-preserved : goal.loop-output-preserved
 loop-output-preserved g c =
-    let is = c.if-not-decode_two_steps.ensures in
-    decoded_step c.args.input.now c.args.output.now c.loop-output.output _ c.loop-output.at _ _ _ c.loop-output.invariant (omega arith) (omega arith) (omega arith) (omega arith) (is.spells refl)
+    decoded_step _ _ _ c.loop-output.invariant (omega arith) (omega arith) (omega arith) (omega arith) (c.if-not-decode_two_steps.ensures.spells refl)
 
 pub returns : goal.returns
 returns g c =
     let decoded : IsDecoded c.args.input.now c.args.output.now c.loop-output-test.output c.loop-output.at =
     elim c.loop-output-test.branch [
       | else-loop-output-test w ↦ rw w.output-is c.loop-output.invariant
-      | then-loop-output-test+then-not-decode_two_steps w ↦ rw (w.output-is, kept_step c.loop-output.output _ c.loop-output.at _ (w.if-not-decode_two_steps.ensures.unchanged refl)) c.loop-output.invariant
+      | then-loop-output-test+then-not-decode_two_steps w ↦
+          rw (w.output-is, kept_step c.loop-output.output _ c.loop-output.at _ (w.if-not-decode_two_steps.ensures.unchanged refl)) c.loop-output.invariant
     ] in
     let is = c.decode_steps.ensures in record {
-      spells = λ t. spells_rest c.args.input.now c.args.output.now c.loop-output-test.output c.decode_steps.new.output c.loop-output.at decoded c.requires (omega arith) (is.spells t);
-      refused = λ t. partial_rest c.args.input.now c.args.output.now c.loop-output-test.output c.decode_steps.new.output c.loop-output.at decoded c.requires (omega arith) (is.refused t);
+      spells = λ t. spells_rest _ decoded c.requires (omega arith) (is.spells t);
+      refused = λ t. partial_rest _ decoded c.requires (omega arith) (is.refused t);
     }

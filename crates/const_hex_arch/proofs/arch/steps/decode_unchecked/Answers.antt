@@ -3,8 +3,7 @@ use Rattle.const_hex_arch.proofs.Stepping.{decoded_step, spells_rest}
 use Rattle.const_hex_arch.proofs.arch.steps.decode_unchecked.Goals as goal
 
 pub loop-output-preserved : goal.loop-output-preserved
-loop-output-preserved g c =
-    decoded_step c.args.input.now c.args.output.now c.loop-output.output _ c.loop-output.at _ _ _ c.loop-output.invariant (omega arith) (omega arith) (omega arith) (omega arith) c.decode_digits_step.ensures
+loop-output-preserved g c = decoded_step _ _ _ c.loop-output.invariant (omega arith) (omega arith) (omega arith) (omega arith) c.decode_digits_step.ensures
 
 pub returns : goal.returns
-returns g c = spells_rest c.args.input.now c.args.output.now c.loop-output.output c.decode_unchecked.new.output c.loop-output.at c.loop-output.invariant c.requires.size (omega arith) c.decode_unchecked.ensures
+returns g c = spells_rest _ c.loop-output.invariant c.requires.size (omega arith) c.decode_unchecked.ensures

@@ -4,25 +4,21 @@ use Rattle.const_hex_arch.proofs.Stepping.{all_of, none_written, written_step, w
 use Rattle.const_hex_arch.proofs.arch.steps.encode.Goals as goal
 
 pub loop-at-init : goal.loop-at-init
-loop-at-init g c = none_written g.O.Output.step g.O.Output.room g.met.O.Output.shrinks c.args.upper c.args.input.now c.args.output.now c.requires
+loop-at-init g c = none_written g.met.O.Output.shrinks c.requires
 
 pub encode_step-requires-in-loop-at-clause-room : goal.encode_step-requires-in-loop-at-clause-room
 encode_step-requires-in-loop-at-clause-room g c =
-    let sizes = g.met.S.Steps.sizes in
-    let middle = c.loop-at.at + c.LANES-in-loop-at.result in
-    let first = written_step g.O.Output.step g.O.Output.room g.met.O.Output.shrinks c.args.upper c.args.input.now c.args.output.now c.loop-at.output c.encode_step.new.output c.loop-at.at _ middle
-    c.loop-at.invariant (omega arith) (omega arith) c.encode_step.ensures (omega arith) (omega arith) in
+    let sizes = g.met.V.Vectors.sizes in
+    let middle = c.loop-at.at + g.row.N in
+    let first = written_step g.met.O.Output.shrinks _ middle c.loop-at.invariant (omega arith) (omega arith) c.encode_step.ensures (omega arith) (omega arith) in
     HasRoom-fewer (g.O.Output.room c.encode_step.new.output) _ (2 * (length c.args.input.now - middle)) (omega arith) first.has_room
 
 pub loop-at-preserved : goal.loop-at-preserved
 loop-at-preserved g c =
-    let sizes = g.met.S.Steps.sizes in
-    let middle = c.loop-at.at + c.LANES-in-loop-at.result in
-    let first = written_step g.O.Output.step g.O.Output.room g.met.O.Output.shrinks c.args.upper c.args.input.now c.args.output.now c.loop-at.output c.encode_step.new.output c.loop-at.at _ middle
-    c.loop-at.invariant (omega arith) (omega arith) c.encode_step.ensures (omega arith) (omega arith) in
-    written_step g.O.Output.step g.O.Output.room g.met.O.Output.shrinks c.args.upper c.args.input.now c.args.output.now c.encode_step.new.output c.encode_step-in-loop-at.new.output middle _ _
-    first (omega arith) (omega arith) c.encode_step-in-loop-at.ensures (omega arith) (omega arith)
+    let sizes = g.met.V.Vectors.sizes in
+    let middle = c.loop-at.at + g.row.N in
+    let first = written_step g.met.O.Output.shrinks _ middle c.loop-at.invariant (omega arith) (omega arith) c.encode_step.ensures (omega arith) (omega arith) in
+    written_step g.met.O.Output.shrinks _ _ first (omega arith) (omega arith) c.encode_step-in-loop-at.ensures (omega arith) (omega arith)
 
 pub returns : goal.returns
-returns g c =
-    written_rest g.O.Output.step g.O.Output.room g.met.O.Output.shrinks c.args.upper c.args.input.now c.args.output.now c.loop-at.output c.encode_last.new.output c.loop-at.at _ c.loop-at.invariant (all_of c.loop-at.at c.args.input.now) c.encode_last.ensures
+returns g c = written_rest g.met.O.Output.shrinks c.loop-at.invariant (all_of c.loop-at.at c.args.input.now) c.encode_last.ensures

@@ -1,11 +1,11 @@
 use Rattle.std.proofs.Common.{rules, ap, ◌∙◌}
 use Rattle.std.specs.Prelude.{None}
 use Rattle.const_hex_arch.specs.Sinks.{output_sink, sink_name}
-use Rattle.const_hex_arch.proofs.Streaming.{Streams-from_writes, Streams-at, TellsCut-Streams}
+use Rattle.const_hex_arch.proofs.Streaming.{Streams-from_writes, Streams-at, Handed-of}
 use Rattle.const_hex_arch.proofs.stream.BufferedHex.gather.Goals as goal
 
-pub returns-clause-streams : goal.returns-clause-streams
-returns-clause-streams g c =
+pub returns : goal.returns
+returns g c =
     let step = g.S.Sink.step in
     let is_refused = g.S.Sink.is_refused in
     let inner = ap (λ s. s.0) c.new-output.ensures in
@@ -14,8 +14,5 @@ returns-clause-streams g c =
     (ap (λ s. s.1) c.new-output.ensures) c.encode_full.ensures (rw (← c.into_output.ensures) at c.flush.ensures.run) (ap is_refused start ∙ c.requires) in
     let name = r.0 ∙ ap (λ o. sink_name o) inner in
     let streams = rw start at r.1 in
-    search (rules, Streams-at step is_refused _ _ _ streams)
-
-pub returns-clause-told : goal.returns-clause-told
-returns-clause-told g c =
-    TellsCut-Streams g.S.Sink.step g.S.Sink.is_refused g.S.Sink.told g.met.S.Sink.tells _ _ _ (returns-clause-streams g c)
+    let ended = Streams-at step is_refused _ _ _ streams in
+    Handed-of step is_refused g.S.Sink.told g.met.S.Sink.tells _ _ _ _ (search (rules, ended)) (search rules)

@@ -1,7 +1,7 @@
 use Rattle.std.proofs.Common.{◌≡◌, ◌*◌, length, ◌-◌, arith}
-use Rattle.const_hex_arch.proofs.Running.{Writes-none}
+use Rattle.const_hex_arch.proofs.Running.{HasRoom-fewer, Writes-none}
 use Rattle.const_hex_arch.proofs.Writing.{hex_text-nil}
-use Rattle.const_hex_uses.proofs.Backward.{pair_written, room_for_less, room_after_pair}
+use Rattle.const_hex_uses.proofs.Backward.{pair_written, room_after_pair}
 use Rattle.const_hex_uses.proofs.own_kernel.BackwardKernel.encode.Goals as goal
 
 pub loop-byte-init : goal.loop-byte-init
@@ -13,7 +13,7 @@ loop-byte-init g c = record {
 pub write-requires-clause-fits : goal.write-requires-clause-fits
 write-requires-clause-fits g c =
     let left = length c.args.input.now - c.loop-byte.byte-index in
-    room_for_less (g.O.Output.room c.loop-byte.output) 2 (2 * left) (omega arith) c.loop-byte.invariant.room
+    HasRoom-fewer (g.O.Output.room c.loop-byte.output) 2 (2 * left) (omega arith) c.loop-byte.invariant.room
 
 pub loop-byte-preserved : goal.loop-byte-preserved
 loop-byte-preserved g c =

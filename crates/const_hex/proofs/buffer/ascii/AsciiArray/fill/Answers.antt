@@ -1,12 +1,9 @@
-use Rattle.std.proofs.Common.{length, subst, sym, ap, ◌∙◌, arith}
-use Rattle.std.specs.Str.{IsAscii}
-use Rattle.const_hex_arch.proofs.Writing.{IsAscii-full_text}
+use Rattle.std.proofs.Common.{length, sym, ap, ◌∙◌}
+use Rattle.const_hex_arch.proofs.Writing.{full_text_size}
 use Rattle.const_hex.proofs.buffer.ascii.AsciiArray.fill.Goals as goal
 
 pub invariant_of-self : goal.invariant_of-self
-invariant_of-self g c =
-    let text = c.fill.ensures in
-    record {
-      sized = ap length text ∙ sym c.requires;
-      ascii = subst IsAscii (sym text) (IsAscii-full_text c.args.prefix c.args.upper c.args.input.now (λ k. let byte = c.type_inv.input k in omega (arith, byte)));
-    }
+invariant_of-self g c = record {
+  sized = ap length c.fill_text.ensures.text ∙ full_text_size c.args.prefix c.args.upper c.args.input.now ∙ sym c.requires;
+  ascii = c.fill_text.ensures.ascii;
+}

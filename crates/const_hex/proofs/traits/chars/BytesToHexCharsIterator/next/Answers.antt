@@ -1,5 +1,5 @@
 use Rattle.std.proofs.Common.{◌∙◌}
-use Rattle.const_hex.proofs.Stepping.{left-none, left-more, goes}
+use Rattle.const_hex.proofs.Characters.{left-none, left-more, goes}
 use Rattle.const_hex.proofs.traits.chars.BytesToHexCharsIterator.next.Goals as goal
 
 pub returns-in-Some-split_first-clause-steps : goal.returns-in-Some-split_first-clause-steps

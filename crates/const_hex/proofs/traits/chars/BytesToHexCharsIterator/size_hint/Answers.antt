@@ -1,6 +1,6 @@
 use Rattle.std.proofs.Common.{◌≡◌, ℕ, ◌≤◌, ap, arith}
 use Rattle.const_hex.specs.Chars.{exactly}
-use Rattle.const_hex.proofs.Stepping.{length-left}
+use Rattle.const_hex.proofs.Characters.{length-left}
 use Rattle.const_hex.proofs.traits.chars.BytesToHexCharsIterator.size_hint.Goals as goal
 
 at_most : (m n : ℕ) → m ≡ n → m ≤ n

@@ -1,6 +1,0 @@
-use Rattle.std.proofs.lemmas.List.{append-nil}
-use Rattle.const_hex_arch.proofs.LaneBytes.{in_two}
-use Rattle.const_hex_arch.proofs.arch.kernel32.two_vectors.Goals as goal
-
-pub returns : goal.returns
-returns c = rw append-nil (in_two 32 c.args.text.now c.requires)

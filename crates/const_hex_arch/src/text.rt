@@ -1,0 +1,43 @@
+//! The whole text of bytes, in a slice of just its length.
+
+ghost use Rattle.std.specs.Prelude.{◌≡◌, length, min};
+ghost use Rattle.std.specs.Str.{IsAscii};
+ghost use Rattle.const_hex_arch.specs.Texts.{full_text, text_length};
+
+use crate::arch::{Kernel, encode_full};
+use crate::output::slice::SliceOutput;
+
+/// How long the text of so many bytes is, behind `0x` where a prefix is wanted. The greatest number
+/// where that does not fit: no text has that length.
+///
+/// ```rust
+/// assert_eq!(rt; text_size(true, 20), 42);
+/// assert_eq!(rt; text_size(false, usize::MAX), usize::MAX);
+/// ```
+#[inline(always)]
+pub fn text_size(prefix: bool, count: usize) -> usize
+    ensures { result ≡ min (text_length prefix count) usize.MAX }
+{
+    count
+        .saturating_mul(2)
+        .saturating_add(if prefix { 2 } else { 0 })
+}
+
+/// Fills the output with the text of the input, by a kernel, behind `0x` where a prefix is wanted.
+/// The output has to have just the length of that text. Takes no memory.
+///
+/// ```rust
+/// let mut text = [0; 10];
+/// fill_text::<Plain>(b"kiwi", true, false, &mut text);
+/// assert_eq!(rt; text, *b"0x6b697769");
+/// ```
+#[inline(always)]
+#[tactic(auto, using(crate::proofs::Writing::full_text_size))]
+pub fn fill_text<K: Kernel>(input: &[u8], prefix: bool, upper: bool, output: &mut [u8])
+    requires { length output.old ≡ text_length prefix (length input.now) }
+    ensures text { output.new ≡ full_text prefix upper input.now }
+    ensures ascii { IsAscii output.new }
+{
+    let mut written = SliceOutput::new(output);
+    encode_full::<K, SliceOutput>(input, prefix, upper, &mut written);
+}

@@ -1,0 +1,34 @@
+//! Constants that the program writes as text. A wrong one is refused when the program is checked.
+
+ghost use Rattle.std.specs.Prelude.{Ok};
+ghost use Rattle.const_hex.specs.Answers.{ReadsSized};
+
+use const_hex::{bytes_of, decode_to_array};
+
+/// The address of the contract of wrapped ether.
+const WRAPPED_ETHER: &[u8; 42] = b"0xC02aaA39b223FE8D0A0e5C4F27eAD9083C756Cc2";
+
+/// The hash of `Transfer(address,address,uint256)`, by which logs of transfers are found.
+const TRANSFER: &[u8; 66] = b"0xddf252ad1be2c89b69c2b068fc378daa952ba7f163c4a11628f55a4df523b3ef";
+
+/// The address as bytes.
+///
+/// ```rust
+/// assert_eq!(rt; wrapped_ether()[0], 0xC0);
+/// ```
+pub fn wrapped_ether() -> [u8; 20]
+    ensures { ReadsSized WRAPPED_ETHER.now 20 (Ok result) }
+{
+    bytes_of(WRAPPED_ETHER)
+}
+
+/// The hash as bytes, by a call that could refuse another text.
+///
+/// ```rust
+/// assert_eq!(rt; transfer()[0], 0xDD);
+/// ```
+pub fn transfer() -> [u8; 32]
+    ensures { ReadsSized TRANSFER.now 32 (Ok result) }
+{
+    decode_to_array(TRANSFER).unwrap()
+}
