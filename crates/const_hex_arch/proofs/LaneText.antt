@@ -1,7 +1,6 @@
 -- The text of lanes: tables of 16 digits, one in each block of 16 lanes, and the two halves of each lane in turn.
 use Rattle.std.proofs.Common.{◌≡◌, ℕ, zero, suc, ◌+◌, ◌*◌, ◌/◌, ◌%◌, ◌^◌, ◌<◌, Bool, eqb, T, List, [], ◌∷◌, ◌++◌, map, length, replicate, drop, take, get_or, bit_and, refl, sym, ap, subst, ◌∙◌, arith, w8, Fits, eqb→eq, length-append}
 use Rattle.std.specs.List.{range_with_len, concat}
-use Rattle.std.specs.Str.{IsAscii}
 use Rattle.std.proofs.lemmas.Grind.{common_steps}
 use Rattle.std.proofs.lemmas.List.{append-nil, ext_get_or, get_or-map, length-map}
 use Rattle.std.proofs.lemmas.Nat.{and_le_r, and_mask}
@@ -12,7 +11,6 @@ use Rattle.const_hex_arch.specs.Digits.{hex_digit}
 use Rattle.const_hex_arch.specs.Lanes.{low_digit}
 use Rattle.const_hex_arch.specs.Texts.{hex_text}
 use Rattle.const_hex_arch.proofs.Computed.{all_below, every_below}
-use Rattle.const_hex_arch.proofs.Writing.{IsAscii-hex_text}
 
 -- ---- the digits of the low halves
 
@@ -79,14 +77,6 @@ halves_in_turn up (x ∷ v) f =
     let high : x / 16 % 16 ≡ x / 16 = omega (arith, f.0.fits) in
     let rest = halves_in_turn up v f.1 in
     rw (high, rest) refl
-
-pub IsAscii-lanes : (up : Bool) (v : List ℕ) → Each1 (Fits w8) v → IsAscii (hex_text up v)
-IsAscii-lanes up v f = IsAscii-hex_text up v (λ k. small v f k)
-  where
-    small : (v : List ℕ) → Each1 (Fits w8) v → (k : ℕ) → get_or v k 0 < 256
-    small [] f k = omega arith
-    small (x ∷ v) f zero = f.0.fits
-    small (x ∷ v) f (suc k) = small v f.1 k
 
 -- a and b are the digits of the high halves and of the low
 pub interleaved_text : (up : Bool) (n : ℕ) (v a b : List ℕ) → (length v ≡ n) × Each1 (Fits w8) v → a ≡ map (low_digit up) (zip2 shift_down v (replicate n 4)) → b ≡ map (low_digit up) v

@@ -5,8 +5,8 @@ use Rattle.const_hex_arch.specs.Texts.{AllDigits, Spells}
 use Rattle.const_hex_arch.specs.contracts.arch.lanes32.decode_chunk as f
 use Rattle.const_hex_arch.proofs.arch.lanes32.decode_chunk.Statement.{statement}
 use Rattle.const_hex_arch.proofs.arch.lanes32.decode_chunk.Code as code
-use Rattle.const_hex_arch.specs.contracts.arch.lanes32.decode_pair as g
-use Rattle.const_hex_arch.proofs.arch.lanes32.decode_pair.Met.{met}
+use Rattle.const_hex_arch.specs.contracts.arch.lanes32.decode_flagged as g
+use Rattle.const_hex_arch.proofs.arch.lanes32.decode_flagged.Met.{met}
 
 abbrev stayed : Stays f.ended.signature.params f.ended.kept
 stayed = (stay_dropped _ yes, tt)
@@ -26,7 +26,7 @@ decode_chunk_spec 𝓤 𝓛 𝓜 𝓡 wired =
     qed 𝓛 (raw (G.pre z) ∷ []) ∵ enter ! _ _ _ _ _ $
     alloc_all ! (λ l. pass_all ! refl ((Array-Lawful 𝓛 V lawful 2).typed a.0 _ are.0) $
     -- the call: what it gives of r, the vector beside the flag, at the machine value v
-    calls_at ! (framed 𝓤 𝓛.H 𝓜 𝓣) G (met 𝓤 𝓛 𝓜 𝓡 (code.calls-const_hex_arch::arch::lanes32::decode_pair 𝓡.env wired)) z
+    calls_at ! (framed 𝓤 𝓛.H 𝓜 𝓣) G (met 𝓤 𝓛 𝓜 𝓡 (code.calls-const_hex_arch::arch::lanes32::decode_flagged 𝓡.env wired)) z
     (and_then ! (get ! refl) (no_more !)) (λ v.
     use1 𝓛 (later (some (λ (r : List ℕ × Bool). (‵ ftrue ⊛ ‵ ((Flagged 32).own_val r (v ∷ []))) ⊛
     some (λ (ws : Unit {0} × Unit {0}). ‵ (lasts g.ended κs a ws) ⊛ (raw (fact 𝓤 (IsTrue r.1 ↔ AllDigits text)) ⊛ raw (fact 𝓤 (IsTrue r.1 → Spells text r.0))))))) (id⊢ 𝓤 _) $
