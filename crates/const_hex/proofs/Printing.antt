@@ -43,7 +43,8 @@ module _ {W : Type 0} (took : W → List ℕ → W → Type 0) where
   written_at s text t ok h f a p g e = rw (e, ← a) (h.writes ok (rw (← a) at p))
 
   -- a formatter with no options writes no prefix
-  pub plain_from_styled : (f : Formatter W) (r : Result (Unit {0}) Error) (up : Bool) (bs : List ℕ) (g : Formatter W) → WritesStyledOnOk took f r (full_text (spec_alternate (formatter_spec f)) up bs) g → WritesOnOk took f r (hex_text up bs) g
+  pub plain_from_styled : (f : Formatter W) (r : Result (Unit {0}) Error) (up : Bool) (bs : List ℕ) (g : Formatter W)
+      → WritesStyledOnOk took f r (full_text (spec_alternate (formatter_spec f)) up bs) g → WritesOnOk took f r (hex_text up bs) g
   plain_from_styled f r up bs g h p ok =
       let x = h p.flush ok in
       record { wrote = rw p.bare.alternate at x.wrote; plain = record { bare = rw x.spec p.bare; flush = x.flush } }

@@ -12,11 +12,13 @@ use Rattle.const_hex.specs.declared.reserved.ReservedOutput.{ReservedOutput}
 pub none_reserved : (s : ReservedOutput) → ReservedStep s [] s
 none_reserved s = record { room = refl; count = omega arith; text = sym (append-nil s.bytes.items) }
 
-pub room_for_one : (s t : ReservedOutput) (piece : List ℕ) (i : ℕ) → ReservedStep s (take i piece) t → length piece ≤ spare_room s → i < length piece → vec_len t.bytes < vec_capacity t.bytes
+pub room_for_one : (s t : ReservedOutput) (piece : List ℕ) (i : ℕ) → ReservedStep s (take i piece) t → length piece ≤ spare_room s → i < length piece
+    → vec_len t.bytes < vec_capacity t.bytes
 room_for_one s t piece i h fits lt = omega (arith, h.room, h.count, length-take i piece)
 
 pub one_reserved : (s t u : ReservedOutput) (piece : List ℕ) (i : ℕ) → ReservedStep s (take i piece) t → i < length piece
-    → vec_capacity u.bytes ≡ vec_capacity t.bytes → vec_len u.bytes ≡ vec_len t.bytes + 1 → u.bytes.items ≡ t.bytes.items ++ (get_or piece i 0 ∷ []) → ReservedStep s (take (i + 1) piece) u
+    → vec_capacity u.bytes ≡ vec_capacity t.bytes → vec_len u.bytes ≡ vec_len t.bytes + 1 → u.bytes.items ≡ t.bytes.items ++ (get_or piece i 0 ∷ [])
+    → ReservedStep s (take (i + 1) piece) u
 one_reserved s t u piece i h lt room count text = record {
   room = room ∙ h.room;
   count = omega (arith, count, h.count, length-take i piece, length-take (i + 1) piece);

@@ -44,7 +44,8 @@ Begins-of held holds bs (n, h) = record { written = take n bs; rest = drop n bs;
 
 Begins-shown : (held holds : Option (List ℕ)) (bs : List ℕ) → Begins held holds bs → WritesBeginning held holds bs
 Begins-shown held holds bs h =
-    (length h.written, subst (λ x. Appends held holds x) (sym (take_at h.written h.rest (length h.written) refl) ∙ ap (λ x. take (length h.written) x) h.whole) h.appended)
+    let whole = sym (take_at h.written h.rest (length h.written) refl) ∙ ap (λ x. take (length h.written) x) h.whole in
+    (length h.written, subst (λ x. Appends held holds x) whole h.appended)
 
 Begins-longer : (held holds : Option (List ℕ)) (bs more : List ℕ) → Begins held holds bs → Begins held holds (bs ++ more)
 Begins-longer held holds bs more h = record {
@@ -88,7 +89,8 @@ module _ {W : Type 0} (contents : W → Option (List ℕ)) where
     begun = Begins-of _ _ text (h.refused e);
   }
 
-  Wrote-more : (s : WriteSink W) (a : List ℕ) (m : WriteSink W) (b : List ℕ) (t : WriteSink W) → has_failed m ≡ false → Wrote s a m → Wrote m b t → Wrote s (a ++ b) t
+  Wrote-more : (s : WriteSink W) (a : List ℕ) (m : WriteSink W) (b : List ℕ) (t : WriteSink W) → has_failed m ≡ false → Wrote s a m → Wrote m b t
+      → Wrote s (a ++ b) t
   Wrote-more s a m b t e h k = record {
     same_writer = k.same_writer ∙ h.same_writer;
     all = λ u. Appends-trans _ _ _ a b (h.all e) (k.all u);
@@ -123,6 +125,7 @@ module _ {W : Type 0} (contents : W → Option (List ℕ)) where
       record {
         same_writer = wrote.same_writer;
         accepted = λ u. subst (λ x. Appends held holds x) (all (h.complete u)) (wrote.all u);
-        refused = λ _. Begins-shown held holds text (subst (λ x. Begins held holds x) whole (Begins-longer held holds (concat offered) (concat left) wrote.begun));
+        refused = λ _. Begins-shown held holds text (subst (λ x. Begins held holds x) whole
+            (Begins-longer held holds (concat offered) (concat left) wrote.begun));
         nothing = λ e. offered_none s h.offered h.pieces t (no_pieces h.pieces h.cut.sizes (h.cut.whole ∙ e)) h.run;
       }

@@ -17,11 +17,13 @@ nil_from_length (x ∷ xs) e = absurd (omega arith)
 
 module _ {O : Type 0} (step : O → List ℕ → O → Type 0) (room : O → Option ℕ) where
   -- what is pending goes first, and then a long piece
-  pub Gathers-long : (n : ℕ) (old : O) (held piece : List ℕ) (mid new : O) → FoldsTo step old (piece_of held) mid → step mid piece new → n ≤ length piece → Gathers step room n old held piece new []
+  pub Gathers-long : (n : ℕ) (old : O) (held piece : List ℕ) (mid new : O) → FoldsTo step old (piece_of held) mid → step mid piece new
+      → n ≤ length piece → Gathers step room n old held piece new []
   Gathers-long n old held piece mid new h k w = record {
     handed = piece_of held ++ piece ∷ [];
     run = run_append step old (piece_of held) mid (piece ∷ []) new h (new, k, refl);
-    whole = append-nil _ ∙ concat-append (piece_of held) (piece ∷ []) ∙ ap (λ x. x ++ (piece ++ [])) (concat-piece_of held) ∙ ap (λ x. held ++ x) (append-nil piece);
+    whole = append-nil _ ∙ concat-append (piece_of held) (piece ∷ []) ∙ ap (λ x. x ++ (piece ++ [])) (concat-piece_of held)
+        ∙ ap (λ x. held ++ x) (append-nil piece);
     bound = omega arith;
     fits = omega arith;
     short = λ l. absurd (omega arith);

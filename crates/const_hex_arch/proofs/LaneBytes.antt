@@ -9,7 +9,7 @@ use Rattle.const_hex_arch.specs.Digits.{hex_value}
 use Rattle.const_hex_arch.specs.Lanes.{AllNibbles, byte_pairs}
 use Rattle.const_hex_arch.specs.Nibbles.{as_value, IsValueOf}
 use Rattle.const_hex_arch.specs.Texts.{AllDigits, Spells}
-use Rattle.const_hex_arch.proofs.Computed.{all_below, every_below}
+use Rattle.const_hex_arch.proofs.Computed.{every_pair}
 use Rattle.const_hex_arch.proofs.LaneValues.{values_of_digits, small_values}
 use Rattle.const_hex_arch.proofs.Spelling.{digits_append, IsPair-of}
 
@@ -19,7 +19,7 @@ abbrev pub merge : ℕ → ℕ
 merge pair = pair * 4097 % 65536 / 256
 
 merge_at : (h l : ℕ) → h ≤ 15 → l ≤ 15 → merge (h + 256 * l) ≡ 16 * h + l
-merge_at h l p q = eqb→eq _ _ (every_below (λ l. eqb (merge (h + 256 * l)) (16 * h + l)) 16 (every_below (λ h. all_below (λ l. eqb (merge (h + 256 * l)) (16 * h + l)) 16) 16 tt h (omega arith)) l (omega arith))
+merge_at h l p q = eqb→eq _ _ (every_pair (λ h l. eqb (merge (h + 256 * l)) (16 * h + l)) 16 16 tt h l (omega arith) (omega arith))
 
 pub merge_all : (k : ℕ) (ns : List ℕ) → length ns ≡ 2 * k → AllNibbles ns → map merge (digits_l 65536 k (number_l 256 ns)) ≡ byte_pairs ns
 merge_all zero [] e a = refl

@@ -30,7 +30,7 @@ masked_ok m t b n v blocks f =
 -- ---- two halves
 
 -- the halves of a vector of twice n lanes, which are picked from it and itself again
-pub halves : (n : ℕ) (v : List ℕ) → length v ≡ 2 * n → pick_l 0 (v ++ v) (range_with_len 0 n) ++ pick_l 0 (v ++ v) (range_with_len n n) ≡ v
+halves : (n : ℕ) (v : List ℕ) → length v ≡ 2 * n → pick_l 0 (v ++ v) (range_with_len 0 n) ++ pick_l 0 (v ++ v) (range_with_len n n) ≡ v
 halves n v e =
     let long = length-append v v in
     let front : take n (v ++ v) ≡ take n v = grind (arith, common_steps) in
@@ -44,5 +44,6 @@ both_zip R [] w (y ∷ a) b p q = absurd p
 both_zip R (x ∷ v) w [] b p q = absurd p
 both_zip R (x ∷ v) w (y ∷ a) b p q = (p.0, both_zip R v w a b p.1 q)
 
-pub by_halves : (R : ℕ → ℕ → Type 0) (n : ℕ) (v a b : List ℕ) → length v ≡ 2 * n → AllZip R (pick_l 0 (v ++ v) (range_with_len 0 n)) a → AllZip R (pick_l 0 (v ++ v) (range_with_len n n)) b → AllZip R v (a ++ b)
+pub by_halves : (R : ℕ → ℕ → Type 0) (n : ℕ) (v a b : List ℕ) → length v ≡ 2 * n → AllZip R (pick_l 0 (v ++ v) (range_with_len 0 n)) a
+    → AllZip R (pick_l 0 (v ++ v) (range_with_len n n)) b → AllZip R v (a ++ b)
 by_halves R n v a b e p q = subst (λ v. AllZip R v (a ++ b)) (halves n v e) (both_zip R _ _ a b p q)

@@ -71,14 +71,16 @@ module _ (table : List ℕ) where
   module _ (t : T marks_are_right) (u : T values_are_right) where
     limit_at : (b : ℕ) → b < 256 → IsLimitOf b (limit b)
     limit_at b h =
-        let same = same_truth-cases (eqb (mark_bits (mark_of b)) 0) (has_value (hex_value b)) (every_below (λ b. same_truth (eqb (mark_bits (mark_of b)) 0) (has_value (hex_value b))) 256 t b h) in
+        let same = same_truth-cases (eqb (mark_bits (mark_of b)) 0) (has_value (hex_value b))
+        (every_below (λ b. same_truth (eqb (mark_bits (mark_of b)) 0) (has_value (hex_value b))) 256 t b h) in
         let none = zero_is (mark_bits (mark_of b)) in
         let value = has_value-IsSome (hex_value b) in
         let right = every_below (λ b. is_none (hex_value b) || same_value (hex_value b) (Some (value_of b))) 256 u b h in
         (λ d. same_if_some (hex_value b) (Some (value_of b)) right d, (λ p. value.0 (same.0 (none.1 p)), λ d. none.0 (same.1 (value.1 d))))
 
     -- from lane i on
-    limits_all : (i : ℕ) (v : List ℕ) → i + length v ≤ 16 → Each1 (Fits w8) v → AllZip IsLimitOf v (swz_l w8 16 table i (zip2 bit_and v (replicate (length v) 143)))
+    limits_all : (i : ℕ) (v : List ℕ) → i + length v ≤ 16 → Each1 (Fits w8) v
+        → AllZip IsLimitOf v (swz_l w8 16 table i (zip2 bit_and v (replicate (length v) 143)))
     limits_all i [] h f = tt
     limits_all i (x ∷ xs) h f =
         let first : zero ≡ i / 16 = omega arith in
@@ -186,7 +188,8 @@ unmarked_fold a (x ∷ xs) f =
       λ h. let none : marked x ≡ 0 = one.1 h.1.0 in more.1 (rw (none, h.0) refl, h.1.1),
     )
 
-pub are_unmarked : (n : ℕ) (xs : List ℕ) → (length xs ≡ n) × Each1 (Fits w8) xs → IsTrue (eqb (fold_l bit_or 0 (zip2 bit_and xs (replicate n 216))) 0) ↔ AllUnmarked xs
+pub are_unmarked : (n : ℕ) (xs : List ℕ) → (length xs ≡ n) × Each1 (Fits w8) xs
+    → IsTrue (eqb (fold_l bit_or 0 (zip2 bit_and xs (replicate n 216))) 0) ↔ AllUnmarked xs
 are_unmarked n xs f =
     let all = unmarked_fold 0 xs f.1 in
     let joined = λ (n : ℕ). fold_l bit_or 0 (zip2 bit_and xs (replicate n 216)) in

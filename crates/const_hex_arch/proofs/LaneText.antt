@@ -1,7 +1,6 @@
 -- The text of lanes: tables of 16 digits, one in each block of 16 lanes, and the two halves of each lane in turn.
 use Rattle.std.proofs.Common.{◌≡◌, ℕ, zero, suc, ◌+◌, ◌*◌, ◌/◌, ◌%◌, ◌^◌, ◌<◌, Bool, eqb, T, List, [], ◌∷◌, ◌++◌, map, length, replicate, drop, take, get_or, bit_and, refl, sym, ap, subst, ◌∙◌, arith, w8, Fits, eqb→eq, length-append}
 use Rattle.std.specs.List.{range_with_len, concat}
-use Rattle.std.specs.Str.{IsAscii}
 use Rattle.std.proofs.lemmas.Grind.{common_steps}
 use Rattle.std.proofs.lemmas.List.{append-nil, ext_get_or, get_or-map, length-map}
 use Rattle.std.proofs.lemmas.Nat.{and_le_r, and_mask}
@@ -11,8 +10,7 @@ use lib.Lanes.{zip2, Each1, pick_l, chunk, put_chunk}
 use Rattle.const_hex_arch.specs.Digits.{hex_digit}
 use Rattle.const_hex_arch.specs.Lanes.{low_digit}
 use Rattle.const_hex_arch.specs.Texts.{hex_text}
-use Rattle.const_hex_arch.proofs.Computed.{all_below, every_below}
-use Rattle.const_hex_arch.proofs.Writing.{IsAscii-hex_text}
+use Rattle.const_hex_arch.proofs.Computed.{all_below, every_pair}
 
 -- ---- the digits of the low halves
 
@@ -20,7 +18,8 @@ use Rattle.const_hex_arch.proofs.Writing.{IsAscii-hex_text}
 abbrev pub is_table : Bool → List ℕ → ℕ → Bool
 is_table up t n = all_below (λ i. all_below (λ j. eqb (get_or t (16 * ((0 + i) / 16) + j) 0) (hex_digit up j)) 16) n
 
-pub low_digits_are : (up : Bool) (t v : List ℕ) (n : ℕ) → length v ≡ n → T (is_table up t n) → swz_l w8 16 t 0 (zip2 bit_and v (replicate n 15)) ≡ map (low_digit up) v
+pub low_digits_are : (up : Bool) (t v : List ℕ) (n : ℕ) → length v ≡ n → T (is_table up t n)
+    → swz_l w8 16 t 0 (zip2 bit_and v (replicate n 15)) ≡ map (low_digit up) v
 low_digits_are up t v n long table =
     let js = zip2 bit_and v (replicate n 15) in
     let is : js ≡ map (λ x. bit_and x 15) v = zip2_splat bit_and v n 15 long in
@@ -31,7 +30,7 @@ low_digits_are up t v n long table =
     let j : get_or js i 0 ≡ get_or v i 0 % 16 = ap (λ l. get_or l i 0) is ∙ get_or-map (λ x. bit_and x 15) v i 0 0 within ∙ and_mask (get_or v i 0) 4 in
     let below : get_or js i 0 < 16 = omega arith in
     get_or-swz_l_below w8 16 t 0 js i (omega arith) below
-    ∙ eqb→eq _ _ (every_below (λ j. eqb (get_or t (16 * ((0 + i) / 16) + j) 0) (hex_digit up j)) 16 (every_below (λ i. all_below (λ j. eqb (get_or t (16 * ((0 + i) / 16) + j) 0) (hex_digit up j)) 16) n table i lt) (get_or js i 0) below)
+    ∙ eqb→eq _ _ (every_pair (λ i j. eqb (get_or t (16 * ((0 + i) / 16) + j) 0) (hex_digit up j)) n 16 table i (get_or js i 0) lt below)
     ∙ ap (hex_digit up) j ∙ sym (get_or-map (low_digit up) v i 0 0 within))
 
 -- ---- two vectors, lane by lane in turn
@@ -59,7 +58,8 @@ interleaved : (n : ℕ) (a b : List ℕ) → length a ≡ n → length b ≡ n �
 interleaved n a b p q =
     let whole : length (a ++ b) ≡ n + n = omega (arith, length-append a b) in
     weave-map (λ k. get_or (a ++ b) k 0) (range_with_len 0 n) (range_with_len n n)
-    ∙ rw (pick_l-range_with_len 0 (a ++ b) 0 n (omega arith), pick_l-range_with_len 0 (a ++ b) n n (omega arith), chunk_at p (chunk_first a b), chunk_both p q (chunk_second a b)) refl
+    ∙ rw (pick_l-range_with_len 0 (a ++ b) 0 n (omega arith), pick_l-range_with_len 0 (a ++ b) n n (omega arith))
+    (rw (chunk_at p (chunk_first a b), chunk_both p q (chunk_second a b)) refl)
   where
     chunk_at : length a ≡ n → chunk 0 (length a) (a ++ b) ≡ a → chunk 0 n (a ++ b) ≡ a
     chunk_at e h = subst (λ n. chunk 0 n (a ++ b) ≡ a) e h
@@ -72,7 +72,8 @@ interleaved n a b p q =
 abbrev shift_down : ℕ → ℕ → ℕ
 shift_down a b = a / 2 ^ b
 
-halves_in_turn : (up : Bool) (v : List ℕ) → Each1 (Fits w8) v → weave (map (low_digit up) (zip2 shift_down v (replicate (length v) 4))) (map (low_digit up) v) ≡ hex_text up v
+halves_in_turn : (up : Bool) (v : List ℕ) → Each1 (Fits w8) v
+    → weave (map (low_digit up) (zip2 shift_down v (replicate (length v) 4))) (map (low_digit up) v) ≡ hex_text up v
 unfolding hex_text
 halves_in_turn up [] f = refl
 halves_in_turn up (x ∷ v) f =
@@ -80,16 +81,9 @@ halves_in_turn up (x ∷ v) f =
     let rest = halves_in_turn up v f.1 in
     rw (high, rest) refl
 
-pub IsAscii-lanes : (up : Bool) (v : List ℕ) → Each1 (Fits w8) v → IsAscii (hex_text up v)
-IsAscii-lanes up v f = IsAscii-hex_text up v (λ k. small v f k)
-  where
-    small : (v : List ℕ) → Each1 (Fits w8) v → (k : ℕ) → get_or v k 0 < 256
-    small [] f k = omega arith
-    small (x ∷ v) f zero = f.0.fits
-    small (x ∷ v) f (suc k) = small v f.1 k
-
 -- a and b are the digits of the high halves and of the low
-pub interleaved_text : (up : Bool) (n : ℕ) (v a b : List ℕ) → (length v ≡ n) × Each1 (Fits w8) v → a ≡ map (low_digit up) (zip2 shift_down v (replicate n 4)) → b ≡ map (low_digit up) v
+pub interleaved_text : (up : Bool) (n : ℕ) (v a b : List ℕ) → (length v ≡ n) × Each1 (Fits w8) v
+    → a ≡ map (low_digit up) (zip2 shift_down v (replicate n 4)) → b ≡ map (low_digit up) v
     → pick_l 0 (a ++ b) (weave (range_with_len 0 n) (range_with_len n n)) ≡ hex_text up v
 interleaved_text up n v a b f p q =
     let r = replicate n 4 in
@@ -97,7 +91,9 @@ interleaved_text up n v a b f p q =
     let lz : length (zip2 shift_down v r) ≡ n = length-zip2 shift_down v r (f.0 ∙ sym lr) ∙ f.0 in
     let la : length a ≡ n = ap length p ∙ length-map (zip2 shift_down v r) (low_digit up) ∙ lz in
     let lb : length b ≡ n = ap length q ∙ length-map v (low_digit up) ∙ f.0 in
-    interleaved n a b la lb ∙ rw (p, q) (subst (λ n. weave (map (low_digit up) (zip2 shift_down v (replicate n 4))) (map (low_digit up) v) ≡ hex_text up v) f.0 (halves_in_turn up v f.1))
+    interleaved n a b la lb
+    ∙ rw (p, q) (subst (λ n. weave (map (low_digit up) (zip2 shift_down v (replicate n 4))) (map (low_digit up) v) ≡ hex_text up v) f.0
+    (halves_in_turn up v f.1))
 
 -- ---- two vectors of n lanes in one piece, which are stored one behind the other
 
@@ -108,7 +104,8 @@ concat-pair (a ∷ []) e = absurd (omega arith)
 concat-pair (a ∷ b ∷ []) e = ap (λ x. a ++ x) (append-nil b)
 concat-pair (a ∷ b ∷ c ∷ vs) e = absurd (omega arith)
 
-stored_pair : (n : ℕ) (a b z : List ℕ) → length a ≡ n → length b ≡ n → length z ≡ n → put_mid n n (put_chunk 0 z a ++ z) (put_chunk 0 (take n (drop n (put_chunk 0 z a ++ z))) b) ≡ a ++ b
+stored_pair : (n : ℕ) (a b z : List ℕ) → length a ≡ n → length b ≡ n → length z ≡ n
+    → put_mid n n (put_chunk 0 z a ++ z) (put_chunk 0 (take n (drop n (put_chunk 0 z a ++ z))) b) ≡ a ++ b
 stored_pair n a b z p q r =
     rw (put_chunk_whole z a (r ∙ sym p)) (
     let t : take n (a ++ z) ≡ a = grind (arith, common_steps) in

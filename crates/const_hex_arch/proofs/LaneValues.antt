@@ -113,4 +113,5 @@ one_small n x e = rw (← e) (λ s. grind (arith, nat_tests))
 pub small_values : (ns v : List ℕ) → map as_value ns ≡ map hex_value v → AllDigits v → AllNibbles ns
 small_values [] v e d = tt
 small_values (n ∷ ns) [] e d = absurd (let q : suc (length (map as_value ns)) ≡ zero = ap length e in omega arith)
-small_values (n ∷ ns) (x ∷ v) e d = (one_small n x (ap (λ l. get_or l 0 None) e) (All-head IsDigit x v d), small_values ns v (ap (drop 1) e) (All-tail IsDigit x v d))
+small_values (n ∷ ns) (x ∷ v) e d =
+    (one_small n x (ap (λ l. get_or l 0 None) e) (All-head IsDigit x v d), small_values ns v (ap (drop 1) e) (All-tail IsDigit x v d))

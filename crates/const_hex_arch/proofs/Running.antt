@@ -18,9 +18,11 @@ pub HasRoom-fewer : (room : Option ℕ) (m n : ℕ) → m ≤ n → HasRoom room
 HasRoom-fewer (Some r) m n h k = omega arith
 HasRoom-fewer None m n h k = omega arith
 
-module _ {S : Type 0} (step : S → List ℕ → S → Type 0) (room : S → Option ℕ) (shrinks : (s : S) (piece : List ℕ) (t : S) → step s piece t → room t ≡ less_room (room s) (length piece)) where
+module _ {S : Type 0} (step : S → List ℕ → S → Type 0) (room : S → Option ℕ)
+    (shrinks : (s : S) (piece : List ℕ) (t : S) → step s piece t → room t ≡ less_room (room s) (length piece)) where
   -- two bytes leave room for the pairs that are left
-  pub room_after_two : (s : S) (a b : ℕ) (m t : S) (k : ℕ) → step s (a ∷ []) m → step m (b ∷ []) t → (n : ℕ) → n ≡ k + 1 → HasRoom (room s) (2 * n) → HasRoom (room t) (2 * k)
+  pub room_after_two : (s : S) (a b : ℕ) (m t : S) (k : ℕ) → step s (a ∷ []) m → step m (b ∷ []) t → (n : ℕ) → n ≡ k + 1 → HasRoom (room s) (2 * n)
+      → HasRoom (room t) (2 * k)
   room_after_two s a b m t k h i n e r =
       rw (shrinks m (b ∷ []) t i, shrinks s (a ∷ []) m h, less_room-add)
       (HasRoom-less (room s) 2 (2 * k) (subst (λ m. HasRoom (room s) m) (let q : 2 * n ≡ 2 + 2 * k = omega arith in q) r))
@@ -41,7 +43,8 @@ module _ {S : Type 0} (step : S → List ℕ → S → Type 0) where
   Writes-none s = record { pieces = []; run = refl; whole = refl; sizes = All-nil IsKernelPiece }
 
   -- one piece more
-  pub Writes-more : (s : S) (text : List ℕ) (m : S) (piece : List ℕ) (t : S) → Writes step s text m → step m piece t → IsKernelPiece piece → Writes step s (text ++ piece) t
+  pub Writes-more : (s : S) (text : List ℕ) (m : S) (piece : List ℕ) (t : S) → Writes step s text m → step m piece t → IsKernelPiece piece
+      → Writes step s (text ++ piece) t
   Writes-more s text m piece t h k i = record {
     pieces = h.pieces ++ piece ∷ [];
     run = run_append s h.pieces m (piece ∷ []) t h.run (t, k, refl);
@@ -50,7 +53,8 @@ module _ {S : Type 0} (step : S → List ℕ → S → Type 0) where
   }
 
   -- one text and then another
-  pub Writes-append : (s : S) (first : List ℕ) (m : S) (second : List ℕ) (t : S) → Writes step s first m → Writes step m second t → Writes step s (first ++ second) t
+  pub Writes-append : (s : S) (first : List ℕ) (m : S) (second : List ℕ) (t : S) → Writes step s first m → Writes step m second t
+      → Writes step s (first ++ second) t
   Writes-append s first m second t h k = record {
     pieces = h.pieces ++ k.pieces;
     run = run_append s h.pieces m k.pieces t h.run k.run;

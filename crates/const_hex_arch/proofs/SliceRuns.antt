@@ -15,14 +15,16 @@ cut_at : (a rest q : List ℕ) (m : ℕ) → m ≡ length a → take m (a ++ res
 cut_at a rest q m e = rw e (rw (take-append_seam, drop-append-add))
 
 placed_bytes : (old : List ℕ) (at : ℕ) (p q : List ℕ) → length (take at old ++ p ++ drop (at + length p) old) ≡ length old →
-    take (at + length p) (take at old ++ p ++ drop (at + length p) old) ++ q ++ drop (at + length p + length q) (take at old ++ p ++ drop (at + length p) old) ≡ take at old ++ (p ++ q) ++ drop (at + length p + length q) old
+    take (at + length p) (take at old ++ p ++ drop (at + length p) old) ++ q ++ drop (at + length p + length q) (take at old ++ p ++ drop (at + length p) old)
+    ≡ take at old ++ (p ++ q) ++ drop (at + length p + length q) old
 placed_bytes old at [] q h = simp (add-zero, append-nil, take-append-drop)
 placed_bytes old at (x ∷ p) q h =
     let within : at ≤ length old = grind (arith, common_steps) in
     cut_at (take at old ++ (x ∷ p)) (drop (at + length (x ∷ p)) old) q (at + length (x ∷ p)) (grind (arith, common_steps)) ∙ grind (arith, common_steps)
 
 -- one piece and then another
-pub Placed-more : (old : List ℕ) (at : ℕ) (p : List ℕ) (mid : List ℕ) (m : ℕ) (q new : List ℕ) (end : ℕ) → Placed old at p mid m → Placed mid m q new end → Placed old at (p ++ q) new end
+pub Placed-more : (old : List ℕ) (at : ℕ) (p : List ℕ) (mid : List ℕ) (m : ℕ) (q new : List ℕ) (end : ℕ) → Placed old at p mid m
+    → Placed mid m q new end → Placed old at (p ++ q) new end
 Placed-more old at p mid m q new end h k = record {
   end_at = grind (arith, common_steps);
   same_length = grind arith;

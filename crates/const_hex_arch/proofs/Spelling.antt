@@ -206,7 +206,8 @@ drop-later : (new old : List ℕ) (i v : ℕ) → drop i new ≡ drop i old → 
 drop-later new old i v d = grind (arith, common_steps)
 
 -- one pair more is decoded, and the rest of the output is as before
-pub decoded_pair : (u new old : List ℕ) (i high low : ℕ) → Spells (take (2 * i) u) (take i new) → drop i new ≡ drop i old → 2 * i + 1 < length u → i < length new
+pub decoded_pair : (u new old : List ℕ) (i high low : ℕ) → Spells (take (2 * i) u) (take i new) → drop i new ≡ drop i old → 2 * i + 1 < length u
+    → i < length new
     → hex_value (get_or u (2 * i) 0) ≡ Some high → hex_value (get_or u (2 * i + 1) 0) ≡ Some low
     → Spells (take (2 * (i + 1)) u) (take (i + 1) (set new i (high * 16 + low))) × (drop (i + 1) (set new i (high * 16 + low)) ≡ drop (i + 1) old)
 decoded_pair u new old i high low s d h k e f =
@@ -224,7 +225,8 @@ none_decoded old u n =
     record { bad = r.0; done = 0; first_bad = r.1; not_past = omega arith; same_length = refl; front = tt; rest = refl }
 
 -- a bad byte after i pairs, the first of its pair or the second
-pub refused_high : (old u new : List ℕ) (i : ℕ) → Spells (take (2 * i) u) (take i new) → drop i new ≡ drop i old → 2 * i + 1 < length u → length new ≡ length old → IsNone (hex_value (get_or u (2 * i) 0)) → Partial old u new
+pub refused_high : (old u new : List ℕ) (i : ℕ) → Spells (take (2 * i) u) (take i new) → drop i new ≡ drop i old → 2 * i + 1 < length u
+    → length new ≡ length old → IsNone (hex_value (get_or u (2 * i) 0)) → Partial old u new
 refused_high old u new i s d h l n = record {
   bad = 2 * i;
   done = i;
@@ -235,7 +237,8 @@ refused_high old u new i s d h l n = record {
   rest = d;
 }
 
-pub refused_low : (old u new : List ℕ) (i v : ℕ) → Spells (take (2 * i) u) (take i new) → drop i new ≡ drop i old → 2 * i + 1 < length u → length new ≡ length old
+pub refused_low : (old u new : List ℕ) (i v : ℕ) → Spells (take (2 * i) u) (take i new) → drop i new ≡ drop i old → 2 * i + 1 < length u
+    → length new ≡ length old
     → hex_value (get_or u (2 * i) 0) ≡ Some v → IsNone (hex_value (get_or u (2 * i + 1) 0)) → Partial old u new
 refused_low old u new i v s d h l e n = record {
   bad = 2 * i + 1;
@@ -252,7 +255,8 @@ refused_low old u new i v s d h l e n = record {
 }
 
 -- a text that is refused behind k bytes that were decoded
-pub Partial-after : (old u new : List ℕ) (k m : ℕ) → m ≡ 2 * k → m ≤ length u → length new ≡ length old → k ≤ length new → Spells (take m u) (take k new) → Partial (drop k old) (drop m u) (drop k new) → Partial old u new
+pub Partial-after : (old u new : List ℕ) (k m : ℕ) → m ≡ 2 * k → m ≤ length u → length new ≡ length old → k ≤ length new
+    → Spells (take m u) (take k new) → Partial (drop k old) (drop m u) (drop k new) → Partial old u new
 Partial-after old u new k m e h l b s p =
     let not_past = p.not_past in
     record {

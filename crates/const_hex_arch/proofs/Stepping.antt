@@ -55,7 +55,8 @@ pub record IsWritten {S : Type 0} (step : S → List ℕ → S → Type 0) (room
   pub text : Writes step old (hex_text up (take i u)) new
   pub has_room : HasRoom (room new) (2 * (length u - i))
 
-module _ {S : Type 0} {step : S → List ℕ → S → Type 0} {room : S → Option ℕ} (shrinks : (s : S) (piece : List ℕ) (t : S) → step s piece t → room t ≡ less_room (room s) (length piece))
+module _ {S : Type 0} {step : S → List ℕ → S → Type 0} {room : S → Option ℕ}
+    (shrinks : (s : S) (piece : List ℕ) (t : S) → step s piece t → room t ≡ less_room (room s) (length piece))
     {up : Bool} {u : List ℕ} {old : S} where
   pub none_written : HasRoom (room old) (2 * length u) → IsWritten step room up u old old 0
   none_written h = record {
@@ -66,16 +67,18 @@ module _ {S : Type 0} {step : S → List ℕ → S → Type 0} {room : S → Opt
 
   -- the text of n bytes more, as one piece
   pub written_step : {mid new : S} {i : ℕ} (n end : ℕ) → IsWritten step room up u old mid i → end ≡ i + n → end ≤ length u
-      → step mid (hex_text up (take n (drop i u))) new → 1 ≤ n → n ≤ 32 → IsWritten step room up u old new end
-  written_step {mid} {new} {i} n end d e h s some few =
+      → step mid (hex_text up (take n (drop i u))) new → (1 ≤ n) × (n ≤ 32) → IsWritten step room up u old new end
+  written_step {mid} {new} {i} n end d e h s size_is =
       let part = take n (drop i u) in
       let piece = hex_text up part in
       let size : length part ≡ n = grind (arith, common_steps) in
       let long = length-hex_text up part in
       let room_left : 2 * (length u - i) ≡ length piece + 2 * (length u - end) = omega (arith, long, size) in record {
         within = h;
-        text = rw (e, take-add i n u, hex_text-append up (take i u) part) (Writes-more step _ _ _ _ _ d.text s (omega (arith, long, size), omega (arith, long, size)));
-        has_room = rw (shrinks mid piece new s) (HasRoom-less (room mid) (length piece) (2 * (length u - end)) (subst (HasRoom (room mid)) room_left d.has_room));
+        text = rw (e, take-add i n u, hex_text-append up (take i u) part)
+            (Writes-more step _ _ _ _ _ d.text s (omega (arith, long, size), omega (arith, long, size)));
+        has_room = rw (shrinks mid piece new s) (HasRoom-less (room mid) (length piece) (2 * (length u - end))
+            (subst (HasRoom (room mid)) room_left d.has_room));
       }
 
   -- there is room for the rest
@@ -91,8 +94,8 @@ module _ {S : Type 0} {step : S → List ℕ → S → Type 0} {room : S → Opt
 
   -- the first n bytes, as one piece
   pub first_written : {mid : S} (n : ℕ) {part : List ℕ} → HasRoom (room old) (2 * length u) → n ≤ length u → part ≡ take n u
-      → step old (hex_text up part) mid → 1 ≤ n → n ≤ 32 → IsWritten step room up u old mid n
-  first_written n h k e s some few = written_step n n (none_written h) (omega arith) k (rw e at s) some few
+      → step old (hex_text up part) mid → (1 ≤ n) × (n ≤ 32) → IsWritten step room up u old mid n
+  first_written n h k e s size_is = written_step n n (none_written h) (omega arith) k (rw e at s) size_is
 
 -- ---- what the first bytes of an output hold is spelled by the first pairs of a text, and the rest is as before
 pub record IsDecoded (u old new : List ℕ) (i : ℕ) : Type 0 where
@@ -140,7 +143,8 @@ module _ {u old new : List ℕ} {i : ℕ} (r : List ℕ) (d : IsDecoded u old ne
   pub spells_rest : Spells (take (length u - 2 * i) (drop (2 * i) u)) r → Spells u (put_mid i (length new - i) new r)
   spells_rest s = rw whole (subst (λ x. Spells x (take i new ++ r)) (take-append-drop (2 * i) u) (Spells-append _ _ _ _ d.front (rw all_of at s)))
 
-  pub partial_rest : Partial (take (length new - i) (drop i new)) (take (length u - 2 * i) (drop (2 * i) u)) r → Partial old u (put_mid i (length new - i) new r)
+  pub partial_rest : Partial (take (length new - i) (drop i new)) (take (length u - 2 * i) (drop (2 * i) u)) r
+      → Partial old u (put_mid i (length new - i) new r)
   partial_rest p =
       let within = d.within in
       let same = d.same_length in

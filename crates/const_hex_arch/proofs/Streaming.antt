@@ -26,7 +26,8 @@ record Gathered {O : Type 0} (step : O → List ℕ → O → Type 0) (old : O) 
   sizes : All IsHandedOn handed
   bound : length rest ≤ 4096
 
-handed_sizes : (held piece : List ℕ) (handed : List (List ℕ)) → length held ≤ 4096 → IsKernelPiece piece → HandsOnHeld 4096 held piece handed → All IsHandedOn handed
+handed_sizes : (held piece : List ℕ) (handed : List (List ℕ)) → length held ≤ 4096 → IsKernelPiece piece → HandsOnHeld 4096 held piece handed
+    → All IsHandedOn handed
 unfolding IsHandedOn
 handed_sizes held piece handed f k (inl e) = All-same IsHandedOn handed [] e (All-nil IsHandedOn)
 handed_sizes held piece handed f k (inr (e, m)) =
@@ -41,7 +42,8 @@ module _ {O : Type 0} (step : O → List ℕ → O → Type 0) (room : O → Opt
   gathered_more old held piece mid kept text new rest f k g r = record {
     handed = g.handed ++ r.handed;
     run = run_append step old g.handed mid r.handed new g.run r.run;
-    whole = ap (λ x. x ++ rest) (concat-append g.handed r.handed) ∙ append_assoc (concat g.handed) (concat r.handed) rest ∙ ap (λ x. concat g.handed ++ x) r.whole
+    whole = ap (λ x. x ++ rest) (concat-append g.handed r.handed) ∙ append_assoc (concat g.handed) (concat r.handed) rest
+        ∙ ap (λ x. concat g.handed ++ x) r.whole
         ∙ sym (append_assoc (concat g.handed) kept text) ∙ ap (λ x. x ++ text) g.whole ∙ append_assoc held piece text;
     sizes = All-append IsHandedOn g.handed r.handed (handed_sizes held piece g.handed f k (g.short (omega arith))) r.sizes;
     bound = r.bound;
@@ -70,7 +72,8 @@ piece_of-sizes : (rest : List ℕ) → length rest ≤ 4096 → All IsCallPiece 
 piece_of-sizes [] f = All-nil IsCallPiece
 piece_of-sizes (b ∷ bs) f = All-cons IsCallPiece (b ∷ bs) [] (omega arith, f) (All-nil IsCallPiece)
 
-Cut-of : (text : List ℕ) (ps : List (List ℕ)) (rest : List ℕ) → concat ps ++ rest ≡ text → All IsHandedOn ps → length rest ≤ 4096 → Cut text (ps ++ piece_of rest)
+Cut-of : (text : List ℕ) (ps : List (List ℕ)) (rest : List ℕ) → concat ps ++ rest ≡ text → All IsHandedOn ps → length rest ≤ 4096
+    → Cut text (ps ++ piece_of rest)
 unfolding IsHandedOn
 Cut-of text ps rest w a f = record {
   whole = concat-append ps (piece_of rest) ∙ ap (λ x. concat ps ++ x) (concat-piece_of rest) ∙ w;
@@ -86,7 +89,8 @@ many_bytes (p ∷ ps) a =
     let h = (All-head IsHandedOn p ps a).0 in
     omega (arith, h, many_bytes ps (All-tail IsHandedOn p ps a), length-append p (concat ps))
 
-few_pieces : (text : List ℕ) (ps : List (List ℕ)) (rest : List ℕ) → concat ps ++ rest ≡ text → All IsHandedOn ps → length (ps ++ piece_of rest) ≤ (length text + 4032) / 4033
+few_pieces : (text : List ℕ) (ps : List (List ℕ)) (rest : List ℕ) → concat ps ++ rest ≡ text → All IsHandedOn ps
+    → length (ps ++ piece_of rest) ≤ (length text + 4032) / 4033
 few_pieces text ps [] w a =
     let m = many_bytes ps a in
     let e = ap length w in
@@ -112,7 +116,8 @@ module _ {S : Type 0} (step : S → List ℕ → S → Type 0) (is_refused : S �
   sink_name-run s [] t h = ap (λ (x : SinkOutput S). sink_name x) (sym h)
   sink_name-run s (p ∷ ps) t (m, h, k) = sink_name-run m ps t k ∙ h.same_sink
 
-  refused_run : (s : SinkOutput S) (ps : List (List ℕ)) (t : SinkOutput S) → is_refused (output_sink s) ≡ true → FoldsTo (SinkStep step is_refused) s ps t → output_sink t ≡ output_sink s
+  refused_run : (s : SinkOutput S) (ps : List (List ℕ)) (t : SinkOutput S) → is_refused (output_sink s) ≡ true
+      → FoldsTo (SinkStep step is_refused) s ps t → output_sink t ≡ output_sink s
   refused_run s [] t r h = ap (λ (x : SinkOutput S). output_sink x) (sym h)
   refused_run s (p ∷ ps) t r (m, h, k) = let e = h.after_refusal r in refused_run m ps t (ap is_refused e ∙ r) k ∙ e
 
@@ -131,7 +136,8 @@ module _ {S : Type 0} (step : S → List ℕ → S → Type 0) (is_refused : S �
   }
 
   offered_one : (s : SinkOutput S) (p : List ℕ) (m : SinkOutput S) (ps : List (List ℕ)) (t : SinkOutput S) → is_refused (output_sink s) ≡ false
-      → SinkStep step is_refused s p m → FoldsTo (SinkStep step is_refused) m ps t → (is_refused (output_sink m) ≡ false → Offered (output_sink m) ps (output_sink t))
+      → SinkStep step is_refused s p m → FoldsTo (SinkStep step is_refused) m ps t
+      → (is_refused (output_sink m) ≡ false → Offered (output_sink m) ps (output_sink t))
       → (b : Bool) → is_refused (output_sink m) ≡ b → Offered (output_sink s) (p ∷ ps) (output_sink t)
   offered_one s p m ps t e h k more false u = offered_more (output_sink s) p (output_sink m) ps (output_sink t) e (h.accepting e) (more u)
   offered_one s p m ps t e h k more true u = let c = refused_run m ps t u k in record {
@@ -141,7 +147,8 @@ module _ {S : Type 0} (step : S → List ℕ → S → Type 0) (is_refused : S �
     complete = λ v. absurd (true_is_false (sym u ∙ ap is_refused (sym c) ∙ v));
   }
 
-  offered_run : (s : SinkOutput S) (ps : List (List ℕ)) (t : SinkOutput S) → is_refused (output_sink s) ≡ false → FoldsTo (SinkStep step is_refused) s ps t → Offered (output_sink s) ps (output_sink t)
+  offered_run : (s : SinkOutput S) (ps : List (List ℕ)) (t : SinkOutput S) → is_refused (output_sink s) ≡ false
+      → FoldsTo (SinkStep step is_refused) s ps t → Offered (output_sink s) ps (output_sink t)
   offered_run s [] t e h = record { count = 0; within = omega arith; run = ap (λ (x : SinkOutput S). output_sink x) h; complete = λ _. refl }
   offered_run s (p ∷ ps) t e (m, h, k) = offered_one s p m ps t e h k (λ u. offered_run m ps t u k) (is_refused (output_sink m)) refl
 
@@ -172,7 +179,8 @@ module _ {S : Type 0} (step : S → List ℕ → S → Type 0) (is_refused : S �
       )
 
   -- a text that is one piece
-  pub Streams-one : (s : S) (text : List ℕ) (t : S) → 0 < length text → length text ≤ 4096 → is_refused s ≡ false → step s text t → Streams step is_refused s text t
+  pub Streams-one : (s : S) (text : List ℕ) (t : S) → 0 < length text → length text ≤ 4096 → is_refused s ≡ false → step s text t
+      → Streams step is_refused s text t
   Streams-one s text t some most e h = record {
     pieces = text ∷ [];
     offered = 1;
@@ -229,9 +237,11 @@ module _ {S : Type 0} (step : S → List ℕ → S → Type 0) (is_refused : S �
   told-Offers s [] t e h = ap told (sym h) ∙ sym (told_after-none (told s))
   told-Offers s (p ∷ ps) t e (o, (m, h, k)) =
       let accepted = Offers-accepting step is_refused m ps t e k in
-      told-Offers m ps t e k ∙ ap (λ x. told_after x ps) (tells s p m h ∙ ap (λ b. told_after (told s) (if b then [] else p ∷ [])) accepted) ∙ told_after-more (told s) (p ∷ []) ps
+      told-Offers m ps t e k ∙ ap (λ x. told_after x ps) (tells s p m h ∙ ap (λ b. told_after (told s) (if b then [] else p ∷ [])) accepted)
+      ∙ told_after-more (told s) (p ∷ []) ps
 
-  pub Handed-of : (s : S) (text : List ℕ) (ok : Bool) (t : S) → Streams step is_refused s text t → ok ≡ not (is_refused t) → Handed step is_refused told s text ok t
+  pub Handed-of : (s : S) (text : List ℕ) (ok : Bool) (t : S) → Streams step is_refused s text t → ok ≡ not (is_refused t)
+      → Handed step is_refused told s text ok t
   Handed-of s text ok t h flag = record {
     streams = h;
     flag = flag;
@@ -239,5 +249,6 @@ module _ {S : Type 0} (step : S → List ℕ → S → Type 0) (is_refused : S �
   }
 
 -- the same at the value that the sink ends as
-pub Streams-at : {S : Type 0} (step : S → List ℕ → S → Type 0) (is_refused : S → Bool) (old : S) (text : List ℕ) (new : S) → Streams step is_refused old text new → (end : S) → end ≡ new → Streams step is_refused old text end
+pub Streams-at : {S : Type 0} (step : S → List ℕ → S → Type 0) (is_refused : S → Bool) (old : S) (text : List ℕ) (new : S)
+    → Streams step is_refused old text new → (end : S) → end ≡ new → Streams step is_refused old text end
 Streams-at step is_refused old text new h end e = rw e h

@@ -21,7 +21,8 @@ HandsOnPiece n held piece handed =
 -- from an output with `held` pending, through a piece, to an output with `rest` pending, where n
 -- bytes are gathered: some pieces are handed on, and in one text with `rest` they are `held` and
 -- then the piece; what is pending is at most n bytes, which fit into the output
-pub record Gathers {O : Type 0} (step : O → List ℕ → O → Type 0) (room : O → Option ℕ) (n : ℕ) (old : O) (held piece : List ℕ) (new : O) (rest : List ℕ) : Type 0 where
+pub record Gathers {O : Type 0} (step : O → List ℕ → O → Type 0) (room : O → Option ℕ) (n : ℕ) (old : O) (held piece : List ℕ) (new : O)
+    (rest : List ℕ) : Type 0 where
   pub handed : List (List ℕ)
   pub run : FoldsTo step old handed new
   pub whole : concat handed ++ rest ≡ held ++ piece

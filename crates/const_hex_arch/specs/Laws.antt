@@ -17,7 +17,8 @@ pub less_room-add : (room : Option ℕ) (m n : ℕ) → less_room (less_room roo
 less_room-add (Some r) m n = ap Some (omega arith)
 less_room-add None m n = refl
 
-module _ {S : Type 0} (step : S → List ℕ → S → Type 0) (room : S → Option ℕ) (shrinks : (s : S) (piece : List ℕ) (t : S) → step s piece t → room t ≡ less_room (room s) (length piece)) where
+module _ {S : Type 0} (step : S → List ℕ → S → Type 0) (room : S → Option ℕ)
+    (shrinks : (s : S) (piece : List ℕ) (t : S) → step s piece t → room t ≡ less_room (room s) (length piece)) where
   -- a run takes the room of its pieces together
   pub run_shrinks : (s : S) (ps : List (List ℕ)) (t : S) → FoldsTo step s ps t → room t ≡ less_room (room s) (length (concat ps))
   run_shrinks s [] t h = ap room (sym h) ∙ sym (less_room-zero (room s))
@@ -36,10 +37,12 @@ module _ {S : Type 0} (step : S → List ℕ → S → Type 0) (room : S → Opt
 
 -- ---- a sink that keeps its pieces
 
-step_tells : (s : PieceState) (piece : List ℕ) (t : PieceState) → PieceStep s piece t → (b : Bool) → t.refused ≡ b → t.pieces ≡ s.pieces ++ (if b then [] else piece ∷ [])
+step_tells : (s : PieceState) (piece : List ℕ) (t : PieceState) → PieceStep s piece t → (b : Bool) → t.refused ≡ b
+    → t.pieces ≡ s.pieces ++ (if b then [] else piece ∷ [])
 step_tells s piece t h true e = h.kept e ∙ sym (append-nil s.pieces)
 step_tells s piece t h false e = h.accepted e
 
 -- it tells its pieces
-pub PieceStep-tells : (s : PieceState) (piece : List ℕ) (t : PieceState) → PieceStep s piece t → Some t.pieces ≡ Some (s.pieces ++ (if t.refused then [] else piece ∷ []))
+pub PieceStep-tells : (s : PieceState) (piece : List ℕ) (t : PieceState) → PieceStep s piece t
+    → Some t.pieces ≡ Some (s.pieces ++ (if t.refused then [] else piece ∷ []))
 PieceStep-tells s piece t h = ap Some (step_tells s piece t h t.refused refl)

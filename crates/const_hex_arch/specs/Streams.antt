@@ -49,7 +49,8 @@ pub record TellsCut (old : Option (List (List ℕ))) (text : List ℕ) (new : Op
   pub told : new ≡ told_after old pieces
 
 -- what a text that is handed over does to a sink, and the answer
-pub record Handed {S : Type 0} (step : S → List ℕ → S → Type 0) (is_refused : S → Bool) (tells : S → Option (List (List ℕ))) (old : S) (text : List ℕ) (ok : Bool) (new : S) : Type 0 where
+pub record Handed {S : Type 0} (step : S → List ℕ → S → Type 0) (is_refused : S → Bool) (tells : S → Option (List (List ℕ))) (old : S) (text : List ℕ)
+    (ok : Bool) (new : S) : Type 0 where
   pub streams : Streams step is_refused old text new
   pub flag : ok ≡ not (is_refused new)
   pub told : is_refused new ≡ false → TellsCut (tells old) text (tells new)

@@ -167,7 +167,10 @@ module _ {M : Type 1} (𝓤 : Ura M) (𝓛 : Logic 𝓤) (𝓜 : Model 𝓤 𝓛
       split ! $ move ! (1 ∷ []) $ split ! $ move ! (1 ∷ []) $ split ! $ keep ! (3 ∷ 2 ∷ 0 ∷ []) $
       -- [the tokens; the input; the output]
       enter ! _ _ _ _ _ $
-      alloc_all ! (λ l. pass_all ! refl ((tt, (tt, (record { fits = are.0.0.1.0 }, tt))), ((tt, (tt, (record { fits = are.1.0.0.1.0 }, tt))), tt)) $ let Ev = env fn.locals l in
+      alloc_all ! (λ l. pass_all ! refl (
+        (tt, (tt, (record { fits = are.0.0.1.0 }, tt))),
+        ((tt, (tt, (record { fits = are.1.0.0.1.0 }, tt))), tt),
+      ) $ let Ev = env fn.locals l in
       sets ! (of_opd ! (get_in ! (fld ! refl (stop !)) (sub ! 1 refl (whole !)))) refl (tt, record { fits = are.0.0.1.0 }) $
       sets ! (of_opd ! (get_in ! (fld ! refl (stop !)) (sub ! 1 refl (whole !)))) refl (tt, record { fits = are.1.0.0.1.0 }) $
       nothing ! $ owned ! usize _ (uint_Makes 𝓛 w64) k _ (refl, are.1.0.0.1.0) $ join ! $ owned ! usize _ (uint_Makes 𝓛 w64) m _ (refl, are.0.0.1.0) $ join ! $
@@ -182,7 +185,8 @@ module _ {M : Type 1} (𝓤 : Ura M) (𝓛 : Logic 𝓤) (𝓜 : Model 𝓤 𝓛
       first ! $ branches ! (get ! refl)
       (λ short.
       sets ! (agg ! (and_then ! (lit ! tt) (no_more !))) refl (tt, (record { fits = lit< tt }, tt)) $
-      sets ! (agg ! (and_then ! (lit ! tt) (and_then ! (get ! refl) (no_more !)))) refl (tt, (record { fits = lit< tt }, ((record { fits = lit< tt }, tt), tt))) $
+      sets ! (agg ! (and_then ! (lit ! tt) (and_then ! (get ! refl) (no_more !)))) refl
+      (tt, (record { fits = lit< tt }, ((record { fits = lit< tt }, tt), tt))) $
       returns_within ! (W.post y) refl (look_at ! 0 refl) $ free_all ! refl $
       let refused : Result (Bor (List ℕ)) refusal.the_row.Denot = Err InvalidStringLength in
       suffices ! _ (ends_at 𝓛 Lends hs c y (live 1 (of_list (live 1 (of_list []) ∷ []))) refused (tt, (tt, tt)) (tt, (tt, tt))) $
@@ -191,16 +195,19 @@ module _ {M : Type 1} (𝓤 : Ura M) (𝓛 : Logic 𝓤) (𝓜 : Model 𝓤 𝓛
       use1 𝓛 (‵ (EndsEncoded up x.now o refused)) (Rests-of 𝓛 o (λ new. MatchResult refused (λ _. new ≡ hex_text up x.now) (λ _. new ≡ o.now)) o.now refl) $
       move ! (2 ∷ []) $ drop ! $
       use0 𝓛 (‵ (refusal.the_row.own_val InvalidStringLength (live 1 (of_list []) ∷ []))) (InvalidStringLength-of 𝓛) $
-      use1 𝓛 (‵ ((Answer.the_row Text refusal.the_row).own_val refused (live 1 (of_list (live 1 (of_list []) ∷ [])) ∷ []))) (Err-of 𝓛 Text refusal.the_row InvalidStringLength (live 1 (of_list []))) $
+      use1 𝓛 (‵ ((Answer.the_row Text refusal.the_row).own_val refused (live 1 (of_list (live 1 (of_list []) ∷ [])) ∷ [])))
+      (Err-of 𝓛 Text refusal.the_row InvalidStringLength (live 1 (of_list []))) $
       nothing ! $ nothing ! $ join ! $ nothing ! $ join ! $
       -- [nothing of the parameters; the result; what follows the loan; the tokens]
       move ! (3 ∷ 0 ∷ 1 ∷ []) $ group ! 3 $ frame ! $
-      use0 𝓛 (raw (fact 𝓤 (IsOk refused ↔ (k ≡ 2 * m)))) (fact_i 𝓤 (IsOk refused ↔ (k ≡ 2 * m)) (emp 𝓤) (refused_fits refused InvalidStringLength _ r refl short tested)) $ frame ! $
+      use0 𝓛 (raw (fact 𝓤 (IsOk refused ↔ (k ≡ 2 * m)))) (fact_i 𝓤 (IsOk refused ↔ (k ≡ 2 * m)) (emp 𝓤)
+      (refused_fits refused InvalidStringLength _ r refl short tested)) $ frame ! $
       use0 𝓛 (raw (fact 𝓤 (Unit {0}))) (fact_i 𝓤 (Unit {0}) (emp 𝓤) tt) $ frame ! $
       use0 𝓛 (raw (fact 𝓤 (InvalidStringLength ≡ InvalidStringLength))) (fact_i 𝓤 (InvalidStringLength ≡ InvalidStringLength) (emp 𝓤) refl) $ frame ! $ done !)
       (λ long. skips ! $ exec ! 𝓣.C 𝓣.Λ Ev (fill_and_lend up) (at_ret Ev (W.post y)) $
       sets ! (addr ! (from ! (fld ! refl (hop ! (look_in_at ! 2 (sub ! 0 refl (whole !))) (stop !))))) refl (tt, tt) $
-      sets ! (agg ! (and_then ! (get ! refl) (and_then ! (get_in ! (fld ! refl (stop !)) (sub ! 1 refl (whole !))) (no_more !)))) refl (tt, (tt, (record { fits = are.1.0.0.1.0 }, tt))) $
+      sets ! (agg ! (and_then ! (get ! refl) (and_then ! (get_in ! (fld ! refl (stop !)) (sub ! 1 refl (whole !))) (no_more !)))) refl
+      (tt, (tt, (record { fits = are.1.0.0.1.0 }, tt))) $
       let zg : Gg.Ghost = ((κs, qs, tt, (x, (up, (o, tt))), (shr_slice_vals x, (bool_vals up, (mut_slice_vals o, tt)))), tt) in
       nothing ! $ move ! (3 ∷ 0 ∷ []) $ join ! $ owned ! bool _ (bool_Makes 𝓛) up (bool_vals up) refl $ join ! $
       move ! (2 ∷ 0 ∷ []) $ join ! $ move ! (1 ∷ 0 ∷ []) $ join ! $
@@ -209,17 +216,22 @@ module _ {M : Type 1} (𝓤 : Ura M) (𝓛 : Logic 𝓤) (𝓜 : Model 𝓤 𝓛
       calls_at ! (framed 𝓤 𝓛.H 𝓜 𝓣) Gg fills_met zg
       (and_then ! (get ! refl) (and_then ! (flag_lit up !) (and_then ! (get ! refl) (no_more !)))) (λ v.
       use1 𝓛 (later (some (λ (s : MutBor (List ℕ)). (tokens ⊛ ‵ (Out.own_val s (v ∷ []))) ⊛
-      some (λ (ws : Lasts g.ended κs zg.0.3). ‵ (lasts g.ended κs zg.0.3 ws) ⊛ (raw (fact 𝓤 (s.ghost_name ≡ o.ghost_name)) ⊛ raw (fact 𝓤 (s.now ≡ hex_text up x.now)) ⊛ raw (fact 𝓤 (IsAscii s.now))))))) (id⊢ 𝓤 _) $
-      await ! tt $ pick ! (λ s. split ! $ split ! $ move ! (2 ∷ []) $ pick ! (λ ws. split ! $ drop ! $ split ! $ heard ! _ (λ same. split ! $ heard ! _ (λ filled. heard ! _ (λ ascii.
+      some (λ (ws : Lasts g.ended κs zg.0.3). ‵ (lasts g.ended κs zg.0.3 ws) ⊛
+      (raw (fact 𝓤 (s.ghost_name ≡ o.ghost_name)) ⊛ raw (fact 𝓤 (s.now ≡ hex_text up x.now)) ⊛ raw (fact 𝓤 (IsAscii s.now))))))) (id⊢ 𝓤 _) $
+      await ! tt $
+      pick ! (λ s. split ! $ split ! $ move ! (2 ∷ []) $ pick !
+      (λ ws. split ! $ drop ! $ split ! $ heard ! _ (λ same. split ! $ heard ! _ (λ filled. heard ! _ (λ ascii.
       -- [the tokens; the slice; the locals]
       move ! (1 ∷ []) $ peeks ! Out (Is Out) (shows 𝓛 Out) s (v ∷ []) (λ is.
       rewrite ! 0 (λ (vs : List Val). ‵ (Out.own_val s vs)) is.0.0 refl $
       lands_as ! (ap only is.0.0) refl (tt, (tt, (record { fits = is.0.1.0 }, tt))) $
       sets ! (addr ! (from ! (fld ! refl (hop ! (look_in_at ! 9 (sub ! 0 refl (whole !))) (stop !))))) refl (tt, tt) $
-      sets ! (agg ! (and_then ! (get ! refl) (and_then ! (get_in ! (fld ! refl (stop !)) (sub ! 1 refl (whole !))) (no_more !)))) refl (tt, (tt, (record { fits = is.0.1.0 }, tt))) $
+      sets ! (agg ! (and_then ! (get ! refl) (and_then ! (get_in ! (fld ! refl (stop !)) (sub ! 1 refl (whole !))) (no_more !)))) refl
+      (tt, (tt, (record { fits = is.0.1.0 }, tt))) $
       move ! (1 ∷ []) $ split ! $ move ! (1 ∷ []) $ split ! $ move ! (3 ∷ 0 ∷ []) $
       -- [the slice; its token; no more tokens; the input's token; the locals]
-      use2 𝓛 (later (‵ (Bytes.own_val (as_bor s) (mut_slice_vals s)) ⊛ ‵ (fres s.ghost_name ((coded_list u8.coded).code s.now)) ⊛ ‵ (flft κ q))) (shared 𝓛 (named 1) (named 1) κ q s) $
+      use2 𝓛 (later (‵ (Bytes.own_val (as_bor s) (mut_slice_vals s)) ⊛ ‵ (fres s.ghost_name ((coded_list u8.coded).code s.now)) ⊛ ‵ (flft κ q)))
+      (shared 𝓛 (named 1) (named 1) κ q s) $
       await ! tt $ split ! $ move ! (1 ∷ []) $ split ! $
       -- [how the slice ends; its token; its bytes; no more tokens; the input's token; the locals]
       rewrite ! 0 (λ (name : GName). ‵ (fres name ((coded_list u8.coded).code s.now))) same refl $
@@ -242,9 +254,12 @@ module _ {M : Type 1} (𝓤 : Ura M) (𝓛 : Logic 𝓤) (𝓜 : Model 𝓤 𝓛
       let accepted : Result (Bor (List ℕ)) refusal.the_row.Denot = Ok w in
       suffices ! _ (ends_at 𝓛 Lends hs c y (live 0 (of_list (v' ∷ []))) accepted (tt, (tt, tt)) (tt, (tt, tt))) $
       use1 𝓛 (‵ ((Answer.the_row Text refusal.the_row).own_val accepted (live 0 (of_list (v' ∷ [])) ∷ []))) (Ok-of 𝓛 Text refusal.the_row w v') $
-      move ! (2 ∷ []) $ use1 𝓛 (‵ (EndsEncoded up x.now o accepted)) (Rests-of 𝓛 o (λ new. MatchResult accepted (λ _. new ≡ hex_text up x.now) (λ _. new ≡ o.now)) (hex_text up x.now) refl) $
+      move ! (2 ∷ []) $
+      use1 𝓛 (‵ (EndsEncoded up x.now o accepted)) (Rests-of 𝓛 o (λ new. MatchResult accepted (λ _. new ≡ hex_text up x.now) (λ _. new ≡ o.now))
+      (hex_text up x.now) refl) $
       -- [what follows the loan; the result; the tokens but the input's; the input's token]
       move ! (3 ∷ 2 ∷ []) $ join ! $ nothing ! $ nothing ! $ join ! $ nothing ! $ join ! $ move ! (1 ∷ 0 ∷ 3 ∷ []) $ group ! 3 $ frame ! $
-      use0 𝓛 (raw (fact 𝓤 (IsOk accepted ↔ (k ≡ 2 * m)))) (fact_i 𝓤 (IsOk accepted ↔ (k ≡ 2 * m)) (emp 𝓤) ((λ _. fitting (k ≡ 2 * m) r long tested), (λ _. refl))) $ frame ! $
+      use0 𝓛 (raw (fact 𝓤 (IsOk accepted ↔ (k ≡ 2 * m)))) (fact_i 𝓤 (IsOk accepted ↔ (k ≡ 2 * m)) (emp 𝓤)
+      ((λ _. fitting (k ≡ 2 * m) r long tested), (λ _. refl))) $ frame ! $
       use0 𝓛 (raw (fact 𝓤 (w.now ≡ hex_text up x.now))) (fact_i 𝓤 (w.now ≡ hex_text up x.now) (emp 𝓤) (lent ∙ filled)) $ frame ! $
       use0 𝓛 (raw (fact 𝓤 (Unit {0}))) (fact_i 𝓤 (Unit {0}) (emp 𝓤) tt) $ frame ! $ done !))))))))))))))))))))

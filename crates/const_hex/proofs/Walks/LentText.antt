@@ -68,7 +68,8 @@ module _ (n p len : ℕ) where
   layout_of = layouts (a_number ∷ a_number ∷ a_number ∷ []) numbers
 
   abbrev fitting : Type 0
-  fitting = h.LEN-type (number n) (number p) (number len) ≡ text_length (h.PREFIX-type (number n) (number p) (number len)) (h.N-type (number n) (number p) (number len))
+  fitting = h.LEN-type (number n) (number p) (number len) ≡ text_length (h.PREFIX-type (number n) (number p) (number len))
+      (h.N-type (number n) (number p) (number len))
 
   -- an array of N bytes
   abbrev pub array_input : Input
@@ -122,7 +123,12 @@ module _ (n p len : ℕ) (I : Input) where
 
   abbrev pub Buffers : Ended
   Buffers = record {
-    signature = record { lifetimes = 5; outlives = []; params = lender ∷ I.slot ∷ plain (λ κs. bool) ∷ []; result = RefOf (0 ∷ []) tt (plain (λ κs. B)) (λ κs. tt) };
+    signature = record {
+      lifetimes = 5;
+      outlives = [];
+      params = lender ∷ I.slot ∷ plain (λ κs. bool) ∷ [];
+      result = RefOf (0 ∷ []) tt (plain (λ κs. B)) (λ κs. tt);
+    };
     kept = (no, (yes, (yes, tt)));
   }
 
@@ -165,7 +171,8 @@ module _ (n p len : ℕ) (I : Input) where
     lends_buffer κs a = record {
       ghost = Unit {0};
       requires = λ g. asked κs a.1.0;
-      ensures = λ g r e. sep 𝓤 (fact 𝓤 (buffer_text r.now ≡ lent a.1.1.0 κs a.1.0)) (sem 𝓛 (EndsHolding (param 0 N) (param 1 P) (param 2 L) a.0 (lent a.1.1.0 κs a.1.0)));
+      ensures = λ g r e. sep 𝓤 (fact 𝓤 (buffer_text r.now ≡ lent a.1.1.0 κs a.1.0))
+          (sem 𝓛 (EndsHolding (param 0 N) (param 1 P) (param 2 L) a.0 (lent a.1.1.0 κs a.1.0)));
     }
 
     pub hands_on : (up : Bool) (self fills hands : Callee)
@@ -198,9 +205,11 @@ module _ (n p len : ℕ) (I : Input) where
         let in_p : Type 0 = lft_at 5 3 tt κs ⊑ P.lives in
         let in_len : Type 0 = lft_at 5 4 tt κs ⊑ L.lives in
         let small : Type 0 = size (layout B) < 2 ^ 63 in
-        qed 𝓛 ((((‵ (flft κ q) ⊛ others) ⊛ ‵ ((MutRef (named 0) κ B).own_val a.0 (mut_vals a.0)) ⊛ ‵ ((I.slot.row κs).own_val a.1.0 (I.val κs a.1.0 ∷ [])) ⊛ ‵ ftrue))
+        qed 𝓛 ((((‵ (flft κ q) ⊛ others) ⊛ ‵ ((MutRef (named 0) κ B).own_val a.0 (mut_vals a.0)) ⊛ ‵
+        ((I.slot.row κs).own_val a.1.0 (I.val κs a.1.0 ∷ [])) ⊛ ‵ ftrue))
         ∷ raw (fact 𝓤 in_n) ∷ raw (fact 𝓤 in_p) ∷ raw (fact 𝓤 in_len) ∷ raw (fact 𝓤 small) ∷ raw (I.asks 𝓤 κs a.1.0) ∷ []) ∵
-        move ! (1 ∷ []) $ heard ! _ (λ n_lives. move ! (1 ∷ []) $ heard ! _ (λ p_lives. move ! (1 ∷ []) $ heard ! _ (λ len_lives. move ! (1 ∷ []) $ heard ! _ (λ is_small.
+        move ! (1 ∷ []) $
+        heard ! _ (λ n_lives. move ! (1 ∷ []) $ heard ! _ (λ p_lives. move ! (1 ∷ []) $ heard ! _ (λ len_lives. move ! (1 ∷ []) $ heard ! _ (λ is_small.
         split ! $ move ! (1 ∷ []) $ split ! $ move ! (1 ∷ []) $ split ! $ move ! (1 ∷ []) $
         owned ! bool _ (bool_Makes 𝓛) up (bool_vals up) refl $ join ! $
         move ! (1 ∷ 0 ∷ []) $ join ! $ move ! (1 ∷ 0 ∷ []) $ join ! $ move ! (1 ∷ 0 ∷ []) $ join ! $ move ! (1 ∷ []) $

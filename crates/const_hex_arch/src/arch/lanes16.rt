@@ -83,7 +83,7 @@ pub fn decode_chunk(text: [u8x16; 2]) -> Option<u8x16>
     ensures none { IsNone result ↔ ¬ AllDigits (concat text) }
     ensures spells { IfSome result (Spells (concat text)) }
 {
-    let (bytes, are_digits) = decode_pair(text);
+    let (bytes, are_digits) = decode_flagged(text);
     if are_digits { Some(bytes) } else { None }
 }
 
@@ -103,11 +103,10 @@ pub fn unhex(v: u8x16) -> u8x16
 impl Vectors<16> for Lanes16 {
     #[inline(always)]
     fn encode_step<O: Output>(bytes: &[u8], upper: bool, output: &mut O) {
-        let lanes = u8x16::from_slice(bytes);
         if upper {
-            output.write(&encode_piece::<true>(lanes));
+            output.write(&encode_piece::<true>(bytes));
         } else {
-            output.write(&encode_piece::<false>(lanes));
+            output.write(&encode_piece::<false>(bytes));
         }
     }
 
@@ -148,11 +147,12 @@ fn low_digits<const UPPER: bool>(v: u8x16) -> u8x16
 
 /// The text of a step, as one piece.
 #[inline(always)]
-pub(crate) fn encode_piece<const UPPER: bool>(v: u8x16) -> [u8; 32]
-    ensures text { result ≡ hex_text UPPER v }
+fn encode_piece<const UPPER: bool>(bytes: &[u8]) -> [u8; 32]
+    requires { length bytes.now ≡ 16 }
+    ensures text { result ≡ hex_text UPPER bytes.now }
     ensures ascii { IsAscii result }
 {
-    let text = encode_chunk::<UPPER>(v);
+    let text = encode_chunk::<UPPER>(u8x16::from_slice(bytes));
     let mut piece = [0; 32];
     text[0].copy_to_slice(&mut piece[..16]);
     text[1].copy_to_slice(&mut piece[16..]);
@@ -162,7 +162,7 @@ pub(crate) fn encode_piece<const UPPER: bool>(v: u8x16) -> [u8; 32]
 /// The bytes that the lanes of a text spell, and whether each of these lanes is a digit. Where one
 /// is not, the bytes mean nothing.
 #[inline(always)]
-pub(crate) fn decode_pair(text: [u8x16; 2]) -> (u8x16, bool)
+fn decode_flagged(text: [u8x16; 2]) -> (u8x16, bool)
     ensures digits { IsTrue result.1 ↔ AllDigits (concat text) }
     ensures spells { IsTrue result.1 → Spells (concat text) result.0 }
 {

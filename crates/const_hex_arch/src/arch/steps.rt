@@ -155,6 +155,7 @@ pub(crate) fn decode_unchecked<const N: usize, V: Vectors<N>, R: Kernel>(
 
 /// Whether every byte of a step is a digit.
 #[inline(always)]
+#[tactic(auto, using(std::proofs::lemmas::List::take_all))]
 fn check_step<const N: usize, V: Vectors<N>>(text: &[u8]) -> bool
     requires { length text.now ≡ N }
     ensures { IsTrue result ↔ AllDigits text.now }

@@ -7,7 +7,8 @@ use Rattle.const_hex_arch.proofs.arch.encode_full.Goals as goal
 pub encode-requires : goal.encode-requires
 encode-requires g c =
     let sized = length-full_text c.args.prefix c.args.upper c.args.input.now in
-    Writes_room g.O.Output.step g.O.Output.room g.met.O.Output.shrinks _ (prefix_of c.args.prefix) _ (2 * length c.args.input.now) c.write_prefix.ensures (rw sized at c.requires)
+    Writes_room g.O.Output.step g.O.Output.room g.met.O.Output.shrinks _ (prefix_of c.args.prefix) _
+    (2 * length c.args.input.now) c.write_prefix.ensures (rw sized at c.requires)
 
 pub returns : goal.returns
 returns g c = Writes-append g.O.Output.step _ (prefix_of c.args.prefix) _ _ _ c.write_prefix.ensures c.encode.ensures

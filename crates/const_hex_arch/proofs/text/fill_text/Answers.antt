@@ -10,7 +10,8 @@ returns-clause-text g c =
     let all = SliceStep-run c.new-written.result _ c.encode_full.new.output c.encode_full.ensures.run in
     let name = all.same_slice in
     let placed = rw (c.new-written.ensures.bytes, c.new-written.ensures.written, c.encode_full.ensures.whole) at all.placed in
-    let text : slice_bytes c.encode_full.new.output ≡ full_text c.args.prefix c.args.upper c.args.input.now = Placed-whole c.args.output.now _ _ _ (c.requires ∙ sym (full_text_size c.args.prefix c.args.upper c.args.input.now)) placed in
+    let text : slice_bytes c.encode_full.new.output ≡ full_text c.args.prefix c.args.upper c.args.input.now = Placed-whole c.args.output.now _ _ _
+    (c.requires ∙ sym (full_text_size c.args.prefix c.args.upper c.args.input.now)) placed in
     search rules
 
 pub returns-clause-ascii : goal.returns-clause-ascii

@@ -5,4 +5,5 @@ use Rattle.const_hex.proofs.codec.encoders.owned.Goals as goal
 
 pub from_utf8_unchecked-requires : goal.from_utf8_unchecked-requires
 from_utf8_unchecked-requires g c =
-    rw (c.in_ok-text.ensures) (IsUtf8-from_ascii _ (IsAscii-full_text c.args.prefix c.args.upper c.args.input.now (λ k. let byte = c.type_inv.input k in omega (arith, byte))))
+    rw (c.in_ok-text.ensures) (IsUtf8-from_ascii _ (IsAscii-full_text c.args.prefix c.args.upper c.args.input.now
+    (λ k. let byte = c.type_inv.input k in omega (arith, byte))))

@@ -5,8 +5,8 @@ use Rattle.const_hex_arch.specs.Texts.{AllDigits, Spells}
 use Rattle.const_hex_arch.specs.contracts.arch.lanes16.decode_chunk as f
 use Rattle.const_hex_arch.proofs.arch.lanes16.decode_chunk.Statement.{statement}
 use Rattle.const_hex_arch.proofs.arch.lanes16.decode_chunk.Code as code
-use Rattle.const_hex_arch.specs.contracts.arch.lanes16.decode_pair as g
-use Rattle.const_hex_arch.proofs.arch.lanes16.decode_pair.Met.{met}
+use Rattle.const_hex_arch.specs.contracts.arch.lanes16.decode_flagged as g
+use Rattle.const_hex_arch.proofs.arch.lanes16.decode_flagged.Met.{met}
 
 abbrev stayed : Stays f.ended.signature.params f.ended.kept
 stayed = (stay_dropped _ yes, tt)
@@ -26,10 +26,11 @@ decode_chunk_spec 𝓤 𝓛 𝓜 𝓡 wired =
     qed 𝓛 (raw (G.pre z) ∷ []) ∵ enter ! _ _ _ _ _ $
     alloc_all ! (λ l. pass_all ! refl ((Array-Lawful 𝓛 V lawful 2).typed a.0 _ are.0) $
     -- the call: what it gives of r, the vector beside the flag, at the machine value v
-    calls_at ! (framed 𝓤 𝓛.H 𝓜 𝓣) G (met 𝓤 𝓛 𝓜 𝓡 (code.calls-const_hex_arch::arch::lanes16::decode_pair 𝓡.env wired)) z
+    calls_at ! (framed 𝓤 𝓛.H 𝓜 𝓣) G (met 𝓤 𝓛 𝓜 𝓡 (code.calls-const_hex_arch::arch::lanes16::decode_flagged 𝓡.env wired)) z
     (and_then ! (get ! refl) (no_more !)) (λ v.
     use1 𝓛 (later (some (λ (r : List ℕ × Bool). (‵ ftrue ⊛ ‵ ((Flagged 16).own_val r (v ∷ []))) ⊛
-    some (λ (ws : Unit {0} × Unit {0}). ‵ (lasts g.ended κs a ws) ⊛ (raw (fact 𝓤 (IsTrue r.1 ↔ AllDigits text)) ⊛ raw (fact 𝓤 (IsTrue r.1 → Spells text r.0))))))) (id⊢ 𝓤 _) $
+    some (λ (ws : Unit {0} × Unit {0}). ‵ (lasts g.ended κs a ws) ⊛
+    (raw (fact 𝓤 (IsTrue r.1 ↔ AllDigits text)) ⊛ raw (fact 𝓤 (IsTrue r.1 → Spells text r.0))))))) (id⊢ 𝓤 _) $
     await ! tt $ pick ! (λ r. split ! $ split ! $ drop ! $ facts ! (Flagged 16) _ (shows 𝓛 (Flagged 16)) r (v ∷ []) (λ is.
     pick ! (λ ws. split ! $ drop ! $ split ! $ heard ! _ (λ digits. heard ! _ (λ spells.
     let bytes = only (lanes_vals 16 r.0) in
@@ -43,13 +44,16 @@ decode_chunk_spec 𝓤 𝓛 𝓜 𝓡 wired =
     first ! $ branches ! (get ! refl)
     (λ yes.
     let clauses = some_is text r.0 r.1 digits spells yes in
-    sets_last ! (agg ! (and_then ! (lit ! tt) (and_then ! (get ! refl) (no_more !)))) refl (and_true _ typed.0.0, (record { fits = lit< tt }, (typed.0.1, tt))) $
+    sets_last ! (agg ! (and_then ! (lit ! tt) (and_then ! (get ! refl) (no_more !)))) refl
+    (and_true _ typed.0.0, (record { fits = lit< tt }, (typed.0.1, tt))) $
     exec ! 𝓣.C 𝓣.Λ (env code.Mir.locals l) code.Mir.t-6 (at_ret _ (W.post y)) $
     sets ! (of_opd ! (get ! refl)) refl (and_true _ typed.0.0, (record { fits = lit< tt }, (typed.0.1, tt))) $
     returns ! (look_at ! 0 refl) $ free_all ! refl $
     suffices ! _ (ends_at 𝓛 f.ended stayed c y (live 1 (of_list (bytes ∷ []))) (Some r.0) (tt, tt) (tt, tt)) $
-    use0 𝓛 (raw (fact 𝓤 (SpellsClause text (Some r.0)))) (fact_i 𝓤 _ (emp 𝓤) clauses.1) $ use0 𝓛 (raw (fact 𝓤 (NoneClause text (Some r.0)))) (fact_i 𝓤 _ (emp 𝓤) clauses.0) $ join ! $
-    owned ! V _ (Simd-Makes 𝓛 u8 (uint_Makes 𝓛 w8) 16) r.0 _ held $ use1 𝓛 (‵ ((OP.the_row V).own_val (Some r.0) (live 1 (of_list (bytes ∷ [])) ∷ []))) (Some-of 𝓛 V r.0 bytes) $
+    use0 𝓛 (raw (fact 𝓤 (SpellsClause text (Some r.0)))) (fact_i 𝓤 _ (emp 𝓤) clauses.1) $
+    use0 𝓛 (raw (fact 𝓤 (NoneClause text (Some r.0)))) (fact_i 𝓤 _ (emp 𝓤) clauses.0) $ join ! $
+    owned ! V _ (Simd-Makes 𝓛 u8 (uint_Makes 𝓛 w8) 16) r.0 _ held $
+    use1 𝓛 (‵ ((OP.the_row V).own_val (Some r.0) (live 1 (of_list (bytes ∷ [])) ∷ []))) (Some-of 𝓛 V r.0 bytes) $
     nothing ! $ nothing ! $ join ! $ nothing ! $ group ! 3 $ done !)
     (λ no.
     let clauses = none_is text r.0 r.1 digits spells no in
@@ -58,6 +62,7 @@ decode_chunk_spec 𝓤 𝓛 𝓜 𝓡 wired =
     sets ! (of_opd ! (get ! refl)) refl (tt, (record { fits = lit< tt }, tt)) $
     returns ! (look_at ! 0 refl) $ free_all ! refl $
     suffices ! _ (ends_at 𝓛 f.ended stayed c y (live 0 (of_list [])) None (tt, tt) (tt, tt)) $
-    use0 𝓛 (raw (fact 𝓤 (SpellsClause text None))) (fact_i 𝓤 _ (emp 𝓤) clauses.1) $ use0 𝓛 (raw (fact 𝓤 (NoneClause text None))) (fact_i 𝓤 _ (emp 𝓤) clauses.0) $ join ! $
+    use0 𝓛 (raw (fact 𝓤 (SpellsClause text None))) (fact_i 𝓤 _ (emp 𝓤) clauses.1) $
+    use0 𝓛 (raw (fact 𝓤 (NoneClause text None))) (fact_i 𝓤 _ (emp 𝓤) clauses.0) $ join ! $
     use0 𝓛 (‵ ((OP.the_row V).own_val None (live 0 (of_list []) ∷ []))) (none_of 𝓛 V) $
     nothing ! $ nothing ! $ join ! $ nothing ! $ group ! 3 $ done !)))))))))

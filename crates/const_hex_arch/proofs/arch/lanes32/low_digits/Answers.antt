@@ -15,12 +15,10 @@ returns g c =
     elim c.if-this-ne0.branch [
       | then-this-ne0 w ↦
           let test = w.if-this-ne0.true in
-          let table = w.digits-is in
           let upper : UPPER-type (number g.row.UPPER) ≡ true = search rules in
-          rw (table, upper) (low_digits_are true DIGITS_UPPER c.args.v 32 c.fits-v.0 tt)
+          rw (w.digits-is, upper) (low_digits_are true DIGITS_UPPER c.args.v 32 c.fits-v.0 tt)
       | else-this-ne0 w ↦
           let test = w.if-this-ne0.false in
-          let table = w.digits-is in
           let lower : UPPER-type (number g.row.UPPER) ≡ false = search rules in
-          rw (table, lower) (low_digits_are false DIGITS_LOWER c.args.v 32 c.fits-v.0 tt)
+          rw (w.digits-is, lower) (low_digits_are false DIGITS_LOWER c.args.v 32 c.fits-v.0 tt)
     ]

@@ -10,7 +10,8 @@ returns-then-not-check_four_steps g c =
     (λ t. absurd (false_is_true t), λ d. c.if-not-check_four_steps.ensures.1 (digits_left _ _ c.loop-left.invariant halves d))
 
 pub loop-left-preserved : goal.loop-left-preserved
-loop-left-preserved g c = checked_step _ c.loop-left.invariant (parts _ c.split_at.ensures.front c.split_at.ensures.back) (c.if-not-check_four_steps.ensures.0 refl)
+loop-left-preserved g c =
+    checked_step _ c.loop-left.invariant (parts _ c.split_at.ensures.front c.split_at.ensures.back) (c.if-not-check_four_steps.ensures.0 refl)
 
 pub returns : goal.returns
 returns g c = through c.check_last.ensures (digits_rest c.loop-left.invariant)

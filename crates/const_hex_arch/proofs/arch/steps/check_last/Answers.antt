@@ -8,7 +8,8 @@ pub returns : goal.returns
 returns g c =
     let none = none_checked c.args.input.now in
     let pair : IsChecked c.args.input.now c.if-left.left.now = elim c.if-left.branch [
-      | then-left+else-not-check_two_steps w ↦ rw w.left-is (checked_step _ none (parts _ w.split_at.ensures.front w.split_at.ensures.back) (w.if-not-check_two_steps.ensures.0 refl))
+      | then-left+else-not-check_two_steps w ↦
+          rw w.left-is (checked_step _ none (parts _ w.split_at.ensures.front w.split_at.ensures.back) (w.if-not-check_two_steps.ensures.0 refl))
       | else-left w ↦ rw w.left-is none
     ] in
     let last : IsChecked c.args.input.now c.if-left-2.left.now = elim c.if-left-2.branch [

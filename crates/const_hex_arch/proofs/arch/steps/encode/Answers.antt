@@ -10,15 +10,15 @@ pub encode_step-requires-in-loop-at-clause-room : goal.encode_step-requires-in-l
 encode_step-requires-in-loop-at-clause-room g c =
     let sizes = g.met.V.Vectors.sizes in
     let middle = c.loop-at.at + g.row.N in
-    let first = written_step g.met.O.Output.shrinks _ middle c.loop-at.invariant (omega arith) (omega arith) c.encode_step.ensures (omega arith) (omega arith) in
+    let first = written_step g.met.O.Output.shrinks _ middle c.loop-at.invariant (omega arith) (omega arith) c.encode_step.ensures (omega arith, omega arith) in
     HasRoom-fewer (g.O.Output.room c.encode_step.new.output) _ (2 * (length c.args.input.now - middle)) (omega arith) first.has_room
 
 pub loop-at-preserved : goal.loop-at-preserved
 loop-at-preserved g c =
     let sizes = g.met.V.Vectors.sizes in
     let middle = c.loop-at.at + g.row.N in
-    let first = written_step g.met.O.Output.shrinks _ middle c.loop-at.invariant (omega arith) (omega arith) c.encode_step.ensures (omega arith) (omega arith) in
-    written_step g.met.O.Output.shrinks _ _ first (omega arith) (omega arith) c.encode_step-in-loop-at.ensures (omega arith) (omega arith)
+    let first = written_step g.met.O.Output.shrinks _ middle c.loop-at.invariant (omega arith) (omega arith) c.encode_step.ensures (omega arith, omega arith) in
+    written_step g.met.O.Output.shrinks _ _ first (omega arith) (omega arith) c.encode_step-in-loop-at.ensures (omega arith, omega arith)
 
 pub returns : goal.returns
 returns g c = written_rest g.met.O.Output.shrinks c.loop-at.invariant (all_of c.loop-at.at c.args.input.now) c.encode_last.ensures

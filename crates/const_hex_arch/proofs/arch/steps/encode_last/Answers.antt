@@ -5,22 +5,20 @@ use Rattle.const_hex_arch.proofs.arch.steps.encode_last.Goals.{then-left, else-l
 
 pub encode-requires : goal.encode-requires
 encode-requires g c =
-    let sizes = g.met.V.Vectors.sizes in
     elim c.if-left.branch [
       | then-left w ↦
           let halves = w.split_at.ensures in
-          let first = first_written g.met.O.Output.shrinks g.row.N c.requires.room (omega arith) halves.front w.encode_step.ensures (omega arith) (omega arith) in
+          let first = first_written g.met.O.Output.shrinks g.row.N c.requires.room (omega arith) halves.front w.encode_step.ensures g.met.V.Vectors.sizes in
           rw (w.output-is, w.left-is) (room_rest g.met.O.Output.shrinks first halves.back)
       | else-left w ↦ rw (w.output-is, w.left-is) c.requires.room
     ]
 
 pub returns : goal.returns
 returns g c =
-    let sizes = g.met.V.Vectors.sizes in
     elim c.if-left.branch [
       | then-left w ↦
           let halves = w.split_at.ensures in
-          let first = first_written g.met.O.Output.shrinks g.row.N c.requires.room (omega arith) halves.front w.encode_step.ensures (omega arith) (omega arith) in
+          let first = first_written g.met.O.Output.shrinks g.row.N c.requires.room (omega arith) halves.front w.encode_step.ensures g.met.V.Vectors.sizes in
           written_rest g.met.O.Output.shrinks first halves.back (rw (w.output-is, w.left-is) at c.encode.ensures)
       | else-left w ↦ rw (w.output-is, w.left-is) at c.encode.ensures
     ]

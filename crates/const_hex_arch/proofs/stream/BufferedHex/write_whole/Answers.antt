@@ -6,7 +6,8 @@ use Rattle.const_hex_arch.proofs.stream.BufferedHex.write_whole.Goals as goal
 
 pub returns-then-is_empty : goal.returns-then-is_empty
 returns-then-is_empty g c =
-    Handed-of g.S.Sink.step g.S.Sink.is_refused g.S.Sink.told g.met.S.Sink.tells _ _ _ _ (Streams-none _ _ _ _ (nil_from_length _ (search rules))) (search rules)
+    Handed-of g.S.Sink.step g.S.Sink.is_refused g.S.Sink.told g.met.S.Sink.tells _ _ _ _ (Streams-none _ _ _ _ (nil_from_length _ (search rules)))
+    (search rules)
 
 pub from_utf8_unchecked-requires : goal.from_utf8_unchecked-requires
 from_utf8_unchecked-requires g c = IsUtf8-from_ascii _ c.fill_text.ensures.ascii

@@ -17,5 +17,6 @@ loop-b-preserved g c =
       written =
           rw (hex_text-more c.args.upper c.args.input.now c.loop-b.b-index c.loop-b-test.true, ← c.digit_at.ensures, ← c.digit_at-in-loop-b.ensures)
           (Writes-more step _ _ _ _ _ (Writes-more step _ _ _ _ _ c.loop-b.invariant.written one (omega arith, omega arith)) two (omega arith, omega arith));
-      room = room_after_two step g.O.Output.room g.met.O.Output.shrinks _ _ _ _ _ _ one two (length c.args.input.now - c.loop-b.b-index) (omega arith) c.loop-b.invariant.room;
+      room = room_after_two step g.O.Output.room g.met.O.Output.shrinks _ _ _ _ _ _ one two (length c.args.input.now - c.loop-b.b-index)
+          (omega arith) c.loop-b.invariant.room;
     }

@@ -1,7 +1,7 @@
 use Rattle.std.proofs.Common.{arith}
 use Rattle.const_hex_arch.proofs.LaneMarks.{through}
 use Rattle.const_hex_arch.proofs.LaneText.{concat-pair}
-use Rattle.const_hex_arch.proofs.arch.lanes32.decode_pair.Goals as goal
+use Rattle.const_hex_arch.proofs.arch.lanes16.decode_flagged.Goals as goal
 
 pub returns : goal.returns
 returns c =
