@@ -39,7 +39,7 @@ test_processors() {
         does "${row% *} picks the build ${row#* }" picks "${row#* }" qemu-x86_64 -cpu "${row% *}"
     done
     # An instruction that an older processor lacks ends the program.
-    counts "check.c on an older processor" qemu-x86_64 -cpu Westmere "$room/check" 32
+    starts "check.c on an older processor" qemu-x86_64 -cpu Westmere "$room/check" 32
     does "fingerprint on an older processor" compiled fingerprint c/examples/fingerprint.c "$archive"
     does "mark on an older processor" compiled mark c/examples/mark.c "$archive"
     examples_run "an older processor" qemu-x86_64 -cpu Westmere
@@ -52,12 +52,15 @@ compiled_for_arm() {
 }
 
 test_arm() {
-    local program
+    local name
     has 18 ARM qemu-aarch64 aarch64-linux-gnu-gcc || return
-    for program in tests/check tests/lengths examples/fingerprint examples/mark; do
-        does "${program##*/}.c for ARM" compiled_for_arm "${program##*/}" "c/$program.c"
+    for name in check lengths; do
+        does "$name.c for ARM" compiled_for_arm "arm-$name" "c/tests/$name.c"
     done
-    counts "check.c on ARM" qemu-aarch64 "$room/check" 32
-    counts "lengths.c on ARM" qemu-aarch64 "$room/lengths"
+    starts "check.c on ARM" qemu-aarch64 "$room/arm-check" 32
+    starts "lengths.c on ARM" qemu-aarch64 "$room/arm-lengths"
+    for name in fingerprint mark; do
+        does "$name.c for ARM" compiled_for_arm "$name" "c/examples/$name.c"
+    done
     examples_run ARM qemu-aarch64
 }

@@ -95,7 +95,8 @@ pub extern "C" fn const_hex_decode(text: &[u8], bytes: &mut [u8], refusal: &mut 
 /// unsigned char bytes[32];
 /// size_t count;
 /// struct const_hex_refusal refusal;
-/// const_hex_decode_front("6B697769", 8, bytes, sizeof bytes, &count, &refusal); /* count is 4 */
+/// bool accepted = const_hex_decode_front("6B697769", 8, bytes, sizeof bytes, &count, &refusal);
+/// /* count is 4 */
 /// ```
 #[unsafe(no_mangle)]
 pub extern "C" fn const_hex_decode_front(
