@@ -3,7 +3,7 @@
 ghost use Rattle.std.specs.Prelude.{◌≡◌};
 ghost use Rattle.const_hex.specs.Buffers.{text_length};
 
-use crate::texts::printed;
+use crate::texts::{holds, printed, shows};
 use const_hex::{Buffer, const_decode_to_array, const_encode, decode_to_array};
 use std::alloc::{AllocError, Global};
 use std::process::Abort;
@@ -12,11 +12,11 @@ use std::test::Fail;
 #[test]
 fn formats_over_what_stood_there(rt: HostRuntime) {
     let mut buffer = Buffer::<4, true, 10>::new();
-    holds(&rt, &buffer, "0x\0\0\0\0\0\0\0\0");
+    lends(&rt, &buffer, "0x\0\0\0\0\0\0\0\0");
     formats(&rt, &mut buffer, b"kiwi", "0x6b697769", "0x6B697769");
     formats(&rt, &mut buffer, b"1234", "0x31323334", "0x31323334");
     let mut buffer = Buffer::<4, false, 8>::default();
-    holds(&rt, &buffer, "\0\0\0\0\0\0\0\0");
+    lends(&rt, &buffer, "\0\0\0\0\0\0\0\0");
     formats(&rt, &mut buffer, b"1234", "31323334", "31323334");
     formats(
         &rt,
@@ -39,11 +39,11 @@ fn formats<const N: usize, const PREFIX: bool, const LEN: usize>(
 )
     requires { LEN ≡ text_length PREFIX N }
 {
-    assert!(rt; buffer.format(bytes) == lower);
-    holds(rt, buffer, lower);
+    holds(rt, &lower, buffer.format(bytes) == lower);
+    lends(rt, buffer, lower);
     buffer.format(&[0; N]);
-    assert!(rt; buffer.format_upper(bytes) == upper);
-    holds(rt, buffer, upper);
+    holds(rt, &upper, buffer.format_upper(bytes) == upper);
+    lends(rt, buffer, upper);
     formats_slices(rt, buffer, bytes, lower, upper);
 }
 
@@ -57,21 +57,22 @@ fn formats_slices<const N: usize, const PREFIX: bool, const LEN: usize>(
     requires { LEN ≡ text_length PREFIX N }
 {
     buffer.format_upper(&[0xFF; N]);
-    assert!(rt; buffer.format_slice(bytes) == lower);
-    holds(rt, buffer, lower);
+    holds(rt, &lower, buffer.format_slice(bytes) == lower);
+    lends(rt, buffer, lower);
     buffer.format(&[0; N]);
-    assert!(rt; buffer.format_slice_upper(bytes) == upper);
+    holds(rt, &upper, buffer.format_slice_upper(bytes) == upper);
 }
 
 /// Each call that lends what a buffer holds.
-pub(crate) fn holds<const N: usize, const PREFIX: bool, const LEN: usize>(
+fn lends<const N: usize, const PREFIX: bool, const LEN: usize>(
     rt: &impl Abort,
     buffer: &Buffer<N, PREFIX, LEN>,
     text: &str,
 ) {
-    assert!(rt; buffer.as_str() == text);
-    assert!(rt; buffer.as_bytes() == text.as_bytes());
-    assert!(rt; buffer.as_byte_array().as_slice() == text.as_bytes());
+    holds(rt, &text, buffer.as_str() == text);
+    holds(rt, &text, buffer.as_bytes() == text.as_bytes());
+    let array = buffer.as_byte_array();
+    holds(rt, &text, array.as_slice() == text.as_bytes());
 }
 
 /// Each call that copies what a buffer holds.
@@ -81,49 +82,50 @@ fn copies<const N: usize, const PREFIX: bool, const LEN: usize>(
     buffer: &Buffer<N, PREFIX, LEN>,
     text: &str,
 ) -> Result<(), AllocError> {
-    assert!(rt; buffer.to_string(alloc)?.as_str() == text);
-    assert!(rt; buffer.to_vec(alloc)?.as_slice() == text.as_bytes());
-    holds(rt, &buffer.clone()?, text);
+    holds(rt, &text, buffer.to_string(alloc)?.as_str() == text);
+    let bytes = buffer.to_vec(alloc)?;
+    holds(rt, &text, bytes.as_slice() == text.as_bytes());
+    lends(rt, &buffer.clone()?, text);
     Ok(())
 }
 
 #[test]
 fn made_at_once(rt: HostRuntime) {
-    holds(&rt, &const_encode::<4, false, 8>(b"kiwi"), "6b697769");
-    holds(&rt, &const_encode::<0, true, 2>(&[]), "0x");
-    holds(
+    lends(&rt, &const_encode::<4, false, 8>(b"kiwi"), "6b697769");
+    lends(&rt, &const_encode::<0, true, 2>(&[]), "0x");
+    lends(
         &rt,
         &Buffer::<4, false, 8>::new().const_format(b"kiwi"),
         "6b697769",
     );
-    holds(
+    lends(
         &rt,
         &Buffer::<4, false, 8>::new().const_format_upper(b"kiwi"),
         "6B697769",
     );
     let full = const_encode::<4, false, 8>(b"1234");
-    holds(&rt, &full.const_format_upper(b"kiwi"), "6B697769");
+    lends(&rt, &full.const_format_upper(b"kiwi"), "6B697769");
     let full = const_encode::<4, true, 10>(b"1234");
-    holds(&rt, &full.const_format(b"kiwi"), "0x6b697769");
-    holds(&rt, &Buffer::<0, false, 0>::new(), "");
-    holds(&rt, &Buffer::<0, true, 2>::new(), "0x");
+    lends(&rt, &full.const_format(b"kiwi"), "0x6b697769");
+    lends(&rt, &Buffer::<0, false, 0>::new(), "");
+    lends(&rt, &Buffer::<0, true, 2>::new(), "0x");
 }
 
 #[test]
 fn debug_form(rt: HostRuntime) -> Result<(), Fail> {
-    let alloc = rt.alloc();
     let mut buffer = Buffer::<1, false, 2>::new();
-    let text = format!(in alloc; "{buffer:?}")?;
-    assert_eq!(rt; text.as_str(), "Buffer(\"\\0\\0\")");
+    shows(&rt, rt.alloc(), &buffer, "Buffer(\"\\0\\0\")")?;
     buffer.format(&[0xAB]);
-    let text = format!(in alloc; "{buffer:?}")?;
-    assert_eq!(rt; text.as_str(), "Buffer(\"ab\")");
+    shows(&rt, rt.alloc(), &buffer, "Buffer(\"ab\")")?;
+    let text = format!(in rt.alloc(); "{buffer:#?}")?;
+    assert!(rt; text.as_str() == "Buffer(\n    \"ab\",\n)");
     Ok(())
 }
 
 #[test]
 fn many_sizes(rt: HostRuntime) -> Result<(), Fail> {
     let alloc = rt.alloc();
+    copies(&rt, alloc, &const_encode::<0, true, 2>(&[]), "0x")?;
     agrees_with_std(&rt, alloc, Buffer::<0, true, 2>::new())?;
     agrees_with_std(&rt, alloc, Buffer::<8, false, 16>::new())?;
     agrees_with_std(&rt, alloc, Buffer::<8, true, 18>::new())?;
@@ -149,7 +151,7 @@ fn agrees_with_std<const N: usize, const PREFIX: bool, const LEN: usize>(
     let bytes = counted::<N>();
     let lower = printed(alloc, &bytes, PREFIX, false)?;
     let upper = printed(alloc, &bytes, PREFIX, true)?;
-    assert_eq!(rt; Buffer::<N, PREFIX, LEN>::LEN, lower.len());
+    holds(rt, &N, Buffer::<N, PREFIX, LEN>::LEN == lower.len());
     formats(rt, &mut buffer, &bytes, &lower, &upper);
     copies(rt, alloc, &buffer, &upper)?;
     is_read_back(rt, &buffer, bytes);
@@ -165,8 +167,9 @@ fn is_read_back<const N: usize, const PREFIX: bool, const LEN: usize>(
     buffer: &Buffer<N, PREFIX, LEN>,
     bytes: [u8; N],
 ) {
-    assert!(rt; decode_to_array::<N>(buffer.as_bytes()) == Ok(bytes));
-    assert!(rt; const_decode_to_array::<N>(buffer.as_bytes()) == Ok(bytes));
+    holds(rt, &N, decode_to_array::<N>(buffer.as_bytes()) == Ok(bytes));
+    let array = const_decode_to_array::<N>(buffer.as_bytes());
+    holds(rt, &N, array == Ok(bytes));
 }
 
 /// N bytes, of all values in turn.

@@ -1,10 +1,11 @@
 //! Every call that checks or reads a text, on worked examples.
 
-use crate::texts::{digits, same_bits};
+use crate::texts::{digits, front_of, has_bits, holds};
 use const_hex::serde::{JsonError, no_prefix};
 use const_hex::{
-    FromHex, FromHexError, check, check_raw, const_check, const_check_raw, const_decode_to_array,
-    decode, decode_to_array, decode_to_slice, deserialize,
+    FromHex, FromHexError, Plain, check, check_raw, const_check, const_check_raw,
+    const_decode_to_array, decode, decode_to_array, decode_to_slice, decode_to_slice_with,
+    deserialize,
 };
 use serde_json::Value;
 use std::alloc::{AllocError, Global};
@@ -21,11 +22,16 @@ pub(crate) fn each_call_reads(
     want: &[u8],
 ) -> Result<(), FromHexError> {
     let text = text.as_bytes();
-    assert_eq!(rt; check(text), Ok(()));
-    assert_eq!(rt; const_check(text), Ok(()));
-    assert!(rt; decode(alloc, text)?.as_slice() == want);
+    let row = front_of(text);
+    holds(rt, &row, check(text) == Ok(()));
+    holds(rt, &row, const_check(text) == Ok(()));
+    holds(rt, &row, decode(alloc, text)?.as_slice() == want);
     each_type_reads(rt, alloc, text, want)?;
     signed_types_read(rt, alloc, text, want)
+}
+
+fn equal(rt: &impl Abort, text: &[u8], bytes: &[u8], want: &[u8]) {
+    holds(rt, &front_of(text), bytes == want);
 }
 
 fn each_type_reads(
@@ -34,10 +40,15 @@ fn each_type_reads(
     text: &[u8],
     want: &[u8],
 ) -> Result<(), FromHexError> {
-    assert!(rt; <Vec<u8>>::from_hex(alloc, text)?.as_slice() == want);
-    assert!(rt; <BoxedSlice<u8>>::from_hex(alloc, text)?.as_slice() == want);
-    assert!(rt; <Box<Rc<Vec<u8>>>>::from_hex(alloc, text)?.as_slice() == want);
+    equal(rt, text, &<Vec<u8>>::from_hex(alloc, text)?, want);
+    equal(rt, text, &<BoxedSlice<u8>>::from_hex(alloc, text)?, want);
+    equal(rt, text, &<Box<Rc<Vec<u8>>>>::from_hex(alloc, text)?, want);
     Ok(())
+}
+
+/// Numbers that are read from a text have the bits of these bytes.
+fn bits(rt: &impl Abort, text: &[u8], numbers: &[i8], want: &[u8]) {
+    holds(rt, &front_of(text), has_bits(numbers, want));
 }
 
 fn signed_types_read(
@@ -46,9 +57,9 @@ fn signed_types_read(
     text: &[u8],
     want: &[u8],
 ) -> Result<(), FromHexError> {
-    same_bits(rt, &<Vec<i8>>::from_hex(alloc, text)?, want);
-    same_bits(rt, &<BoxedSlice<i8>>::from_hex(alloc, text)?, want);
-    same_bits(rt, &<Rc<Box<Vec<i8>>>>::from_hex(alloc, text)?, want);
+    bits(rt, text, &<Vec<i8>>::from_hex(alloc, text)?, want);
+    bits(rt, text, &<BoxedSlice<i8>>::from_hex(alloc, text)?, want);
+    bits(rt, text, &<Rc<Box<Vec<i8>>>>::from_hex(alloc, text)?, want);
     Ok(())
 }
 
@@ -60,9 +71,20 @@ pub(crate) fn each_json_call_reads(
     want: &[u8],
 ) -> Result<(), Fail> {
     let value = text_value(alloc, text)?;
-    assert!(rt; deserialize::<Vec<u8>>(alloc, &value)?.as_slice() == want);
-    assert!(rt; deserialize::<BoxedSlice<u8>>(alloc, &value)?.as_slice() == want);
-    assert!(rt; no_prefix::deserialize::<Vec<u8>>(alloc, &value)?.as_slice() == want);
+    let text = text.as_bytes();
+    equal(rt, text, &deserialize::<Vec<u8>>(alloc, &value)?, want);
+    equal(
+        rt,
+        text,
+        &deserialize::<BoxedSlice<u8>>(alloc, &value)?,
+        want,
+    );
+    equal(
+        rt,
+        text,
+        &no_prefix::deserialize::<Vec<u8>>(alloc, &value)?,
+        want,
+    );
     Ok(())
 }
 
@@ -78,24 +100,47 @@ pub(crate) fn each_call_refuses(
     text: &[u8],
     refusal: FromHexError,
 ) -> Result<(), AllocError> {
-    assert_eq!(rt; check(text), Err(refusal));
-    assert_eq!(rt; const_check(text), Err(refusal));
-    assert_eq!(rt; decode(alloc, text).err(), Some(refusal));
+    let row = front_of(text);
+    holds(rt, &row, check(text) == Err(refusal));
+    holds(rt, &row, const_check(text) == Err(refusal));
+    holds(rt, &row, decode(alloc, text).err() == Some(refusal));
     each_type_refuses(rt, alloc, text, refusal);
-    signed_types_refuse(rt, alloc, text, refusal);
     json_refuses(rt, alloc, text, refusal)
 }
 
-fn each_type_refuses(rt: &impl Abort, alloc: Global, text: &[u8], refusal: FromHexError) {
-    assert!(rt; <Vec<u8>>::from_hex(alloc, text).err() == Some(refusal));
-    assert!(rt; <BoxedSlice<u8>>::from_hex(alloc, text).err() == Some(refusal));
-    assert!(rt; <Box<Rc<Vec<u8>>>>::from_hex(alloc, text).err() == Some(refusal));
+/// What a type answers to a text, if it is refused.
+fn refusal_of<T: FromHex<Error = FromHexError> + Drop>(
+    alloc: Global,
+    text: &[u8],
+) -> Option<FromHexError> {
+    T::from_hex(alloc, text).err()
 }
 
-fn signed_types_refuse(rt: &impl Abort, alloc: Global, text: &[u8], refusal: FromHexError) {
-    assert!(rt; <Vec<i8>>::from_hex(alloc, text).err() == Some(refusal));
-    assert!(rt; <BoxedSlice<i8>>::from_hex(alloc, text).err() == Some(refusal));
-    assert!(rt; <Rc<Box<Vec<i8>>>>::from_hex(alloc, text).err() == Some(refusal));
+fn each_type_refuses(rt: &impl Abort, alloc: Global, text: &[u8], refusal: FromHexError) {
+    let row = front_of(text);
+    let refusal = Some(refusal);
+    holds(rt, &row, refusal_of::<Vec<u8>>(alloc, text) == refusal);
+    holds(
+        rt,
+        &row,
+        refusal_of::<BoxedSlice<u8>>(alloc, text) == refusal,
+    );
+    holds(
+        rt,
+        &row,
+        refusal_of::<Box<Rc<Vec<u8>>>>(alloc, text) == refusal,
+    );
+    holds(rt, &row, refusal_of::<Vec<i8>>(alloc, text) == refusal);
+    holds(
+        rt,
+        &row,
+        refusal_of::<BoxedSlice<i8>>(alloc, text) == refusal,
+    );
+    holds(
+        rt,
+        &row,
+        refusal_of::<Rc<Box<Vec<i8>>>>(alloc, text) == refusal,
+    );
 }
 
 /// Bytes that are no UTF-8 are no JSON text.
@@ -108,18 +153,19 @@ fn json_refuses(
     if let Ok(text) = str::from_utf8(text) {
         let value = text_value(alloc, text)?;
         let answer = deserialize::<Vec<u8>>(alloc, &value);
-        assert_eq!(rt; answer.err(), Some(JsonError::Hex(refusal)));
+        holds(rt, &refusal, answer.err() == Some(JsonError::Hex(refusal)));
     }
     Ok(())
 }
 
 #[test]
 fn accepted_texts(rt: HostRuntime) -> Result<(), Fail> {
-    let rows: [(&str, &[u8]); 12] = [
+    let rows: [(&str, &[u8]); 13] = [
         ("", b""),
         ("0x", b""),
         ("0X", b""),
         ("0xff", &[255]),
+        ("0xFF", &[255]),
         ("ff80", &[255, 128]),
         ("7F80", &[127, 128]),
         ("0X6B697769", b"kiwi"),
@@ -174,15 +220,15 @@ fn sized<const N: usize>(
     left: [u8; N],
 ) {
     let mut output = [0xEE; N];
-    assert_eq!(rt; decode_to_slice(text, &mut output), answer);
-    assert_eq!(rt; output, left);
+    holds(rt, &text, decode_to_slice(text, &mut output) == answer);
+    holds(rt, &text, output == left);
     let array = match answer {
         Ok(()) => Ok(left),
         Err(refusal) => Err(refusal),
     };
-    assert_eq!(rt; decode_to_array::<N>(text), array);
-    assert_eq!(rt; const_decode_to_array::<N>(text), array);
-    assert_eq!(rt; <[u8; N]>::from_hex(alloc, text), array);
+    holds(rt, &text, decode_to_array::<N>(text) == array);
+    holds(rt, &text, const_decode_to_array::<N>(text) == array);
+    holds(rt, &text, <[u8; N]>::from_hex(alloc, text) == array);
     signed_sized(rt, alloc, text, answer, &left);
 }
 
@@ -194,20 +240,16 @@ fn signed_sized<const N: usize>(
     answer: Result<(), FromHexError>,
     left: &[u8; N],
 ) {
-    match <[i8; N]>::from_hex(alloc, text) {
-        Ok(numbers) => {
-            assert_eq!(rt; answer, Ok(()));
-            same_bits(rt, &numbers, left);
-        }
-        Err(refusal) => assert_eq!(rt; Err(refusal), answer),
-    }
-    match <Box<[i8; N]>>::from_hex(alloc, text) {
-        Ok(numbers) => {
-            assert_eq!(rt; answer, Ok(()));
-            same_bits(rt, &*numbers, left);
-        }
-        Err(refusal) => assert_eq!(rt; Err(refusal), answer),
-    }
+    let is_answer = match <[i8; N]>::from_hex(alloc, text) {
+        Ok(numbers) => answer.is_ok() && has_bits(&numbers, left),
+        Err(refusal) => answer == Err(refusal),
+    };
+    holds(rt, &text, is_answer);
+    let is_answer = match <Box<[i8; N]>>::from_hex(alloc, text) {
+        Ok(numbers) => answer.is_ok() && has_bits(&*numbers, left),
+        Err(refusal) => answer == Err(refusal),
+    };
+    holds(rt, &text, is_answer);
 }
 
 #[test]
@@ -232,7 +274,7 @@ fn one_byte(rt: HostRuntime) {
 
 #[test]
 fn two_bytes(rt: HostRuntime) {
-    let rows: [(&[u8], Result<(), FromHexError>, [u8; 2]); 10] = [
+    let rows: [(&[u8], Result<(), FromHexError>, [u8; 2]); 11] = [
         (b"ff80", Ok(()), [255, 128]),
         (b"0xff80", Ok(()), [255, 128]),
         (b"0XFF80", Ok(()), [255, 128]),
@@ -241,6 +283,7 @@ fn two_bytes(rt: HostRuntime) {
         (b"zz", Err(OTHER_LENGTH), [0xEE; 2]),
         (b"0xff8012", Err(OTHER_LENGTH), [0xEE; 2]),
         (b"zzzzz", Err(ODD), [0xEE; 2]),
+        (b"6bzz", Err(bad('z', 2)), [0x6B, 0xEE]),
         (b"ffg0", Err(bad('g', 2)), [255, 0xEE]),
         (b"0xffg0", Err(bad('g', 4)), [255, 0xEE]),
     ];
@@ -260,13 +303,27 @@ fn other_counts(rt: HostRuntime) {
         sized(&rt, alloc, text, Ok(()), *b"kiwi");
         sized(&rt, alloc, text, Err(OTHER_LENGTH), [0xEE; 3]);
     }
-    sized(
-        &rt,
-        alloc,
-        b"48656c6c6f20776f726c6421",
-        Ok(()),
-        *b"Hello world!",
-    );
+    let hello = b"48656c6c6f20776f726c6421";
+    sized(&rt, alloc, hello, Ok(()), *b"Hello world!");
+}
+
+#[test]
+fn slices_by_the_plain_kernel(rt: HostRuntime) {
+    let mut output = [0xEE; 2];
+    let answer = decode_to_slice_with::<Plain>(b"6bzz", &mut output);
+    assert!(rt; answer == Err(bad('z', 2)));
+    assert!(rt; output == [0x6B, 0xEE]);
+    let rows: [(&[u8], FromHexError); 3] = [
+        (b"6b697769", OTHER_LENGTH),
+        (b"zz", OTHER_LENGTH),
+        (b"zzz", ODD),
+    ];
+    for (text, refusal) in rows {
+        let mut output = [0xEE; 3];
+        let answer = decode_to_slice_with::<Plain>(text, &mut output);
+        holds(&rt, &text, answer == Err(refusal));
+        holds(&rt, &text, output == [0xEE; 3]);
+    }
 }
 
 // What the fixed kernel leaves of 48 bytes: the front that its steps have decoded.
@@ -291,8 +348,8 @@ fn raw_checks(rt: HostRuntime) {
         (b"", true),
     ];
     for (text, want) in rows {
-        assert_eq!(rt; check_raw(text), want);
-        assert_eq!(rt; const_check_raw(text), want);
+        holds(&rt, &text, check_raw(text) == want);
+        holds(&rt, &text, const_check_raw(text) == want);
     }
 }
 
@@ -308,8 +365,7 @@ fn digits_of_each_length(rt: HostRuntime) -> Result<(), Fail> {
 
 /// Each check of digits.
 fn are_digits(rt: &impl Abort, text: &[u8], answer: Result<(), FromHexError>) {
-    assert!(rt; check_raw(text));
-    assert!(rt; const_check_raw(text));
-    assert!(rt; check(text) == answer);
-    assert!(rt; const_check(text) == answer);
+    holds(rt, &text, check_raw(text) && const_check_raw(text));
+    holds(rt, &text, check(text) == answer);
+    holds(rt, &text, const_check(text) == answer);
 }

@@ -1,7 +1,7 @@
 //! Every call that writes text, on worked examples.
 
 use crate::decoding::each_call_reads;
-use crate::texts::{bytes, printed};
+use crate::texts::{bytes, front_of, holds, printed};
 use const_hex::serde::no_prefix;
 use const_hex::traits::BytesToHexChars;
 use const_hex::{
@@ -9,6 +9,7 @@ use const_hex::{
     encode_to_str, encode_to_str_upper, encode_upper, encode_upper_prefixed, serialize,
     serialize_upper,
 };
+use serde_json::Value;
 use std::alloc::{AllocError, Global};
 use std::process::Abort;
 use std::test::Fail;
@@ -57,12 +58,20 @@ pub(crate) fn each_call_writes(
     json_texts(rt, alloc, want)
 }
 
+fn equal(rt: &impl Abort, text: &str, want: &str) {
+    holds(rt, &front_of(want.as_bytes()), text == want);
+}
+
 fn encoders(rt: &impl Abort, alloc: Global, want: &Written) -> Result<(), AllocError> {
     let bytes = want.bytes.as_slice();
-    assert!(rt; encode(alloc, bytes)? == want.lower);
-    assert!(rt; encode_upper(alloc, bytes)? == want.upper);
-    assert!(rt; encode_prefixed(alloc, bytes)? == want.prefixed_lower);
-    assert!(rt; encode_upper_prefixed(alloc, bytes)? == want.prefixed_upper);
+    equal(rt, &encode(alloc, bytes)?, &want.lower);
+    equal(rt, &encode_upper(alloc, bytes)?, &want.upper);
+    equal(rt, &encode_prefixed(alloc, bytes)?, &want.prefixed_lower);
+    equal(
+        rt,
+        &encode_upper_prefixed(alloc, bytes)?,
+        &want.prefixed_upper,
+    );
     Ok(())
 }
 
@@ -73,22 +82,34 @@ fn each_form<T: ToHex + ToHexExt>(
     value: &T,
     want: &Written,
 ) -> Result<(), AllocError> {
-    assert!(rt; ToHex::encode_hex(value, alloc)? == want.lower);
-    assert!(rt; ToHex::encode_hex_upper(value, alloc)? == want.upper);
-    assert!(rt; ToHexExt::encode_hex(value, alloc)? == want.lower);
-    assert!(rt; ToHexExt::encode_hex_upper(value, alloc)? == want.upper);
-    assert!(rt; value.encode_hex_with_prefix(alloc)? == want.prefixed_lower);
-    assert!(rt; value.encode_hex_upper_with_prefix(alloc)? == want.prefixed_upper);
+    equal(rt, &ToHex::encode_hex(value, alloc)?, &want.lower);
+    equal(rt, &ToHex::encode_hex_upper(value, alloc)?, &want.upper);
+    equal(rt, &ToHexExt::encode_hex(value, alloc)?, &want.lower);
+    equal(rt, &ToHexExt::encode_hex_upper(value, alloc)?, &want.upper);
+    equal(
+        rt,
+        &value.encode_hex_with_prefix(alloc)?,
+        &want.prefixed_lower,
+    );
+    equal(
+        rt,
+        &value.encode_hex_upper_with_prefix(alloc)?,
+        &want.prefixed_upper,
+    );
     Ok(())
 }
 
 fn json_texts(rt: &impl Abort, alloc: Global, want: &Written) -> Result<(), AllocError> {
     let bytes = want.bytes.as_slice();
-    assert!(rt; serialize(alloc, bytes)?.as_str() == Some(want.prefixed_lower.as_str()));
-    assert!(rt; serialize_upper(alloc, bytes)?.as_str() == Some(want.prefixed_upper.as_str()));
-    assert!(rt; no_prefix::serialize(alloc, bytes)?.as_str() == Some(want.lower.as_str()));
-    assert!(rt; no_prefix::serialize_upper(alloc, bytes)?.as_str() == Some(want.upper.as_str()));
+    is_text(rt, &serialize(alloc, bytes)?, &want.prefixed_lower);
+    is_text(rt, &serialize_upper(alloc, bytes)?, &want.prefixed_upper);
+    is_text(rt, &no_prefix::serialize(alloc, bytes)?, &want.lower);
+    is_text(rt, &no_prefix::serialize_upper(alloc, bytes)?, &want.upper);
     Ok(())
+}
+
+fn is_text(rt: &impl Abort, value: &Value, text: &str) {
+    holds(rt, &front_of(text.as_bytes()), value.as_str() == Some(text));
 }
 
 const ROWS: [(&[u8], &str, &str); 5] = [
@@ -156,34 +177,36 @@ fn texts_in_slices(rt: HostRuntime) {
 
 fn filled(rt: &impl Abort, (bytes, lower, upper): (&[u8], &str, &str), length: usize) {
     assert!(rt; length <= 24);
+    let row = (lower, length);
     let mut output = [0xEE; 24];
     let answer = encode_to_slice(bytes, &mut output[..length]);
-    assert!(rt; answer == if_it_fits(lower, length));
-    assert!(rt; output == left(lower, length));
+    holds(rt, &row, answer == if_it_fits(lower, length));
+    holds(rt, &row, output == left(lower, length));
     let mut output = [0xEE; 24];
     let answer = encode_to_slice_upper(bytes, &mut output[..length]);
-    assert!(rt; answer == if_it_fits(upper, length));
-    assert!(rt; output == left(upper, length));
+    holds(rt, &row, answer == if_it_fits(upper, length));
+    holds(rt, &row, output == left(upper, length));
 }
 
 fn lent(rt: &impl Abort, (bytes, lower, upper): (&[u8], &str, &str), length: usize) {
     assert!(rt; length <= 24);
+    let row = (lower, length);
     let mut output = [0xEE; 24];
     lends(rt, bytes, lower, &mut output[..length]);
-    assert!(rt; output == left(lower, length));
+    holds(rt, &row, output == left(lower, length));
     let mut output = [0xEE; 24];
     lends_upper(rt, bytes, upper, &mut output[..length]);
-    assert!(rt; output == left(upper, length));
+    holds(rt, &row, output == left(upper, length));
 }
 
 fn lends(rt: &impl Abort, bytes: &[u8], text: &str, output: &mut [u8]) {
     let want = lent_if_it_fits(text, output.len());
-    assert!(rt; encode_to_str(bytes, output) == want);
+    holds(rt, &text, encode_to_str(bytes, output) == want);
 }
 
 fn lends_upper(rt: &impl Abort, bytes: &[u8], text: &str, output: &mut [u8]) {
     let want = lent_if_it_fits(text, output.len());
-    assert!(rt; encode_to_str_upper(bytes, output) == want);
+    holds(rt, &text, encode_to_str_upper(bytes, output) == want);
 }
 
 fn if_it_fits(text: &str, length: usize) -> Result<(), FromHexError> {
@@ -226,8 +249,8 @@ fn gives<const UPPER: bool>(
     left: usize,
     want: Option<char>,
 ) {
-    assert!(rt; chars.size_hint() == (left, Some(left)));
-    assert!(rt; chars.next() == want);
+    holds(rt, &left, chars.size_hint() == (left, Some(left)));
+    holds(rt, &left, chars.next() == want);
 }
 
 #[test]

@@ -1,5 +1,6 @@
 //! JSON values, on examples.
 
+use crate::texts::holds;
 use const_hex::serde::{JsonError, no_prefix};
 use const_hex::{FromHexError, deserialize, serialize};
 use serde_json::{Value, json};
@@ -24,9 +25,9 @@ fn what_is_no_text(rt: HostRuntime) -> Result<(), Fail> {
 
 fn is_no_text(rt: &impl Abort, alloc: Global, value: &Value) {
     let answer: Bytes = deserialize(alloc, value);
-    assert_eq!(rt; answer.err(), Some(JsonError::NotText));
+    holds(rt, value, answer.err() == Some(JsonError::NotText));
     let answer: Bytes = no_prefix::deserialize(alloc, value);
-    assert_eq!(rt; answer.err(), Some(JsonError::NotText));
+    holds(rt, value, answer.err() == Some(JsonError::NotText));
 }
 
 /// A message with a text of bytes, as `serde_json` prints it.
@@ -40,16 +41,16 @@ fn message(alloc: Global) -> Result<String, AllocError> {
 fn there_and_back(rt: HostRuntime) -> Result<(), Fail> {
     let printed = message(rt.alloc())?;
     let want = "{\"id\":1,\"result\":\"0x48656c6c6f20776f726c6421\"}";
-    assert_eq!(rt; printed.as_str(), want);
+    assert!(rt; printed.as_str() == want);
     let read = Value::from_str(rt.alloc(), &printed)?;
     let text = read.get("result").unwrap_or(&Value::Null);
     let bytes = deserialize::<[u8; 12]>(rt.alloc(), text);
-    assert_eq!(rt; bytes, Ok(*b"Hello world!"));
+    assert!(rt; bytes == Ok(*b"Hello world!"));
     let refused = deserialize::<[u8; 2]>(rt.alloc(), text);
     let other_length = FromHexError::InvalidStringLength;
-    assert_eq!(rt; refused, Err(JsonError::Hex(other_length)));
+    assert!(rt; refused == Err(JsonError::Hex(other_length)));
     let short = Value::String("0xff".to_string(rt.alloc())?);
     let refused = deserialize::<[u8; 2]>(rt.alloc(), &short);
-    assert_eq!(rt; refused, Err(JsonError::Hex(other_length)));
+    assert!(rt; refused == Err(JsonError::Hex(other_length)));
     Ok(())
 }

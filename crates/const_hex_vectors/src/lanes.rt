@@ -1,5 +1,6 @@
 //! Worked values of the lane arithmetic, and the text of a step.
 
+use crate::texts::holds;
 use const_hex::{Lanes16, Lanes32, lanes16, lanes32};
 use std::process::Abort;
 use std::simd::prelude::*;
@@ -35,19 +36,19 @@ fn worked_values(rt: HostRuntime) {
 
 fn by_16_lanes(rt: &impl Abort, byte: u8, value: u8) {
     let lanes = u8x16::splat(byte);
-    assert!(rt; lanes16::nibbles(lanes).to_array() == [value; 16]);
-    assert!(rt; lanes16::check_chunk(lanes) == (value < 16));
+    holds(rt, &byte, lanes16::nibbles(lanes).to_array() == [value; 16]);
+    holds(rt, &byte, lanes16::check_chunk(lanes) == (value < 16));
     if value < 16 {
-        assert!(rt; lanes16::unhex(lanes).to_array() == [value; 16]);
+        holds(rt, &byte, lanes16::unhex(lanes).to_array() == [value; 16]);
     }
 }
 
 fn by_32_lanes(rt: &impl Abort, byte: u8, value: u8) {
     let lanes = u8x32::splat(byte);
-    assert!(rt; lanes32::nibbles(lanes).to_array() == [value; 32]);
-    assert!(rt; lanes32::check_chunk(lanes) == (value < 16));
+    holds(rt, &byte, lanes32::nibbles(lanes).to_array() == [value; 32]);
+    holds(rt, &byte, lanes32::check_chunk(lanes) == (value < 16));
     if value < 16 {
-        assert!(rt; lanes32::unhex(lanes).to_array() == [value; 32]);
+        holds(rt, &byte, lanes32::unhex(lanes).to_array() == [value; 32]);
     }
 }
 
@@ -60,28 +61,25 @@ fn values_side_by_side(rt: HostRuntime) {
         (bytes[place], values[place]) = WORKED[place % 16];
     }
     let lanes = u8x16::from_slice(&bytes);
-    assert_eq!(rt;
-        lanes16::nibbles(lanes).to_array().as_slice(),
-        &values[..16]
-    );
+    assert!(rt; lanes16::nibbles(lanes).to_array().as_slice() == &values[..16]);
     let lanes = u8x32::from_array(bytes);
-    assert_eq!(rt; lanes32::nibbles(lanes).to_array(), values);
+    assert!(rt; lanes32::nibbles(lanes).to_array() == values);
 }
 
 #[test]
 fn text_of_a_step(rt: HostRuntime) {
     let lanes = u8x16::from_array([0, 1, 2, 3, 4, 5, 6, 7, 8, 9, 10, 11, 12, 13, 14, 15]);
     let [first, second] = lanes16::encode_chunk::<false>(lanes);
-    assert_eq!(rt; first.to_array(), *b"0001020304050607");
-    assert_eq!(rt; second.to_array(), *b"08090a0b0c0d0e0f");
+    assert!(rt; first.to_array() == *b"0001020304050607");
+    assert!(rt; second.to_array() == *b"08090a0b0c0d0e0f");
     let lanes = u8x32::from_array([
         0xA0, 0xA1, 0xA2, 0xA3, 0xA4, 0xA5, 0xA6, 0xA7, 0xA8, 0xA9, 0xAA, 0xAB, 0xAC, 0xAD, 0xAE,
         0xAF, 0xB0, 0xB1, 0xB2, 0xB3, 0xB4, 0xB5, 0xB6, 0xB7, 0xB8, 0xB9, 0xBA, 0xBB, 0xBC, 0xBD,
         0xBE, 0xBF,
     ]);
     let [first, second] = lanes32::encode_chunk::<true>(lanes);
-    assert_eq!(rt; first.to_array(), *b"A0A1A2A3A4A5A6A7A8A9AAABACADAEAF");
-    assert_eq!(rt; second.to_array(), *b"B0B1B2B3B4B5B6B7B8B9BABBBCBDBEBF");
+    assert!(rt; first.to_array() == *b"A0A1A2A3A4A5A6A7A8A9AAABACADAEAF");
+    assert!(rt; second.to_array() == *b"B0B1B2B3B4B5B6B7B8B9BABBBCBDBEBF");
 }
 
 /// What decodes a step of vectors `V`. Generated proofs cover an option of a type parameter, and
@@ -124,10 +122,10 @@ fn bytes_of_a_step(rt: HostRuntime) {
         0x00, 0x11, 0x22, 0x33, 0x44, 0x55, 0x66, 0x77, 0x88, 0x99, 0xAA, 0xBB, 0xCC, 0xDD, 0xEE,
         0xFF,
     ];
-    assert_eq!(rt; bytes.to_array(), spelled);
+    assert!(rt; bytes.to_array() == spelled);
     let bad = u8x16::from_array(*b"001\x10223344556677");
     let refused = decoded_or::<u8x16, Lanes16>([bad, second], other);
-    assert_eq!(rt; refused.to_array(), [0xEE; 16]);
+    assert!(rt; refused.to_array() == [0xEE; 16]);
 }
 
 #[test]
@@ -137,9 +135,9 @@ fn bytes_of_a_wide_step(rt: HostRuntime) {
     let bytes = decoded_or::<u8x32, Lanes32>([text, text], other);
     let half = [0x01, 0x23, 0x45, 0x67, 0x89, 0xAB, 0xCD, 0xEF];
     for place in 0..32usize {
-        assert_eq!(rt; bytes.to_array()[place], half[place % 8]);
+        holds(&rt, &place, bytes.to_array()[place] == half[place % 8]);
     }
     let bad = u8x32::from_array(*b"0123456789abcdef0123456789ABCDEG");
     let refused = decoded_or::<u8x32, Lanes32>([text, bad], other);
-    assert_eq!(rt; refused.to_array(), [0xEE; 32]);
+    assert!(rt; refused.to_array() == [0xEE; 32]);
 }

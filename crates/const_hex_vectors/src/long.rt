@@ -1,26 +1,27 @@
-//! Texts of megabytes, with ample memory: each call that may answer that there is none, and a bad
-//! byte late in a text.
+//! Long texts, with ample memory: each call that may answer that there is none, and a bad byte late
+//! in a text.
 
 use crate::decoding::{each_call_reads, each_call_refuses, each_json_call_reads};
 use crate::encoding::{Written, each_call_writes, prefixed, with_texts};
-use crate::own_kernel::Backward;
-use crate::texts::{behind, bytes, place_in_text, printed, refusal, repeated};
+use crate::kernels::fronts::Habits;
+use crate::kernels::{Trial, with_each_kernel};
+use crate::texts::{behind, bytes, holds, place_in_text, printed, refusal};
 use const_hex::{
-    Buffer, CheckFirst, Kernel, Lanes16, Lanes32, Plain, ToHex, ToHexExt, check_with, const_encode,
-    decode_to_slice, decode_to_slice_with, decode_with, encode_with,
+    Buffer, Kernel, ToHex, ToHexExt, check_with, const_encode, decode_to_slice,
+    decode_to_slice_with, decode_with, encode_with,
 };
 use std::alloc::{AllocError, Global};
 use std::process::Abort;
 use std::test::Fail;
 
-/// 1 MiB and 3 MiB, in blocks of 256 bytes.
-const BLOCKS: [usize; 2] = [4096, 12_288];
+/// Texts of 1.5 KiB, and bytes of 1 MiB and 3 MiB, in blocks of 256 bytes.
+const BLOCKS: [usize; 3] = [3, 4096, 12_288];
 
 /// That many times the 256 bytes.
 fn long_text(alloc: Global, blocks: usize) -> Result<Written, AllocError> {
     let block = bytes(alloc, 256)?;
-    let lower = repeated(alloc, &printed(alloc, &block, false, false)?, blocks)?;
-    let upper = repeated(alloc, &printed(alloc, &block, false, true)?, blocks)?;
+    let lower = printed(alloc, &block, false, false)?.repeat(alloc, blocks)?;
+    let upper = printed(alloc, &block, false, true)?.repeat(alloc, blocks)?;
     let bytes = bytes(alloc, blocks.saturating_mul(256))?;
     with_texts(alloc, &bytes, &lower, &upper)
 }
@@ -86,33 +87,33 @@ fn refused(
     let refusal = refusal(b'g', place_in_text(prefix.len(), place));
     each_call_refuses(rt, alloc, &text, refusal)?;
     let mut output = vec![in alloc; 0u8; body.len() / 2]?;
-    assert_eq!(rt; decode_to_slice(&text, &mut output), Err(refusal));
+    let answer = decode_to_slice(&text, &mut output);
+    holds(rt, &refusal, answer == Err(refusal));
     Ok(())
 }
 
 #[test]
 fn kernels(rt: HostRuntime) -> Result<(), Fail> {
-    let alloc = rt.alloc();
     for blocks in BLOCKS {
-        let long = long_text(alloc, blocks)?;
-        by_kernel::<Plain>(&rt, alloc, &long)?;
-        by_kernel::<Lanes16>(&rt, alloc, &long)?;
-        by_kernel::<Lanes32>(&rt, alloc, &long)?;
-        by_kernel::<CheckFirst<Plain>>(&rt, alloc, &long)?;
-        by_kernel::<CheckFirst<Lanes16>>(&rt, alloc, &long)?;
-        by_kernel::<CheckFirst<Lanes32>>(&rt, alloc, &long)?;
-        by_kernel::<Backward>(&rt, alloc, &long)?;
+        with_each_kernel(&rt, rt.alloc(), &long_text(rt.alloc(), blocks)?)?;
     }
     Ok(())
 }
 
-fn by_kernel<K: Kernel>(rt: &impl Abort, alloc: Global, long: &Written) -> Result<(), Fail> {
-    assert!(rt; encode_with::<K, false>(alloc, &long.bytes)? == long.lower);
-    assert!(rt; encode_with::<K, true>(alloc, &long.bytes)? == long.upper);
-    assert!(rt; decode_with::<K>(alloc, long.lower.as_bytes())? == long.bytes);
-    assert!(rt; decode_with::<K>(alloc, long.prefixed_upper.as_bytes())? == long.bytes);
-    refused_by_kernel::<K>(rt, alloc, &long.lower)?;
-    Ok(())
+impl Trial for Written {
+    fn run<K: Kernel>(&self, rt: &impl Abort, alloc: Global, kernel: Habits) -> Result<(), Fail> {
+        let row = (kernel.name, self.bytes.len());
+        let text = encode_with::<K, false>(alloc, &self.bytes)?;
+        holds(rt, &row, text == self.lower);
+        let text = encode_with::<K, true>(alloc, &self.bytes)?;
+        holds(rt, &row, text == self.upper);
+        let bytes = decode_with::<K>(alloc, self.lower.as_bytes())?;
+        holds(rt, &row, bytes == self.bytes);
+        let bytes = decode_with::<K>(alloc, self.prefixed_upper.as_bytes())?;
+        holds(rt, &row, bytes == self.bytes);
+        refused_by_kernel::<K>(rt, alloc, &self.lower, kernel)?;
+        Ok(())
+    }
 }
 
 /// A bad byte at the end of a body behind a prefix.
@@ -120,14 +121,18 @@ fn refused_by_kernel<K: Kernel>(
     rt: &impl Abort,
     alloc: Global,
     body: &str,
+    kernel: Habits,
 ) -> Result<(), AllocError> {
     let place = body.len().saturating_sub(1);
     let text = with_a_bad_byte(alloc, "0x", body, place)?;
     let refusal = refusal(b'g', place_in_text(2, place));
-    assert!(rt; check_with::<K>(&text) == Err(refusal));
-    assert!(rt; decode_with::<K>(alloc, &text).err() == Some(refusal));
+    let row = (kernel.name, refusal);
+    holds(rt, &row, check_with::<K>(&text) == Err(refusal));
+    let answer = decode_with::<K>(alloc, &text);
+    holds(rt, &row, answer.err() == Some(refusal));
     let mut output = vec![in alloc; 0xEEu8; body.len() / 2]?;
-    assert!(rt; decode_to_slice_with::<K>(&text, &mut output) == Err(refusal));
+    let answer = decode_to_slice_with::<K>(&text, &mut output);
+    holds(rt, &row, answer == Err(refusal));
     Ok(())
 }
 
@@ -136,7 +141,7 @@ fn refused_by_kernel<K: Kernel>(
 fn large_arrays(rt: HostRuntime) -> Result<(), Fail> {
     let alloc = rt.alloc();
     let bytes = [0xAB; 50_000];
-    let lower = repeated(alloc, "ab", 50_000)?;
+    let lower = "ab".repeat(alloc, 50_000)?;
     let prefixed = prefixed(alloc, &lower)?;
     let buffer = const_encode::<50_000, true, 100_002>(&bytes);
     assert!(rt; buffer.to_string(alloc)? == prefixed);
@@ -147,7 +152,7 @@ fn large_arrays(rt: HostRuntime) -> Result<(), Fail> {
     assert!(rt; buffer.to_vec(alloc)?.as_slice() == lower.as_bytes());
     assert!(rt; ToHex::encode_hex(&bytes, alloc)? == lower);
     assert!(rt; bytes.encode_hex_with_prefix(alloc)? == prefixed);
-    let text_of_lower = repeated(alloc, "6162", 50_000)?;
+    let text_of_lower = "6162".repeat(alloc, 50_000)?;
     assert!(rt; ToHex::encode_hex(&lower, alloc)? == text_of_lower);
     Ok(())
 }

@@ -2,6 +2,7 @@
 
 ghost use Rattle.std.specs.Prelude.{◌<◌};
 
+use crate::texts::holds;
 use const_hex::{BufferedOutput, Output, PieceSink, SinkOutput, SliceOutput};
 use std::alloc::Global;
 use std::process::Abort;
@@ -44,30 +45,30 @@ fn hands_on<const N: usize>(rt: &impl Abort, alloc: Global, pieces: &[&str])
     ));
     put_all(rt, &mut output);
     assert!(rt; output.finish().finish().is_ok());
-    assert_eq!(rt; sink.pieces().len(), pieces.len());
+    holds(rt, &N, sink.pieces().len() == pieces.len());
     for (piece, want) in sink.pieces().iter().zip(pieces) {
-        assert_eq!(rt; piece.as_str(), *want);
+        holds(rt, &N, piece.as_str() == *want);
     }
     let mut text = [0u8; 12];
     let mut output = BufferedOutput::<SliceOutput<'_>, N>::new(SliceOutput::new(&mut text));
     put_all(rt, &mut output);
     let _ = output.finish();
-    assert_eq!(rt; text, *b"abcdefghijkl");
+    holds(rt, &N, text == *b"abcdefghijkl");
 }
 
 #[test]
 fn room_that_remains(rt: HostRuntime) {
     let mut text = [0u8; 12];
     let slice = SliceOutput::new(&mut text);
-    assert_eq!(rt; slice.remaining(), Some(12));
+    assert!(rt; slice.remaining() == Some(12));
     let mut output = BufferedOutput::<SliceOutput<'_>, 4>::new(slice);
     put(&rt, &mut output, b"a");
-    assert_eq!(rt; output.remaining(), Some(11));
+    assert!(rt; output.remaining() == Some(11));
     put(&rt, &mut output, b"bc");
-    assert_eq!(rt; output.remaining(), Some(9));
+    assert!(rt; output.remaining() == Some(9));
     let mut sink = PieceSink::new(rt.alloc(), 0);
     let output = BufferedOutput::<SinkOutput<'_, PieceSink>, 4>::new(SinkOutput::new(&mut sink));
-    assert_eq!(rt; output.remaining(), None);
+    assert!(rt; output.remaining().is_none());
 }
 
 #[test]
@@ -104,7 +105,7 @@ fn fills<const N: usize>(rt: &impl Abort, first: usize, second: usize)
     );
     put(rt, &mut output, b"c");
     let _ = output.finish();
-    assert_eq!(rt; text, filled(first, second));
+    holds(rt, &(N, first, second), text == filled(first, second));
 }
 
 /// That many `a` and `b`, one `c`, and zeros.

@@ -1,7 +1,7 @@
 //! What `display` prints.
 
-use crate::texts::{bytes, printed};
-use const_hex::{BufferedHex, Display, FormatterSink, Lanes16, display};
+use crate::texts::{bytes, holds, printed};
+use const_hex::{BufferedHex, Display, FormatterSink, Lanes16, Sink, display};
 use std::alloc::{AllocError, Global};
 use std::fmt;
 use std::fmt::Write;
@@ -41,6 +41,24 @@ impl fmt::Display for ByLanes<'_> {
     }
 }
 
+/// Hands the library's sink over a formatter an empty piece, and prints whether it was accepted.
+#[derive(Drop)]
+struct EmptyPiece;
+
+impl fmt::Display for EmptyPiece {
+    fn fmt<W: fmt::Write>(&self, f: &mut fmt::Formatter<W>) -> fmt::Result {
+        let mut sink = FormatterSink::new(f);
+        let is_accepted = sink.write_str("").is_ok() && !sink.refused();
+        write!(f, "{is_accepted}")
+    }
+}
+
+#[test]
+fn an_empty_piece(rt: HostRuntime) -> Result<(), AllocError> {
+    assert!(rt; EmptyPiece.to_string(rt.alloc())?.as_str() == "true");
+    Ok(())
+}
+
 #[test]
 fn printed_forms(rt: HostRuntime) -> Result<(), Fail> {
     let bytes = [0xDE, 0xAD, 0xBE, 0xEF];
@@ -64,7 +82,7 @@ fn prints<D: fmt::Display>(
     let mut text = format!(in alloc; "{value} {value:#} {value:*^20} {value:#020}")?;
     let aligned = format!(in alloc; " {value:#<20} {value:*<20} {value:*>20}")?;
     text.push_str(&aligned)?;
-    assert_eq!(rt; text.as_str(), want);
+    holds(rt, &want, text.as_str() == want);
     Ok(())
 }
 
@@ -73,7 +91,7 @@ fn prints<D: fmt::Display>(
 fn printed_bytes(rt: HostRuntime) -> Result<(), Fail> {
     let alloc = rt.alloc();
     let data = bytes(alloc, 100_000)?;
-    assert_eq!(rt; data.len(), 100_000);
+    assert!(rt; data.len() == 100_000);
     let lower = printed(alloc, &data, true, false)?;
     let upper = printed(alloc, &data, true, true)?;
     prints_both(&rt, alloc, &display(&data), &lower)?;
@@ -94,9 +112,10 @@ fn prints_both<D: fmt::Display>(
     prefixed: &str,
 ) -> Result<(), AllocError> {
     let text = format!(in alloc; "{value:#}")?;
-    assert!(rt; text.as_str() == prefixed);
+    holds(rt, &prefixed.len(), text.as_str() == prefixed);
     let text = format!(in alloc; "{value}")?;
-    assert!(rt; prefixed.strip_prefix("0x") == Some(text.as_str()));
+    let body = prefixed.strip_prefix("0x");
+    holds(rt, &prefixed.len(), body == Some(text.as_str()));
     Ok(())
 }
 
@@ -130,6 +149,7 @@ fn nothing_follows_an_error(rt: HostRuntime) {
 /// A writer that fails at one call is called so often, and its error is answered.
 fn fails_once<D: fmt::Display>(rt: &impl Abort, text: &D, fail_at: u32, calls: u32) {
     let mut writer = FailingWriter { calls: 0, fail_at };
-    assert!(rt; write!(writer, "{text}").is_err() == (fail_at < 4));
-    assert!(rt; writer.calls == calls);
+    let has_failed = write!(writer, "{text}").is_err();
+    holds(rt, &fail_at, has_failed == (fail_at < 4));
+    holds(rt, &fail_at, writer.calls == calls);
 }

@@ -2,7 +2,7 @@
 
 ghost use Rattle.std.specs.Prelude.{IsTrue};
 
-use crate::texts::{prints, refusal, shows};
+use crate::texts::{holds, prints, refusal, shows};
 use const_hex::serde::JsonError;
 use const_hex::traits::HexFault;
 use const_hex::{FromHexError, SinkError};
@@ -43,7 +43,7 @@ fn debug_forms(rt: HostRuntime) -> Result<(), Fail> {
 // The character stands in Rust's debug form, and places have one figure to eight.
 #[test]
 fn printed_places(rt: HostRuntime) -> Result<(), Fail> {
-    let rows: [(u8, usize, &str); 22] = [
+    let rows: [(u8, usize, &str); 23] = [
         (b'\n', 5, "invalid character '\\n' at position 5"),
         (b'\'', 5, "invalid character '\\'' at position 5"),
         (b'"', 5, "invalid character '\"' at position 5"),
@@ -53,6 +53,7 @@ fn printed_places(rt: HostRuntime) -> Result<(), Fail> {
         (0x00, 5, "invalid character '\\0' at position 5"),
         (0x7F, 5, "invalid character '\\u{7f}' at position 5"),
         (0x80, 5, "invalid character '\\u{80}' at position 5"),
+        (0x85, 5, "invalid character '\\u{85}' at position 5"),
         (0xA0, 5, "invalid character '\\u{a0}' at position 5"),
         (0xAD, 5, "invalid character '\\u{ad}' at position 5"),
         (0xFF, 5, "invalid character '\u{FF}' at position 5"),
@@ -98,12 +99,14 @@ fn compared(rt: HostRuntime) {
     ];
     for i in 0..6usize {
         let one = refusals[i];
-        assert!(rt; JsonError::Hex(one) != JsonError::NotText);
-        assert!(rt; JsonError::NotText != JsonError::Hex(one));
+        holds(&rt, &one, JsonError::Hex(one) != JsonError::NotText);
+        holds(&rt, &one, JsonError::NotText != JsonError::Hex(one));
         for j in 0..6usize {
             let other = refusals[j];
-            assert_eq!(rt; one == other, i == j);
-            assert_eq!(rt; JsonError::Hex(one) == JsonError::Hex(other), i == j);
+            let row = (one, other);
+            holds(&rt, &row, (one == other) == (i == j));
+            let are_equal = JsonError::Hex(one) == JsonError::Hex(other);
+            holds(&rt, &row, are_equal == (i == j));
         }
     }
     let not_text: JsonError<FromHexError> = JsonError::NotText;
@@ -125,7 +128,7 @@ fn no_memory_alone_is_of_memory(rt: HostRuntime) {
         (FromHexError::NoMemory, true),
     ];
     for (fault, of_memory) in rows {
-        assert_eq!(rt; faults(&fault), (of_memory, true));
+        holds(&rt, &fault, faults(&fault) == (of_memory, true));
     }
-    assert_eq!(rt; FromHexError::from(AllocError), FromHexError::NoMemory);
+    assert!(rt; FromHexError::from(AllocError) == FromHexError::NoMemory);
 }

@@ -1,5 +1,6 @@
 //! Full texts in slices of their length, and bytes in the front of an output.
 
+use crate::texts::holds;
 use const_hex::{FromHexError, decode_to_front, encode_full_to_slice};
 use std::process::Abort;
 
@@ -47,8 +48,8 @@ fn writes_full_text(
         Some(text) => (Ok(()), text),
         None => (Err(FromHexError::InvalidStringLength), ""),
     };
-    assert!(rt; done == answer);
-    assert!(rt; output == with_front(rt, text));
+    let row = (bytes, prefix, upper, length);
+    holds(rt, &row, done == answer && output == with_front(rt, text));
 }
 
 /// An output of bytes 0xEE with these in front.
@@ -93,6 +94,6 @@ fn reads_into_front(rt: &impl Abort, text: &[u8], length: usize, want: Result<&s
         Ok(bytes) => (Ok(bytes.len()), bytes),
         Err(refusal) => (Err(refusal), ""),
     };
-    assert!(rt; done == answer);
-    assert!(rt; output == with_front(rt, bytes));
+    let row = (text, length);
+    holds(rt, &row, done == answer && output == with_front(rt, bytes));
 }

@@ -2,14 +2,12 @@
 
 ghost use Rattle.std.specs.Prelude.{◌≡◌, false};
 
+use crate::kernels::fronts::{Habits, Pieces};
+use crate::kernels::{Trial, with_each_kernel};
 use crate::noting::NotingSink;
-use crate::own_kernel::Backward;
-use crate::texts::{bytes, cut, printed};
+use crate::texts::{bytes, cut, holds, printed};
 use const_hex::serde::serialize_inner;
-use const_hex::{
-    BufferedHex, CheckFirst, Kernel, Lanes16, Lanes32, Output, PieceSink, Plain, Sink, SinkError,
-    SinkOutput,
-};
+use const_hex::{BufferedHex, Kernel, Output, PieceSink, Sink, SinkError, SinkOutput};
 use std::alloc::{AllocError, Global};
 use std::marker::PhantomData;
 use std::process::Abort;
@@ -64,23 +62,41 @@ fn in_each_way<const UPPER: bool, const PREFIX: bool>(
     alloc: Global,
     data: &[u8],
     [plain, lanes16, lanes32]: [&[usize]; 3],
-) -> Result<(), AllocError> {
+) -> Result<(), Fail> {
     let text = printed(alloc, data, PREFIX, UPPER)?;
-    let pieces = pieces_of(rt, alloc, &text, plain)?;
-    streams::<By<Plain, UPPER, PREFIX>>(rt, alloc, data, &pieces);
-    streams::<By<CheckFirst<Plain>, UPPER, PREFIX>>(rt, alloc, data, &pieces);
-    streams::<By<Backward, UPPER, PREFIX>>(rt, alloc, data, &pieces);
-    let pieces = pieces_of(rt, alloc, &text, lanes16)?;
-    streams::<By<Lanes16, UPPER, PREFIX>>(rt, alloc, data, &pieces);
-    streams::<By<CheckFirst<Lanes16>, UPPER, PREFIX>>(rt, alloc, data, &pieces);
-    let pieces = pieces_of(rt, alloc, &text, lanes32)?;
-    streams::<By<Lanes32, UPPER, PREFIX>>(rt, alloc, data, &pieces);
-    streams::<By<CheckFirst<Lanes32>, UPPER, PREFIX>>(rt, alloc, data, &pieces);
-    streams::<ByNoName<UPPER, PREFIX>>(rt, alloc, data, &pieces);
+    let calls = Calls::<UPPER, PREFIX> {
+        data: data.to_vec(alloc)?,
+        plain: pieces_of(rt, alloc, &text, plain)?,
+        lanes16: pieces_of(rt, alloc, &text, lanes16)?,
+        lanes32: pieces_of(rt, alloc, &text, lanes32)?,
+    };
+    with_each_kernel(rt, alloc, &calls)?;
+    streams::<ByNoName<UPPER, PREFIX>>(rt, alloc, data, &calls.lanes32);
     let sizes = if lanes32.is_empty() { &[0] } else { lanes32 };
     let pieces = pieces_of(rt, alloc, &text, sizes)?;
     streams::<AsJson<UPPER, PREFIX>>(rt, alloc, data, &pieces);
     Ok(())
+}
+
+/// Bytes, and the calls that bring their text.
+#[derive(Drop)]
+struct Calls<const UPPER: bool, const PREFIX: bool> {
+    data: Vec<u8>,
+    plain: Vec<String>,
+    lanes16: Vec<String>,
+    lanes32: Vec<String>,
+}
+
+impl<const UPPER: bool, const PREFIX: bool> Trial for Calls<UPPER, PREFIX> {
+    fn run<K: Kernel>(&self, rt: &impl Abort, alloc: Global, kernel: Habits) -> Result<(), Fail> {
+        let pieces = match kernel.pieces {
+            Pieces::Digits | Pieces::Pairs => &self.plain,
+            Pieces::Steps16 => &self.lanes16,
+            Pieces::Steps32 => &self.lanes32,
+        };
+        streams::<By<K, UPPER, PREFIX>>(rt, alloc, &self.data, pieces);
+        Ok(())
+    }
 }
 
 /// A text in pieces of just these sizes.
@@ -91,7 +107,7 @@ fn pieces_of(
     sizes: &[usize],
 ) -> Result<Vec<String>, AllocError> {
     let pieces = cut(alloc, text, sizes)?;
-    assert!(rt; pieces.len() == sizes.len());
+    holds(rt, &sizes, pieces.len() == sizes.len());
     Ok(pieces)
 }
 
@@ -156,13 +172,12 @@ fn notes<W: Way>(
     noted: &[String],
     accepted: &[String],
 ) {
+    let row = (data.len(), refuse_at);
     let mut sink = NotingSink::new(alloc, refuse_at);
     let answer = W::hand_over::<NotingSink>(data, &mut sink);
-    assert_eq!(rt; answer.is_err(), accepted.len() < noted.len());
-    assert_eq!(rt; answer.is_err(), sink.refused());
-    assert!(rt; !sink.no_memory());
-    assert!(rt; sink.noted() == noted);
-    assert!(rt; sink.accepted() == accepted);
+    holds(rt, &row, answer.is_err() == (accepted.len() < noted.len()));
+    holds(rt, &row, answer.is_err() == sink.refused());
+    holds(rt, &row, sink.noted.as_slice() == noted);
 }
 
 fn keeps<W: Way>(
@@ -172,12 +187,12 @@ fn keeps<W: Way>(
     noted: &[String],
     accepted: &[String],
 ) {
+    let row = (data.len(), refuse_at);
     let mut sink = PieceSink::new(alloc, refuse_at);
     let answer = W::hand_over::<PieceSink>(data, &mut sink);
-    assert_eq!(rt; answer.is_err(), accepted.len() < noted.len());
-    assert!(rt; !sink.no_memory());
-    assert_eq!(rt; sink.calls(), noted.len());
-    assert!(rt; sink.pieces() == accepted);
+    holds(rt, &row, answer.is_err() == (accepted.len() < noted.len()));
+    holds(rt, &row, !sink.no_memory() && sink.calls() == noted.len());
+    holds(rt, &row, sink.pieces() == accepted);
 }
 
 // Two forms, one behind the other into one sink.
@@ -186,7 +201,7 @@ fn two_texts_into_one_sink(rt: HostRuntime) -> Result<(), SinkError> {
     let mut sink = PieceSink::new(rt.alloc(), 0);
     BufferedHex::<false, true>::new(b"kiwi").write_to(&mut sink)?;
     BufferedHex::<true, false>::new(b"kiwi").write_to(&mut sink)?;
-    assert_eq!(rt; sink.pieces().len(), 2);
+    assert!(rt; sink.pieces().len() == 2);
     for (piece, want) in sink.pieces().iter().zip(["0x6b697769", "6B697769"]) {
         assert!(rt; piece.as_str() == want);
     }
@@ -199,9 +214,8 @@ fn writes_after_a_refusal(rt: HostRuntime) -> Result<(), Fail> {
     for refuse_at in 1..3usize {
         let mut sink = NotingSink::new(rt.alloc(), refuse_at);
         assert!(rt; writes_on(&mut sink).is_err());
-        let (noted, accepted) = until(&pieces, refuse_at);
-        assert!(rt; sink.noted() == noted);
-        assert!(rt; sink.accepted() == accepted);
+        let (noted, _) = until(&pieces, refuse_at);
+        assert!(rt; sink.noted.as_slice() == noted);
     }
     Ok(())
 }

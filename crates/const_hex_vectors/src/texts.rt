@@ -78,32 +78,13 @@ pub(crate) fn cut(alloc: Global, text: &str, sizes: &[usize]) -> Result<Vec<Stri
     Ok(pieces)
 }
 
-/// That many copies of a text, one behind the other.
-pub(crate) fn repeated(alloc: Global, text: &str, times: usize) -> Result<String, AllocError> {
-    let mut all = String::new(alloc);
-    for _ in 0..times {
-        all.push_str(text)?;
-    }
-    Ok(all)
-}
-
-/// The bytes that std reads from the first pairs of a text, and 0xEE for each further pair.
-pub(crate) fn read_front(alloc: Global, text: &[u8], pairs: usize) -> Result<Vec<u8>, AllocError> {
-    let mut bytes = Vec::new(alloc);
-    for pair in text.as_chunks::<2>().0 {
-        let byte = if bytes.len() < pairs {
-            value(pair[0]) << 4 | value(pair[1])
-        } else {
-            0xEE
-        };
-        bytes.push(byte)?;
-    }
-    Ok(bytes)
-}
-
 /// The bytes that std reads from a text.
 pub(crate) fn read(alloc: Global, text: &[u8]) -> Result<Vec<u8>, AllocError> {
-    read_front(alloc, text, text.len())
+    let mut bytes = Vec::new(alloc);
+    for pair in text.as_chunks::<2>().0 {
+        bytes.push(value(pair[0]) << 4 | value(pair[1]))?;
+    }
+    Ok(bytes)
 }
 
 fn value(digit: u8) -> u8 {
@@ -113,12 +94,24 @@ fn value(digit: u8) -> u8 {
     }
 }
 
-/// The numbers have the bits of these bytes.
-pub(crate) fn same_bits(rt: &impl Abort, numbers: &[i8], want: &[u8]) {
-    assert_eq!(rt; numbers.len(), want.len());
-    for (number, byte) in numbers.iter().zip(want) {
-        assert_eq!(rt; number.cast_unsigned(), *byte);
+/// Whether the numbers have the bits of these bytes.
+pub(crate) fn has_bits(numbers: &[i8], bytes: &[u8]) -> bool {
+    for (number, byte) in numbers.iter().zip(bytes) {
+        if number.cast_unsigned() != *byte {
+            return false;
+        }
     }
+    numbers.len() == bytes.len()
+}
+
+/// The first bytes of a text, by which it is named.
+pub(crate) fn front_of(text: &[u8]) -> &[u8] {
+    text.get(..64).unwrap_or(text)
+}
+
+/// Ends the test where what a row says does not hold, and names the row.
+pub(crate) fn holds<R: fmt::Debug>(rt: &impl Abort, row: &R, is_so: bool) {
+    assert!(rt; is_so, "at {row:?}");
 }
 
 /// What a value prints as `{}` does.
@@ -128,8 +121,7 @@ pub(crate) fn prints<E: fmt::Display>(
     value: &E,
     want: &str,
 ) -> Result<(), AllocError> {
-    let text = value.to_string(alloc)?;
-    assert_eq!(rt; text.as_str(), want);
+    holds(rt, &want, value.to_string(alloc)?.as_str() == want);
     Ok(())
 }
 
@@ -140,7 +132,6 @@ pub(crate) fn shows<E: fmt::Debug>(
     value: &E,
     want: &str,
 ) -> Result<(), Fail> {
-    let text = format!(in alloc; "{value:?}")?;
-    assert_eq!(rt; text.as_str(), want);
+    holds(rt, &want, format!(in alloc; "{value:?}")?.as_str() == want);
     Ok(())
 }

@@ -1,10 +1,34 @@
-//! How much of an output is decoded where a text is refused, and by which pieces a text is written.
+//! What tells kernels apart: how much of an output is decoded where a text is refused, and by which
+//! pieces a text is written.
 
 use std::alloc::{AllocError, Global};
 
+/// A kernel's name, and what tells it apart.
+#[derive(Clone, Copy)]
+pub(crate) struct Habits {
+    pub(crate) name: &'static str,
+    pub(crate) front: Front,
+    pub(crate) pieces: Pieces,
+}
+
+impl Habits {
+    pub(crate) fn new(name: &'static str, front: Front, pieces: Pieces) -> Habits {
+        Habits {
+            name,
+            front,
+            pieces,
+        }
+    }
+
+    /// Those of the kernel behind `CheckFirst`.
+    pub(crate) fn checking_first(self) -> Habits {
+        Habits::new(self.name, Front::Nothing, self.pieces)
+    }
+}
+
 /// What a kernel leaves decoded in front of a bad byte.
 #[derive(Clone, Copy)]
-pub enum Front {
+pub(crate) enum Front {
     /// The pairs before it.
     Pairs,
     /// The steps of 16 bytes before it, and behind the last step the pairs.
@@ -48,7 +72,7 @@ fn after_steps32(length: usize, place: usize) -> usize {
 
 /// By which pieces a kernel writes the text of bytes.
 #[derive(Clone, Copy)]
-pub enum Pieces {
+pub(crate) enum Pieces {
     /// Each digit by itself.
     Digits,
     /// The two digits of each byte.

@@ -1,5 +1,6 @@
-//! Readers and writers that fail at one call, and count their calls.
+//! Readers and writers that fail at some calls alone, and count their calls.
 
+use std::alloc::Global;
 use std::io;
 use std::io::{ErrorKind, Read, Write};
 
@@ -50,41 +51,37 @@ impl Read for Endless {
     }
 }
 
-/// What goes wrong with a [`Target`], once: a further call would succeed.
-#[derive(Clone, Copy, PartialEq, Eq, Debug)]
+/// What goes wrong with a [`Target`]: each other call succeeds.
+#[derive(Clone, Copy, Debug)]
 pub(crate) enum Fault {
     Nothing,
-    /// The write of that number fails.
-    Write(usize, ErrorKind),
+    /// The writes from the first number to the second fail.
+    Writes(usize, usize, ErrorKind),
     /// The write of that number takes no bytes.
     Full(usize),
     /// The first flush fails.
     Flush(ErrorKind),
 }
 
-/// Takes one byte a call, as long as there is room. It keeps what it took, and asks for no memory.
+/// Keeps what it takes, up to so many bytes a call.
 #[derive(Drop)]
 pub(crate) struct Target {
-    taken: [u8; 16],
-    pub(crate) count: usize,
+    pub(crate) taken: Vec<u8>,
+    most: usize,
     fault: Fault,
     pub(crate) writes: usize,
     pub(crate) flushes: usize,
 }
 
 impl Target {
-    pub(crate) fn new(fault: Fault) -> Target {
+    pub(crate) fn new(alloc: Global, most: usize, fault: Fault) -> Target {
         Target {
-            taken: [0; 16],
-            count: 0,
+            taken: Vec::new(alloc),
+            most,
             fault,
             writes: 0,
             flushes: 0,
         }
-    }
-
-    pub(crate) fn bytes(&self) -> &[u8] {
-        &self.taken[..self.count.min(16)]
     }
 }
 
@@ -92,13 +89,14 @@ impl Write for Target {
     fn write(&mut self, buf: &[u8]) -> io::Result<usize> {
         self.writes = self.writes.saturating_add(1);
         match self.fault {
-            Fault::Write(call, kind) if call == self.writes => Err(io::Error::from(kind)),
+            Fault::Writes(first, last, kind) if first <= self.writes && self.writes <= last => {
+                Err(io::Error::from(kind))
+            }
             Fault::Full(call) if call == self.writes => Ok(0),
-            _ if buf.is_empty() || self.count >= 16 => Ok(0),
             _ => {
-                self.taken[self.count] = buf[0];
-                self.count += 1;
-                Ok(1)
+                let count = buf.len().min(self.most);
+                self.taken.extend_from_slice(&buf[..count])?;
+                Ok(count)
             }
         }
     }

@@ -1,12 +1,15 @@
 //! Hashes and addresses, on examples.
 
-use crate::texts::{prints, shows};
+use crate::rows::holds;
 use const_hex::serde::JsonError;
 use const_hex::{FromHex, FromHexError};
 use hash_hex::{Address20, FixedBytes, Hash32};
 use serde_json::{Value, json};
+use std::alloc::{AllocError, Global};
 use std::cmp::Ordering;
 use std::collections::HashSet;
+use std::fmt;
+use std::process::Abort;
 use std::test::Fail;
 
 const COUNTED: &str = "0x000102030405060708090a0b0c0d0e0f101112131415161718191a1b1c1d1e1f";
@@ -18,6 +21,23 @@ fn counted() -> [u8; 32] {
         bytes[usize::from(byte)] = byte;
     }
     bytes
+}
+
+/// What a value prints as `{}` does.
+fn prints<D: fmt::Display>(
+    rt: &impl Abort,
+    alloc: Global,
+    value: &D,
+    want: &str,
+) -> Result<(), AllocError> {
+    holds(rt, &want, value.to_string(alloc)?.as_str() == want);
+    Ok(())
+}
+
+/// What a value prints as `{:?}` does.
+fn shows<D: fmt::Debug>(rt: &impl Abort, alloc: Global, value: &D, want: &str) -> Result<(), Fail> {
+    holds(rt, &want, format!(in alloc; "{value:?}")?.as_str() == want);
+    Ok(())
 }
 
 #[test]
@@ -49,7 +69,8 @@ fn refused_texts(rt: HostRuntime) {
         ),
     ];
     for (text, refusal) in refused {
-        assert_eq!(rt; Hash32::from_hex(rt.alloc(), text).err(), Some(refusal));
+        let answer = Hash32::from_hex(rt.alloc(), text);
+        holds(&rt, &text, answer == Err(refusal));
     }
 }
 
@@ -95,6 +116,24 @@ fn values_by_their_bytes(rt: HostRuntime) {
     assert!(rt; low.cmp(&high) == Ordering::Less);
     assert!(rt; low.partial_cmp(&low) == Some(Ordering::Equal));
     assert!(rt; low != high);
+}
+
+// The first byte that differs decides, whatever the last ones are.
+#[test]
+fn order_of_values(rt: HostRuntime) {
+    let low = Address20::from([1, 9, 9, 9, 9, 9, 9, 9, 9, 9, 9, 9, 9, 9, 9, 9, 9, 9, 9, 2]);
+    let high = Address20::from([2, 9, 9, 9, 9, 9, 9, 9, 9, 9, 9, 9, 9, 9, 9, 9, 9, 9, 9, 1]);
+    assert!(rt; low < high);
+    assert!(rt; low.cmp(&high) == Ordering::Less);
+    assert!(rt; high.cmp(&low) == Ordering::Greater);
+    let mut low = [9; 32];
+    let mut high = [9; 32];
+    (low[0], low[31]) = (1, 2);
+    (high[0], high[31]) = (2, 1);
+    let (low, high) = (Hash32::from(low), Hash32::from(high));
+    assert!(rt; low < high);
+    assert!(rt; low.cmp(&high) == Ordering::Less);
+    assert!(rt; high.cmp(&low) == Ordering::Greater);
 }
 
 #[test]

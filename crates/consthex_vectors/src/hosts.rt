@@ -1,6 +1,7 @@
 //! The whole program, from its words to its exit status and its line on standard error.
 
-use super::devices::{Endless, Fault, Source, Target};
+use crate::devices::{Endless, Fault, Source, Target};
+use crate::rows::holds;
 use consthex_modes::{USAGE, program};
 use std::alloc::Global;
 use std::cell::Cell;
@@ -103,46 +104,57 @@ fn ends<R: Read>(
     host: Host<'_>,
     input: &mut R,
     output: &mut Target,
-    status: u8,
-    line: &str,
+    (status, line): (u8, &str),
 ) {
     let code = program(&(&host, alloc), input, output);
-    assert_eq!(rt; code, ExitCode::from(status));
+    holds(rt, &host.words, code == ExitCode::from(status));
     let printed = host.printed.get();
     let printed = &printed.bytes[..printed.count.min(128)];
     if status == 0 {
-        assert!(rt; printed.is_empty());
+        holds(rt, &host.words, printed.is_empty());
     } else {
-        assert_eq!(rt; printed.strip_suffix(b"\n"), Some(line.as_bytes()));
+        let want = Some(line.as_bytes());
+        holds(rt, &host.words, printed.strip_suffix(b"\n") == want);
     }
 }
 
 // Names of the program that are no text, empty or long: they are not looked at.
 #[test]
 fn words_that_name_a_mode(rt: HostRuntime) {
-    let cases: [(&[&[u8]], &[u8]); 8] = [
-        (&[b"consthex", b"encode"], b"6b697769\n"),
-        (&[b"\xff\xfe/consthex", b"encode"], b"6b697769\n"),
-        (&[b"", b"encode"], b"6b697769\n"),
-        (&[LONG_NAME, b"encode"], b"6b697769\n"),
-        (&[b"check", b"encode"], b"6b697769\n"),
-        (&[b"consthex", b"encode-upper"], b"6B697769\n"),
-        (&[b"consthex", b"encode-prefixed"], b"0x6b697769\n"),
-        (&[b"consthex", b"encode-upper-prefixed"], b"0x6B697769\n"),
+    let rows: [(&[&[u8]], &[u8], &[u8]); 10] = [
+        (&[b"consthex", b"encode"], b"kiwi", b"6b697769\n"),
+        (&[b"\xff\xfe/consthex", b"encode"], b"kiwi", b"6b697769\n"),
+        (&[b"", b"encode"], b"kiwi", b"6b697769\n"),
+        (&[LONG_NAME, b"encode"], b"kiwi", b"6b697769\n"),
+        (&[b"check", b"encode"], b"kiwi", b"6b697769\n"),
+        (&[b"consthex", b"encode-upper"], b"kiwi", b"6B697769\n"),
+        (&[b"consthex", b"encode-prefixed"], b"kiwi", b"0x6b697769\n"),
+        (
+            &[b"consthex", b"encode-upper-prefixed"],
+            b"kiwi",
+            b"0x6B697769\n",
+        ),
+        (&[b"consthex", b"decode"], b"6b697769\n", b"kiwi"),
+        (&[b"consthex", b"check"], b"6b697769\n", b"ok\n"),
     ];
-    for (words, answer) in cases {
-        let host = Host::new(words, true);
-        let mut input = b"kiwi".as_slice();
-        let mut output = Target::new(Fault::Nothing);
-        ends(&rt, rt.alloc(), host, &mut input, &mut output, 0, "");
-        assert_eq!(rt; output.bytes(), answer, "{words:?}");
+    for (words, input, answer) in rows {
+        answers(&rt, rt.alloc(), words, input, answer);
     }
 }
 
-// Nothing is read. Where standard error fails, that makes no difference.
+/// The program with these words writes that answer.
+fn answers(rt: &impl Abort, alloc: Global, words: &[&[u8]], input: &[u8], answer: &[u8]) {
+    let mut input = input;
+    let mut output = Target::new(alloc, 1, Fault::Nothing);
+    let host = Host::new(words, true);
+    ends(rt, alloc, host, &mut input, &mut output, (0, ""));
+    holds(rt, &words, output.taken.as_slice() == answer);
+}
+
+// Where standard error fails, that makes no difference.
 #[test]
 fn words_that_name_none(rt: HostRuntime) {
-    let cases: [(&[&[u8]], bool); 14] = [
+    let rows: [(&[&[u8]], bool); 14] = [
         (NO_WORDS, true),
         (&[b"consthex"], true),
         (&[b"encode"], false),
@@ -158,66 +170,55 @@ fn words_that_name_none(rt: HostRuntime) {
         (&[b"consthex", b"encode\xff"], true),
         (&[b"consthex", LONG_WORD], true),
     ];
-    for (words, can_print) in cases {
-        let host = Host::new(words, can_print);
-        let mut input = b"kiwi".as_slice();
-        let mut output = Target::new(Fault::Nothing);
-        ends(&rt, rt.alloc(), host, &mut input, &mut output, 2, USAGE);
-        assert_eq!(rt; input, b"kiwi".as_slice(), "{words:?}");
-        assert_eq!(rt; (output.writes, output.flushes), (0, 0), "{words:?}");
+    for (words, can_print) in rows {
+        misused(&rt, rt.alloc(), words, can_print);
     }
 }
 
-// A text that is refused, a failed read, too long an input, and a reader of the answer that went
-// away: at its first bytes or only at the flush.
+/// The program with these words ends with status 2, and reads and writes nothing.
+fn misused(rt: &impl Abort, alloc: Global, words: &[&[u8]], can_print: bool) {
+    let mut input = b"kiwi".as_slice();
+    let mut output = Target::new(alloc, 1, Fault::Nothing);
+    let host = Host::new(words, can_print);
+    ends(rt, alloc, host, &mut input, &mut output, (2, USAGE));
+    holds(rt, &words, input == b"kiwi".as_slice());
+    holds(rt, &words, output.writes == 0 && output.flushes == 0);
+}
+
+const DECODE: &[&[u8]] = &[b"consthex", b"decode"];
+
+const ENCODE: &[&[u8]] = &[b"consthex", b"encode"];
+
+// A text that is refused, a failed read, and too long an input.
 #[test]
 fn statuses_and_lines(rt: HostRuntime) {
     let alloc = rt.alloc();
-    let decode: [&[u8]; 2] = [b"consthex", b"decode"];
-    let encode: [&[u8]; 2] = [b"consthex", b"encode"];
-    let mut output = Target::new(Fault::Nothing);
-    let host = Host::new(&decode, false);
+    let mut output = Target::new(alloc, 1, Fault::Nothing);
+    let (host, line) = (Host::new(DECODE, false), (1, "odd number of digits"));
     let mut odd = b"0x1\n".as_slice();
-    ends(
-        &rt,
-        alloc,
-        host,
-        &mut odd,
-        &mut output,
-        1,
-        "odd number of digits",
-    );
-    let host = Host::new(&encode, true);
+    ends(&rt, alloc, host, &mut odd, &mut output, line);
+    let (host, line) = (Host::new(ENCODE, true), (3, "read failed"));
     let mut failing = Source::new(b"kiwi", 2, ErrorKind::Interrupted);
-    ends(
-        &rt,
-        alloc,
-        host,
-        &mut failing,
-        &mut output,
-        3,
-        "read failed",
-    );
-    let host = Host::new(&encode, true);
-    ends(
-        &rt,
-        alloc,
-        host,
-        &mut Endless,
-        &mut output,
-        3,
-        "input too long",
-    );
-    assert_eq!(rt; (output.writes, output.flushes), (0, 0));
+    ends(&rt, alloc, host, &mut failing, &mut output, line);
+    let (host, line) = (Host::new(ENCODE, true), (3, "input too long"));
+    ends(&rt, alloc, host, &mut Endless, &mut output, line);
+    assert!(rt; output.writes == 0 && output.flushes == 0);
+}
+
+// What reads the answer goes away: at its first bytes or only at the flush.
+#[test]
+fn statuses_of_failed_writes(rt: HostRuntime) {
+    let kind = ErrorKind::BrokenPipe;
     for fault in [
-        Fault::Write(1, ErrorKind::BrokenPipe),
-        Fault::Write(2, ErrorKind::BrokenPipe),
+        Fault::Writes(1, 1, kind),
+        Fault::Writes(2, 2, kind),
         Fault::Full(2),
-        Fault::Flush(ErrorKind::BrokenPipe),
+        Fault::Flush(kind),
     ] {
-        let host = Host::new(&encode, true);
         let mut input = b"kiwi".as_slice();
-        let mut output = Target::new(fault);
-        ends(&rt, alloc, host, &mut input, &mut output, 3, "write failed");
+        let mut output = Target::new(rt.alloc(), 1, fault);
+        let host = Host::new(ENCODE, true);
+        let line = (3, "write failed");
+        ends(&rt, rt.alloc(), host, &mut input, &mut output, line);
     }
 }

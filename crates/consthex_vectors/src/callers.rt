@@ -1,0 +1,76 @@
+//! What the small callers of `const_hex_uses` answer.
+
+use crate::rows::holds;
+use const_hex::{JsonError, PieceSink};
+use const_hex_uses::accounts::is_same_account;
+use const_hex_uses::files::write_text;
+use const_hex_uses::json_rpc::{code_of, code_request, explained};
+use const_hex_uses::settings::{LineFault, first_fault};
+use const_hex_uses::sinks::send;
+use const_hex_uses::store::{find, put};
+use serde_json::json;
+use std::collections::HashMap;
+use std::test::Fail;
+
+#[test]
+fn accounts(rt: HostRuntime) -> Result<(), Fail> {
+    assert!(rt; is_same_account(rt.alloc(), &[b'a'; 40], &[b'A'; 40])?);
+    assert!(rt; !is_same_account(rt.alloc(), &[b'a'; 40], &[b'b'; 40])?);
+    Ok(())
+}
+
+#[test]
+fn store(rt: HostRuntime) -> Result<(), Fail> {
+    let alloc = rt.alloc();
+    let mut store = HashMap::new(alloc);
+    put(alloc, &mut store, b"0x6B69", 7)?;
+    assert!(rt; find(alloc, &store, b"6b69")? == Some(7));
+    assert!(rt; find(alloc, &store, b"6b6a")?.is_none());
+    Ok(())
+}
+
+#[test]
+fn files_and_sinks(rt: HostRuntime) -> Result<(), Fail> {
+    let mut file = Vec::new(rt.alloc());
+    write_text(b"kiwi", &mut file)?;
+    assert!(rt; file.as_slice() == b"0x6b697769".as_slice());
+    let mut sink = PieceSink::new(rt.alloc(), 0);
+    send(b"kiwi", &mut sink)?;
+    let first = sink.pieces().first().map(|p| p.as_str());
+    assert!(rt; first == Some("0x6b697769"));
+    Ok(())
+}
+
+#[test]
+fn settings(rt: HostRuntime) {
+    let rows = [
+        ("salt=6b69\nkey=6b!9", Some((2, Some(7)))),
+        ("salt", Some((1, None))),
+        ("salt=0x6B\nkey=\n", None),
+    ];
+    for (text, fault) in rows {
+        let found = first_fault(rt.alloc(), text).map(|f| (f.0, f.1.column()));
+        holds(&rt, &text, found == fault);
+    }
+    assert!(rt; first_fault(rt.alloc(), "a") == Some((1, LineFault::NoSign)));
+}
+
+#[test]
+fn requests(rt: HostRuntime) -> Result<(), Fail> {
+    let request = code_request(rt.alloc(), &[0xab; 20])?.to_string(rt.alloc())?;
+    let text =
+        "{\"id\":1,\"jsonrpc\":\"2.0\",\"method\":\"eth_getCode\",\"params\":[\"0xabababababababababababababababababababab\",\"latest\"]}";
+    assert!(rt; request.as_str() == text);
+    let shown = explained(rt.alloc(), "0xzz", const_hex::check(b"0xzz").unwrap_err())?;
+    assert!(rt; shown.as_str() == "0xzz\n  ^");
+    Ok(())
+}
+
+#[test]
+fn answers(rt: HostRuntime) -> Result<(), Fail> {
+    let answer = json!(in rt.alloc(); {"id": 1, "result": "0x6001"})?;
+    assert!(rt; code_of(rt.alloc(), &answer)?.as_slice() == [0x60, 1].as_slice());
+    let answer = json!(in rt.alloc(); {"id": 1})?;
+    assert!(rt; code_of(rt.alloc(), &answer).err() == Some(JsonError::NotText));
+    Ok(())
+}

@@ -1,0 +1,218 @@
+//! Lines of questions: what is no question, long lines, and readers and writers that fail.
+
+use crate::devices::{Fault, Source, Target};
+use crate::rows::holds;
+use const_hex_answers::answer_lines;
+use std::alloc::Global;
+use std::fmt::Debug;
+use std::io;
+use std::io::{BufRead, BufReader, ErrorKind, Read};
+use std::process::Abort;
+use std::test::Fail;
+
+/// What comes out, and the lines that bring it: each is no question, and `encode 6b` stands behind
+/// it.
+const NO_QUESTIONS: [(&str, &[&[u8]]); 7] = [
+    (
+        "BAD unknown operation\nOK 3662\n",
+        &[
+            b"",
+            b" encode 6b",
+            b"Encode 6b",
+            b"encode\t6b",
+            b"decode_to_array 6b",
+            b"decode_to_array+4 6b",
+            b"const_decode_to_array-1 6b",
+        ],
+    ),
+    (
+        "BAD wrong count of words\nOK 3662\n",
+        &[
+            b"encode",
+            b"encode 6b 5",
+            b"encode 6b 5 5",
+            b"check_raw 6b 0",
+            b"decode_to_slice 6b",
+            b"encode_to_slice_upper 6b",
+            b"encode_to_str 6b",
+            b"decode_to_slice 6b 5 ",
+            b"msg_decode_to_slice 6b",
+        ],
+    ),
+    (
+        "BAD not hex\nOK 3662\n",
+        &[
+            b"encode ",
+            b"encode  6b",
+            b"encode 6",
+            b"encode 6B",
+            b"encode 6g",
+            b"encode --",
+            b"encode 6b\r",
+            b"encode 6\xc3\xa9",
+        ],
+    ),
+    (
+        "BAD not a number up to 65536\nOK 3662\n",
+        &[
+            b"encode 6b ",
+            b"decode_to_slice 6b x",
+            b"decode_to_slice 6b -1",
+            b"decode_to_slice 6b +1",
+            b"decode_to_slice 6b 65537",
+            b"serialize_inner 6b 99999999999999999999",
+        ],
+    ),
+    (
+        "BAD not offered for this count of bytes\nOK 3662\n",
+        &[
+            b"decode_to_array5 6b",
+            b"const_decode_to_array5 6b",
+            b"buffer_format 6b6b6b6b6b",
+        ],
+    ),
+    (
+        "BAD not JSON\nOK 3662\n",
+        &[b"deserialize_json 223662", b"deserialize_json 22ff22"],
+    ),
+    ("BAD not UTF-8\nOK 3662\n", &[b"encode \xff"]),
+];
+
+#[test]
+fn what_is_no_question_is_answered_bad(rt: HostRuntime) -> Result<(), Fail> {
+    for (answers, lines) in NO_QUESTIONS {
+        each_is_bad(&rt, rt.alloc(), lines, answers)?;
+    }
+    Ok(())
+}
+
+/// Each of these lines is no question, and gets these answers with `encode 6b` behind it.
+fn each_is_bad(rt: &impl Abort, alloc: Global, lines: &[&[u8]], answers: &str) -> Result<(), Fail> {
+    for line in lines {
+        let mut input = line.chain(b"\nencode 6b".as_slice());
+        are_answered(rt, alloc, line, &mut input, (false, answers))?;
+    }
+    Ok(())
+}
+
+/// These lines get these answers, and `answer_lines` tells whether all were questions.
+fn are_answered<R: BufRead, D: Debug>(
+    rt: &impl Abort,
+    alloc: Global,
+    row: &D,
+    input: &mut R,
+    (are_questions, answers): (bool, &str),
+) -> Result<(), Fail> {
+    let mut output = Vec::new(alloc);
+    let answer = answer_lines(alloc, input, &mut output)?;
+    holds(rt, row, answer == are_questions);
+    holds(rt, row, output.as_slice() == answers.as_bytes());
+    Ok(())
+}
+
+#[test]
+fn the_last_line_needs_no_line_break(rt: HostRuntime) -> Result<(), Fail> {
+    let rows: [(&str, (bool, &str)); 8] = [
+        ("", (true, "")),
+        ("\n", (false, "BAD unknown operation\n")),
+        ("encode 6b", (true, "OK 3662\n")),
+        ("encode 6b\n", (true, "OK 3662\n")),
+        ("encode 6b\n\n", (false, "OK 3662\nBAD unknown operation\n")),
+        ("encode 6b\nencode -", (true, "OK 3662\nOK -\n")),
+        ("encode 6b\nno", (false, "OK 3662\nBAD unknown operation\n")),
+        (
+            "no\nencode 6b\n",
+            (false, "BAD unknown operation\nOK 3662\n"),
+        ),
+    ];
+    for (lines, want) in rows {
+        let mut input = lines.as_bytes();
+        are_answered(&rt, rt.alloc(), &lines, &mut input, want)?;
+    }
+    Ok(())
+}
+
+#[test]
+fn a_line_has_up_to_65536_bytes(rt: HostRuntime) -> Result<(), Fail> {
+    let behind = (false, "BAD line too long\nOK 6b\n");
+    let rows = [
+        (65_526, "\ndecode 3662", (true, "OK false\nOK 6b\n")),
+        (65_526, "\n", (true, "OK false\n")),
+        (65_526, "", (true, "OK false\n")),
+        (65_527, "\ndecode 3662", behind),
+        (65_527, "", (false, "BAD line too long\n")),
+        (65_528, "\ndecode 3662", behind),
+        (200_000, "\ndecode 3662", behind),
+    ];
+    for (digits, rest, want) in rows {
+        long_line(&rt, rt.alloc(), (digits, rest), want)?;
+    }
+    Ok(())
+}
+
+/// A line `check_raw` of so many digits, and what stands behind them, get these answers.
+fn long_line(
+    rt: &impl Abort,
+    alloc: Global,
+    row: (usize, &str),
+    want: (bool, &str),
+) -> Result<(), Fail> {
+    let (digits, rest) = row;
+    let line = vec![in alloc; b'0'; digits]?;
+    let rest = line.as_slice().chain(rest.as_bytes());
+    let lines = b"check_raw ".as_slice().chain(rest);
+    let mut input = BufReader::new(alloc, lines)?;
+    are_answered(rt, alloc, &row, &mut input, want)
+}
+
+#[test]
+fn a_failed_read_ends_the_run(rt: HostRuntime) -> Result<(), Fail> {
+    let both = "BAD unknown operation\nOK 3662\n";
+    let rows: [(&[u8], &str); 4] = [
+        (b"", ""),
+        (b"encode 6b", ""),
+        (b"encode 6b\n", "OK 3662\n"),
+        (b"no\nencode 6b\nencode 6", both),
+    ];
+    for (bytes, answers) in rows {
+        ends_after(&rt, rt.alloc(), bytes, answers)?;
+    }
+    ends_after(&rt, rt.alloc(), &vec![in rt.alloc(); b'0'; 66_000]?, "")
+}
+
+/// A reader that fails behind these bytes ends the run, after these answers.
+fn ends_after(rt: &impl Abort, alloc: Global, bytes: &[u8], answers: &str) -> Result<(), Fail> {
+    let kind = ErrorKind::ConnectionReset;
+    let source = Source::new(bytes, bytes.len().saturating_add(1), kind);
+    let mut input = BufReader::new(alloc, source)?;
+    let mut output = Vec::new(alloc);
+    let ended = answer_lines(alloc, &mut input, &mut output);
+    holds(rt, &answers, fails_by(ended, kind));
+    holds(rt, &answers, output.as_slice() == answers.as_bytes());
+    Ok(())
+}
+
+fn fails_by(ended: io::Result<bool>, kind: ErrorKind) -> bool {
+    match ended {
+        Ok(_) => false,
+        Err(error) => error.kind() == kind,
+    }
+}
+
+// What the writer took before it failed is a beginning of the answers.
+#[test]
+fn a_failed_write_ends_the_run(rt: HostRuntime) {
+    for call in 1..17usize {
+        stops_at(&rt, rt.alloc(), call);
+    }
+}
+
+fn stops_at(rt: &impl Abort, alloc: Global, call: usize) {
+    let answers = b"OK 3662\nBAD unknown operation\n".as_slice();
+    let mut input = b"encode 6b\nno\ncheck 36\n".as_slice();
+    let mut output = Target::new(alloc, 1, Fault::Writes(call, call, ErrorKind::BrokenPipe));
+    let ended = answer_lines(alloc, &mut input, &mut output);
+    holds(rt, &call, fails_by(ended, ErrorKind::BrokenPipe));
+    let taken = answers.get(..call.saturating_sub(1));
+    holds(rt, &call, Some(output.taken.as_slice()) == taken);
+}

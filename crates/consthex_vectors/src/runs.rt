@@ -1,0 +1,177 @@
+//! What the program answers to worked inputs, what it refuses, and its limit.
+
+use crate::rows::holds;
+use const_hex::FromHexError;
+use consthex_modes::{Mode, RunError, answer, run};
+use std::alloc::Global;
+use std::io;
+use std::io::Read;
+use std::process::Abort;
+use std::test::Fail;
+
+/// A mode, an input, and the answer to it.
+pub(crate) type Answered<'a> = (Mode, &'a [u8], &'a [u8]);
+
+pub(crate) const ANSWERS: [Answered<'_>; 19] = [
+    (Mode::Encode, b"Hello world!", b"48656c6c6f20776f726c6421\n"),
+    (Mode::Encode, b"kiwi", b"6b697769\n"),
+    (Mode::Encode, b"", b"\n"),
+    (Mode::Encode, b"\n", b"0a\n"),
+    (Mode::EncodeUpper, b"kiwi", b"6B697769\n"),
+    (Mode::EncodePrefixed, b"kiwi", b"0x6b697769\n"),
+    (Mode::EncodePrefixed, b"", b"0x\n"),
+    (Mode::EncodeUpperPrefixed, b"kiwi", b"0x6B697769\n"),
+    (Mode::Decode, b"48656c6c6f20776f726c6421\n", b"Hello world!"),
+    (Mode::Decode, b"6b697769\n", b"kiwi"),
+    (Mode::Decode, b"0X6b697769\n", b"kiwi"),
+    (Mode::Decode, b"0X6B697769", b"kiwi"),
+    (Mode::Decode, b"\n", b""),
+    (Mode::Decode, b"", b""),
+    (Mode::Decode, b"0x\n", b""),
+    (Mode::Check, b"0X6B", b"ok\n"),
+    (Mode::Check, b"6b697769\n", b"ok\n"),
+    (Mode::Check, b"6B697769\n", b"ok\n"),
+    (Mode::Check, b"\n", b"ok\n"),
+];
+
+/// What a run with ample memory writes.
+fn written(alloc: Global, mode: Mode, input: &[u8]) -> Result<Vec<u8>, RunError> {
+    let mut input = input;
+    let mut output = Vec::new(alloc);
+    run(alloc, mode, &mut input, &mut output)?;
+    Ok(output)
+}
+
+#[test]
+fn answers_each_mode(rt: HostRuntime) -> Result<(), Fail> {
+    for row in ANSWERS {
+        answers(&rt, rt.alloc(), row)?;
+    }
+    Ok(())
+}
+
+/// A mode's answer to bytes in hand, and what a run writes.
+fn answers(rt: &impl Abort, alloc: Global, row: Answered<'_>) -> Result<(), RunError> {
+    let (mode, input, want) = row;
+    holds(rt, &row, answer(alloc, mode, input)?.as_slice() == want);
+    holds(rt, &row, written(alloc, mode, input)?.as_slice() == want);
+    Ok(())
+}
+
+#[test]
+fn names_oddness(rt: HostRuntime) -> Result<(), Fail> {
+    let rows: [(Mode, &[u8]); 5] = [
+        (Mode::Decode, b"0x1\n"),
+        (Mode::Check, b"0x1\n"),
+        (Mode::Decode, b"6b\n\n"),
+        (Mode::Decode, b"123"),
+        (Mode::Check, b"123\n"),
+    ];
+    for row in rows {
+        let odd = FromHexError::OddLength;
+        refuses(&rt, rt.alloc(), row, odd, "odd number of digits")?;
+    }
+    Ok(())
+}
+
+#[test]
+fn names_the_first_bad_byte(rt: HostRuntime) -> Result<(), Fail> {
+    let rows: [(Mode, &[u8], char, usize, &str); 7] = [
+        (Mode::Decode, b"zz", 'z', 0, "'z' at position 0"),
+        (Mode::Check, b"zz", 'z', 0, "'z' at position 0"),
+        (Mode::Decode, b"0xzz\n", 'z', 2, "'z' at position 2"),
+        (Mode::Check, b"0xzz\n", 'z', 2, "'z' at position 2"),
+        (Mode::Decode, b"6b\r\n6b", '\r', 2, "'\\r' at position 2"),
+        (Mode::Decode, b"6b\n\n\n", '\n', 2, "'\\n' at position 2"),
+        (Mode::Check, b"6b\xff0", '\u{ff}', 2, "'ÿ' at position 2"),
+    ];
+    for (mode, input, c, index, named) in rows {
+        let refusal = FromHexError::InvalidHexCharacter { c, index };
+        let line = format!(in rt.alloc(); "invalid character {named}")?;
+        refuses(&rt, rt.alloc(), (mode, input), refusal, &line)?;
+    }
+    Ok(())
+}
+
+/// An input is refused with that error, which prints that line and has the status 1.
+fn refuses(
+    rt: &impl Abort,
+    alloc: Global,
+    row: (Mode, &[u8]),
+    refusal: FromHexError,
+    line: &str,
+) -> Result<(), Fail> {
+    let (mode, input) = row;
+    let error = RunError::Text(refusal);
+    holds(rt, &row, answer(alloc, mode, input).err() == Some(error));
+    holds(rt, &row, written(alloc, mode, input).err() == Some(error));
+    prints(rt, alloc, error, 1, line)
+}
+
+/// An error has that status, and prints that line.
+fn prints(
+    rt: &impl Abort,
+    alloc: Global,
+    error: RunError,
+    status: u8,
+    line: &str,
+) -> Result<(), Fail> {
+    holds(rt, &line, error.status() == status);
+    holds(rt, &line, format!(in alloc; "{error}")?.as_str() == line);
+    Ok(())
+}
+
+#[test]
+fn prints_each_error(rt: HostRuntime) -> Result<(), Fail> {
+    let rows = [
+        (RunError::ReadFailed, 3, "read failed"),
+        (RunError::WriteFailed, 3, "write failed"),
+        (RunError::TooLong, 3, "input too long"),
+        (RunError::NoMemory, 4, "out of memory"),
+    ];
+    for (error, status, line) in rows {
+        prints(&rt, rt.alloc(), error, status, line)?;
+    }
+    Ok(())
+}
+
+// The bytes 0 to 64.
+const TEXT: &str = "000102030405060708090a0b0c0d0e0f101112131415161718191a1b1c1d1e1f\
+                    202122232425262728292a2b2c2d2e2f303132333435363738393a3b3c3d3e3f40";
+
+#[test]
+fn handles_lengths_round_the_lanes(rt: HostRuntime) -> Result<(), Fail> {
+    for count in [15u8, 16, 17, 31, 32, 33, 47, 48, 49, 63, 64, 65] {
+        there_and_back(&rt, rt.alloc(), count)?;
+    }
+    Ok(())
+}
+
+/// That many bytes, 0 and on, are written as the front of the text, and read from it.
+fn there_and_back(rt: &impl Abort, alloc: Global, count: u8) -> Result<(), Fail> {
+    let bytes: Vec<u8> = (0..count).collect(alloc)?;
+    let digits = TEXT.get(..2 * usize::from(count)).unwrap_or("");
+    let text = format!(in alloc; "{digits}\n")?;
+    let encoded = written(alloc, Mode::Encode, &bytes)?;
+    holds(rt, &count, encoded.as_slice() == text.as_bytes());
+    let decoded = written(alloc, Mode::Decode, text.as_bytes())?;
+    holds(rt, &count, decoded == bytes);
+    Ok(())
+}
+
+#[test]
+fn accepts_1048576_bytes_and_no_more(rt: HostRuntime) -> Result<(), Fail> {
+    let mut text = Vec::new(rt.alloc());
+    let mut zeros = io::repeat(0).take(1_048_576);
+    run(rt.alloc(), Mode::Encode, &mut zeros, &mut text)?;
+    assert!(rt; text.pop() == Some(b'\n'));
+    assert!(rt; text.len() == 2_097_152);
+    assert!(rt; text.iter().all(|digit| *digit == b'0'));
+
+    let mut nothing = Vec::new(rt.alloc());
+    let mut zeros = io::repeat(0).take(1_048_577);
+    let outcome = run(rt.alloc(), Mode::Encode, &mut zeros, &mut nothing);
+    assert!(rt; outcome == Err(RunError::TooLong));
+    assert!(rt; nothing.is_empty());
+    Ok(())
+}

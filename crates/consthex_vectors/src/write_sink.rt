@@ -1,0 +1,112 @@
+//! `WriteSink`, over writers that fail, take few bytes a call, or come back.
+
+use crate::devices::{Fault, Target};
+use crate::rows::holds;
+use const_hex::{BufferedHex, Plain, Sink, WriteSink};
+use std::alloc::Global;
+use std::io;
+use std::io::ErrorKind;
+use std::process::Abort;
+use std::test::Fail;
+
+// A text of 6002 bytes comes in pieces of 4096 and 1906. A writer that takes 1000 a call gets them
+// by 7 calls, and has so many bytes after so many of these.
+const TAKEN: [usize; 8] = [0, 1000, 2000, 3000, 4000, 4096, 5096, 6002];
+
+#[test]
+fn writers_that_fail_at_each_call(rt: HostRuntime) -> Result<(), Fail> {
+    let mut text = b"0x".to_vec(rt.alloc())?;
+    text.resize(6002, b'a')?;
+    for (before, taken) in TAKEN.into_iter().enumerate() {
+        let call = before.saturating_add(1);
+        fails_at(&rt, rt.alloc(), (call, taken), &text);
+        goes_on(&rt, rt.alloc(), call, &text);
+    }
+    Ok(())
+}
+
+/// Writes that fail, or take no bytes, at that call, before which so many bytes were taken.
+fn fails_at(rt: &impl Abort, alloc: Global, (call, taken): (usize, usize), text: &[u8]) {
+    let rows = [
+        (
+            Fault::Writes(call, call, ErrorKind::Other),
+            ErrorKind::Other,
+        ),
+        (
+            Fault::Writes(call, call, ErrorKind::WouldBlock),
+            ErrorKind::WouldBlock,
+        ),
+        (Fault::Full(call), ErrorKind::WriteZero),
+    ];
+    for (fault, kind) in rows {
+        let error = if call < 8 { Some(kind) } else { None };
+        writes(rt, alloc, fault, text, (error, taken, call.min(7)));
+    }
+}
+
+/// Calls that a signal interrupts, once, twice and a hundred times in a row, are made again.
+fn goes_on(rt: &impl Abort, alloc: Global, call: usize, text: &[u8]) {
+    for more in [0, 1, 99usize] {
+        let fault = Fault::Writes(call, call.saturating_add(more), ErrorKind::Interrupted);
+        let calls = if call < 8 { more.saturating_add(8) } else { 7 };
+        writes(rt, alloc, fault, text, (None, 6002, calls));
+    }
+}
+
+/// Writes 3000 bytes 0xAA, which have that text: the kind of the error, how much the writer has,
+/// and how often it was called.
+fn writes(
+    rt: &impl Abort,
+    alloc: Global,
+    fault: Fault,
+    text: &[u8],
+    (kind, taken, calls): (Option<ErrorKind>, usize, usize),
+) {
+    let mut target = Target::new(alloc, 1000, fault);
+    let mut sink = WriteSink::new(&mut target);
+    let answer = BufferedHex::<false, true>::new(&[0xAA; 3000]).write_with::<Plain, _>(&mut sink);
+    holds(rt, &fault, answer.is_err() == kind.is_some());
+    holds(rt, &fault, sink.refused() == kind.is_some());
+    holds(rt, &fault, kind_of(sink.error()) == kind);
+    holds(rt, &fault, kind_of(sink.finish().as_ref().err()) == kind);
+    holds(rt, &fault, target.writes == calls && target.flushes == 0);
+    let front = text.get(..taken);
+    holds(rt, &fault, Some(target.taken.as_slice()) == front);
+}
+
+fn kind_of(error: Option<&io::Error>) -> Option<ErrorKind> {
+    Some(error?.kind())
+}
+
+// A writer that takes one byte a call is called as often as there are bytes; for an empty piece it
+// is not called.
+#[test]
+fn a_byte_a_call(rt: HostRuntime) -> Result<(), Fail> {
+    let text = "01234".repeat(rt.alloc(), 1000)?;
+    let mut target = Target::new(rt.alloc(), 1, Fault::Nothing);
+    let mut sink = WriteSink::new(&mut target);
+    assert!(rt; sink.write_str("").is_ok());
+    assert!(rt; !sink.refused());
+    assert!(rt; sink.write_str(&text).is_ok());
+    sink.finish()?;
+    assert!(rt; target.taken.as_slice() == text.as_bytes());
+    assert!(rt; target.writes == 5000 && target.flushes == 0);
+    Ok(())
+}
+
+#[test]
+fn a_writer_comes_back(rt: HostRuntime) -> Result<(), Fail> {
+    let mut file = Vec::new(rt.alloc());
+    let mut sink = WriteSink::new(&mut file);
+    assert_eq!(rt; sink.write_hex::<true, false>(&[0xab]), Ok(()));
+    let (writer, error) = sink.into_parts();
+    assert!(rt; error.is_none());
+    writer.push(b'!')?;
+    assert_eq!(rt; file.as_slice(), b"AB!".as_slice());
+    let mut sink = WriteSink::new(&mut file);
+    assert_eq!(rt; sink.write_hex::<false, true>(b"kiwi"), Ok(()));
+    assert!(rt; sink.error().is_none());
+    sink.finish()?;
+    assert_eq!(rt; file.as_slice(), b"AB!0x6b697769".as_slice());
+    Ok(())
+}
