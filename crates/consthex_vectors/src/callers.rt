@@ -1,12 +1,13 @@
 //! What the small callers of `const_hex_uses` answer.
 
 use crate::rows::holds;
-use const_hex::{JsonError, PieceSink};
+use const_hex::{JsonError, PieceSink, bytes_of};
 use const_hex_uses::accounts::is_same_account;
-use const_hex_uses::files::write_text;
+use const_hex_uses::constants::{transfer, wrapped_ether};
+use const_hex_uses::files::{dump, write_text};
 use const_hex_uses::json_rpc::{code_of, code_request, explained};
 use const_hex_uses::settings::{LineFault, first_fault};
-use const_hex_uses::sinks::send;
+use const_hex_uses::sinks::{packets, send};
 use const_hex_uses::store::{find, put};
 use serde_json::json;
 use std::collections::HashMap;
@@ -39,6 +40,39 @@ fn files_and_sinks(rt: HostRuntime) -> Result<(), Fail> {
     let first = sink.pieces().first().map(|p| p.as_str());
     assert!(rt; first == Some("0x6b697769"));
     Ok(())
+}
+
+#[test]
+fn pieces(rt: HostRuntime) -> Result<(), Fail> {
+    let sink = packets(rt.alloc(), &[0xAB; 5000])?;
+    let lengths: [usize; 3] = [4034, 4096, 1872];
+    assert!(rt; sink.pieces().iter().map(|p| p.len()).eq(lengths));
+    Ok(())
+}
+
+#[test]
+fn lines_of_a_reader(rt: HostRuntime) -> Result<(), Fail> {
+    let mut file = Vec::new(rt.alloc());
+    dump(&mut b"0123456789abcdefgh".as_slice(), &mut file)?;
+    let lines = b"30313233343536373839616263646566\n6768\n".as_slice();
+    assert!(rt; file.as_slice() == lines);
+    let mut room = [0u8; 5];
+    assert!(rt; dump(&mut b"kiwi".as_slice(), &mut room.as_mut_slice()).is_err());
+    assert!(rt; &room == b"6b697");
+    Ok(())
+}
+
+#[test]
+fn constants(rt: HostRuntime) {
+    let ether = [
+        0xC0, 0x2A, 0xAA, 0x39, 0xB2, 0x23, 0xFE, 0x8D, 0x0A, 0x0E, 0x5C, 0x4F, 0x27, 0xEA, 0xD9,
+        0x08, 0x3C, 0x75, 0x6C, 0xC2,
+    ];
+    assert!(rt; wrapped_ether() == ether);
+    assert!(rt; transfer()[..4] == [0xDD, 0xF2, 0x52, 0xAD]);
+    assert!(rt; transfer()[28..] == [0xF5, 0x23, 0xB3, 0xEF]);
+    assert!(rt; bytes_of::<4>(b"0X6B697769") == *b"kiwi");
+    assert!(rt; bytes_of::<0>(b"").is_empty());
 }
 
 #[test]

@@ -94,6 +94,20 @@ fn a_byte_a_call(rt: HostRuntime) -> Result<(), Fail> {
     Ok(())
 }
 
+// After an error `write_hex` calls nothing, and answers the error again.
+#[test]
+fn writing_goes_on_after_an_error(rt: HostRuntime) {
+    let fault = Fault::Writes(2, 2, ErrorKind::Other);
+    let mut target = Target::new(rt.alloc(), 4, fault);
+    let mut sink = WriteSink::new(&mut target);
+    for _ in 0..3 {
+        assert!(rt; sink.write_hex::<false, false>(b"kiwi").is_err());
+        assert!(rt; kind_of(sink.error()) == Some(ErrorKind::Other));
+    }
+    assert!(rt; sink.finish().is_err());
+    assert!(rt; target.taken.as_slice() == b"6b69".as_slice() && target.writes == 2);
+}
+
 #[test]
 fn a_writer_comes_back(rt: HostRuntime) -> Result<(), Fail> {
     let mut file = Vec::new(rt.alloc());
