@@ -1,7 +1,8 @@
 -- The values of digits and the test of digits by one look-up of lanes, and the test of all lanes of a vector.
-use Rattle.std.proofs.Common.{◌≡◌, ℕ, zero, suc, ◌+◌, ◌-◌, ◌*◌, ◌/◌, ◌%◌, ◌<◌, ◌≤◌, ◌↔◌, Bool, true, false, eqb, cond, ltb, ◌||◌, T, List, [], ◌∷◌, ◌++◌, length, replicate, get_or, bit_and, bit_or, refl, sym, subst, arith, w8, Fits, eqb→eq, eqb-true, eq-eqb, IsTrue, IsSome, Option, Some, None}
+use Rattle.std.proofs.Common.{◌≡◌, ℕ, zero, suc, ◌+◌, ◌-◌, ◌*◌, ◌/◌, ◌%◌, ◌<◌, ◌≤◌, ◌↔◌, Bool, true, false, not, eqb, cond, ltb, ◌||◌, T, List, [], ◌∷◌, ◌++◌, length, replicate, get_or, bit_and, bit_or, refl, subst, arith, w8, Fits, eqb-true, eq-eqb, IsTrue, Some}
 use Rattle.std.specs.List.{AllZip}
 use Rattle.std.specs.Int.{bit_at}
+use Rattle.std.specs.Option.{is_some}
 use Rattle.std.proofs.lemmas.List.Elements.{All-nil, All-head, All-tail, All-cons}
 use Rattle.std.proofs.lemmas.Nat.{le_or_l, le_or_r}
 use Rattle.std.proofs.lemmas.Nat.Bits.{bit_at_or}
@@ -14,30 +15,23 @@ use Rattle.const_hex_arch.specs.Nibbles.{IsMarkOf, IsValueOf, IsPartOf, IsLimitO
 use Rattle.const_hex_arch.specs.Texts.{AllDigits}
 use Rattle.const_hex_arch.proofs.Computed.{all_below, every_below}
 use Rattle.const_hex_arch.proofs.LaneValues.{same_value, is_none, same_if_some, sub8, min_l}
-use Rattle.const_hex_arch.proofs.Spelling.{false_is_true, digits_append}
+use Rattle.const_hex_arch.proofs.Spelling.{digits_append}
 
 -- ---- tests that compute
 
 abbrev same_truth : Bool → Bool → Bool
 same_truth true b = b
-same_truth false true = false
-same_truth false false = true
+same_truth false b = not b
 
-same_truth-cases : (a b : Bool) → T (same_truth a b) → T a ↔ T b
-same_truth-cases true b t = (λ _. t, λ _. tt)
+same_truth-cases : (a b : Bool) → T (same_truth a b) → (a ≡ true) ↔ (b ≡ true)
+same_truth-cases true true t = (λ _. refl, λ _. refl)
+same_truth-cases true false t = absurd t
 same_truth-cases false true t = absurd t
 same_truth-cases false false t = (λ h. h, λ h. h)
 
-abbrev has_value : Option ℕ → Bool
-has_value None = false
-has_value (Some v) = true
-
-has_value-IsSome : (o : Option ℕ) → T (has_value o) ↔ IsSome o
-has_value-IsSome None = (λ h. absurd h, λ h. absurd (false_is_true h))
-has_value-IsSome (Some v) = (λ _. refl, λ _. tt)
-
-zero_is : (n : ℕ) → T (eqb n 0) ↔ (n ≡ 0)
-zero_is n = (λ t. eqb→eq n 0 t, λ e. subst T (sym (eq-eqb n 0 e)) tt)
+-- two tests that agree below 256
+agreed : (p q : ℕ → Bool) → T (all_below (λ x. same_truth (p x) (q x)) 256) → (x : ℕ) → x < 256 → (p x ≡ true) ↔ (q x ≡ true)
+agreed p q t x h = same_truth-cases (p x) (q x) (every_below (λ x. same_truth (p x) (q x)) 256 t x h)
 
 -- the bits that mark a lane
 abbrev mark_bits : ℕ → ℕ
@@ -63,7 +57,7 @@ module _ (table : List ℕ) where
 
   -- each of the 256 bytes
   abbrev pub marks_are_right : Bool
-  marks_are_right = all_below (λ b. same_truth (eqb (mark_bits (mark_of b)) 0) (has_value (hex_value b))) 256
+  marks_are_right = all_below (λ b. same_truth (eqb (mark_bits (mark_of b)) 0) (is_some (hex_value b))) 256
 
   abbrev pub values_are_right : Bool
   values_are_right = all_below (λ b. is_none (hex_value b) || same_value (hex_value b) (Some (value_of b))) 256
@@ -71,12 +65,9 @@ module _ (table : List ℕ) where
   module _ (t : T marks_are_right) (u : T values_are_right) where
     limit_at : (b : ℕ) → b < 256 → IsLimitOf b (limit b)
     limit_at b h =
-        let same = same_truth-cases (eqb (mark_bits (mark_of b)) 0) (has_value (hex_value b))
-        (every_below (λ b. same_truth (eqb (mark_bits (mark_of b)) 0) (has_value (hex_value b))) 256 t b h) in
-        let none = zero_is (mark_bits (mark_of b)) in
-        let value = has_value-IsSome (hex_value b) in
+        let same = agreed (λ b. eqb (mark_bits (mark_of b)) 0) (λ b. is_some (hex_value b)) t b h in
         let right = every_below (λ b. is_none (hex_value b) || same_value (hex_value b) (Some (value_of b))) 256 u b h in
-        (λ d. same_if_some (hex_value b) (Some (value_of b)) right d, (λ p. value.0 (same.0 (none.1 p)), λ d. none.0 (same.1 (value.1 d))))
+        (λ d. same_if_some (hex_value b) (Some (value_of b)) right d, (λ p. same.0 (eq-eqb (mark_bits (mark_of b)) 0 p), λ d. eqb-true (mark_bits (mark_of b)) 0 (same.1 d)))
 
     -- from lane i on
     limits_all : (i : ℕ) (v : List ℕ) → i + length v ≤ 16 → Each1 (Fits w8) v
@@ -172,10 +163,8 @@ marked x = bit_and x 216
 
 unmarked_at : (x : ℕ) → x < 256 → (marked x ≡ 0) ↔ IsUnmarked x
 unmarked_at x h =
-    let same = same_truth-cases (eqb (marked x) 0) (eqb (mark_bits x) 0) (every_below (λ x. same_truth (eqb (marked x) 0) (eqb (mark_bits x) 0)) 256 tt x h) in
-    let one = zero_is (marked x) in
-    let other = zero_is (mark_bits x) in
-    (λ e. other.0 (same.0 (one.1 e)), λ p. one.0 (same.1 (other.1 p)))
+    let same = agreed (λ x. eqb (marked x) 0) (λ x. eqb (mark_bits x) 0) tt x h in
+    (λ e. eqb-true (mark_bits x) 0 (same.0 (eq-eqb (marked x) 0 e)), λ p. eqb-true (marked x) 0 (same.1 (eq-eqb (mark_bits x) 0 p)))
 
 unmarked_fold : (a : ℕ) (xs : List ℕ) → Each1 (Fits w8) xs → (fold_l bit_or a (zip2 bit_and xs (replicate (length xs) 216)) ≡ 0) ↔ ((a ≡ 0) × AllUnmarked xs)
 unmarked_fold a [] f = (λ e. (e, tt), λ h. h.0)

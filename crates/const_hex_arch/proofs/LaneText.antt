@@ -3,8 +3,8 @@ use Rattle.std.proofs.Common.{◌≡◌, ℕ, zero, suc, ◌+◌, ◌*◌, ◌/�
 use Rattle.std.specs.List.{range_with_len, concat}
 use Rattle.std.proofs.lemmas.Grind.{common_steps}
 use Rattle.std.proofs.lemmas.List.{append-nil, ext_get_or, get_or-map, length-map}
-use Rattle.std.proofs.lemmas.Nat.{and_le_r, and_mask}
-use Rattle.std.proofs.lemmas.Simd.{length-zip2, length-replicate, Each1-all, Each1-zip2, Each2-splat, put_chunk_whole, SwzOk, SwzOk-from_below, swz_l, length-swz_l, get_or-swz_l_below, zip2_splat, pick_l-range_with_len}
+use Rattle.std.proofs.lemmas.Nat.{and_mask}
+use Rattle.std.proofs.lemmas.Simd.{length-zip2, length-replicate, put_chunk_whole, swz_l, length-swz_l, get_or-swz_l_below, zip2_splat, pick_l-range_with_len}
 use borrow.Rule.Slice.PartMut.{put_mid}
 use lib.Lanes.{zip2, Each1, pick_l, chunk, put_chunk}
 use Rattle.const_hex_arch.specs.Digits.{hex_digit}
