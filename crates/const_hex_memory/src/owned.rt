@@ -157,6 +157,8 @@ fn tell_by_kernel<K: Kernel>(rt: &impl Print, alloc: Global, by: &str) -> io::Re
         by,
         decode_with::<K>(alloc, &bad),
     )?;
+    let answer = decode_with::<K>(alloc, BAD.as_bytes());
+    tell_of(rt, "decode_with of zz", by, answer)?;
     let mut sink = PieceSink::new(alloc, 0);
     let answer = BufferedHex::<false, true>::new(&DATA).write_with::<K, PieceSink>(&mut sink);
     tell_of(

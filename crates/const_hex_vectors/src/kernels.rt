@@ -68,8 +68,11 @@ fn worked_fronts(rt: HostRuntime) {
         (96, 70, [35, 32, 32]),
     ];
     for (length, place, counts) in rows {
-        let fronts = [Front::Pairs, Front::Steps16, Front::Steps32];
-        let decoded = fronts.map(|front| front.count(length, place));
+        let decoded = [
+            Front::Pairs.count(length, place),
+            Front::Steps16.count(length, place),
+            Front::Steps32.count(length, place),
+        ];
         holds(&rt, &(length, place), decoded == counts);
     }
 }

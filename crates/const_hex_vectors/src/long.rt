@@ -14,8 +14,14 @@ use std::alloc::{AllocError, Global};
 use std::process::Abort;
 use std::test::Fail;
 
-/// Texts of 1.5 KiB, and bytes of 1 MiB and 3 MiB, in blocks of 256 bytes.
-const BLOCKS: [usize; 3] = [3, 4096, 12_288];
+/// How many blocks of 256 bytes a text of 1.5 KiB has.
+const SHORT: usize = 3;
+
+/// How many there are in 1 MiB.
+const LONG: usize = 4096;
+
+/// How many there are in 3 MiB.
+const LONGEST: usize = 12_288;
 
 /// That many times the 256 bytes.
 fn long_text(alloc: Global, blocks: usize) -> Result<Written, AllocError> {
@@ -47,7 +53,7 @@ fn late(length: usize) -> [usize; 2] {
 
 #[test]
 fn owned_texts(rt: HostRuntime) -> Result<(), Fail> {
-    for blocks in BLOCKS {
+    for blocks in [SHORT, LONG, LONGEST] {
         each_call_writes(&rt, rt.alloc(), &long_text(rt.alloc(), blocks)?)?;
     }
     Ok(())
@@ -55,13 +61,28 @@ fn owned_texts(rt: HostRuntime) -> Result<(), Fail> {
 
 #[test]
 fn owned_bytes(rt: HostRuntime) -> Result<(), Fail> {
-    for blocks in BLOCKS {
-        let long = long_text(rt.alloc(), blocks)?;
-        accepted(&rt, rt.alloc(), &long)?;
-        for prefix in ["", "0X"] {
-            for place in late(long.lower.len()) {
-                refused(&rt, rt.alloc(), prefix, &long.lower, place)?;
-            }
+    for blocks in [SHORT, LONG, LONGEST] {
+        accepted(&rt, rt.alloc(), &long_text(rt.alloc(), blocks)?)?;
+    }
+    Ok(())
+}
+
+#[test]
+fn late_bad_bytes(rt: HostRuntime) -> Result<(), Fail> {
+    late_bad_bytes_of(&rt, rt.alloc(), SHORT)?;
+    late_bad_bytes_of(&rt, rt.alloc(), LONG)
+}
+
+#[test]
+fn late_bad_bytes_of_the_longest(rt: HostRuntime) -> Result<(), Fail> {
+    late_bad_bytes_of(&rt, rt.alloc(), LONGEST)
+}
+
+fn late_bad_bytes_of(rt: &impl Abort, alloc: Global, blocks: usize) -> Result<(), Fail> {
+    let long = long_text(alloc, blocks)?;
+    for prefix in ["", "0X"] {
+        for place in late(long.lower.len()) {
+            refused(rt, alloc, prefix, &long.lower, place)?;
         }
     }
     Ok(())
@@ -94,10 +115,13 @@ fn refused(
 
 #[test]
 fn kernels(rt: HostRuntime) -> Result<(), Fail> {
-    for blocks in BLOCKS {
-        with_each_kernel(&rt, rt.alloc(), &long_text(rt.alloc(), blocks)?)?;
-    }
-    Ok(())
+    with_each_kernel(&rt, rt.alloc(), &long_text(rt.alloc(), SHORT)?)?;
+    with_each_kernel(&rt, rt.alloc(), &long_text(rt.alloc(), LONG)?)
+}
+
+#[test]
+fn kernels_on_the_longest(rt: HostRuntime) -> Result<(), Fail> {
+    with_each_kernel(&rt, rt.alloc(), &long_text(rt.alloc(), LONGEST)?)
 }
 
 impl Trial for Written {

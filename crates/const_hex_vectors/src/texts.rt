@@ -10,14 +10,20 @@ const DIGITS: &[u8; 22] = b"0123456789abcdefABCDEF";
 
 /// A text of that length, of digits in either case.
 pub(crate) fn digits(alloc: Global, length: usize) -> Result<Vec<u8>, AllocError> {
-    (0..length).map(|i| DIGITS[i % 22 * 7 % 22]).collect(alloc)
+    let mut text = Vec::new(alloc);
+    for i in 0..length {
+        text.push(DIGITS[i % 22 * 7 % 22])?;
+    }
+    Ok(text)
 }
 
 /// That many bytes, of all values in turn.
 pub(crate) fn bytes(alloc: Global, count: usize) -> Result<Vec<u8>, AllocError> {
-    (0..count)
-        .map(|i| ((i % 256 * 37 + 11) % 256) as u8)
-        .collect(alloc)
+    let mut bytes = Vec::new(alloc);
+    for i in 0..count {
+        bytes.push(((i % 256 * 37 + 11) % 256) as u8)?;
+    }
+    Ok(bytes)
 }
 
 /// What stands in front of a body: nothing, or either prefix.

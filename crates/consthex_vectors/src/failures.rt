@@ -49,15 +49,18 @@ fn stops_an_endless_reader(rt: HostRuntime) {
 fn names_a_failed_write(rt: HostRuntime) {
     for row in ANSWERS {
         writes(&rt, rt.alloc(), row, Fault::Nothing);
-        for call in 1..=row.2.len() {
-            writes(&rt, rt.alloc(), row, Fault::Full(call));
-        }
         for kind in KINDS {
             writes(&rt, rt.alloc(), row, Fault::Flush(kind));
-            for call in 1..=row.2.len() {
-                writes(&rt, rt.alloc(), row, Fault::Writes(call, call, kind));
-            }
+            fails_at_each_call(&rt, rt.alloc(), row, kind);
         }
+    }
+}
+
+fn fails_at_each_call(rt: &impl Abort, alloc: Global, row: Answered<'_>, kind: ErrorKind) {
+    let (_, _, answer) = row;
+    for call in 1..=answer.len() {
+        writes(rt, alloc, row, Fault::Full(call));
+        writes(rt, alloc, row, Fault::Writes(call, call, kind));
     }
 }
 

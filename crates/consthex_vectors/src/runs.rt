@@ -165,8 +165,7 @@ fn accepts_1048576_bytes_and_no_more(rt: HostRuntime) -> Result<(), Fail> {
     let mut zeros = io::repeat(0).take(1_048_576);
     run(rt.alloc(), Mode::Encode, &mut zeros, &mut text)?;
     assert!(rt; text.pop() == Some(b'\n'));
-    assert!(rt; text.len() == 2_097_152);
-    assert!(rt; text.iter().all(|digit| *digit == b'0'));
+    assert!(rt; text == vec![in rt.alloc(); b'0'; 2_097_152]?);
 
     let mut nothing = Vec::new(rt.alloc());
     let mut zeros = io::repeat(0).take(1_048_577);

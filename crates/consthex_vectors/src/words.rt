@@ -49,10 +49,10 @@ fn name(
     words: &[&str],
     mode: Option<Mode>,
 ) -> Result<(), AllocError> {
-    let strings: Vec<String> = words
-        .iter()
-        .map(|word| String::from_str(alloc, word))
-        .try_collect(alloc)?;
+    let mut strings = Vec::new(alloc);
+    for word in words {
+        strings.push(String::from_str(alloc, word)?)?;
+    }
     holds(rt, &words, mode_of(&strings) == mode);
     Ok(())
 }

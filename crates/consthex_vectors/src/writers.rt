@@ -1,16 +1,28 @@
 //! What callers write of each type.
 
+use crate::rows::holds;
 use const_hex_uses::writers::{array_text, string_text, vector_text};
 use std::alloc::AllocError;
+use std::process::Abort;
 
 #[test]
 fn texts(rt: HostRuntime) -> Result<(), AllocError> {
     let alloc = rt.alloc();
-    let bytes = b"kiwi".to_vec(alloc)?;
-    assert!(rt; vector_text(alloc, &bytes)?.as_str() == "6b697769");
-    let text = "jolly".to_string(alloc)?;
-    assert!(rt; string_text(alloc, &text)?.as_str() == "6A6F6C6C79");
-    assert!(rt; array_text(alloc, b"kiwi")?.as_str() == "0x6b697769");
-    assert!(rt; array_text(alloc, &[])?.as_str() == "0x");
+    is_text(&rt, vector_text(alloc, &b"kiwi".to_vec(alloc)?), "6b697769")?;
+    is_text(
+        &rt,
+        string_text(alloc, &"jolly".to_string(alloc)?),
+        "6A6F6C6C79",
+    )?;
+    is_text(&rt, array_text(alloc, b"kiwi"), "0x6b697769")?;
+    is_text(&rt, array_text(alloc, &[]), "0x")
+}
+
+fn is_text(
+    rt: &impl Abort,
+    text: Result<String, AllocError>,
+    want: &str,
+) -> Result<(), AllocError> {
+    holds(rt, &want, text?.as_str() == want);
     Ok(())
 }
