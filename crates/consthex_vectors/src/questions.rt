@@ -216,3 +216,17 @@ fn stops_at(rt: &impl Abort, alloc: Global, call: usize) {
     let taken = answers.get(..call.saturating_sub(1));
     holds(rt, &call, Some(output.taken.as_slice()) == taken);
 }
+
+// The same of a writer that takes a part of a longer call.
+#[test]
+fn a_failed_write_of_several_bytes_ends_the_run(rt: HostRuntime) {
+    let answers = b"OK 3662\nBAD unknown operation\n".as_slice();
+    for call in 1..8usize {
+        let mut input = b"encode 6b\nno\ncheck 36\n".as_slice();
+        let fault = Fault::Writes(call, call, ErrorKind::BrokenPipe);
+        let mut output = Target::new(rt.alloc(), 3, fault);
+        let ended = answer_lines(rt.alloc(), &mut input, &mut output);
+        holds(&rt, &call, fails_by(ended, ErrorKind::BrokenPipe));
+        holds(&rt, &call, answers.starts_with(&output.taken));
+    }
+}

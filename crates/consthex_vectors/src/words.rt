@@ -42,7 +42,7 @@ fn other_words_name_none(rt: HostRuntime) -> Result<(), Fail> {
     Ok(())
 }
 
-/// These words name that mode, or none and then the status is 2.
+/// These words name that mode, or none.
 fn name(
     rt: &impl Abort,
     alloc: Global,

@@ -15,18 +15,25 @@ const TAKEN: [usize; 8] = [0, 1000, 2000, 3000, 4000, 4096, 5096, 6002];
 
 #[test]
 fn writers_that_fail_at_each_call(rt: HostRuntime) -> Result<(), Fail> {
-    let mut text = b"0x".to_vec(rt.alloc())?;
-    text.resize(6002, b'a')?;
+    let alloc = rt.alloc();
+    let bytes: Vec<u8> = (0..3000usize)
+        .map(|i| (i % 256 * 37 % 256) as u8)
+        .collect(alloc)?;
+    let mut text = "0x".to_string(alloc)?;
+    for byte in &bytes {
+        text.push_str(&format!(in alloc; "{byte:02x}")?)?;
+    }
+    let case = (bytes.as_slice(), text.as_bytes());
     for (before, taken) in TAKEN.into_iter().enumerate() {
         let call = before.saturating_add(1);
-        fails_at(&rt, rt.alloc(), (call, taken), &text);
-        goes_on(&rt, rt.alloc(), call, &text);
+        fails_at(&rt, alloc, (call, taken), case);
+        goes_on(&rt, alloc, call, case);
     }
     Ok(())
 }
 
 /// Writes that fail, or take no bytes, at that call, before which so many bytes were taken.
-fn fails_at(rt: &impl Abort, alloc: Global, (call, taken): (usize, usize), text: &[u8]) {
+fn fails_at(rt: &impl Abort, alloc: Global, (call, taken): (usize, usize), case: (&[u8], &[u8])) {
     let rows = [
         (
             Fault::Writes(call, call, ErrorKind::Other),
@@ -40,31 +47,31 @@ fn fails_at(rt: &impl Abort, alloc: Global, (call, taken): (usize, usize), text:
     ];
     for (fault, kind) in rows {
         let error = if call < 8 { Some(kind) } else { None };
-        writes(rt, alloc, fault, text, (error, taken, call.min(7)));
+        writes(rt, alloc, fault, case, (error, taken, call.min(7)));
     }
 }
 
 /// Calls that a signal interrupts, once, twice and a hundred times in a row, are made again.
-fn goes_on(rt: &impl Abort, alloc: Global, call: usize, text: &[u8]) {
+fn goes_on(rt: &impl Abort, alloc: Global, call: usize, case: (&[u8], &[u8])) {
     for more in [0, 1, 99usize] {
         let fault = Fault::Writes(call, call.saturating_add(more), ErrorKind::Interrupted);
         let calls = if call < 8 { more.saturating_add(8) } else { 7 };
-        writes(rt, alloc, fault, text, (None, 6002, calls));
+        writes(rt, alloc, fault, case, (None, 6002, calls));
     }
 }
 
-/// Writes 3000 bytes 0xAA, which have that text: the kind of the error, how much the writer has,
-/// and how often it was called.
+/// Writes bytes, which have that text: the kind of the error, how much the writer has, and how often
+/// it was called.
 fn writes(
     rt: &impl Abort,
     alloc: Global,
     fault: Fault,
-    text: &[u8],
+    (bytes, text): (&[u8], &[u8]),
     (kind, taken, calls): (Option<ErrorKind>, usize, usize),
 ) {
     let mut target = Target::new(alloc, 1000, fault);
     let mut sink = WriteSink::new(&mut target);
-    let answer = BufferedHex::<false, true>::new(&[0xAA; 3000]).write_with::<Plain, _>(&mut sink);
+    let answer = BufferedHex::<false, true>::new(bytes).write_with::<Plain, _>(&mut sink);
     holds(rt, &fault, answer.is_err() == kind.is_some());
     holds(rt, &fault, sink.refused() == kind.is_some());
     holds(rt, &fault, kind_of(sink.error()) == kind);

@@ -12,6 +12,22 @@ use std::alloc::Global;
 use std::process::Abort;
 use std::test::Fail;
 
+// How many bytes, 0 and on, round the steps of each kernel, and how their text ends.
+const FIRST_BYTES: [(usize, &str); 12] = [
+    (15, "0e"),
+    (16, "0f"),
+    (17, "10"),
+    (31, "1e"),
+    (32, "1f"),
+    (33, "20"),
+    (47, "2e"),
+    (48, "2f"),
+    (49, "30"),
+    (63, "3e"),
+    (64, "3f"),
+    (65, "40"),
+];
+
 /// Texts of each length to 130, and up to 200 bytes there and back.
 #[derive(Drop)]
 pub(crate) struct Lengths;
@@ -23,6 +39,9 @@ impl Trial for Lengths {
         }
         for count in 0..=200usize {
             there_and_back::<K>(rt, alloc, &bytes(alloc, count)?, kernel)?;
+        }
+        for row in FIRST_BYTES {
+            first_bytes::<K>(rt, alloc, row, kernel)?;
         }
         each_value::<K>(rt, kernel);
         own_calls::<K>(rt, alloc, kernel)
@@ -43,8 +62,10 @@ fn of_length<K: Kernel>(
             odd_text::<K>(rt, alloc, &text, kernel);
         } else {
             accepted::<K>(rt, alloc, &text, &body, kernel)?;
-            lowered::<K>(rt, alloc, &body, kernel)?;
         }
+    }
+    if length % 2 == 0 {
+        lowered::<K>(rt, alloc, &body, kernel)?;
     }
     Ok(())
 }
@@ -98,6 +119,19 @@ fn there_and_back<K: Kernel>(
         )?;
     }
     Ok(())
+}
+
+/// The text of the bytes 0, 1 and on, which ends so.
+fn first_bytes<K: Kernel>(
+    rt: &impl Abort,
+    alloc: Global,
+    (count, end): (usize, &str),
+    kernel: Habits,
+) -> Result<(), Fail> {
+    let bytes: Vec<u8> = (0..count).map(|i| (i % 256) as u8).collect(alloc)?;
+    let text = encode_with::<K, false>(alloc, &bytes)?;
+    holds(rt, &(kernel.name, end), text.ends_with(end));
+    there_and_back::<K>(rt, alloc, &bytes, kernel)
 }
 
 /// The pieces of the text of bytes, in upper letters or not.
