@@ -1,8 +1,8 @@
 //! Finds the two static libraries that this project links.
 //!
 //! `libconst_hex.a` has the codec's calls for C, made by `c/build`, and `libconst_hex_compare.a`
-//! those calls that only `bench` makes, by `compare/build`. Both are made here, which wants the
-//! toolchain's `rt`, or taken from the folder that `CONST_HEX_LIBRARIES` names.
+//! those calls that only `bench` and `count` make, by `compare/build`. Both are made here, which
+//! wants the toolchain's `rt`, or taken from the folder that `CONST_HEX_LIBRARIES` names.
 
 use std::env;
 use std::ffi::OsString;

@@ -4,8 +4,8 @@
 //! drift of the machine falls on all of them. The order is drawn anew each time. What is printed is a table in Markdown: nanoseconds a
 //! call, the least and the median of the batches, and what the port takes over the Rust crate.
 
-mod calls;
-mod measure;
+pub(crate) mod calls;
+pub(crate) mod measure;
 mod table;
 
 use crate::bench::calls::{batch, Call, Side};

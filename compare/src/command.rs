@@ -9,6 +9,7 @@ usage: compare answers [--intended] < QUESTIONS
        compare questions [SEED] [COUNT]
        compare differ [SEED] [COUNT]
        compare bench
+       compare count
 
 Without numbers the seed is 1 and the count 1000000. README.md says what each command does.";
 
@@ -25,6 +26,7 @@ pub enum Command {
     Questions(Asked),
     Differ(Asked),
     Bench,
+    Count,
 }
 
 impl Command {
@@ -37,6 +39,7 @@ impl Command {
             ["questions", numbers @ ..] => asked(numbers).map(Command::Questions),
             ["differ", numbers @ ..] => asked(numbers).map(Command::Differ),
             ["bench"] => Some(Command::Bench),
+            ["count"] => Some(Command::Count),
             _ => None,
         }
     }
@@ -66,10 +69,12 @@ mod tests {
             ("differ 7", true),
             ("differ 7 1000", true),
             ("bench", true),
+            ("count", true),
             ("", false),
             ("differ seven", false),
             ("differ 1 2 3", false),
             ("bench 1", false),
+            ("count 1", false),
         ];
         for (line, known) in rows {
             let words: Vec<String> = line.split_whitespace().map(String::from).collect();

@@ -3,8 +3,8 @@
 //! The first part is what a Rust program needs to call the proved codec: the declarations of
 //! `c/const_hex.h` and a safe call over each. A slice gives a pointer and a length that belong
 //! together, and a `&mut` one that nothing else overlaps, which is all that the header asks of its
-//! caller. The second part is for `bench` alone: each of the two builds by its own name, the calls
-//! of `const_hex_compare`, and one call of the system.
+//! caller. The second part is for `bench` and `count` alone: each of the two builds by its own name,
+//! the calls of `const_hex_compare`, and what is asked of the system.
 #![allow(unsafe_code)]
 
 use std::fmt;
@@ -195,6 +195,7 @@ pub fn version() -> u32 {
 }
 
 pub mod builds;
+pub mod steps;
 pub mod system;
 
 #[cfg(test)]

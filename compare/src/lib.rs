@@ -4,7 +4,7 @@
 //! - `operation`, `question`, `answer`, `words`: the protocol of `const_hex_answers`;
 //! - `answers`, `replies`, `intended`: the Rust crate's answers, and where the port's differ;
 //! - `generator`, `random`, `differ`: questions, and both sides' answers compared;
-//! - `bench`: both sides' times;
+//! - `bench`: both sides' times; `count`: the port's instructions;
 //! - `command`: what the arguments ask for.
 #![deny(unsafe_code)]
 
@@ -12,6 +12,7 @@ pub mod answer;
 pub mod answers;
 pub mod bench;
 pub mod command;
+pub mod count;
 pub mod differ;
 pub mod ffi;
 pub mod generator;

@@ -1,8 +1,10 @@
-//! The commands `answers`, `questions`, `differ` and `bench`. `README.md` says what each does.
+//! The commands `answers`, `questions`, `differ`, `bench` and `count`. `README.md` says what each
+//! does.
 #![deny(unsafe_code)]
 
 use const_hex_compare::bench;
 use const_hex_compare::command::{Command, USAGE};
+use const_hex_compare::count;
 use const_hex_compare::differ::{differ, Asked};
 use const_hex_compare::replies::{reply, Answers};
 use std::io::{self, BufWriter, Write};
@@ -22,7 +24,8 @@ fn main() -> ExitCode {
         Err(error) if error.kind() == io::ErrorKind::BrokenPipe => ExitCode::FAILURE,
         Err(error) => {
             eprintln!("compare: {error}");
-            ExitCode::FAILURE
+            let is_unsupported = error.kind() == io::ErrorKind::Unsupported;
+            ExitCode::from(if is_unsupported { 2 } else { 1 })
         }
     }
 }
@@ -35,6 +38,7 @@ fn run(command: Command) -> io::Result<bool> {
         Command::Questions(asked) => print_questions(asked, &mut output)?,
         Command::Differ(asked) => print_differences(asked, &mut output)?,
         Command::Bench => bench::run(&mut output)?,
+        Command::Count => count::run(&mut output)?,
     };
     output.flush()?;
     Ok(is_well)

@@ -139,7 +139,7 @@ fn by_const_hex(call: Call) -> Batch {
 }
 
 /// A batch of a call by a build of the port.
-fn by_build(build: impl Build, call: Call) -> Batch {
+pub fn by_build(build: impl Build, call: Call) -> Batch {
     match call {
         Call::EncodeToSlice => on_bytes(move |bytes, text| usize::from(build.encode(bytes, text))),
         Call::DecodeToSlice => on_text(move |text, bytes| usize::from(build.decode(text, bytes))),

@@ -25,6 +25,9 @@ pub trait Build: Copy + 'static {
     /// Prints the lower text into a sink, and answers its length with the last byte of each piece
     /// added.
     fn display(self, bytes: &[u8]) -> usize;
+
+    /// Where the code of each of these calls but `display` begins, in this order.
+    fn entries(self) -> [*const (); 5];
 }
 
 /// The build for the default processor, x86-64-v2. The library is for no lesser one.
@@ -133,6 +136,16 @@ macro_rules! build {
             #[inline]
             fn display(self, bytes: &[u8]) -> usize {
                 unsafe { $module::display(bytes.as_ptr(), bytes.len()) }
+            }
+
+            fn entries(self) -> [*const (); 5] {
+                [
+                    $module::encode as *const (),
+                    $module::decode as *const (),
+                    $module::check_raw as *const (),
+                    $module::encode_owned as *const (),
+                    $module::decode_owned as *const (),
+                ]
             }
         }
     };

@@ -1,19 +1,23 @@
 //! Lines, each with its answer.
 
+ghost use Rattle.std.specs.Prelude.{◌≤◌, ℕ, List, [], ◌∷◌, ◌++◌, OnOk, IfSome, OnSome};
+ghost use Rattle.std.specs.Io.KnownBytes.{Appends, IsAtEnd};
+ghost use Rattle.const_hex_answers.specs.Lines.{line_count};
+
 use crate::answer::Answer;
 use crate::answers::answer;
 use crate::fault::Fault;
 use crate::question::Question;
 use std::alloc::{AllocError, Global};
 use std::io;
-use std::io::{BufRead, Read, Write};
+use std::io::{BufRead, ErrorKind, Write};
 
 /// The most bytes of a line, without its line break.
 const LONGEST: usize = 65_536;
 
 /// Answers each line of the input by a line of the output, and tells whether each was a question.
-/// A line has at most 65,536 bytes. One line is kept at a time. A failed read or write, or a refused
-/// request for memory, ends the run.
+/// A line of more than 65,536 bytes is none. One line and its answer are kept at a time. A failed
+/// read or write, or a refused request for memory, ends the run.
 ///
 /// ```rust
 /// let mut answers = Vec::new(rt.alloc());
@@ -24,48 +28,48 @@ pub fn answer_lines<R: BufRead, W: Write>(
     alloc: Global,
     input: &mut R,
     output: &mut W,
-) -> io::Result<bool> {
+) -> io::Result<bool>
+    ensures end { OnOk result (OnSome (R.remaining input.old) (IsAtEnd (R.remaining input.new))) }
+    // Behind what the output had, at least as many lines were written as were read.
+    ensures answers { OnOk result ((bs : List ℕ)
+        × Appends (W.contents output.old) (W.contents output.new) bs
+        × IfSome (R.remaining input.old) (λ xs. line_count xs ≤ line_count bs)) }
+{
     let mut line = Vec::new(alloc);
     let mut all_questions = true;
     for _ in 0..u64::MAX {
         line.clear();
-        if !read_line(input, &mut line)? {
-            break;
+        if input.read_until(b'\n', &mut line)? == 0 {
+            return Ok(all_questions);
+        }
+        if line.last().copied() == Some(b'\n') {
+            line.pop();
         }
         all_questions &= answer_line(alloc, &line, output)?;
     }
-    Ok(all_questions)
-}
-
-/// Reads the next line, without its line break, or tells that there is none. Of a line that is too
-/// long it keeps the front, which is too long too.
-fn read_line<R: BufRead>(input: &mut R, line: &mut Vec<u8>) -> io::Result<bool> {
-    let most = LONGEST as u64 + 1;
-    if input.by_ref().take(most).read_until(b'\n', line)? == 0 {
-        return Ok(false);
-    }
-    if line.last().copied() == Some(b'\n') {
-        line.pop();
-    } else if line.len() > LONGEST {
-        input.skip_until(b'\n')?;
-    }
-    Ok(true)
+    Err(io::Error::new(ErrorKind::TimedOut, "too many lines"))
 }
 
 /// Writes the answer of a line, and tells whether it was a question.
-fn answer_line<W: Write>(alloc: Global, line: &[u8], output: &mut W) -> io::Result<bool> {
+fn answer_line<W: Write>(alloc: Global, line: &[u8], output: &mut W) -> io::Result<bool>
+    // What is written ends with a line break.
+    ensures { OnOk result ((front : List ℕ)
+        × Appends (W.contents output.old) (W.contents output.new) (front ++ 10 ∷ [])) }
+{
+    let mut shown = Vec::new(alloc);
     let is_question = match answer_of(alloc, line) {
         Ok(answer) => {
-            answer.write(output)?;
+            answer.write(&mut shown)?;
             true
         }
         Err(Fault::NoMemory) => return Err(AllocError.into()),
         Err(fault) => {
-            write!(output, "BAD {fault}")?;
+            write!(shown, "BAD {fault}")?;
             false
         }
     };
-    output.write_all(b"\n")?;
+    shown.push(b'\n')?;
+    output.write_all(&shown)?;
     Ok(is_question)
 }
 
