@@ -75,7 +75,7 @@ impl<'a, W: Write> WriteSink<'a, W> {
         BufferedHex::<UPPER, PREFIX>::new(bytes).write_to(self)
     }
 
-    /// The error of the write that failed, or `None` where none did.
+    /// The error of the write that failed, or `None` if none did.
     ///
     /// ```rust
     /// let mut room = [0u8; 3];
@@ -92,7 +92,7 @@ impl<'a, W: Write> WriteSink<'a, W> {
         self.error.as_ref()
     }
 
-    /// `Ok` where no write failed, and else the error of the one that did. The writer is as it was
+    /// `Ok` if no write failed, and else the error of the one that did. The writer is as it was
     /// left, and is the caller's again.
     ///
     /// ```rust

@@ -7,8 +7,8 @@ ghost use Rattle.const_hex_arch.specs.Texts.{full_text, text_length};
 use crate::arch::{Kernel, encode_full};
 use crate::output::slice::SliceOutput;
 
-/// How long the text of so many bytes is, behind `0x` where a prefix is wanted. The greatest number
-/// where that does not fit: no text has that length.
+/// How long the text of so many bytes is, behind `0x` if a prefix is wanted. The greatest number
+/// if that does not fit: no text has that length.
 ///
 /// ```rust
 /// assert_eq!(rt; text_size(true, 20), 42);
@@ -23,7 +23,7 @@ pub fn text_size(prefix: bool, count: usize) -> usize
         .saturating_add(if prefix { 2 } else { 0 })
 }
 
-/// Fills the output with the text of the input, by a kernel, behind `0x` where a prefix is wanted.
+/// Fills the output with the text of the input, by a kernel, behind `0x` if a prefix is wanted.
 /// The output has to have just the length of that text. Takes no memory.
 ///
 /// ```rust

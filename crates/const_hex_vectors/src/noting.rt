@@ -6,7 +6,7 @@ use const_hex::{Sink, SinkError};
 use std::alloc::{AllocError, Global};
 
 /// Keeps the text of every call, also of the one that it refuses: that of the given number. It
-/// refuses, too, where memory is refused.
+/// refuses, too, if memory is refused.
 #[derive(Drop)]
 pub(crate) struct NotingSink {
     alloc: Global,

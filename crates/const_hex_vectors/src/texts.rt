@@ -49,7 +49,7 @@ pub(crate) fn refusal(byte: u8, index: usize) -> FromHexError {
     }
 }
 
-/// `0x` where a prefix is wanted, and what std prints for each byte with two digits.
+/// `0x` if a prefix is wanted, and what std prints for each byte with two digits.
 pub(crate) fn printed(
     alloc: Global,
     bytes: &[u8],
@@ -115,7 +115,7 @@ pub(crate) fn front_of(text: &[u8]) -> &[u8] {
     text.get(..64).unwrap_or(text)
 }
 
-/// Ends the test where what a row says does not hold, and names the row.
+/// Ends the test if a row does not hold, and names the row.
 pub(crate) fn holds<R: fmt::Debug>(rt: &impl Abort, row: &R, is_so: bool) {
     assert!(rt; is_so, "at {row:?}");
 }

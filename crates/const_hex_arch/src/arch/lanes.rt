@@ -86,7 +86,7 @@ pub(crate) fn unhex<const N: usize>(v: Simd<u8, N>) -> Simd<u8, N>
     (v & Simd::splat(15)) + v.simd_gt(Simd::splat(64)).select(nine, Simd::splat(0))
 }
 
-/// What the mark of each lane is found by: its value, where it is a digit.
+/// What the mark of each lane is found by: its value, if it is a digit.
 #[inline(always)]
 fn digit_values<const N: usize, V: Vectors<N>>(v: Simd<u8, N>) -> Simd<u8, N>
     ensures { AllZip IsPartOf v.entry result }
@@ -94,7 +94,7 @@ fn digit_values<const N: usize, V: Vectors<N>>(v: Simd<u8, N>) -> Simd<u8, N>
     values(v, V::limits(v))
 }
 
-/// Marks of a vector: there are none exactly where each lane is a digit.
+/// Marks of a vector: there are none exactly if each lane is a digit.
 #[inline(always)]
 fn digit_marks<const N: usize, V: Vectors<N>>(v: Simd<u8, N>) -> Simd<u8, N>
     ensures { AllUnmarked result ↔ AllDigits v.entry }

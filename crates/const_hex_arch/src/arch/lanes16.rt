@@ -71,7 +71,7 @@ pub fn nibbles(v: u8x16) -> u8x16
     lanes::nibbles(v)
 }
 
-/// The bytes that the lanes of a text spell, or `None` where one of these lanes is no digit.
+/// The bytes that the lanes of a text spell, or `None` if one of these lanes is no digit.
 ///
 /// ```rust
 /// let text = [u8x16::splat(b'7'), u8x16::splat(b'7')];

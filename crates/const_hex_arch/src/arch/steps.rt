@@ -10,7 +10,7 @@ use crate::arch::lanes::{self, Vectors};
 use crate::output::Output;
 use std::simd::prelude::*;
 
-/// Encodes by steps, two in each turn of the loop, then by one where a whole one is left, and the
+/// Encodes by steps, two in each turn of the loop, then by one if a whole one is left, and the
 /// rest by another kernel.
 #[inline(always)]
 pub(crate) fn encode<const N: usize, V: Vectors<N>, R: Kernel, O: Output>(
@@ -32,7 +32,7 @@ pub(crate) fn encode<const N: usize, V: Vectors<N>, R: Kernel, O: Output>(
     encode_last::<N, V, R, O>(&input[at..], upper, output);
 }
 
-/// Encodes by one step where the input has one, and the rest, which is less than a step, by another
+/// Encodes by one step if the input has one, and the rest, which is less than a step, by another
 /// kernel.
 #[inline(always)]
 fn encode_last<const N: usize, V: Vectors<N>, R: Kernel, O: Output>(
@@ -69,7 +69,7 @@ pub(crate) fn check<const N: usize, V: Vectors<N>, R: Kernel>(input: &[u8]) -> b
     check_last::<N, V, R>(left)
 }
 
-/// Checks by two steps under one test where the input has two, then by one where one is left, and
+/// Checks by two steps under one test if the input has two, then by one if one is left, and
 /// the rest, which is less than a step, by another kernel.
 #[inline(always)]
 fn check_last<const N: usize, V: Vectors<N>, R: Kernel>(input: &[u8]) -> bool
@@ -95,7 +95,7 @@ fn check_last<const N: usize, V: Vectors<N>, R: Kernel>(input: &[u8]) -> bool
 }
 
 /// Decodes by two steps at a time, then by steps, and the rest by another kernel. Two steps that are
-/// refused are left to the single ones, so that the first of them is decoded where it can be.
+/// refused are left to the single ones, so that the first of them is decoded if it can be.
 #[inline(always)]
 pub(crate) fn decode_checked<const N: usize, V: Vectors<N>, R: Kernel>(
     input: &[u8],
@@ -182,7 +182,7 @@ fn check_four_steps<const N: usize, V: Vectors<N>>(text: &[u8]) -> bool
     lanes::are_unmarked(two_marks::<N, V>(front) | two_marks::<N, V>(back))
 }
 
-/// Marks of the text of two steps: there are none exactly where each byte is a digit.
+/// Marks of the text of two steps: there are none exactly if each byte is a digit.
 #[inline(always)]
 fn two_marks<const N: usize, V: Vectors<N>>(text: &[u8]) -> Simd<u8, N>
     requires { length text.now ≡ 2 * N }
@@ -191,7 +191,7 @@ fn two_marks<const N: usize, V: Vectors<N>>(text: &[u8]) -> Simd<u8, N>
     lanes::two_marks::<N, V>(Simd::from_slice(text), Simd::from_slice(&text[N..]))
 }
 
-/// Fills the output with the bytes that the text of a step spells, or leaves it as it is where some
+/// Fills the output with the bytes that the text of a step spells, or leaves it as it is if some
 /// byte is no digit, and tells which.
 #[inline(always)]
 fn decode_step<const N: usize, V: Vectors<N>>(text: &[u8], output: &mut [u8]) -> bool

@@ -1,4 +1,4 @@
-//! What tells kernels apart: how much of an output is decoded where a text is refused, and by which
+//! What tells kernels apart: how much of an output is decoded if a text is refused, and by which
 //! pieces a text is written.
 
 use std::alloc::{AllocError, Global};
