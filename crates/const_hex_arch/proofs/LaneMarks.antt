@@ -148,12 +148,11 @@ all_unmarked (y ∷ ys) (z ∷ zs) e =
     (λ h. (((here.0 h.0).0, (more.0 h.1).0), ((here.0 h.0).1, (more.0 h.1).1)), λ h. (here.1 (h.0.0, h.1.0), more.1 (h.0.1, h.1.1)))
 
 -- the marks of two texts joined, for the text of both
-pub joint_test : (ys zs t u w : List ℕ) → t ++ u ≡ w → length ys ≡ length zs → AllUnmarked ys ↔ AllDigits t → AllUnmarked zs ↔ AllDigits u
-    → AllUnmarked (zip2 bit_or ys zs) ↔ AllDigits w
-joint_test ys zs t u w whole e first second =
+pub joint_test : (ys zs t u : List ℕ) → length ys ≡ length zs → AllUnmarked ys ↔ AllDigits t → AllUnmarked zs ↔ AllDigits u
+    → AllUnmarked (zip2 bit_or ys zs) ↔ AllDigits (t ++ u)
+joint_test ys zs t u e first second =
     let both = all_unmarked ys zs e in
     let parts = digits_append t u in
-    subst (λ w. AllUnmarked (zip2 bit_or ys zs) ↔ AllDigits w) whole
     (λ h. parts.1 (first.0 (both.0 h).0, second.0 (both.0 h).1), λ d. both.1 (first.1 (parts.0 d).0, second.1 (parts.0 d).1))
 
 -- ---- one test of all lanes

@@ -98,11 +98,11 @@ interleaved_text up n v a b f p q =
 -- ---- two vectors of n lanes in one piece, which are stored one behind the other
 
 -- two lists as one
-pub concat-pair : (vs : List (List ℕ)) → length vs ≡ 2 → concat vs ≡ get_or vs 0 [] ++ get_or vs 1 []
-concat-pair [] e = absurd (omega arith)
-concat-pair (a ∷ []) e = absurd (omega arith)
-concat-pair (a ∷ b ∷ []) e = ap (λ x. a ++ x) (append-nil b)
-concat-pair (a ∷ b ∷ c ∷ vs) e = absurd (omega arith)
+pub concat_pair : (vs : List (List ℕ)) → length vs ≡ 2 → concat vs ≡ get_or vs 0 [] ++ get_or vs 1 []
+concat_pair [] e = absurd (omega arith)
+concat_pair (a ∷ []) e = absurd (omega arith)
+concat_pair (a ∷ b ∷ []) e = ap (λ x. a ++ x) (append-nil b)
+concat_pair (a ∷ b ∷ c ∷ vs) e = absurd (omega arith)
 
 stored_pair : (n : ℕ) (a b z : List ℕ) → length a ≡ n → length b ≡ n → length z ≡ n
     → put_mid n n (put_chunk 0 z a ++ z) (put_chunk 0 (take n (drop n (put_chunk 0 z a ++ z))) b) ≡ a ++ b

@@ -52,6 +52,10 @@ module _ {S : Type 0} (step : S → List ℕ → S → Type 0) where
     sizes = All-append IsKernelPiece h.pieces (piece ∷ []) h.sizes (All-cons IsKernelPiece piece [] i (All-nil IsKernelPiece));
   }
 
+  -- one piece
+  pub one_written : (s : S) (piece : List ℕ) (t : S) → step s piece t → IsKernelPiece piece → Writes step s piece t
+  one_written s piece t h i = Writes-more s [] s piece t (Writes-none s) h i
+
   -- one text and then another
   pub Writes-append : (s : S) (first : List ℕ) (m : S) (second : List ℕ) (t : S) → Writes step s first m → Writes step m second t
       → Writes step s (first ++ second) t

@@ -1,13 +1,15 @@
 -- What texts spell.
-use Rattle.std.proofs.Common.{◌≡◌, ℕ, zero, suc, ◌+◌, ◌-◌, ◌*◌, ◌/◌, ◌%◌, ◌<◌, ◌≤◌, ◌≢◌, ◌↔◌, List, [], ◌∷◌, ◌++◌, length, take, drop, get_or, set, slice_index, false, ◌⊎◌, Option, Some, None, IsSome, IsNone, inl, inr, refl, sym, ap, subst, ◌∙◌, arith, take-add, drop-drop, length-take}
+use Rattle.std.proofs.Common.{◌≡◌, ℕ, zero, suc, ◌+◌, ◌-◌, ◌*◌, ◌/◌, ◌%◌, ◌<◌, ◌≤◌, ◌≢◌, ◌↔◌, eqb, eqb→eq, List, [], ◌∷◌, ◌++◌, length, take, drop, get_or, set, slice_index, false, ◌⊎◌, Option, Some, None, IsSome, IsNone, inl, inr, refl, sym, ap, subst, ◌∙◌, arith, take-add, drop-drop, length-take}
 use Rattle.std.specs.Prelude.{unwrap_or}
 use Rattle.std.proofs.lemmas.Bool.{cases_lt}
 use Rattle.std.proofs.lemmas.Bool.Decides.{nat_tests}
 use Rattle.std.proofs.lemmas.Grind.{common_steps}
 use Rattle.std.proofs.lemmas.List.{get_or-take, take_more, append_assoc, take_at, drop_at}
 use Rattle.std.proofs.lemmas.List.Elements.{All-nil, All-cons, All-head, All-tail, All-append, All-take, All-drop, All-get_or, All-more, All-same}
+use Rattle.const_hex_arch.specs.declared.tables.TheConstants.{HEX_DECODE_LUT}
 use Rattle.const_hex_arch.specs.Digits.{hex_value, value_or_nil, IsDigit}
 use Rattle.const_hex_arch.specs.Texts.{IsPair, Spells, AllDigits, FirstBad, Partial}
+use Rattle.const_hex_arch.proofs.Computed.{every_below}
 
 pub false_is_true : false ≡ Rattle.std.proofs.Common.true → ⊥
 false_is_true e = cc
@@ -28,6 +30,10 @@ value_found b r e n = grind (arith, nat_tests)
 
 pub value_not_found : (b r : ℕ) → r ≡ value_or_nil (hex_value b) → r ≡ 255 → IsNone (hex_value b)
 value_not_found b r e n = grind (arith, nat_tests)
+
+-- the table of the look-up
+pub in_table : (b : ℕ) → b < 256 → get_or HEX_DECODE_LUT.now b 0 ≡ value_or_nil (hex_value b)
+in_table b h = eqb→eq _ _ (every_below (λ b. eqb (get_or HEX_DECODE_LUT.now b 0) (value_or_nil (hex_value b))) 256 tt b h)
 
 value_of_digit : (o : Option ℕ) (r : ℕ) → r ≡ value_or_nil o → IsSome o → o ≡ Some r
 value_of_digit (Some v) r e n = ap Some (sym e)
@@ -76,6 +82,8 @@ Spells-append [] (b ∷ bs) v cs s t = absurd s
 Spells-append (x ∷ []) bs v cs s t = absurd s
 Spells-append (x ∷ y ∷ u) [] v cs s t = absurd s
 Spells-append (x ∷ y ∷ u) (b ∷ bs) v cs s t = (s.0, Spells-append u bs v cs s.1 t)
+
+pub ruleset spelled = (Spells-append)
 
 -- a text that spells bytes has two digits for each
 pub Spells-length : (u bs : List ℕ) → Spells u bs → length u ≡ 2 * length bs

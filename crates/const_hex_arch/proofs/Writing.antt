@@ -3,6 +3,7 @@ use Rattle.std.proofs.Common.{◌≡◌, ℕ, suc, ◌+◌, ◌*◌, ◌/◌, �
 use Rattle.std.specs.Str.{IsAscii}
 use Rattle.std.proofs.lemmas.Bool.Decides.{nat_tests}
 use Rattle.std.proofs.lemmas.List.{append_assoc, take_more}
+use Rattle.std.proofs.lemmas.Str.{IsUtf8-from_ascii}
 use Rattle.std.proofs.lemmas.Str.Ascii.{IsAscii-nil, IsAscii-cons}
 use Rattle.const_hex_arch.specs.Digits.{hex_value, hex_digit}
 use Rattle.const_hex_arch.specs.Texts.{hex_text, prefix_of, full_text, text_length, Spells}
@@ -50,6 +51,9 @@ IsAscii-hex_text up (b ∷ bs) h =
     let small : b < 256 = h 0 in
     IsAscii-cons (hex_digit up (b / 16)) (hex_digit up (b % 16) ∷ hex_text up bs) (hex_digit-ascii up (b / 16) (omega arith))
     (IsAscii-cons (hex_digit up (b % 16)) (hex_text up bs) (hex_digit-ascii up (b % 16) (omega arith)) (IsAscii-hex_text up bs (λ k. h (suc k))))
+
+-- ASCII is UTF-8
+pub ruleset utf8 = (IsUtf8-from_ascii)
 
 pub IsAscii-full_text : (prefix up : Bool) (bs : List ℕ) → ((k : ℕ) → slice_index bs k < 256) → IsAscii (full_text prefix up bs)
 IsAscii-full_text true up bs h =

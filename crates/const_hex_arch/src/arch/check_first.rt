@@ -38,6 +38,7 @@ impl<K: Kernel> Kernel for CheckFirst<K> {
     // Not `always`: a decoder names this in a branch that most kernels never take, and with all of
     // it would be too large to be inlined.
     #[inline]
+    #[tactic(auto, using(crate::proofs::Spelling::none_decoded))]
     fn decode_checked(input: &[u8], output: &mut [u8]) -> bool {
         if !K::check(input) {
             return false;

@@ -71,6 +71,7 @@ pub(crate) fn marks<const N: usize>(v: Simd<u8, N>, values: Simd<u8, N>) -> Simd
 
 /// Whether no lane has a mark: all have the bits 7, 6, 4 and 3 clear.
 #[inline(always)]
+#[tactic(auto, using(crate::proofs::LaneMarks::are_unmarked))]
 pub(crate) fn are_unmarked<const N: usize>(marks: Simd<u8, N>) -> bool
     ensures { IsTrue result ↔ AllUnmarked marks.entry }
 {
@@ -96,6 +97,7 @@ fn digit_values<const N: usize, V: Vectors<N>>(v: Simd<u8, N>) -> Simd<u8, N>
 
 /// Marks of a vector: there are none exactly if each lane is a digit.
 #[inline(always)]
+#[tactic(auto, using(crate::proofs::LaneMarks::unmarked_are_digits))]
 fn digit_marks<const N: usize, V: Vectors<N>>(v: Simd<u8, N>) -> Simd<u8, N>
     ensures { AllUnmarked result ↔ AllDigits v.entry }
 {
@@ -104,6 +106,7 @@ fn digit_marks<const N: usize, V: Vectors<N>>(v: Simd<u8, N>) -> Simd<u8, N>
 
 /// Whether every lane is a digit.
 #[inline(always)]
+#[tactic(auto, using(crate::proofs::LaneMarks::through))]
 pub(crate) fn check<const N: usize, V: Vectors<N>>(v: Simd<u8, N>) -> bool
     ensures { IsTrue result ↔ AllDigits v.entry }
 {
@@ -124,6 +127,7 @@ pub(crate) fn two_marks<const N: usize, V: Vectors<N>>(
 /// The bytes that the text of two vectors spells, if each of its lanes is a digit. Else they mean
 /// nothing.
 #[inline(always)]
+#[tactic(auto, using(crate::proofs::LaneBytes::merge_spells, crate::proofs::LaneMarks::values_of_parts))]
 pub(crate) fn decode<const N: usize, V: Vectors<N>>(
     first: Simd<u8, N>,
     second: Simd<u8, N>,
@@ -135,6 +139,7 @@ pub(crate) fn decode<const N: usize, V: Vectors<N>>(
 
 /// The same by [`unhex`], for a text that was tested before.
 #[inline(always)]
+#[tactic(auto, using(crate::proofs::LaneBytes::merge_spells))]
 pub(crate) fn decode_digits<const N: usize, V: Vectors<N>>(
     first: Simd<u8, N>,
     second: Simd<u8, N>,

@@ -156,6 +156,7 @@ fn encode_piece<const UPPER: bool>(bytes: &[u8]) -> [u8; 64]
 /// The bytes that the lanes of a text spell, and whether each of these lanes is a digit. Where one
 /// is not, the bytes mean nothing.
 #[inline(always)]
+#[tactic(auto, using(crate::proofs::LaneMarks::through, crate::proofs::LaneText::concat_pair))]
 fn decode_flagged(text: [u8x32; 2]) -> (u8x32, bool)
     ensures digits { IsTrue result.1 ↔ AllDigits (concat text) }
     ensures spells { IsTrue result.1 → Spells (concat text) result.0 }

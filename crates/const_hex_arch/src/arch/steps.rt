@@ -165,6 +165,7 @@ fn check_step<const N: usize, V: Vectors<N>>(text: &[u8]) -> bool
 
 /// The same of the text of two steps, by one test.
 #[inline(always)]
+#[tactic(auto, using(crate::proofs::LaneMarks::through))]
 fn check_two_steps<const N: usize, V: Vectors<N>>(text: &[u8]) -> bool
     requires { length text.now ≡ 2 * N }
     ensures { IsTrue result ↔ AllDigits text.now }
@@ -184,6 +185,7 @@ fn check_four_steps<const N: usize, V: Vectors<N>>(text: &[u8]) -> bool
 
 /// Marks of the text of two steps: there are none exactly if each byte is a digit.
 #[inline(always)]
+#[tactic(auto, using(crate::proofs::LaneBytes::in_two))]
 fn two_marks<const N: usize, V: Vectors<N>>(text: &[u8]) -> Simd<u8, N>
     requires { length text.now ≡ 2 * N }
     ensures { AllUnmarked result ↔ AllDigits text.now }
@@ -194,6 +196,7 @@ fn two_marks<const N: usize, V: Vectors<N>>(text: &[u8]) -> Simd<u8, N>
 /// Fills the output with the bytes that the text of a step spells, or leaves it as it is if some
 /// byte is no digit, and tells which.
 #[inline(always)]
+#[tactic(auto, using(std::proofs::lemmas::Simd::put_chunk_whole))]
 fn decode_step<const N: usize, V: Vectors<N>>(text: &[u8], output: &mut [u8]) -> bool
     requires text { length text.now ≡ 2 * N }
     requires output { length output.old ≡ N }
@@ -210,6 +213,7 @@ fn decode_step<const N: usize, V: Vectors<N>>(text: &[u8], output: &mut [u8]) ->
 
 /// The same of the text of two steps, by one test.
 #[inline(always)]
+#[tactic(auto, using(crate::proofs::Spelling::spelled, crate::proofs::Stepping::parts, std::proofs::lemmas::Simd::put_chunk_whole))]
 fn decode_two_steps<const N: usize, V: Vectors<N>>(text: &[u8], output: &mut [u8]) -> bool
     requires text { length text.now ≡ 4 * N }
     requires output { length output.old ≡ 2 * N }
@@ -232,6 +236,7 @@ fn decode_two_steps<const N: usize, V: Vectors<N>>(text: &[u8], output: &mut [u8
 /// The bytes that the text of a step spells.
 // The values are found again here: the compiler takes those that the test has found.
 #[inline(always)]
+#[tactic(auto, using(crate::proofs::LaneBytes::in_two))]
 fn decoded<const N: usize, V: Vectors<N>>(text: &[u8]) -> Simd<u8, N>
     requires text { length text.now ≡ 2 * N }
     requires digits { AllDigits text.now }
@@ -242,6 +247,7 @@ fn decoded<const N: usize, V: Vectors<N>>(text: &[u8]) -> Simd<u8, N>
 
 /// Fills the output with the bytes that the digits of a step spell.
 #[inline(always)]
+#[tactic(auto, using(crate::proofs::LaneBytes::in_two, std::proofs::lemmas::Simd::put_chunk_whole))]
 fn decode_digits_step<const N: usize, V: Vectors<N>>(text: &[u8], output: &mut [u8])
     requires text { length text.now ≡ 2 * N }
     requires output { length output.old ≡ N }

@@ -1,5 +1,0 @@
-use Rattle.const_hex_arch.proofs.LaneMarks.{unmarked_are_digits}
-use Rattle.const_hex_arch.proofs.arch.lanes.digit_marks.Goals as goal
-
-pub returns : goal.returns
-returns g c = unmarked_are_digits _ _ c.marks.ensures
