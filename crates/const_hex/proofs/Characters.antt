@@ -22,10 +22,9 @@ unfolding hex_text
 left-more up low t u b x y h e ex ey = rw (h, e, ex, ey) refl
 
 -- how many are left
-pub length-left : (up : Bool) (low : Option ℕ) (u : List ℕ) (begun : Bool) (n : ℕ) → begun ≡ is_some low → n ≡ bool_byte begun
-    → 2 * length u + n ≡ length (with_low low (hex_text up u))
-length-left up None u begun n e f = let two = length-hex_text up u in let none : n ≡ 0 = rw (f, e) refl in omega (arith, two, none)
-length-left up (Some c) u begun n e f = let two = length-hex_text up u in let one : n ≡ 1 = rw (f, e) refl in omega (arith, two, one)
+pub length-left : (up : Bool) (low : Option ℕ) (u : List ℕ) → length (with_low low (hex_text up u)) ≡ 2 * length u + bool_byte (is_some low)
+length-left up None u = let two = length-hex_text up u in omega (arith, two)
+length-left up (Some c) u = let two = length-hex_text up u in omega (arith, two)
 
 -- an item that was the first of what was left
 pub goes : {S A : Type 0} (can : S → Type 0) (rest : S → List A) (s t : S) (x : A) → can t → rest s ≡ x ∷ rest t
@@ -35,3 +34,5 @@ goes can rest s t x ok e = record {
   keeps = ok;
   rests = λ _. tt;
 }
+
+pub ruleset lefts = (left-none, left-more, length-left)

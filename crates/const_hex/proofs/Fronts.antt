@@ -8,7 +8,7 @@ use Rattle.const_hex.specs.declared.error.FromHexError.{FromHexError}
 use Rattle.const_hex.specs.declared.error.FromHexError.TheVariants.{OddLength, InvalidStringLength, InvalidHexCharacter, NoMemory}
 
 -- what is left of a front with room for just the bytes of the text is left of the whole
-Partial-front : (old u new : List ℕ) (n : ℕ) → n ≤ length old → length u ≡ 2 * n → Partial (take n old) u new → Partial old u (new ++ drop n old)
+pub Partial-front : (old u new : List ℕ) (n : ℕ) → n ≤ length old → length u ≡ 2 * n → Partial (take n old) u new → Partial old u (new ++ drop n old)
 Partial-front old u new n within sized p =
     let other = drop n old in
     let whole = take-append-drop n old in
@@ -41,3 +41,5 @@ Leaves-front t old new n OddLength named within sized p = absurd named
 Leaves-front t old new n InvalidStringLength named within sized p = absurd named
 Leaves-front t old new n (InvalidHexCharacter c i) named within sized p = Partial-front old (body_of t) new n within sized p
 Leaves-front t old new n NoMemory named within sized p = absurd named
+
+pub ruleset fronts = (Partial-front)

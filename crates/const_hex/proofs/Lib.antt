@@ -1,4 +1,3 @@
-pub mod Appending
 pub mod Characters
 pub mod Fronts
 pub mod Lowering

@@ -33,20 +33,10 @@ hex_text-same : (xs ys : List ℕ) → AreBytes xs → AreBytes ys → hex_text 
 hex_text-same xs ys hx hy e = Spells-same (hex_text false ys) xs ys (rw (sym e) (Spells-hex_text false xs hx)) (Spells-hex_text false ys hy)
 
 -- two texts spell the same bytes exactly where they agree in lower letters
-Spells-agree : (u v xs ys : List ℕ) → Spells u xs → Spells v ys → (xs ≡ ys) ↔ (lowered u ≡ lowered v)
+pub Spells-agree : (u v xs ys : List ℕ) → Spells u xs → Spells v ys → (xs ≡ ys) ↔ (lowered u ≡ lowered v)
 Spells-agree u v xs ys s t =
     let a = hex_text-lowered u xs s in
     let b = hex_text-lowered v ys t in
     (λ e. sym a ∙ ap (hex_text false) e ∙ b, λ e. hex_text-same xs ys (Spells-bytes u xs s) (Spells-bytes v ys t) (a ∙ e ∙ sym b))
 
-pub canonical : {V : Type 0} (items : V → List ℕ) (t : List ℕ) (r : Result V FromHexError)
-    → IfOk r (λ v. Reads t (Ok (items v))) → IfOk r (λ v. hex_text false (items v) ≡ lowered (body_of t))
-canonical items t (Ok v) h = hex_text-lowered (body_of t) (items v) h.1
-canonical items t (Err e) h = tt
-
-pub agree : {V : Type 0} (items : V → List ℕ) (t : List ℕ) (r : Result V FromHexError)
-    → IfOk r (λ v. Reads t (Ok (items v)))
-    → (u bs : List ℕ) → Reads u (Ok bs)
-    → IfOk r (λ v. (bs ≡ items v) ↔ (lowered (body_of u) ≡ lowered (body_of t)))
-agree items t (Ok v) h u bs k = Spells-agree (body_of u) (body_of t) bs (items v) k.1 h.1
-agree items t (Err e) h u bs k = tt
+pub ruleset read_back = (hex_text-lowered, Spells-agree)

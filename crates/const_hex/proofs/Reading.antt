@@ -137,13 +137,15 @@ is_text-parts : (n : ℕ) (t : List ℕ) → IsTrue (is_text_of n t) → (length
 is_text-parts n t e = let p = and_parts _ _ e in (count_same _ _ p.0, AllPass-from_list_all _ (body_of t) p.1)
 
 -- reading as n bytes is Ok exactly where the test says so
-pub ReadsSized-accepts : (n : ℕ) (t : List ℕ) (r : Result (List ℕ) FromHexError) → ReadsSized t n r → IsOk r ↔ IsTrue (is_text_of n t)
-ReadsSized-accepts n t (Ok bs) h =
+pub sized_accepts : (n : ℕ) (t : List ℕ) (r : Result (List ℕ) FromHexError) → ReadsSized t n r → IsOk r ↔ IsTrue (is_text_of n t)
+sized_accepts n t (Ok bs) h =
     (λ _. and_from _ _ (same_count _ _ h.0) (list_all-from_AllPass _ (body_of t) (Spells-digits (body_of t) bs h.1.1)), λ _. refl)
-ReadsSized-accepts n t (Err OddLength) h =
+sized_accepts n t (Err OddLength) h =
     (λ gone. absurd (cc gone), λ e. absurd (twice_not_odd _ n (is_text-parts n t e).0 (body-odd t h)))
-ReadsSized-accepts n t (Err InvalidStringLength) h =
+sized_accepts n t (Err InvalidStringLength) h =
     (λ gone. absurd (cc gone), λ e. absurd (h.1 (is_text-parts n t e).0))
-ReadsSized-accepts n t (Err (InvalidHexCharacter c i)) h =
+sized_accepts n t (Err (InvalidHexCharacter c i)) h =
     (λ gone. absurd (cc gone), λ e. absurd (digits_no_bad (body_of t) h.1.1.0 (is_text-parts n t e).1 h.1.1.1))
-ReadsSized-accepts n t (Err NoMemory) h = absurd h
+sized_accepts n t (Err NoMemory) h = absurd h
+
+pub ruleset checked = (Reads-digits, Spells-no_bad)

@@ -1,6 +1,6 @@
 -- Writes to a vector that has room for all of them.
 use Rattle.std.proofs.Common.{◌≡◌, ℕ, ◌+◌, ◌<◌, ◌≤◌, List, [], ◌∷◌, ◌++◌, length, take, get_or, refl, sym, ap, ◌∙◌, arith, length-take}
-use Rattle.std.proofs.lemmas.List.{append-nil, append_assoc, take_more}
+use Rattle.std.proofs.lemmas.List.{append-nil, append_assoc, take_all, take_more}
 use Rattle.std.specs.Prelude.{vec_len, vec_capacity}
 use Rattle.std.specs.List.{FoldsTo, concat}
 use Rattle.const_hex_arch.specs.Runs.{Writes}
@@ -24,6 +24,8 @@ one_reserved s t u piece i h lt room count text = record {
   count = omega (arith, count, h.count, length-take i piece, length-take (i + 1) piece);
   text = text ∙ rw (h.text, take_more piece i 0 lt) (append_assoc s.bytes.items (take i piece) (get_or piece i 0 ∷ []));
 }
+
+pub ruleset pieces = (none_reserved, room_for_one, one_reserved, take_all)
 
 -- ---- whole pieces
 

@@ -25,6 +25,7 @@ impl Output for ReservedOutput {
 
     // The length of a kernel's piece is known where this is compiled, so the machine stores it whole.
     #[inline(always)]
+    #[tactic(auto, using(crate::proofs::Reserving::pieces))]
     fn write(&mut self, bytes: &[u8]) {
         for byte in bytes {
             self.bytes.push_reserved(*byte);
@@ -39,6 +40,7 @@ impl Output for ReservedOutput {
 /// The bytes of the text, behind `0x` where a prefix is wanted. Memory is asked for once, of the
 /// text's length.
 #[inline(always)]
+#[tactic(auto, using(const_hex_arch::proofs::Writing::full_text_size))]
 pub(crate) fn reserved_bytes<K: Kernel>(
     alloc: Global,
     input: &[u8],

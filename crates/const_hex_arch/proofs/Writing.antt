@@ -52,9 +52,6 @@ IsAscii-hex_text up (b ∷ bs) h =
     IsAscii-cons (hex_digit up (b / 16)) (hex_digit up (b % 16) ∷ hex_text up bs) (hex_digit-ascii up (b / 16) (omega arith))
     (IsAscii-cons (hex_digit up (b % 16)) (hex_text up bs) (hex_digit-ascii up (b % 16) (omega arith)) (IsAscii-hex_text up bs (λ k. h (suc k))))
 
--- ASCII is UTF-8
-pub ruleset utf8 = (IsUtf8-from_ascii)
-
 pub IsAscii-full_text : (prefix up : Bool) (bs : List ℕ) → ((k : ℕ) → slice_index bs k < 256) → IsAscii (full_text prefix up bs)
 IsAscii-full_text true up bs h =
     IsAscii-cons 48 (120 ∷ hex_text up bs) (omega arith) (IsAscii-cons 120 (hex_text up bs) (omega arith) (IsAscii-hex_text up bs h))
@@ -81,3 +78,7 @@ Spells-hex_text up (b ∷ bs) h =
       },
       Spells-hex_text up bs (λ k. h (suc k)),
     )
+
+-- ---- what a search of proofs is given
+
+pub ruleset texts = (IsUtf8-from_ascii, IsAscii-full_text, hex_text-append)

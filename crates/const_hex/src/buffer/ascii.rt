@@ -36,6 +36,7 @@ impl<const LEN: usize> AsciiArray<LEN> {
     /// Fills the array with the text of the input, behind `0x` where a prefix is wanted. The array
     /// has to have the length of that text.
     #[inline]
+    #[tactic(auto, using(const_hex_arch::proofs::Writing::full_text_size))]
     pub(crate) fn fill(&mut self, input: &[u8], prefix: bool, upper: bool)
         requires { LEN ≡ text_length prefix (length input.now) }
         ensures { self.new.bytes ≡ full_text prefix upper input.now }
@@ -53,6 +54,7 @@ impl<const LEN: usize> AsciiArray<LEN> {
 
     /// The text, with no copy and no test.
     #[inline]
+    #[tactic(auto, using(const_hex_arch::proofs::Writing::texts))]
     pub(crate) fn as_str(&self) -> &str
         ensures { result.now ≡ self.now.bytes }
     {

@@ -32,6 +32,7 @@ pub fn check(input: &[u8]) -> Result<(), FromHexError>
 /// assert_eq!(rt; const_hex::check_with::<Plain>(b"0X6B"), Ok(()));
 /// ```
 #[inline]
+#[tactic(auto, using(crate::proofs::Reading::checked))]
 pub fn check_with<K: Kernel>(input: &[u8]) -> Result<(), FromHexError>
     ensures answer { Checks input.now result }
     ensures accepts { IsOk result ↔ ((bs : List ℕ) × Reads input.now (Ok bs)) }

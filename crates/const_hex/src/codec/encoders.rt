@@ -15,6 +15,7 @@ use std::alloc::{AllocError, Global};
 
 /// The text, owned.
 #[inline(always)]
+#[tactic(auto, using(const_hex_arch::proofs::Writing::texts))]
 fn owned<K: Kernel>(
     alloc: Global,
     input: &[u8],
@@ -96,6 +97,7 @@ pub fn encode_upper_prefixed(alloc: Global, input: &[u8]) -> Result<String, Allo
 /// assert_eq!(rt; text.as_str(), "6B697769");
 /// ```
 #[inline]
+#[tactic(auto, using(const_hex_arch::proofs::Writing::texts))]
 pub fn encode_with<K: Kernel, const UPPER: bool>(
     alloc: Global,
     input: &[u8],
@@ -212,6 +214,7 @@ pub fn encode_full_to_slice(
 
 /// ASCII bytes, as text, with no copy and no test.
 #[inline(always)]
+#[tactic(auto, using(const_hex_arch::proofs::Writing::texts))]
 fn lent_text(bytes: &[u8]) -> &str
     requires { IsAscii bytes.now }
     ensures { result.now ≡ bytes.now }

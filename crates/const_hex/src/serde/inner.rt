@@ -47,6 +47,7 @@ pub fn serialize_inner<const UPPER: bool, const PREFIX: bool, S: Sink>(
 
 /// The text, at the start of a buffer that has room for it and a prefix.
 #[inline(always)]
+#[tactic(auto, using(const_hex_arch::proofs::Writing::texts))]
 fn text_in<'a>(buffer: &'a mut [u8], bytes: &[u8], prefix: bool, upper: bool) -> &'a str
     requires { 2 + 2 * length bytes.now ≤ length buffer.old }
     ensures { result.now ≡ full_text prefix upper bytes.now }

@@ -75,7 +75,7 @@ impl<S: Sink> Output for SinkOutput<'_, S> {
     }
 
     #[inline]
-    #[tactic(auto, using(crate::proofs::Writing::utf8))]
+    #[tactic(auto, using(crate::proofs::Writing::texts))]
     fn write(&mut self, bytes: &[u8]) {
         if self.sink.refused() {
             return;
