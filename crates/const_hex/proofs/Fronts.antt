@@ -2,14 +2,10 @@
 use Rattle.std.proofs.Common.{◌≡◌, ◌≤◌, ◌*◌, ℕ, List, ◌++◌, length, take, drop, sym, ap, ◌∙◌, arith}
 use Rattle.std.proofs.lemmas.List.{take-append-drop, take-append-le, drop-append-le, length-append, length-take-le}
 use Rattle.const_hex_arch.specs.Texts.{Partial}
-use Rattle.const_hex.specs.Bodies.{body_of, NamesFirstBad}
-use Rattle.const_hex.specs.Answers.{Leaves}
-use Rattle.const_hex.specs.declared.error.FromHexError.{FromHexError}
-use Rattle.const_hex.specs.declared.error.FromHexError.TheVariants.{OddLength, InvalidStringLength, InvalidHexCharacter, NoMemory}
 
 -- what is left of a front with room for just the bytes of the text is left of the whole
-pub Partial-front : (old u new : List ℕ) (n : ℕ) → n ≤ length old → length u ≡ 2 * n → Partial (take n old) u new → Partial old u (new ++ drop n old)
-Partial-front old u new n within sized p =
+pub partial_front : (old u new : List ℕ) (n : ℕ) → n ≤ length old → length u ≡ 2 * n → Partial (take n old) u new → Partial old u (new ++ drop n old)
+partial_front old u new n within sized p =
     let other = drop n old in
     let whole = take-append-drop n old in
     let count = length-take-le n old within in
@@ -33,13 +29,3 @@ Partial-front old u new n within sized p =
           ∙ sym (drop-append-le p.done (take n old) other in_old)
           ∙ ap (drop p.done) whole;
     }
-
--- what a refusal that names the first bad byte leaves of an output
-pub Leaves-front : (t old new : List ℕ) (n : ℕ) (e : FromHexError) → NamesFirstBad t e → n ≤ length old → length (body_of t) ≡ 2 * n
-    → Partial (take n old) (body_of t) new → Leaves t old (new ++ drop n old) e
-Leaves-front t old new n OddLength named within sized p = absurd named
-Leaves-front t old new n InvalidStringLength named within sized p = absurd named
-Leaves-front t old new n (InvalidHexCharacter c i) named within sized p = Partial-front old (body_of t) new n within sized p
-Leaves-front t old new n NoMemory named within sized p = absurd named
-
-pub ruleset fronts = (Partial-front)

@@ -12,16 +12,9 @@ use Rattle.const_hex.specs.declared.error.FromHexError.TheVariants.{OddLength, I
 
 -- ---- reading leaves an answer
 
--- the length of the body is even where that of the text is
-pub body-even : (t : List ℕ) → IsEven (length t) → IsEven (length (body_of t))
-body-even [] h = h
-body-even (c ∷ []) h = h
-body-even (c ∷ d ∷ u) h =
-    let P : List ℕ → Type 0 = λ v. IsEven (length v) in
-    elim ((c == 48) && (d == 120 || d == 88)) as (λ b. P (if b then u else c ∷ d ∷ u)) [
-      | true ↦ omega arith
-      | false ↦ h
-    ]
+-- a prefix has two bytes
+pub body-parity : (t : List ℕ) → length (body_of t) % 2 ≡ length t % 2
+body-parity t = grind arith
 
 -- every text has an answer
 pub Reads-some : (t : List ℕ) → (r : Result (List ℕ) FromHexError) × Reads t r
@@ -31,7 +24,7 @@ Reads-some t =
       | inr not_odd ↦
           let even : IsEven (length t) = omega arith in
           elim (digits_or_bad (body_of t)) [
-            | inl a ↦ let s = Spells-some (body_of t) (body-even t even) a in (Ok s.0, (even, s.1))
+            | inl a ↦ let s = Spells-some (body_of t) (body-parity t ∙ even) a in (Ok s.0, (even, s.1))
             | inr b ↦
                 (Err (InvalidHexCharacter (slice_index (body_of t) b.0) (b.0 + (length t - length (body_of t)))), (even, (b.0, b.1, refl, refl)))
           ]

@@ -150,7 +150,7 @@ pub fn decode_to_slice_with<K: Kernel>(input: &[u8], output: &mut [u8]) -> Resul
 /// assert_eq!(rt; &bytes, b"kiwi..");
 /// ```
 #[inline]
-#[tactic(auto, using(crate::proofs::Fronts::fronts))]
+#[tactic(auto, using(crate::proofs::Fronts::partial_front))]
 pub fn decode_to_front(input: &[u8], output: &mut [u8]) -> Result<usize, FromHexError>
     ensures ok { IfOk result (λ n. ReadsWithin input.now (length output.old) (Ok (take n output.new))) }
     ensures count { IfOk result (λ n. length (body_of input.now) ≡ 2 * n) }
