@@ -62,6 +62,14 @@ digits_append xs ys = (
   λ h. All-append IsDigit xs ys h.0 h.1,
 )
 
+-- one byte more of a text, which the look-up takes for a digit
+pub digits_more : (u : List ℕ) (i : ℕ) → AllDigits (take i u) → i < length u → value_or_nil (hex_value (get_or u i 0)) ≢ 255 → AllDigits (take (i + 1) u)
+digits_more u i a h n = All-more IsDigit u i 0 h a (IsDigit-from_value (get_or u i 0) _ (value_found (get_or u i 0) _ refl n))
+
+-- the look-up takes each byte of digits for one
+pub digit_values : (u : List ℕ) (i : ℕ) → AllDigits u → i < length u → value_or_nil (hex_value (get_or u i 0)) ≢ 255
+digit_values u i a h = let d = All-get_or IsDigit u i 0 h a in grind (arith, nat_tests)
+
 -- ---- what is spelled
 
 -- two digits that spell a byte
@@ -83,7 +91,6 @@ Spells-append (x ∷ []) bs v cs s t = absurd s
 Spells-append (x ∷ y ∷ u) [] v cs s t = absurd s
 Spells-append (x ∷ y ∷ u) (b ∷ bs) v cs s t = (s.0, Spells-append u bs v cs s.1 t)
 
-pub ruleset spelled = (Spells-append)
 
 -- a text that spells bytes has two digits for each
 pub Spells-length : (u bs : List ℕ) → Spells u bs → length u ≡ 2 * length bs
@@ -132,6 +139,8 @@ Spells-same (x ∷ y ∷ u) (a ∷ xs) [] s t = absurd t
 Spells-same (x ∷ y ∷ u) (a ∷ xs) (b ∷ ys) s t =
     let e = IsPair-same x y a b s.0 t.0 in
     let r = Spells-same u xs ys s.1 t.1 in cc (e, r)
+
+pub ruleset spelled = (Spells-append, Spells-same)
 
 -- ---- the first bad byte
 
@@ -210,19 +219,16 @@ take-pair u m n e h =
     let q : n ≡ m + 1 + 1 = omega arith in
     rw (q, take_more u (m + 1) 0 h, take_more u m 0 (omega arith)) (append_assoc (take m u) (get_or u m 0 ∷ []) (get_or u (m + 1) 0 ∷ []))
 
-drop-later : (new old : List ℕ) (i v : ℕ) → drop i new ≡ drop i old → drop (i + 1) (set new i v) ≡ drop (i + 1) old
-drop-later new old i v d = grind (arith, common_steps)
-
--- one pair more is decoded, and the rest of the output is as before
-pub decoded_pair : (u new old : List ℕ) (i high low : ℕ) → Spells (take (2 * i) u) (take i new) → drop i new ≡ drop i old → 2 * i + 1 < length u
-    → i < length new
-    → hex_value (get_or u (2 * i) 0) ≡ Some high → hex_value (get_or u (2 * i + 1) 0) ≡ Some low
-    → Spells (take (2 * (i + 1)) u) (take (i + 1) (set new i (high * 16 + low))) × (drop (i + 1) (set new i (high * 16 + low)) ≡ drop (i + 1) old)
-decoded_pair u new old i high low s d h k e f =
-    let pair : take (2 * (i + 1)) u ≡ take (2 * i) u ++ get_or u (2 * i) 0 ∷ get_or u (2 * i + 1) 0 ∷ [] = take-pair u (2 * i) (2 * (i + 1)) (omega arith) h in
+-- one pair more is decoded
+pub pair_more : (u new : List ℕ) (i high low : ℕ) → Spells (take (2 * i) u) (take i new) → 2 * i + 1 < length u → i < length new
+    → high ≡ value_or_nil (hex_value (get_or u (2 * i) 0)) → low ≡ value_or_nil (hex_value (get_or u (2 * i + 1) 0)) → high ≢ 255 → low ≢ 255
+    → Spells (take (2 * (i + 1)) u) (take (i + 1) (set new i (high * 16 + low)))
+pair_more u new i high low s h k e f p q =
+    let pair = take-pair u (2 * i) (2 * (i + 1)) (omega arith) h in
     let front : take (i + 1) (set new i (high * 16 + low)) ≡ take i new ++ (high * 16 + low) ∷ [] = grind (arith, common_steps) in
-    let byte : high * 16 + low ≡ 16 * high + low = omega arith in
-    (rw (pair, front) (Spells-append _ _ _ _ s (IsPair-of _ _ high low _ e f byte, tt)), drop-later new old i (high * 16 + low) d)
+    let first = value_found (get_or u (2 * i) 0) high e p in
+    let second = value_found (get_or u (2 * i + 1) 0) low f q in
+    rw (pair, front) (Spells-append _ _ _ _ s (IsPair-of _ _ high low _ first second (omega arith), tt))
 
 -- ---- what is left of an output
 

@@ -118,6 +118,7 @@ pub(crate) fn decode_checked<const N: usize, V: Vectors<N>, R: Kernel>(
 
 /// Decodes by steps, and the rest by another kernel. A step that is refused ends it.
 #[inline(always)]
+#[tactic(auto, using(crate::proofs::Stepping::spells_rest, crate::proofs::Stepping::partial_rest))]
 fn decode_steps<const N: usize, V: Vectors<N>, R: Kernel>(input: &[u8], output: &mut [u8]) -> bool
     requires { length input.now ≡ 2 * length output.old }
     ensures spells { IsTrue result → Spells input.now output.new }
@@ -136,6 +137,7 @@ fn decode_steps<const N: usize, V: Vectors<N>, R: Kernel>(input: &[u8], output: 
 
 /// Decodes digits by steps, and the rest by another kernel.
 #[inline(always)]
+#[tactic(auto, using(crate::proofs::Stepping::spells_rest))]
 pub(crate) fn decode_unchecked<const N: usize, V: Vectors<N>, R: Kernel>(
     input: &[u8],
     output: &mut [u8],

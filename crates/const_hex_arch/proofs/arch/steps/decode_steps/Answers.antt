@@ -1,6 +1,6 @@
 use Rattle.std.proofs.Common.{refl, arith}
 use Rattle.const_hex_arch.proofs.Spelling.{false_is_true}
-use Rattle.const_hex_arch.proofs.Stepping.{decoded_step, refused_step, spells_rest, partial_rest}
+use Rattle.const_hex_arch.proofs.Stepping.{decoded_step, refused_step}
 use Rattle.const_hex_arch.proofs.arch.steps.decode_steps.Goals as goal
 
 pub returns-then-not-decode_step-clause-refused : goal.returns-then-not-decode_step-clause-refused
@@ -11,9 +11,3 @@ returns-then-not-decode_step-clause-refused g c = λ _.
 pub loop-output-preserved : goal.loop-output-preserved
 loop-output-preserved g c =
     decoded_step _ _ _ c.loop-output.invariant (omega arith) (omega arith) (omega arith) (omega arith) (c.if-not-decode_step.ensures.spells refl)
-
-pub returns : goal.returns
-returns g c = record {
-  spells = λ t. spells_rest _ c.loop-output.invariant c.requires (omega arith) (c.decode_checked.ensures.spells t);
-  refused = λ t. partial_rest _ c.loop-output.invariant c.requires (omega arith) (c.decode_checked.ensures.refused t);
-}

@@ -1,5 +1,4 @@
 use Rattle.std.proofs.Common.{rules}
-use Rattle.std.proofs.lemmas.Str.{IsUtf8-from_ascii}
 use Rattle.const_hex_arch.proofs.Gathering.{nil_from_length}
 use Rattle.const_hex_arch.proofs.Streaming.{Streams-one, Streams-none, Handed-of}
 use Rattle.const_hex_arch.proofs.stream.BufferedHex.write_whole.Goals as goal
@@ -8,9 +7,6 @@ pub returns-then-is_empty : goal.returns-then-is_empty
 returns-then-is_empty g c =
     Handed-of g.S.Sink.step g.S.Sink.is_refused g.S.Sink.told g.met.S.Sink.tells _ _ _ _ (Streams-none _ _ _ _ (nil_from_length _ (search rules)))
     (search rules)
-
-pub from_utf8_unchecked-requires : goal.from_utf8_unchecked-requires
-from_utf8_unchecked-requires g c = IsUtf8-from_ascii _ c.fill_text.ensures.ascii
 
 pub returns : goal.returns
 returns g c =
