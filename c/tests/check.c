@@ -27,6 +27,7 @@ static size_t alignment_step = 1;
 static void worked_rows(void) {
     char text[64];
     unsigned char bytes[32];
+    size_t count = 0;
     struct const_hex_refusal refusal = {9, 9, 9};
     holds(build->encode("kiwi", 4, true, false, text, 10) && memcmp(text, "0x6b697769", 10) == 0,
           "kiwi", 10, 0);
@@ -37,6 +38,10 @@ static void worked_rows(void) {
           "Hello world!", 24, 0);
     holds(build->decode("0X6B697769", 10, bytes, 4, &refusal) && memcmp(bytes, "kiwi", 4) == 0,
           "decoded kiwi", 10, 0);
+    holds(build->decode_front("6b697769", 8, bytes, 32, &count, &refusal) && count == 4 &&
+              memcmp(bytes, "kiwi", 4) == 0,
+          "kiwi in front", 8, 0);
+    holds(build->check("6B", 2, &refusal), "6B", 2, 0);
     holds(refusal.kind == 9 && refusal.byte == 9 && refusal.index == 9, "kept refusal", 0, 0);
     holds(!build->check("0xzz", 4, &refusal) && refusal.kind == 3 && refusal.byte == 'z' &&
               refusal.index == 2,

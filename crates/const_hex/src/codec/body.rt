@@ -23,6 +23,7 @@ pub(crate) fn strip_prefix(text: &[u8]) -> &[u8]
 /// The refusal that names the first byte behind the prefix that is no digit, and its place in the
 /// whole text. There has to be such a byte.
 #[cold]
+#[tactic(auto, using(const_hex_arch::proofs::Spelling::digits_more))]
 pub(crate) fn bad_character(text: &[u8]) -> FromHexError
     requires { AllDigits (body_of text.now) → ⊥ }
     ensures { NamesFirstBad text.now result }

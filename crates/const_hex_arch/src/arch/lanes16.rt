@@ -124,7 +124,7 @@ impl Vectors<16> for Lanes16 {
     fn merge(first: u8x16, second: u8x16) -> u8x16
         ensures { AllNibbles (first ++ second) → result ≡ byte_pairs (first ++ second) }
     {
-        bytes_of(join(first, second))
+        packed(join(first, second))
     }
 
     ghost use Rattle.std.proofs.Common.{arith};
@@ -189,7 +189,7 @@ pub(crate) fn join(first: u8x16, second: u8x16) -> u8x32
 /// One byte of each two lanes, which have to be values.
 // Two lanes are one of 16 bits, high + 256 * low. Times 4097 its upper byte is 16 * high + low.
 #[inline(always)]
-fn bytes_of(nibbles: u8x32) -> u8x16
+fn packed(nibbles: u8x32) -> u8x16
     ensures { AllNibbles nibbles → result ≡ byte_pairs nibbles }
 {
     let pairs = u16x16::from_le_bytes(nibbles);

@@ -122,7 +122,7 @@ impl Vectors<32> for Lanes32 {
     fn merge(first: u8x32, second: u8x32) -> u8x32
         ensures { AllNibbles (first ++ second) → result ≡ byte_pairs (first ++ second) }
     {
-        bytes_of(join(first, second))
+        packed(join(first, second))
     }
 
     ghost use Rattle.std.proofs.Common.{arith};
@@ -184,7 +184,7 @@ fn join(first: u8x32, second: u8x32) -> u8x64
 /// One byte of each two lanes, which have to be values.
 // Two lanes are one of 16 bits, high + 256 * low. Times 4097 its upper byte is 16 * high + low.
 #[inline(always)]
-fn bytes_of(nibbles: u8x64) -> u8x32
+fn packed(nibbles: u8x64) -> u8x32
     ensures { AllNibbles nibbles → result ≡ byte_pairs nibbles }
 {
     let pairs = u16x32::from_le_bytes(nibbles);

@@ -1,9 +1,7 @@
 use Rattle.std.proofs.Common.{get_or, sym, arith}
 use Rattle.std.proofs.lemmas.List.{take_all}
-use Rattle.std.proofs.lemmas.List.Elements.{All-more}
-use Rattle.const_hex_arch.specs.Digits.{IsDigit}
 use Rattle.const_hex_arch.specs.Texts.{FirstBad}
-use Rattle.const_hex_arch.proofs.Spelling.{IsDigit-from_value, value_found, value_not_found}
+use Rattle.const_hex_arch.proofs.Spelling.{value_not_found}
 use Rattle.const_hex.proofs.codec.body.bad_character.Goals as goal
 
 pub returns-then-value_at : goal.returns-then-value_at
@@ -13,13 +11,6 @@ returns-then-value_at c =
     let here = value_not_found (get_or u p 0) c.value_at.result c.value_at.ensures c.if-value_at.true in
     let bad : FirstBad u p = record { within = omega arith; before = c.digits.invariant; here = here } in
     rw (sym c.strip_prefix-body.ensures.body) (p, bad, c.from.ensures, omega arith)
-
-pub digits-preserved : goal.digits-preserved
-digits-preserved c =
-    let u = c.strip_prefix-body.result.now in
-    let p = c.digits.place in
-    let value = value_found (get_or u p 0) c.value_at.result c.value_at.ensures c.if-value_at.false in
-    All-more IsDigit u p 0 (omega arith) c.digits.invariant (IsDigit-from_value (get_or u p 0) _ value)
 
 pub unreachable-requires : goal.unreachable-requires
 unreachable-requires c =

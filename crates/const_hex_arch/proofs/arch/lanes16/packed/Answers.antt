@@ -1,5 +1,5 @@
 use Rattle.const_hex_arch.proofs.LaneBytes.{merge_all}
-use Rattle.const_hex_arch.proofs.arch.lanes16.bytes_of.Goals as goal
+use Rattle.const_hex_arch.proofs.arch.lanes16.packed.Goals as goal
 
 pub returns : goal.returns
 returns c = merge_all 16 c.args.nibbles c.fits-nibbles.0
