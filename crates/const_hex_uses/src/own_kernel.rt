@@ -51,6 +51,7 @@ impl Kernel for Backward {
         true
     }
 
+    #[tactic(auto, using(const_hex_arch::proofs::Spelling::none_decoded))]
     fn decode_checked(input: &[u8], output: &mut [u8]) -> bool {
         if !Backward::check(input) {
             return false;
