@@ -1,6 +1,6 @@
 -- Texts that a writer is handed in pieces.
 use Rattle.std.proofs.Common.{◌≡◌, ℕ, suc, zero, ◌+◌, ◌-◌, ◌≤◌, Bool, true, false, List, [], ◌∷◌, ◌++◌, length, take, drop, Option, refl, sym, ap, subst, ◌∙◌, append_assoc, arith}
-use Rattle.std.proofs.KnownBytes.{Appends-nil, Appends-trans}
+use Rattle.std.proofs.KnownBytes.{Appends-kept, Appends-nil, Appends-trans}
 use Rattle.std.proofs.Math.Seq.{take-add, take-nil}
 use Rattle.std.proofs.lemmas.List.{append-nil, take_at, take_all, take-append-drop, length-drop, length-take}
 use Rattle.std.proofs.lemmas.List.Elements.{All-head}
@@ -25,6 +25,8 @@ pub write_step : (a b c : Option (List ℕ)) (bytes : List ℕ) (done n : ℕ)
 write_step a b c bytes done n p q =
     let all = take_all (length bytes - done) (drop done bytes) (simp length-drop (omega arith)) in
     rw (take-add done n bytes) (Appends-trans a b c (take done bytes) (take n (drop done bytes)) p (rw all at q))
+
+pub ruleset writes = (step_within, write_step, Appends-kept)
 
 -- no text is cut into no pieces
 no_pieces : (ps : List (List ℕ)) → All IsCallPiece ps → concat ps ≡ [] → ps ≡ []

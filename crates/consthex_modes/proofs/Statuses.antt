@@ -7,8 +7,4 @@ use Rattle.consthex_modes.specs.declared.error.RunError.TheVariants.{Text, ReadF
 
 -- an error of status 1 is a refused text
 pub text_of : (e : RunError) → status_of e ≡ 1 → (f : FromHexError) × (e ≡ Text f)
-text_of (Text f) h = (f, refl)
-text_of ReadFailed h = absurd (omega (arith, h))
-text_of WriteFailed h = absurd (omega (arith, h))
-text_of TooLong h = absurd (omega (arith, h))
-text_of NoMemory h = absurd (omega (arith, h))
+text_of e h = grind arith
