@@ -11,10 +11,6 @@ pub concat-piece_of : (held : List ℕ) → concat (piece_of held) ≡ held
 concat-piece_of [] = refl
 concat-piece_of (b ∷ bs) = append-nil (b ∷ bs)
 
-pub nil_from_length : (xs : List ℕ) → length xs ≡ 0 → xs ≡ []
-nil_from_length [] e = refl
-nil_from_length (x ∷ xs) e = absurd (omega arith)
-
 module _ {O : Type 0} (step : O → List ℕ → O → Type 0) (room : O → Option ℕ) where
   -- what is pending goes first, and then a long piece
   pub Gathers-long : (n : ℕ) (old : O) (held piece : List ℕ) (mid new : O) → FoldsTo step old (piece_of held) mid → step mid piece new

@@ -1,7 +1,7 @@
 -- Texts that are worked through by steps, and then by another kernel.
 use Rattle.std.proofs.Common.{◌≡◌, ℕ, ◌+◌, ◌-◌, ◌*◌, ◌≤◌, ◌↔◌, Bool, List, [], ◌++◌, length, take, drop, refl, sym, ap, subst, ◌∙◌, arith, take-add, take-append-drop, drop-drop, length-take, length-drop, length-append, Option}
 use Rattle.std.proofs.lemmas.Grind.{common_steps}
-use Rattle.std.proofs.lemmas.List.{append-nil, append_assoc, take_at, drop_at}
+use Rattle.std.proofs.lemmas.List.{append-nil, append_assoc, take_at, drop_at, take_rest}
 use Rattle.std.proofs.lemmas.List.Elements.{All-nil, All-take}
 use Rattle.std.proofs.lemmas.Slice.{take-put_mid, drop-put_mid}
 use borrow.Rule.Slice.PartMut.{put_mid}
@@ -11,10 +11,6 @@ use Rattle.const_hex_arch.specs.Texts.{hex_text, AllDigits, Spells, Partial}
 use Rattle.const_hex_arch.proofs.Running.{HasRoom-less, Writes-none, Writes-more, Writes-append}
 use Rattle.const_hex_arch.proofs.Spelling.{Spells-append, digits_append, none_decoded, Partial-after}
 use Rattle.const_hex_arch.proofs.Writing.{hex_text-nil, hex_text-append, length-hex_text}
-
--- the rest of a list
-pub all_of : (m : ℕ) (u : List ℕ) → take (length u - m) (drop m u) ≡ drop m u
-all_of m u = grind (arith, common_steps)
 
 -- two parts of a list
 pub parts : (n : ℕ) {u front back : List ℕ} → front ≡ take n u → back ≡ drop n u → front ++ back ≡ u
@@ -141,7 +137,7 @@ module _ {u old new : List ℕ} {i : ℕ} (r : List ℕ) (d : IsDecoded u old ne
       ap (λ x. take i new ++ x) (ap (λ x. r ++ x) over ∙ append-nil r)
 
   pub spells_rest : Spells (take (length u - 2 * i) (drop (2 * i) u)) r → Spells u (put_mid i (length new - i) new r)
-  spells_rest s = rw whole (subst (λ x. Spells x (take i new ++ r)) (take-append-drop (2 * i) u) (Spells-append _ _ _ _ d.front (rw all_of at s)))
+  spells_rest s = rw whole (subst (λ x. Spells x (take i new ++ r)) (take-append-drop (2 * i) u) (Spells-append _ _ _ _ d.front (rw take_rest at s)))
 
   pub partial_rest : Partial (take (length new - i) (drop i new)) (take (length u - 2 * i) (drop (2 * i) u)) r
       → Partial old u (put_mid i (length new - i) new r)
@@ -150,6 +146,6 @@ module _ {u old new : List ℕ} {i : ℕ} (r : List ℕ) (d : IsDecoded u old ne
       let same = d.same_length in
       let front : length (take i new) ≡ i = omega (arith, length-take i new) in
       let length_kept : length (take i new ++ r) ≡ length old = omega (arith, length-append (take i new) r) in
-      let behind : Partial (drop i old) (drop (2 * i) u) r = rw (all_of, all_of, d.rest) at p in
+      let behind : Partial (drop i old) (drop (2 * i) u) r = rw (take_rest, take_rest, d.rest) at p in
       rw whole (Partial-after old u (take i new ++ r) i (2 * i) (omega arith) (omega arith) length_kept (omega arith)
       (rw (take_at (take i new) r i front) d.front) (rw (drop_at (take i new) r i front) behind))

@@ -1,6 +1,7 @@
 use Rattle.std.proofs.Common.{◌+◌, ◌-◌, ◌*◌, length, arith}
+use Rattle.std.proofs.lemmas.List.{take_rest}
 use Rattle.const_hex_arch.proofs.Running.{HasRoom-fewer}
-use Rattle.const_hex_arch.proofs.Stepping.{all_of, none_written, written_step, written_rest}
+use Rattle.const_hex_arch.proofs.Stepping.{none_written, written_step, written_rest}
 use Rattle.const_hex_arch.proofs.arch.steps.encode.Goals as goal
 
 pub loop-at-init : goal.loop-at-init
@@ -21,4 +22,4 @@ loop-at-preserved g c =
     written_step g.met.O.Output.shrinks _ _ first (omega arith) (omega arith) c.encode_step-in-loop-at.ensures (omega arith, omega arith)
 
 pub returns : goal.returns
-returns g c = written_rest g.met.O.Output.shrinks c.loop-at.invariant (all_of c.loop-at.at c.args.input.now) c.encode_last.ensures
+returns g c = written_rest g.met.O.Output.shrinks c.loop-at.invariant (take_rest c.args.input.now c.loop-at.at) c.encode_last.ensures

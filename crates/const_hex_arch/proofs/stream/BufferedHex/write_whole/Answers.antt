@@ -1,5 +1,5 @@
 use Rattle.std.proofs.Common.{rules}
-use Rattle.const_hex_arch.proofs.Gathering.{nil_from_length}
+use Rattle.std.proofs.lemmas.List.{nil_from_length}
 use Rattle.const_hex_arch.proofs.Streaming.{Streams-one, Streams-none, Handed-of}
 use Rattle.const_hex_arch.proofs.stream.BufferedHex.write_whole.Goals as goal
 
