@@ -66,8 +66,10 @@ module _ (table : List ℕ) where
     limit_at : (b : ℕ) → b < 256 → IsLimitOf b (limit b)
     limit_at b h =
         let same = agreed (λ b. eqb (mark_bits (mark_of b)) 0) (λ b. is_some (hex_value b)) t b h in
-        let right = every_below (λ b. is_none (hex_value b) || same_value (hex_value b) (Some (value_of b))) 256 u b h in
-        (λ d. same_if_some (hex_value b) (Some (value_of b)) right d, (λ p. same.0 (eq-eqb (mark_bits (mark_of b)) 0 p), λ d. eqb-true (mark_bits (mark_of b)) 0 (same.1 d)))
+        let right = every_below (λ b. is_none (hex_value b) || same_value (hex_value b) (Some (value_of b))) 256 u b h in (
+          λ d. same_if_some (hex_value b) (Some (value_of b)) right d,
+          (λ p. same.0 (eq-eqb (mark_bits (mark_of b)) 0 p), λ d. eqb-true (mark_bits (mark_of b)) 0 (same.1 d)),
+        )
 
     -- from lane i on
     limits_all : (i : ℕ) (v : List ℕ) → i + length v ≤ 16 → Each1 (Fits w8) v

@@ -91,7 +91,6 @@ Spells-append (x ∷ []) bs v cs s t = absurd s
 Spells-append (x ∷ y ∷ u) [] v cs s t = absurd s
 Spells-append (x ∷ y ∷ u) (b ∷ bs) v cs s t = (s.0, Spells-append u bs v cs s.1 t)
 
-
 -- a text that spells bytes has two digits for each
 pub Spells-length : (u bs : List ℕ) → Spells u bs → length u ≡ 2 * length bs
 Spells-length [] [] s = refl

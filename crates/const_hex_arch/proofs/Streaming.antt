@@ -153,8 +153,8 @@ module _ {S : Type 0} (step : S → List ℕ → S → Type 0) (is_refused : S �
   offered_run s (p ∷ ps) t e (m, h, k) = offered_one s p m ps t e h k (λ u. offered_run m ps t u k) (is_refused (output_sink m)) refl
 
   -- a run of small writes through a gathering output, and then what is pending
-  pub Streams-from_writes : {B : Type 0} (room : SinkOutput S → Option ℕ) (inner : B → SinkOutput S) (pending : B → List ℕ) (s : B) (text : List ℕ) (t : B) (out : SinkOutput S)
-      → pending s ≡ []
+  pub Streams-from_writes : {B : Type 0} (room : SinkOutput S → Option ℕ) (inner : B → SinkOutput S) (pending : B → List ℕ)
+      (s : B) (text : List ℕ) (t : B) (out : SinkOutput S) → pending s ≡ []
       → Writes (λ s p t. Gathers (SinkStep step is_refused) room 4096 (inner s) (pending s) p (inner t) (pending t)) s text t
       → FoldsTo (SinkStep step is_refused) (inner t) (piece_of (pending t)) out
       → is_refused (output_sink (inner s)) ≡ false

@@ -19,8 +19,10 @@ pub loop-left-preserved : goal.loop-left-preserved
 loop-left-preserved c =
     let u = c.args.input.now in
     let i = c.loop-left.left - 1 in
-    let high = digit_found (get_or u (2 * i) 0) c.value_at.result c.value_at.ensures (All-get_or IsDigit u (2 * i) 0 (omega arith) c.requires.digits) in
-    let low = digit_found (get_or u (2 * i + 1) 0) c.value_at-in-loop-left.result c.value_at-in-loop-left.ensures (All-get_or IsDigit u (2 * i + 1) 0 (omega arith) c.requires.digits) in
+    let high = digit_found (get_or u (2 * i) 0) c.value_at.result c.value_at.ensures
+    (All-get_or IsDigit u (2 * i) 0 (omega arith) c.requires.digits) in
+    let low = digit_found (get_or u (2 * i + 1) 0) c.value_at-in-loop-left.result c.value_at-in-loop-left.ensures
+    (All-get_or IsDigit u (2 * i + 1) 0 (omega arith) c.requires.digits) in
     record {
       within = omega arith;
       spelled = pair_before u c.loop-left.output i c.loop-left.left _ _ (omega arith) (omega arith) (omega arith) high low c.loop-left.invariant.spelled;

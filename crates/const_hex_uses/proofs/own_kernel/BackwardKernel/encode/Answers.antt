@@ -21,6 +21,7 @@ loop-byte-preserved g c =
     let u = c.args.input.now in
     let i = c.loop-byte.byte-index in
     let one = c.write.ensures in record {
-      written = pair_written step _ c.args.upper u i _ _ _ _ c.loop-byte-test.true c.digit_at.ensures c.digit_at-in-loop-byte.ensures c.loop-byte.invariant.written one;
+      written = pair_written step _ c.args.upper u i _ _ _ _ c.loop-byte-test.true
+          c.digit_at.ensures c.digit_at-in-loop-byte.ensures c.loop-byte.invariant.written one;
       room = room_after_pair step g.O.Output.room g.met.O.Output.shrinks _ _ _ _ (length u - i) _ (omega arith) one c.loop-byte.invariant.room;
     }

@@ -14,10 +14,11 @@ returns-then-bytes g c =
     elim c.if-bytes-pending.branch [
       | then-bytes-pending w ↦
           let e : take c.self-then-bytes.inside.count c.self-then-bytes.inside.buffer ≡ [] = ap (λ p. p.1) v ∙ rw w.self-is w.flush.ensures.empty in
-          rw e (Gathers-long step room g.row.N s.0 s.1 c.args.bytes.now c.self-then-bytes.inside.output c.write.new.self (rw (m, w.self-is) w.flush.ensures.run) c.write.ensures c.if-bytes.true)
+          rw e (Gathers-long step room g.row.N s.0 s.1 c.args.bytes.now c.self-then-bytes.inside.output c.write.new.self
+          (rw (m, w.self-is) w.flush.ensures.run) c.write.ensures c.if-bytes.true)
       | else-bytes-pending w ↦
-          let z : length s.1 ≡ 0 = omega arith in
-          let d : s.1 ≡ [] = nil_from_length s.1 z in
+          let d : s.1 ≡ [] = nil_from_length s.1 (omega arith) in
           let e : take c.self-then-bytes.inside.count c.self-then-bytes.inside.buffer ≡ [] = ap (λ p. p.1) v ∙ rw w.self-is d in
-          rw (d, e) (Gathers-long step room g.row.N s.0 [] c.args.bytes.now c.self-then-bytes.inside.output c.write.new.self (rw (m, w.self-is) refl) c.write.ensures c.if-bytes.true)
+          rw (d, e) (Gathers-long step room g.row.N s.0 [] c.args.bytes.now c.self-then-bytes.inside.output c.write.new.self
+          (rw (m, w.self-is) refl) c.write.ensures c.if-bytes.true)
     ]
