@@ -1,34 +1,34 @@
 /*
  * const_hex: hexadecimal text, proved.
  *
- * Every call here is one of the Rattle crate const_hex_c, whose clauses are proved for every input:
- * it is safe, it returns, and it answers what is said here. Of the words of a refusal the clauses
- * say which they are, if any are written; that they are written, and those of a bad character, is
- * shown by tests. That this header says what the clauses say is seen by reading and by tests. No
- * call takes memory, none keeps anything between calls, and any number of threads may call at once.
+ * Every call is a function of the Rattle crate const_hex_c. It is proved that each call is safe,
+ * returns, and meets its contract for every input. This header says in words what the contracts
+ * say; that was read and tested. Only tests show that the words of a refusal are written, and the
+ * words of a bad character. No call takes memory or keeps anything between calls. Any number of
+ * threads may call at once.
  *
  * THE CALLER'S PART
  *
- * Nothing here can check these, and without them nothing is promised:
- *  - a pointer and the length behind it belong together: that many bytes stand there. They are
- *    readable, and writable if the pointer is to no const. A null pointer is allowed with length 0;
+ * No call can check these rules. If one is broken, nothing is promised:
+ *  - a pointer points to as many bytes as the length after it says. They can be read, and also
+ *    written if the pointer is not to const. A null pointer is allowed if the length is 0;
  *  - what a call writes (text or bytes, count, refusal, buffer) overlaps nothing else that the call
- *    is given, and no other thread touches it meanwhile;
- *  - a pointer to one value (count, refusal) is not null and is aligned as its type wants. The
- *    value is writable; the refusal of const_hex_refusal_words is only read;
- *  - prefix and upper are 0 or 1. C and C++ see to that by the type bool. Another language has to
- *    hand on its own bool, and no int.
+ *    is given, and no other thread touches it during the call;
+ *  - a pointer to one value (count, refusal) is not null and is aligned for its type. The value can
+ *    be written; const_hex_refusal_words only reads its refusal;
+ *  - prefix and upper are 0 or 1. In C and C++ the type bool ensures that. From another language,
+ *    pass its bool and not an int.
  *
- * No length and no bytes are forbidden, and text, bytes and buffer may stand at any address. No text
- * needs a NUL at its end, and none is written, but by const_hex_refusal_words.
+ * All lengths and all bytes are allowed, and text, bytes and buffer may have any alignment. No text
+ * needs a NUL at its end. Only const_hex_refusal_words writes one.
  *
  * LIMITS
  *
- * On x86-64 the library wants a processor that has x86-64-v2 (SSE4.2 and what came with it, since
- * about 2009). On an older one a call may stop the program with an illegal instruction.
+ * On x86-64 the library needs a processor with x86-64-v2 (SSE4.2 and what came with it, since about
+ * 2009). On an older one a call may stop the program with an illegal instruction.
  *
- * Nothing is constant in time: how long a call takes depends on the bytes. And nothing is wiped from
- * memory. So keep keys away if others can measure time or read memory.
+ * Calls are not constant in time: the time depends on the bytes. No memory is wiped. So keep keys
+ * away if others can measure time or read memory.
  *
  * EXAMPLES
  *
@@ -40,7 +40,7 @@
  *         fprintf(stderr, "not a hash: %s\n", words);
  *     }
  *
- * The text that a call writes has no NUL behind it. To print it with %s, make room for one:
+ * A text has no NUL at its end. To print it with %s, make room for one:
  *
  *     char text[CONST_HEX_TEXT_LENGTH(sizeof bytes, true) + 1];
  *     size_t length = sizeof text - 1;
@@ -51,7 +51,7 @@
  *
  * BUILDING
  *
- * Two commands build a program from the archive, and from what c/install has installed:
+ * The first command uses the archive of c/build, the second what c/install has installed:
  *
  *     cc -std=c99 -Ic program.c c/out/libconst_hex.a -o program
  *     cc -std=c99 program.c $(pkg-config --cflags --libs const_hex) -o program
@@ -72,7 +72,7 @@
 /* Room for the words of any refusal, with the NUL behind them. */
 #define CONST_HEX_WORDS 64
 
-/* A compiler that can warn does so if an answer is not looked at. */
+/* GCC and Clang warn if an answer is ignored. */
 #ifdef __GNUC__
 #define CONST_HEX_ANSWER __attribute__((warn_unused_result))
 #else
@@ -89,16 +89,16 @@ enum {
     CONST_HEX_ODD_LENGTH = 1,
     /* The text spells another number of bytes than is wanted, or more than there is room for. */
     CONST_HEX_INVALID_LENGTH = 2,
-    /* A byte behind the prefix is no digit: the first such byte, and its place. */
+    /* A byte behind the prefix is not a digit: the first such byte, and its place. */
     CONST_HEX_INVALID_CHARACTER = 3,
-    /* Memory was refused. No call here takes memory, so none answers this. */
+    /* Memory was refused. No call here takes memory, so none gives this kind. */
     CONST_HEX_NO_MEMORY = 4
 };
 
 /*
- * A refusal. If kind is CONST_HEX_INVALID_CHARACTER, byte is the first byte that is no digit (0 to
- * 255), and index is its place, counted from the start of the whole text, prefix included. With any
- * other kind both are 0.
+ * A refusal. If kind is CONST_HEX_INVALID_CHARACTER, byte is the first byte that is not a digit (0
+ * to 255), and index is its place, counted from 0 at the start of the whole text, prefix included.
+ * For any other kind both are 0.
  */
 struct const_hex_refusal {
     uint32_t kind;
@@ -107,46 +107,46 @@ struct const_hex_refusal {
 };
 
 /*
- * How long the text of so many bytes is: two digits for each, and two bytes more for a prefix. If
- * that does not fit into a size_t the answer is SIZE_MAX; no text has that length.
+ * The length of the text of so many bytes: two digits for each byte, and two bytes more for a
+ * prefix. If that does not fit into a size_t, the answer is SIZE_MAX, and no text has that length.
  */
 CONST_HEX_ANSWER
 size_t const_hex_encoded_length(size_t bytes, bool prefix);
 
 /*
- * Fills text with two digits for each of the bytes, in order, with upper or lower letters. If a
- * prefix is wanted they stand behind "0x" (never "0X").
+ * Fills text with two digits for each of the bytes, in order, with upper or lower letters. If
+ * prefix is true, "0x" stands before them (never "0X").
  *
- * True exactly if text_length is the length of that text (const_hex_encoded_length); then text holds
- * it, and no NUL is written behind it. False otherwise, and text is as it was.
+ * Returns true exactly if text_length is the length of that text (const_hex_encoded_length); then
+ * text holds it, without a NUL. If the answer is false, text is unchanged.
  */
 CONST_HEX_ANSWER
 bool const_hex_encode(const void *bytes, size_t bytes_length, bool prefix, bool upper,
                       char *text, size_t text_length);
 
 /*
- * Fills bytes with what text spells: one prefix "0x" or "0X" or none, and then two digits a byte,
+ * Fills bytes with what text spells: a prefix "0x" or "0X" or none, and then two digits per byte,
  * in either case.
  *
- * True if text spells exactly bytes_length bytes; bytes holds them, and refusal is as it was. False
- * if text is refused, and refusal says why:
- *  - CONST_HEX_ODD_LENGTH, and else CONST_HEX_INVALID_LENGTH, if the digits are not two for each
- *    byte; bytes is as it was;
- *  - else CONST_HEX_INVALID_CHARACTER. A front of bytes may then be decoded, no more than the pairs
- *    before the bad byte, and the rest is as it was.
+ * Returns true if text spells exactly bytes_length bytes. Then bytes holds them, and refusal is
+ * unchanged. Returns false if text is refused. Then refusal has the first of these:
+ *  - CONST_HEX_ODD_LENGTH. bytes is unchanged;
+ *  - CONST_HEX_INVALID_LENGTH, if there are not two digits for each byte. bytes is unchanged;
+ *  - CONST_HEX_INVALID_CHARACTER. A front of bytes may be decoded, no longer than the pairs before
+ *    the bad byte, and the rest is unchanged.
  */
 CONST_HEX_ANSWER
 bool const_hex_decode(const char *text, size_t text_length, void *bytes, size_t bytes_length,
                       struct const_hex_refusal *refusal);
 
 /*
- * As const_hex_decode, but bytes may have more room than the text needs. Half of text_length is room
- * enough for the bytes of any text.
+ * As const_hex_decode, but bytes may have more room than the text needs. Half of text_length is
+ * always enough.
  *
- * True if text spells at most bytes_length bytes: the front of bytes holds them, *count is how many
- * they are, and what is behind them is as it was; so is refusal. False if text is refused, and
- * *count is as it was. The refusals are the same, with CONST_HEX_INVALID_LENGTH if text has more
- * digits than bytes_length bytes take.
+ * Returns true if text spells at most bytes_length bytes. Then the front of bytes holds them,
+ * *count is their number, and the rest of bytes and refusal are unchanged. Returns false if text is
+ * refused. Then *count is unchanged, and refusal is as for const_hex_decode, but
+ * CONST_HEX_INVALID_LENGTH means that text spells more than bytes_length bytes.
  */
 CONST_HEX_ANSWER
 bool const_hex_decode_front(const char *text, size_t text_length, void *bytes,
@@ -154,34 +154,34 @@ bool const_hex_decode_front(const char *text, size_t text_length, void *bytes,
                             struct const_hex_refusal *refusal);
 
 /*
- * Whether text can be decoded into some number of bytes. If it is false, refusal says why:
- * CONST_HEX_ODD_LENGTH, or else CONST_HEX_INVALID_CHARACTER. If it is true, refusal is as it was.
+ * Whether text can be decoded. If not, refusal says why: CONST_HEX_ODD_LENGTH, or else
+ * CONST_HEX_INVALID_CHARACTER. If it can, refusal is unchanged.
  */
 CONST_HEX_ANSWER
 bool const_hex_check(const char *text, size_t text_length, struct const_hex_refusal *refusal);
 
 /*
- * Whether every byte of text is a digit, of any count. No prefix is allowed.
+ * Whether every byte of text is a digit. No prefix is allowed, and the length does not matter.
  */
 CONST_HEX_ANSWER
 bool const_hex_check_raw(const char *text, size_t text_length);
 
 /*
- * Puts the words of a refusal into buffer, such as "odd number of digits", with a NUL behind them,
- * and answers how many bytes stand before the NUL. Words that do not fit are cut, so that the NUL
- * always fits; room of CONST_HEX_WORDS bytes is enough for any. If buffer_length is 0, nothing is
- * written and the answer is 0. A struct that no call here has filled may have no words.
+ * Puts the words of a refusal into buffer, such as "odd number of digits", and then a NUL. Returns
+ * how many bytes stand before the NUL. Words that do not fit are cut, so that the NUL always fits.
+ * CONST_HEX_WORDS bytes are enough for all words. If buffer_length is 0, nothing is written and the
+ * answer is 0. A struct that no call here has filled may have no words.
  *
- * A bad byte stands in the words as the character of that number, between single quotes: 'z'. A
- * control character (0 to 31 and 127 to 159), a single quote, a backslash, 160 and 173 stand there
- * as an escape, such as '\n', '\'' or '\u{80}'. The words are UTF-8: a character past 127 has two
- * bytes, and a cut may fall between them.
+ * The words show a bad byte as the character with its number, in single quotes: 'z'. Control
+ * characters (0 to 31 and 127 to 159), a single quote, a backslash, 160 and 173 are escaped, as in
+ * '\n', '\'' or '\u{80}'. The words are UTF-8: a character past 127 has two bytes, and a cut may
+ * fall between them.
  */
 size_t const_hex_refusal_words(const struct const_hex_refusal *refusal, char *buffer,
                                size_t buffer_length);
 
 /*
- * The version that the library has: CONST_HEX_VERSION of the header that it was built with.
+ * The version of the library: CONST_HEX_VERSION of the header that it was built with.
  */
 uint32_t const_hex_version(void);
 

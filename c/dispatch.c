@@ -1,13 +1,13 @@
 /*
- * Picks one of the two builds of the library for each call: the one for x86-64-v3 (AVX2 and what
- * comes with it) if the processor has all of that, and else the default one. It picks when the call
- * is bound: at the start of the program, at dlopen, or at its first use. The choice is the same each
- * time, so threads cannot disagree. No proof covers this file; it does nothing but pick.
+ * Picks one of the library's two builds for each call: the one for x86-64-v3 if the processor has AVX2
+ * and the rest of that level, otherwise the default one. It picks when a call is bound: when the
+ * program starts, at dlopen, or when the call is first used. It picks the same build each time, so
+ * threads cannot disagree. No proof covers this file.
  *
- * The builds are hidden. So a shared object exports the calls of the header alone, and another
- * library cannot put a call of its own before a build. And what picks finds the builds by their
- * distance from itself: the loader may ask it before it has filled in this library's addresses, as it
- * does if another library calls this one and was not linked with it.
+ * The builds are hidden. So a shared object exports only the calls of the header, and another library
+ * cannot replace a build by a call of its own. The code that picks finds both builds by their distance
+ * from itself. The loader may run it before it has filled in this library's addresses; it does so if
+ * another library calls this one without being linked with it.
  */
 #include "const_hex.h"
 

@@ -1,17 +1,20 @@
 # Compares a run with requests for memory refused with the answers that are allowed.
 #
-# The four files are, in this order: what the program prints with ample memory, a line a call; the
-# answers that a call may give instead if a request of its own is refused; how many requests a call
-# makes; and the run. In the run, lines that begin with ">" mark requests, and the last one says how
-# many blocks of memory live on. What stands before " = " in a line names its call.
+# It takes four files:
+#   1. what the program prints with ample memory, one line per call;
+#   2. the answers that a call may give instead if one of its requests is refused;
+#   3. how many requests a call makes, if more than one;
+#   4. the run. Its lines that begin with ">" mark requests. The last one counts the blocks of memory
+#      that are still alive.
+# The words before " = " in a line name its call.
 #
-# A line of the run is right if it is the line with ample memory; or if one of the requests right
-# before it was refused, and it is one of the answers allowed then. A call none of whose requests
-# was refused has to make just as many as it is to: none if the second file has no answer of it,
-# else one if the third does not name it. The line of the program's own values, which may be ENDS, is
-# none of a call. At the end no block may live on. A line that is wrong is
-# printed, and the status is then 1. Each answer of the second file that came is added to the file
-# SEEN.
+# A line of the run is right if it is the line with ample memory. If a request right before it was
+# refused, it may also be one of the answers in file 2. A call with no refused request has to make
+# the right number of requests: none if file 2 does not name it, otherwise the number in file 3, or
+# one. The line ENDS belongs to no call. No block may be alive at the end.
+#
+# A wrong line is printed, and then the status is 1. Each answer of file 2 that came is added to the
+# file SEEN.
 
 function call_of(line) { return substr(line, 1, index(line, " = ") - 1) }
 

@@ -1,16 +1,15 @@
 /* Stands before the C library's allocator, and refuses requests for memory.
  *
- * Built as a shared library and named in LD_PRELOAD, it takes every call of malloc, calloc and
- * realloc of a program. Once the program has started it counts them. It refuses the requests from
- * number REFUSE_FROM to number REFUSE_TO, two variables of the environment, as the C library does
- * where there is no memory: with a null pointer. All others it passes on. Where REFUSE_FROM is not
- * set, it refuses none.
+ * It is a shared library that LD_PRELOAD names. Then every malloc, calloc and realloc of a program
+ * calls it. It counts these requests once the program has started. The environment's variables
+ * REFUSE_FROM and REFUSE_TO say which it refuses: from that number to that number, with a null
+ * pointer. It passes all others on. If REFUSE_FROM is not set, it refuses none.
  *
- * The aligned forms, which these programs do not call, it always refuses, so that none passes by.
+ * It always refuses the aligned forms. These programs do not call them, so none passes uncounted.
  *
  * For each request it writes a line to file descriptor 3: "> refused" or "> request". If that is
  * the program's own output, the lines show which request was made for which line of output. When the
- * program ends it writes how many of the blocks that it gave have not been freed: "> alive 0".
+ * program ends, it writes how many blocks have not been freed: "> alive 0".
  */
 #include <errno.h>
 #include <stddef.h>
@@ -41,7 +40,7 @@ __attribute__((constructor)) static void start(void) {
     has_started = 1;
 }
 
-/* Says how many blocks live on. Runs behind all that the program does. */
+/* Writes how many blocks are still alive. It runs after everything that the program does. */
 __attribute__((destructor)) static void end(void) {
     char line[32];
     int length = snprintf(line, sizeof line, "> alive %ld\n", alive);
@@ -72,7 +71,7 @@ void *calloc(size_t count, size_t size) {
     return is_refused() ? NULL : given(__libc_calloc(count, size));
 }
 
-/* A block that moves is one block still. These programs ask for no size 0, which would free it. */
+/* A block that moves stays one block. These programs never ask for size 0, which would free it. */
 void *realloc(void *block, size_t size) {
     if (is_refused()) return NULL;
     return block ? __libc_realloc(block, size) : given(__libc_malloc(size));

@@ -1,8 +1,12 @@
 //! The command `bench`: the times of both codecs, side by side.
 //!
 //! For each call and size every side makes a batch of calls in turn, many times over, so that a
-//! drift of the machine falls on all of them. The order is drawn anew each time. What is printed is a table in Markdown: nanoseconds a
-//! call, the least and the median of the batches, and what the port takes over the Rust crate.
+//! drift of the machine falls on all of them. The order is drawn anew each time. What is printed is
+//! a table in Markdown: nanoseconds a call, the least and the median of the batches, and what the
+//! port takes over the Rust crate.
+//!
+//! With `--without-avx2` a child process measures, and AVX2 is hidden from it. So the Rust crate
+//! picks the kernel that it picks on a processor without AVX2.
 
 pub(crate) mod calls;
 pub(crate) mod measure;
@@ -10,11 +14,30 @@ mod table;
 
 use crate::bench::calls::{batch, Call, Side};
 use crate::bench::measure::{measure, Times, Work};
+use crate::ffi::builds::{Avx2Build, Build};
+use crate::ffi::hidden;
 use crate::ffi::system::pin;
+use std::env;
+use std::hint::black_box;
 use std::io::{self, Write};
+use std::process;
 
 /// The bytes of data that are encoded, or that a text spells.
 const SIZES: [usize; 10] = [4, 20, 32, 33, 65, 256, 2048, 16_384, 131_072, 1_048_576];
+
+/// Who measures, and whether that process sees AVX2.
+#[derive(Clone, Copy, Debug)]
+pub enum Avx2 {
+    /// This process measures. It sees AVX2 if the processor has it.
+    AsFound,
+    /// A child process measures. AVX2 is hidden from it.
+    ToHide,
+    /// This process is that child.
+    Hidden,
+}
+
+/// The word that asks for `Avx2::Hidden`. Only the parent says it.
+pub const HIDDEN: &str = "--avx2-is-hidden";
 
 /// The times of every side for a call at a size.
 struct Row {
@@ -31,9 +54,35 @@ impl Row {
     }
 }
 
+/// Measures as is asked, and prints.
+pub fn run(avx2: Avx2, output: &mut impl Write) -> io::Result<bool> {
+    match avx2 {
+        Avx2::AsFound => print(avx2, output),
+        Avx2::ToHide => {
+            let mut child = process::Command::new(env::current_exe()?);
+            hidden::run(child.args(["bench", HIDDEN]))
+        }
+        Avx2::Hidden => {
+            ask()?;
+            print(avx2, output)
+        }
+    }
+}
+
+/// Lets each side ask what the processor has, and then tells the parent.
+fn ask() -> io::Result<()> {
+    let text = const_hex::encode([0x6B; 64]);
+    black_box(const_hex::check_raw(&text));
+    black_box(const_hex::decode(&text).is_ok());
+    if Avx2Build::here().is_some() {
+        return Err(io::Error::other("AVX2 is not hidden"));
+    }
+    hidden::has_asked()
+}
+
 /// Measures all calls at all sizes and prints the table, and which ratios are above 1.
-pub fn run(output: &mut impl Write) -> io::Result<bool> {
-    table::write_head(output, pin())?;
+fn print(avx2: Avx2, output: &mut impl Write) -> io::Result<bool> {
+    table::write_head(output, avx2, pin())?;
     let mut rows = Vec::new();
     for call in Call::ALL {
         for size in SIZES {

@@ -1,5 +1,6 @@
 //! What the arguments ask for.
 
+use crate::bench::{self, Avx2};
 use crate::differ::Asked;
 use crate::replies::Answers;
 
@@ -8,7 +9,7 @@ pub const USAGE: &str = "\
 usage: compare answers [--intended] < QUESTIONS
        compare questions [SEED] [COUNT]
        compare differ [SEED] [COUNT]
-       compare bench
+       compare bench [--without-avx2]
        compare count
 
 Without numbers the seed is 1 and the count 1000000. README.md says what each command does.";
@@ -25,7 +26,7 @@ pub enum Command {
     Answers(Answers),
     Questions(Asked),
     Differ(Asked),
-    Bench,
+    Bench(Avx2),
     Count,
 }
 
@@ -38,7 +39,9 @@ impl Command {
             ["answers", "--intended"] => Some(Command::Answers(Answers::ThePorts)),
             ["questions", numbers @ ..] => asked(numbers).map(Command::Questions),
             ["differ", numbers @ ..] => asked(numbers).map(Command::Differ),
-            ["bench"] => Some(Command::Bench),
+            ["bench"] => Some(Command::Bench(Avx2::AsFound)),
+            ["bench", "--without-avx2"] => Some(Command::Bench(Avx2::ToHide)),
+            ["bench", bench::HIDDEN] => Some(Command::Bench(Avx2::Hidden)),
             ["count"] => Some(Command::Count),
             _ => None,
         }
@@ -69,6 +72,7 @@ mod tests {
             ("differ 7", true),
             ("differ 7 1000", true),
             ("bench", true),
+            ("bench --without-avx2", true),
             ("count", true),
             ("", false),
             ("differ seven", false),

@@ -195,8 +195,11 @@ pub fn version() -> u32 {
 }
 
 pub mod builds;
+pub mod hidden;
 pub mod steps;
 pub mod system;
+#[cfg(all(target_os = "linux", target_arch = "x86_64"))]
+mod traced;
 
 #[cfg(test)]
 mod tests;

@@ -2,15 +2,19 @@
 
 use crate::bench::calls::Side;
 use crate::bench::measure::Times;
-use crate::bench::Row;
+use crate::bench::{Avx2, Row};
 use std::io::{self, Write};
 
 /// Writes what the times were taken on, and the head of the table.
-pub fn write_head(output: &mut impl Write, pinned: Option<usize>) -> io::Result<()> {
+pub fn write_head(output: &mut impl Write, avx2: Avx2, pinned: Option<usize>) -> io::Result<()> {
     let machine = machine().unwrap_or_else(|| "an unknown processor".to_owned());
+    let shown = match avx2 {
+        Avx2::Hidden => ", its AVX2 hidden",
+        Avx2::AsFound | Avx2::ToHide => "",
+    };
     match pinned {
-        Some(processor) => writeln!(output, "{machine}; pinned to processor {processor}.")?,
-        None => writeln!(output, "{machine}; not pinned to a processor.")?,
+        Some(processor) => writeln!(output, "{machine}{shown}; pinned to processor {processor}.")?,
+        None => writeln!(output, "{machine}{shown}; not pinned to a processor.")?,
     }
     writeln!(
         output,
@@ -41,7 +45,7 @@ pub fn write_row(output: &mut impl Write, row: &Row) -> io::Result<()> {
         let times = row.of(side);
         cells.push(times.map_or(String::new(), nanoseconds));
         if side.is_port() {
-            cells.push(ratio(row, side).map_or(String::new(), ratios));
+            cells.push(ratio(row, side).map_or(String::new(), marked));
         }
     }
     writeln!(output, "| {} |", cells.join(" | "))
@@ -63,9 +67,24 @@ fn nanoseconds(times: Times) -> String {
     format!("{least:.*}, {median:.*}", digits(least), digits(median))
 }
 
-/// Two ratios of a cell.
+/// Two ratios.
 fn ratios(ratio: Times) -> String {
     format!("{:.2}, {:.2}", ratio.least, ratio.median)
+}
+
+/// Two ratios of a cell, bold if above 1.
+fn marked(ratio: Times) -> String {
+    let mark = |ratio| if is_slower(ratio) { "**" } else { "" };
+    let (least, median) = (mark(ratio.least), mark(ratio.median));
+    format!(
+        "{least}{:.2}{least}, {median}{:.2}{median}",
+        ratio.least, ratio.median
+    )
+}
+
+/// Whether a ratio is above 1 as it is printed.
+fn is_slower(ratio: f64) -> bool {
+    ratio >= 1.005
 }
 
 /// Writes which ratios, of the least times or of the medians, are above 1, for each build of the
@@ -87,6 +106,6 @@ pub fn write_slower(output: &mut impl Write, rows: &[Row]) -> io::Result<()> {
 fn slower(row: &Row, side: Side) -> Option<String> {
     let ratio = ratio(row, side)?;
     let (call, size) = (row.call.name(), row.size);
-    let is_slower = ratio.least.max(ratio.median) >= 1.005;
-    is_slower.then(|| format!("`{call}` at {size} ({})", ratios(ratio)))
+    is_slower(ratio.least.max(ratio.median))
+        .then(|| format!("`{call}` at {size} ({})", ratios(ratio)))
 }

@@ -18,7 +18,7 @@ false_from_not true e = absurd (false_is_true (sym e))
 false_from_not false e = refl
 
 module _ {W : Type 0} (took : W → List ℕ → W → Type 0) where
-  -- pieces that met no failure are written as one
+  -- if nothing failed, pieces are written as one
   offered_text : (s : FormatterSink W) (ps : List (List ℕ)) (t : FormatterSink W) → t.failed ≡ false
       → Offers (FormatterStep took) (λ x. x.failed) s ps t → FormatterStep took s (concat ps) t
   offered_text s [] t e h =
@@ -31,18 +31,18 @@ module _ {W : Type 0} (took : W → List ℕ → W → Type 0) where
             has_written_styled_append took _ p _ (concat ps) _ x (rest.writes e x.flush);
       }
 
-  -- and so is a stream
+  -- the same for a stream
   pub printed_stream : (s : FormatterSink W) (text : List ℕ) (t : FormatterSink W) → t.failed ≡ false
       → Streams (FormatterStep took) (λ x. x.failed) s text t → FormatterStep took s text t
   printed_stream s text t e h =
       rw h.cut.whole at (offered_text s h.pieces t e (Streams-all (FormatterStep took) (λ x. x.failed) s text t e h))
 
-  -- the same of the formatters that the sinks began and ended with
+  -- the same for the formatters that the sinks begin and end with
   pub written_at : (s : FormatterSink W) (text : List ℕ) (t : FormatterSink W) → t.failed ≡ false → FormatterStep took s text t
       → (f : Formatter W) → sink_formatter s ≡ f → IsFlush f → (g : Formatter W) → g ≡ sink_formatter t → HasWrittenStyled took f text g
   written_at s text t ok h f a p g e = rw (e, ← a) (h.writes ok (rw (← a) at p))
 
-  -- a formatter with no options writes no prefix
+  -- a formatter without options writes no prefix
   pub plain_from_styled : (f : Formatter W) (r : Result (Unit {0}) Error) (up : Bool) (bs : List ℕ) (g : Formatter W)
       → WritesStyledOnOk took f r (full_text (spec_alternate (formatter_spec f)) up bs) g → WritesOnOk took f r (hex_text up bs) g
   plain_from_styled f r up bs g h p ok =

@@ -1,22 +1,22 @@
--- Proofs by hand, over the machine's steps, of calls whose starred clause (`after`) says what a
--- buffer or a slice holds once the text that it lent is given back. The borrow checker proves no
--- such clause by itself.
+-- Proofs by hand, which follow the machine's steps, for calls with a starred clause (`after`). Such
+-- a clause says what a buffer or a slice holds after the text that it lent is given back. The
+-- borrow checker cannot prove it.
 --
--- `LentText` walks through a function that fills a buffer by one call and lends it as text by
--- another: `Buffer::format`, `format_upper`, `format_slice`, `format_slice_upper`. `EncodedStr` does
--- so for a function that lends the text in a slice where it fits: `encode_to_str` and its upper
--- form. `LentSlice` says what a lent slice ends as, and `Flags` what a constant `true` or `false` is
--- to the machine; both walks cite them. The `Proof.antt` of each function names its calls and hands
--- them to its walk.
+-- `LentText` is the walk for a function that fills a buffer by one call and lends it as text by
+-- another: `Buffer::format`, `format_upper`, `format_slice`, `format_slice_upper`. `EncodedStr` is
+-- the walk for a function that lends the text in a slice if it fits: `encode_to_str` and
+-- `encode_to_str_upper`. Both walks cite `LentSlice`, which says what a lent slice ends as, and
+-- `Flags`, which says what a constant `true` or `false` is to the machine. The `Proof.antt` of each
+-- function names its calls and passes them to its walk.
 --
 -- What breaks a walk: it names the function's locals by their numbers, and takes its calls in their
--- order. A new local, a new call or another order in one of these functions ends it; other code does
--- not.
+-- order. So a new local, a new call or another order in one of these functions breaks it. Other
+-- code does not.
 --
--- How to mend one: after the edit `rt check --generated FOLDER --start F`, for the function F, writes
--- its steps with their locals, to `Code/Mir.antt` below that folder. Put the new numbers in place of
--- the old, from the top down, and check after each: the first step that no longer fits is named. The
--- guide of the toolchain is its `docs/WALKS.md`.
+-- How to mend one: after the edit `rt check --generated FOLDER --start F`, for the function F,
+-- writes its steps and locals to `Code/Mir.antt` in that folder. Replace the old numbers by the new
+-- ones, from the top down, and check after each. The check names the first step that no longer
+-- fits. The toolchain's guide is its `docs/WALKS.md`.
 pub mod EncodedStr
 pub mod Flags
 pub mod LentSlice

@@ -11,13 +11,13 @@ use Rattle.const_hex_arch.specs.Streams.{IsCallPiece, Offers, Streams}
 use Rattle.const_hex.specs.WriteSinks.{WriteStep, WritesBeginning, sink_writer, writer_name, has_failed}
 use Rattle.const_hex.specs.declared.write_sink.WriteSink.{WriteSink}
 
--- n bytes of what lies behind the first done end inside the whole
+-- n bytes of what follows the first `done` bytes end inside the whole
 pub step_within : (bytes : List ℕ) (done n : ℕ) → done ≤ length bytes
     → n ≤ length (take (length bytes - done) (drop done bytes)) → done + n ≤ length bytes
 step_within bytes done n started inside =
     let m = simp (length-take, length-drop) at inside in omega (arith, m)
 
--- n bytes of the rest were written, after the first done
+-- n bytes of the rest were written after the first `done` bytes
 pub write_step : (a b c : Option (List ℕ)) (bytes : List ℕ) (done n : ℕ)
     → Appends a b (take done bytes)
     → Appends b c (take n (take (length bytes - done) (drop done bytes)))
@@ -28,13 +28,13 @@ write_step a b c bytes done n p q =
 
 pub ruleset writes = (step_within, write_step, Appends-kept)
 
--- no text is cut into no pieces
+-- the empty text is cut into no pieces
 no_pieces : (ps : List (List ℕ)) → All IsCallPiece ps → concat ps ≡ [] → ps ≡ []
 no_pieces [] a e = refl
 no_pieces ([] ∷ ps) a e = absurd (let h = (All-head IsCallPiece [] ps a).0 in omega arith)
 no_pieces ((b ∷ bs) ∷ ps) a e = absurd (let q : suc (length (bs ++ concat ps)) ≡ zero = ap length e in omega arith)
 
--- some of the bytes were written, and others follow them
+-- some of the bytes were written, and then others
 record Begins (held holds : Option (List ℕ)) (bs : List ℕ) : Type 0 where
   written : List ℕ
   rest : List ℕ
@@ -66,7 +66,7 @@ Begins-after a b c front bs p h = record {
 }
 
 module _ {W : Type 0} (contents : W → Option (List ℕ)) where
-  -- the same writer has written the text where it did not fail, and a beginning of it in any case
+  -- the same writer has written the text if it did not fail, and a beginning of it in any case
   record Wrote (s : WriteSink W) (text : List ℕ) (t : WriteSink W) : Type 0 where
     same_writer : writer_name t ≡ writer_name s
     all : has_failed t ≡ false → Appends (contents (sink_writer s)) (contents (sink_writer t)) text
@@ -106,12 +106,12 @@ module _ {W : Type 0} (contents : W → Option (List ℕ)) where
   Wrote-offered s (p ∷ q ∷ ps) t (e, (m, h, k)) =
       Wrote-more s p m (concat (q ∷ ps)) t k.0 (Wrote-some s p m h (has_failed m) refl) (Wrote-offered m (q ∷ ps) t k)
 
-  -- a sink is offered nothing of no pieces
+  -- no pieces change nothing
   offered_none : (s : WriteSink W) (n : ℕ) (ps : List (List ℕ)) (t : WriteSink W) → ps ≡ []
       → Offers (WriteStep contents) has_failed s (take n ps) t → t ≡ s
   offered_none s n ps t e h = sym (rw (e, take-nil n) at h)
 
-  -- a text that is handed over in pieces is written as one piece is
+  -- a text that is handed over in pieces is written as if it were one piece
   pub streamed_text : (s : WriteSink W) (text : List ℕ) (t : WriteSink W)
       → Streams (WriteStep contents) has_failed s text t → WriteStep contents s text t
   streamed_text s text t h =

@@ -1,4 +1,4 @@
--- The answers that a text has.
+-- The answers for a text.
 use Rattle.std.specs.Prelude.{◌≡◌, ℕ, ◌*◌, ◌%◌, ◌≢◌, ◌<◌, ◌≤◌, ◌==◌, ◌&&◌, Bool, List, length, slice_index, Result, Ok, Err}
 use Rattle.std.specs.List.{list_all}
 use Rattle.std.specs.Option.{is_some}
@@ -20,8 +20,8 @@ IsEven n = n % 2 ≡ 0
 abbrev pub AreBytes : List ℕ → Type 0
 AreBytes bs = (k : ℕ) → slice_index bs k < 256
 
--- the answer of reading the text t: the bytes that its body spells; else oddness of the whole text
--- comes first, and then the first bad byte
+-- the answer when the text t is read: `OddLength` if the length of the whole text is odd; else the
+-- bytes that its body spells, or else the first bad byte
 abbrev pub Reads : List ℕ → Result (List ℕ) FromHexError → Type 0
 Reads t (Ok bs) = IsEven (length t) × Spells (body_of t) bs
 Reads t (Err OddLength) = IsOdd (length t)
@@ -29,8 +29,8 @@ Reads t (Err InvalidStringLength) = ⊥
 Reads t (Err (InvalidHexCharacter c i)) = IsEven (length t) × NamesFirstBad t (InvalidHexCharacter c i)
 Reads t (Err NoMemory) = ⊥
 
--- the answer of reading t as n bytes: a body of another length is refused after oddness, and
--- before any of its bytes is looked at
+-- the answer when t is read as n bytes: if the length is not odd, a body of another length is
+-- refused, before any of its bytes is tested
 abbrev pub ReadsSized : List ℕ → ℕ → Result (List ℕ) FromHexError → Type 0
 ReadsSized t n (Ok bs) = (length (body_of t) ≡ 2 * n) × Reads t (Ok bs)
 ReadsSized t n (Err OddLength) = IsOdd (length t)
@@ -39,7 +39,7 @@ ReadsSized t n (Err (InvalidHexCharacter c i)) =
     (length (body_of t) ≡ 2 * n) × Reads t (Err (InvalidHexCharacter c i))
 ReadsSized t n (Err NoMemory) = ⊥
 
--- whether every byte of u is a digit, as a test that computes
+-- whether every byte of u is a digit, as a test that can be computed
 abbrev pub all_digits : List ℕ → Bool
 all_digits u = list_all (λ b. is_some (hex_value b)) u
 
@@ -47,8 +47,8 @@ all_digits u = list_all (λ b. is_some (hex_value b)) u
 abbrev pub is_text_of : ℕ → List ℕ → Bool
 is_text_of n t = (length (body_of t) == 2 * n) && all_digits (body_of t)
 
--- the answer of reading t into room for n bytes: a body of more digits than they have is refused
--- after oddness, and before any of its bytes is looked at
+-- the answer when t is read into room for n bytes: if the length is not odd, a body with too many
+-- digits is refused, before any of its bytes is tested
 abbrev pub ReadsWithin : List ℕ → ℕ → Result (List ℕ) FromHexError → Type 0
 ReadsWithin t n (Ok bs) = (length (body_of t) ≤ 2 * n) × Reads t (Ok bs)
 ReadsWithin t n (Err OddLength) = IsOdd (length t)
@@ -57,12 +57,12 @@ ReadsWithin t n (Err (InvalidHexCharacter c i)) =
     (length (body_of t) ≤ 2 * n) × Reads t (Err (InvalidHexCharacter c i))
 ReadsWithin t n (Err NoMemory) = ⊥
 
--- the answer of checking t: that of reading it, with the bytes forgotten
+-- the answer when t is checked: the answer when it is read, without the bytes
 abbrev pub Checks : List ℕ → Result Unit FromHexError → Type 0
 Checks t (Ok u) = (bs : List ℕ) × Reads t (Ok bs)
 Checks t (Err e) = Reads t (Err e)
 
--- what a refused reading of t leaves of an output that held old
+-- what a refusal of t leaves of an output that held `old`
 abbrev pub Leaves : List ℕ → List ℕ → List ℕ → FromHexError → Type 0
 Leaves t old new OddLength = new ≡ old
 Leaves t old new InvalidStringLength = new ≡ old

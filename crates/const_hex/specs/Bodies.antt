@@ -10,11 +10,11 @@ body_of [] = []
 body_of (c ∷ []) = c ∷ []
 body_of (c ∷ d ∷ u) = if (c == 48) && (d == 120 || d == 88) then u else c ∷ d ∷ u
 
--- `A` to `F` made `a` to `f`, and every other byte kept
+-- `A` to `F` become `a` to `f`, and every other byte is kept
 abbrev pub lowered : List ℕ → List ℕ
 lowered u = map (λ b. if nat_le 65 b && nat_le b 70 then b + 32 else b) u
 
--- the refusal names the first byte behind the prefix of t that is no digit, and its place in t
+-- the refusal names the first byte behind the prefix of t that is not a digit, and its place in t
 abbrev pub NamesFirstBad : List ℕ → FromHexError → Type 0
 NamesFirstBad t OddLength = ⊥
 NamesFirstBad t InvalidStringLength = ⊥

@@ -4,8 +4,8 @@ use Rattle.const_hex_arch.specs.Texts.{prefix_of}
 pub use Rattle.const_hex_arch.specs.Texts.{text_length}
 use Rattle.const_hex.specs.declared.buffer.Buffer.{Buffer}
 
--- what stands in a buffer before any bytes were formatted: `0x`, or nothing, and a NUL byte in
--- place of each digit
+-- what a buffer holds before any bytes are formatted: `0x` or nothing, and a NUL byte for each
+-- digit
 abbrev pub blank_text : Bool → ℕ → List ℕ
 blank_text prefix n = prefix_of prefix ++ replicate (2 * n) 0
 

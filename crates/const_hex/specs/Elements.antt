@@ -1,7 +1,7 @@
 -- Signed elements with the bits of bytes.
 use Rattle.std.specs.Prelude.{ℕ, ◌-◌, nat_lt, if◌then◌else◌, ℤ, pos, negsuc}
 
--- the signed number with the bits of a byte: b below 128, else b - 256
+-- the signed number with the bits of a byte: b if b is below 128, else b - 256
 abbrev pub signed_of : ℕ → ℤ
 signed_of b = if nat_lt b 128 then pos b else negsuc (255 - b)
 

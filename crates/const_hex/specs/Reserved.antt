@@ -1,4 +1,4 @@
--- What a write to a vector that has room does.
+-- A write to a vector that has room.
 use Rattle.std.specs.Prelude.{◌≡◌, ℕ, ◌+◌, ◌-◌, List, ◌++◌, length, vec_len, vec_capacity}
 use Rattle.const_hex.specs.declared.reserved.ReservedOutput.{ReservedOutput}
 
@@ -6,7 +6,7 @@ use Rattle.const_hex.specs.declared.reserved.ReservedOutput.{ReservedOutput}
 abbrev pub spare_room : ReservedOutput → ℕ
 spare_room o = vec_capacity o.bytes - vec_len o.bytes
 
--- the piece stands behind what the vector held, and the capacity is as before
+-- the piece stands behind what the vector held, and the capacity is unchanged
 pub record ReservedStep (s : ReservedOutput) (piece : List ℕ) (t : ReservedOutput) : Type 0 where
   pub room : vec_capacity t.bytes ≡ vec_capacity s.bytes
   pub count : vec_len t.bytes ≡ vec_len s.bytes + length piece

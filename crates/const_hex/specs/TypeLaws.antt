@@ -1,4 +1,4 @@
--- Lemmas that the laws of types that are read rest on.
+-- Lemmas for the laws of types that are read from text.
 use Rattle.std.specs.Prelude.{◌≡◌, ℕ, suc, ◌+◌, ◌-◌, ◌*◌, ◌%◌, ◌<◌, ◌≢◌, ◌==◌, nat_lt, ◌&&◌, ◌||◌, if◌then◌else◌, Bool, true, false, List, [], ◌∷◌, length, map, ℤ, pos, negsuc, slice_index, Result, Ok, Err, refl}
 use Rattle.std.proofs.Common.{inl, inr, sym, ap, subst, ◌∙◌, arith}
 use Rattle.std.proofs.lemmas.Bool.{cases_eq}
@@ -10,7 +10,7 @@ use Rattle.const_hex.specs.Types.{is_no_memory, AnyCount, IsCount, RefusesOrMisf
 use Rattle.const_hex.specs.declared.error.FromHexError.{FromHexError}
 use Rattle.const_hex.specs.declared.error.FromHexError.TheVariants.{OddLength, InvalidStringLength, InvalidHexCharacter, NoMemory}
 
--- ---- reading leaves an answer
+-- ---- each text has an answer
 
 -- a prefix has two bytes
 pub body-parity : (t : List ℕ) → length (body_of t) % 2 ≡ length t % 2
@@ -75,7 +75,7 @@ bytes_back (b ∷ bs) h =
     rw (first, others) refl
 
 module _ {V : Type 0} (items : V → List ℤ) (fits : ℕ → Type 0) (answers : List ℕ → Result (List ℕ) FromHexError → Type 0) where
-  -- the law at signed elements is that of the bytes
+  -- the law for signed elements is the law for the bytes
   pub ReadsSigned-faithful : ((t : List ℕ) (r : Result (List ℕ) FromHexError) → answers t r → IsFaithful (λ bs. bs) fits is_no_memory t r)
       → (t : List ℕ) (r : Result V FromHexError) → ReadsSigned items answers t r
       → IsFaithful (λ v. map byte_of (items v)) fits is_no_memory t r
@@ -85,7 +85,7 @@ module _ {V : Type 0} (items : V → List ℤ) (fits : ℕ → Type 0) (answers 
       subst P (sym (bytes_back h.0 (Spells-bytes (body_of t) h.0 of_bytes.0.1)) ∙ ap (map byte_of) (sym h.2)) of_bytes
   ReadsSigned-faithful law t (Err e) h = law t (Err e) h
 
--- ---- a type of one's own
+-- ---- a type of your own
 
 pub ReadsAs-faithful : {V : Type 0} (bytes : V → List ℕ) (fits : ℕ → Type 0) (answers : List ℕ → Result (List ℕ) FromHexError → Type 0)
     → ((t : List ℕ) (r : Result (List ℕ) FromHexError) → answers t r → IsFaithful (λ bs. bs) fits is_no_memory t r)

@@ -21,12 +21,12 @@ writer_name s = s.writer.ghost_name
 abbrev pub first_error : {W : Type 0} → WriteSink W → Option Error
 first_error s = s.error
 
--- the writer has failed
+-- the writer of a sink has failed
 abbrev pub has_failed : {W : Type 0} → WriteSink W → Bool
 has_failed s = is_some s.error
 
 -- the same writer has written the text if it did not fail, and a beginning of the text if it did;
--- of no text nothing changes
+-- for an empty text nothing changes
 pub record WriteStep {W : Type 0} (contents : W → Option (List ℕ)) (s : WriteSink W) (text : List ℕ) (t : WriteSink W) : Type 0 where
   pub same_writer : writer_name t ≡ writer_name s
   pub accepted : has_failed t ≡ false → Appends (contents (sink_writer s)) (contents (sink_writer t)) text

@@ -1,4 +1,4 @@
-//! A buffer that holds the text of a fixed count of bytes.
+//! A buffer that holds the text of a fixed number of bytes.
 
 ghost use Rattle.std.specs.Prelude.{◌≡◌, length, true, false, IfOk, string_bytes};
 ghost use Rattle.std.specs.Borrow.{sem};
@@ -12,15 +12,14 @@ use crate::buffer::ascii::AsciiArray;
 use std::alloc::{AllocError, Global};
 use std::fmt;
 
-/// The text of N bytes, behind `0x` where PREFIX, in an array of its own.
+/// The text of N bytes in an array of its own, behind `0x` if PREFIX is true.
 ///
-/// LEN has to be the length of that text: `2 * N`, and 2 more where PREFIX. Each call that writes
-/// asks for that, and writes the prefix anew. No call but [`to_string`](Self::to_string) and
-/// [`to_vec`](Self::to_vec) takes memory.
+/// LEN must be the length of that text: `2 * N`, plus 2 if PREFIX is true. Each call that writes
+/// requires this, and writes the prefix again. Only [`to_string`](Self::to_string) and
+/// [`to_vec`](Self::to_vec) take memory.
 ///
-/// A wrong LEN is refused where the buffer is made: there, the check says, "it is not proved that
-/// what `new` requires holds". The line `must prove` of its report ends in the right number, as
-/// `≡ 42`.
+/// If LEN is wrong, the check refuses the line that makes the buffer: "it is not proved that what
+/// `new` requires holds". The line `must prove` of its report ends in the right number, as `≡ 42`.
 ///
 /// ```rust
 /// let mut buffer = Buffer::<4, true, 10>::new();
@@ -33,7 +32,7 @@ pub struct Buffer<const N: usize, const PREFIX: bool, const LEN: usize> {
 
 /// A buffer that holds the text of the input, with lower letters.
 ///
-/// LEN has to be `2 * N`, and 2 more where PREFIX. Takes no memory.
+/// LEN must be `2 * N`, plus 2 if PREFIX is true. Takes no memory.
 ///
 /// ```rust
 /// let buffer = const_hex::const_encode::<4, false, 8>(b"kiwi");
@@ -57,9 +56,9 @@ impl<const N: usize, const PREFIX: bool, const LEN: usize> Buffer<N, PREFIX, LEN
     /// ```
     pub const LEN: usize = LEN;
 
-    /// A buffer that holds `0x` where PREFIX, and then `2 * N` NUL bytes.
+    /// A buffer that holds `0x` if PREFIX is true, and then `2 * N` NUL bytes.
     ///
-    /// LEN has to be `2 * N`, and 2 more where PREFIX.
+    /// LEN must be `2 * N`, plus 2 if PREFIX is true.
     ///
     /// ```rust
     /// assert_eq!(rt; Buffer::<1, true, 4>::new().as_str(), "0x\0\0");
@@ -102,7 +101,7 @@ impl<const N: usize, const PREFIX: bool, const LEN: usize> Buffer<N, PREFIX, LEN
 
     /// The buffer with the text of the input, with lower letters.
     ///
-    /// LEN has to be `2 * N`, and 2 more where PREFIX.
+    /// LEN must be `2 * N`, plus 2 if PREFIX is true.
     ///
     /// ```rust
     /// let buffer = Buffer::<4, false, 8>::new().const_format(b"kiwi");
@@ -117,7 +116,7 @@ impl<const N: usize, const PREFIX: bool, const LEN: usize> Buffer<N, PREFIX, LEN
         self
     }
 
-    /// As [`const_format`](Self::const_format), with upper letters. The prefix is small here too.
+    /// As [`const_format`](Self::const_format), with upper letters. The prefix is still `0x`.
     ///
     /// ```rust
     /// let buffer = Buffer::<4, true, 10>::new().const_format_upper(b"kiwi");
@@ -145,7 +144,7 @@ impl<const N: usize, const PREFIX: bool, const LEN: usize> Buffer<N, PREFIX, LEN
         self
     }
 
-    /// As `formatted`, of an array.
+    /// As `formatted`, for an array.
     #[inline]
     fn formatted_array(&mut self, input: &[u8; N], upper: bool) -> &Self
         requires { LEN ≡ text_length PREFIX N }
@@ -158,7 +157,7 @@ impl<const N: usize, const PREFIX: bool, const LEN: usize> Buffer<N, PREFIX, LEN
 
     /// Writes the text of the input, with lower letters, and lends it.
     ///
-    /// LEN has to be `2 * N`, and 2 more where PREFIX.
+    /// LEN must be `2 * N`, plus 2 if PREFIX is true.
     ///
     /// ```rust
     /// let mut buffer = Buffer::<4, true, 10>::new();
@@ -174,7 +173,7 @@ impl<const N: usize, const PREFIX: bool, const LEN: usize> Buffer<N, PREFIX, LEN
         self.formatted_array(input, false).as_str()
     }
 
-    /// As [`format`](Self::format), with upper letters. The prefix is small here too.
+    /// As [`format`](Self::format), with upper letters. The prefix is still `0x`.
     ///
     /// ```rust
     /// let mut buffer = Buffer::<4, true, 10>::new();
@@ -190,7 +189,7 @@ impl<const N: usize, const PREFIX: bool, const LEN: usize> Buffer<N, PREFIX, LEN
         self.formatted_array(input, true).as_str()
     }
 
-    /// As [`format`](Self::format), of a slice. It has to have exactly N bytes.
+    /// As [`format`](Self::format), for a slice, which must have exactly N bytes.
     ///
     /// ```rust
     /// let mut buffer = Buffer::<4, false, 8>::new();
@@ -207,7 +206,7 @@ impl<const N: usize, const PREFIX: bool, const LEN: usize> Buffer<N, PREFIX, LEN
         self.formatted(input, false).as_str()
     }
 
-    /// As [`format_slice`](Self::format_slice), with upper letters. The prefix is small here too.
+    /// As [`format_slice`](Self::format_slice), with upper letters. The prefix is still `0x`.
     ///
     /// ```rust
     /// let mut buffer = Buffer::<4, false, 8>::new();
@@ -262,7 +261,7 @@ impl<const N: usize, const PREFIX: bool, const LEN: usize> Buffer<N, PREFIX, LEN
 
     /// A copy of the contents, as text.
     ///
-    /// Answers `AllocError` where memory is refused.
+    /// Returns `AllocError` if memory is refused.
     ///
     /// ```rust
     /// let text = Buffer::<0, true, 2>::new().to_string(rt.alloc())?;
@@ -276,7 +275,7 @@ impl<const N: usize, const PREFIX: bool, const LEN: usize> Buffer<N, PREFIX, LEN
 
     /// A copy of the contents, as bytes.
     ///
-    /// Answers `AllocError` where memory is refused.
+    /// Returns `AllocError` if memory is refused.
     ///
     /// ```rust
     /// let bytes = Buffer::<0, true, 2>::new().to_vec(rt.alloc())?;

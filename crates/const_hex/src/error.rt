@@ -9,7 +9,7 @@ use std::{error, fmt};
 
 /// Why a text is refused.
 ///
-/// A text is judged in this order: oddness, then the length that a sized call wants, then the
+/// A text is judged in this order: an odd length, then the length that a sized call needs, then the
 /// characters.
 ///
 /// ```rust
@@ -20,14 +20,14 @@ use std::{error, fmt};
 pub enum FromHexError {
     /// The text, its prefix included, has an odd number of bytes.
     OddLength,
-    /// The text without its prefix has not two digits for each byte that is wanted, or the output
-    /// has not two bytes for each byte of the input.
+    /// A length does not fit. To decode, the text without its prefix needs two digits for each byte
+    /// that is wanted. To encode, the output needs the length of the text.
     InvalidStringLength,
-    /// A byte is no digit. The first such byte is named.
+    /// A byte is not a digit. This is the first such byte.
     InvalidHexCharacter {
-        /// The character whose number is that byte, so a byte past 127 gives U+0080 to U+00FF.
+        /// The character with the byte's number. A byte past 127 gives U+0080 to U+00FF.
         c: char,
-        /// The byte's place, counted from the start of the whole text, prefix included.
+        /// The byte's place, counted from 0 at the start of the whole text, prefix included.
         index: usize,
     },
     /// A request for memory was refused.

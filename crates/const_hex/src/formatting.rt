@@ -8,7 +8,7 @@ pub mod text;
 
 use crate::formatting::text::Display;
 
-/// What prints those bytes as text: `{}` in lower digits. It takes no memory.
+/// Bytes to be printed as text: `{}` prints lower digits. Takes no memory.
 ///
 /// ```rust
 /// println!(rt; "{}", display(b"kiwi"))?; // 6b697769

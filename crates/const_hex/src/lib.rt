@@ -2,22 +2,22 @@
 //!
 //! The words of the contracts are defined in `specs/`:
 //!
-//! - `Bodies.antt`: a text without its prefix, and its first byte that is no digit;
-//! - `Answers.antt`: the answers of reading and of checking a text;
-//! - `Types.antt`: those of reading it into a type, with the law that generic code may rest on;
-//! - `TypeLaws.antt`: lemmas that this law follows from, at each type;
+//! - `Bodies.antt`: a text without its prefix, and its first byte that is not a digit;
+//! - `Answers.antt`: the answers when a text is read or checked;
+//! - `Types.antt`: the answers when a text is read into a type, and their law for generic code;
+//! - `TypeLaws.antt`: lemmas for this law, at each type;
 //! - `Elements.antt`: signed elements with the bits of bytes;
 //! - `Chars.antt`: the characters that an iterator has left;
 //! - `Buffers.antt`: what a buffer holds;
-//! - `Loans.antt`: what a buffer or a slice holds once a loan of it has ended;
+//! - `Loans.antt`: what a buffer or a slice holds after a loan of it has ended;
 //! - `Formatting.antt`: printing through a formatter;
 //! - `Json.antt`: reading a JSON value, and the text that a sink is handed;
 //! - `Messages.antt`: what a refusal prints;
-//! - `Reserved.antt`: what a write to a vector that has room does;
-//! - `WriteSinks.antt`: what a sink over a writer does.
+//! - `Reserved.antt`: a write to a vector that has room;
+//! - `WriteSinks.antt`: a sink over a writer.
 //!
-//! Digits, texts and what they spell are those of `const_hex_arch`, which `specs/Lib.antt` passes
-//! on. Each text has one answer, by `proofs/Reading.antt`.
+//! `specs/Lib.antt` passes on the words of `const_hex_arch` for digits, texts and what they spell.
+//! `proofs/Reading.antt` proves that each text has one answer.
 #![tactic(auto)]
 
 mod buffer;

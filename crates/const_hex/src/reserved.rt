@@ -1,4 +1,4 @@
-//! The text of bytes, in a vector with room for just that text.
+//! The text of bytes, in a vector with room for exactly that text.
 
 ghost use Rattle.std.specs.Prelude.{◌≡◌, Some, IfOk};
 ghost use Rattle.const_hex_arch.specs.Texts.{full_text};
@@ -7,7 +7,7 @@ ghost use Rattle.const_hex.specs.Reserved.{ReservedStep, spare_room};
 use const_hex_arch::{Kernel, Output, encode_full, text_size};
 use std::alloc::{AllocError, Global};
 
-/// Puts each piece into the room of a vector, behind what it holds.
+/// Puts each piece behind what a vector holds, into its spare room.
 #[derive(Drop)]
 struct ReservedOutput {
     bytes: Vec<u8>,
@@ -23,7 +23,7 @@ impl Output for ReservedOutput {
         Some(self.bytes.capacity().saturating_sub(self.bytes.len()))
     }
 
-    // The length of a kernel's piece is known where this is compiled, so the machine stores it whole.
+    // The length of a kernel's piece is known at compile time, so the machine stores it whole.
     #[inline(always)]
     #[tactic(auto, using(crate::proofs::Reserving::pieces))]
     fn write(&mut self, bytes: &[u8]) {
@@ -37,8 +37,8 @@ impl Output for ReservedOutput {
     ghost shrinks = { λ s piece t h. Prim.grind (arith) };
 }
 
-/// The bytes of the text, behind `0x` where a prefix is wanted. Memory is asked for once, of the
-/// text's length.
+/// The bytes of the text, behind `0x` if `prefix` is true. Memory is asked for once, for exactly
+/// the text.
 #[inline(always)]
 #[tactic(auto, using(const_hex_arch::proofs::Writing::full_text_size))]
 pub(crate) fn reserved_bytes<K: Kernel>(

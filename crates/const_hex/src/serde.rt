@@ -1,7 +1,7 @@
 //! Hexadecimal text in JSON values.
 //!
-//! [`serialize`] and [`deserialize`] write and read a text with `0x` in front, as JSON-RPC has its
-//! byte strings, and [`no_prefix`] writes one without.
+//! [`serialize`] writes a text with `0x` in front, as the byte strings of JSON-RPC have it, and
+//! [`no_prefix`] writes one without. [`deserialize`] reads both.
 
 ghost use Rattle.std.specs.Prelude.{◌≡◌, ◌↔◌, true, false, Err, None, IfOk, IfSome};
 ghost use Rattle.serde_json.specs.Data.{string};
@@ -22,9 +22,9 @@ use crate::traits::FromHex;
 use serde_json::Value;
 use std::alloc::{AllocError, Global};
 
-/// A JSON string of `0x` and two digits for each byte, with lower letters.
+/// A JSON string with `0x` and two digits for each byte, with lower letters.
 ///
-/// Answers `AllocError` where memory is refused.
+/// Returns `AllocError` if memory is refused.
 ///
 /// ```rust
 /// let value = const_hex::serialize(rt.alloc(), &[0xde, 0xad])?;
@@ -36,9 +36,9 @@ pub fn serialize(alloc: Global, bytes: &[u8]) -> Result<Value, AllocError>
     Ok(Value::String(encode_prefixed(alloc, bytes)?))
 }
 
-/// As [`serialize`], with upper letters. The prefix is small here too.
+/// As [`serialize`], with upper letters. The prefix is still `0x`.
 ///
-/// Answers `AllocError` where memory is refused.
+/// Returns `AllocError` if memory is refused.
 ///
 /// ```rust
 /// let value = const_hex::serialize_upper(rt.alloc(), &[0xde, 0xad])?;
@@ -52,9 +52,9 @@ pub fn serialize_upper(alloc: Global, bytes: &[u8]) -> Result<Value, AllocError>
 
 /// The value that a JSON string spells, with or without a prefix, in either case.
 ///
-/// Answers [`JsonError::NotText`] where the JSON value is not a string, without a look at its contents
-/// and without memory, and else the type's refusal of the text inside [`JsonError::Hex`]: one of
-/// memory too, where the type asks for memory and that is refused.
+/// Returns [`JsonError::NotText`] if the JSON value is not a string. This takes no memory. If the
+/// type refuses the text, returns that refusal inside [`JsonError::Hex`]. The type may also refuse
+/// because memory was refused.
 ///
 /// ```rust
 /// let value = const_hex::serialize(rt.alloc(), b"kiwi")?;

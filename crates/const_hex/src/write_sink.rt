@@ -13,10 +13,10 @@ use std::io::{ErrorKind, Write};
 
 /// Hands pieces on to a writer until a write fails, and keeps that error.
 ///
-/// A piece may take several calls of `write`. A call that a signal interrupts is made again. If a
-/// write fails, the writer has a beginning of what was offered. Nothing is written after that:
-/// [`write_hex`](WriteSink::write_hex) then only answers the error, and `write_str` may not be
-/// called. No call flushes the writer. Only the writer itself takes memory.
+/// A piece may take several calls of `write`. A call that a signal interrupts is made again. After
+/// a failed write, the writer has a beginning of what was offered, and nothing more is written:
+/// [`write_hex`](WriteSink::write_hex) only returns the error, and `write_str` may not be called.
+/// No call flushes the writer. Only the writer itself takes memory.
 ///
 /// ```rust
 /// let mut file = Vec::new(rt.alloc());
@@ -52,8 +52,8 @@ impl<'a, W: Write> WriteSink<'a, W> {
 
     /// Writes the text of some bytes, as [`BufferedHex::write_to`] does.
     ///
-    /// Answers `Ok` if no write failed, neither now nor before. After a failed write it calls nothing
-    /// and changes nothing, so a loop may call it again and again.
+    /// Returns `Ok` if no write has failed, in this call or before. After a failed write it calls
+    /// nothing and changes nothing, so a loop may call it again and again.
     ///
     /// ```rust
     /// let mut file = Vec::new(rt.alloc());
@@ -92,8 +92,8 @@ impl<'a, W: Write> WriteSink<'a, W> {
         self.error.as_ref()
     }
 
-    /// `Ok` if no write failed, and else the error of the one that did. The writer is as it was
-    /// left, and is the caller's again.
+    /// `Ok` if no write failed, or the error of the write that did. The writer is the caller's
+    /// again, with what was written.
     ///
     /// ```rust
     /// let mut file = Vec::new(rt.alloc());
@@ -158,7 +158,7 @@ impl<W: Write> Sink for WriteSink<'_, W> {
     ghost tells = { λ s piece t h. refl };
 }
 
-/// Writes a piece, and makes a write that a signal interrupts again.
+/// Writes a piece. If a signal interrupts a write, it is made again.
 #[tactic(auto, using(crate::proofs::WriteSinks::writes))]
 fn write_piece<W: Write>(writer: &mut W, piece: &[u8]) -> io::Result<()>
     ensures ok { OnOk result (Appends (W.contents writer.old) (W.contents writer.new) piece.now) }

@@ -12,7 +12,7 @@ concat-piece_of [] = refl
 concat-piece_of (b ∷ bs) = append-nil (b ∷ bs)
 
 module _ {O : Type 0} (step : O → List ℕ → O → Type 0) (room : O → Option ℕ) where
-  -- what is pending goes first, and then a long piece
+  -- the pending text goes first, and then a long piece
   pub Gathers-long : (n : ℕ) (old : O) (held piece : List ℕ) (mid new : O) → FoldsTo step old (piece_of held) mid → step mid piece new
       → n ≤ length piece → Gathers step room n old held piece new []
   Gathers-long n old held piece mid new h k w = record {

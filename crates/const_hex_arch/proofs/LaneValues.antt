@@ -63,7 +63,7 @@ nibbles_l n v =
 abbrev pub unhex_l : ℕ → List ℕ → List ℕ
 unhex_l n v = zip2 add8 (zip2 bit_and v (replicate n 15)) (sel_l (map (top 7) (zip2 below_mask (replicate n 64) v)) (replicate n 9) (replicate n 0))
 
--- ---- one lane, by computing each of the 256
+-- ---- one lane: each of the 256 values is computed
 
 abbrev value_in : List ℕ → Option ℕ
 value_in [] = None

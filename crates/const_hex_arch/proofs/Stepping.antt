@@ -1,4 +1,4 @@
--- Texts that are worked through by steps, and then by another kernel.
+-- Texts that are worked through in steps, and the rest by another kernel.
 use Rattle.std.proofs.Common.{◌≡◌, ℕ, ◌+◌, ◌-◌, ◌*◌, ◌≤◌, ◌↔◌, Bool, List, [], ◌++◌, length, take, drop, refl, sym, ap, subst, ◌∙◌, arith, take-add, take-append-drop, drop-drop, length-take, length-drop, length-append, Option}
 use Rattle.std.proofs.lemmas.Grind.{common_steps}
 use Rattle.std.proofs.lemmas.List.{append-nil, append_assoc, take_at, drop_at, take_rest}
@@ -34,14 +34,14 @@ checked_step {rest = rest} part d e digits = record {
   digits = (digits_append d.front part).1 (d.digits, digits);
 }
 
--- of all bytes, by the rest
+-- for all bytes, from the rest
 pub digits_rest : {u left : List ℕ} → IsChecked u left → AllDigits left ↔ AllDigits u
 digits_rest {left = left} d = (
   λ part. rw (← d.whole) ((digits_append d.front left).1 (d.digits, part)),
   λ whole. ((digits_append d.front left).0 (rw d.whole whole)).1,
 )
 
--- and of what is left, the first bytes
+-- the first bytes of what is left
 pub digits_left : {u left : List ℕ} (part rest : List ℕ) → IsChecked u left → part ++ rest ≡ left → AllDigits u → AllDigits part
 digits_left part rest d e whole = ((digits_append part rest).0 (rw e ((digits_rest d).1 whole))).0
 
@@ -61,7 +61,7 @@ module _ {S : Type 0} {step : S → List ℕ → S → Type 0} {room : S → Opt
     has_room = let all : length u - 0 ≡ length u = omega arith in rw all h;
   }
 
-  -- the text of n bytes more, as one piece
+  -- the text of n more bytes, as one piece
   pub written_step : {mid new : S} {i : ℕ} (n end : ℕ) → IsWritten step room up u old mid i → end ≡ i + n → end ≤ length u
       → step mid (hex_text up (take n (drop i u))) new → (1 ≤ n) × (n ≤ 32) → IsWritten step room up u old new end
   written_step {mid} {new} {i} n end d e h s size_is =
@@ -93,7 +93,8 @@ module _ {S : Type 0} {step : S → List ℕ → S → Type 0} {room : S → Opt
       → step old (hex_text up part) mid → (1 ≤ n) × (n ≤ 32) → IsWritten step room up u old mid n
   first_written n h k e s size_is = written_step n n (none_written h) (omega arith) k (rw e at s) size_is
 
--- ---- what the first bytes of an output hold is spelled by the first pairs of a text, and the rest is as before
+-- ---- the first bytes of an output hold what the first pairs of a text spell, and the rest of the
+-- output is unchanged
 pub record IsDecoded (u old new : List ℕ) (i : ℕ) : Type 0 where
   pub within : i ≤ length new
   pub same_length : length new ≡ length old

@@ -58,7 +58,7 @@ module _ {O : Type 0} (step : O → List ℕ → O → Type 0) (room : O → Opt
         gathered_more (inner s) (pending s) p (inner m) (pending m) (concat ps) (inner t) (pending t) f (All-head IsKernelPiece p ps a) h
         (gathered_run m ps t h.bound (All-tail IsKernelPiece p ps a) k)
 
--- ---- what was handed on, and then what is pending, is a cut
+-- ---- what was handed on, and then the pending text, is a cut
 
 all_but_last-append : (ps : List (List ℕ)) (rest : List ℕ) → All IsHandedOn ps → All IsLargePiece (all_but_last (ps ++ piece_of rest))
 unfolding IsHandedOn
@@ -152,7 +152,7 @@ module _ {S : Type 0} (step : S → List ℕ → S → Type 0) (is_refused : S �
   offered_run s [] t e h = record { count = 0; within = omega arith; run = ap (λ (x : SinkOutput S). output_sink x) h; complete = λ _. refl }
   offered_run s (p ∷ ps) t e (m, h, k) = offered_one s p m ps t e h k (λ u. offered_run m ps t u k) (is_refused (output_sink m)) refl
 
-  -- a run of small writes through a gathering output, and then what is pending
+  -- a run of small writes through a gathering output, and then the pending text
   pub Streams-from_writes : {B : Type 0} (room : SinkOutput S → Option ℕ) (inner : B → SinkOutput S) (pending : B → List ℕ)
       (s : B) (text : List ℕ) (t : B) (out : SinkOutput S) → pending s ≡ []
       → Writes (λ s p t. Gathers (SinkStep step is_refused) room 4096 (inner s) (pending s) p (inner t) (pending t)) s text t
@@ -248,7 +248,7 @@ module _ {S : Type 0} (step : S → List ℕ → S → Type 0) (is_refused : S �
     told = λ e. record { pieces = h.pieces; cut = h.cut; told = told-Offers s h.pieces t e (Streams-all step is_refused s text t e h) };
   }
 
--- the same at the value that the sink ends as
+-- the same for the value that the sink ends as
 pub Streams-at : {S : Type 0} (step : S → List ℕ → S → Type 0) (is_refused : S → Bool) (old : S) (text : List ℕ) (new : S)
     → Streams step is_refused old text new → (end : S) → end ≡ new → Streams step is_refused old text end
 Streams-at step is_refused old text new h end e = rw e h

@@ -1,15 +1,16 @@
--- Proofs by hand, over the machine's steps, of functions that answer an `Option` of a vector, which
--- the borrow checker does not cover yet.
+-- Proofs by hand, which follow the machine's steps, for functions that return an `Option` of a
+-- vector. The borrow checker does not cover these yet.
 --
--- `LaneOptions` has what they share: what is told of vectors of n lanes and of a vector beside a
--- flag, the two clauses of `decode_chunk`, and the steps that a walk is written in. The walks
--- themselves stand in `proofs/arch/lanes16/decode_chunk/Proof.antt`, and so at 32 lanes.
+-- `LaneOptions` has what the walks share: what is known of vectors of n lanes and of a vector
+-- beside a flag, the two clauses of `decode_chunk`, and the steps of a walk. The walk at 16 lanes
+-- is `proofs/arch/lanes16/decode_chunk/Proof.antt`; the walk at 32 lanes is in the same place.
 --
 -- What breaks a walk: it names the function's locals by their numbers, and takes its steps in their
--- order. Any edit of the body of `decode_chunk` ends it; an edit of what it calls does not.
+-- order. So every edit of the body of `decode_chunk` breaks it. An edit of a function that it calls
+-- does not.
 --
--- How to mend one: after the edit `rt check --generated FOLDER --start decode_chunk` writes its steps
--- with their locals, to `Code/Mir.antt` below that folder. Put the new numbers in place of the old,
--- from the top down, and check after each: the first step that no longer fits is named. Both walks
--- are the same but for the count of lanes. The guide of the toolchain is its `docs/WALKS.md`.
+-- How to mend one: after the edit `rt check --generated FOLDER --start decode_chunk` writes its
+-- steps and locals to `Code/Mir.antt` in that folder. Replace the old numbers by the new ones, from
+-- the top down, and check after each. The check names the first step that no longer fits. Both
+-- walks are the same except for the number of lanes. The toolchain's guide is its `docs/WALKS.md`.
 pub mod LaneOptions

@@ -9,7 +9,7 @@ hex_value b =
     else if nat_le 97 b && nat_le b 102 then Some (b - 87)
     else None
 
--- a value, or 255 where there is none
+-- a value, or 255 if there is none
 abbrev pub value_or_nil : Option ℕ → ℕ
 value_or_nil v = unwrap_or v 255
 

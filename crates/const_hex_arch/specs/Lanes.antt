@@ -1,4 +1,4 @@
--- What the parts of the steps make of lanes.
+-- What the parts of a step do with lanes.
 use Rattle.std.specs.Prelude.{◌≡◌, ℕ, ◌+◌, ◌*◌, ◌%◌, ◌≤◌, Bool, List, [], ◌∷◌}
 use Rattle.std.specs.Int.{bit_at}
 use Rattle.std.specs.List.{AllByRecursion}
@@ -8,7 +8,7 @@ use Rattle.const_hex_arch.specs.Digits.{hex_digit}
 abbrev pub AllNibbles : List ℕ → Type 0
 AllNibbles = AllByRecursion (λ n. n ≤ 15)
 
--- a lane without a mark: four of its bits are clear
+-- a lane has no mark: four of its bits are clear
 abbrev pub IsUnmarked : ℕ → Type 0
 IsUnmarked z = bit_at z 7 + bit_at z 6 + bit_at z 4 + bit_at z 3 ≡ 0
 
@@ -20,7 +20,7 @@ AllUnmarked = AllByRecursion IsUnmarked
 abbrev pub low_digit : Bool → ℕ → ℕ
 low_digit up b = hex_digit up (b % 16)
 
--- the bytes of pairs of values, the higher half first
+-- one byte for each pair of values, the higher half first
 abbrev pub byte_pairs : List ℕ → List ℕ
 byte_pairs [] = []
 byte_pairs (h ∷ []) = []

@@ -1,4 +1,4 @@
--- Lemmas that the laws of impls rest on.
+-- Lemmas for the laws of impls.
 use Rattle.std.specs.Prelude.{◌≡◌, ℕ, ◌+◌, Bool, true, false, if◌then◌else◌, List, [], ◌∷◌, ◌++◌, length, Option, Some, None, refl}
 use Rattle.std.specs.List.{FoldsTo, concat}
 use Rattle.std.proofs.Common.{sym, ap, ◌∙◌, arith, length-append}
@@ -12,21 +12,21 @@ less_room-zero : (room : Option ℕ) → less_room room 0 ≡ room
 less_room-zero (Some r) = ap Some (omega arith)
 less_room-zero None = refl
 
--- bytes and then bytes
+-- the room after some bytes and then more
 pub less_room-add : (room : Option ℕ) (m n : ℕ) → less_room (less_room room m) n ≡ less_room room (m + n)
 less_room-add (Some r) m n = ap Some (omega arith)
 less_room-add None m n = refl
 
 module _ {S : Type 0} (step : S → List ℕ → S → Type 0) (room : S → Option ℕ)
     (shrinks : (s : S) (piece : List ℕ) (t : S) → step s piece t → room t ≡ less_room (room s) (length piece)) where
-  -- a run takes the room of its pieces together
+  -- a run takes from the room the length of all its pieces
   pub run_shrinks : (s : S) (ps : List (List ℕ)) (t : S) → FoldsTo step s ps t → room t ≡ less_room (room s) (length (concat ps))
   run_shrinks s [] t h = ap room (sym h) ∙ sym (less_room-zero (room s))
   run_shrinks s (p ∷ ps) t (j, h, k) =
       run_shrinks j ps t k ∙ ap (λ r. less_room r (length (concat ps))) (shrinks s p j h)
       ∙ less_room-add (room s) (length p) (length (concat ps)) ∙ ap (less_room (room s)) (sym (length-append p (concat ps)))
 
-  -- gathering takes the room of the piece
+  -- gathering takes from the room the length of the piece
   pub Gathers_room : (n : ℕ) (old : S) (held piece : List ℕ) (new : S) (rest : List ℕ) → Gathers step room n old held piece new rest
       → less_room (room new) (length rest) ≡ less_room (less_room (room old) (length held)) (length piece)
   Gathers_room n old held piece new rest h =

@@ -3,7 +3,7 @@ use Rattle.std.specs.Prelude.{◌≡◌, ℕ, ◌+◌, ◌-◌, ◌%◌, ◌↔�
 use Rattle.const_hex_arch.specs.Digits.{hex_value, IsDigit}
 use Rattle.const_hex_arch.specs.Lanes.{IsUnmarked}
 
--- a lane of at most 15 is a value, and any other is none
+-- a lane of at most 15 is a value, and any other lane is none
 abbrev pub as_value : ℕ → Option ℕ
 as_value n = if nat_le n 15 then Some n else None
 
@@ -11,14 +11,15 @@ as_value n = if nat_le n 15 then Some n else None
 abbrev pub IsValueOf : ℕ → ℕ → Type 0
 IsValueOf b n = IsDigit b → hex_value b ≡ Some n
 
--- a lane has no mark exactly where the byte is a digit
+-- a lane has no mark exactly if the byte is a digit
 abbrev pub IsMarkOf : ℕ → ℕ → Type 0
 IsMarkOf b z = IsUnmarked z ↔ IsDigit b
 
--- n is the byte's value, if it is a digit; what is left of the byte less 48 when n is taken away tells whether it is one
+-- if the byte is a digit, n is its value; the byte less 48, less n, has no mark exactly if the byte
+-- is a digit
 abbrev pub IsPartOf : ℕ → ℕ → Type 0
 IsPartOf b n = IsValueOf b n × IsMarkOf b (((b + 208) % 256 + (256 - n)) % 256)
 
--- the byte less 48, but no more than t, is such a part
+-- the byte less 48, but at most t, is such a part
 abbrev pub IsLimitOf : ℕ → ℕ → Type 0
 IsLimitOf b t = IsPartOf b (if nat_lt ((b + 208) % 256) t then (b + 208) % 256 else t)

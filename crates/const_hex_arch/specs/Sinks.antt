@@ -1,9 +1,9 @@
--- What sinks tell of the pieces that they accepted, and what outputs over them do.
+-- What sinks tell of the accepted pieces, and what outputs over sinks do.
 use Rattle.std.specs.Prelude.{◌≡◌, ℕ, Bool, true, false, List, ◌++◌, Option, Some, None}
 use Rattle.std.specs.Borrow.{GName}
 use Rattle.const_hex_arch.specs.declared.sink.output.SinkOutput.{SinkOutput}
 
--- the pieces that were told, and then more, where a sink tells them
+-- the pieces that were told, and then more, if a sink tells them
 abbrev pub told_after : Option (List (List ℕ)) → List (List ℕ) → Option (List (List ℕ))
 told_after (Some told) more = Some (told ++ more)
 told_after None more = None
@@ -12,11 +12,11 @@ told_after None more = None
 abbrev pub output_sink : {S : Type 0} → SinkOutput S → S
 output_sink o = o.sink.now
 
--- which loan of a sink that is
+-- which loan of a sink an output has
 abbrev pub sink_name : {S : Type 0} → SinkOutput S → GName
 sink_name o = o.sink.ghost_name
 
--- a step of the same sink where it has not refused, and nothing where it has
+-- a step of the same sink if it has not refused, and nothing if it has
 pub record SinkStep {S : Type 0} (step : S → List ℕ → S → Type 0) (is_refused : S → Bool) (s : SinkOutput S) (piece : List ℕ) (t : SinkOutput S) : Type 0 where
   pub same_sink : sink_name t ≡ sink_name s
   pub accepting : is_refused (output_sink s) ≡ false → step (output_sink s) piece (output_sink t)

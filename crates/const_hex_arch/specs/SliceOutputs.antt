@@ -1,9 +1,9 @@
--- What a write into a slice does.
+-- A write into a slice.
 use Rattle.std.specs.Prelude.{◌≡◌, ℕ, ◌+◌, List, ◌++◌, length, take, drop}
 use Rattle.std.specs.Borrow.{GName}
 use Rattle.const_hex_arch.specs.declared.output.slice.SliceOutput.{SliceOutput}
 
--- the slice that is written into
+-- the slice that an output writes into
 abbrev pub slice_bytes : SliceOutput → List ℕ
 slice_bytes o = o.slice.now
 
@@ -11,11 +11,11 @@ slice_bytes o = o.slice.now
 abbrev pub slice_written : SliceOutput → ℕ
 slice_written o = o.count
 
--- which loan of a slice it is
+-- which loan of a slice an output has
 abbrev pub slice_name : SliceOutput → GName
 slice_name o = o.slice.ghost_name
 
--- the piece stands in the slice behind what was written, and the rest of the slice is as before
+-- the piece stands in the slice behind what was written, and the rest of the slice is unchanged
 pub record Placed (old : List ℕ) (at : ℕ) (piece : List ℕ) (new : List ℕ) (end : ℕ) : Type 0 where
   pub end_at : end ≡ at + length piece
   pub same_length : length new ≡ length old

@@ -26,13 +26,14 @@ pub record Cut (text : List ℕ) (pieces : List (List ℕ)) : Type 0 where
   pub sizes : All IsCallPiece pieces
   pub large : All IsLargePiece (all_but_last pieces)
 
--- a sink goes by its steps over the pieces in order, and has not refused before any of them
+-- a sink takes a step for each piece, in order, and has not refused before any of them
 abbrev pub Offers : {S : Type 0} → (S → List ℕ → S → Type 0) → (S → Bool) → S → List (List ℕ) → S → Type 0
 Offers step is_refused s [] t = s ≡ t
 Offers {S} step is_refused s (p ∷ ps) t = (is_refused s ≡ false) × ((m : S) × step s p m × Offers step is_refused m ps t)
 
--- some cut of the text is offered to a sink, piece by piece, up to its first refusal or to the end:
--- all of it where nothing is refused, and in no more calls than pieces of 4033 bytes would take
+-- some cut of the text is offered to a sink, piece by piece, up to the first refusal or to the end;
+-- if nothing is refused, that is all of the text; there are no more calls than pieces of 4033 bytes
+-- would need
 pub record Streams {S : Type 0} (step : S → List ℕ → S → Type 0) (is_refused : S → Bool) (old : S) (text : List ℕ) (new : S) : Type 0 where
   pub pieces : List (List ℕ)
   pub offered : ℕ
@@ -42,13 +43,13 @@ pub record Streams {S : Type 0} (step : S → List ℕ → S → Type 0) (is_ref
   pub complete : is_refused new ≡ false → offered ≡ length pieces
   pub calls : offered ≤ (length text + 4032) / 4033
 
--- what a sink tells afterwards is what it told before, and then a cut of the text
+-- what a sink tells after is what it told before, and then a cut of the text
 pub record TellsCut (old : Option (List (List ℕ))) (text : List ℕ) (new : Option (List (List ℕ))) : Type 0 where
   pub pieces : List (List ℕ)
   pub cut : Cut text pieces
   pub told : new ≡ told_after old pieces
 
--- what a text that is handed over does to a sink, and the answer
+-- what happens to a sink that is handed a text, and the answer
 pub record Handed {S : Type 0} (step : S → List ℕ → S → Type 0) (is_refused : S → Bool) (tells : S → Option (List (List ℕ))) (old : S) (text : List ℕ)
     (ok : Bool) (new : S) : Type 0 where
   pub streams : Streams step is_refused old text new

@@ -12,7 +12,7 @@ hex_text up (b ∷ bs) = hex_digit up (b / 16) ∷ hex_digit up (b % 16) ∷ hex
 abbrev pub prefix_of : Bool → List ℕ
 prefix_of prefix = if prefix then 48 ∷ 120 ∷ [] else []
 
--- the text, with `0x` in front where a prefix is wanted
+-- the text, with `0x` in front if a prefix is wanted
 abbrev pub full_text : Bool → Bool → List ℕ → List ℕ
 full_text prefix up bs = prefix_of prefix ++ hex_text up bs
 
@@ -40,14 +40,14 @@ Spells (c ∷ d ∷ u) (b ∷ bs) = IsPair c d b × Spells u bs
 abbrev pub AllDigits : List ℕ → Type 0
 AllDigits u = All IsDigit u
 
--- the first byte that is no digit stands at p
+-- the first byte that is not a digit stands at p
 pub record FirstBad (u : List ℕ) (p : ℕ) : Type 0 where
   pub within : p < length u
   pub before : AllDigits (take p u)
   pub here : IsNone (hex_value (slice_index u p))
 
--- what a refused text u leaves of an output: a front of it, no longer than the pairs before the
--- first bad byte, holds the bytes that are spelled there, and the rest is as before
+-- what a refused text u leaves of an output: a front of it holds the bytes that are spelled there,
+-- no more than the pairs before the first bad byte, and the rest is unchanged
 pub record Partial (old u new : List ℕ) : Type 0 where
   pub bad : ℕ
   pub done : ℕ

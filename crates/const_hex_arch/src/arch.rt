@@ -1,4 +1,4 @@
-//! Kernels: how bytes become digits, and digits bytes.
+//! Kernels, which turn bytes into digits, and digits into bytes.
 
 ghost use Rattle.std.specs.Prelude.{◌≡◌, ℕ, Bool, ◌+◌, ◌*◌, ◌<◌, ◌≤◌, ◌↔◌, IsTrue, true, false, length, Option};
 ghost use Rattle.const_hex_arch.specs.Runs.{HasRoom, Writes};
@@ -23,10 +23,10 @@ use crate::output::Output;
 /// ```
 pub type FixedKernel = Lanes32;
 
-/// How bytes become digits, and digits bytes.
+/// Turns bytes into digits, and digits into bytes.
 ///
-/// What stands above a kernel rests on the contracts of these four calls alone, so any type that
-/// meets them may be put under the codec. None of them takes memory.
+/// The codec relies only on the contracts of these four calls, so it runs over any type that meets
+/// them. None of them takes memory.
 ///
 /// ```rust
 /// fn read<K: Kernel>(text: &[u8; 8]) -> Option<[u8; 4]> {
@@ -37,15 +37,15 @@ pub type FixedKernel = Lanes32;
 /// assert_eq!(rt; read::<Lanes16>(b"6b69776g"), None);
 /// ```
 pub trait Kernel {
-    /// The same as the constant, for contracts.
+    /// The constant of the same name, for contracts.
     ghost USE_CHECK_FN: { Bool };
 
-    /// Whether a decoder that goes by this kernel checks a text before it decodes, and so leaves
-    /// its output unchanged where the text is refused.
+    /// Whether decoders check a text before they decode it by this kernel. If so, a refusal leaves
+    /// their output unchanged.
     const USE_CHECK_FN: bool;
 
-    /// Writes two digits for each byte, in order, in pieces of 1 to 64 bytes. The output has to
-    /// have room for them.
+    /// Writes two digits for each byte, in order, in pieces of 1 to 64 bytes. The output must have
+    /// room for them.
     ///
     /// ```rust
     /// let mut text = [0; 8];
@@ -65,10 +65,10 @@ pub trait Kernel {
     fn check(input: &[u8]) -> bool
         ensures { IsTrue result ↔ AllDigits input.now };
 
-    /// Fills the output with the bytes that the input spells, or answers false where some byte is
-    /// no digit: then a front of the output may be decoded, no longer than the pairs before the bad
-    /// byte, and the rest is as it was; all of it, where the kernel checks first. The input has to
-    /// have two bytes for each of the output.
+    /// Fills the output with the bytes that the input spells, and returns true. Returns false if
+    /// some byte is not a digit. Then a front of the output may be decoded, no longer than the
+    /// pairs before the bad byte, and the rest is unchanged. If the kernel checks first, the whole
+    /// output is unchanged. The input must have two bytes for each byte of the output.
     ///
     /// ```rust
     /// let mut bytes = [0; 4];
@@ -81,8 +81,8 @@ pub trait Kernel {
         ensures refused { result ≡ false → Partial output.old input.now output.new }
         ensures unchanged { result ≡ false → USE_CHECK_FN ≡ true → output.new ≡ output.old };
 
-    /// Fills the output with the bytes that the input spells. The input has to have two bytes for
-    /// each of the output, and digits alone.
+    /// Fills the output with the bytes that the input spells. The input must have two bytes for
+    /// each byte of the output, and only digits.
     ///
     /// ```rust
     /// let mut bytes = [0; 4];
@@ -95,8 +95,8 @@ pub trait Kernel {
         ensures { Spells input.now output.new };
 }
 
-/// Writes `0x` where a prefix is wanted, and then two digits for each byte, by a kernel. The output
-/// has to have room for them. Takes no memory but what the output takes.
+/// Writes `0x` if `prefix` is true, and then two digits for each byte, by the kernel `K`. The
+/// output must have room for them. Takes only the memory that the output takes.
 ///
 /// ```rust
 /// let mut text = [0; 10];
@@ -113,7 +113,7 @@ pub fn encode_full<K: Kernel, O: Output>(input: &[u8], prefix: bool, upper: bool
     K::encode(input, upper, output);
 }
 
-/// Writes `0x` where a prefix is wanted.
+/// Writes `0x` if `prefix` is true.
 #[inline(always)]
 #[tactic(auto, using(crate::proofs::Running::one_written))]
 fn write_prefix<O: Output>(prefix: bool, output: &mut O)

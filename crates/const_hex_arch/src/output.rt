@@ -1,4 +1,4 @@
-//! What text is written to.
+//! Outputs, which text is written to.
 
 ghost use Rattle.std.specs.Prelude.{◌≡◌, ℕ, ◌+◌, ◌<◌, ◌≤◌, List, [], ◌∷◌, length, Option};
 ghost use Rattle.std.specs.Str.{IsAscii};
@@ -7,9 +7,9 @@ ghost use Rattle.const_hex_arch.specs.Runs.{HasRoom, less_room};
 pub mod buffered;
 pub mod slice;
 
-/// What text is written to, a piece at a time.
+/// What text is written to, piece by piece.
 ///
-/// Each type says by its `step` what a write does. A caller writes ASCII alone, and no more than
+/// Each type says by its `step` what a write does. A caller writes only ASCII, and no more than
 /// [`remaining`](Output::remaining) says.
 ///
 /// ```rust
@@ -24,10 +24,10 @@ pub trait Output {
     /// What a write of a piece does: the state before, the piece, and the state after.
     ghost step: { Self → List ℕ → Self → Type 0 };
 
-    /// How many bytes it still takes, or `None` where there is no limit.
+    /// How many bytes it still takes, or `None` if there is no limit.
     ghost room: { Self → Option ℕ };
 
-    /// How many bytes it still takes, or `None` where there is no limit.
+    /// How many bytes it still takes, or `None` if there is no limit.
     ///
     /// ```rust
     /// assert_eq!(rt; SliceOutput::new(&mut [0; 4]).remaining(), Some(4));
@@ -63,7 +63,7 @@ pub trait Output {
         self.write(&[byte])
     }
 
-    /// The room goes down by what is written.
+    /// A write takes its length from the room.
     ghost shrinks: { (s : Self) (piece : List ℕ) (t : Self) → step s piece t
         → room t ≡ less_room (room s) (length piece) };
 }

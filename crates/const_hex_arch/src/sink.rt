@@ -1,4 +1,4 @@
-//! What takes text piece by piece, and may refuse.
+//! Sinks, which receive text piece by piece.
 
 ghost use Rattle.std.specs.Prelude.{◌≡◌, ℕ, Bool, false, not, List, [], ◌∷◌, is_ok, Option, Some, if◌then◌else◌, codes};
 ghost use Rattle.const_hex_arch.specs.Sinks.{told_after};
@@ -9,7 +9,7 @@ pub mod pieces;
 use std::error::Error;
 use std::fmt;
 
-/// A sink refused a piece. Any two are equal.
+/// A sink refused a piece. All values are equal.
 ///
 /// ```rust
 /// let mut sink = PieceSink::new(rt.alloc(), 1);
@@ -28,9 +28,9 @@ impl fmt::Display for SinkError {
 
 impl Error for SinkError {}
 
-/// What takes text piece by piece, until it refuses one.
+/// Receives text piece by piece, one call per piece. Any call may be refused.
 ///
-/// Each type says by its `step` what a call does. A sink that has refused takes no further call.
+/// Each type says by its `step` what a call does. A sink that has refused may not be called again.
 ///
 /// ```rust
 /// fn offer<S: Sink>(sink: &mut S, piece: &str) {
@@ -46,7 +46,7 @@ pub trait Sink {
     /// Whether it has refused a piece.
     ghost is_refused: { Self → Bool };
 
-    /// The pieces that it accepted, in order, where it tells them.
+    /// The pieces that it accepted, in order, if it tells them.
     ghost told: { Self → Option (List (List ℕ)) };
 
     /// Whether it has refused a piece.
@@ -57,8 +57,8 @@ pub trait Sink {
     fn refused(&self) -> bool
         ensures { result ≡ is_refused self.now };
 
-    /// Offers a piece: `Ok` where it is accepted, and an error where it is refused. The sink must
-    /// not have refused before.
+    /// Offers a piece. Returns `Ok` if the sink accepts it, and an error if it refuses. The sink
+    /// must not have refused before.
     ///
     /// ```rust
     /// assert!(rt; PieceSink::new(rt.alloc(), 0).write_str("one").is_ok());
@@ -68,12 +68,12 @@ pub trait Sink {
         ensures step { step self.old s.now self.new }
         ensures flag { is_ok result ≡ not (is_refused self.new) };
 
-    /// A piece that is accepted is told last, and a refusal leaves what is told.
+    /// An accepted piece is told last. A refusal adds nothing to what is told.
     ghost tells: { (s : Self) (piece : List ℕ) (t : Self) → step s piece t
         → told t ≡ told_after (told s) (if is_refused t then [] else piece ∷ []) };
 }
 
-/// An error where the sink has refused.
+/// An error if the sink has refused.
 #[inline]
 pub(crate) fn refusal_of<S: Sink>(sink: &S) -> Result<(), SinkError>
     ensures { is_ok result ≡ not (S.is_refused sink.now) }

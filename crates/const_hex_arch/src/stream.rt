@@ -10,20 +10,20 @@ use crate::sink::output::SinkOutput;
 use crate::sink::{Sink, SinkError, refusal_of};
 use crate::text::{fill_text, text_size};
 
-/// How many bytes are gathered for one call of a sink, and the longest text that is handed over whole.
+/// How many bytes are gathered for one call of a sink. A text of at most this length is handed over
+/// whole.
 const GATHERED: usize = 4096;
 
-/// The room for a short text, so that less is set to zero.
+/// The room for a short text. A smaller buffer is cleared faster.
 const SHORT: usize = 256;
 
-/// The same for a text of middle length.
+/// The room for a text of middle length.
 const MIDDLE: usize = 1024;
 
 /// Bytes that are written as text, in upper or lower digits, with or without `0x` in front.
 ///
-/// The text goes to a sink in pieces of at most 4096 bytes, each but the last of at least 4033, and
-/// no call follows a refusal. No bytes without a prefix make no call. Nothing takes memory but what
-/// the sink takes.
+/// Each piece has at most 4096 bytes, and each but the last at least 4033. No call follows a
+/// refusal. An empty text makes no call. Only the sink takes memory.
 ///
 /// ```rust
 /// let mut sink = PieceSink::new(rt.alloc(), 0);
@@ -37,7 +37,7 @@ pub struct BufferedHex<'a, const UPPER: bool, const PREFIX: bool> {
 }
 
 impl<'a, const UPPER: bool, const PREFIX: bool> BufferedHex<'a, UPPER, PREFIX> {
-    /// Those bytes, to be written as text.
+    /// These bytes, to be written as text.
     ///
     /// ```rust
     /// let mut sink = PieceSink::new(rt.alloc(), 0);
@@ -51,8 +51,8 @@ impl<'a, const UPPER: bool, const PREFIX: bool> BufferedHex<'a, UPPER, PREFIX> {
         BufferedHex { bytes }
     }
 
-    /// Writes the text to a sink that has not refused, by the fixed kernel: `Ok` where the sink
-    /// accepted all of it, and an error where it refused a piece.
+    /// Writes the text by the fixed kernel to a sink that has not refused. Returns `Ok` if the sink
+    /// accepted all of it, and an error if it refused a piece.
     ///
     /// ```rust
     /// let mut sink = PieceSink::new(rt.alloc(), 1);
@@ -71,7 +71,7 @@ impl<'a, const UPPER: bool, const PREFIX: bool> BufferedHex<'a, UPPER, PREFIX> {
         self.write_with::<FixedKernel, S>(sink)
     }
 
-    /// The same by a kernel of the caller's choice.
+    /// As [`write_to`](Self::write_to), by a kernel of the caller's choice.
     ///
     /// ```rust
     /// let mut sink = PieceSink::new(rt.alloc(), 0);
@@ -99,7 +99,7 @@ impl<'a, const UPPER: bool, const PREFIX: bool> BufferedHex<'a, UPPER, PREFIX> {
         }
     }
 
-    /// Whether the text has at most so many bytes, which are at least two.
+    /// Whether the text has at most `room` bytes. The room must be at least 2.
     #[inline(always)]
     #[tactic(auto, using(crate::proofs::Writing::full_text_size))]
     fn fits(&self, room: usize) -> bool
@@ -128,8 +128,8 @@ impl<'a, const UPPER: bool, const PREFIX: bool> BufferedHex<'a, UPPER, PREFIX> {
         sink.write_str(unsafe { str::from_utf8_unchecked(text) })
     }
 
-    /// The same by gathering up to 4096 bytes.
-    // Not inlined: on its own the machine's code for long texts is the faster one.
+    /// As `write_with`, with up to 4096 bytes gathered for each call.
+    // Not inlined: the machine code for long texts is faster on its own.
     #[inline(never)]
     fn gather<K: Kernel, S: Sink>(&self, sink: &mut S) -> Result<(), SinkError>
         requires { S.is_refused sink.old ≡ false }
@@ -143,10 +143,10 @@ impl<'a, const UPPER: bool, const PREFIX: bool> BufferedHex<'a, UPPER, PREFIX> {
             UPPER,
             &mut output,
         );
-        // Flushed in place, since `finish` would move the buffer first.
+        // `flush` works in place, and `finish` would move the buffer first.
         output.flush();
         let back = output.into_output().into_inner();
-        // Without effect: the proof reads here what is left behind the loan.
+        // This does nothing. The proof reads here what the loan has left.
         let _ = &*back;
         refusal_of(sink)
     }

@@ -17,7 +17,7 @@ pub const HEX_CHARS_LOWER: &[u8; 16] = b"0123456789abcdef";
 /// ```
 pub const HEX_CHARS_UPPER: &[u8; 16] = b"0123456789ABCDEF";
 
-/// What [`HEX_DECODE_LUT`] has for a byte that is no digit.
+/// What [`HEX_DECODE_LUT`] has for a byte that is not a digit.
 ///
 /// ```rust
 /// assert_eq!(rt; HEX_DECODE_LUT[usize::from(b'g')], NIL);
@@ -64,7 +64,7 @@ pub fn digit_at(upper: bool, v: u8) -> u8
     }
 }
 
-/// The value of a digit in either case, or [`NIL`] for a byte that is no digit.
+/// The value of a digit in either case, or [`NIL`] for a byte that is not a digit.
 ///
 /// ```rust
 /// assert_eq!(rt; const_hex::value_at(b'B'), 11);

@@ -1,4 +1,4 @@
-//! The whole text of bytes, in a slice of just its length.
+//! The whole text of bytes, in a slice of exactly its length.
 
 ghost use Rattle.std.specs.Prelude.{◌≡◌, length, min};
 ghost use Rattle.std.specs.Str.{IsAscii};
@@ -7,8 +7,8 @@ ghost use Rattle.const_hex_arch.specs.Texts.{full_text, text_length};
 use crate::arch::{Kernel, encode_full};
 use crate::output::slice::SliceOutput;
 
-/// How long the text of so many bytes is, behind `0x` if a prefix is wanted. The greatest number
-/// if that does not fit: no text has that length.
+/// The length of the text of `count` bytes, behind `0x` if `prefix` is true. If that does not fit
+/// into a `usize`, the answer is the greatest one, and no text has that length.
 ///
 /// ```rust
 /// assert_eq!(rt; text_size(true, 20), 42);
@@ -23,8 +23,8 @@ pub fn text_size(prefix: bool, count: usize) -> usize
         .saturating_add(if prefix { 2 } else { 0 })
 }
 
-/// Fills the output with the text of the input, by a kernel, behind `0x` if a prefix is wanted.
-/// The output has to have just the length of that text. Takes no memory.
+/// Fills the output with the text of the input, by the kernel `K`, behind `0x` if `prefix` is true.
+/// The output must have exactly the length of that text. Takes no memory.
 ///
 /// ```rust
 /// let mut text = [0; 10];

@@ -6,12 +6,12 @@ use Rattle.const_hex.specs.declared.error.FromHexError.TheVariants.{OddLength, I
 use Rattle.const_hex_c.specs.Crossing.{Says}
 use Rattle.const_hex_c.specs.declared.refusal.Refusal.{Refusal}
 
--- what is true of each value in o, and leads from P to Q, gives Q of them
+-- if P implies Q, and P is true of the value in o, then Q is
 pub some_weaker : {X : Type 0} (o : Option X) (P Q : X → Type 0) → ((x : X) → P x → Q x) → IfSome o P → IfSome o Q
 some_weaker None P Q leads holds = tt
 some_weaker (Some x) P Q leads holds = leads x holds
 
--- the struct's kind says which refusal it is, where that has words
+-- the struct's kind says which refusal it is, if that has words
 pub says_by_kind : (r : Refusal) (o : Option FromHexError) (P : List ℕ → Type 0)
     → (r.kind ≡ 1 → o ≡ Some OddLength) → (r.kind ≡ 2 → o ≡ Some InvalidStringLength)
     → (r.kind ≡ 4 → o ≡ Some NoMemory) → IfSome o (λ e. IfSome (message_of e) P) → Says r P

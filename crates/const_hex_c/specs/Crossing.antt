@@ -12,14 +12,14 @@ refusal_of InvalidStringLength = record { kind = 2; byte = 0; index = 0 }
 refusal_of (InvalidHexCharacter c i) = record { kind = 3; byte = c; index = i }
 refusal_of NoMemory = record { kind = 4; byte = 0; index = 0 }
 
--- the struct r stands for a refusal of which that is true
+-- the struct r stands for a refusal e, and `holds e` is true
 abbrev pub StandsFor : Refusal → (FromHexError → Type 0) → Type 0
 StandsFor r holds = (e : FromHexError) × (r ≡ refusal_of e) × holds e
 
--- that is true of the words of the refusal that the struct r stands for, where its contract names them
+-- if the struct r stands for a refusal with known words, `holds` is true of these words
 abbrev pub Says : Refusal → (List ℕ → Type 0) → Type 0
 Says r holds = (e : FromHexError) → r ≡ refusal_of e → IfSome (message_of e) holds
 
--- the kind of the struct r is that of no refusal
+-- the struct r has a kind that no refusal has
 abbrev pub IsUnknown : Refusal → Type 0
 IsUnknown r = (r.kind ≡ 0) ⊎ (4 < r.kind)

@@ -1,11 +1,11 @@
 //! The codec's calls, for C.
 //!
-//! Each call that encodes, decodes or checks makes one call of `const_hex` and states that call's
-//! clauses again. The length of a text, the words of a refusal and the version stand beside them.
-//! None takes memory, and none asks anything of its arguments: a slice is a pointer and a length, and
-//! the null pointer may stand with length 0. The header `c/const_hex.h` says the same to C.
+//! Each call that encodes, decodes or checks makes one call of `const_hex`, and has that call's
+//! clauses. Besides there are the length of a text, the words of a refusal, and the version. No
+//! call takes memory, and none requires anything of its arguments. A slice is a pointer and a
+//! length; the pointer may be null if the length is 0. The header `c/const_hex.h` tells C the same.
 //!
-//! The words of the contracts are those of `const_hex`, and one file of `specs/`:
+//! The contracts use the words of `const_hex`, and of one file of `specs/`:
 //!
 //! - `Crossing.antt`: a refusal as C has it, and its words.
 #![tactic(auto)]
@@ -22,9 +22,9 @@ mod words;
 
 use crate::refusal::Refusal;
 
-/// How long the text of so many bytes is: two digits for each, and two bytes more for a prefix.
-/// The greatest number where that does not fit; no text has that length. Refuses nothing, and takes
-/// no memory.
+/// The length of the text of so many bytes: two digits for each byte, and two bytes more for a
+/// prefix. If that does not fit, the answer is the greatest number, and no text has that length.
+/// Takes no memory.
 ///
 /// ```c
 /// size_t length = const_hex_encoded_length(20, true); /* 42 */
@@ -36,9 +36,9 @@ pub extern "C" fn const_hex_encoded_length(bytes: usize, prefix: bool) -> usize
     const_hex::text_size(prefix, bytes)
 }
 
-/// Fills the text with the digits of the bytes, in upper or lower letters, behind `0x` where a
-/// prefix is wanted. False where the text has not just that length, and it is then unchanged. Takes
-/// no memory.
+/// Fills the text with the digits of the bytes, in upper or lower letters, behind `0x` if `prefix`
+/// is true. Returns false if the text does not have exactly that length; the text is then
+/// unchanged. Takes no memory.
 ///
 /// ```c
 /// char text[10];
@@ -55,11 +55,11 @@ pub extern "C" fn const_hex_encode(bytes: &[u8], prefix: bool, upper: bool, text
 
 /// Fills the bytes with what the text spells, with or without a prefix, in either case.
 ///
-/// False where the text is refused, and the refusal says why, in this order: an odd length; digits
-/// that are not two for each byte; the first byte that is no digit. The first two leave the bytes
-/// unchanged. The last may leave a front of them decoded, no longer than the pairs before the bad
-/// byte, and the rest as it was. Where the text is accepted, the refusal is as it was. Takes no
-/// memory.
+/// Returns false if the text is refused, with the first of these refusals: an odd length; digits
+/// that are not two for each byte; the first byte that is not a digit. The first two leave the
+/// bytes unchanged. After the third, a front of the bytes may be decoded, no longer than the pairs
+/// before the bad byte, and the rest is unchanged. If the text is accepted, the refusal is
+/// unchanged. Takes no memory.
 ///
 /// ```c
 /// unsigned char bytes[4];
@@ -84,12 +84,12 @@ pub extern "C" fn const_hex_decode(text: &[u8], bytes: &mut [u8], refusal: &mut 
     }
 }
 
-/// As `const_hex_decode`, into room for more bytes: their count is answered, and what is behind
-/// them stays as it was.
+/// As `const_hex_decode`, but the bytes may have more room than needed. Sets the count to the
+/// number of bytes decoded, and leaves what is behind them unchanged.
 ///
-/// False where the text is refused, and the count is then as it was. The refusals are those of
-/// `const_hex_decode`; the second comes where the text has more digits than the room takes. Takes
-/// no memory.
+/// Returns false if the text is refused; the count is then unchanged. The refusals are those of
+/// `const_hex_decode`, but the second comes only if the text has more digits than the room takes.
+/// Takes no memory.
 ///
 /// ```c
 /// unsigned char bytes[32];
@@ -130,8 +130,8 @@ pub extern "C" fn const_hex_decode_front(
 
 /// Whether the text can be decoded, with or without a prefix, in either case.
 ///
-/// False where it is refused, and the refusal says why: an odd length, or else the first byte that
-/// is no digit. Where it is true, the refusal is as it was. Takes no memory.
+/// Returns false if the text is refused, and sets the refusal: an odd length, or else the first
+/// byte that is not a digit. If the answer is true, the refusal is unchanged. Takes no memory.
 ///
 /// ```c
 /// struct const_hex_refusal refusal;
@@ -152,8 +152,8 @@ pub extern "C" fn const_hex_check(text: &[u8], refusal: &mut Refusal) -> bool
     }
 }
 
-/// Whether every byte is a digit: no prefix is allowed, and the length does not matter. Refuses
-/// nothing, and takes no memory.
+/// Whether every byte is a digit. No prefix is allowed, and the length does not matter. Takes no
+/// memory.
 ///
 /// ```c
 /// bool digits = const_hex_check_raw("6b6", 3); /* true */
@@ -165,12 +165,12 @@ pub extern "C" fn const_hex_check_raw(text: &[u8]) -> bool
     const_hex::check_raw(text)
 }
 
-/// Puts the words of a refusal into the buffer, and a NUL behind them, and answers how many bytes
-/// stand before the NUL.
+/// Puts the words of a refusal and a NUL into the buffer, and returns how many bytes stand before
+/// the NUL.
 ///
-/// Where the buffer is too small the words are cut; where it is empty, nothing is written. A struct
-/// that stands for no refusal has no words. The words of a bad character are shown by tests, and no
-/// contract says that there are any: printing could give up. Refuses nothing, and takes no memory.
+/// If the buffer is too small, the words are cut. If it is empty, nothing is written. A struct that
+/// is no refusal has no words. No contract says that any words come, since printing could give up;
+/// tests show it, and the words of a bad character. Takes no memory.
 ///
 /// ```c
 /// char words[CONST_HEX_WORDS];
@@ -199,7 +199,7 @@ pub extern "C" fn const_hex_refusal_words(refusal: &Refusal, buffer: &mut [u8]) 
 }
 
 /// The version of these calls: 10,000 times the major one, 100 times the minor one, and the patch.
-/// Refuses nothing, and takes no memory.
+/// Takes no memory.
 ///
 /// ```c
 /// uint32_t version = const_hex_version(); /* 10000 is 1.0.0 */

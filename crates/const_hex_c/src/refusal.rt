@@ -9,15 +9,15 @@ use const_hex::FromHexError;
 
 /// The kind of a text with an odd number of bytes.
 pub const ODD_LENGTH: u32 = 1;
-/// The kind of a text that does not spell as many bytes as are wanted.
+/// The kind of a text that does not spell the wanted number of bytes.
 pub const INVALID_LENGTH: u32 = 2;
-/// The kind of a text with a byte that is no digit.
+/// The kind of a text with a byte that is not a digit.
 pub const INVALID_CHARACTER: u32 = 3;
-/// The kind of refused memory. No call for C takes memory, so none answers it.
+/// The kind of refused memory. No call for C takes memory, so none returns it.
 pub const NO_MEMORY: u32 = 4;
 
-/// Why a text was refused: the kind, and of a bad character the byte and its place in the whole
-/// text. Of any other kind those two are 0.
+/// Why a text was refused. For a bad character, `byte` is the byte, and `index` its place in the
+/// whole text. For any other kind both are 0.
 #[repr(C)]
 #[derive(Clone, Copy)]
 pub struct Refusal {
@@ -43,7 +43,7 @@ impl From<FromHexError> for Refusal {
 }
 
 impl Refusal {
-    /// The refusal that this stands for, where there is one.
+    /// The refusal that this struct stands for, if there is one.
     fn error(&self) -> Option<FromHexError>
         ensures odd { self.now.kind ≡ 1 → result ≡ Some OddLength }
         ensures length { self.now.kind ≡ 2 → result ≡ Some InvalidStringLength }
@@ -62,7 +62,7 @@ impl Refusal {
         }
     }
 
-    /// Its words. There are none where it stands for no refusal.
+    /// Its words. A struct that stands for no refusal has none.
     #[tactic(auto, using(crate::proofs::Wording::says_by_kind))]
     pub(crate) fn words(&self) -> Words
         ensures words { Says self.now (λ m. 0 < result.count → take result.count result.bytes ≡ m) }

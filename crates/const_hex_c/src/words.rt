@@ -6,7 +6,7 @@ ghost use Rattle.const_hex.specs.Messages.{message_of};
 use const_hex::FromHexError;
 use std::fmt;
 
-/// Room for the words of any refusal of a text: the longest have 59 bytes.
+/// Room for the words of any refusal of a text. The longest words have 59 bytes.
 const ROOM: usize = 64;
 
 /// Printed words.
@@ -28,7 +28,7 @@ impl Words {
         }
     }
 
-    /// The words of a refusal. There are none where they could not be printed whole.
+    /// The words of a refusal, or none if they could not be printed whole.
     pub(crate) fn of(error: FromHexError) -> Words
         ensures { IfSome (message_of error) (λ m. 0 < result.count → take result.count result.bytes ≡ m) }
     {
@@ -51,7 +51,7 @@ impl fmt::Write for Words {
     ghost write_str_gives = { λ old text new.
         take new.count new.bytes ≡ take old.count old.bytes ++ text };
 
-    /// An error where the words that are there and this text are more than there is room for.
+    /// An error if the words and this text together do not fit.
     fn write_str(&mut self, text: &str) -> fmt::Result {
         if text.len() > ROOM - self.count {
             return Err(fmt::Error);

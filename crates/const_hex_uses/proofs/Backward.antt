@@ -1,4 +1,4 @@
--- One digit or pair in front of what was read from the end on, and room for a pair of digits.
+-- Text that is read from its end: one more digit or pair in front, and room for a pair of digits.
 use Rattle.std.proofs.Common.{◌≡◌, ℕ, ◌+◌, ◌*◌, ◌/◌, ◌%◌, ◌<◌, ◌≤◌, Bool, List, [], ◌∷◌, length, take, drop, get_or, set, sym, arith}
 use Rattle.std.specs.Prelude.{Option, Some}
 use Rattle.std.proofs.lemmas.List.{append_assoc, drop_more, drop-set}
@@ -29,7 +29,7 @@ room_after_pair step room shrinks s a b t n k e h r =
     let all : 2 * n ≡ 2 + 2 * k = omega arith in
     rw (shrinks s (a ∷ b ∷ []) t h) (HasRoom-less (room s) 2 (2 * k) (rw all at r))
 
--- the digits of one byte more are written at once
+-- the digits of one more byte are written at once
 pub pair_written : {S : Type 0} (step : S → List ℕ → S → Type 0) (s : S) (up : Bool) (bs : List ℕ) (i : ℕ) (m : S) (a b : ℕ) (t : S) → i < length bs
     → a ≡ hex_digit up (get_or bs i 0 / 16) → b ≡ hex_digit up (get_or bs i 0 % 16)
     → Writes step s (hex_text up (take i bs)) m → step m (a ∷ b ∷ []) t → Writes step s (hex_text up (take (i + 1) bs)) t

@@ -1,4 +1,4 @@
--- Lines that `lines` gives, with their numbers.
+-- The lines of a text, with their numbers.
 use Rattle.std.proofs.Common.{◌≡◌, ◌≢◌, ℕ, ◌+◌, ◌<◌, List, [], ◌++◌, ◌∷◌, length, get_or, refl, ap, ◌∙◌, arith, Err, length-append, below_more}
 use Rattle.std.proofs.lemmas.List.{get_or_default}
 use Rattle.std.proofs.lemmas.List.FromFn.{get_or-enumerate_from, length-enumerate_from}
@@ -19,7 +19,7 @@ item_at lines i number line h =
     let same = h.1 ∙ get_or-enumerate_from 0 lines i (number, line) within in
     (within, omega (arith, ap (λ p. p.0) same), ap (λ p. p.1) same ∙ get_or_default lines i line [] within)
 
--- the fault of a line, from what is said of each
+-- the fault of a line, from what is known of each line
 pub fault_of : (line : List ℕ) (fault : LineFault)
     → (fault ≡ NoSign → sign_place line ≡ length line)
     → ((start : ℕ) (e : FromHexError) → fault ≡ Refused start e → start ≡ sign_place line + 1)
@@ -28,7 +28,8 @@ pub fault_of : (line : List ℕ) (fault : LineFault)
 fault_of line NoSign no_sign start refusal = no_sign refl
 fault_of line (Refused s e) no_sign start refusal = (start s e refl, refusal s e refl)
 
--- what holds at each place of a list, and at its end, holds at each place of the list and one more
+-- what is true at each place of a list, and at its end, is true at each place of the list with one
+-- more item
 pub one_more : {A : Type 0} (P : ℕ → Type 0) (xs : List A) (x : A)
     → ((k : ℕ) → k < length xs → P k) → P (length xs) → (k : ℕ) → k < length (xs ++ x ∷ []) → P k
 one_more P xs x before here k within =

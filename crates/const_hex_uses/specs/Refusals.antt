@@ -1,4 +1,4 @@
--- What a user is shown of a refused text.
+-- What a user sees of a refused text.
 use Rattle.std.specs.Prelude.{ℕ, List, [], ◌∷◌, ◌++◌, replicate, unwrap_or}
 use Rattle.const_hex.specs.Messages.{message_of}
 use Rattle.const_hex.specs.declared.error.FromHexError.{FromHexError}
@@ -8,11 +8,11 @@ use Rattle.const_hex.specs.declared.error.FromHexError.TheVariants.{OddLength, I
 abbrev pub marked_text : List ℕ → ℕ → List ℕ
 marked_text text place = text ++ 10 ∷ replicate place 32 ++ 94 ∷ []
 
--- the words of a refusal; those of a bad character stand in no contract
+-- the words of a refusal; no contract has the words of a bad character
 abbrev pub words_of : FromHexError → List ℕ
 words_of e = unwrap_or (message_of e) []
 
--- the text, and on the next line the mark of a bad character, or the words of any other refusal
+-- the text, and on the next line a mark under the bad character, or the words of any other refusal
 abbrev pub explained_text : List ℕ → FromHexError → List ℕ
 explained_text text OddLength = text ++ 10 ∷ words_of OddLength
 explained_text text InvalidStringLength = text ++ 10 ∷ words_of InvalidStringLength

@@ -18,24 +18,24 @@ value_text line = after_first (λ b. b == 61) line
 abbrev pub HasValue : List ℕ → Type 0
 HasValue line = (sign_place line ≢ length line) × (bytes : List ℕ) × Reads (value_text line) (Ok bytes)
 
--- the line has that fault
+-- the line has this fault
 abbrev pub HasFault : List ℕ → LineFault → Type 0
 HasFault line NoSign = sign_place line ≡ length line
 HasFault line (Refused start e) = (start ≡ sign_place line + 1) × (e ≢ NoMemory → Reads (value_text line) (Err e))
 
--- the line of that number, counted from 0
+-- the line with this number, counted from 0
 abbrev pub line_at : List (List ℕ) → ℕ → List ℕ
 line_at lines k = slice_index_or lines k []
 
--- the first fault of lines: its line's number, counted from 1, and what it is
+-- the first fault of some lines: the number of its line, counted from 1, and the fault
 abbrev pub FirstFault : List (List ℕ) → Option (ℕ × LineFault) → Type 0
 FirstFault lines None = (k : ℕ) → k < length lines → HasValue (line_at lines k)
 FirstFault lines (Some found) =
     (k : ℕ) × (k < length lines) × (found.0 ≡ k + 1) × HasFault (line_at lines k) found.1
     × ((j : ℕ) → j < k → HasValue (line_at lines j))
 
--- the column of a bad character, counted from 1: its place in the value, behind the place at which
--- the value begins. No line is so long that the greatest number stands in its place
+-- the column of a bad character, counted from 1: the place where the value begins, and then its
+-- place in the value. No line is long enough for the sum to stop at the greatest number
 abbrev pub column_of : LineFault → Option ℕ
 column_of NoSign = None
 column_of (Refused start OddLength) = None

@@ -8,9 +8,9 @@ use const_hex::{FromHex, FromHexError};
 use hash_hex::Address20;
 use std::alloc::Global;
 
-/// Whether two texts name the same account: their prefixes and their case make no difference.
+/// Whether two texts name the same account. Their prefixes and their case make no difference.
 ///
-/// Refused where one of the texts is no address. Takes no memory.
+/// Returns an error if one of the texts is not an address. Takes no memory.
 ///
 /// ```rust
 /// assert!(rt; is_same_account(rt.alloc(), &[b'a'; 40], &[b'A'; 40])?);

@@ -1,6 +1,6 @@
-//! Callers that print bytes of a fixed count without memory.
+//! Callers that print a fixed number of bytes without memory.
 //!
-//! They meet the conditions of [`Buffer`] with no proof of their own.
+//! They meet the conditions of [`Buffer`] without a proof of their own.
 
 ghost use Rattle.std.specs.Prelude.{◌≡◌, true, false, []};
 ghost use Rattle.const_hex.specs.Buffers.{buffer_text};
@@ -41,7 +41,7 @@ pub fn prefixed_digest_text(digest: &[u8; 32]) -> Buffer<32, true, 66>
     const_encode::<32, true, 66>(digest)
 }
 
-/// The text of no bytes: the prefix alone.
+/// The text of no bytes: only the prefix.
 ///
 /// ```rust
 /// assert_eq!(rt; empty_text().as_str(), "0x");

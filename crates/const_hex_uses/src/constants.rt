@@ -1,4 +1,4 @@
-//! Constants that the program writes as text. A wrong one is refused when the program is checked.
+//! Constants that the program writes as text. The check refuses a wrong one.
 
 ghost use Rattle.std.specs.Prelude.{Ok};
 ghost use Rattle.const_hex.specs.Answers.{ReadsSized};
@@ -8,7 +8,7 @@ use const_hex::{bytes_of, decode_to_array};
 /// The address of the contract of wrapped ether.
 const WRAPPED_ETHER: &[u8; 42] = b"0xC02aaA39b223FE8D0A0e5C4F27eAD9083C756Cc2";
 
-/// The hash of `Transfer(address,address,uint256)`, by which logs of transfers are found.
+/// The hash of `Transfer(address,address,uint256)`, which finds logs of transfers.
 const TRANSFER: &[u8; 66] = b"0xddf252ad1be2c89b69c2b068fc378daa952ba7f163c4a11628f55a4df523b3ef";
 
 /// The address as bytes.

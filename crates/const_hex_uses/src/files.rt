@@ -9,7 +9,7 @@ use const_hex::{Sink, WriteSink};
 use std::io;
 use std::io::{Read, Write};
 
-/// Writes the text of some bytes, and answers the writer's error where it fails.
+/// Writes the text of some bytes. Returns the writer's error if it fails.
 ///
 /// ```rust
 /// let mut file = Vec::new(rt.alloc());
@@ -27,8 +27,8 @@ pub fn write_text<W: Write>(bytes: &[u8], writer: &mut W) -> io::Result<()>
     sink.finish()
 }
 
-/// Writes the bytes that a reader gives as lines of text, each of at most 16 bytes, until the reader
-/// ends or an error comes.
+/// Writes the bytes of a reader as lines of text, each of at most 16 bytes, until the reader ends
+/// or an error comes.
 ///
 /// The check proves that each call is allowed: `write_hex` may be called after an error too, and
 /// `write_str` only after its `Ok`. No clause says what was written.

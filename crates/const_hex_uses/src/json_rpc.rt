@@ -66,7 +66,7 @@ pub fn marked(alloc: Global, text: &str, place: usize) -> Result<String, AllocEr
     Ok(shown)
 }
 
-/// What a user is shown of a refused text: the place of a bad byte under it, and else the refusal.
+/// What a user sees of a refused text: a mark under the bad byte, or the words of another refusal.
 ///
 /// ```rust
 /// let refusal = const_hex::check(b"0xzz").unwrap_err();

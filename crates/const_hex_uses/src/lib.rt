@@ -1,6 +1,6 @@
-//! Callers of `const_hex`, small and whole, each with the contract that its users would want.
+//! Small, whole callers of `const_hex`, each with the contract that its users would want.
 //!
-//! Most have no proof of their own: they rest on the codec's clauses alone.
+//! Most have no proof of their own: the codec's clauses are enough.
 #![tactic(auto)]
 
 pub mod accounts;

@@ -1,4 +1,4 @@
-//! A kernel of one's own, put under the codec.
+//! A kernel of your own, under the codec.
 
 ghost use Rattle.std.specs.Prelude.{◌≡◌, ◌≢◌, ◌*◌, ◌↔◌, IsTrue, true, false, length, string_bytes, IfOk, IfErr, Ok, Err};
 ghost use Rattle.const_hex.specs.Answers.{Reads};
@@ -10,15 +10,14 @@ use const_hex::{
 };
 use std::alloc::{AllocError, Global};
 
-/// Goes from the last byte to the first where it checks and decodes, and writes the two digits of
-/// a byte at once where it encodes.
+/// Checks and decodes from the last byte to the first. Encodes by one write for the two digits of a
+/// byte.
 ///
-/// The author of a kernel proves four contracts: that what `encode` writes is the text of the
-/// bytes, in pieces of 1 to 64 bytes; that `check` is true exactly where every byte is a digit;
-/// that `decode_checked` leaves the bytes that are spelled, or answers false where some byte is no
-/// digit, and then leaves no more than a decoded front; and that `decode_unchecked` leaves the
-/// bytes that digits spell. The codec's calls by that kernel then keep all that they promise by
-/// any kernel: [`encoded`] and [`decoded`] have no proof of their own.
+/// The author of a kernel proves four contracts. `encode` writes the text of the bytes, in pieces
+/// of 1 to 64 bytes. `check` is true exactly if every byte is a digit. `decode_checked` leaves the
+/// bytes that are spelled; or it returns false because some byte is not a digit, and leaves at most
+/// a decoded front. `decode_unchecked` leaves the bytes that digits spell. Then the codec's calls
+/// by that kernel keep all their promises: [`encoded`] and [`decoded`] have no proof of their own.
 ///
 /// ```rust
 /// let text = const_hex::encode_with::<Backward, true>(rt.alloc(), b"kiwi")?;
@@ -80,7 +79,7 @@ pub fn encoded(alloc: Global, bytes: &[u8]) -> Result<String, AllocError>
     encode_with::<Backward, false>(alloc, bytes)
 }
 
-/// The bytes that a text spells, by this kernel behind a check.
+/// The bytes that a text spells, by this kernel after a check.
 ///
 /// ```rust
 /// assert_eq!(rt; decoded(rt.alloc(), b"0x6B697769")?.as_slice(), b"kiwi".as_slice());

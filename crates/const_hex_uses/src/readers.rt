@@ -1,4 +1,4 @@
-//! Callers over any type that is read from text, which rest on the law of such types alone.
+//! Callers over any type that is read from text. They rely only on the law of such types.
 
 ghost use Rattle.std.specs.Prelude.{◌≡◌, ◌≢◌, ◌↔◌, ◌⊎◌, false, length, IfOk, IfErr, Ok};
 ghost use Rattle.const_hex.specs.Answers.{Reads};
@@ -9,8 +9,8 @@ ghost use Rattle.const_hex.specs.declared.error.FromHexError.TheVariants.{NoMemo
 use const_hex::{FromHex, FromHexError};
 use std::alloc::Global;
 
-/// Reads a text: a value has the bytes that it spells, and where the error is not of memory the
-/// text is refused or its count of bytes does not fit.
+/// Reads a text. A value has the bytes that the text spells. If the error is not of memory, the
+/// text is refused, or its number of bytes does not fit.
 ///
 /// ```rust
 /// assert_eq!(rt; read::<[u8; 2]>(rt.alloc(), b"0xff80")?, [0xff, 0x80]);
@@ -24,9 +24,9 @@ pub fn read<T: FromHex>(alloc: Global, text: &[u8]) -> Result<T, T::Error>
     T::from_hex(alloc, text)
 }
 
-/// Reads two texts: each value has the bytes that its text spells, and the values have the same
-/// bytes exactly where the texts differ in their prefixes and in case alone. Where the error is not
-/// of memory, one of the texts is refused or its count of bytes does not fit.
+/// Reads two texts. Each value has the bytes that its text spells. The values have the same bytes
+/// exactly if the texts differ only in prefix and case. If the error is not of memory, one of the
+/// texts is refused, or its number of bytes does not fit.
 ///
 /// ```rust
 /// let (one, two) = read_both::<[u8; 2]>(rt.alloc(), b"0xff80", b"FF80")?;
@@ -56,8 +56,8 @@ pub fn read_both<T: FromHex + Drop>(
     }
 }
 
-/// Reads a text as a vector and as an array, which both have the bytes that it spells, N of them.
-/// Where the error is not of memory, the text is refused or spells another count of bytes.
+/// Reads a text as a vector and as an array. Both have the N bytes that the text spells. If the
+/// error is not of memory, the text is refused, or spells another number of bytes.
 ///
 /// ```rust
 /// let (list, array) = read_twice::<2>(rt.alloc(), b"ff80")?;

@@ -16,12 +16,12 @@ use std::alloc::Global;
 pub enum LineFault {
     /// There is no `=` in the line.
     NoSign,
-    /// The value begins at that place of the line, counted from 0, and is refused.
+    /// The value begins at this place of the line, counted from 0, and is refused.
     Refused(usize, FromHexError),
 }
 
 impl LineFault {
-    /// The column of the byte that is no digit, counted from 1, where there is one.
+    /// The column of the byte that is not a digit, counted from 1, if there is one.
     ///
     /// ```rust
     /// let fault = value_of(rt.alloc(), "salt=6b!9").unwrap_err();
@@ -61,7 +61,7 @@ pub fn value_of(alloc: Global, line: &str) -> Result<Vec<u8>, LineFault>
     }
 }
 
-/// The number of the line at a place: places count from 0, and numbers from 1.
+/// The number of the line at a place. Places count from 0, and numbers from 1.
 fn line_number(place: usize) -> usize
     requires { place < 2 ^ 64 - 1 }
     ensures { result ≡ place + 1 }

@@ -25,7 +25,7 @@ pub fn send<S: Sink>(bytes: &[u8], sink: &mut S) -> Result<(), SinkError>
 
 /// The text of some bytes, behind `0x`, in pieces of at most 4096 bytes, as a network takes them.
 ///
-/// Answers an error if memory is refused.
+/// Returns an error if memory is refused.
 ///
 /// ```rust
 /// assert_eq!(rt; packets(rt.alloc(), &[0xAB; 5000])?.pieces().len(), 3);

@@ -1,4 +1,4 @@
-//! A store whose keys are bytes, spelled in any way: each spelling finds what another put there.
+//! A store whose keys are bytes. A key is found in every spelling, whichever one stored it.
 
 ghost use Rattle.std.specs.Prelude.{◌≡◌, ◌≢◌, ℕ, List, Some, Err, string_bytes, IfOk, IfErr, OnOk, OnErr};
 ghost use Rattle.std.specs.HashMap.{get_by_text};
@@ -10,7 +10,7 @@ use const_hex::{FromHexError, decode, encode};
 use std::alloc::Global;
 use std::collections::HashMap;
 
-/// The one spelling of bytes: no prefix, and lower letters.
+/// The one spelling of bytes that is stored: no prefix, and lower letters.
 ///
 /// ```rust
 /// assert_eq!(rt; canonical(rt.alloc(), b"0x6B69")?.as_str(), "6b69");
@@ -49,7 +49,7 @@ pub fn put(
     Ok(())
 }
 
-/// The number that was stored last under a key, in whatever spelling.
+/// The number that was stored last under a key, in any spelling.
 ///
 /// ```rust
 /// let store = HashMap::new(rt.alloc());

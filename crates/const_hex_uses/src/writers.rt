@@ -1,4 +1,4 @@
-//! Callers that write a value of a type as text, and learn which text that is.
+//! Callers that write a value as text, and whose contracts say which text.
 
 ghost use Rattle.std.specs.Prelude.{◌≡◌, true, false, string_bytes, IfOk};
 ghost use Rattle.const_hex.specs.Texts.{full_text, hex_text};

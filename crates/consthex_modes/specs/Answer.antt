@@ -17,7 +17,7 @@ limit = 1048576
 abbrev pub newline : List ℕ
 newline = 10 ∷ []
 
--- without one newline at the end
+-- a text without one newline at its end
 abbrev pub without_newline : List ℕ → List ℕ
 without_newline x = strip_last 10 x
 
@@ -48,8 +48,8 @@ Answer m x (Err ReadFailed) = ⊥
 Answer m x (Err WriteFailed) = ⊥
 Answer m x (Err NoMemory) = ⊥
 
--- the answer of the mode to the input x takes memory: of a text, only once it is not refused
--- without it
+-- the mode takes memory to answer the input x: to decode, only if the length is even, and to check,
+-- only if the text is accepted
 abbrev pub TakesMemory : Mode → List ℕ → Type 0
 TakesMemory Encode x = ⊤
 TakesMemory EncodeUpper x = ⊤

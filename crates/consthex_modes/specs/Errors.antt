@@ -1,4 +1,4 @@
--- What is said of an error: its line and its exit status.
+-- The line and the exit status of an error.
 use Rattle.std.specs.Prelude.{ℕ, List, Option, Some, codes}
 use Rattle.const_hex.specs.Messages.{message_of}
 use Rattle.const_hex.specs.declared.error.FromHexError.{FromHexError}
@@ -6,7 +6,7 @@ use Rattle.const_hex.specs.declared.error.FromHexError.TheVariants.{OddLength, I
 use Rattle.consthex_modes.specs.declared.error.RunError.{RunError}
 use Rattle.consthex_modes.specs.declared.error.RunError.TheVariants.{Text, ReadFailed, WriteFailed, TooLong, NoMemory}
 
--- the line that is printed, where the contract of its refusal says so
+-- the line that is printed, if the contract of its refusal says so
 abbrev pub line_of : RunError → Option (List ℕ)
 line_of (Text e) = message_of e
 line_of ReadFailed = Some (codes "read failed")
@@ -22,7 +22,7 @@ status_of WriteFailed = 3
 status_of TooLong = 3
 status_of NoMemory = 4
 
--- a refused text, where the refusal is not of memory
+-- a text is refused, and not because of memory
 abbrev pub refusal_of : FromHexError → RunError
 refusal_of OddLength = Text OddLength
 refusal_of InvalidStringLength = Text InvalidStringLength

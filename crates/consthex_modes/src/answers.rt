@@ -1,4 +1,4 @@
-//! What a mode answers to bytes in hand.
+//! What a mode answers to given bytes.
 
 ghost use Rattle.std.specs.Prelude.{◌≡◌, ◌≢◌, ◌≤◌, ◌<◌, ◌++◌, ◌*◌, ◌+◌, ◌↔◌, length, IfOk, IfErr, Ok, Err};
 ghost use Rattle.const_hex.specs.Texts.{full_text};
@@ -14,11 +14,11 @@ use std::alloc::{AllocError, Global};
 /// The most bytes that an input may have.
 pub(crate) const LIMIT: usize = 1_048_576;
 
-/// What a mode answers to an input: the bytes to write, or the refusal.
+/// What a mode answers to an input: the bytes to write, or an error.
 ///
-/// Refused with [`RunError::TooLong`] where the input has more than 1,048,576 bytes; with
-/// [`RunError::NoMemory`], where memory is refused; with [`RunError::Text`], where the mode reads
-/// a text that can't be decoded. One newline at the end of that text is no part of it.
+/// Returns [`RunError::TooLong`] if the input has more than 1,048,576 bytes; [`RunError::NoMemory`]
+/// if memory is refused; and [`RunError::Text`] if the mode reads a text that cannot be decoded.
+/// One newline at the end of the input is not part of the text.
 ///
 /// ```rust
 /// let line = answer(rt.alloc(), Mode::EncodeUpper, b"kiwi")?;
@@ -46,7 +46,7 @@ pub fn answer(alloc: Global, mode: Mode, input: &[u8]) -> Result<Vec<u8>, RunErr
     }
 }
 
-/// The text of the bytes and a newline. Memory is asked for once, of that length.
+/// The text of the bytes and a newline. Memory is asked for once, for exactly these.
 fn encoded(alloc: Global, input: &[u8], prefix: bool, upper: bool) -> Result<Vec<u8>, AllocError>
     requires { length input.now ≤ limit }
     ensures { IfOk result (λ v. v.items ≡ full_text prefix upper input.now ++ newline) }
@@ -56,7 +56,7 @@ fn encoded(alloc: Global, input: &[u8], prefix: bool, upper: bool) -> Result<Vec
     Ok(line)
 }
 
-/// Fills the output, which has to have just that length, with the text and a newline.
+/// Fills the output with the text and a newline. The output must have exactly their length.
 fn write_line(input: &[u8], prefix: bool, upper: bool, output: &mut [u8])
     requires { length output.old ≡ text_length prefix (length input.now) + 1 }
     ensures { output.new ≡ full_text prefix upper input.now ++ newline }

@@ -1,4 +1,4 @@
-//! Why a run does not succeed.
+//! Why a run fails.
 
 ghost use Rattle.std.specs.Prelude.{◌≡◌};
 ghost use Rattle.consthex_modes.specs.Errors.{refusal_of, line_of, status_of};
@@ -8,7 +8,7 @@ use const_hex::FromHexError;
 use std::alloc::AllocError;
 use std::fmt;
 
-/// Why a run does not succeed.
+/// Why a run fails.
 ///
 /// ```rust
 /// let mut output = Vec::new(rt.alloc());
@@ -17,11 +17,11 @@ use std::fmt;
 /// ```
 #[derive(Clone, Copy, PartialEq, Eq, Debug)]
 pub enum RunError {
-    /// The text is refused. [`FromHexError::NoMemory`] never stands inside.
+    /// The text is refused. Inside, there is never [`FromHexError::NoMemory`].
     Text(FromHexError),
     /// A read failed.
     ReadFailed,
-    /// A write failed or took nothing, or the last flush failed.
+    /// A write failed or took no bytes, or the last flush failed.
     WriteFailed,
     /// The input has more than 1,048,576 bytes.
     TooLong,
@@ -30,7 +30,7 @@ pub enum RunError {
 }
 
 impl RunError {
-    /// The exit status of the program: 1 where the text is refused, 3 for input and output, 4 for
+    /// The exit status of the program: 1 if the text is refused, 3 for input and output, 4 for
     /// memory.
     ///
     /// ```rust

@@ -1,10 +1,10 @@
-//! The program `consthex` as a library: what each of its modes answers to an input, a run over any
-//! reader and writer, and the whole program on any host.
+//! The program `consthex` as a library: each mode's answer to an input, a run over any reader and
+//! writer, and the whole program on any host.
 //!
-//! The words of the contracts are defined in `specs/`: what each mode answers to an input in
-//! `Answer.antt`, what a run reads and writes in `Outcome.antt`, the word of each mode in
-//! `Words.antt`, the line and the exit status of each error in `Errors.antt`. What a text spells
-//! is defined in `const_hex`.
+//! The words of the contracts are defined in `specs/`. `Answer.antt` has each mode's answer,
+//! `Outcome.antt` what a run reads and writes, `Words.antt` the word of each mode, and
+//! `Errors.antt` the line and the exit status of each error. What a text spells is defined in
+//! `const_hex`.
 #![tactic(auto)]
 
 mod answers;

@@ -21,13 +21,13 @@ pub enum Mode {
     EncodePrefixed,
     /// `0x`, two upper digits for each byte, and a newline.
     EncodeUpperPrefixed,
-    /// The bytes that the text spells, and nothing else.
+    /// Only the bytes that the text spells.
     Decode,
-    /// `ok` and a newline, where the text can be decoded.
+    /// `ok` and a newline, if the text can be decoded.
     Check,
 }
 
-/// The line that is printed where the arguments name no mode.
+/// The line that is printed if the arguments name no mode.
 ///
 /// ```rust
 /// assert!(rt; USAGE.starts_with("usage: consthex encode|"));
@@ -35,8 +35,8 @@ pub enum Mode {
 pub const USAGE: &str = "usage: consthex \
     encode|encode-upper|encode-prefixed|encode-upper-prefixed|decode|check";
 
-/// The mode that the arguments name, without the program's name: exactly one word, compared byte
-/// for byte.
+/// The mode that the arguments name, without the program's name. It is named by exactly one word,
+/// compared byte for byte.
 ///
 /// ```rust
 /// let words = [String::from_str(rt.alloc(), "decode")?];

@@ -18,9 +18,9 @@ use std::env::Env;
 use std::io::{Eprint, Read, Write};
 use std::process::ExitCode;
 
-/// Does what the words behind the program's name ask for, and gives the exit status: 0; 1 where the
-/// text is refused; 2 where the words name no mode; 3 where reading or writing fails or the input
-/// is too long; 4 where memory is refused. What went wrong is one line on standard error.
+/// Does what the words behind the program's name ask for, and returns the exit status: 0 if that
+/// succeeds; 1 if the text is refused; 2 if the words name no mode; 3 if a read or a write fails or
+/// the input is too long; 4 if memory is refused. An error is one line on standard error.
 ///
 /// ```rust
 /// fn main(rt: HostRuntime) -> ExitCode {
@@ -32,11 +32,11 @@ pub fn program<R: Read, W: Write>(
     input: &mut R,
     output: &mut W,
 ) -> ExitCode
-    // All that the reader had was read, and a mode's answer to it was written.
+    // The reader was read to its end, and a mode's answer to all of it was written.
     ensures done { exit_status result ≡ 0 → (m : Mode) × (bs : List ℕ)
         × Answers m (R.remaining input.old) (R.remaining input.new) (Ok bs)
         × Appends (W.contents output.old) (W.contents output.new) bs }
-    // All that the reader had was read, and a mode refuses it as a text.
+    // The reader was read to its end, and a mode refuses all of it as a text.
     ensures refused { exit_status result ≡ 1 → (m : Mode) × (e : FromHexError)
         × Answers m (R.remaining input.old) (R.remaining input.new) (Err (Text e)) }
     // Nothing was read or written.
@@ -63,7 +63,7 @@ pub fn program<R: Read, W: Write>(
     }
 }
 
-/// Prints the usage, and gives the status 2. A failure of standard error is ignored.
+/// Prints the usage, and returns the status 2. Ignores a failure of standard error.
 fn misused(rt: &impl Eprint) -> ExitCode
     ensures { exit_status result ≡ 2 }
 {
@@ -71,7 +71,7 @@ fn misused(rt: &impl Eprint) -> ExitCode
     ExitCode::from(2)
 }
 
-/// Prints the error, and gives its status. A failure of standard error is ignored.
+/// Prints the error, and returns its status. Ignores a failure of standard error.
 fn refused(rt: &impl Eprint, error: RunError) -> ExitCode
     ensures { exit_status result ≡ status_of error }
 {

@@ -14,14 +14,17 @@ use crate::mode::Mode;
 use std::alloc::{AllocError, Global};
 use std::io::{Read, Write};
 
-/// Reads the whole input, and then writes what the mode answers to it, and flushes.
+/// Reads the whole input, writes what the mode answers to it, and flushes.
 ///
-/// Refused with [`RunError::ReadFailed`], where a read fails with an error of any kind; with
-/// [`RunError::TooLong`], as soon as more than 1,048,576 bytes have come; with
-/// [`RunError::NoMemory`], where memory is refused; with [`RunError::Text`], where the text is
-/// refused. Nothing is then written. With [`RunError::WriteFailed`], where a write or the flush
-/// fails with an error of any kind, or a write takes no bytes; a beginning of the answer may then
-/// have been written.
+/// Nothing is written before one of these errors:
+///
+/// - [`RunError::ReadFailed`], if a read fails with any error;
+/// - [`RunError::TooLong`], as soon as more than 1,048,576 bytes have come;
+/// - [`RunError::NoMemory`], if memory is refused;
+/// - [`RunError::Text`], if the text is refused.
+///
+/// [`RunError::WriteFailed`] means that a write or the flush failed with any error, or that a write
+/// took no bytes. A beginning of the answer may then have been written.
 ///
 /// ```rust
 /// let mut output = Vec::new(rt.alloc());
@@ -34,16 +37,16 @@ pub fn run<R: Read, W: Write>(
     input: &mut R,
     output: &mut W,
 ) -> Result<(), RunError>
-    // All that the reader had was read, and the answer to it was written.
+    // The reader was read to its end, and the answer to all of it was written.
     ensures ok { OnOk result ((bs : List ℕ)
         × Answers mode (R.remaining input.old) (R.remaining input.new) (Ok bs)
         × Appends (W.contents output.old) (W.contents output.new) bs) }
-    // All that the reader had was read, and the answer to it is this refusal.
+    // The reader was read to its end, and the answer to all of it is this refusal.
     ensures text { (e : FromHexError) → result ≡ Err (Text e)
         → Answers mode (R.remaining input.old) (R.remaining input.new) (Err (Text e)) }
     ensures too_long { result ≡ Err TooLong
         → ReadsTooMuch (R.remaining input.old) (R.remaining input.new) }
-    // All that the reader had was read, and a beginning of the answer to it was written.
+    // The reader was read to its end, and a beginning of the answer to all of it was written.
     ensures write_failed { result ≡ Err WriteFailed → (bs : List ℕ)
         × Answers mode (R.remaining input.old) (R.remaining input.new) (Ok bs)
         × WritesBeginning (W.contents output.old) (W.contents output.new) bs }
@@ -80,8 +83,8 @@ fn read_all<R: Read>(alloc: Global, input: &mut R) -> Result<Vec<u8>, RunError>
     Err(RunError::TooLong)
 }
 
-/// Makes room behind the first bytes, where there is none: twice as many bytes, but at least 4096
-/// and at most one more than an input may have.
+/// Makes room behind the first bytes, if there is none: twice as many bytes, but at least 4096, and
+/// at most one more than an input may have.
 fn make_room(bytes: &mut Vec<u8>, count: usize) -> Result<(), AllocError>
     requires few { count ≤ limit }
     requires bound { vec_len bytes.old ≤ limit + 1 }

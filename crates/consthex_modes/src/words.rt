@@ -6,9 +6,9 @@ use std::env::{Env, FillError};
 /// How many bytes of a word are read. No mode has a longer word.
 const LONGEST: usize = 32;
 
-/// The first two words behind the program's name, which is not looked at. For a word that is no
-/// text, or has more than 32 bytes, stands the empty word: it names no mode either. Nor do two
-/// words, so a third is not read.
+/// The first two words behind the program's name. If a word is not UTF-8 or has more than 32 bytes,
+/// the empty word stands for it; neither names a mode. Two words name no mode either, so a third is
+/// not read.
 pub(crate) fn words(rt: &(impl Env + AllocGlobal)) -> Result<Vec<String>, AllocError> {
     let mut words = Vec::new(rt.alloc());
     for place in 1..3 {

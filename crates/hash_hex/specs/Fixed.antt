@@ -1,4 +1,4 @@
--- Values of a fixed count of bytes.
+-- Values of a fixed number of bytes.
 use Rattle.std.specs.Prelude.{ℕ, List, Result}
 use Rattle.const_hex.specs.Answers.{ReadsSized}
 use Rattle.const_hex.specs.Types.{ReadsAs}
@@ -9,6 +9,6 @@ use Rattle.hash_hex.specs.declared.fixed.FixedBytes.{FixedBytes}
 abbrev pub fixed_bytes : {n : ℕ} → FixedBytes n → List ℕ
 fixed_bytes v = v.bytes
 
--- the answer of reading a text as such a value: that of reading it as n bytes
+-- the answer when a text is read as such a value: the answer when it is read as n bytes
 abbrev pub ReadsFixed : (n : ℕ) → List ℕ → Result (FixedBytes n) FromHexError → Type 0
 ReadsFixed n = ReadsAs fixed_bytes (λ t r. ReadsSized t n r)

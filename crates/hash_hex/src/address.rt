@@ -8,7 +8,7 @@ ghost use Rattle.hash_hex.specs.Fixed.{fixed_bytes};
 use crate::fixed::FixedBytes;
 use const_hex::{Buffer, const_encode};
 
-/// An address of 20 bytes. A checksum in the case of its letters is not looked at.
+/// An address of 20 bytes. A checksum in the case of its letters is not checked.
 ///
 /// ```rust
 /// assert_eq!(rt; Address20::from_bytes([7; 20]).as_bytes(), &[7; 20]);

@@ -1,4 +1,4 @@
-//! A value of a fixed count of bytes, its text and its JSON string.
+//! A value of a fixed number of bytes, its text and its JSON string.
 
 ghost use Rattle.std.specs.Prelude.{◌≡◌, ◌↔◌, ℕ, List, Bool, length, true, false, Some, None, Ok, Err, IfOk, IfSome, IsOk, IsTrue, MatchResult};
 ghost use Rattle.serde_json.specs.Data.{string};
@@ -22,7 +22,7 @@ use std::fmt;
 
 /// A value of N bytes.
 ///
-/// It is read from text as N bytes, and prints as `0x` and two lower digits a byte. Values are
+/// It is read from text as N bytes, and prints as `0x` and two lower digits per byte. Values are
 /// compared, ordered and hashed by their bytes.
 ///
 /// ```rust
@@ -59,9 +59,9 @@ impl<const N: usize> FixedBytes<N> {
         &self.bytes
     }
 
-    /// The JSON string of the value: `0x` and two lower digits a byte.
+    /// The JSON string of the value: `0x` and two lower digits per byte.
     ///
-    /// Answers `AllocError` where memory is refused.
+    /// Returns `AllocError` if memory is refused.
     ///
     /// ```rust
     /// let value = Address20::from_bytes([7; 20]).to_value(rt.alloc())?;
@@ -75,9 +75,9 @@ impl<const N: usize> FixedBytes<N> {
 
     /// The value that a JSON string spells, with or without a prefix, in either case.
     ///
-    /// Answers [`JsonError::NotText`] where the JSON value is not a string, and else what
-    /// [`from_hex`](FromHex::from_hex) answers, its refusals inside [`JsonError::Hex`]. Takes no
-    /// memory.
+    /// Returns [`JsonError::NotText`] if the JSON value is not a string. Otherwise returns the
+    /// answer of [`from_hex`](FromHex::from_hex), with its refusals inside [`JsonError::Hex`].
+    /// Takes no memory.
     ///
     /// ```rust
     /// assert_eq!(rt; Hash32::from_value(rt.alloc(), &Value::Null), Err(JsonError::NotText));
@@ -93,7 +93,7 @@ impl<const N: usize> FixedBytes<N> {
     }
 }
 
-/// By the answers of [`decode_to_array`](const_hex::decode_to_array). Takes no memory.
+/// With the answers of [`decode_to_array`](const_hex::decode_to_array). Takes no memory.
 impl<const N: usize> FromHex for FixedBytes<N> {
     type Error = FromHexError;
 
@@ -107,13 +107,13 @@ impl<const N: usize> FromHex for FixedBytes<N> {
 
     fn from_hex(alloc: Global, hex: &[u8]) -> Result<FixedBytes<N>, FromHexError>
         ensures answers { ReadsFixed N hex.now result }
-        // Of a constant this computes, so the check proves an `unwrap`.
+        // For a constant text this computes, so the check proves an `unwrap`.
         ensures accepts { IsOk result ↔ IsTrue (is_text_of N hex.now) }
         // The text of N bytes, with or without a prefix and in either case, gives their value.
         ensures round_trip { (prefix up : Bool) (bs : List ℕ) → AreBytes bs → length bs ≡ N
             → hex.now ≡ full_text prefix up bs
             → MatchResult result (λ v. fixed_bytes v ≡ bs) (λ _. ⊥) }
-        // Another text gives an equal value exactly where the bodies differ in case alone.
+        // Another text gives an equal value exactly if the two bodies differ only in case.
         ensures agree { (t : List ℕ) (w : FixedBytes N) → ReadsFixed N t (Ok w)
             → IfOk result (λ v. (w ≡ v) ↔ (lowered (body_of t) ≡ lowered (body_of hex.now))) }
     {
@@ -132,7 +132,7 @@ impl<const N: usize> From<[u8; N]> for FixedBytes<N> {
     }
 }
 
-/// `0x` and two lower digits a byte. Takes no memory.
+/// `0x` and two lower digits per byte. Takes no memory.
 impl<const N: usize> fmt::Display for FixedBytes<N> {
     ghost output = { λ v. Some (full_text true false (fixed_bytes v)) };
 

@@ -1,11 +1,11 @@
 //! Hashes of 32 bytes and addresses of 20, read from hexadecimal text and written as it.
 //!
-//! Both are [`FixedBytes`], a value of a fixed count of bytes: the words of its contracts are
+//! Both are [`FixedBytes`], a value of a fixed number of bytes. The words of its contracts are
 //! defined in `specs/Fixed.antt`. What a text spells is defined in `const_hex`.
 //!
-//! An address in mixed case, whose letters carry a checksum, is read as any other text: the case of
-//! a letter does not matter, and the checksum is not looked at. A quantity such as `0x1` is no
-//! string of bytes, and is refused as odd.
+//! The letters of an address in mixed case may carry a checksum. The case does not matter here, and
+//! the checksum is not checked. A quantity such as `0x1` is not a string of bytes: its length is
+//! odd, so it is refused.
 #![tactic(auto)]
 
 mod address;

@@ -1,5 +1,5 @@
--- A function that lends the text in a slice where it fits, and else leaves the slice unchanged: one
--- walk for either case of letters.
+-- A function that lends the text in a slice if it fits, and else leaves the slice unchanged. One
+-- walk serves upper and lower letters.
 use Rattle.std.proofs.Common.{◌≡◌, ℕ, ◌*◌, Bool, true, false, not, ◌&&◌, T, List, [], ◌∷◌, length, refl, ap, ◌∙◌, Bor, MutBor, lit<}
 use Rattle.std.specs.Prelude.{◌↔◌, IsTrue, IsOk, IfOk, Ok, Err, IfErr, MatchResult, Result}
 use Rattle.std.specs.Str.{IsAscii}

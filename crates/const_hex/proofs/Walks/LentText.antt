@@ -1,5 +1,5 @@
--- A function that writes a buffer's text by one call, and lends it as text by another: one walk
--- for every such function.
+-- A function that writes a buffer's text by one call, and lends it as text by another. One walk
+-- serves every such function.
 use Rattle.std.proofs.Common.{◌≡◌, ℕ, length, ◌<◌, ◌^◌, Bool, List, [], ◌∷◌, refl, ◌∙◌, Bor, T}
 use Rattle.std.proofs.raw_atomic.Walks.{proved}
 use base.Logic.{SProp, sep, id⊢, emp}
@@ -43,7 +43,7 @@ use Rattle.const_hex.specs.contracts.buffer.Buffer.{the_row}
 use Rattle.const_hex.specs.contracts.buffer.Buffer.as_str as h
 use Rattle.const_hex.proofs.Walks.Flags.{flag, flag_lit}
 
--- the parameter that names the bytes: its type, its machine value, its bytes, and what is asked of it
+-- the parameter for the bytes: its type, its machine value, its bytes, and the condition on it
 pub record Input : Type 2 where
   pub slot : Slot 5
   pub silent : (κs : Lfts 5) (x : (slot.row κs).Denot) (f : Last ((slot.row κs).exit yes) x) → left ((slot.row κs).exit yes) x f ≡ ftrue
@@ -85,7 +85,7 @@ module _ (n p len : ℕ) where
     asks = λ 𝓤 κs x. sep 𝓤 (fact 𝓤 (size (layout A) < 2 ^ 63)) (fact 𝓤 fitting);
   }
 
-  -- a slice of just N bytes
+  -- a slice of exactly N bytes
   abbrev pub slice_input : Input
   slice_input = record {
     slot = SliceRefOf (1 ∷ []) tt (plain (λ κs. u8)) (λ κs. tt);

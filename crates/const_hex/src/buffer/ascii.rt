@@ -1,4 +1,4 @@
-//! An array of ASCII bytes, which is lent as text.
+//! An array of ASCII bytes that is lent as text.
 
 ghost use Rattle.std.specs.Prelude.{◌≡◌, ◌<◌, length, replicate, slice_set};
 ghost use Rattle.std.specs.Str.{IsAscii};
@@ -15,7 +15,7 @@ pub(crate) struct AsciiArray<const LEN: usize> {
 }
 
 impl<const LEN: usize> AsciiArray<LEN> {
-    /// NUL bytes alone.
+    /// An array of NUL bytes.
     #[inline]
     pub(crate) fn new() -> Self
         ensures { result.bytes ≡ replicate LEN 0 }
@@ -33,8 +33,8 @@ impl<const LEN: usize> AsciiArray<LEN> {
         self.bytes[index] = byte;
     }
 
-    /// Fills the array with the text of the input, behind `0x` where a prefix is wanted. The array
-    /// has to have the length of that text.
+    /// Fills the array with the text of the input, behind `0x` if `prefix` is true. The array must
+    /// have the length of that text.
     #[inline]
     #[tactic(auto, using(const_hex_arch::proofs::Writing::full_text_size))]
     pub(crate) fn fill(&mut self, input: &[u8], prefix: bool, upper: bool)
@@ -52,7 +52,7 @@ impl<const LEN: usize> AsciiArray<LEN> {
         &self.bytes
     }
 
-    /// The text, with no copy and no test.
+    /// The text, without a copy or a test.
     #[inline]
     #[tactic(auto, using(const_hex_arch::proofs::Writing::texts))]
     pub(crate) fn as_str(&self) -> &str

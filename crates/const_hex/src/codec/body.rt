@@ -20,8 +20,8 @@ pub(crate) fn strip_prefix(text: &[u8]) -> &[u8]
     }
 }
 
-/// The refusal that names the first byte behind the prefix that is no digit, and its place in the
-/// whole text. There has to be such a byte.
+/// The refusal that names the first byte behind the prefix that is not a digit, and its place in
+/// the whole text. There must be such a byte.
 #[cold]
 #[tactic(auto, using(const_hex_arch::proofs::Spelling::digits_more))]
 pub(crate) fn bad_character(text: &[u8]) -> FromHexError
@@ -42,9 +42,9 @@ pub(crate) fn bad_character(text: &[u8]) -> FromHexError
     unreachable!()
 }
 
-/// Fills the output with the bytes that the body spells, in one pass or after a check, as the
-/// kernel wants it, or answers false where some byte is no digit. The body has to have two bytes
-/// for each of the output.
+/// Fills the output with the bytes that the body spells, and returns true. Returns false if some
+/// byte is not a digit. The kernel decides whether the body is checked first. The body must have
+/// two bytes for each byte of the output.
 #[inline(always)]
 pub(crate) fn decode_body<K: Kernel>(body: &[u8], output: &mut [u8]) -> bool
     requires { length body.now ≡ 2 * length output.old }

@@ -11,8 +11,9 @@ use const_hex_arch::{FixedKernel, Kernel};
 
 /// Whether [`decode`](crate::decode) accepts a text.
 ///
-/// Refused with [`FromHexError::OddLength`], and else with [`FromHexError::InvalidHexCharacter`],
-/// which names the first byte behind the prefix that is no digit. Takes no memory.
+/// Returns [`FromHexError::OddLength`] for an odd length. Otherwise returns
+/// [`FromHexError::InvalidHexCharacter`] with the first byte behind the prefix that is not a digit,
+/// if there is one. Takes no memory.
 ///
 /// ```rust
 /// assert_eq!(rt; const_hex::check(b"0x6b"), Ok(()));
@@ -58,13 +59,13 @@ pub fn check_with<K: Kernel>(input: &[u8]) -> Result<(), FromHexError>
 pub fn const_check(input: &[u8]) -> Result<(), FromHexError>
     ensures answer { Checks input.now result }
     ensures accepts { IsOk result ↔ ((bs : List ℕ) × Reads input.now (Ok bs)) }
-    // Only this answer meets `Checks`.
+    // This is the only answer that meets `Checks`.
     ensures alone { (r : Result Unit FromHexError) → Checks input.now r → r ≡ result }
 {
     check(input)
 }
 
-/// Whether every byte is a digit: no prefix is allowed, and the length does not matter. Takes no
+/// Whether every byte is a digit. No prefix is allowed, and the length does not matter. Takes no
 /// memory.
 ///
 /// ```rust

@@ -14,10 +14,12 @@ use std::alloc::Global;
 
 /// The bytes that a text spells, with or without a prefix, in either case.
 ///
-/// Refused, in this order: with [`FromHexError::OddLength`], which takes no memory;
-/// with [`FromHexError::NoMemory`], where memory is refused; with
-/// [`FromHexError::InvalidHexCharacter`], which names the first byte behind the prefix that is no
-/// digit.
+/// The first of these refusals is returned:
+///
+/// - [`FromHexError::OddLength`], before memory is asked for;
+/// - [`FromHexError::NoMemory`], if memory is refused;
+/// - [`FromHexError::InvalidHexCharacter`], with the first byte behind the prefix that is not a
+///   digit.
 ///
 /// ```rust
 /// let bytes = const_hex::decode(rt.alloc(), b"0x6b697769")?;
@@ -34,15 +36,15 @@ pub fn decode(alloc: Global, input: &[u8]) -> Result<Vec<u8>, FromHexError>
         → MatchResult result (λ v. v.items ≡ bs) (λ e. e ≡ NoMemory) }
     // The text of the bytes is the body with lower letters.
     ensures canonical { IfOk result (λ v. hex_text false v.items ≡ lowered (body_of input.now)) }
-    // Another text gives the same bytes exactly where the bodies differ in case alone.
+    // Another text gives the same bytes exactly if the two bodies differ only in case.
     ensures agree { (t bs : List ℕ) → Reads t (Ok bs)
         → IfOk result (λ v. (bs ≡ v.items) ↔ (lowered (body_of t) ≡ lowered (body_of input.now))) }
 {
     decode_with::<FixedKernel>(alloc, input)
 }
 
-/// As [`decode`], by a kernel of the caller's choice, with its refusals: also with
-/// [`FromHexError::NoMemory`], where memory is refused.
+/// As [`decode`], by a kernel of the caller's choice. The refusals are the same,
+/// [`FromHexError::NoMemory`] included.
 ///
 /// ```rust
 /// let bytes = const_hex::decode_with::<Plain>(rt.alloc(), b"6B697769")?;
@@ -61,14 +63,14 @@ pub fn decode_with<K: Kernel>(alloc: Global, input: &[u8]) -> Result<Vec<u8>, Fr
         → MatchResult result (λ v. v.items ≡ bs) (λ e. e ≡ NoMemory) }
     // The text of the bytes is the body with lower letters.
     ensures canonical { IfOk result (λ v. hex_text false v.items ≡ lowered (body_of input.now)) }
-    // Another text gives the same bytes exactly where the bodies differ in case alone.
+    // Another text gives the same bytes exactly if the two bodies differ only in case.
     ensures agree { (t bs : List ℕ) → Reads t (Ok bs)
         → IfOk result (λ v. (bs ≡ v.items) ↔ (lowered (body_of t) ≡ lowered (body_of input.now))) }
 {
     decode_owned::<K>(alloc, input)
 }
 
-/// The bytes that a text spells. Memory is asked for once, of their count.
+/// The bytes that a text spells. Memory is asked for once, for exactly these bytes.
 #[inline(always)]
 fn decode_owned<K: Kernel>(alloc: Global, input: &[u8]) -> Result<Vec<u8>, FromHexError>
     ensures ok { IfOk result (λ v. Reads input.now (Ok v.items)) }
@@ -88,10 +90,15 @@ fn decode_owned<K: Kernel>(alloc: Global, input: &[u8]) -> Result<Vec<u8>, FromH
 
 /// Fills the output with the bytes that a text spells, with or without a prefix, in either case.
 ///
-/// Refused, in this order: with [`FromHexError::OddLength`] or
-/// [`FromHexError::InvalidStringLength`], which leave the output unchanged; with
-/// [`FromHexError::InvalidHexCharacter`], which may leave a front of the output decoded, no longer
-/// than the pairs before the bad byte, and the rest as it was. Takes no memory.
+/// The first of these refusals is returned:
+///
+/// - [`FromHexError::OddLength`], and the output is unchanged;
+/// - [`FromHexError::InvalidStringLength`], if the text spells another number of bytes than the
+///   output has, and the output is unchanged;
+/// - [`FromHexError::InvalidHexCharacter`]. A front of the output may be decoded, no longer than
+///   the pairs before the bad byte, and the rest is unchanged.
+///
+/// Takes no memory.
 ///
 /// ```rust
 /// let mut bytes = [0; 4];
@@ -107,8 +114,8 @@ pub fn decode_to_slice(input: &[u8], output: &mut [u8]) -> Result<(), FromHexErr
     decode_to_slice_with::<FixedKernel>(input, output)
 }
 
-/// As [`decode_to_slice`], by a kernel of the caller's choice. Where the kernel checks a text
-/// before it decodes, every refusal leaves the output unchanged. Takes no memory.
+/// As [`decode_to_slice`], by a kernel of the caller's choice. If the kernel checks a text before
+/// it decodes, every refusal leaves the output unchanged. Takes no memory.
 ///
 /// ```rust
 /// let mut bytes = [0; 4];
@@ -136,13 +143,17 @@ pub fn decode_to_slice_with<K: Kernel>(input: &[u8], output: &mut [u8]) -> Resul
 }
 
 /// Fills the front of the output with the bytes that a text spells, with or without a prefix, in
-/// either case, and answers their count. What is behind them stays as it was.
+/// either case, and returns their number. The rest of the output is unchanged.
 ///
-/// Refused, in this order: with [`FromHexError::OddLength`], or with
-/// [`FromHexError::InvalidStringLength`] where the text spells more bytes than the output has,
-/// which leave the output unchanged; with [`FromHexError::InvalidHexCharacter`], which may leave a
-/// front of the output decoded, no longer than the pairs before the bad byte, and the rest as it
-/// was. Takes no memory.
+/// The first of these refusals is returned:
+///
+/// - [`FromHexError::OddLength`], and the output is unchanged;
+/// - [`FromHexError::InvalidStringLength`], if the text spells more bytes than the output has, and
+///   the output is unchanged;
+/// - [`FromHexError::InvalidHexCharacter`]. A front of the output may be decoded, no longer than
+///   the pairs before the bad byte, and the rest is unchanged.
+///
+/// Takes no memory.
 ///
 /// ```rust
 /// let mut bytes = *b"......";
@@ -174,8 +185,8 @@ pub fn decode_to_front(input: &[u8], output: &mut [u8]) -> Result<usize, FromHex
 
 /// The N bytes that a text spells, with or without a prefix, in either case.
 ///
-/// Refused, in this order, with [`FromHexError::OddLength`],
-/// [`FromHexError::InvalidStringLength`] where the text behind the prefix has not 2 * N bytes, and
+/// The first of these refusals is returned: [`FromHexError::OddLength`];
+/// [`FromHexError::InvalidStringLength`], if the text behind the prefix does not have 2 * N bytes;
 /// [`FromHexError::InvalidHexCharacter`]. Takes no memory.
 ///
 /// ```rust
@@ -186,12 +197,12 @@ pub fn decode_to_front(input: &[u8], output: &mut [u8]) -> Result<usize, FromHex
 #[tactic(auto, using(crate::proofs::RoundTrip::sized))]
 pub fn decode_to_array<const N: usize>(input: &[u8]) -> Result<[u8; N], FromHexError>
     ensures answer { ReadsSized input.now N result }
-    // Of a constant this computes, so the check proves an `unwrap`.
+    // For a constant text this computes, so the check proves an `unwrap`.
     ensures accepts { IsOk result ↔ IsTrue (is_text_of N input.now) }
     // What was encoded of N bytes is decoded to the same bytes.
     ensures round_trip { (prefix up : Bool) (bs : List ℕ) → AreBytes bs → length bs ≡ N
         → input.now ≡ full_text prefix up bs → result ≡ Ok bs }
-    // Another text gives the same bytes exactly where the bodies differ in case alone.
+    // Another text gives the same bytes exactly if the two bodies differ only in case.
     ensures agree { (t bs : List ℕ) → ReadsSized t N (Ok bs)
         → IfOk result (λ v. (bs ≡ v) ↔ (lowered (body_of t) ≡ lowered (body_of input.now))) }
 {
@@ -220,18 +231,18 @@ fn read_array<const N: usize>(input: &[u8]) -> Result<[u8; N], FromHexError>
 #[tactic(auto, using(crate::proofs::Reading::one_sized_answer))]
 pub fn const_decode_to_array<const N: usize>(input: &[u8]) -> Result<[u8; N], FromHexError>
     ensures answer { ReadsSized input.now N result }
-    // Of a constant this computes, so the check proves an `unwrap`.
+    // For a constant text this computes, so the check proves an `unwrap`.
     ensures accepts { IsOk result ↔ IsTrue (is_text_of N input.now) }
-    // Only this answer meets `ReadsSized`.
+    // This is the only answer that meets `ReadsSized`.
     ensures alone { (r : Result (List ℕ) FromHexError) → ReadsSized input.now N r → r ≡ result }
 {
     decode_to_array(input)
 }
 
-/// The N bytes of a constant text, which the check proves to spell them.
+/// The N bytes that a constant text spells. The check proves that it spells them.
 ///
-/// The text has to be 2 * N digits, behind a prefix or none. A wrong digit, an odd length or another
-/// length is refused when the program is checked, and never runs. Takes no memory.
+/// The text must be 2 * N digits, with or without a prefix. If a digit is wrong, or the length, the
+/// check refuses the program, and it never runs. Takes no memory.
 ///
 /// ```rust
 /// let bytes: [u8; 4] = const_hex::bytes_of(b"0x6b697769");

@@ -13,7 +13,7 @@ use crate::reserved::reserved_bytes;
 use const_hex_arch::{FixedKernel, Kernel, fill_text, text_size};
 use std::alloc::{AllocError, Global};
 
-/// The text, owned.
+/// The text, as a `String`.
 #[inline(always)]
 #[tactic(auto, using(const_hex_arch::proofs::Writing::texts))]
 fn owned<K: Kernel>(
@@ -30,7 +30,7 @@ fn owned<K: Kernel>(
 
 /// Two digits for each byte, in order, with lower letters.
 ///
-/// Answers `AllocError` where memory is refused.
+/// Returns `AllocError` if memory is refused.
 ///
 /// ```rust
 /// let text = const_hex::encode(rt.alloc(), b"Hello world!")?;
@@ -46,7 +46,7 @@ pub fn encode(alloc: Global, input: &[u8]) -> Result<String, AllocError>
 
 /// As [`encode`], with upper letters.
 ///
-/// Answers `AllocError` where memory is refused.
+/// Returns `AllocError` if memory is refused.
 ///
 /// ```rust
 /// let text = const_hex::encode_upper(rt.alloc(), b"kiwi")?;
@@ -62,7 +62,7 @@ pub fn encode_upper(alloc: Global, input: &[u8]) -> Result<String, AllocError>
 
 /// `0x`, and then the text of [`encode`].
 ///
-/// Answers `AllocError` where memory is refused.
+/// Returns `AllocError` if memory is refused.
 ///
 /// ```rust
 /// let text = const_hex::encode_prefixed(rt.alloc(), b"kiwi")?;
@@ -74,9 +74,9 @@ pub fn encode_prefixed(alloc: Global, input: &[u8]) -> Result<String, AllocError
     owned::<FixedKernel>(alloc, input, true, false)
 }
 
-/// `0x`, and then the text of [`encode_upper`]. The prefix is small here too.
+/// `0x`, and then the text of [`encode_upper`].
 ///
-/// Answers `AllocError` where memory is refused.
+/// Returns `AllocError` if memory is refused.
 ///
 /// ```rust
 /// let text = const_hex::encode_upper_prefixed(rt.alloc(), b"kiwi")?;
@@ -90,7 +90,7 @@ pub fn encode_upper_prefixed(alloc: Global, input: &[u8]) -> Result<String, Allo
 
 /// As [`encode`] or [`encode_upper`], by a kernel of the caller's choice.
 ///
-/// Answers `AllocError` where memory is refused.
+/// Returns `AllocError` if memory is refused.
 ///
 /// ```rust
 /// let text = const_hex::encode_with::<Plain, true>(rt.alloc(), b"kiwi")?;
@@ -109,7 +109,7 @@ pub fn encode_with<K: Kernel, const UPPER: bool>(
     owned::<K>(alloc, input, false, UPPER)
 }
 
-/// Whether an output of one length has exactly two bytes for each of an input of another.
+/// Whether the output length is exactly two bytes for each byte of the input.
 #[inline(always)]
 fn fits(input_length: usize, output_length: usize) -> bool
     ensures { IsTrue result ↔ (output_length ≡ 2 * input_length) }
@@ -117,7 +117,7 @@ fn fits(input_length: usize, output_length: usize) -> bool
     output_length % 2 == 0 && output_length / 2 == input_length
 }
 
-/// Fills an output of the text's length with the text, and gives it back.
+/// Fills an output of the text's length with the text, and returns it.
 #[inline(always)]
 fn filled<'a>(input: &[u8], upper: bool, output: &'a mut [u8]) -> &'a mut [u8]
     requires { length output.now ≡ 2 * length input.now }
@@ -129,7 +129,7 @@ fn filled<'a>(input: &[u8], upper: bool, output: &'a mut [u8]) -> &'a mut [u8]
     output
 }
 
-/// Fills a slice with the text, where it has just the text's length.
+/// Fills a slice with the text, if the slice has exactly the text's length.
 #[inline(always)]
 fn into_slice(input: &[u8], upper: bool, output: &mut [u8]) -> Result<(), FromHexError>
     ensures fits { IsOk result ↔ (length output.old ≡ 2 * length input.now) }
@@ -147,8 +147,8 @@ fn into_slice(input: &[u8], upper: bool, output: &mut [u8]) -> Result<(), FromHe
 
 /// Fills the output with the text of the input, with lower letters.
 ///
-/// Refused with [`FromHexError::InvalidStringLength`] unless the output has exactly two bytes for
-/// each of the input; it is then unchanged. Takes no memory.
+/// The output must have exactly two bytes for each byte of the input. Otherwise returns
+/// [`FromHexError::InvalidStringLength`], and the output is unchanged. Takes no memory.
 ///
 /// ```rust
 /// let mut text = [0; 8];
@@ -182,11 +182,12 @@ pub fn encode_to_slice_upper(input: &[u8], output: &mut [u8]) -> Result<(), From
     into_slice(input, true, output)
 }
 
-/// Fills the output with the text of the input, in upper or lower letters, behind `0x` where a
-/// prefix is wanted.
+/// Fills the output with the text of the input, in upper or lower letters, behind `0x` if `prefix`
+/// is true.
 ///
-/// Refused with [`FromHexError::InvalidStringLength`] unless the output has exactly two bytes for
-/// each of the input, and two more for a prefix; it is then unchanged. Takes no memory.
+/// The output must have exactly two bytes for each byte of the input, and two more for a prefix.
+/// Otherwise returns [`FromHexError::InvalidStringLength`], and the output is unchanged. Takes no
+/// memory.
 ///
 /// ```rust
 /// let mut text = [0; 10];
@@ -212,7 +213,7 @@ pub fn encode_full_to_slice(
     Ok(())
 }
 
-/// ASCII bytes, as text, with no copy and no test.
+/// ASCII bytes as text, without a copy or a test.
 #[inline(always)]
 #[tactic(auto, using(const_hex_arch::proofs::Writing::texts))]
 fn lent_text(bytes: &[u8]) -> &str
@@ -224,8 +225,8 @@ fn lent_text(bytes: &[u8]) -> &str
 
 /// Fills the output with the text of the input, with lower letters, and lends it as text.
 ///
-/// Refused with [`FromHexError::InvalidStringLength`] unless the output has exactly two bytes for
-/// each of the input; it is then unchanged. Takes no memory.
+/// The output must have exactly two bytes for each byte of the input. Otherwise returns
+/// [`FromHexError::InvalidStringLength`], and the output is unchanged. Takes no memory.
 ///
 /// ```rust
 /// let mut output = [0; 8];

@@ -1,4 +1,4 @@
-//! The type that `display` answers.
+//! The type that `display` returns.
 
 ghost use Rattle.std.specs.Prelude.{◌≡◌, Some, true, false};
 ghost use Rattle.std.specs.Fmt.{WritesStyledOnOk, formatter_spec, spec_alternate};
@@ -11,9 +11,9 @@ use std::fmt;
 
 /// Bytes that are printed as text: two digits for each.
 ///
-/// `{}` and `LowerHex` print lower digits, `UpperHex` upper ones; with `#` they put `0x` in front.
-/// Width and fill are ignored. Where the formatter fails, nothing more is written, and the error is
-/// the answer. It takes no memory.
+/// `{}` and `LowerHex` print lower digits, `UpperHex` upper digits. With `#` they put `0x` in
+/// front. Width and fill are ignored. If the formatter fails, nothing more is written, and the
+/// error is returned. Takes no memory.
 ///
 /// ```rust
 /// let bytes = const_hex::display(&[0xde, 0xad]);
@@ -35,7 +35,7 @@ impl<'a> Display<'a> {
         Display { input }
     }
 
-    /// Writes the text, with `0x` in front where the formatter has `#`.
+    /// Writes the text, with `0x` in front if the formatter has `#`.
     fn write<const UPPER: bool, W: fmt::Write>(&self, f: &mut fmt::Formatter<W>) -> fmt::Result
         ensures { WritesStyledOnOk W.write_str_gives f.old result
             (printed_text (spec_alternate (formatter_spec f.old)) UPPER self.now) f.new }

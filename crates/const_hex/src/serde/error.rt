@@ -1,14 +1,14 @@
-//! Why a JSON value has no value of a type.
+//! Why a JSON value cannot be read into a type.
 
 ghost use Rattle.const_hex.specs.Json.{json_message};
 
 use std::error::Error;
 use std::fmt;
 
-/// Why a JSON value has no value of a type that is read from text.
+/// Why a JSON value cannot be read into a type.
 ///
-/// It prints `expected a hex encoded string`, or as the refusal of the text does. As an `Error` it
-/// is handed on by `?`, to an `anyhow::Error` too.
+/// It prints `expected a hex encoded string`, or the words of the type's refusal. It is an `Error`,
+/// so `?` hands it on, also to an `anyhow::Error`.
 ///
 /// ```rust
 /// let refusal = const_hex::deserialize::<[u8; 2]>(rt.alloc(), &Value::Null).unwrap_err();

@@ -1,4 +1,4 @@
-//! Hexadecimal text for a sink, short text in one call.
+//! Hexadecimal text for a sink, with short text in one call.
 
 ghost use Rattle.std.specs.Prelude.{◌≡◌, ◌+◌, ◌*◌, ◌<◌, ◌≤◌, false, not, is_ok, length};
 ghost use Rattle.const_hex_arch.specs.Texts.{full_text};
@@ -7,14 +7,13 @@ ghost use Rattle.const_hex.specs.Json.{TellsWhole};
 
 use const_hex_arch::{BufferedHex, FixedKernel, Sink, SinkError, fill_text, text_size};
 
-/// How many bytes are handed over in one call.
+/// The largest number of bytes whose text is handed over in one call.
 const AT_ONCE: usize = 128;
 
-/// Hands the text of some bytes to a sink that has not refused: of at most 128 bytes in one call,
-/// the empty text too, and of more as [`BufferedHex`] does.
+/// Hands the text of some bytes to a sink that has not refused. Up to 128 bytes go in one call,
+/// even for the empty text. More bytes go as [`BufferedHex`] hands them.
 ///
-/// Answers [`SinkError`] where the sink refused a piece. No memory is asked for but what the sink
-/// asks for.
+/// Returns [`SinkError`] if the sink refused a piece. Only the sink takes memory.
 ///
 /// ```rust
 /// let mut sink = PieceSink::new(rt.alloc(), 0);
@@ -31,7 +30,7 @@ pub fn serialize_inner<const UPPER: bool, const PREFIX: bool, S: Sink>(
     ensures long { 128 < length bytes.now
         → Streams S.step S.is_refused sink.old (full_text PREFIX UPPER bytes.now) sink.new }
     ensures flag { is_ok result ≡ not (S.is_refused sink.new) }
-    // The pieces that a sink tells are together the text, where it accepted all of them.
+    // If a sink tells its pieces and accepted all of them, they are together the text.
     ensures told { S.is_refused sink.new ≡ false
         → TellsWhole (S.told sink.old) (full_text PREFIX UPPER bytes.now) (S.told sink.new) }
     // More than 128 bytes are cut into pieces of a known size.

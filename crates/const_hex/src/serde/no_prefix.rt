@@ -10,9 +10,9 @@ pub use crate::serde::deserialize;
 use serde_json::Value;
 use std::alloc::{AllocError, Global};
 
-/// A JSON string of two digits for each byte, with lower letters.
+/// A JSON string with two digits for each byte, with lower letters.
 ///
-/// Answers `AllocError` where memory is refused.
+/// Returns `AllocError` if memory is refused.
 ///
 /// ```rust
 /// let value = const_hex::serde::no_prefix::serialize(rt.alloc(), &[0xde, 0xad])?;
@@ -26,7 +26,7 @@ pub fn serialize(alloc: Global, bytes: &[u8]) -> Result<Value, AllocError>
 
 /// As [`serialize`], with upper letters.
 ///
-/// Answers `AllocError` where memory is refused.
+/// Returns `AllocError` if memory is refused.
 ///
 /// ```rust
 /// let value = const_hex::serde::no_prefix::serialize_upper(rt.alloc(), &[0xde, 0xad])?;

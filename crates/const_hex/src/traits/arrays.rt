@@ -12,7 +12,7 @@ use crate::error::FromHexError;
 use crate::traits::reading::FromHex;
 use std::alloc::Global;
 
-/// N bytes, by the answers of [`decode_to_array`](crate::decode_to_array). No memory is asked for.
+/// N bytes, with the answers of [`decode_to_array`](crate::decode_to_array). Takes no memory.
 impl<const N: usize> FromHex for [u8; N] {
     type Error = FromHexError;
 
@@ -26,12 +26,12 @@ impl<const N: usize> FromHex for [u8; N] {
 
     fn from_hex(_alloc: Global, hex: &[u8]) -> Result<[u8; N], FromHexError>
         ensures answers { ReadsSized hex.now N result }
-        // Of a constant this computes, so the check proves an `unwrap`.
+        // For a constant text this computes, so the check proves an `unwrap`.
         ensures accepts { IsOk result ↔ IsTrue (is_text_of N hex.now) }
         // What was encoded of N bytes is decoded to the same bytes.
         ensures round_trip { (prefix up : Bool) (bs : List ℕ) → AreBytes bs → length bs ≡ N
             → hex.now ≡ full_text prefix up bs → result ≡ Ok bs }
-        // Another text gives the same bytes exactly where the bodies differ in case alone.
+        // Another text gives the same bytes exactly if the two bodies differ only in case.
         ensures agree { (t bs : List ℕ) → ReadsSized t N (Ok bs)
             → IfOk result (λ v. (bs ≡ v) ↔ (lowered (body_of t) ≡ lowered (body_of hex.now))) }
     {

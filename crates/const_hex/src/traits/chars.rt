@@ -7,9 +7,9 @@ ghost use Rattle.const_hex_arch.specs.Texts.{hex_text};
 
 use const_hex_arch::digit_at;
 
-/// The characters of the text of some bytes: two for each byte, in order, and then `None` for good.
+/// The characters of the text of some bytes: two for each byte, in order, and then always `None`.
 ///
-/// No memory is asked for.
+/// Takes no memory.
 ///
 /// ```rust
 /// let mut chars = BytesToHexChars::<true>::new(&[0x0f]);
@@ -20,7 +20,7 @@ use const_hex_arch::digit_at;
 /// ```
 #[derive(Drop)]
 pub struct BytesToHexChars<'a, const UPPER: bool> {
-    // The bytes that are not begun, and the second character of one that is.
+    // The bytes not yet begun, and the second character of a byte that is begun.
     bytes: &'a [u8],
     low: Option<char>,
 }
@@ -28,7 +28,7 @@ pub struct BytesToHexChars<'a, const UPPER: bool> {
 impl<'a, const UPPER: bool> BytesToHexChars<'a, UPPER> {
     ghost use Rattle.const_hex.specs.Chars.{chars_left};
 
-    /// The characters of these bytes, all of them still to come.
+    /// The characters of these bytes, from the first.
     ///
     /// ```rust
     /// assert_eq!(rt; BytesToHexChars::<false>::new(&[0xf0]).next(), Some('f'));
@@ -69,7 +69,7 @@ impl<const UPPER: bool> Iterator for BytesToHexChars<'_, UPPER> {
         }
     }
 
-    /// Just as many characters as are still to come.
+    /// Exactly the number of characters that are left.
     #[inline]
     #[tactic(auto, using(crate::proofs::Characters::lefts))]
     fn size_hint(&self) -> (usize, Option<usize>)

@@ -6,10 +6,10 @@ ghost use Rattle.const_hex.specs.declared.error.FromHexError.TheVariants.{NoMemo
 
 use crate::error::FromHexError;
 
-/// An error type that names which of its errors are of memory.
+/// An error type that tells which of its errors are of memory.
 ///
-/// What generic code may rest on: an error that [`of_memory`](HexFault::of_memory) gives is one
-/// that [`is_memory`](HexFault::is_memory) is true of.
+/// Generic code may rely on this: [`is_memory`](HexFault::is_memory) is true of every error that
+/// [`of_memory`](HexFault::of_memory) returns.
 ///
 /// ```rust
 /// assert!(rt; FromHexError::of_memory().is_memory());
@@ -36,7 +36,7 @@ pub trait HexFault: Sized {
         ensures { result ≡ is_of_memory self.now };
 }
 
-/// [`FromHexError::NoMemory`] alone is of memory.
+/// Only [`FromHexError::NoMemory`] is of memory.
 impl HexFault for FromHexError {
     ghost is_of_memory = { is_no_memory };
 

@@ -1,4 +1,4 @@
-//! Reading into signed elements, which have the bits of the bytes.
+//! Reading into signed numbers, which have the bits of the bytes.
 
 ghost use Rattle.std.specs.Prelude.{◌≡◌, length, map};
 ghost use Rattle.std.specs.Box.{boxed_slice_items};
@@ -13,7 +13,7 @@ use crate::traits::reading::FromHex;
 use std::alloc::Global;
 use std::boxed::BoxedSlice;
 
-/// Fills the numbers with the bits of the bytes, of which there have to be as many.
+/// Fills the numbers with the bits of the bytes. Both slices must have the same length.
 #[inline(always)]
 fn fill_signed(bytes: &[u8], numbers: &mut [i8])
     requires { length numbers.old ≡ length bytes.now }
@@ -24,7 +24,7 @@ fn fill_signed(bytes: &[u8], numbers: &mut [i8])
     }
 }
 
-/// The numbers with the bits of the bytes, by the answers of [`decode`](crate::decode).
+/// The numbers with the bits of the bytes, with the answers of [`decode`](crate::decode).
 impl FromHex for Vec<i8> {
     type Error = FromHexError;
 
@@ -45,7 +45,7 @@ impl FromHex for Vec<i8> {
     }
 }
 
-/// The numbers with the bits of the bytes, by the answers of [`decode`](crate::decode).
+/// The numbers with the bits of the bytes, with the answers of [`decode`](crate::decode).
 impl FromHex for BoxedSlice<i8> {
     type Error = FromHexError;
 
@@ -64,8 +64,8 @@ impl FromHex for BoxedSlice<i8> {
     }
 }
 
-/// The N numbers with the bits of the bytes, by the answers of
-/// [`decode_to_array`](crate::decode_to_array). No memory is asked for.
+/// The N numbers with the bits of the bytes, with the answers of
+/// [`decode_to_array`](crate::decode_to_array). Takes no memory.
 impl<const N: usize> FromHex for [i8; N] {
     type Error = FromHexError;
 

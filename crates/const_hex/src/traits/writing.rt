@@ -51,7 +51,7 @@ pub trait ToHex {
 
     /// The text with lower letters.
     ///
-    /// Answers `AllocError` where memory is refused.
+    /// Returns `AllocError` if memory is refused.
     ///
     /// ```rust
     /// let text = ToHex::encode_hex(b"kiwi", rt.alloc())?;
@@ -62,7 +62,7 @@ pub trait ToHex {
 
     /// The text with upper letters.
     ///
-    /// Answers `AllocError` where memory is refused.
+    /// Returns `AllocError` if memory is refused.
     ///
     /// ```rust
     /// let text = ToHex::encode_hex_upper(b"kiwi", rt.alloc())?;
@@ -96,7 +96,7 @@ pub trait ToHexExt {
 
     /// The text with lower letters.
     ///
-    /// Answers `AllocError` where memory is refused.
+    /// Returns `AllocError` if memory is refused.
     ///
     /// ```rust
     /// let text = ToHexExt::encode_hex(b"kiwi", rt.alloc())?;
@@ -107,7 +107,7 @@ pub trait ToHexExt {
 
     /// The text with upper letters.
     ///
-    /// Answers `AllocError` where memory is refused.
+    /// Returns `AllocError` if memory is refused.
     ///
     /// ```rust
     /// let text = ToHexExt::encode_hex_upper(b"kiwi", rt.alloc())?;
@@ -118,7 +118,7 @@ pub trait ToHexExt {
 
     /// `0x`, and then the text with lower letters.
     ///
-    /// Answers `AllocError` where memory is refused.
+    /// Returns `AllocError` if memory is refused.
     ///
     /// ```rust
     /// let text = b"kiwi".encode_hex_with_prefix(rt.alloc())?;
@@ -128,9 +128,9 @@ pub trait ToHexExt {
         ensures { IfOk result (λ s. string_bytes s
             ≡ full_text true false (written_bytes self.now)) };
 
-    /// `0x`, and then the text with upper letters. The prefix is small here too.
+    /// `0x`, and then the text with upper letters.
     ///
-    /// Answers `AllocError` where memory is refused.
+    /// Returns `AllocError` if memory is refused.
     ///
     /// ```rust
     /// let text = b"kiwi".encode_hex_upper_with_prefix(rt.alloc())?;

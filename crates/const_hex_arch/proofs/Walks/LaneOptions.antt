@@ -1,5 +1,5 @@
--- What the walks of `decode_chunk` cite: steps that are passed on, and what is known of vectors of n lanes and of a vector
--- beside a flag.
+-- What the walks of `decode_chunk` cite: steps that are passed on, and what is known of vectors of
+-- n lanes and of a vector beside a flag.
 pub use Rattle.std.proofs.Common.{ℕ, List, [], ◌∷◌, Bool, refl, lit<, w8, IsTrue, ◌↔◌}
 pub use Rattle.std.proofs.option.Made.{Some-of, none_of}
 pub use Rattle.std.proofs.raw_atomic.Walks.{proved}
@@ -51,7 +51,7 @@ use seplogic.Ra.Ura.{Ura}
 use types.Logic.{Logic}
 use Rattle.std.specs.contracts.option.Option as OP
 
--- ---- what is told of a flag
+-- ---- what is known of a flag
 
 pub and_true : (b : Bool) → T b → T (b && true)
 and_true true t = tt
@@ -65,7 +65,7 @@ is_false : (b : Bool) → T (not b) → IsTrue b → ⊥
 is_false true t e = t
 is_false false t e = cc
 
--- ---- the clauses of `decode_chunk`, from those of the vector beside a flag
+-- ---- the clauses of `decode_chunk`, from the clauses of the vector beside a flag
 
 abbrev pub NoneClause : List ℕ → Option (List ℕ) → Type 0
 NoneClause text result = IsNone result ↔ ¬ AllDigits text
@@ -114,7 +114,7 @@ module _ (n : ℕ) where
   pub flagged_lanes : (r : List ℕ × Bool) (v : Val) → Is Flagged r (v ∷ []) → Is Lanes r.0 (only (lanes_vals r.0) ∷ [])
   flagged_lanes r v is = subst (λ us. Is Lanes r.0 us) (lanes_Tells r.0 is.0.0 is.1.1.0) is.1.1.0
 
-  -- what `decode_chunk` answers
+  -- what `decode_chunk` returns
   abbrev pub Answer : RattleType
   Answer = OP.the_row Lanes
 

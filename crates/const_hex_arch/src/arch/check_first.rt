@@ -6,8 +6,8 @@ use crate::arch::Kernel;
 use crate::output::Output;
 use std::marker::PhantomData;
 
-/// Another kernel, but one that decodes a text only once all of it is checked. So it leaves the
-/// output as it is where a text is refused.
+/// The kernel `K`, but it decodes a text only after it has checked all of it. So a refusal leaves
+/// the output unchanged.
 ///
 /// ```rust
 /// let mut bytes = [0; 2];
@@ -19,7 +19,8 @@ pub struct CheckFirst<K> {
     kernel: PhantomData<K>,
 }
 
-// That it checks by K, review alone shows: by another kernel it would answer the same.
+// No contract or test fixes that it checks by `K`, since every kernel gives the same answers. It
+// was read.
 impl<K: Kernel> Kernel for CheckFirst<K> {
     ghost USE_CHECK_FN = { true };
 
@@ -35,8 +36,8 @@ impl<K: Kernel> Kernel for CheckFirst<K> {
         K::check(input)
     }
 
-    // Not `always`: a decoder names this in a branch that most kernels never take, and with all of
-    // it would be too large to be inlined.
+    // Not `always`: decoders name this call in a branch that most kernels never take. With its body
+    // in that branch, they would be too large to be inlined.
     #[inline]
     #[tactic(auto, using(crate::proofs::Spelling::none_decoded))]
     fn decode_checked(input: &[u8], output: &mut [u8]) -> bool {

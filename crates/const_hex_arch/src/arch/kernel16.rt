@@ -6,8 +6,8 @@ use crate::arch::plain::Plain;
 use crate::arch::{Kernel, steps};
 use crate::output::Output;
 
-/// Steps of 16 bytes, or of 32 bytes of text where it decodes, and byte by byte what follows the
-/// last whole step.
+/// Works in steps of 16 bytes, and decodes in steps of 32 bytes of text. What follows the last
+/// whole step goes byte by byte.
 ///
 /// ```rust
 /// let mut bytes = [0; 4];
@@ -17,8 +17,8 @@ use crate::output::Output;
 #[derive(Drop)]
 pub struct Lanes16;
 
-// That `check` and `decode_unchecked` go by these steps, review alone shows: by others they would
-// answer the same. They were read against the table of steps in docs/DESIGN.md.
+// No contract or test fixes that `check` and `decode_unchecked` run these steps, since other steps
+// give the same answers. They were read against the table of steps in docs/DESIGN.md.
 impl Kernel for Lanes16 {
     ghost USE_CHECK_FN = { false };
 
@@ -29,8 +29,8 @@ impl Kernel for Lanes16 {
         steps::encode::<16, Lanes16, Plain, O>(input, upper, output);
     }
 
-    // Not `always`: a decoder names `CheckFirst` in a branch that this kernel never takes, and with
-    // all of `check` in it would be too large to be inlined.
+    // Not `always`: decoders name `CheckFirst` in a branch that this kernel never takes. With all
+    // of `check` in that branch, they would be too large to be inlined.
     #[inline]
     fn check(input: &[u8]) -> bool {
         steps::check::<16, Lanes16, Plain>(input)

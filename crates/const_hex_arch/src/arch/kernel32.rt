@@ -7,8 +7,9 @@ use crate::arch::plain::Plain;
 use crate::arch::{Kernel, steps};
 use crate::output::Output;
 
-/// Steps of 32 bytes, or of 64 bytes of text where it decodes, then at most one step of half that
-/// size by 16 lanes, and byte by byte what is left. `decode_unchecked` alone has no half step.
+/// Works in steps of 32 bytes, and decodes in steps of 64 bytes of text. Then comes at most one
+/// step of half that size, by 16 lanes. What is left goes byte by byte. Only `decode_unchecked` has
+/// no half step.
 ///
 /// ```rust
 /// let mut bytes = [0; 4];
@@ -18,8 +19,8 @@ use crate::output::Output;
 #[derive(Drop)]
 pub struct Lanes32;
 
-// That `check` and `decode_unchecked` go by these steps, review alone shows: by others they would
-// answer the same. They were read against the table of steps in docs/DESIGN.md.
+// No contract or test fixes that `check` and `decode_unchecked` run these steps, since other steps
+// give the same answers. They were read against the table of steps in docs/DESIGN.md.
 impl Kernel for Lanes32 {
     ghost USE_CHECK_FN = { false };
 
@@ -30,8 +31,8 @@ impl Kernel for Lanes32 {
         steps::encode::<32, Lanes32, Lanes16, O>(input, upper, output);
     }
 
-    // Not `always`: a decoder names `CheckFirst` in a branch that this kernel never takes, and with
-    // all of `check` in it would be too large to be inlined.
+    // Not `always`: decoders name `CheckFirst` in a branch that this kernel never takes. With all
+    // of `check` in that branch, they would be too large to be inlined.
     #[inline]
     fn check(input: &[u8]) -> bool {
         steps::check::<32, Lanes32, Lanes16>(input)

@@ -11,7 +11,7 @@ ghost use Rattle.const_hex_arch.specs.Texts.{hex_text, AllDigits, Spells};
 use crate::output::Output;
 use std::simd::prelude::*;
 
-/// What vectors of `N` lanes have of their own. All else of a kernel is the same at any number.
+/// What differs between vectors of different `N`. The rest of a kernel is the same for every `N`.
 pub(crate) trait Vectors<const N: usize> {
     /// Writes two digits for each byte, as one piece.
     fn encode_step<O: Output>(bytes: &[u8], upper: bool, output: &mut O)
@@ -19,16 +19,16 @@ pub(crate) trait Vectors<const N: usize> {
         requires room { HasRoom (O.room output.old) (2 * N) }
         ensures { O.step output.old (hex_text upper bytes.now) output.new };
 
-    /// The limit of each lane: if the lane is a digit, its value is not above it.
+    /// The limit of each lane. If the lane is a digit, its value is at most the limit.
     fn limits(v: Simd<u8, N>) -> Simd<u8, N>
         ensures { AllZip IsLimitOf v.entry result };
 
-    /// One byte of each two values, the higher half first.
+    /// One byte for each two values, the higher half first.
     fn merge(first: Simd<u8, N>, second: Simd<u8, N>) -> Simd<u8, N>
         ensures { AllNibbles (first.entry ++ second.entry)
             → result ≡ byte_pairs (first.entry ++ second.entry) };
 
-    /// A step has some bytes, and its text is no longer than a piece.
+    /// A step has at least one byte, and its text fits into one piece.
     ghost sizes: { (1 ≤ N) × (N ≤ 32) };
 }
 
@@ -46,8 +46,8 @@ pub(crate) fn nibbles<const N: usize>(v: Simd<u8, N>) -> Simd<u8, N>
     decimal.simd_min(letter)
 }
 
-/// The value of each lane that is a digit, and what its mark is found by: the lane less 48, but no
-/// more than its limit.
+/// The lane less 48, but at most its limit. If the lane is a digit, this is its value. The marks
+/// are made from it.
 #[inline(always)]
 pub(crate) fn values<const N: usize>(v: Simd<u8, N>, limits: Simd<u8, N>) -> Simd<u8, N>
     requires { AllZip IsLimitOf v limits }
@@ -57,10 +57,10 @@ pub(crate) fn values<const N: usize>(v: Simd<u8, N>, limits: Simd<u8, N>) -> Sim
     (v - Simd::splat(0x30)).simd_min(limits)
 }
 
-/// Sets at least one of the bits 7, 6, 4 and 3 in each lane that is no digit, and clears the four
-/// in every other lane: what is left of the lane less 48 when its value is taken away.
-// Not by `saturating_sub` of the limits: else the limits and the values are both kept until the test
-// of the marks is done, and for that the default processor has too few registers.
+/// The lane less 48, less the given value. It sets at least one of the bits 7, 6, 4 and 3 in each
+/// lane that is not a digit, and clears all four in every other lane.
+// Not by `saturating_sub` of the limits: the limits and the values would both be kept until the
+// test of the marks is done. The default processor has too few registers for that.
 #[inline(always)]
 pub(crate) fn marks<const N: usize>(v: Simd<u8, N>, values: Simd<u8, N>) -> Simd<u8, N>
     requires { AllZip IsPartOf v values }
@@ -69,7 +69,7 @@ pub(crate) fn marks<const N: usize>(v: Simd<u8, N>, values: Simd<u8, N>) -> Simd
     v - Simd::splat(0x30) - values
 }
 
-/// Whether no lane has a mark: all have the bits 7, 6, 4 and 3 clear.
+/// Whether no lane has a mark, so all have the bits 7, 6, 4 and 3 clear.
 #[inline(always)]
 #[tactic(auto, using(crate::proofs::LaneMarks::are_unmarked))]
 pub(crate) fn are_unmarked<const N: usize>(marks: Simd<u8, N>) -> bool
@@ -87,7 +87,7 @@ pub(crate) fn unhex<const N: usize>(v: Simd<u8, N>) -> Simd<u8, N>
     (v & Simd::splat(15)) + v.simd_gt(Simd::splat(64)).select(nine, Simd::splat(0))
 }
 
-/// What the mark of each lane is found by: its value, if it is a digit.
+/// What the mark of each lane is made from. If the lane is a digit, this is its value.
 #[inline(always)]
 fn digit_values<const N: usize, V: Vectors<N>>(v: Simd<u8, N>) -> Simd<u8, N>
     ensures { AllZip IsPartOf v.entry result }
@@ -124,8 +124,8 @@ pub(crate) fn two_marks<const N: usize, V: Vectors<N>>(
     digit_marks::<N, V>(first) | digit_marks::<N, V>(second)
 }
 
-/// The bytes that the text of two vectors spells, if each of its lanes is a digit. Else they mean
-/// nothing.
+/// The bytes that the text of two vectors spells, if each of its lanes is a digit. Otherwise they
+/// mean nothing.
 #[inline(always)]
 #[tactic(auto, using(crate::proofs::LaneBytes::merge_spells, crate::proofs::LaneMarks::values_of_parts))]
 pub(crate) fn decode<const N: usize, V: Vectors<N>>(
@@ -137,7 +137,7 @@ pub(crate) fn decode<const N: usize, V: Vectors<N>>(
     V::merge(digit_values::<N, V>(first), digit_values::<N, V>(second))
 }
 
-/// The same by [`unhex`], for a text that was tested before.
+/// As [`decode`], by [`unhex`], for a text that was tested before.
 #[inline(always)]
 #[tactic(auto, using(crate::proofs::LaneBytes::merge_spells))]
 pub(crate) fn decode_digits<const N: usize, V: Vectors<N>>(

@@ -1,7 +1,7 @@
-//! What a vector of 16 lanes makes of as many bytes at once.
+//! Digits in a vector of 16 lanes, one byte per lane.
 //!
-//! Five calls take the lanes apart and put them together, each with its contract for every vector:
-//! [`encode_chunk`], [`check_chunk`], [`decode_chunk`], [`nibbles`] and [`unhex`].
+//! Each of these calls has a contract for every vector: [`encode_chunk`], [`check_chunk`],
+//! [`decode_chunk`], [`nibbles`] and [`unhex`].
 
 ghost use Rattle.std.specs.Prelude.{◌≡◌, ◌↔◌, [], ◌∷◌, ◌++◌, length, map, IsTrue, IsNone, IfSome};
 ghost use Rattle.std.specs.List.{AllZip, concat};
@@ -17,17 +17,17 @@ use crate::output::Output;
 use crate::tables::{HEX_CHARS_LOWER, HEX_CHARS_UPPER};
 use std::simd::prelude::*;
 
-/// By the low half of a byte: a number that a digit's value is not above.
-// A byte less 48 is the value of `0` to `9`, and more than that of a letter. So the lesser of that
-// and the limit is the value of each digit, where the limit is the value of the letters from `A` to
-// `F` that have this low half. Where none has it, but a digit from `0` to `9` does, the limit is one
-// more than that digit's value; else it is 0.
-// What the value leaves of a byte less 48 is 0 for `0` to `9`, 7 for `A` to `F` and 39 for `a` to
-// `f`: all have the bits 7, 6, 4 and 3 clear. No other byte leaves such a number. (By limits that
-// are not one more, `P`, `W`, `X` and `Y` would: they would leave 32.)
+/// The limit for each low half of a byte: no digit with this low half has a greater value.
+// A byte less 48 is the value of `0` to `9`, and more than the value of a letter. So the value of a
+// digit is the lesser of that and the limit. If a letter from `A` to `F` has this low half, the
+// limit is the letter's value. If only a digit from `0` to `9` has it, the limit is one more than
+// the digit's value. If neither has it, the limit is 0.
+// A digit less 48, less its value, is 0 for `0` to `9`, 7 for `A` to `F` and 39 for `a` to `f`. All
+// have the bits 7, 6, 4 and 3 clear. No other byte leaves such a number. (If the limits were not
+// one more, `P`, `W`, `X` and `Y` would leave 32.)
 const LIMITS: [u8; 16] = [1, 10, 11, 12, 13, 14, 15, 8, 9, 10, 0, 0, 0, 0, 0, 0];
 
-/// Two digits for each lane, in order: the text of the first 8 lanes, and that of the last 8.
+/// Two digits for each lane, in order: the text of the first 8 lanes, and the text of the last 8.
 ///
 /// ```rust
 /// let [first, _] = lanes16::encode_chunk::<false>(u8x16::splat(0xAF));
@@ -71,7 +71,7 @@ pub fn nibbles(v: u8x16) -> u8x16
     lanes::nibbles(v)
 }
 
-/// The bytes that the lanes of a text spell, or `None` if one of these lanes is no digit.
+/// The bytes that the lanes of a text spell, or `None` if one of these lanes is not a digit.
 ///
 /// ```rust
 /// let text = [u8x16::splat(b'7'), u8x16::splat(b'7')];
@@ -87,7 +87,7 @@ pub fn decode_chunk(text: [u8x16; 2]) -> Option<u8x16>
     if are_digits { Some(bytes) } else { None }
 }
 
-/// The value of each lane that is a digit. Of the other lanes nothing is said.
+/// The value of each lane that is a digit. Any other lane gets any value.
 ///
 /// ```rust
 /// let values = lanes16::unhex(u8x16::splat(b'B'));
@@ -110,9 +110,9 @@ impl Vectors<16> for Lanes16 {
         }
     }
 
-    // The look-up is of lanes in a register: nothing is read from memory by the value of a byte.
-    // `swizzle_dyn` asks for positions below 16, or from 128 on, which read as 0: so the mask. The
-    // machine looks at these five bits alone, so the mask costs nothing.
+    // The look-up is in a register: no byte decides which memory is read. `swizzle_dyn` takes
+    // positions below 16, and from 128 on, which read as 0. The mask leaves only such positions. It
+    // costs nothing, since the machine looks only at the same five bits.
     #[inline(always)]
     fn limits(v: u8x16) -> u8x16
         ensures { AllZip IsLimitOf v result }
@@ -159,8 +159,8 @@ fn encode_piece<const UPPER: bool>(bytes: &[u8]) -> [u8; 32]
     piece
 }
 
-/// The bytes that the lanes of a text spell, and whether each of these lanes is a digit. Where one
-/// is not, the bytes mean nothing.
+/// The bytes that the lanes of a text spell, and whether each of these lanes is a digit. If one is
+/// not, the bytes mean nothing.
 #[inline(always)]
 #[tactic(auto, using(crate::proofs::LaneMarks::through, crate::proofs::LaneText::concat_pair))]
 fn decode_flagged(text: [u8x16; 2]) -> (u8x16, bool)
@@ -172,7 +172,7 @@ fn decode_flagged(text: [u8x16; 2]) -> (u8x16, bool)
     (bytes, lanes::are_unmarked(marks))
 }
 
-/// The lanes of both.
+/// The lanes of both vectors, in order.
 #[inline(always)]
 pub(crate) fn join(first: u8x16, second: u8x16) -> u8x32
     ensures { result ≡ first ++ second }
@@ -186,8 +186,8 @@ pub(crate) fn join(first: u8x16, second: u8x16) -> u8x32
     )
 }
 
-/// One byte of each two lanes, which have to be values.
-// Two lanes are one of 16 bits, high + 256 * low. Times 4097 its upper byte is 16 * high + low.
+/// One byte for each two lanes, which must be values.
+// Two lanes make one of 16 bits, high + 256 * low. Times 4097, its upper byte is 16 * high + low.
 #[inline(always)]
 fn packed(nibbles: u8x32) -> u8x16
     ensures { AllNibbles nibbles → result ≡ byte_pairs nibbles }

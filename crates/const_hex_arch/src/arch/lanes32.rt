@@ -1,7 +1,7 @@
-//! What a vector of 32 lanes makes of as many bytes at once.
+//! Digits in a vector of 32 lanes, one byte per lane.
 //!
-//! Five calls take the lanes apart and put them together, each with its contract for every vector:
-//! [`encode_chunk`], [`check_chunk`], [`decode_chunk`], [`nibbles`] and [`unhex`].
+//! Each of these calls has a contract for every vector: [`encode_chunk`], [`check_chunk`],
+//! [`decode_chunk`], [`nibbles`] and [`unhex`].
 
 ghost use Rattle.std.specs.Prelude.{◌≡◌, ◌↔◌, [], ◌∷◌, ◌++◌, length, map, IsTrue, IsNone, IfSome};
 ghost use Rattle.std.specs.List.{AllZip, concat};
@@ -24,7 +24,7 @@ const DIGITS_LOWER: [u8; 32] = *b"0123456789abcdef0123456789abcdef";
 /// The same with upper letters.
 const DIGITS_UPPER: [u8; 32] = *b"0123456789ABCDEF0123456789ABCDEF";
 
-/// Two digits for each lane, in order: the text of the first 16 lanes, and that of the last 16.
+/// Two digits for each lane, in order: the text of the first 16 lanes, and the text of the last 16.
 ///
 /// ```rust
 /// let [first, _] = lanes32::encode_chunk::<true>(u8x32::splat(0xAF));
@@ -68,7 +68,7 @@ pub fn nibbles(v: u8x32) -> u8x32
     lanes::nibbles(v)
 }
 
-/// The bytes that the lanes of a text spell, or `None` where one of these lanes is no digit.
+/// The bytes that the lanes of a text spell, or `None` if one of these lanes is not a digit.
 ///
 /// ```rust
 /// let text = [u8x32::splat(b'7'), u8x32::splat(b'7')];
@@ -84,7 +84,7 @@ pub fn decode_chunk(text: [u8x32; 2]) -> Option<u8x32>
     if are_digits { Some(bytes) } else { None }
 }
 
-/// The value of each lane that is a digit. Of the other lanes nothing is said.
+/// The value of each lane that is a digit. Any other lane gets any value.
 ///
 /// ```rust
 /// let values = lanes32::unhex(u8x32::splat(b'B'));
@@ -107,8 +107,8 @@ impl Vectors<32> for Lanes32 {
         }
     }
 
-    // By halves of 16 lanes, for which the mask costs nothing. With AVX2 the compiler makes one
-    // look-up of both; the rest is of 32 lanes, or it would go by halves there too.
+    // In halves of 16 lanes, for which the mask costs nothing. With AVX2 the compiler makes one
+    // look-up of both. The rest uses 32 lanes, or the compiler would use halves there too.
     #[inline(always)]
     fn limits(v: u8x32) -> u8x32
         ensures { AllZip IsLimitOf v result }
@@ -153,8 +153,8 @@ fn encode_piece<const UPPER: bool>(bytes: &[u8]) -> [u8; 64]
     piece
 }
 
-/// The bytes that the lanes of a text spell, and whether each of these lanes is a digit. Where one
-/// is not, the bytes mean nothing.
+/// The bytes that the lanes of a text spell, and whether each of these lanes is a digit. If one is
+/// not, the bytes mean nothing.
 #[inline(always)]
 #[tactic(auto, using(crate::proofs::LaneMarks::through, crate::proofs::LaneText::concat_pair))]
 fn decode_flagged(text: [u8x32; 2]) -> (u8x32, bool)
@@ -166,7 +166,7 @@ fn decode_flagged(text: [u8x32; 2]) -> (u8x32, bool)
     (bytes, lanes::are_unmarked(marks))
 }
 
-/// The lanes of both.
+/// The lanes of both vectors, in order.
 #[inline(always)]
 fn join(first: u8x32, second: u8x32) -> u8x64
     ensures { result ≡ first ++ second }
@@ -181,8 +181,8 @@ fn join(first: u8x32, second: u8x32) -> u8x64
     )
 }
 
-/// One byte of each two lanes, which have to be values.
-// Two lanes are one of 16 bits, high + 256 * low. Times 4097 its upper byte is 16 * high + low.
+/// One byte for each two lanes, which must be values.
+// Two lanes make one of 16 bits, high + 256 * low. Times 4097, its upper byte is 16 * high + low.
 #[inline(always)]
 fn packed(nibbles: u8x64) -> u8x32
     ensures { AllNibbles nibbles → result ≡ byte_pairs nibbles }

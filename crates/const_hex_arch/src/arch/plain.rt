@@ -6,7 +6,7 @@ use crate::arch::Kernel;
 use crate::output::Output;
 use crate::tables::{NIL, digit_at, value_at};
 
-/// A byte at a time, by the tables.
+/// Works byte by byte, with the tables.
 ///
 /// ```rust
 /// let mut bytes = [0; 2];

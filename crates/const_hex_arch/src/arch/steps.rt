@@ -1,4 +1,4 @@
-//! Kernels by steps of lanes, with another kernel for what is left.
+//! Kernels that work in steps of lanes, with another kernel for the rest.
 
 ghost use Rattle.std.specs.Prelude.{◌≡◌, ◌+◌, ◌*◌, ◌<◌, ◌++◌, ◌↔◌, IsTrue, false, length};
 ghost use Rattle.const_hex_arch.specs.Lanes.{AllUnmarked};
@@ -10,8 +10,8 @@ use crate::arch::lanes::{self, Vectors};
 use crate::output::Output;
 use std::simd::prelude::*;
 
-/// Encodes by steps, two in each turn of the loop, then by one if a whole one is left, and the
-/// rest by another kernel.
+/// Encodes two steps in each turn of the loop, and then one more step if the input has one. Another
+/// kernel encodes the rest.
 #[inline(always)]
 pub(crate) fn encode<const N: usize, V: Vectors<N>, R: Kernel, O: Output>(
     input: &[u8],
@@ -32,8 +32,8 @@ pub(crate) fn encode<const N: usize, V: Vectors<N>, R: Kernel, O: Output>(
     encode_last::<N, V, R, O>(&input[at..], upper, output);
 }
 
-/// Encodes by one step if the input has one, and the rest, which is less than a step, by another
-/// kernel.
+/// Encodes one step if the input has one. Another kernel encodes the rest, which is less than a
+/// step.
 #[inline(always)]
 fn encode_last<const N: usize, V: Vectors<N>, R: Kernel, O: Output>(
     input: &[u8],
@@ -53,7 +53,7 @@ fn encode_last<const N: usize, V: Vectors<N>, R: Kernel, O: Output>(
     R::encode(left, upper, output);
 }
 
-/// Checks by four steps under one test while four are left, and then what is less than that.
+/// Checks four steps by one test while there are four, and then what is left.
 #[inline(always)]
 pub(crate) fn check<const N: usize, V: Vectors<N>, R: Kernel>(input: &[u8]) -> bool
     ensures { IsTrue result ↔ AllDigits input.now }
@@ -69,8 +69,8 @@ pub(crate) fn check<const N: usize, V: Vectors<N>, R: Kernel>(input: &[u8]) -> b
     check_last::<N, V, R>(left)
 }
 
-/// Checks by two steps under one test if the input has two, then by one if one is left, and
-/// the rest, which is less than a step, by another kernel.
+/// Checks two steps by one test if the input has two, and then one step if one is left. Another
+/// kernel checks the rest, which is less than a step.
 #[inline(always)]
 fn check_last<const N: usize, V: Vectors<N>, R: Kernel>(input: &[u8]) -> bool
     requires { length input.now < 4 * N }
@@ -94,8 +94,8 @@ fn check_last<const N: usize, V: Vectors<N>, R: Kernel>(input: &[u8]) -> bool
     R::check(left)
 }
 
-/// Decodes by two steps at a time, then by steps, and the rest by another kernel. Two steps that are
-/// refused are left to the single ones, so that the first of them is decoded if it can be.
+/// Decodes two steps at a time, and then single steps. If two steps are refused, single steps
+/// decode the first of them if possible. Another kernel decodes the rest.
 #[inline(always)]
 pub(crate) fn decode_checked<const N: usize, V: Vectors<N>, R: Kernel>(
     input: &[u8],
@@ -116,7 +116,7 @@ pub(crate) fn decode_checked<const N: usize, V: Vectors<N>, R: Kernel>(
     decode_steps::<N, V, R>(&input[2 * at..], &mut output[at..])
 }
 
-/// Decodes by steps, and the rest by another kernel. A step that is refused ends it.
+/// Decodes single steps, and stops at a refused one. Another kernel decodes the rest.
 #[inline(always)]
 #[tactic(auto, using(crate::proofs::Stepping::spells_rest, crate::proofs::Stepping::partial_rest))]
 fn decode_steps<const N: usize, V: Vectors<N>, R: Kernel>(input: &[u8], output: &mut [u8]) -> bool
@@ -135,7 +135,7 @@ fn decode_steps<const N: usize, V: Vectors<N>, R: Kernel>(input: &[u8], output: 
     R::decode_checked(&input[2 * at..], &mut output[at..])
 }
 
-/// Decodes digits by steps, and the rest by another kernel.
+/// Decodes digits in steps. Another kernel decodes the rest.
 #[inline(always)]
 #[tactic(auto, using(crate::proofs::Stepping::spells_rest))]
 pub(crate) fn decode_unchecked<const N: usize, V: Vectors<N>, R: Kernel>(
@@ -165,7 +165,7 @@ fn check_step<const N: usize, V: Vectors<N>>(text: &[u8]) -> bool
     lanes::check::<N, V>(Simd::from_slice(text))
 }
 
-/// The same of the text of two steps, by one test.
+/// As `check_step`, for the text of two steps, by one test.
 #[inline(always)]
 #[tactic(auto, using(crate::proofs::LaneMarks::through))]
 fn check_two_steps<const N: usize, V: Vectors<N>>(text: &[u8]) -> bool
@@ -175,7 +175,7 @@ fn check_two_steps<const N: usize, V: Vectors<N>>(text: &[u8]) -> bool
     lanes::are_unmarked(two_marks::<N, V>(text))
 }
 
-/// The same of the text of four steps, by one test.
+/// As `check_step`, for the text of four steps, by one test.
 #[inline(always)]
 fn check_four_steps<const N: usize, V: Vectors<N>>(text: &[u8]) -> bool
     requires { length text.now ≡ 4 * N }
@@ -195,8 +195,8 @@ fn two_marks<const N: usize, V: Vectors<N>>(text: &[u8]) -> Simd<u8, N>
     lanes::two_marks::<N, V>(Simd::from_slice(text), Simd::from_slice(&text[N..]))
 }
 
-/// Fills the output with the bytes that the text of a step spells, or leaves it as it is if some
-/// byte is no digit, and tells which.
+/// Fills the output with the bytes that the text of a step spells, and returns true. If some byte
+/// is not a digit, the output stays unchanged, and the answer is false.
 #[inline(always)]
 #[tactic(auto, using(std::proofs::lemmas::Simd::put_chunk_whole))]
 fn decode_step<const N: usize, V: Vectors<N>>(text: &[u8], output: &mut [u8]) -> bool
@@ -213,7 +213,7 @@ fn decode_step<const N: usize, V: Vectors<N>>(text: &[u8], output: &mut [u8]) ->
     are_digits
 }
 
-/// The same of the text of two steps, by one test.
+/// As `decode_step`, for the text of two steps, by one test.
 #[inline(always)]
 #[tactic(auto, using(crate::proofs::Spelling::spelled, crate::proofs::Stepping::parts, std::proofs::lemmas::Simd::put_chunk_whole))]
 fn decode_two_steps<const N: usize, V: Vectors<N>>(text: &[u8], output: &mut [u8]) -> bool
@@ -236,7 +236,7 @@ fn decode_two_steps<const N: usize, V: Vectors<N>>(text: &[u8], output: &mut [u8
 }
 
 /// The bytes that the text of a step spells.
-// The values are found again here: the compiler takes those that the test has found.
+// The values are computed again here. The compiler reuses those of the test.
 #[inline(always)]
 #[tactic(auto, using(crate::proofs::LaneBytes::in_two))]
 fn decoded<const N: usize, V: Vectors<N>>(text: &[u8]) -> Simd<u8, N>

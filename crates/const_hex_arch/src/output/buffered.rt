@@ -11,11 +11,11 @@ use std::marker::Model;
 
 /// Gathers up to `N` bytes before it hands them on to an output.
 ///
-/// Contracts see it as a pair: the output, and the text that is pending. A piece that does not fit
-/// behind what is pending has that handed on first; then a piece of at least `N` bytes is handed
-/// straight on, and a shorter one is kept, as is a byte by `write_byte`. Where nothing is pending,
-/// nothing is handed on. What is pending is lost where it is dropped without
-/// [`finish`](BufferedOutput::finish).
+/// Contracts see it as a pair: the output, and the pending text. If a piece does not fit behind the
+/// pending text, that text is handed on first. Then a piece of at least `N` bytes is handed on at
+/// once, and a shorter piece becomes pending. An empty pending text is never handed on. If the
+/// `BufferedOutput` is dropped without [`finish`](BufferedOutput::finish), the pending text is
+/// lost.
 ///
 /// ```rust
 /// let mut text = [0u8; 6];
@@ -42,7 +42,7 @@ impl<O: Output, const N: usize> Model for BufferedOutput<O, N> {
 }
 
 impl<O: Output, const N: usize> BufferedOutput<O, N> {
-    /// A gathering output over that output, with nothing pending. N must not be 0.
+    /// Gathers for that output, with nothing pending. N must not be 0.
     ///
     /// ```rust
     /// let mut text = [0; 6];
@@ -61,7 +61,7 @@ impl<O: Output, const N: usize> BufferedOutput<O, N> {
         }
     }
 
-    /// Hands on what is pending, if anything, and gives the output back.
+    /// Hands on the pending text, if there is any, and returns the output.
     ///
     /// ```rust
     /// let mut text = [0; 6];
@@ -78,7 +78,7 @@ impl<O: Output, const N: usize> BufferedOutput<O, N> {
         this.into_output()
     }
 
-    /// The output. What is pending is lost.
+    /// The output. The pending text is lost.
     #[inline]
     pub(crate) fn into_output(self) -> O
         ensures { result ≡ self.0 }
@@ -91,7 +91,7 @@ impl<O: Output, const N: usize> BufferedOutput<O, N> {
         output
     }
 
-    /// Hands on what is pending, if anything.
+    /// Hands on the pending text, if there is any.
     #[inline]
     pub(crate) fn flush(&mut self)
         ensures run { FoldsTo O.step self.old.0 (piece_of self.old.1) self.new.0 }
@@ -104,7 +104,7 @@ impl<O: Output, const N: usize> BufferedOutput<O, N> {
         }
     }
 
-    /// Keeps a piece for which there is space.
+    /// Keeps a piece. There must be space for it.
     #[inline(always)]
     fn keep(&mut self, bytes: &[u8])
         requires ascii { IsAscii bytes.now }
@@ -137,7 +137,7 @@ impl<O: Output, const N: usize> Output for BufferedOutput<O, N> {
 
     ghost room = { λ s. less_room (O.room s.0) (length s.1) };
 
-    /// What the output still takes, less what is pending.
+    /// The room of the output, less the pending bytes.
     #[inline]
     fn remaining(&self) -> Option<usize> {
         match self.output.remaining() {

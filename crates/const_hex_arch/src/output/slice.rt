@@ -6,9 +6,9 @@ ghost use Rattle.const_hex_arch.specs.SliceOutputs.{SliceStep, slice_bytes, slic
 
 use crate::output::Output;
 
-/// Writes into a slice, from its start on.
+/// Writes into a slice, from its start.
 ///
-/// A write puts the piece behind what was written, and leaves the rest of the slice as it was.
+/// A write puts the piece behind what was written, and leaves the rest of the slice unchanged.
 ///
 /// ```rust
 /// let mut text = [b'.'; 4];
@@ -23,7 +23,7 @@ pub struct SliceOutput<'a> {
 }
 
 impl<'a> SliceOutput<'a> {
-    /// An output into that slice, of which nothing is written yet.
+    /// An output into that slice, with nothing written yet.
     ///
     /// ```rust
     /// assert_eq!(rt; SliceOutput::new(&mut [0; 4]).remaining(), Some(4));
@@ -43,7 +43,7 @@ impl Output for SliceOutput<'_> {
 
     ghost room = { λ s. Some (length (slice_bytes s) - slice_written s) };
 
-    /// The bytes of the slice that are not written yet.
+    /// How many bytes of the slice are not written yet.
     #[inline(always)]
     fn remaining(&self) -> Option<usize> {
         Some(self.slice.len().saturating_sub(self.count))

@@ -6,7 +6,7 @@ ghost use Rattle.const_hex_arch.specs.Sinks.{SinkStep, output_sink, sink_name};
 use crate::output::Output;
 use crate::sink::{Sink, SinkError, refusal_of};
 
-/// Writes to a sink, and skips what comes after the first refusal.
+/// Writes to a sink. After the first refusal it writes nothing more.
 ///
 /// ```rust
 /// let mut sink = PieceSink::new(rt.alloc(), 2);
@@ -38,7 +38,7 @@ impl<'a, S: Sink> SinkOutput<'a, S> {
         SinkOutput { sink }
     }
 
-    /// `Ok` where the sink accepted all that was written, and an error where it refused.
+    /// `Ok` if the sink accepted all that was written, and an error if it refused.
     ///
     /// ```rust
     /// let mut sink = PieceSink::new(rt.alloc(), 0);

@@ -7,9 +7,10 @@ use crate::sink::{Sink, SinkError};
 use std::alloc::{AllocError, Global};
 use std::marker::Model;
 
-/// Keeps a copy of each piece, and refuses at a call of a given number, or because memory was refused.
+/// Keeps a copy of each piece. Refuses the call with a given number, or a piece for which memory is
+/// refused.
 ///
-/// Contracts see it as the pieces that it accepted, that number, and whether it refused.
+/// Contracts see it as the pieces that it accepted, that number, and whether it has refused.
 ///
 /// ```rust
 /// let mut sink = PieceSink::new(rt.alloc(), 0);
@@ -39,8 +40,9 @@ impl Model for PieceSink {
 }
 
 impl PieceSink {
-    /// A sink with no pieces, which refuses at the call of that number, counted from 1, or at 0
-    /// never. It takes no memory, and keeps the allocator for the pieces.
+    /// A sink with no pieces, which refuses the call with the number `refuse_at`. The first call
+    /// has the number 1; for 0 it refuses none. It takes no memory, and keeps the allocator for the
+    /// pieces.
     ///
     /// ```rust
     /// let mut sink = PieceSink::new(rt.alloc(), 2);
@@ -69,7 +71,7 @@ impl PieceSink {
         self.pieces.as_slice()
     }
 
-    /// How many calls there were: one for each piece, and the one that it refused.
+    /// How many calls there were: one for each piece, and the refused one.
     ///
     /// ```rust
     /// let mut sink = PieceSink::new(rt.alloc(), 1);
@@ -82,7 +84,7 @@ impl PieceSink {
         self.pieces.len() + usize::from(self.refused)
     }
 
-    /// Whether it refused, and not at the call of the given number: so because memory was refused.
+    /// Whether it refused because memory was refused, and not because of the number of the call.
     ///
     /// ```rust
     /// let mut sink = PieceSink::new(rt.alloc(), 1);
@@ -96,8 +98,7 @@ impl PieceSink {
         self.refused && self.calls() != self.refuse_at
     }
 
-    /// Keeps a copy of a piece. Memory for the copy and for its place is asked for before anything
-    /// is added.
+    /// Keeps a copy of a piece. All memory is asked for before anything is added.
     fn keep(&mut self, piece: &str) -> Result<(), AllocError>
         ensures ok { OnOk result
             (self.new ≡ record self.old { pieces = self.old.pieces ++ piece.now ∷ [] }) }
