@@ -14,7 +14,7 @@ unfolding hex_text
 left-none up low [] h e = rw h refl
 left-none up low (b ∷ u) h e = absurd (omega (arith, e))
 
--- a byte more is left
+-- one more byte is left
 pub left-more : (up : Bool) (low : Option ℕ) (t u : List ℕ) (b x y : ℕ) → low ≡ None → t ≡ b ∷ u
     → x ≡ hex_digit up (b / 16) → y ≡ hex_digit up (b % 16)
     → with_low low (hex_text up t) ≡ x ∷ y ∷ hex_text up u
@@ -26,7 +26,7 @@ pub length-left : (up : Bool) (low : Option ℕ) (u : List ℕ) → length (with
 length-left up None u = let two = length-hex_text up u in omega (arith, two)
 length-left up (Some c) u = let two = length-hex_text up u in omega (arith, two)
 
--- an item that was the first of what was left
+-- an item that was the first of those left
 pub goes : {S A : Type 0} (can : S → Type 0) (rest : S → List A) (s t : S) (x : A) → can t → rest s ≡ x ∷ rest t
     → MakesProgress can (item_count rest) s (Some x) t
 goes can rest s t x ok e = record {

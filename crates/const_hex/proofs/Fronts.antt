@@ -1,9 +1,9 @@
--- What a refused reading into the front of an output leaves of the whole output.
+-- What a refusal leaves of an output whose front was to be filled.
 use Rattle.std.proofs.Common.{◌≡◌, ◌≤◌, ◌*◌, ℕ, List, ◌++◌, length, take, drop, sym, ap, ◌∙◌, arith}
 use Rattle.std.proofs.lemmas.List.{take-append-drop, take-append-le, drop-append-le, length-append, length-take-le}
 use Rattle.const_hex_arch.specs.Texts.{Partial}
 
--- what is left of a front with room for just the bytes of the text is left of the whole
+-- what `Partial` says of a front that the text just fills, it says of the whole output
 pub partial_front : (old u new : List ℕ) (n : ℕ) → n ≤ length old → length u ≡ 2 * n → Partial (take n old) u new → Partial old u (new ++ drop n old)
 partial_front old u new n within sized p =
     let other = drop n old in

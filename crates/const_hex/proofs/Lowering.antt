@@ -1,4 +1,4 @@
--- The canonical form of what is read.
+-- The canonical text of what a text spells.
 use Rattle.std.proofs.Common.{◌≡◌, ℕ, ◌+◌, ◌/◌, ◌%◌, nat_le, ◌&&◌, if◌then◌else◌, false, List, [], ◌∷◌, Result, Ok, Err, Some, refl, sym, ap, ◌∙◌, arith}
 use Rattle.std.specs.Prelude.{IfOk, ◌↔◌}
 use Rattle.std.proofs.lemmas.Bool.Decides.{nat_tests}
@@ -28,11 +28,11 @@ hex_text-lowered (c ∷ d ∷ u) (b ∷ bs) s =
     let l : b % 16 ≡ s.0.low = omega (arith, low, e) in
     rw (h, l, lowered_digit c s.0.high s.0.high_is, lowered_digit d s.0.low s.0.low_is, hex_text-lowered u bs s.1) refl
 
--- bytes with one text are the same
+-- bytes with the same text are the same
 hex_text-same : (xs ys : List ℕ) → AreBytes xs → AreBytes ys → hex_text false xs ≡ hex_text false ys → xs ≡ ys
 hex_text-same xs ys hx hy e = Spells-same (hex_text false ys) xs ys (rw (sym e) (Spells-hex_text false xs hx)) (Spells-hex_text false ys hy)
 
--- two texts spell the same bytes exactly where they agree in lower letters
+-- two texts spell the same bytes exactly if they are the same in lower letters
 pub Spells-agree : (u v xs ys : List ℕ) → Spells u xs → Spells v ys → (xs ≡ ys) ↔ (lowered u ≡ lowered v)
 Spells-agree u v xs ys s t =
     let a = hex_text-lowered u xs s in

@@ -1,4 +1,4 @@
--- Reading what was written.
+-- Text that was written is read again.
 use Rattle.std.proofs.Common.{◌≡◌, ℕ, ◌*◌, ◌/◌, ◌%◌, ◌<◌, ◌==◌, ◌&&◌, ◌||◌, Bool, true, false, List, [], ◌∷◌, length, Result, Ok, Err, refl, arith}
 use Rattle.std.specs.Prelude.{MatchResult, IfOk, IfErr, ◌≢◌}
 use Rattle.std.proofs.lemmas.Bool.Decides.{nat_tests}
@@ -28,11 +28,11 @@ even-full_text : (prefix up : Bool) (bs : List ℕ) → IsEven (length (full_tex
 even-full_text true up bs = let l = length-full_text true up bs in omega (arith, l)
 even-full_text false up bs = let l = length-full_text false up bs in omega (arith, l)
 
--- what was written reads as its bytes
+-- what was written is read as its bytes
 pub Reads-full_text : (t : List ℕ) (prefix up : Bool) (bs : List ℕ) → AreBytes bs → t ≡ full_text prefix up bs → Reads t (Ok bs)
 Reads-full_text t prefix up bs h e = rw e (even-full_text prefix up bs, rw (body-full_text prefix up bs) (Spells-hex_text up bs h))
 
--- so a decoder that answers as reading does, or for memory, gives these bytes
+-- so a decoder whose answer is the reader's, or no memory, gives these bytes
 pub round_trip : {V : Type 0} (items : V → List ℕ) (t : List ℕ) (r : Result V FromHexError)
     → IfOk r (λ v. Reads t (Ok (items v))) → IfErr r (λ e. e ≢ NoMemory → Reads t (Err e))
     → (prefix up : Bool) (bs : List ℕ) → AreBytes bs → t ≡ full_text prefix up bs
@@ -47,7 +47,7 @@ round_trip items t r ok err prefix up bs h e = go r ok err (Reads-full_text t pr
     go (Err (InvalidHexCharacter c i)) ok err read = absurd (Reads-not_both t bs (InvalidHexCharacter c i) read (err (λ e. cc e)))
     go (Err NoMemory) ok err read = refl
 
--- the text of n bytes reads as these, and has no other answer
+-- the text of n bytes is read as these bytes, and has no other answer
 pub sized_round_trip : (n : ℕ) (t : List ℕ) (r : Result (List ℕ) FromHexError) → ReadsSized t n r
     → (prefix up : Bool) (bs : List ℕ) → AreBytes bs → length bs ≡ n → t ≡ full_text prefix up bs
     → r ≡ Ok bs

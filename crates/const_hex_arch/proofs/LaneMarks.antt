@@ -1,4 +1,5 @@
--- The values of digits and the test of digits by one look-up of lanes, and the test of all lanes of a vector.
+-- Digits in a vector: their values and the test of each lane by one look-up, and the test of all
+-- lanes.
 use Rattle.std.proofs.Common.{◌≡◌, ℕ, zero, suc, ◌+◌, ◌-◌, ◌*◌, ◌/◌, ◌%◌, ◌<◌, ◌≤◌, ◌↔◌, Bool, true, false, not, eqb, cond, ltb, ◌||◌, T, List, [], ◌∷◌, ◌++◌, length, replicate, get_or, bit_and, bit_or, refl, subst, arith, w8, Fits, eqb-true, eq-eqb, IsTrue, Some}
 use Rattle.std.specs.List.{AllZip}
 use Rattle.std.specs.Int.{bit_at}
@@ -82,7 +83,7 @@ module _ (table : List ℕ) where
     pub limits_are : (v : List ℕ) → (length v ≡ 16) × Each1 (Fits w8) v → AllZip IsLimitOf v (swz_l w8 16 table 0 (zip2 bit_and v (replicate 16 143)))
     limits_are v f = subst (λ n. AllZip IsLimitOf v (swz_l w8 16 table 0 (zip2 bit_and v (replicate n 143)))) f.0 (limits_all 0 v (omega (arith, f.0)) f.1)
 
--- ---- what is not above the limit, and what is left
+-- ---- values at most the limit, and what they leave of a lane
 
 abbrev within : ℕ → ℕ → ℕ
 within x y = get_or (min_l (x ∷ []) (y ∷ [])) 0 0
@@ -121,7 +122,7 @@ marks_all (x ∷ v) (n ∷ ns) z = (z.0.1, marks_all v ns z.1)
 pub marks_are : (n : ℕ) (v ns : List ℕ) → length v ≡ n → AllZip IsPartOf v ns → AllZip IsMarkOf v (zip2 sub8 (less_l n v) ns)
 marks_are n v ns e z = subst (λ n. AllZip IsMarkOf v (zip2 sub8 (less_l n v) ns)) e (marks_all v ns z)
 
--- ---- lanes have no mark where what they stand for is digits
+-- ---- lanes have no mark if they stand for digits
 
 pub unmarked_are_digits : (v zs : List ℕ) → AllZip IsMarkOf v zs → AllUnmarked zs ↔ AllDigits v
 unmarked_are_digits [] [] z = (λ _. All-nil IsDigit, λ _. tt)

@@ -1,4 +1,5 @@
--- The text of lanes: tables of 16 digits, one in each block of 16 lanes, and the two halves of each lane in turn.
+-- The text of lanes, from tables of 16 digits in each block of 16 lanes, and from the two halves of
+-- each lane in turn.
 use Rattle.std.proofs.Common.{◌≡◌, ℕ, zero, suc, ◌+◌, ◌*◌, ◌/◌, ◌%◌, ◌^◌, ◌<◌, Bool, eqb, T, List, [], ◌∷◌, ◌++◌, map, length, replicate, drop, take, get_or, bit_and, refl, sym, ap, subst, ◌∙◌, arith, w8, Fits, eqb→eq, length-append}
 use Rattle.std.specs.List.{range_with_len, concat}
 use Rattle.std.proofs.lemmas.Grind.{common_steps}
@@ -81,7 +82,7 @@ halves_in_turn up (x ∷ v) f =
     let rest = halves_in_turn up v f.1 in
     rw (high, rest) refl
 
--- a and b are the digits of the high halves and of the low
+-- a holds the digits of the high halves, and b the digits of the low halves
 pub interleaved_text : (up : Bool) (n : ℕ) (v a b : List ℕ) → (length v ≡ n) × Each1 (Fits w8) v
     → a ≡ map (low_digit up) (zip2 shift_down v (replicate n 4)) → b ≡ map (low_digit up) v
     → pick_l 0 (a ++ b) (weave (range_with_len 0 n) (range_with_len n n)) ≡ hex_text up v
@@ -95,7 +96,7 @@ interleaved_text up n v a b f p q =
     ∙ rw (p, q) (subst (λ n. weave (map (low_digit up) (zip2 shift_down v (replicate n 4))) (map (low_digit up) v) ≡ hex_text up v) f.0
     (halves_in_turn up v f.1))
 
--- ---- two vectors of n lanes in one piece, which are stored one behind the other
+-- ---- two vectors of n lanes, stored one behind the other as one piece
 
 -- two lists as one
 pub concat_pair : (vs : List (List ℕ)) → length vs ≡ 2 → concat vs ≡ get_or vs 0 [] ++ get_or vs 1 []

@@ -24,7 +24,7 @@ IsDigit-from_value b v h = rw h refl
 pub hex_value-small : (b v : ℕ) → hex_value b ≡ Some v → v < 16
 hex_value-small b v h = grind (arith, nat_tests)
 
--- what the look-up says of a byte
+-- what the look-up tells of a byte
 pub value_found : (b r : ℕ) → r ≡ value_or_nil (hex_value b) → r ≢ 255 → hex_value b ≡ Some r
 value_found b r e n = grind (arith, nat_tests)
 
@@ -83,7 +83,7 @@ IsPair-byte c d b p =
     let e = p.byte_is in
     omega (arith, high, low, e)
 
--- one text, and then another
+-- two texts, one behind the other
 pub Spells-append : (u bs v cs : List ℕ) → Spells u bs → Spells v cs → Spells (u ++ v) (bs ++ cs)
 Spells-append [] [] v cs s t = t
 Spells-append [] (b ∷ bs) v cs s t = absurd s
@@ -99,7 +99,7 @@ Spells-length (x ∷ []) bs s = absurd s
 Spells-length (x ∷ y ∷ u) [] s = absurd s
 Spells-length (x ∷ y ∷ u) (z ∷ bs) s = let e = Spells-length u bs s.1 in omega (arith, e)
 
--- what spells bytes is digits
+-- a text that spells bytes has only digits
 pub Spells-digits : (u bs : List ℕ) → Spells u bs → AllDigits u
 Spells-digits [] [] s = All-nil IsDigit
 Spells-digits [] (x ∷ bs) s = absurd s
@@ -109,7 +109,7 @@ Spells-digits (x ∷ y ∷ u) (z ∷ bs) s =
     All-cons IsDigit x (y ∷ u) (IsDigit-from_value x s.0.high s.0.high_is)
     (All-cons IsDigit y u (IsDigit-from_value y s.0.low s.0.low_is) (Spells-digits u bs s.1))
 
--- what is spelled is bytes
+-- what a text spells are bytes
 pub Spells-bytes : (u bs : List ℕ) → Spells u bs → (k : ℕ) → slice_index bs k < 256
 Spells-bytes [] [] s k = omega arith
 Spells-bytes [] (b ∷ bs) s k = absurd s
@@ -175,7 +175,7 @@ FirstBad-after k u p a h f =
       here = let e : get_or (drop k u) p 0 ≡ get_or u (k + p) 0 = grind (arith, common_steps) in rw e at f.here;
     }
 
--- a text is digits throughout, or has a first bad byte
+-- a text has only digits, or it has a first bad byte
 pub digits_or_bad : (u : List ℕ) → AllDigits u ⊎ ((p : ℕ) × FirstBad u p)
 digits_or_bad [] = inl (All-nil IsDigit)
 digits_or_bad (b ∷ u) =
@@ -196,7 +196,7 @@ digits_or_bad (b ∷ u) =
       | inr n ↦ inr (zero, record { within = omega arith; before = All-nil IsDigit; here = n })
     ]
 
--- where not every byte is a digit, there is a first that is none
+-- if not every byte is a digit, there is a first bad byte
 pub first_bad : (u : List ℕ) → (AllDigits u → ⊥) → (p : ℕ) × FirstBad u p
 first_bad u n = elim (digits_or_bad u) [ inl a ↦ absurd (n a) | inr f ↦ f ]
 
@@ -211,7 +211,7 @@ Spells-some (c ∷ d ∷ u) e a =
     let more = Spells-some u (omega arith) (All-tail IsDigit d u rest) in
     (_ ∷ more.0, (IsPair-of c d _ _ _ high low refl, more.1))
 
--- ---- a pair more of a text
+-- ---- one more pair of a text
 
 take-pair : (u : List ℕ) (m n : ℕ) → n ≡ m + 2 → m + 1 < length u → take n u ≡ take m u ++ get_or u m 0 ∷ get_or u (m + 1) 0 ∷ []
 take-pair u m n e h =
@@ -237,7 +237,7 @@ none_decoded old u n =
     let r = first_bad u n in
     record { bad = r.0; done = 0; first_bad = r.1; not_past = omega arith; same_length = refl; front = tt; rest = refl }
 
--- a bad byte after i pairs, the first of its pair or the second
+-- a bad byte after i pairs: the first byte of its pair, or the second
 pub refused_high : (old u new : List ℕ) (i : ℕ) → Spells (take (2 * i) u) (take i new) → drop i new ≡ drop i old → 2 * i + 1 < length u
     → length new ≡ length old → IsNone (hex_value (get_or u (2 * i) 0)) → Partial old u new
 refused_high old u new i s d h l n = record {
@@ -267,7 +267,7 @@ refused_low old u new i v s d h l e n = record {
   rest = d;
 }
 
--- a text that is refused behind k bytes that were decoded
+-- a text that is refused after k bytes were decoded
 pub Partial-after : (old u new : List ℕ) (k m : ℕ) → m ≡ 2 * k → m ≤ length u → length new ≡ length old → k ≤ length new
     → Spells (take m u) (take k new) → Partial (drop k old) (drop m u) (drop k new) → Partial old u new
 Partial-after old u new k m e h l b s p =

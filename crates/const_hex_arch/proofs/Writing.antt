@@ -27,12 +27,12 @@ length-hex_text up (b ∷ bs) = let e = length-hex_text up bs in omega (arith, e
 pub length-full_text : (prefix up : Bool) (bs : List ℕ) → length (full_text prefix up bs) ≡ length (prefix_of prefix) + 2 * length bs
 length-full_text prefix up bs = length-append (prefix_of prefix) (hex_text up bs) ∙ ap (λ n. length (prefix_of prefix) + n) (length-hex_text up bs)
 
--- how long the text is, by whether there is a prefix
+-- the length of the text, with and without a prefix
 pub full_text_size : (prefix up : Bool) (bs : List ℕ) → length (full_text prefix up bs) ≡ text_length prefix (length bs)
 full_text_size true up bs = let l = length-full_text true up bs in omega (arith, l)
 full_text_size false up bs = let l = length-full_text false up bs in omega (arith, l)
 
--- the text of one byte more
+-- the text of one more byte
 pub hex_text-more : (up : Bool) (bs : List ℕ) (i : ℕ) → i < length bs
     → hex_text up (take (i + 1) bs) ≡ hex_text up (take i bs) ++ hex_digit up (get_or bs i 0 / 16) ∷ [] ++ hex_digit up (get_or bs i 0 % 16) ∷ []
 unfolding hex_text

@@ -110,7 +110,7 @@ impl<'a, const UPPER: bool, const PREFIX: bool> BufferedHex<'a, UPPER, PREFIX> {
         self.bytes.len() <= digits / 2
     }
 
-    /// The same of a text of at most `N` bytes, by one call, or by none where there is no byte.
+    /// As `write_with`, for a text of at most `N` bytes: one call, or none if the text is empty.
     #[tactic(auto, using(crate::proofs::Writing::full_text_size, crate::proofs::Writing::texts))]
     fn write_whole<K: Kernel, S: Sink, const N: usize>(&self, sink: &mut S) -> Result<(), SinkError>
         requires accepting { S.is_refused sink.old ≡ false }
