@@ -3,9 +3,9 @@
  *
  * Every call is a function of the Rattle crate const_hex_c. It is proved that each call is safe,
  * returns, and meets its contract for every input. This header says in words what the contracts
- * say; that was read and tested. Only tests show that the words of a refusal are written, and the
- * words of a bad character. No call takes memory or keeps anything between calls. Any number of
- * threads may call at once.
+ * say. No proof compares the two; reading and tests do. Only tests show that the words of a refusal
+ * are written, and the words of a bad character. No call takes memory or keeps anything between
+ * calls. Any number of threads may call at once.
  *
  * THE CALLER'S PART
  *
@@ -14,6 +14,7 @@
  *    written if the pointer is not to const. A null pointer is allowed if the length is 0;
  *  - what a call writes (text or bytes, count, refusal, buffer) overlaps nothing else that the call
  *    is given, and no other thread touches it during the call;
+ *  - no other thread changes what a call reads during the call;
  *  - a pointer to one value (count, refusal) is not null and is aligned for its type. The value can
  *    be written; const_hex_refusal_words only reads its refusal;
  *  - prefix and upper are 0 or 1. In C and C++ the type bool ensures that. From another language,
