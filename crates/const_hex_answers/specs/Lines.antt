@@ -1,7 +1,7 @@
 -- Lines of bytes.
 use Rattle.std.specs.Prelude.{ℕ, suc, List, [], ◌∷◌, ◌==◌, if◌then◌else◌}
 
--- how many lines bytes have, where the last needs no line break
+-- how many lines bytes have; the last one needs no line break
 abbrev pub line_count : List ℕ → ℕ
 line_count [] = 0
 line_count (x ∷ []) = 1

@@ -1,16 +1,16 @@
-//! What text is printed into.
+//! A sink for printed text.
 
 use std::fmt;
 
-/// A sink that counts the bytes that it is handed, and keeps none. It adds the last byte of each
-/// piece too, since text of which no byte is read need not be written.
+/// Counts the bytes that it receives, and keeps none. It also adds the last byte of each piece: the
+/// compiler may leave out a text if nobody reads a byte of it.
 #[derive(Drop)]
 pub(crate) struct Counter {
     count: usize,
 }
 
 impl Counter {
-    /// A sink that was handed nothing.
+    /// A sink that has received nothing.
     #[inline]
     pub(crate) fn new() -> Counter {
         Counter { count: 0 }

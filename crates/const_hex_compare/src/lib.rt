@@ -1,8 +1,8 @@
 //! Calls of the codec that take memory or print, for the times beside the Rust crate.
 //!
-//! The calls for C in `const_hex_c` take no memory, so a program that calls them can't measure what
-//! an owned text costs. Each call here makes its result, gives it up, and answers so much of it that
-//! it can't be left out. A `Global` is passed as nothing.
+//! The calls for C in `const_hex_c` take no memory, so they can't measure what an owned text costs.
+//! Each call here makes its result and drops it, and returns enough of it to keep the compiler from
+//! removing the call. In C, a `Global` is no parameter.
 #![tactic(auto)]
 
 ghost use Rattle.std.specs.Prelude.{◌≡◌, ◌≢◌, ℕ, List, false, length, Ok};
@@ -15,8 +15,8 @@ use crate::counter::Counter;
 use std::alloc::Global;
 use std::fmt::Write;
 
-/// Makes the text of the bytes, and answers how long it is. The answer is 0, and `last` as it was,
-/// where there is no byte or memory is refused.
+/// Makes the text of the bytes, writes its last byte to `last`, and returns its length. If there is
+/// no byte, or memory is refused, it returns 0 and leaves `last` unchanged.
 #[unsafe(no_mangle)]
 pub extern "C" fn const_hex_compare_encode(alloc: Global, bytes: &[u8], last: &mut u8) -> usize
     ensures length { result ≢ 0 → result ≡ length (hex_text false bytes.now) }
@@ -32,8 +32,8 @@ pub extern "C" fn const_hex_compare_encode(alloc: Global, bytes: &[u8], last: &m
     text.len()
 }
 
-/// Makes the bytes that the text spells, and answers how many they are. The answer is 0, and `last`
-/// as it was, where there is none, or the text or memory is refused.
+/// Makes the bytes that the text spells, writes the last one to `last`, and returns their number. If
+/// there is none, or the text or memory is refused, it returns 0 and leaves `last` unchanged.
 #[unsafe(no_mangle)]
 pub extern "C" fn const_hex_compare_decode(alloc: Global, text: &[u8], last: &mut u8) -> usize
     ensures bytes { result ≢ 0
@@ -50,8 +50,8 @@ pub extern "C" fn const_hex_compare_decode(alloc: Global, text: &[u8], last: &mu
     bytes.len()
 }
 
-/// Prints the bytes into a sink that keeps nothing, and answers how much was printed, with the last
-/// byte of each piece added to it. It takes no memory.
+/// Prints the bytes into a sink that keeps nothing, and returns how many bytes were printed, plus the
+/// last byte of each piece. Takes no memory.
 #[unsafe(no_mangle)]
 pub extern "C" fn const_hex_compare_display(bytes: &[u8]) -> usize {
     let mut counter = Counter::new();

@@ -1,7 +1,7 @@
-//! The program `const_hex_replay`: answers questions on `const_hex`, a line each.
+//! The program `const_hex_replay`: answers questions about `const_hex`, one per line.
 //!
-//! It reads questions on standard input and writes an answer for each, as `const_hex_answers` does.
-//! The status is 1 where a line was no question.
+//! It reads questions from standard input and writes an answer for each, as `const_hex_answers` does.
+//! The status is 1 if a line was not a question.
 #![tactic(auto)]
 
 use const_hex_answers::answer_lines;
