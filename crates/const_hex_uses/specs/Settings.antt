@@ -34,8 +34,8 @@ FirstFault lines (Some found) =
     (k : ℕ) × (k < length lines) × (found.0 ≡ k + 1) × HasFault (line_at lines k) found.1
     × ((j : ℕ) → j < k → HasValue (line_at lines j))
 
--- the column of a bad character, counted from 1: the place of the value, and then its
--- place in the value. No line is long enough for the sum to stop at the greatest number
+-- the column of a bad character: the sum of 1, the place of the value in the line, and the place of
+-- the character in the value. No line is so long that this is past the greatest number
 abbrev pub column_of : LineFault → Option ℕ
 column_of NoSign = None
 column_of (Refused start OddLength) = None
