@@ -1,26 +1,24 @@
-//! The hex of questions and answers, by a routine of its own: what is judged has no part in it.
+//! The hex of questions and answers. The crate that is asked has no part in it.
 
-use crate::fault::Fault;
+use crate::question::Fault;
 use std::alloc::Global;
-use std::io;
-use std::io::Write;
+use std::fmt;
 
-/// The lower digits, by their values.
-const DIGITS: &[u8; 16] = b"0123456789abcdef";
+/// Why a word stands for no bytes.
+const NOT_HEX: Fault = Fault::Bad("not hex");
 
-/// The bytes that a word stands for: two lower digits for each, and `-` for none.
+/// The bytes of a word: two lower digits for each, and `-` for none.
 pub(crate) fn bytes_of(alloc: Global, word: &str) -> Result<Vec<u8>, Fault> {
     if word == "-" {
         return Ok(Vec::new(alloc));
     }
-    let digits = word.as_bytes();
-    if digits.is_empty() || digits.len() % 2 != 0 {
-        return Err(Fault::NotHex);
+    if word.is_empty() || word.len() % 2 != 0 {
+        return Err(NOT_HEX);
     }
-    let mut bytes = Vec::with_capacity(alloc, digits.len() / 2)?;
-    for pair in digits.chunks_exact(2) {
+    let mut bytes = Vec::with_capacity(alloc, word.len() / 2)?;
+    for pair in word.as_bytes().chunks_exact(2) {
         let [high, low] = pair else {
-            return Err(Fault::NotHex);
+            return Err(NOT_HEX);
         };
         let byte = value_of(*high)? << 4 | value_of(*low)?;
         bytes.push(byte).map_err(|_| Fault::NoMemory)?;
@@ -28,28 +26,26 @@ pub(crate) fn bytes_of(alloc: Global, word: &str) -> Result<Vec<u8>, Fault> {
     Ok(bytes)
 }
 
-/// The value of a lower digit.
 fn value_of(digit: u8) -> Result<u8, Fault> {
     match digit {
         b'0'..=b'9' => Ok(digit - b'0'),
         b'a'..=b'f' => Ok(digit - b'a' + 10),
-        _ => Err(Fault::NotHex),
+        _ => Err(NOT_HEX),
     }
 }
 
-/// The two lower digits of a byte.
-fn digits_of(byte: u8) -> [u8; 2] {
-    let byte = usize::from(byte);
-    [DIGITS[byte / 16], DIGITS[byte % 16]]
-}
+/// Bytes that print as such a word.
+#[derive(Drop)]
+pub(crate) struct Hex<'a>(pub(crate) &'a [u8]);
 
-/// Writes two lower digits for each byte, and `-` for none.
-pub(crate) fn write_hex<W: Write>(output: &mut W, bytes: &[u8]) -> io::Result<()> {
-    if bytes.is_empty() {
-        return output.write_all(b"-");
+impl fmt::Display for Hex<'_> {
+    fn fmt<W: fmt::Write>(&self, f: &mut fmt::Formatter<W>) -> fmt::Result {
+        if self.0.is_empty() {
+            return f.write_str("-");
+        }
+        for byte in self.0 {
+            write!(f, "{byte:02x}")?;
+        }
+        Ok(())
     }
-    for byte in bytes {
-        output.write_all(&digits_of(*byte))?;
-    }
-    Ok(())
 }

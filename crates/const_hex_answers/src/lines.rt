@@ -4,10 +4,7 @@ ghost use Rattle.std.specs.Prelude.{◌≤◌, ℕ, List, [], ◌∷◌, ◌++�
 ghost use Rattle.std.specs.Io.KnownBytes.{Appends, IsAtEnd};
 ghost use Rattle.const_hex_answers.specs.Lines.{line_count};
 
-use crate::answer::Answer;
-use crate::answers::answer;
-use crate::fault::Fault;
-use crate::question::Question;
+use crate::question::{Fault, answer_of};
 use std::alloc::{AllocError, Global};
 use std::io;
 use std::io::{BufRead, ErrorKind, Write};
@@ -56,27 +53,18 @@ fn answer_line<W: Write>(alloc: Global, line: &[u8], output: &mut W) -> io::Resu
     ensures { OnOk result ((front : List ℕ)
         × Appends (W.contents output.old) (W.contents output.new) (front ++ 10 ∷ [])) }
 {
-    let mut shown = Vec::new(alloc);
-    let is_question = match answer_of(alloc, line) {
-        Ok(answer) => {
-            answer.write(&mut shown)?;
-            true
-        }
-        Err(Fault::NoMemory) => return Err(AllocError.into()),
-        Err(fault) => {
-            write!(shown, "BAD {fault}")?;
-            false
-        }
+    let answer = if line.len() > LONGEST {
+        Err(Fault::Bad("line too long"))
+    } else {
+        answer_of(alloc, line)
     };
+    let (shown, is_question) = match answer {
+        Ok(shown) => (shown, true),
+        Err(Fault::Bad(why)) => (format!(in alloc; "BAD {why}")?, false),
+        Err(Fault::NoMemory) => return Err(AllocError.into()),
+    };
+    let mut shown = shown.into_bytes();
     shown.push(b'\n')?;
     output.write_all(&shown)?;
     Ok(is_question)
-}
-
-/// The answer of a line.
-fn answer_of(alloc: Global, line: &[u8]) -> Result<Answer, Fault> {
-    if line.len() > LONGEST {
-        return Err(Fault::TooLong);
-    }
-    answer(alloc, &Question::read(alloc, line)?)
 }

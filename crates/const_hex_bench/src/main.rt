@@ -5,12 +5,10 @@
 #![tactic(auto)]
 
 mod calls;
-mod counter;
 mod measure;
 mod printed;
 mod table;
 
-use std::env::Env;
 use std::process::ExitCode;
 use std::{env, io};
 
@@ -29,31 +27,15 @@ copies the call takes, and how many times longer it takes by the kernel Plain.
 A second table has the nanoseconds of three calls by each kernel, at 2048 bytes. CheckFirst stands
 over Lanes32.";
 
-/// What the arguments ask for.
-enum Request {
-    About,
-    Run,
-    Unknown,
-}
-
 fn main(rt: HostRuntime) -> io::Result<ExitCode> {
-    match asked(&rt)? {
-        Request::About => println!(rt; "{ABOUT}")?,
-        Request::Run => table::print_table(&rt)?,
-        Request::Unknown => {
+    let words: Vec<String> = env::args(&rt)?.skip(1).collect(rt.alloc())?;
+    match words.as_slice() {
+        [] => println!(rt; "{ABOUT}")?,
+        [word] if word.as_str() == "run" => table::print_table(&rt)?,
+        _ => {
             eprintln!(rt; "usage: const_hex_bench [run]")?;
             return Ok(ExitCode::from(2));
         }
     }
     Ok(ExitCode::SUCCESS)
-}
-
-/// What the arguments behind the program's name ask for.
-fn asked(rt: &(impl Env + AllocGlobal)) -> io::Result<Request> {
-    let words: Vec<String> = env::args(rt)?.skip(1).collect(rt.alloc())?;
-    Ok(match words.as_slice() {
-        [] => Request::About,
-        [word] if word.as_str() == "run" => Request::Run,
-        _ => Request::Unknown,
-    })
 }

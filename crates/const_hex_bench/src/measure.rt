@@ -9,13 +9,13 @@ use std::rt::Clock;
 use std::time::Instant;
 use std::{fmt, io};
 
-/// How many bytes of input go through a call in one batch, where one call takes fewer.
+/// How many bytes of input go through a call in one batch. A longer input makes a batch of its own.
 const BATCH_BYTES: usize = 32_768;
 
 /// The most turns of a batch.
 const MOST_TURNS: usize = 1024;
 
-/// How many bytes of a source lie behind an input.
+/// How many bytes a source has behind an input.
 pub(crate) const SLACK: usize = 192;
 
 /// How many batches are timed. The fastest counts.
@@ -59,29 +59,19 @@ impl fmt::Display for Ratio {
 }
 
 /// The times of a call as it stands, and by the kernels `Plain` and `Lanes32`.
-#[derive(Clone, Copy)]
-pub(crate) struct Times {
-    pub(crate) own: Time,
-    pub(crate) plain: Time,
-    pub(crate) lanes: Time,
-}
+pub(crate) type Times = (Time, Time, Time);
 
-/// Measures calls, and sums up what they answer, so that no call can be left out.
+/// Measures calls, and sums up their answers, so that the compiler removes no call.
 #[derive(Drop)]
 pub(crate) struct Meter<'a, R> {
     rt: &'a R,
-    sum: u64,
+    /// The sum of what all calls answered.
+    pub(crate) sum: u64,
 }
 
 impl<'a, R: Clock + AllocGlobal + Drop> Meter<'a, R> {
-    /// A meter that has measured nothing.
     pub(crate) fn new(rt: &'a R) -> Meter<'a, R> {
         Meter { rt, sum: 0 }
-    }
-
-    /// The sum of what all calls answered.
-    pub(crate) fn sum(&self) -> u64 {
-        self.sum
     }
 
     /// Measures a copy of as many bytes.
@@ -105,7 +95,7 @@ impl<'a, R: Clock + AllocGlobal + Drop> Meter<'a, R> {
         let own = self.least(call, source, size, written)?;
         let plain = self.by::<C, Plain>(source, size, written)?;
         let lanes = self.by::<C, Lanes32>(source, size, written)?;
-        Ok(Times { own, plain, lanes })
+        Ok((own, plain, lanes))
     }
 
     /// Measures a call by a kernel.
@@ -121,8 +111,8 @@ impl<'a, R: Clock + AllocGlobal + Drop> Meter<'a, R> {
         self.least(call, source, size, written)
     }
 
-    /// The least time of a call on inputs of one length, which start at four places of the source,
-    /// with an output of so many bytes.
+    /// The least time of a call with an output of a length. Its inputs have a length too, and start
+    /// at four places of the source.
     fn least<F>(&mut self, call: F, source: &[u8], size: usize, written: usize) -> io::Result<Time>
     where
         F: Fn(Global, &[u8], &mut [u8]) -> Option<u8>,
@@ -141,8 +131,7 @@ impl<'a, R: Clock + AllocGlobal + Drop> Meter<'a, R> {
         Ok(Time { hundredths: least })
     }
 
-    /// Makes the turns of a batch. The call answers a byte of what it made, or `None` where it was
-    /// refused, which ends the measurement.
+    /// Makes the turns of a batch. A refused call ends the measurement.
     fn batch<F>(
         &mut self,
         call: &F,

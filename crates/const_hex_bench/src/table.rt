@@ -31,11 +31,10 @@ pub(crate) fn print_table<R: Clock + Print + AllocGlobal + Drop>(rt: &R) -> io::
     print_size(rt, &mut meter, &bytes, &text, 131_072)?;
     print_size(rt, &mut meter, &bytes, &text, LARGEST)?;
     print_kernels(rt, &mut meter, &bytes, &text)?;
-    let sum = meter.sum();
-    println!(rt; "sum of a byte of each answer: {sum}")
+    println!(rt; "sum of a byte of each answer: {}", meter.sum)
 }
 
-/// Bytes in no order that a processor could learn.
+/// Bytes in an order that a processor cannot learn.
 fn mixed_bytes(alloc: Global, count: usize) -> Result<Vec<u8>, AllocError>
     ensures { IfOk result (λ v. vec_len v ≡ count) }
 {
@@ -93,18 +92,16 @@ where
     print_line(rt, size, "display", times, encoded)
 }
 
-/// Prints the line of a call: its times, that of a copy of the same output, how many copies it
-/// takes, and how many times longer the kernel `Plain` does.
+/// Prints the line of a call: its times, the time of a copy of the same output, how many copies the
+/// call takes, and how many times longer it takes by `Plain`.
 fn print_line<R: Print>(
     rt: &R,
     size: usize,
     call: &str,
-    times: Times,
+    (own, plain, lanes): Times,
     copy: Time,
 ) -> io::Result<()> {
-    let Times { own, plain, lanes } = times;
-    let copies = own.over(copy);
-    let gain = plain.over(own);
+    let (copies, gain) = (own.over(copy), plain.over(own));
     println!(rt; "{size:>8}{call:>17}{own}{plain}{lanes}{copy}{copies}{gain}")
 }
 

@@ -1,43 +1,38 @@
 //! The values that calls are made of.
 
-use serde_json::{Map, Value, json};
+use serde_json::{Value, json};
 use std::alloc::{AllocError, Global};
 
-/// The bytes that are written as text.
+pub(crate) const NOTHING: &[u8] = b"";
+/// The bytes that most calls write.
 pub(crate) const KIWI: &[u8] = b"kiwi";
-
-/// A text of these bytes.
+/// Their text.
 pub(crate) const TEXT: &str = "0x6b697769";
-
+/// Their text as a line, with a large prefix.
+pub(crate) const LINE: &[u8] = b"0X6b697769\n";
 /// A text of odd length.
 pub(crate) const ODD: &str = "0x1";
-
-/// A text with characters that are no digits.
+/// A text with bad bytes.
 pub(crate) const BAD: &str = "zz";
-
-/// A line of these bytes, with a large prefix.
-pub(crate) const LINE: &[u8] = b"0X6b697769\n";
-
-/// A line with a prefix and characters that are no digits.
+/// A line with bad bytes.
 pub(crate) const BAD_LINE: &[u8] = b"0xzz\n";
-
-/// No bytes.
-pub(crate) const NOTHING: &[u8] = b"";
-
 /// The text of a hash of bytes 0xAB.
 pub(crate) const HASH: &str = "0xabababababababababababababababababababababababababababababababab";
-
-/// Bytes of which 32 are a step of the widest kernel, 16 one of the narrower, and 9 a rest.
+/// A step of 32 lanes, one of 16, and a rest of 9.
 pub(crate) const BYTES: [u8; 57] = [0xAB; 57];
-
-/// The digits of these bytes.
+/// Digits of as many bytes.
 pub(crate) const DIGITS: [u8; 114] = [b'a'; 114];
-
 /// Bytes whose text goes to a sink in three calls.
 pub(crate) const DATA: [u8; 4097] = [0xAB; 4097];
-
 /// Digits of 2049 bytes.
 pub(crate) const LONG: [u8; 4098] = [b'a'; 4098];
+
+/// [`DIGITS`] with a bad byte in the rest.
+pub(crate) fn bad_digits() -> [u8; 114] {
+    let mut text = DIGITS;
+    text[100] = b'g';
+    text
+}
 
 /// The values that take memory.
 #[derive(Drop)]
@@ -57,10 +52,10 @@ impl Inputs {
         Ok(Inputs {
             vector: KIWI.to_vec(alloc)?,
             string: String::from_str(alloc, "kiwi")?,
-            text: Value::String(String::from_str(alloc, TEXT)?),
-            odd: Value::String(String::from_str(alloc, ODD)?),
-            bad: Value::String(String::from_str(alloc, BAD)?),
-            hash: Value::String(String::from_str(alloc, HASH)?),
+            text: json!(in alloc; TEXT)?,
+            odd: json!(in alloc; ODD)?,
+            bad: json!(in alloc; BAD)?,
+            hash: json!(in alloc; HASH)?,
             list: json!(in alloc; ["0x6b"])?,
             object: json!(in alloc; {"text": "0x6b"})?,
         })

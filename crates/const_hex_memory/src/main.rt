@@ -1,9 +1,9 @@
-//! The program `const_hex_memory`: what each call of `const_hex` answers, a line a call.
+//! The program `const_hex_memory`: what each call of `const_hex` answers, one line per call.
 //!
 //! With ample memory it prints what the file `stdout` has. `memory/run`, at the top of the
 //! repository, runs it with requests for memory refused, and compares line by line. So the program
-//! asks for no memory itself, but for the values in [`inputs`], which it makes before any call.
-//! First come the calls that ask for none, and then those that do.
+//! itself asks for memory only at its start, for the values in [`inputs`]. The calls that ask for
+//! none come first.
 #![tactic(auto)]
 
 mod counting;

@@ -15,24 +15,23 @@ const ENCODERS: [Mode; 4] = [
 
 const READERS: [Mode; 2] = [Mode::Decode, Mode::Check];
 
-/// Makes all these calls that ask for memory.
+/// Makes the calls of `answer` that ask for no memory: a text is refused, or has no bytes.
+pub(crate) fn tell_refused(rt: &impl Print, alloc: Global) -> io::Result<()> {
+    tell_answer(rt, alloc, Mode::Decode, "an odd text", ODD.as_bytes())?;
+    tell_answer(rt, alloc, Mode::Decode, "nothing", NOTHING)?;
+    tell_answer(rt, alloc, Mode::Check, "an odd text", ODD.as_bytes())?;
+    tell_answer(rt, alloc, Mode::Check, "a bad text", BAD_LINE)
+}
+
+/// Makes all calls that ask for memory.
 pub(crate) fn tell_all(rt: &impl Print, alloc: Global) -> io::Result<()> {
     tell_answers(rt, alloc)?;
     tell_runs(rt, alloc)?;
     tell_long_runs(rt, alloc)?;
-    tell_vector(rt, alloc)
-}
-
-/// Prints what the mode answers to the input.
-pub(crate) fn tell_answer(
-    rt: &impl Print,
-    alloc: Global,
-    mode: Mode,
-    of: &str,
-    input: &[u8],
-) -> io::Result<()> {
-    let answered = answer(alloc, mode, input);
-    println!(rt; "answer {mode:?} of {of} = {answered:?}")
+    // The vector asks for memory of its own. If that is refused, a write fails.
+    let (mut input, mut output) = (KIWI, Vec::new(alloc));
+    let done = run(alloc, Mode::EncodeUpper, &mut input, &mut output);
+    println!(rt; "run into a vector = {done:?} {output:?}")
 }
 
 fn tell_answers(rt: &impl Print, alloc: Global) -> io::Result<()> {
@@ -46,15 +45,16 @@ fn tell_answers(rt: &impl Print, alloc: Global) -> io::Result<()> {
     tell_answer(rt, alloc, Mode::Check, "nothing", NOTHING)
 }
 
-/// Prints how a run ends, how often it writes, and how many bytes. The writer asks for no memory.
-fn tell_run(rt: &impl Print, alloc: Global, mode: Mode, of: &str, input: &[u8]) -> io::Result<()> {
-    let mut input = input;
-    let mut output = Counting::new(0);
-    let done = run(alloc, mode, &mut input, &mut output);
-    println!(rt;
-        "run {mode:?} of {of} = {done:?} {} {}",
-        output.calls, output.bytes
-    )
+/// Prints what the mode answers to the input.
+fn tell_answer(
+    rt: &impl Print,
+    alloc: Global,
+    mode: Mode,
+    of: &str,
+    input: &[u8],
+) -> io::Result<()> {
+    let answered = answer(alloc, mode, input);
+    println!(rt; "answer {mode:?} of {of} = {answered:?}")
 }
 
 fn tell_runs(rt: &impl Print, alloc: Global) -> io::Result<()> {
@@ -84,10 +84,10 @@ fn tell_long_runs(rt: &impl Print, alloc: Global) -> io::Result<()> {
     Ok(())
 }
 
-/// A run into a vector, which asks for memory of its own: refused to it, a write fails.
-fn tell_vector(rt: &impl Print, alloc: Global) -> io::Result<()> {
-    let mut input = KIWI;
-    let mut output = Vec::new(alloc);
-    let done = run(alloc, Mode::EncodeUpper, &mut input, &mut output);
-    println!(rt; "run into a vector = {done:?} {output:?}")
+/// Prints how a run ends, how often it writes, and how many bytes. The writer asks for no memory.
+fn tell_run(rt: &impl Print, alloc: Global, mode: Mode, of: &str, input: &[u8]) -> io::Result<()> {
+    let (mut input, mut output) = (input, Counting::new(0));
+    let done = run(alloc, mode, &mut input, &mut output);
+    let Counting { calls, bytes, .. } = output;
+    println!(rt; "run {mode:?} of {of} = {done:?} {calls} {bytes}")
 }

@@ -1,17 +1,85 @@
 //! What the small callers of `const_hex_uses` answer.
 
-use crate::rows::holds;
-use const_hex::{JsonError, PieceSink, bytes_of};
+use crate::devices::holds;
+use const_hex::{Buffer, FromHexError, JsonError, PieceSink, bytes_of};
 use const_hex_uses::accounts::is_same_account;
+use const_hex_uses::addresses::{address_text, digest_text, empty_text, prefixed_digest_text};
 use const_hex_uses::constants::{transfer, wrapped_ether};
 use const_hex_uses::files::{dump, write_text};
 use const_hex_uses::json_rpc::{code_of, code_request, explained};
+use const_hex_uses::readers::{read_both, read_twice};
 use const_hex_uses::settings::{LineFault, first_fault};
 use const_hex_uses::sinks::{packets, send};
 use const_hex_uses::store::{find, put};
+use const_hex_uses::writers::{array_text, string_text, vector_text};
 use serde_json::json;
+use std::boxed::BoxedSlice;
 use std::collections::HashMap;
+use std::process::Abort;
+use std::rc::Rc;
 use std::test::Fail;
+
+#[test]
+fn texts_without_memory(rt: HostRuntime) {
+    let upper = "0C0C0C0C0C0C0C0C0C0C0C0C0C0C0C0C0C0C0C0C0C0C0C0C0C0C0C0C0C0C0C0C";
+    let lower = "0x0c0c0c0c0c0c0c0c0c0c0c0c0c0c0c0c0c0c0c0c0c0c0c0c0c0c0c0c0c0c0c0c";
+    let address = "0xabababababababababababababababababababab";
+    lends(&rt, &address_text(&[0xAB; 20]), address);
+    lends(&rt, &digest_text(&[0x0C; 32]), upper);
+    lends(&rt, &prefixed_digest_text(&[0x0C; 32]), lower);
+    lends(&rt, &empty_text(), "0x");
+}
+
+fn lends<const N: usize, const PREFIX: bool, const LEN: usize>(
+    rt: &impl Abort,
+    buffer: &Buffer<N, PREFIX, LEN>,
+    text: &str,
+) {
+    holds(rt, &text, buffer.as_str() == text);
+    holds(rt, &text, buffer.as_bytes() == text.as_bytes());
+    let array = buffer.as_byte_array().as_slice();
+    holds(rt, &text, array == text.as_bytes());
+}
+
+#[test]
+fn texts_of_each_type(rt: HostRuntime) -> Result<(), Fail> {
+    let alloc = rt.alloc();
+    let (vector, string) = (b"kiwi".to_vec(alloc)?, "jolly".to_string(alloc)?);
+    let rows = [
+        (vector_text(alloc, &vector)?, "6b697769"),
+        (string_text(alloc, &string)?, "6A6F6C6C79"),
+        (array_text(alloc, b"kiwi")?, "0x6b697769"),
+        (array_text(alloc, &[])?, "0x"),
+    ];
+    for (text, want) in &rows {
+        holds(&rt, want, text.as_str() == *want);
+    }
+    Ok(())
+}
+
+const LOWER: &[u8] = b"ff80";
+
+const UPPER: &[u8] = b"0XFF80";
+
+/// The two texts are read as the same value of each type.
+macro_rules! agree {
+    ($rt:ident: $($type:ty),+) => {$(
+        let (one, two) = read_both::<$type>($rt.alloc(), LOWER, UPPER)?;
+        holds(&$rt, &stringify!($type), one.as_slice() == two.as_slice());
+    )+};
+}
+
+#[test]
+fn two_texts(rt: HostRuntime) -> Result<(), Fail> {
+    agree!(rt: Vec<u8>, Vec<i8>, BoxedSlice<u8>, BoxedSlice<i8>, [u8; 2], [i8; 2], Box<[u8; 2]>);
+    let (one, two) = read_both::<Rc<Vec<u8>>>(rt.alloc(), LOWER, b"ff81")?;
+    assert!(rt; *one != *two);
+    let (list, array) = read_twice::<2>(rt.alloc(), UPPER)?;
+    assert!(rt; list.as_slice() == array.as_slice());
+    let refusal = FromHexError::InvalidStringLength;
+    assert!(rt; read_twice::<3>(rt.alloc(), UPPER).err() == Some(refusal));
+    Ok(())
+}
 
 #[test]
 fn accounts(rt: HostRuntime) -> Result<(), Fail> {

@@ -1,10 +1,17 @@
-//! Readers and writers that fail at some calls alone, and count their calls.
+//! Rows that name themselves, and readers and writers that fail at some calls and count them.
 
 use std::alloc::Global;
+use std::fmt::Debug;
 use std::io;
 use std::io::{ErrorKind, Read, Write};
+use std::process::Abort;
 
-/// Hands out its bytes one a call. It fails at one call alone: a further one would succeed.
+/// Ends the test if a row does not hold, and names the row.
+pub(crate) fn holds<R: Debug>(rt: &impl Abort, row: &R, is_so: bool) {
+    assert!(rt; is_so, "at {row:?}");
+}
+
+/// Hands out one byte per call. It fails at one call: a further one succeeds.
 #[derive(Drop)]
 pub(crate) struct Source<'a> {
     rest: &'a [u8],
@@ -39,7 +46,7 @@ impl Read for Source<'_> {
     }
 }
 
-/// Hands out up to 4096 digits `0` a call, without an end.
+/// Hands out up to 4096 digits `0` per call, without an end.
 #[derive(Drop)]
 pub(crate) struct Endless;
 
@@ -51,11 +58,11 @@ impl Read for Endless {
     }
 }
 
-/// What goes wrong with a [`Target`]: each other call succeeds.
+/// What goes wrong with a [`Target`]. The other calls succeed.
 #[derive(Clone, Copy, Debug)]
 pub(crate) enum Fault {
     Nothing,
-    /// The writes from the first number to the second fail.
+    /// The writes from the first number to the second fail. Numbers begin at 1.
     Writes(usize, usize, ErrorKind),
     /// The write of that number takes no bytes.
     Full(usize),
@@ -63,7 +70,7 @@ pub(crate) enum Fault {
     Flush(ErrorKind),
 }
 
-/// Keeps what it takes, up to so many bytes a call.
+/// Keeps what it takes, up to so many bytes per call.
 #[derive(Drop)]
 pub(crate) struct Target {
     pub(crate) taken: Vec<u8>,

@@ -1,6 +1,6 @@
 //! Hashes and addresses, on examples.
 
-use crate::rows::holds;
+use crate::devices::holds;
 use const_hex::serde::JsonError;
 use const_hex::{FromHex, FromHexError};
 use hash_hex::{Address20, FixedBytes, Hash32};
@@ -23,7 +23,7 @@ fn counted() -> [u8; 32] {
     bytes
 }
 
-/// What a value prints as `{}` does.
+/// The value prints that text by `{}`.
 fn prints<D: fmt::Display>(
     rt: &impl Abort,
     alloc: Global,
@@ -34,7 +34,7 @@ fn prints<D: fmt::Display>(
     Ok(())
 }
 
-/// What a value prints as `{:?}` does.
+/// The value prints that text by `{:?}`.
 fn shows<D: fmt::Debug>(rt: &impl Abort, alloc: Global, value: &D, want: &str) -> Result<(), Fail> {
     holds(rt, &want, format!(in alloc; "{value:?}")?.as_str() == want);
     Ok(())
@@ -74,8 +74,7 @@ fn refused_texts(rt: HostRuntime) {
     }
 }
 
-// The address that EIP-55 gives as its first example: the case of letters carries a checksum there,
-// and does not matter here.
+// The first example of EIP-55. Its checksum, the case of letters, does not matter here.
 #[test]
 fn texts_of_addresses(rt: HostRuntime) -> Result<(), Fail> {
     let alloc = rt.alloc();
@@ -83,57 +82,42 @@ fn texts_of_addresses(rt: HostRuntime) -> Result<(), Fail> {
     let lower = "0x5aaeb6053f3e94c9b9a09f33669435e7ef1beaed";
     prints(&rt, alloc, &address, lower)?;
     assert!(rt; address.to_buffer().as_str() == lower);
-    let texts: [&[u8]; 2] = [
-        lower.as_bytes(),
-        b"5AAEB6053F3E94C9B9A09F33669435E7EF1BEAED",
-    ];
-    for text in texts {
-        assert!(rt; Address20::from_hex(alloc, text) == Ok(address));
+    for text in [lower, "5AAEB6053F3E94C9B9A09F33669435E7EF1BEAED"] {
+        let read = Address20::from_hex(alloc, text.as_bytes());
+        holds(&rt, &text, read == Ok(address));
     }
     Ok(())
 }
 
 #[test]
 fn debug_forms(rt: HostRuntime) -> Result<(), Fail> {
-    let alloc = rt.alloc();
+    let (alloc, pair) = (rt.alloc(), FixedBytes::from([1, 0xAB]));
     let address = Address20::from_hex(alloc, b"0x5aAeb6053F3E94C9b9A09f33669435E7Ef1BeAed")?;
     let text = "Address20(0x5aaeb6053f3e94c9b9a09f33669435e7ef1beaed)";
     shows(&rt, alloc, &address, text)?;
     let hash = "Hash32(0x000102030405060708090a0b0c0d0e0f101112131415161718191a1b1c1d1e1f)";
     shows(&rt, alloc, &Hash32::from(counted()), hash)?;
-    shows(
-        &rt,
-        alloc,
-        &FixedBytes::from([1, 0xAB]),
-        "FixedBytes(0x01ab)",
-    )
+    shows(&rt, alloc, &pair, "FixedBytes(0x01ab)")
 }
 
-#[test]
-fn values_by_their_bytes(rt: HostRuntime) {
-    let low = Address20::from([0xAB; 20]);
-    let high = Address20::from([0xAC; 20]);
-    assert!(rt; low.cmp(&high) == Ordering::Less);
-    assert!(rt; low.partial_cmp(&low) == Some(Ordering::Equal));
-    assert!(rt; low != high);
-}
-
-// The first byte that differs decides, whatever the last ones are.
+// The first byte that differs decides.
 #[test]
 fn order_of_values(rt: HostRuntime) {
-    let low = Address20::from([1, 9, 9, 9, 9, 9, 9, 9, 9, 9, 9, 9, 9, 9, 9, 9, 9, 9, 9, 2]);
-    let high = Address20::from([2, 9, 9, 9, 9, 9, 9, 9, 9, 9, 9, 9, 9, 9, 9, 9, 9, 9, 9, 1]);
-    assert!(rt; low < high);
-    assert!(rt; low.cmp(&high) == Ordering::Less);
-    assert!(rt; high.cmp(&low) == Ordering::Greater);
-    let mut low = [9; 32];
-    let mut high = [9; 32];
-    (low[0], low[31]) = (1, 2);
-    (high[0], high[31]) = (2, 1);
-    let (low, high) = (Hash32::from(low), Hash32::from(high));
-    assert!(rt; low < high);
-    assert!(rt; low.cmp(&high) == Ordering::Less);
-    assert!(rt; high.cmp(&low) == Ordering::Greater);
+    let same = Address20::from([0xAB; 20]);
+    assert!(rt; same.partial_cmp(&same) == Some(Ordering::Equal));
+    ordered(&rt, same, Address20::from([0xAC; 20]));
+    let (mut low, mut high) = ([9; 20], [9; 20]);
+    (low[0], low[19], high[0], high[19]) = (1, 2, 2, 1);
+    ordered(&rt, Address20::from(low), Address20::from(high));
+    let (mut low, mut high) = ([9; 32], [9; 32]);
+    (low[0], low[31], high[0], high[31]) = (1, 2, 2, 1);
+    ordered(&rt, Hash32::from(low), Hash32::from(high));
+}
+
+fn ordered<T: Ord + Copy + fmt::Debug>(rt: &impl Abort, low: T, high: T) {
+    holds(rt, &low, low != high && low < high);
+    holds(rt, &low, low.cmp(&high) == Ordering::Less);
+    holds(rt, &low, high.cmp(&low) == Ordering::Greater);
 }
 
 #[test]

@@ -1,40 +1,22 @@
 //! The whole program, from its words to its exit status and its line on standard error.
 
-use crate::devices::{Endless, Fault, Source, Target};
-use crate::rows::holds;
-use consthex_modes::{USAGE, program};
-use std::alloc::Global;
+use crate::devices::{Endless, Fault, Source, Target, holds};
+use consthex_modes::{Mode, USAGE, mode_of, program};
+use std::alloc::{AllocError, Global};
 use std::cell::Cell;
 use std::env::{Env, FillError};
-use std::fmt::{Display, Write};
-use std::io::{Eprint, ErrorKind, Read};
+use std::fmt::Display;
+use std::io;
+use std::io::{Eprint, ErrorKind, Read, Write};
 use std::process::{Abort, ExitCode};
-use std::{fmt, io};
+use std::test::Fail;
 
-/// What was printed to standard error, as far as there is room.
-#[derive(Clone, Copy)]
-struct Printed {
-    bytes: [u8; 128],
-    count: usize,
-}
-
-impl Write for Printed {
-    fn write_str(&mut self, s: &str) -> fmt::Result {
-        for byte in s.as_bytes() {
-            if self.count < 128 {
-                self.bytes[self.count] = *byte;
-                self.count += 1;
-            }
-        }
-        Ok(())
-    }
-}
-
-/// The words of a program, its name first, and its standard error.
+/// The words of a program, its name first, and its standard error: the first bytes that were
+/// printed, and their count.
 #[derive(Drop)]
 struct Host<'a> {
     words: &'a [&'a [u8]],
-    printed: Cell<Printed>,
+    printed: Cell<([u8; 128], usize)>,
     can_print: bool,
 }
 
@@ -42,10 +24,7 @@ impl<'a> Host<'a> {
     fn new(words: &'a [&'a [u8]], can_print: bool) -> Host<'a> {
         Host {
             words,
-            printed: Cell::new(Printed {
-                bytes: [0; 128],
-                count: 0,
-            }),
+            printed: Cell::new(([0; 128], 0)),
             can_print,
         }
     }
@@ -75,14 +54,15 @@ impl Env for Host<'_> {
 
 impl Eprint for Host<'_> {
     fn eprint<D: Display + Drop>(&self, value: D) -> io::Result<()> {
-        let mut printed = self.printed.get();
-        let _ = write!(printed, "{value}");
-        self.printed.set(printed);
+        let (mut bytes, count) = self.printed.get();
+        let mut room = &mut bytes[count.min(128)..];
+        let _ = write!(room, "{value}");
+        let left = room.len();
+        self.printed.set((bytes, 128usize.saturating_sub(left)));
         if self.can_print {
-            Ok(())
-        } else {
-            Err(io::Error::from(ErrorKind::BrokenPipe))
+            return Ok(());
         }
+        Err(io::Error::from(ErrorKind::BrokenPipe))
     }
 
     fn eprintln<D: Display + Drop>(&self, value: D) -> io::Result<()> {
@@ -91,11 +71,13 @@ impl Eprint for Host<'_> {
     }
 }
 
-const NO_WORDS: &[&[u8]] = &[];
-
 const LONG_NAME: &[u8] = &[0xFF; 5000];
 
 const LONG_WORD: &[u8] = &[b'e'; 5000];
+
+const DECODE: &[&[u8]] = &[b"consthex", b"decode"];
+
+const ENCODE: &[&[u8]] = &[b"consthex", b"encode"];
 
 /// The program on that host ends with that status, and prints that line.
 fn ends<R: Read>(
@@ -108,17 +90,14 @@ fn ends<R: Read>(
 ) {
     let code = program(&(&host, alloc), input, output);
     holds(rt, &host.words, code == ExitCode::from(status));
-    let printed = host.printed.get();
-    let printed = &printed.bytes[..printed.count.min(128)];
-    if status == 0 {
-        holds(rt, &host.words, printed.is_empty());
-    } else {
-        let want = Some(line.as_bytes());
-        holds(rt, &host.words, printed.strip_suffix(b"\n") == want);
-    }
+    let (bytes, count) = host.printed.get();
+    let printed = &bytes[..count.min(128)];
+    let line = (status != 0).then_some(line.as_bytes());
+    holds(rt, &host.words, printed.strip_suffix(b"\n") == line);
+    holds(rt, &host.words, printed.is_empty() == line.is_none());
 }
 
-// Names of the program that are no text, empty or long: they are not looked at.
+// The name of the program does not matter.
 #[test]
 fn words_that_name_a_mode(rt: HostRuntime) {
     let rows: [(&[&[u8]], &[u8], &[u8]); 10] = [
@@ -151,11 +130,11 @@ fn answers(rt: &impl Abort, alloc: Global, words: &[&[u8]], input: &[u8], answer
     holds(rt, &words, output.taken.as_slice() == answer);
 }
 
-// Where standard error fails, that makes no difference.
+// It makes no difference if standard error fails.
 #[test]
 fn words_that_name_none(rt: HostRuntime) {
     let rows: [(&[&[u8]], bool); 14] = [
-        (NO_WORDS, true),
+        (&[], true),
         (&[b"consthex"], true),
         (&[b"encode"], false),
         (&[b"consthex", b""], true),
@@ -185,10 +164,6 @@ fn misused(rt: &impl Abort, alloc: Global, words: &[&[u8]], can_print: bool) {
     holds(rt, &words, output.writes == 0 && output.flushes == 0);
 }
 
-const DECODE: &[&[u8]] = &[b"consthex", b"decode"];
-
-const ENCODE: &[&[u8]] = &[b"consthex", b"encode"];
-
 // A text that is refused, a failed read, and too long an input.
 #[test]
 fn statuses_and_lines(rt: HostRuntime) {
@@ -205,7 +180,7 @@ fn statuses_and_lines(rt: HostRuntime) {
     assert!(rt; output.writes == 0 && output.flushes == 0);
 }
 
-// What reads the answer goes away: at its first bytes or only at the flush.
+// What reads the answer goes away, at its first bytes or only at the flush.
 #[test]
 fn statuses_of_failed_writes(rt: HostRuntime) {
     let kind = ErrorKind::BrokenPipe;
@@ -221,4 +196,53 @@ fn statuses_of_failed_writes(rt: HostRuntime) {
         let line = (3, "write failed");
         ends(&rt, rt.alloc(), host, &mut input, &mut output, line);
     }
+}
+
+#[test]
+fn six_words_name_a_mode(rt: HostRuntime) -> Result<(), Fail> {
+    let rows = [
+        ("encode", Mode::Encode),
+        ("encode-upper", Mode::EncodeUpper),
+        ("encode-prefixed", Mode::EncodePrefixed),
+        ("encode-upper-prefixed", Mode::EncodeUpperPrefixed),
+        ("decode", Mode::Decode),
+        ("check", Mode::Check),
+    ];
+    for (word, mode) in rows {
+        name(&rt, rt.alloc(), &[word], Some(mode))?;
+        name(&rt, rt.alloc(), &[word, word], None)?;
+    }
+    Ok(())
+}
+
+#[test]
+fn other_words_name_none(rt: HostRuntime) -> Result<(), Fail> {
+    for word in "|ENCODE|Decode|encode |encodes|--check|upper".split('|') {
+        name(&rt, rt.alloc(), &[word], None)?;
+    }
+    name(&rt, rt.alloc(), &[], None)?;
+    name(&rt, rt.alloc(), &["encode", "-upper"], None)?;
+    Ok(())
+}
+
+/// These words name that mode, or none.
+fn name(
+    rt: &impl Abort,
+    alloc: Global,
+    words: &[&str],
+    mode: Option<Mode>,
+) -> Result<(), AllocError> {
+    let mut strings = Vec::new(alloc);
+    for word in words {
+        strings.push(String::from_str(alloc, word)?)?;
+    }
+    holds(rt, &words, mode_of(&strings) == mode);
+    Ok(())
+}
+
+#[test]
+fn usage(rt: HostRuntime) {
+    let line =
+        "usage: consthex encode|encode-upper|encode-prefixed|encode-upper-prefixed|decode|check";
+    assert!(rt; USAGE == line);
 }

@@ -6,13 +6,9 @@
 #![tactic(auto)]
 
 #[cfg(test)]
-mod addresses;
-#[cfg(test)]
 mod callers;
 #[cfg(test)]
 mod devices;
-#[cfg(test)]
-mod failures;
 #[cfg(test)]
 mod hashes;
 #[cfg(test)]
@@ -20,14 +16,6 @@ mod hosts;
 #[cfg(test)]
 mod questions;
 #[cfg(test)]
-mod readers;
-#[cfg(test)]
-mod rows;
-#[cfg(test)]
 mod runs;
 #[cfg(test)]
-mod words;
-#[cfg(test)]
 mod write_sink;
-#[cfg(test)]
-mod writers;

@@ -1,7 +1,6 @@
 //! Lines of questions: what is no question, long lines, and readers and writers that fail.
 
-use crate::devices::{Fault, Source, Target};
-use crate::rows::holds;
+use crate::devices::{Fault, Source, Target, holds};
 use const_hex_answers::answer_lines;
 use std::alloc::Global;
 use std::fmt::Debug;
@@ -10,89 +9,52 @@ use std::io::{BufRead, BufReader, ErrorKind, Read};
 use std::process::Abort;
 use std::test::Fail;
 
-/// What comes out, and the lines that bring it: each is no question, and `encode 6b` stands behind
-/// it.
-const NO_QUESTIONS: [(&str, &[&[u8]]); 7] = [
+/// Why lines are no questions, and these lines with bars between them.
+const NO_QUESTIONS: [(&str, &str); 6] = [
     (
-        "BAD unknown operation\nOK 3662\n",
-        &[
-            b"",
-            b" encode 6b",
-            b"Encode 6b",
-            b"encode\t6b",
-            b"decode_to_array 6b",
-            b"decode_to_array+4 6b",
-            b"const_decode_to_array-1 6b",
-        ],
+        "unknown operation",
+        "| encode 6b|Encode 6b|encode\t6b|decode_to_array 6b|decode_to_array+4 6b|\
+         const_decode_to_array-1 6b",
     ),
     (
-        "BAD wrong count of words\nOK 3662\n",
-        &[
-            b"encode",
-            b"encode 6b 5",
-            b"encode 6b 5 5",
-            b"check_raw 6b 0",
-            b"decode_to_slice 6b",
-            b"encode_to_slice_upper 6b",
-            b"encode_to_str 6b",
-            b"decode_to_slice 6b 5 ",
-            b"msg_decode_to_slice 6b",
-        ],
+        "wrong count of words",
+        "encode|encode 6b 5|encode 6b 5 5|check_raw 6b 0|decode_to_slice 6b|\
+         encode_to_slice_upper 6b|encode_to_str 6b|decode_to_slice 6b 5 |msg_decode_to_slice 6b",
     ),
     (
-        "BAD not hex\nOK 3662\n",
-        &[
-            b"encode ",
-            b"encode  6b",
-            b"encode 6",
-            b"encode 6B",
-            b"encode 6g",
-            b"encode --",
-            b"encode 6b\r",
-            b"encode 6\xc3\xa9",
-        ],
+        "not hex",
+        "encode |encode  6b|encode 6|encode 6B|encode 6g|encode --|encode 6b\r|encode 6é",
     ),
     (
-        "BAD not a number up to 65536\nOK 3662\n",
-        &[
-            b"encode 6b ",
-            b"decode_to_slice 6b x",
-            b"decode_to_slice 6b -1",
-            b"decode_to_slice 6b +1",
-            b"decode_to_slice 6b 65537",
-            b"serialize_inner 6b 99999999999999999999",
-        ],
+        "not a number up to 65536",
+        "encode 6b |decode_to_slice 6b x|decode_to_slice 6b -1|decode_to_slice 6b +1|\
+         decode_to_slice 6b 65537|serialize_inner 6b 99999999999999999999",
     ),
     (
-        "BAD not offered for this count of bytes\nOK 3662\n",
-        &[
-            b"decode_to_array5 6b",
-            b"const_decode_to_array5 6b",
-            b"buffer_format 6b6b6b6b6b",
-        ],
+        "not offered for this count of bytes",
+        "decode_to_array5 6b|const_decode_to_array5 6b|buffer_format 6b6b6b6b6b",
     ),
     (
-        "BAD not JSON\nOK 3662\n",
-        &[b"deserialize_json 223662", b"deserialize_json 22ff22"],
+        "not JSON",
+        "deserialize_json 223662|deserialize_json 22ff22",
     ),
-    ("BAD not UTF-8\nOK 3662\n", &[b"encode \xff"]),
 ];
 
 #[test]
 fn what_is_no_question_is_answered_bad(rt: HostRuntime) -> Result<(), Fail> {
-    for (answers, lines) in NO_QUESTIONS {
-        each_is_bad(&rt, rt.alloc(), lines, answers)?;
+    for (why, lines) in NO_QUESTIONS {
+        for line in lines.split('|') {
+            is_bad(&rt, rt.alloc(), line.as_bytes(), why)?;
+        }
     }
-    Ok(())
+    is_bad(&rt, rt.alloc(), b"encode \xff", "not UTF-8")
 }
 
-/// Each of these lines is no question, and gets these answers with `encode 6b` behind it.
-fn each_is_bad(rt: &impl Abort, alloc: Global, lines: &[&[u8]], answers: &str) -> Result<(), Fail> {
-    for line in lines {
-        let mut input = line.chain(b"\nencode 6b".as_slice());
-        are_answered(rt, alloc, line, &mut input, (false, answers))?;
-    }
-    Ok(())
+/// The line is no question for this reason. The next line, `encode 6b`, is answered.
+fn is_bad(rt: &impl Abort, alloc: Global, line: &[u8], why: &str) -> Result<(), Fail> {
+    let mut input = line.chain(b"\nencode 6b".as_slice());
+    let answers = format!(in alloc; "BAD {why}\nOK 3662\n")?;
+    are_answered(rt, alloc, &line, &mut input, (false, &answers))
 }
 
 /// These lines get these answers, and `answer_lines` tells whether all were questions.
@@ -150,7 +112,7 @@ fn a_line_has_up_to_65536_bytes(rt: HostRuntime) -> Result<(), Fail> {
     Ok(())
 }
 
-/// A line `check_raw` of so many digits, and what stands behind them, get these answers.
+/// A line `check_raw` of so many digits, and the rest behind it, get these answers.
 fn long_line(
     rt: &impl Abort,
     alloc: Global,
@@ -199,34 +161,26 @@ fn fails_by(ended: io::Result<bool>, kind: ErrorKind) -> bool {
     }
 }
 
-// What the writer took before it failed is a beginning of the answers.
+// A writer takes up to one or three bytes per call, and one call fails. It has a beginning of the
+// answers: at one byte per call, a byte for each call before.
 #[test]
 fn a_failed_write_ends_the_run(rt: HostRuntime) {
-    for call in 1..17usize {
-        stops_at(&rt, rt.alloc(), call);
+    for (most, calls) in [(1, 17usize), (3, 8)] {
+        for call in 1..calls {
+            stops_at(&rt, rt.alloc(), (most, call));
+        }
     }
 }
 
-fn stops_at(rt: &impl Abort, alloc: Global, call: usize) {
+fn stops_at(rt: &impl Abort, alloc: Global, row: (usize, usize)) {
+    let (most, call) = row;
     let answers = b"OK 3662\nBAD unknown operation\n".as_slice();
     let mut input = b"encode 6b\nno\ncheck 36\n".as_slice();
-    let mut output = Target::new(alloc, 1, Fault::Writes(call, call, ErrorKind::BrokenPipe));
+    let fault = Fault::Writes(call, call, ErrorKind::BrokenPipe);
+    let mut output = Target::new(alloc, most, fault);
     let ended = answer_lines(alloc, &mut input, &mut output);
-    holds(rt, &call, fails_by(ended, ErrorKind::BrokenPipe));
-    let taken = answers.get(..call.saturating_sub(1));
-    holds(rt, &call, Some(output.taken.as_slice()) == taken);
-}
-
-// The same of a writer that takes a part of a longer call.
-#[test]
-fn a_failed_write_of_several_bytes_ends_the_run(rt: HostRuntime) {
-    let answers = b"OK 3662\nBAD unknown operation\n".as_slice();
-    for call in 1..8usize {
-        let mut input = b"encode 6b\nno\ncheck 36\n".as_slice();
-        let fault = Fault::Writes(call, call, ErrorKind::BrokenPipe);
-        let mut output = Target::new(rt.alloc(), 3, fault);
-        let ended = answer_lines(rt.alloc(), &mut input, &mut output);
-        holds(&rt, &call, fails_by(ended, ErrorKind::BrokenPipe));
-        holds(&rt, &call, answers.starts_with(&output.taken));
-    }
+    holds(rt, &row, fails_by(ended, ErrorKind::BrokenPipe));
+    holds(rt, &row, answers.starts_with(&output.taken));
+    let before = call.saturating_sub(1);
+    holds(rt, &row, most > 1 || output.taken.len() == before);
 }

@@ -1,18 +1,18 @@
-//! What the program answers to worked inputs, what it refuses, and its limit.
+//! Runs of the program: worked inputs, refusals, the limit, and devices that fail.
 
-use crate::rows::holds;
+use crate::devices::{Endless, Fault, Source, Target, holds};
 use const_hex::FromHexError;
 use consthex_modes::{Mode, RunError, answer, run};
 use std::alloc::Global;
 use std::io;
-use std::io::Read;
+use std::io::{ErrorKind, Read};
 use std::process::Abort;
 use std::test::Fail;
 
 /// A mode, an input, and the answer to it.
-pub(crate) type Answered<'a> = (Mode, &'a [u8], &'a [u8]);
+type Answered<'a> = (Mode, &'a [u8], &'a [u8]);
 
-pub(crate) const ANSWERS: [Answered<'_>; 19] = [
+const ANSWERS: [Answered<'_>; 19] = [
     (Mode::Encode, b"Hello world!", b"48656c6c6f20776f726c6421\n"),
     (Mode::Encode, b"kiwi", b"6b697769\n"),
     (Mode::Encode, b"", b"\n"),
@@ -50,7 +50,7 @@ fn answers_each_mode(rt: HostRuntime) -> Result<(), Fail> {
     Ok(())
 }
 
-/// A mode's answer to bytes in hand, and what a run writes.
+/// A mode answers bytes in hand, and a run writes that answer.
 fn answers(rt: &impl Abort, alloc: Global, row: Answered<'_>) -> Result<(), RunError> {
     let (mode, input, want) = row;
     holds(rt, &row, answer(alloc, mode, input)?.as_slice() == want);
@@ -147,7 +147,7 @@ fn handles_lengths_round_the_lanes(rt: HostRuntime) -> Result<(), Fail> {
     Ok(())
 }
 
-/// That many bytes, 0 and on, are written as the front of the text, and read from it.
+/// The first bytes are written as the front of the text, and read from it.
 fn there_and_back(rt: &impl Abort, alloc: Global, count: u8) -> Result<(), Fail> {
     let bytes: Vec<u8> = (0..count).collect(alloc)?;
     let digits = TEXT.get(..2 * usize::from(count)).unwrap_or("");
@@ -173,4 +173,75 @@ fn accepts_1048576_bytes_and_no_more(rt: HostRuntime) -> Result<(), Fail> {
     assert!(rt; outcome == Err(RunError::TooLong));
     assert!(rt; nothing.is_empty());
     Ok(())
+}
+
+const KINDS: [ErrorKind; 2] = [ErrorKind::Interrupted, ErrorKind::Other];
+
+// The tenth call is the one at the end, and the eleventh is not made.
+#[test]
+fn names_a_failed_read(rt: HostRuntime) {
+    for kind in KINDS {
+        for call in 1..=11usize {
+            reads(&rt, rt.alloc(), kind, call);
+        }
+    }
+}
+
+/// A run whose reader fails at that call.
+fn reads(rt: &impl Abort, alloc: Global, kind: ErrorKind, call: usize) {
+    let row = (kind, call);
+    let mut input = Source::new(b"6b697769\n", call, kind);
+    let mut output = Target::new(alloc, 1, Fault::Nothing);
+    let outcome = run(alloc, Mode::Decode, &mut input, &mut output);
+    holds(rt, &row, input.reads == call.min(10));
+    if call < 11 {
+        holds(rt, &row, outcome == Err(RunError::ReadFailed));
+        holds(rt, &row, output.writes == 0 && output.flushes == 0);
+    } else {
+        holds(rt, &row, outcome == Ok(()));
+        holds(rt, &row, output.taken.as_slice() == b"kiwi".as_slice());
+    }
+}
+
+#[test]
+fn stops_an_endless_reader(rt: HostRuntime) {
+    let mut output = Target::new(rt.alloc(), 1, Fault::Nothing);
+    let outcome = run(rt.alloc(), Mode::Encode, &mut Endless, &mut output);
+    assert!(rt; outcome == Err(RunError::TooLong));
+    assert!(rt; output.writes == 0 && output.flushes == 0);
+}
+
+// A write that fails or takes nothing, at each call, and a flush that fails.
+#[test]
+fn names_a_failed_write(rt: HostRuntime) {
+    for row in ANSWERS {
+        writes(&rt, rt.alloc(), row, Fault::Nothing);
+        for kind in KINDS {
+            writes(&rt, rt.alloc(), row, Fault::Flush(kind));
+            fails_at_each_call(&rt, rt.alloc(), row, kind);
+        }
+    }
+}
+
+fn fails_at_each_call(rt: &impl Abort, alloc: Global, row: Answered<'_>, kind: ErrorKind) {
+    for call in 1..=row.2.len() {
+        writes(rt, alloc, row, Fault::Full(call));
+        writes(rt, alloc, row, Fault::Writes(call, call, kind));
+    }
+}
+
+/// A run with that fault.
+fn writes(rt: &impl Abort, alloc: Global, (mode, input, answer): Answered<'_>, fault: Fault) {
+    let (row, failed) = ((mode, input, fault), Err(RunError::WriteFailed));
+    let (outcome, taken, calls) = match fault {
+        Fault::Nothing => (Ok(()), answer.len(), (answer.len(), 1)),
+        Fault::Flush(_) => (failed, answer.len(), (answer.len(), 1)),
+        Fault::Full(at) | Fault::Writes(at, _, _) => (failed, at.saturating_sub(1), (at, 0)),
+    };
+    let (mut input, mut output) = (input, Target::new(alloc, 1, fault));
+    let is_expected = run(alloc, mode, &mut input, &mut output) == outcome;
+    holds(rt, &row, is_expected);
+    let front = answer.get(..taken);
+    holds(rt, &row, Some(output.taken.as_slice()) == front);
+    holds(rt, &row, (output.writes, output.flushes) == calls);
 }

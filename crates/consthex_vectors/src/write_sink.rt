@@ -1,7 +1,6 @@
-//! `WriteSink`, over writers that fail, take few bytes a call, or come back.
+//! `WriteSink`, over writers that fail, take few bytes per call, or come back.
 
-use crate::devices::{Fault, Target};
-use crate::rows::holds;
+use crate::devices::{Fault, Target, holds};
 use const_hex::{BufferedHex, Plain, Sink, WriteSink};
 use std::alloc::Global;
 use std::io;
@@ -9,8 +8,8 @@ use std::io::ErrorKind;
 use std::process::Abort;
 use std::test::Fail;
 
-// A text of 6002 bytes comes in pieces of 4096 and 1906. A writer that takes 1000 a call gets them
-// by 7 calls, and has so many bytes after so many of these.
+// A text of 6002 bytes comes in pieces of 4096 and 1906. A writer that takes 1000 per call gets them
+// in 7 calls. It has so many bytes before each call, and at the end.
 const TAKEN: [usize; 8] = [0, 1000, 2000, 3000, 4000, 4096, 5096, 6002];
 
 #[test]
@@ -25,43 +24,29 @@ fn writers_that_fail_at_each_call(rt: HostRuntime) -> Result<(), Fail> {
     }
     let case = (bytes.as_slice(), text.as_bytes());
     for (before, taken) in TAKEN.into_iter().enumerate() {
-        let call = before.saturating_add(1);
-        fails_at(&rt, alloc, (call, taken), case);
-        goes_on(&rt, alloc, call, case);
+        at_call(&rt, alloc, (before.saturating_add(1), taken), case);
     }
     Ok(())
 }
 
-/// Writes that fail, or take no bytes, at that call, before which so many bytes were taken.
-fn fails_at(rt: &impl Abort, alloc: Global, (call, taken): (usize, usize), case: (&[u8], &[u8])) {
-    let rows = [
-        (
-            Fault::Writes(call, call, ErrorKind::Other),
-            ErrorKind::Other,
-        ),
-        (
-            Fault::Writes(call, call, ErrorKind::WouldBlock),
-            ErrorKind::WouldBlock,
-        ),
-        (Fault::Full(call), ErrorKind::WriteZero),
-    ];
-    for (fault, kind) in rows {
-        let error = if call < 8 { Some(kind) } else { None };
-        writes(rt, alloc, fault, case, (error, taken, call.min(7)));
+/// A writer has taken so many bytes before that call. The call fails, or takes no bytes; or a signal
+/// interrupts it once, twice or a hundred times in a row, and it is made again.
+fn at_call(rt: &impl Abort, alloc: Global, (call, taken): (usize, usize), case: (&[u8], &[u8])) {
+    let (fails, calls) = (call < 8, call.min(7));
+    for kind in [ErrorKind::Other, ErrorKind::WouldBlock] {
+        let want = (fails.then_some(kind), taken, calls);
+        writes(rt, alloc, Fault::Writes(call, call, kind), case, want);
     }
-}
-
-/// Calls that a signal interrupts, once, twice and a hundred times in a row, are made again.
-fn goes_on(rt: &impl Abort, alloc: Global, call: usize, case: (&[u8], &[u8])) {
+    let want = (fails.then_some(ErrorKind::WriteZero), taken, calls);
+    writes(rt, alloc, Fault::Full(call), case, want);
     for more in [0, 1, 99usize] {
         let fault = Fault::Writes(call, call.saturating_add(more), ErrorKind::Interrupted);
-        let calls = if call < 8 { more.saturating_add(8) } else { 7 };
+        let calls = if fails { more.saturating_add(8) } else { 7 };
         writes(rt, alloc, fault, case, (None, 6002, calls));
     }
 }
 
-/// Writes bytes, which have that text: the kind of the error, how much the writer has, and how often
-/// it was called.
+/// Writes bytes that have that text. Checked are the error, what the writer has, and its calls.
 fn writes(
     rt: &impl Abort,
     alloc: Global,
@@ -85,8 +70,7 @@ fn kind_of(error: Option<&io::Error>) -> Option<ErrorKind> {
     Some(error?.kind())
 }
 
-// A writer that takes one byte a call is called as often as there are bytes; for an empty piece it
-// is not called.
+// A writer that takes one byte per call is called once per byte, and not for an empty piece.
 #[test]
 fn a_byte_a_call(rt: HostRuntime) -> Result<(), Fail> {
     let text = "01234".repeat(rt.alloc(), 1000)?;
@@ -101,7 +85,7 @@ fn a_byte_a_call(rt: HostRuntime) -> Result<(), Fail> {
     Ok(())
 }
 
-// After an error `write_hex` calls nothing, and answers the error again.
+// After an error `write_hex` calls nothing, and returns the error again.
 #[test]
 fn writing_goes_on_after_an_error(rt: HostRuntime) {
     let fault = Fault::Writes(2, 2, ErrorKind::Other);

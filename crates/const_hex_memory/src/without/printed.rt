@@ -1,24 +1,46 @@
-//! What is printed: errors, characters, and texts of bytes.
+//! What is printed: errors, characters, buffers, and texts of bytes.
 
 use crate::counting::Counting;
 use crate::inputs::{DATA, KIWI};
-use crate::line::tell;
+use crate::line::{tell_each, tell_of};
 use const_hex::serde::JsonError;
 use const_hex::traits::{BytesToHexChars, HexFault};
-use const_hex::{FromHexError, SinkError, display};
+use const_hex::{Buffer, FromHexError, SinkError, const_encode, display};
 use std::alloc::AllocError;
 use std::fmt::Write;
 use std::{fmt, io};
 
-const ERRORS: [FromHexError; 4] = [
-    FromHexError::OddLength,
-    FromHexError::InvalidStringLength,
-    FromHexError::InvalidHexCharacter { c: '\n', index: 5 },
-    FromHexError::NoMemory,
-];
+pub(crate) fn tell_buffers(rt: &impl Print) -> io::Result<()> {
+    let mut buffer = Buffer::<4, true, 10>::new();
+    tell_each!(rt;
+        "Buffer::LEN" => Buffer::<4, true, 10>::LEN,
+        "Buffer::new" => &buffer,
+        "Buffer::default" => Buffer::<4, true, 10>::default(),
+        "Buffer::format" => buffer.format(b"kiwi"),
+        "Buffer::format_upper" => buffer.format_upper(b"kiwi"),
+        "Buffer::format_slice" => buffer.format_slice(KIWI),
+        "Buffer::format_slice_upper" => buffer.format_slice_upper(KIWI),
+        "Buffer::as_str" => buffer.as_str(),
+        "Buffer::as_bytes" => buffer.as_bytes(),
+        "Buffer::as_byte_array" => buffer.as_byte_array(),
+    );
+    let copy: Result<Buffer<4, true, 10>, AllocError> = buffer.clone();
+    tell_each!(rt;
+        "Buffer::clone" => copy,
+        "Buffer::const_format" => buffer.const_format(b"kiwi"),
+        "Buffer::const_format_upper" => Buffer::<4, false, 8>::new().const_format_upper(b"kiwi"),
+        "const_encode" => const_encode::<4, false, 8>(b"kiwi"),
+    );
+    Ok(())
+}
 
 pub(crate) fn tell_errors(rt: &impl Print) -> io::Result<()> {
-    for error in ERRORS {
+    for error in [
+        FromHexError::OddLength,
+        FromHexError::InvalidStringLength,
+        FromHexError::InvalidHexCharacter { c: '\n', index: 5 },
+        FromHexError::NoMemory,
+    ] {
         println!(rt; "Display of {error:?} = {error}")?;
         println!(rt; "is_memory of {error:?} = {}", error.is_memory())?;
         let inside = JsonError::Hex(error);
@@ -27,65 +49,57 @@ pub(crate) fn tell_errors(rt: &impl Print) -> io::Result<()> {
     let no_text: JsonError<FromHexError> = JsonError::NotText;
     println!(rt; "Display of {no_text:?} = {no_text}")?;
     println!(rt; "Display of {:?} = {}", SinkError, SinkError)?;
-    tell(rt, "of_memory", FromHexError::of_memory())?;
-    tell(rt, "FromHexError::from", FromHexError::from(AllocError))
+    tell_each!(rt;
+        "of_memory" => FromHexError::of_memory(),
+        "FromHexError::from" => FromHexError::from(AllocError),
+    );
+    Ok(())
 }
 
 pub(crate) fn tell_chars(rt: &impl Print) -> io::Result<()> {
     let mut lower = BytesToHexChars::<false>::new(&[0x0F]);
-    tell(rt, "BytesToHexChars::size_hint", lower.size_hint())?;
-    for place in 0..3u8 {
-        println!(rt; "BytesToHexChars::next, {place} = {:?}", lower.next())?;
-    }
-    let is_equal = BytesToHexChars::<true>::new(KIWI).eq("6B697769".chars());
-    tell(rt, "BytesToHexChars, upper", is_equal)
+    tell_each!(rt;
+        "BytesToHexChars::size_hint" => lower.size_hint(),
+        "BytesToHexChars::next, 0" => lower.next(),
+        "BytesToHexChars::next, 1" => lower.next(),
+        "BytesToHexChars::next, 2" => lower.next(),
+        "BytesToHexChars, upper" => BytesToHexChars::<true>::new(KIWI).eq("6B697769".chars()),
+    );
+    Ok(())
 }
 
-/// Prints as `{:x}` or `{:X}` does, with the options of the hole.
+/// Prints by `{:x}`, or if `UPPER` by `{:X}`, with the options of the hole.
 #[derive(Drop)]
-struct InLower<'a>(&'a [u8]);
+struct InHex<'a, const UPPER: bool>(&'a [u8]);
 
-#[derive(Drop)]
-struct InUpper<'a>(&'a [u8]);
-
-impl fmt::Display for InLower<'_> {
+impl<const UPPER: bool> fmt::Display for InHex<'_, UPPER> {
     fn fmt<W: fmt::Write>(&self, f: &mut fmt::Formatter<W>) -> fmt::Result {
-        fmt::LowerHex::fmt(&display(self.0), f)
-    }
-}
-
-impl fmt::Display for InUpper<'_> {
-    fn fmt<W: fmt::Write>(&self, f: &mut fmt::Formatter<W>) -> fmt::Result {
-        fmt::UpperHex::fmt(&display(self.0), f)
+        if UPPER {
+            fmt::UpperHex::fmt(&display(self.0), f)
+        } else {
+            fmt::LowerHex::fmt(&display(self.0), f)
+        }
     }
 }
 
 /// The six forms of a few bytes, and the sizes of those of many.
 pub(crate) fn tell_displays(rt: &impl Print) -> io::Result<()> {
-    let (plain, lower, upper) = (display(KIWI), InLower(KIWI), InUpper(KIWI));
+    let (plain, lower, upper) = (display(KIWI), InHex::<false>(KIWI), InHex::<true>(KIWI));
     println!(rt; "display = {plain} {plain:#} {plain:*>20}")?;
     println!(rt; "LowerHex = {lower} {lower:#}")?;
     println!(rt; "UpperHex = {upper} {upper:#}")?;
-    let (plain, lower, upper) = (display(&DATA), InLower(&DATA), InUpper(&DATA));
+    tell_sizes(rt, "display", display(&DATA))?;
+    tell_sizes(rt, "LowerHex", InHex::<false>(&DATA))?;
+    tell_sizes(rt, "UpperHex", InHex::<true>(&DATA))
+}
+
+fn tell_sizes(rt: &impl Print, call: &str, shown: impl fmt::Display + Drop) -> io::Result<()> {
     let mut writer = Counting::new(0);
-    let done = write!(writer, "{plain}{plain:#}");
-    tell(
+    let done = write!(writer, "{shown}{shown:#}");
+    tell_of(
         rt,
-        "display of 4097 bytes",
-        (done, writer.calls, writer.bytes),
-    )?;
-    let mut writer = Counting::new(0);
-    let done = write!(writer, "{lower}{lower:#}");
-    tell(
-        rt,
-        "LowerHex of 4097 bytes",
-        (done, writer.calls, writer.bytes),
-    )?;
-    let mut writer = Counting::new(0);
-    let done = write!(writer, "{upper}{upper:#}");
-    tell(
-        rt,
-        "UpperHex of 4097 bytes",
+        call,
+        "of 4097 bytes",
         (done, writer.calls, writer.bytes),
     )
 }

@@ -2,7 +2,7 @@
 
 use crate::counting::Counting;
 use crate::inputs::DATA;
-use crate::line::tell;
+use crate::line::tell_each;
 use const_hex::serde::serialize_inner;
 use const_hex::{BufferedHex, BufferedOutput, Output, PieceSink, Sink, SinkOutput, SliceOutput};
 use std::alloc::Global;
@@ -13,53 +13,41 @@ pub(crate) fn tell_outputs(rt: &impl Print) -> io::Result<()> {
     let mut output = BufferedOutput::<SliceOutput<'_>, 4>::new(SliceOutput::new(&mut text));
     output.write(b"abc");
     output.write_byte(b'd');
-    tell(rt, "BufferedOutput::remaining", output.remaining())?;
+    tell_each!(rt; "BufferedOutput::remaining" => output.remaining(),);
     output.write(b"ef");
     let left = output.finish().remaining();
-    tell(
-        rt,
-        "BufferedOutput::finish, SliceOutput::remaining",
-        (left, text),
-    )?;
+    tell_each!(rt; "BufferedOutput::finish, SliceOutput::remaining" => (left, text),);
     let mut sink = Counting::new(2);
     let mut output = SinkOutput::new(&mut sink);
     output.write(b"one");
     output.write_byte(b'2');
     output.write(b"three");
-    tell(rt, "SinkOutput::remaining", output.remaining())?;
-    let done = output.finish();
-    tell(rt, "SinkOutput::finish", (done, sink.calls, sink.bytes))
+    tell_each!(rt;
+        "SinkOutput::remaining" => output.remaining(),
+        "SinkOutput::finish" => (output.finish(), sink.calls, sink.bytes),
+    );
+    Ok(())
 }
 
 pub(crate) fn tell_streams(rt: &impl Print, alloc: Global) -> io::Result<()> {
-    let mut sink = Counting::new(0);
-    let done = BufferedHex::<true, false>::new(&DATA).write_to(&mut sink);
-    tell(
-        rt,
-        "write_to a sink that counts",
-        (done, sink.calls, sink.bytes),
-    )?;
+    let (mut sink, hex) = (Counting::new(0), BufferedHex::<true, false>::new(&DATA));
+    tell_each!(rt;
+        "write_to a sink that counts" => (hex.write_to(&mut sink), sink.calls, sink.bytes),
+    );
     for count in [0, 128, 129, 4097] {
         let mut sink = Counting::new(0);
         let done = serialize_inner::<false, false, Counting>(&DATA[..count], &mut sink);
-        println!(rt;
-            "serialize_inner of {count} bytes = {done:?} {} {}",
-            sink.calls, sink.bytes
-        )?;
+        let Counting { calls, bytes, .. } = sink;
+        println!(rt; "serialize_inner of {count} bytes = {done:?} {calls} {bytes}")?;
     }
     let mut sink = Counting::new(1);
     let done = serialize_inner::<true, true, Counting>(&DATA[..128], &mut sink);
-    tell(rt, "serialize_inner, refused", (done, sink.calls))?;
+    tell_each!(rt; "serialize_inner, refused" => (done, sink.calls),);
     let mut sink = PieceSink::new(alloc, 1);
-    tell(
-        rt,
-        "PieceSink::new",
-        (sink.calls(), sink.pieces().len(), sink.no_memory()),
-    )?;
-    let done = sink.write_str("piece");
-    tell(
-        rt,
-        "PieceSink::write_str, refused by its number",
-        (done, sink.calls(), sink.pieces().len(), sink.no_memory()),
-    )
+    tell_each!(rt;
+        "PieceSink::new" => (sink.calls(), sink.pieces().len(), sink.no_memory()),
+        "PieceSink::write_str, refused by its number" =>
+            (sink.write_str("piece"), sink.calls(), sink.pieces().len(), sink.no_memory()),
+    );
+    Ok(())
 }
