@@ -9,19 +9,18 @@ use std::alloc::{AllocError, Global};
 use std::process::Abort;
 use std::test::Fail;
 
-/// A buffer, and what is tried with it.
+/// A buffer, and checks of its calls.
 #[derive(Drop)]
 struct Tried<const N: usize, const PREFIX: bool, const LEN: usize>(Buffer<N, PREFIX, LEN>);
 
 impl<const N: usize, const PREFIX: bool, const LEN: usize> Tried<N, PREFIX, LEN> {
-    /// Whether each call that lends what the buffer holds lends this text.
+    /// Whether each call that lends the text lends this one.
     fn lends(&self, text: &str) -> bool {
         let bytes = [self.0.as_bytes(), self.0.as_byte_array()];
         self.0.as_str() == text && bytes == [text.as_bytes(); 2]
     }
 
-    /// Whether each call that copies what the buffer holds copies this text, which spells these
-    /// bytes.
+    /// Whether each call that copies the text copies this one, and decoders read these bytes.
     fn copies(&self, alloc: Global, text: &str, bytes: &[u8; N]) -> Result<bool, AllocError> {
         let is_string = self.0.to_string(alloc)?.as_str() == text;
         let is_vec = self.0.to_vec(alloc)?.as_slice() == text.as_bytes();
@@ -31,7 +30,7 @@ impl<const N: usize, const PREFIX: bool, const LEN: usize> Tried<N, PREFIX, LEN>
         Ok(is_string && is_vec && is_lent && is_read)
     }
 
-    /// Whether each call that writes and lends these texts does so, over the text of other bytes.
+    /// Whether each call that writes and lends does so, over the text of other bytes.
     fn formats(&mut self, bytes: &[u8; N], lower: &str, upper: &str) -> bool
         requires { LEN ≡ text_length PREFIX N }
     {

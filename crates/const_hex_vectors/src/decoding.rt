@@ -18,7 +18,7 @@ const ODD: FromHexError = FromHexError::OddLength;
 
 const OTHER_LENGTH: FromHexError = FromHexError::InvalidStringLength;
 
-/// Whether each of these answers has the bytes, by `$same`, or is the refusal.
+/// Whether each answer has the wanted bytes, compared by `$same`, or is the wanted refusal.
 macro_rules! each_is {
     ($same:ident, $want:expr; $($answer:expr),+ $(,)?) => {
         true $(&& match ($answer, $want) {
@@ -34,20 +34,20 @@ pub(crate) fn same(bytes: &[u8], want: &[u8]) -> bool {
     bytes == want
 }
 
-/// Whether the numbers have the bits of these bytes.
+/// Whether numbers have the bits of these bytes.
 fn same_bits(numbers: &[i8], want: &[u8]) -> bool {
     let bits = numbers.iter().map(|number| number.cast_unsigned());
     bits.eq(want.iter().copied())
 }
 
-/// The answer of a check, if this is the answer of a decoder.
+/// What a check answers to a text to which decoders answer this.
 pub(crate) fn checked(want: Result<&[u8], FromHexError>) -> Result<(), FromHexError> {
     want?;
     Ok(())
 }
 
-/// Whether each call that reads any count of bytes gives these, or answers this refusal. Bytes that
-/// are no UTF-8 are no JSON text.
+/// Whether each call that reads any count of bytes answers this. If the text is not UTF-8, no JSON
+/// value has it.
 pub(crate) fn each_call_answers(
     alloc: Global,
     text: &[u8],
@@ -108,7 +108,7 @@ fn accepted_and_refused_texts(rt: HostRuntime) {
     }
 }
 
-/// Each call that reads N bytes: its answer, and what it leaves in a slice of bytes 0xEE.
+/// Each call that reads N bytes answers this, and a slice of bytes 0xEE then holds `left`.
 fn sized<const N: usize>(
     rt: &impl Abort,
     alloc: Global,
@@ -185,7 +185,7 @@ fn other_counts(rt: HostRuntime) {
     }
     let hello = b"48656c6c6f20776f726c6421";
     sized(&rt, alloc, hello, Ok(()), *b"Hello world!");
-    // What the kernel of calls that name none leaves: the front that its steps have decoded.
+    // The fixed kernel leaves the front that its whole steps have decoded.
     for (place, count) in [(63, 0), (70, 32)] {
         let mut text = [b'a'; 96];
         text[place] = b'g';
@@ -209,8 +209,8 @@ fn slices_by_the_plain_kernel(rt: HostRuntime) {
     by_plain(&rt, b"zzz", ODD, [0xEE; 3]);
 }
 
-// A text, the output's length, and the bytes or the refusal. No row has a pair before a bad byte, so
-// a refusal leaves the whole output as it was.
+// A text, the length of the output, and the answer. No row has a pair before its bad byte, so a
+// refusal leaves the whole output unchanged.
 #[test]
 fn fronts_of_outputs(rt: HostRuntime) {
     let rows: [(&[u8], usize, Result<&[u8], FromHexError>); 14] = [
@@ -278,7 +278,7 @@ fn json_values_that_are_no_text(rt: HostRuntime) -> Result<(), Fail> {
     Ok(())
 }
 
-// Bytes in a message that is printed by `serde_json`, and read again.
+// Bytes in a message that `serde_json` prints and reads again.
 #[test]
 fn json_there_and_back(rt: HostRuntime) -> Result<(), Fail> {
     let alloc = rt.alloc();

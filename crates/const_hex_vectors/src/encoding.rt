@@ -1,7 +1,7 @@
 //! Every call that writes text, on worked examples.
 
 use crate::decoding::each_call_answers;
-use crate::texts::{bytes, front_of, holds, printed};
+use crate::texts::{bytes, holds, printed};
 use const_hex::serde::no_prefix;
 use const_hex::traits::BytesToHexChars;
 use const_hex::{
@@ -10,8 +10,10 @@ use const_hex::{
     encode_upper_prefixed, fill_text, serialize, serialize_upper, text_size,
 };
 use std::alloc::{AllocError, Global};
-use std::process::Abort;
 use std::test::Fail;
+
+/// Bytes, and their text in lower and in upper letters.
+type Row<'a> = (&'a [u8], &'a str, &'a str);
 
 /// Bytes, and their texts: in lower letters, in upper letters, and both behind a prefix.
 #[derive(Drop)]
@@ -21,66 +23,63 @@ pub(crate) struct Written {
 }
 
 impl Written {
-    pub(crate) fn new(
-        alloc: Global,
-        bytes: &[u8],
-        lower: &str,
-        upper: &str,
-    ) -> Result<Written, AllocError> {
+    pub(crate) fn new(alloc: Global, (bytes, lower, upper): Row<'_>) -> Result<Self, AllocError> {
+        let texts = [
+            lower.to_string(alloc)?,
+            upper.to_string(alloc)?,
+            ["0x", lower].concat(alloc)?,
+            ["0x", upper].concat(alloc)?,
+        ];
         let bytes = bytes.to_vec(alloc)?;
-        let [lower, upper] = [lower.to_string(alloc)?, upper.to_string(alloc)?];
-        let prefixed = [["0x", &lower].concat(alloc)?, ["0x", &upper].concat(alloc)?];
-        let [prefixed_lower, prefixed_upper] = prefixed;
-        Ok(Written {
-            bytes,
-            texts: [lower, upper, prefixed_lower, prefixed_upper],
-        })
+        Ok(Written { bytes, texts })
+    }
+
+    /// Whether each call that makes a text of the bytes makes these.
+    pub(crate) fn is_text_of_bytes(&self, alloc: Global) -> Result<bool, AllocError> {
+        let bytes = self.bytes.as_slice();
+        let encoded = [
+            encode(alloc, bytes)?,
+            encode_upper(alloc, bytes)?,
+            encode_prefixed(alloc, bytes)?,
+            encode_upper_prefixed(alloc, bytes)?,
+        ];
+        let [lower, upper, prefixed_lower, prefixed_upper] = &self.texts;
+        let is_json = no_prefix::serialize(alloc, bytes)?.as_str() == Some(lower)
+            && no_prefix::serialize_upper(alloc, bytes)?.as_str() == Some(upper)
+            && serialize(alloc, bytes)?.as_str() == Some(prefixed_lower)
+            && serialize_upper(alloc, bytes)?.as_str() == Some(prefixed_upper);
+        Ok(encoded == self.texts && is_json && self.is_text_of(alloc, &self.bytes)?)
+    }
+
+    /// Whether these are the texts of a value, through its bounds.
+    fn is_text_of<T: ToHex + ToHexExt>(
+        &self,
+        alloc: Global,
+        value: &T,
+    ) -> Result<bool, AllocError> {
+        let forms = [
+            ToHexExt::encode_hex(value, alloc)?,
+            ToHexExt::encode_hex_upper(value, alloc)?,
+            value.encode_hex_with_prefix(alloc)?,
+            value.encode_hex_upper_with_prefix(alloc)?,
+        ];
+        let [lower, upper, _, _] = &self.texts;
+        let is_lower = ToHex::encode_hex(value, alloc)? == *lower;
+        let is_upper = ToHex::encode_hex_upper(value, alloc)? == *upper;
+        Ok(forms == self.texts && is_lower && is_upper)
     }
 }
 
-/// Whether each call that makes a text of bytes makes these.
-pub(crate) fn each_call_writes(alloc: Global, want: &Written) -> Result<bool, AllocError> {
-    let bytes = want.bytes.as_slice();
-    let encoded = [
-        encode(alloc, bytes)?,
-        encode_upper(alloc, bytes)?,
-        encode_prefixed(alloc, bytes)?,
-        encode_upper_prefixed(alloc, bytes)?,
-    ];
-    let [lower, upper, prefixed_lower, prefixed_upper] = &want.texts;
-    let is_json = no_prefix::serialize(alloc, bytes)?.as_str() == Some(lower)
-        && no_prefix::serialize_upper(alloc, bytes)?.as_str() == Some(upper)
-        && serialize(alloc, bytes)?.as_str() == Some(prefixed_lower)
-        && serialize_upper(alloc, bytes)?.as_str() == Some(prefixed_upper);
-    Ok(encoded == want.texts && is_json && each_form(alloc, &want.bytes, want)?)
-}
+const HELLO: Row<'_> = (
+    b"Hello world!",
+    "48656c6c6f20776f726c6421",
+    "48656C6C6F20776F726C6421",
+);
 
-/// The texts of a value, through its bounds.
-fn each_form<T: ToHex + ToHexExt>(
-    alloc: Global,
-    value: &T,
-    want: &Written,
-) -> Result<bool, AllocError> {
-    let [lower, upper, _, _] = &want.texts;
-    let forms = [
-        ToHexExt::encode_hex(value, alloc)?,
-        ToHexExt::encode_hex_upper(value, alloc)?,
-        value.encode_hex_with_prefix(alloc)?,
-        value.encode_hex_upper_with_prefix(alloc)?,
-    ];
-    let is_lower = ToHex::encode_hex(value, alloc)? == *lower;
-    let is_upper = ToHex::encode_hex_upper(value, alloc)? == *upper;
-    Ok(forms == want.texts && is_lower && is_upper)
-}
-
-const LOWER_HELLO: &str = "48656c6c6f20776f726c6421";
-
-const UPPER_HELLO: &str = "48656C6C6F20776F726C6421";
-
-const ROWS: [(&[u8], &str, &str); 5] = [
+const ROWS: [Row<'_>; 5] = [
     (b"", "", ""),
     (b"kiwi", "6b697769", "6B697769"),
-    (b"Hello world!", LOWER_HELLO, UPPER_HELLO),
+    HELLO,
     (&[1, 2, 3, 15, 16], "0102030f10", "0102030F10"),
     (&[0xDE, 0xAD], "dead", "DEAD"),
 ];
@@ -88,17 +87,20 @@ const ROWS: [(&[u8], &str, &str); 5] = [
 #[test]
 fn owned_texts(rt: HostRuntime) -> Result<(), Fail> {
     let alloc = rt.alloc();
-    for (bytes, lower, upper) in ROWS {
-        let want = Written::new(alloc, bytes, lower, upper)?;
-        holds(&rt, &lower, each_call_writes(alloc, &want)?);
+    for row in ROWS {
+        holds(
+            &rt,
+            &row,
+            Written::new(alloc, row)?.is_text_of_bytes(alloc)?,
+        );
     }
-    let want = Written::new(alloc, b"Hello world!", LOWER_HELLO, UPPER_HELLO)?;
-    assert!(rt; each_form(alloc, b"Hello world!", &want)?);
-    assert!(rt; each_form(alloc, &"Hello world!".to_string(alloc)?, &want)?);
+    let want = Written::new(alloc, HELLO)?;
+    assert!(rt; want.is_text_of(alloc, b"Hello world!")?);
+    assert!(rt; want.is_text_of(alloc, &"Hello world!".to_string(alloc)?)?);
     Ok(())
 }
 
-// The counts of bytes that the Rust crate's own tests go through.
+// The Rust crate's own tests try these counts of bytes.
 #[test]
 fn there_and_back(rt: HostRuntime) -> Result<(), Fail> {
     let alloc = rt.alloc();
@@ -106,27 +108,10 @@ fn there_and_back(rt: HostRuntime) -> Result<(), Fail> {
         let bytes = bytes(alloc, count)?;
         let lower = printed(alloc, &bytes, false, false)?;
         let upper = printed(alloc, &bytes, false, true)?;
-        let want = Written::new(alloc, &bytes, &lower, &upper)?;
-        let is_written = each_call_writes(alloc, &want)?;
+        let want = Written::new(alloc, (&bytes, &lower, &upper))?;
+        let is_written = want.is_text_of_bytes(alloc)?;
         let is_read = each_call_answers(alloc, lower.as_bytes(), Ok(&bytes))?;
         holds(&rt, &count, is_written && is_read);
-    }
-    Ok(())
-}
-
-// Outputs of each length: another length than the text's is refused, and leaves the output.
-#[test]
-fn texts_in_slices(rt: HostRuntime) -> Result<(), Fail> {
-    for (bytes, lower, upper) in ROWS {
-        for length in 0..=ROOM {
-            into_slices(&rt, bytes, lower, (false, length));
-            into_slices(&rt, bytes, upper, (true, length));
-            for (upper, text) in [(false, lower), (true, upper)] {
-                let prefixed = ["0x", text].concat(rt.alloc())?;
-                full_into_slice(&rt, bytes, text, (false, upper, length));
-                full_into_slice(&rt, bytes, &prefixed, (true, upper, length));
-            }
-        }
     }
     Ok(())
 }
@@ -134,46 +119,49 @@ fn texts_in_slices(rt: HostRuntime) -> Result<(), Fail> {
 /// The longest output that is tried.
 const ROOM: usize = 26;
 
-/// What a call answers for an output of that length, and what the output then holds.
-fn wanted(text: &str, length: usize) -> (Result<&str, FromHexError>, [u8; ROOM]) {
-    let mut output = [0xEE; ROOM];
-    if text.len() != length || length > ROOM {
-        return (Err(FromHexError::InvalidStringLength), output);
+// An output of another length than the text is refused, and stays unchanged.
+#[test]
+fn texts_in_slices(rt: HostRuntime) -> Result<(), Fail> {
+    for (bytes, lower, upper) in ROWS {
+        for (is_upper, text) in [(false, lower), (true, upper)] {
+            let prefixed = ["0x", text].concat(rt.alloc())?;
+            for length in 0..=ROOM {
+                let is_so = fills(bytes, text, (false, is_upper), length)
+                    && fills(bytes, &prefixed, (true, is_upper), length);
+                holds(&rt, &(text, is_upper, length), is_so);
+            }
+        }
     }
-    output[..length].copy_from_slice(text.as_bytes());
-    (Ok(text), output)
+    Ok(())
 }
 
-fn into_slices(rt: &impl Abort, bytes: &[u8], text: &str, (upper, length): (bool, usize)) {
-    assert!(rt; length <= ROOM);
-    let (want, left) = wanted(text, length);
-    let mut filled = [0xEE; ROOM];
-    let mut lent = [0xEE; ROOM];
-    let (answer, is_lent) = if upper {
-        let answer = encode_to_slice_upper(bytes, &mut filled[..length]);
-        let is_lent = encode_to_str_upper(bytes, &mut lent[..length]) == want;
-        (answer, is_lent)
-    } else {
-        let answer = encode_to_slice(bytes, &mut filled[..length]);
-        (answer, encode_to_str(bytes, &mut lent[..length]) == want)
+/// Whether each call that writes text into a slice fills an output of that length, or refuses it
+/// and leaves it unchanged.
+fn fills(bytes: &[u8], text: &str, (prefix, upper): (bool, bool), length: usize) -> bool {
+    if length > ROOM || text_size(prefix, bytes.len()) != text.len() {
+        return false;
+    }
+    let mut left = [0xEE; ROOM];
+    let mut want = Err(FromHexError::InvalidStringLength);
+    if text.len() == length {
+        left[..length].copy_from_slice(text.as_bytes());
+        want = Ok(text);
+    }
+    let answer = want.map(|_| ());
+    let [mut full, mut filled, mut lent] = [[0xEE; ROOM]; 3];
+    let is_full = encode_full_to_slice(bytes, prefix, upper, &mut full[..length]) == answer;
+    let is_body = match (prefix, upper) {
+        (true, _) => return is_full && full == left,
+        (false, false) => {
+            encode_to_slice(bytes, &mut filled[..length]) == answer
+                && encode_to_str(bytes, &mut lent[..length]) == want
+        }
+        (false, true) => {
+            encode_to_slice_upper(bytes, &mut filled[..length]) == answer
+                && encode_to_str_upper(bytes, &mut lent[..length]) == want
+        }
     };
-    let is_filled = answer == want.map(|_| ()) && [filled, lent] == [left; 2];
-    holds(rt, &(text, length), is_lent && is_filled);
-}
-
-fn full_into_slice(
-    rt: &impl Abort,
-    bytes: &[u8],
-    text: &str,
-    (prefix, upper, length): (bool, bool, usize),
-) {
-    assert!(rt; length <= ROOM);
-    let (want, left) = wanted(text, length);
-    let mut output = [0xEE; ROOM];
-    let answer = encode_full_to_slice(bytes, prefix, upper, &mut output[..length]);
-    let is_size = text_size(prefix, bytes.len()) == text.len();
-    let is_answer = answer == want.map(|_| ()) && output == left;
-    holds(rt, &(text, length), is_size && is_answer);
+    is_full && is_body && [full, filled, lent] == [left; 3]
 }
 
 #[test]

@@ -9,8 +9,8 @@ use std::test::Fail;
 /// The most blocks that are reserved.
 const BLOCKS: usize = 60_000;
 
-/// Whether the machine counts what is reserved, and not what is used: then a reserved block would
-/// be lacking elsewhere. Also true if that can't be read.
+/// Whether the machine counts memory when it is reserved, and not when it is used. A reserved block
+/// is then lacking elsewhere. Also true if the setting can't be read.
 fn counts_reserved(rt: &(impl Files + AllocGlobal)) -> bool {
     match fs::read_to_string(rt, "/proc/sys/vm/overcommit_memory") {
         Ok(text) => text.trim() == "2",
@@ -18,8 +18,8 @@ fn counts_reserved(rt: &(impl Files + AllocGlobal)) -> bool {
     }
 }
 
-/// Reserves blocks, the largest first, until not one byte is left. None is written to, so none
-/// uses memory.
+/// Reserves blocks, the largest first, until not one byte is left. It writes to none, so none uses
+/// memory.
 fn reserve_all(alloc: Global, blocks: &mut Vec<Vec<u8>>) {
     let mut size: usize = 1 << 46;
     for _ in 0..BLOCKS {

@@ -1,4 +1,4 @@
-//! Every kernel: the one list of them, what tells them apart, and how each reads a text.
+//! Every kernel: the one list of them, in which steps they work, and how they read a text.
 
 mod suite;
 
@@ -13,15 +13,15 @@ use std::alloc::{AllocError, Global};
 use std::process::Abort;
 use std::test::Fail;
 
-/// A kernel's name, whether it is tried behind `CheckFirst`, and what tells it apart.
+/// A kernel's name, whether it is tried behind `CheckFirst`, and in which steps it works.
 #[derive(Clone, Copy, Debug)]
 pub(crate) struct Habits {
     name: &'static str,
     checks_first: bool,
-    /// By how many digits it reads: by the first number as far as possible, then by the next. It
-    /// has none if it leaves nothing decoded in front of a bad byte.
+    /// How many digits it decodes in a step: the first number as long as possible, then the next.
+    /// Empty if it decodes nothing of a text that it refuses.
     reads: &'static [usize],
-    /// How many digits its pieces have, in the same way.
+    /// How many digits it writes in a piece, in the same way.
     pub(crate) writes: &'static [usize],
 }
 
@@ -35,7 +35,7 @@ impl Habits {
         }
     }
 
-    /// Those of the kernel behind `CheckFirst`.
+    /// The same kernel behind `CheckFirst`.
     fn checking_first(self) -> Habits {
         Habits {
             checks_first: true,
@@ -44,7 +44,7 @@ impl Habits {
         }
     }
 
-    /// How many bytes are decoded, of a body of that length with a bad byte at that place.
+    /// How many bytes it decodes of a body of that length with a bad byte at that place.
     fn decoded(self, length: usize, place: usize) -> usize {
         for step in self.reads {
             if *step > 0 && place < length - length % *step {
@@ -54,7 +54,7 @@ impl Habits {
         0
     }
 
-    /// The sizes of the pieces of a text of that length.
+    /// The sizes of the pieces in which it writes a text of that length.
     fn pieces(self, alloc: Global, length: usize) -> Result<Vec<usize>, AllocError> {
         let mut sizes = Vec::new(alloc);
         let mut left = length;
@@ -94,8 +94,8 @@ pub(crate) trait Trial {
     }
 }
 
-/// Whether each way in which a kernel reads a text gives the bytes or answers the refusal, and
-/// leaves these in an output of bytes 0xEE.
+/// Whether each call that reads a text by a kernel answers this, and an output of bytes 0xEE then
+/// holds `left`.
 pub(crate) fn answers<K: Kernel>(
     alloc: Global,
     text: &[u8],
@@ -109,8 +109,8 @@ pub(crate) fn answers<K: Kernel>(
     Ok(is_answered && is_decoded && output.as_slice() == left)
 }
 
-/// Whether each of these ways refuses a body behind a prefix, for its byte at that place. The bytes
-/// are what the body spells before that byte.
+/// Whether each of these calls refuses a body behind a prefix, for its byte at that place. Before
+/// that place the body spells the first of these bytes.
 pub(crate) fn refuses<K: Kernel>(
     alloc: Global,
     (prefix, body, place): (&str, &[u8], usize),
@@ -156,7 +156,7 @@ fn worked_fronts(rt: HostRuntime) {
     }
 }
 
-// How many pieces 49 bytes have by each kernel.
+// How many pieces each kernel makes of 49 bytes.
 #[test]
 fn worked_pieces(rt: HostRuntime) -> Result<(), Fail> {
     for (kernel, count) in known().into_iter().zip([98, 5, 4, 49]) {

@@ -14,7 +14,7 @@ const VALUES: [u8; 17] = [
     201, 217, 216, 0, 9, 16, 16, 10, 15, 16, 48, 10, 15, 16, 138, 138, 168,
 ];
 
-/// What vectors with the same byte in each lane give.
+/// The answers for vectors with the same byte in each lane.
 macro_rules! worked {
     ($rt:ident, $vector:ident, $lanes:ident) => {
         for (byte, value) in BYTES.into_iter().zip(VALUES) {
@@ -33,7 +33,7 @@ macro_rules! worked {
 fn worked_values(rt: HostRuntime) {
     worked!(rt, u8x16, lanes16);
     worked!(rt, u8x32, lanes32);
-    // The first 16 side by side, once and twice.
+    // The first 16 bytes side by side, once and twice.
     let values = lanes16::nibbles(u8x16::from_slice(&BYTES)).to_array();
     assert!(rt; values.as_slice() == &VALUES[..16]);
     let mut bytes = [0; 32];

@@ -1,8 +1,7 @@
-//! Long texts, with ample memory: each call that may answer that there is none, and a bad byte late
-//! in a text.
+//! Long texts, with ample memory: each call that takes memory, and a bad byte late in a text.
 
 use crate::decoding::each_call_answers;
-use crate::encoding::{Written, each_call_writes};
+use crate::encoding::Written;
 use crate::kernels::{Habits, Trial, answers, refuses};
 use crate::texts::{bad, behind, bytes, holds, printed};
 use const_hex::{Buffer, Kernel, ToHex, ToHexExt, const_encode, decode_to_slice, encode_with};
@@ -22,14 +21,14 @@ fn long_text(alloc: Global, blocks: usize) -> Result<Written, AllocError> {
     let block = bytes(alloc, 256)?;
     let lower = printed(alloc, &block, false, false)?.repeat(alloc, blocks)?;
     let upper = printed(alloc, &block, false, true)?.repeat(alloc, blocks)?;
-    Written::new(alloc, &block.repeat(alloc, blocks)?, &lower, &upper)
+    Written::new(alloc, (&block.repeat(alloc, blocks)?, &lower, &upper))
 }
 
 #[test]
 fn owned_texts(rt: HostRuntime) -> Result<(), Fail> {
     for blocks in [SHORT, LONG, LONGEST] {
         let long = long_text(rt.alloc(), blocks)?;
-        holds(&rt, &blocks, each_call_writes(rt.alloc(), &long)?);
+        holds(&rt, &blocks, long.is_text_of_bytes(rt.alloc())?);
     }
     Ok(())
 }
@@ -58,7 +57,7 @@ fn late_bad_bytes_of_the_longest(rt: HostRuntime) -> Result<(), Fail> {
     late_bad_bytes_of(&rt, rt.alloc(), LONGEST)
 }
 
-/// Each decoder names a bad byte in the middle or at the end of a body, behind a prefix or not.
+/// Each decoder names a bad byte in the middle and at the end of a body, with a prefix and without.
 fn late_bad_bytes_of(rt: &impl Abort, alloc: Global, blocks: usize) -> Result<(), Fail> {
     let Written { bytes, texts } = long_text(alloc, blocks)?;
     let [lower, _, _, _] = texts;
@@ -96,7 +95,7 @@ fn kernels_on_the_longest(rt: HostRuntime) -> Result<(), Fail> {
 }
 
 impl Trial for Written {
-    /// The text in both cases, and the bytes, also with a bad byte at the end.
+    /// Writes the text in both cases, and reads it, also with a bad byte at the end.
     fn run<K: Kernel>(&self, rt: &impl Abort, alloc: Global, kernel: Habits) -> Result<(), Fail> {
         let bytes = self.bytes.as_slice();
         let [lower, upper, _, prefixed_upper] = &self.texts;
@@ -114,7 +113,7 @@ impl Trial for Written {
     }
 }
 
-// Arrays stand on the stack, and so are shorter.
+// Arrays stand on the stack, so they are shorter.
 #[test]
 fn large_arrays(rt: HostRuntime) -> Result<(), Fail> {
     let alloc = rt.alloc();

@@ -53,7 +53,7 @@ impl fmt::Display for EmptyPiece {
     }
 }
 
-/// Width, fill and alignment change nothing, and `#` as the fill makes no prefix.
+/// Width, fill and alignment change nothing. A `#` as the fill makes no prefix.
 fn forms<D: fmt::Display>(alloc: Global, v: &D) -> Result<String, AllocError> {
     format!(in alloc; "{v} {v:#} {v:*^20} {v:#020} {v:#<20} {v:*<20} {v:*>20}")
 }
@@ -72,7 +72,7 @@ fn printed_forms(rt: HostRuntime) -> Result<(), Fail> {
     Ok(())
 }
 
-// 100,000 bytes, and each count that is printed in one piece: with the prefix and without.
+// Each count of bytes that is printed in one piece, and 100,000.
 #[test]
 fn printed_bytes(rt: HostRuntime) -> Result<(), Fail> {
     let alloc = rt.alloc();
@@ -119,7 +119,7 @@ fn nothing_follows_an_error(rt: HostRuntime) {
     }
 }
 
-/// A writer that fails at one call is called so often, and its error is answered.
+/// A writer that fails at one call gets that many calls, and its error is returned.
 fn fails_once<D: fmt::Display>(rt: &impl Abort, text: &D, fail_at: u32, calls: u32) {
     let mut writer = FailingWriter { calls: 0, fail_at };
     let has_failed = write!(writer, "{text}").is_err();

@@ -40,7 +40,7 @@ fn debug_forms(rt: HostRuntime) -> Result<(), Fail> {
     Ok(())
 }
 
-// The character stands in Rust's debug form, and places have one figure to eight.
+// The character is printed in Rust's debug form. Places have one to eight figures.
 #[test]
 fn printed_places(rt: HostRuntime) -> Result<(), Fail> {
     let rows: [(u8, &str); 13] = [
@@ -77,7 +77,7 @@ fn are_equal(a: SinkError, b: SinkError) -> bool
     a == b
 }
 
-// Each is equal to itself alone.
+// Each is equal only to itself.
 #[test]
 fn compared(rt: HostRuntime) {
     let refusals = [

@@ -15,7 +15,7 @@ type ToSink<'a, const N: usize> = BufferedOutput<SinkOutput<'a, PieceSink>, N>;
 
 type ToSlice<'a, const N: usize> = BufferedOutput<SliceOutput<'a>, N>;
 
-// 8 MB in all, and memory is never wanting.
+// The pieces have 8 MB, and no call is refused.
 #[test]
 fn pieces_of_each_size(rt: HostRuntime) -> Result<(), Fail> {
     let alloc = rt.alloc();
@@ -65,8 +65,8 @@ fn long_streams(rt: HostRuntime) -> Result<(), Fail> {
     Stream { data, text }.with_each_kernel(&rt, rt.alloc())
 }
 
-// A piece of just the size that is gathered is handed on at once, behind what was pending: what is
-// pending where the output is dropped is lost.
+// An output that gathers four bytes hands on a piece of four at once, after what it has gathered. A
+// dropped output loses what it has gathered.
 #[test]
 fn pieces_of_just_the_size(rt: HostRuntime) {
     let mut sink = PieceSink::new(rt.alloc(), 0);
@@ -159,7 +159,7 @@ fn pieces_of_each_two_sizes(rt: HostRuntime) {
     }
 }
 
-/// That many `a`, an empty piece, that many `b`, and one `c`, over a slice of 33 zero bytes.
+/// Writes that many `a`, an empty piece, that many `b`, and one `c`, into 33 zero bytes.
 fn fills<const N: usize>(rt: &impl Abort, first: usize, second: usize)
     requires { (0 < N) × (N < 100) }
 {

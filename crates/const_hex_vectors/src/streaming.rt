@@ -1,4 +1,4 @@
-//! The text of bytes, handed to a sink in each way, also to one that refuses.
+//! The text of bytes, handed to sinks in each way, also to sinks that refuse.
 
 ghost use Rattle.std.specs.Prelude.{◌≡◌, false, None, refl};
 
@@ -11,8 +11,8 @@ use std::alloc::{AllocError, Global};
 use std::process::Abort;
 use std::test::Fail;
 
-/// A sink that keeps the text of every call, also of the one that it refuses: the call of the given
-/// number. It refuses, too, if memory is refused.
+/// Keeps the text of every call, also of a call that it refuses. It refuses the call of the given
+/// number, and any call if memory is refused.
 #[derive(Drop)]
 struct NotingSink {
     alloc: Global,
@@ -57,8 +57,8 @@ impl Sink for NotingSink {
     ghost tells = { λ s piece t h. refl };
 }
 
-// A count of bytes, whether a prefix is written, and the sizes of the calls: by kernels that write
-// digit by digit or pair by pair, by 16 lanes, and by 32.
+// A count of bytes, whether a prefix is written, and the sizes of the calls: by a kernel that
+// writes one or two digits at once, by 16 lanes, and by 32.
 type Row = (usize, bool, [&'static [usize]; 3]);
 
 const ROWS: [Row; 16] = [
@@ -106,8 +106,8 @@ struct Stream<'a, const UPPER: bool, const PREFIX: bool> {
     sizes: [&'static [usize]; 3],
 }
 
-/// How the text of bytes is handed to a sink: by a kernel, by the kernel of calls that name none, or
-/// as a part of a JSON text.
+/// How the text of bytes is handed to a sink: by a kernel, by the fixed kernel, or as a part of a
+/// JSON text.
 #[derive(Clone, Copy, Debug)]
 enum Way {
     ByKernel(Habits),
@@ -128,8 +128,8 @@ impl<const UPPER: bool, const PREFIX: bool> Stream<'_, UPPER, PREFIX> {
         self.calls::<Plain>(rt, alloc, Way::AsJson)
     }
 
-    /// With sinks that never refuse, that refuse at each call, and that are set to refuse at the
-    /// call after the last. As a part of a JSON text, an empty text has a call too.
+    /// Tries sinks that never refuse, that refuse each call in turn, and that would refuse the call
+    /// after the last. In a JSON text, an empty text has a call too.
     fn calls<K: Kernel>(&self, rt: &impl Abort, alloc: Global, way: Way) -> Result<(), Fail> {
         let [by_digits, by_lanes16, by_lanes32] = self.sizes;
         let sizes = match way {
@@ -170,7 +170,7 @@ impl<const UPPER: bool, const PREFIX: bool> Stream<'_, UPPER, PREFIX> {
     }
 }
 
-/// The pieces of all calls, and those that are accepted, if the call of that number is refused.
+/// The pieces of all calls, and the accepted ones, if the call of that number is refused.
 fn until(pieces: &[String], refuse_at: usize) -> (&[String], &[String]) {
     if refuse_at == 0 || refuse_at > pieces.len() {
         (pieces, pieces)
@@ -179,7 +179,6 @@ fn until(pieces: &[String], refuse_at: usize) -> (&[String], &[String]) {
     }
 }
 
-// Two forms, one behind the other into one sink.
 #[test]
 fn two_texts_into_one_sink(rt: HostRuntime) -> Result<(), SinkError> {
     let mut sink = PieceSink::new(rt.alloc(), 0);

@@ -5,9 +5,6 @@ use std::alloc::{AllocError, Global};
 use std::fmt;
 use std::process::Abort;
 
-/// Whether a row holds, or why a call of the row failed.
-pub(crate) type Holds = Result<bool, FromHexError>;
-
 /// Ends the test if a row does not hold, and names the row.
 pub(crate) fn holds<R: fmt::Debug>(rt: &impl Abort, row: &R, is_so: bool) {
     assert!(rt; is_so, "at {row:?}");
@@ -77,7 +74,7 @@ pub(crate) fn cut(alloc: Global, text: &str, sizes: &[usize]) -> Result<Vec<Stri
     Ok(pieces)
 }
 
-/// The first bytes of a text, by which it is named.
+/// The first bytes of a text, which name it in a failing row.
 pub(crate) fn front_of(text: &[u8]) -> &[u8] {
     text.get(..64).unwrap_or(text)
 }

@@ -7,7 +7,7 @@ use std::alloc::{AllocError, Global};
 use std::process::Abort;
 use std::test::Fail;
 
-// How many bytes, 0 and on, round the steps of each kernel, and how their text ends.
+// Counts of the bytes 0, 1, 2 and on, near the steps of each kernel, and how their text ends.
 const COUNTS: [usize; 12] = [15, 16, 17, 31, 32, 33, 47, 48, 49, 63, 64, 65];
 
 const ENDS: [&str; 12] = [
@@ -53,7 +53,7 @@ fn of_length<K: Kernel>(alloc: Global, prefix: &str, length: usize) -> Result<bo
     Ok(is_lower && answers::<K>(alloc, &text, Ok(&bytes), &bytes)?)
 }
 
-/// The text of bytes in both cases, owned and piece by piece, and the bytes that it gives.
+/// Whether a kernel writes bytes as std prints them, owned and in pieces, and reads them again.
 fn there_and_back<K: Kernel>(
     alloc: Global,
     bytes: &[u8],
@@ -78,7 +78,7 @@ fn there_and_back<K: Kernel>(
     Ok(is_so)
 }
 
-/// The kernel's own calls, by a slice of 49 bytes, and the text of 17.
+/// The kernel's own calls on 49 bytes, and the text of 17.
 fn own_calls<K: Kernel>(rt: &impl Abort, alloc: Global, kernel: Habits) -> Result<(), Fail> {
     let bytes = *b"jklmnopqrstuvwxyz{|}~@[JKLMNOPQRSTUVWXYZ][0123456";
     let mut text = [0; 98];
@@ -124,7 +124,7 @@ impl Trial for Places {
     }
 }
 
-/// A letter x at the second place makes a prefix, and any other of these bytes is bad.
+/// A letter x at the second place makes a prefix. Each other byte that is tried is bad.
 fn prefixed_or_refused<K: Kernel>(
     alloc: Global,
     (prefix, body, place): (&str, &[u8], usize),
@@ -140,8 +140,8 @@ fn prefixed_or_refused<K: Kernel>(
     }
 }
 
-/// Each value of a byte at each place of a body of letters. The bad bytes are beside the ranges of
-/// digits, or differ from a digit in one bit.
+/// Each byte at each place of a body of letters. The bad bytes are next to a range of digits, or
+/// differ from a digit in one bit.
 fn letters<K: Kernel>(rt: &impl Abort, alloc: Global, kernel: Habits) -> Result<(), Fail> {
     let mut body = [b'a'; 64];
     for place in 0..64 {
