@@ -68,7 +68,7 @@ impl Habits {
     }
 }
 
-fn known() -> [Habits; 4] {
+fn every_kernel() -> [Habits; 4] {
     [
         Habits::new("Plain", &[2], &[1]),
         Habits::new("Lanes16", &[32, 2], &[32, 1]),
@@ -82,7 +82,7 @@ pub(crate) trait Trial {
     fn run<K: Kernel>(&self, rt: &impl Abort, alloc: Global, kernel: Habits) -> Result<(), Fail>;
 
     fn with_each_kernel(&self, rt: &impl Abort, alloc: Global) -> Result<(), Fail> {
-        let [plain, lanes16, lanes32, backward] = known();
+        let [plain, lanes16, lanes32, backward] = every_kernel();
         self.run::<Plain>(rt, alloc, plain)?;
         self.run::<CheckFirst<Plain>>(rt, alloc, plain.checking_first())?;
         self.run::<Lanes16>(rt, alloc, lanes16)?;
@@ -137,7 +137,8 @@ fn each_place(rt: HostRuntime) -> Result<(), Fail> {
     suite::Places.with_each_kernel(&rt, rt.alloc())
 }
 
-// The length of a body, the place of its bad byte, and how many bytes each kernel has decoded.
+// The length of a body, the place of its bad byte, and how many bytes `Plain`, `Lanes16` and
+// `Lanes32` decode of it.
 #[test]
 fn worked_fronts(rt: HostRuntime) {
     let rows = [
@@ -149,9 +150,9 @@ fn worked_fronts(rt: HostRuntime) {
         (96, 70, [35, 32, 32]),
     ];
     for (length, place, counts) in rows {
-        for (kernel, count) in known().into_iter().zip(counts) {
+        for (kernel, count) in every_kernel().into_iter().zip(counts) {
             let is_so = kernel.decoded(length, place) == count;
-            holds(&rt, &(kernel, place), is_so);
+            holds(&rt, &(kernel, length, place), is_so);
         }
     }
 }
@@ -159,7 +160,7 @@ fn worked_fronts(rt: HostRuntime) {
 // How many pieces each kernel makes of 49 bytes.
 #[test]
 fn worked_pieces(rt: HostRuntime) -> Result<(), Fail> {
-    for (kernel, count) in known().into_iter().zip([98, 5, 4, 49]) {
+    for (kernel, count) in every_kernel().into_iter().zip([98, 5, 4, 49]) {
         holds(&rt, &kernel, kernel.pieces(rt.alloc(), 98)?.len() == count);
     }
     Ok(())

@@ -77,6 +77,7 @@ fn printed_forms(rt: HostRuntime) -> Result<(), Fail> {
 fn printed_bytes(rt: HostRuntime) -> Result<(), Fail> {
     let alloc = rt.alloc();
     let data = bytes(alloc, 100_000)?;
+    assert!(rt; data.len() == 100_000);
     let lower = printed(alloc, &data, false, false)?;
     let upper = printed(alloc, &data, true, true)?;
     let v = InRadix::Upper(display(&data));
