@@ -1,125 +1,85 @@
 //! Every call that writes text, on worked examples.
 
-use crate::decoding::each_call_reads;
-use crate::texts::{bytes, front_of, holds, printed};
+use crate::decoding::each_call_answers;
+use crate::texts::{bytes, holds, printed};
 use const_hex::serde::no_prefix;
 use const_hex::traits::BytesToHexChars;
 use const_hex::{
-    FromHexError, ToHex, ToHexExt, encode, encode_prefixed, encode_to_slice, encode_to_slice_upper,
-    encode_to_str, encode_to_str_upper, encode_upper, encode_upper_prefixed, serialize,
-    serialize_upper,
+    FromHexError, Plain, ToHex, ToHexExt, encode, encode_full_to_slice, encode_prefixed,
+    encode_to_slice, encode_to_slice_upper, encode_to_str, encode_to_str_upper, encode_upper,
+    encode_upper_prefixed, fill_text, serialize, serialize_upper, text_size,
 };
-use serde_json::Value;
 use std::alloc::{AllocError, Global};
-use std::process::Abort;
 use std::test::Fail;
 
-/// Bytes, and their text in both cases, also behind a prefix.
+/// Bytes, and their text in lower and in upper letters.
+type Row<'a> = (&'a [u8], &'a str, &'a str);
+
+/// Bytes, and their texts: in lower letters, in upper letters, and both behind a prefix.
 #[derive(Drop)]
 pub(crate) struct Written {
     pub(crate) bytes: Vec<u8>,
-    pub(crate) lower: String,
-    pub(crate) upper: String,
-    pub(crate) prefixed_lower: String,
-    pub(crate) prefixed_upper: String,
+    pub(crate) texts: [String; 4],
 }
 
-/// Bytes with these texts.
-pub(crate) fn with_texts(
-    alloc: Global,
-    bytes: &[u8],
-    lower: &str,
-    upper: &str,
-) -> Result<Written, AllocError> {
-    Ok(Written {
-        bytes: bytes.to_vec(alloc)?,
-        lower: lower.to_string(alloc)?,
-        upper: upper.to_string(alloc)?,
-        prefixed_lower: prefixed(alloc, lower)?,
-        prefixed_upper: prefixed(alloc, upper)?,
-    })
+impl Written {
+    pub(crate) fn new(alloc: Global, (bytes, lower, upper): Row<'_>) -> Result<Self, AllocError> {
+        let texts = [
+            lower.to_string(alloc)?,
+            upper.to_string(alloc)?,
+            ["0x", lower].concat(alloc)?,
+            ["0x", upper].concat(alloc)?,
+        ];
+        let bytes = bytes.to_vec(alloc)?;
+        Ok(Written { bytes, texts })
+    }
+
+    /// Whether each call that makes a text of the bytes makes these.
+    pub(crate) fn is_text_of_bytes(&self, alloc: Global) -> Result<bool, AllocError> {
+        let bytes = self.bytes.as_slice();
+        let encoded = [
+            encode(alloc, bytes)?,
+            encode_upper(alloc, bytes)?,
+            encode_prefixed(alloc, bytes)?,
+            encode_upper_prefixed(alloc, bytes)?,
+        ];
+        let [lower, upper, prefixed_lower, prefixed_upper] = &self.texts;
+        let is_json = no_prefix::serialize(alloc, bytes)?.as_str() == Some(lower)
+            && no_prefix::serialize_upper(alloc, bytes)?.as_str() == Some(upper)
+            && serialize(alloc, bytes)?.as_str() == Some(prefixed_lower)
+            && serialize_upper(alloc, bytes)?.as_str() == Some(prefixed_upper);
+        Ok(encoded == self.texts && is_json && self.is_text_of(alloc, &self.bytes)?)
+    }
+
+    /// Whether these are the texts of a value, through its bounds.
+    fn is_text_of<T: ToHex + ToHexExt>(
+        &self,
+        alloc: Global,
+        value: &T,
+    ) -> Result<bool, AllocError> {
+        let forms = [
+            ToHexExt::encode_hex(value, alloc)?,
+            ToHexExt::encode_hex_upper(value, alloc)?,
+            value.encode_hex_with_prefix(alloc)?,
+            value.encode_hex_upper_with_prefix(alloc)?,
+        ];
+        let [lower, upper, _, _] = &self.texts;
+        let is_lower = ToHex::encode_hex(value, alloc)? == *lower;
+        let is_upper = ToHex::encode_hex_upper(value, alloc)? == *upper;
+        Ok(forms == self.texts && is_lower && is_upper)
+    }
 }
 
-/// A text behind a prefix.
-pub(crate) fn prefixed(alloc: Global, text: &str) -> Result<String, AllocError> {
-    let mut all = "0x".to_string(alloc)?;
-    all.push_str(text)?;
-    Ok(all)
-}
+const HELLO: Row<'_> = (
+    b"Hello world!",
+    "48656c6c6f20776f726c6421",
+    "48656C6C6F20776F726C6421",
+);
 
-/// Each call that gives an owned text of bytes.
-pub(crate) fn each_call_writes(
-    rt: &impl Abort,
-    alloc: Global,
-    want: &Written,
-) -> Result<(), AllocError> {
-    encoders(rt, alloc, want)?;
-    each_form(rt, alloc, &want.bytes, want)?;
-    json_texts(rt, alloc, want)
-}
-
-fn equal(rt: &impl Abort, text: &str, want: &str) {
-    holds(rt, &front_of(want.as_bytes()), text == want);
-}
-
-fn encoders(rt: &impl Abort, alloc: Global, want: &Written) -> Result<(), AllocError> {
-    let bytes = want.bytes.as_slice();
-    equal(rt, &encode(alloc, bytes)?, &want.lower);
-    equal(rt, &encode_upper(alloc, bytes)?, &want.upper);
-    equal(rt, &encode_prefixed(alloc, bytes)?, &want.prefixed_lower);
-    equal(
-        rt,
-        &encode_upper_prefixed(alloc, bytes)?,
-        &want.prefixed_upper,
-    );
-    Ok(())
-}
-
-/// The text of a value, through its bounds.
-fn each_form<T: ToHex + ToHexExt>(
-    rt: &impl Abort,
-    alloc: Global,
-    value: &T,
-    want: &Written,
-) -> Result<(), AllocError> {
-    equal(rt, &ToHex::encode_hex(value, alloc)?, &want.lower);
-    equal(rt, &ToHex::encode_hex_upper(value, alloc)?, &want.upper);
-    equal(rt, &ToHexExt::encode_hex(value, alloc)?, &want.lower);
-    equal(rt, &ToHexExt::encode_hex_upper(value, alloc)?, &want.upper);
-    equal(
-        rt,
-        &value.encode_hex_with_prefix(alloc)?,
-        &want.prefixed_lower,
-    );
-    equal(
-        rt,
-        &value.encode_hex_upper_with_prefix(alloc)?,
-        &want.prefixed_upper,
-    );
-    Ok(())
-}
-
-fn json_texts(rt: &impl Abort, alloc: Global, want: &Written) -> Result<(), AllocError> {
-    let bytes = want.bytes.as_slice();
-    is_text(rt, &serialize(alloc, bytes)?, &want.prefixed_lower);
-    is_text(rt, &serialize_upper(alloc, bytes)?, &want.prefixed_upper);
-    is_text(rt, &no_prefix::serialize(alloc, bytes)?, &want.lower);
-    is_text(rt, &no_prefix::serialize_upper(alloc, bytes)?, &want.upper);
-    Ok(())
-}
-
-fn is_text(rt: &impl Abort, value: &Value, text: &str) {
-    holds(rt, &front_of(text.as_bytes()), value.as_str() == Some(text));
-}
-
-const ROWS: [(&[u8], &str, &str); 5] = [
+const ROWS: [Row<'_>; 5] = [
     (b"", "", ""),
     (b"kiwi", "6b697769", "6B697769"),
-    (
-        b"Hello world!",
-        "48656c6c6f20776f726c6421",
-        "48656C6C6F20776F726C6421",
-    ),
+    HELLO,
     (&[1, 2, 3, 15, 16], "0102030f10", "0102030F10"),
     (&[0xDE, 0xAD], "dead", "DEAD"),
 ];
@@ -127,134 +87,104 @@ const ROWS: [(&[u8], &str, &str); 5] = [
 #[test]
 fn owned_texts(rt: HostRuntime) -> Result<(), Fail> {
     let alloc = rt.alloc();
-    for (bytes, lower, upper) in ROWS {
-        each_call_writes(&rt, alloc, &with_texts(alloc, bytes, lower, upper)?)?;
+    for row in ROWS {
+        holds(
+            &rt,
+            &row,
+            Written::new(alloc, row)?.is_text_of_bytes(alloc)?,
+        );
     }
+    let want = Written::new(alloc, HELLO)?;
+    assert!(rt; want.is_text_of(alloc, b"Hello world!")?);
+    assert!(rt; want.is_text_of(alloc, &"Hello world!".to_string(alloc)?)?);
     Ok(())
 }
 
-#[test]
-fn texts_of_other_types(rt: HostRuntime) -> Result<(), Fail> {
-    let alloc = rt.alloc();
-    let lower = "48656c6c6f20776f726c6421";
-    let upper = "48656C6C6F20776F726C6421";
-    let want = with_texts(alloc, b"Hello world!", lower, upper)?;
-    each_form(&rt, alloc, b"Hello world!", &want)?;
-    each_form(&rt, alloc, &"Hello world!".to_string(alloc)?, &want)?;
-    Ok(())
-}
-
-// The counts of bytes that the Rust crate's own tests go through.
+// The Rust crate's own tests try these counts of bytes.
 #[test]
 fn there_and_back(rt: HostRuntime) -> Result<(), Fail> {
     let alloc = rt.alloc();
     for count in [1, 8, 20, 32, 64, 128] {
-        let want = printed_bytes(alloc, count)?;
-        each_call_writes(&rt, alloc, &want)?;
-        each_call_reads(&rt, alloc, &want.lower, &want.bytes)?;
+        let bytes = bytes(alloc, count)?;
+        let lower = printed(alloc, &bytes, false, false)?;
+        let upper = printed(alloc, &bytes, false, true)?;
+        let want = Written::new(alloc, (&bytes, &lower, &upper))?;
+        let is_written = want.is_text_of_bytes(alloc)?;
+        let is_read = each_call_answers(alloc, lower.as_bytes(), Ok(&bytes))?;
+        holds(&rt, &count, is_written && is_read);
     }
     Ok(())
 }
 
-/// That many bytes, and what std prints of them.
-fn printed_bytes(alloc: Global, count: usize) -> Result<Written, AllocError> {
-    let bytes = bytes(alloc, count)?;
-    let lower = printed(alloc, &bytes, false, false)?;
-    let upper = printed(alloc, &bytes, false, true)?;
-    with_texts(alloc, &bytes, &lower, &upper)
-}
+/// The longest output that is tried.
+const ROOM: usize = 26;
 
-// Outputs of each length to 24: another length than the text's is refused, and leaves the output.
+// An output of another length than the text is refused, and stays unchanged.
 #[test]
-fn texts_in_slices(rt: HostRuntime) {
-    for row in ROWS {
-        for length in 0..=24usize {
-            filled(&rt, row, length);
-            lent(&rt, row, length);
+fn texts_in_slices(rt: HostRuntime) -> Result<(), Fail> {
+    for (bytes, lower, upper) in ROWS {
+        for (is_upper, text) in [(false, lower), (true, upper)] {
+            let prefixed = ["0x", text].concat(rt.alloc())?;
+            for length in 0..=ROOM {
+                let is_so = fills(bytes, text, (false, is_upper), length)
+                    && fills(bytes, &prefixed, (true, is_upper), length);
+                holds(&rt, &(text, is_upper, length), is_so);
+            }
         }
     }
-}
-
-fn filled(rt: &impl Abort, (bytes, lower, upper): (&[u8], &str, &str), length: usize) {
-    assert!(rt; length <= 24);
-    let row = (lower, length);
-    let mut output = [0xEE; 24];
-    let answer = encode_to_slice(bytes, &mut output[..length]);
-    holds(rt, &row, answer == if_it_fits(lower, length));
-    holds(rt, &row, output == left(lower, length));
-    let mut output = [0xEE; 24];
-    let answer = encode_to_slice_upper(bytes, &mut output[..length]);
-    holds(rt, &row, answer == if_it_fits(upper, length));
-    holds(rt, &row, output == left(upper, length));
-}
-
-fn lent(rt: &impl Abort, (bytes, lower, upper): (&[u8], &str, &str), length: usize) {
-    assert!(rt; length <= 24);
-    let row = (lower, length);
-    let mut output = [0xEE; 24];
-    lends(rt, bytes, lower, &mut output[..length]);
-    holds(rt, &row, output == left(lower, length));
-    let mut output = [0xEE; 24];
-    lends_upper(rt, bytes, upper, &mut output[..length]);
-    holds(rt, &row, output == left(upper, length));
-}
-
-fn lends(rt: &impl Abort, bytes: &[u8], text: &str, output: &mut [u8]) {
-    let want = lent_if_it_fits(text, output.len());
-    holds(rt, &text, encode_to_str(bytes, output) == want);
-}
-
-fn lends_upper(rt: &impl Abort, bytes: &[u8], text: &str, output: &mut [u8]) {
-    let want = lent_if_it_fits(text, output.len());
-    holds(rt, &text, encode_to_str_upper(bytes, output) == want);
-}
-
-fn if_it_fits(text: &str, length: usize) -> Result<(), FromHexError> {
-    lent_if_it_fits(text, length)?;
     Ok(())
 }
 
-fn lent_if_it_fits(text: &str, length: usize) -> Result<&str, FromHexError> {
+/// Whether each call that writes text into a slice fills an output of that length, or refuses it
+/// and leaves it unchanged.
+fn fills(bytes: &[u8], text: &str, (prefix, upper): (bool, bool), length: usize) -> bool {
+    if length > ROOM || text_size(prefix, bytes.len()) != text.len() {
+        return false;
+    }
+    let mut left = [0xEE; ROOM];
+    let mut want = Err(FromHexError::InvalidStringLength);
     if text.len() == length {
-        Ok(text)
-    } else {
-        Err(FromHexError::InvalidStringLength)
+        left[..length].copy_from_slice(text.as_bytes());
+        want = Ok(text);
     }
-}
-
-/// What an output of that length then holds: the text, or what it held where that does not fit.
-fn left(text: &str, length: usize) -> [u8; 24] {
-    let mut output = [0xEE; 24];
-    if text.len() == length && length <= 24 {
-        output[..length].copy_from_slice(text.as_bytes());
-    }
-    output
+    let answer = want.map(|_| ());
+    let [mut full, mut filled, mut lent] = [[0xEE; ROOM]; 3];
+    let is_full = encode_full_to_slice(bytes, prefix, upper, &mut full[..length]) == answer;
+    let is_body = match (prefix, upper) {
+        (true, _) => return is_full && full == left,
+        (false, false) => {
+            encode_to_slice(bytes, &mut filled[..length]) == answer
+                && encode_to_str(bytes, &mut lent[..length]) == want
+        }
+        (false, true) => {
+            encode_to_slice_upper(bytes, &mut filled[..length]) == answer
+                && encode_to_str_upper(bytes, &mut lent[..length]) == want
+        }
+    };
+    is_full && is_body && [full, filled, lent] == [left; 3]
 }
 
 #[test]
-fn characters(rt: HostRuntime) {
+fn full_texts(rt: HostRuntime) {
+    assert!(rt; text_size(true, 20) == 42);
+    assert!(rt; text_size(false, usize::MAX) == usize::MAX);
+    let mut text = [0; 10];
+    fill_text::<Plain>(b"kiwi", true, false, &mut text);
+    assert!(rt; text == *b"0x6b697769");
+}
+
+#[test]
+fn characters(rt: HostRuntime) -> Result<(), AllocError> {
     let mut upper = BytesToHexChars::<true>::new(&[0x0f]);
     for (left, want) in [(2, Some('0')), (1, Some('F')), (0, None), (0, None)] {
-        gives(&rt, &mut upper, left, want);
+        let is_left = upper.size_hint() == (left, Some(left));
+        holds(&rt, &left, is_left && upper.next() == want);
     }
     let mut none = BytesToHexChars::<false>::new(&[]);
-    gives(&rt, &mut none, 0, None);
-    gives(&rt, &mut none, 0, None);
-}
-
-/// The next character, and how many are left with it.
-fn gives<const UPPER: bool>(
-    rt: &impl Abort,
-    chars: &mut BytesToHexChars<'_, UPPER>,
-    left: usize,
-    want: Option<char>,
-) {
-    holds(rt, &left, chars.size_hint() == (left, Some(left)));
-    holds(rt, &left, chars.next() == want);
-}
-
-#[test]
-fn all_characters(rt: HostRuntime) -> Result<(), AllocError> {
+    for row in 0..2usize {
+        let is_left = none.size_hint() == (0, Some(0));
+        holds(&rt, &row, is_left && none.next().is_none());
+    }
     let text: String = BytesToHexChars::<false>::new(b"kiwi").collect(rt.alloc())?;
     assert!(rt; text.as_str() == "6b697769");
     Ok(())

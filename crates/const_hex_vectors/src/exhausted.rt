@@ -1,4 +1,4 @@
-//! What calls answer where no memory is left at all.
+//! What calls answer if no memory is left at all.
 
 use const_hex::{FromHexError, decode, encode};
 use std::alloc::{AllocError, Global};
@@ -9,8 +9,8 @@ use std::test::Fail;
 /// The most blocks that are reserved.
 const BLOCKS: usize = 60_000;
 
-/// Whether the machine counts what is reserved, and not what is used: then a reserved block would
-/// be lacking elsewhere. Also true where that can't be read.
+/// Whether the machine counts memory when it is reserved, and not when it is used. A reserved block
+/// is then lacking elsewhere. Also true if the setting can't be read.
 fn counts_reserved(rt: &(impl Files + AllocGlobal)) -> bool {
     match fs::read_to_string(rt, "/proc/sys/vm/overcommit_memory") {
         Ok(text) => text.trim() == "2",
@@ -18,8 +18,8 @@ fn counts_reserved(rt: &(impl Files + AllocGlobal)) -> bool {
     }
 }
 
-/// Reserves blocks, the largest first, until not one byte is left. None is written to, so none
-/// uses memory.
+/// Reserves blocks, the largest first, until not one byte is left. It writes to none, so none uses
+/// memory.
 fn reserve_all(alloc: Global, blocks: &mut Vec<Vec<u8>>) {
     let mut size: usize = 1 << 46;
     for _ in 0..BLOCKS {
@@ -35,7 +35,7 @@ fn reserve_all(alloc: Global, blocks: &mut Vec<Vec<u8>>) {
     }
 }
 
-/// Passes without a claim where the machine refuses nothing.
+/// Passes without a claim if the machine refuses nothing.
 #[test]
 fn names_refused_memory(rt: HostRuntime) -> Result<(), Fail> {
     if counts_reserved(&rt) {
@@ -52,9 +52,8 @@ fn names_refused_memory(rt: HostRuntime) -> Result<(), Fail> {
     drop(blocks);
     if is_refused {
         assert!(rt; encoded == Some(AllocError));
-        assert!(rt; decoded == Some(FromHexError::NoMemory));
+        assert!(rt; [decoded, bad] == [Some(FromHexError::NoMemory); 2]);
         assert!(rt; odd == Some(FromHexError::OddLength));
-        assert!(rt; bad == Some(FromHexError::NoMemory));
     }
     Ok(())
 }

@@ -2,68 +2,45 @@
 
 use crate::texts::holds;
 use const_hex::{Lanes16, Lanes32, lanes16, lanes32};
-use std::process::Abort;
 use std::simd::prelude::*;
 
-/// Bytes at the edges of the ranges of digits, and what the lane arithmetic makes of them.
-const WORKED: [(u8, u8); 17] = [
-    (0x00, 201),
-    (0x10, 217),
-    (0x2F, 216),
-    (0x30, 0),
-    (0x39, 9),
-    (0x3A, 16),
-    (0x40, 16),
-    (0x41, 10),
-    (0x46, 15),
-    (0x47, 16),
-    (0x60, 48),
-    (0x61, 10),
-    (0x66, 15),
-    (0x67, 16),
-    (0xC1, 138),
-    (0xE1, 138),
-    (0xFF, 168),
+// Bytes at the edges of the ranges of digits, and what the lane arithmetic makes of them.
+const BYTES: [u8; 17] = [
+    0x00, 0x10, 0x2F, 0x30, 0x39, 0x3A, 0x40, 0x41, 0x46, 0x47, 0x60, 0x61, 0x66, 0x67, 0xC1, 0xE1,
+    0xFF,
 ];
+
+const VALUES: [u8; 17] = [
+    201, 217, 216, 0, 9, 16, 16, 10, 15, 16, 48, 10, 15, 16, 138, 138, 168,
+];
+
+/// The answers for vectors with the same byte in each lane.
+macro_rules! worked {
+    ($rt:ident, $vector:ident, $lanes:ident) => {
+        for (byte, value) in BYTES.into_iter().zip(VALUES) {
+            let lanes = $vector::splat(byte);
+            let values = $vector::splat(value).to_array();
+            holds(&$rt, &byte, $lanes::nibbles(lanes).to_array() == values);
+            holds(&$rt, &byte, $lanes::check_chunk(lanes) == (value < 16));
+            if value < 16 {
+                holds(&$rt, &byte, $lanes::unhex(lanes).to_array() == values);
+            }
+        }
+    };
+}
 
 #[test]
 fn worked_values(rt: HostRuntime) {
-    for (byte, value) in WORKED {
-        by_16_lanes(&rt, byte, value);
-        by_32_lanes(&rt, byte, value);
-    }
-}
-
-fn by_16_lanes(rt: &impl Abort, byte: u8, value: u8) {
-    let lanes = u8x16::splat(byte);
-    holds(rt, &byte, lanes16::nibbles(lanes).to_array() == [value; 16]);
-    holds(rt, &byte, lanes16::check_chunk(lanes) == (value < 16));
-    if value < 16 {
-        holds(rt, &byte, lanes16::unhex(lanes).to_array() == [value; 16]);
-    }
-}
-
-fn by_32_lanes(rt: &impl Abort, byte: u8, value: u8) {
-    let lanes = u8x32::splat(byte);
-    holds(rt, &byte, lanes32::nibbles(lanes).to_array() == [value; 32]);
-    holds(rt, &byte, lanes32::check_chunk(lanes) == (value < 16));
-    if value < 16 {
-        holds(rt, &byte, lanes32::unhex(lanes).to_array() == [value; 32]);
-    }
-}
-
-/// The first 16 worked bytes side by side, once and twice.
-#[test]
-fn values_side_by_side(rt: HostRuntime) {
+    worked!(rt, u8x16, lanes16);
+    worked!(rt, u8x32, lanes32);
+    // The first 16 bytes side by side, once and twice.
+    let values = lanes16::nibbles(u8x16::from_slice(&BYTES)).to_array();
+    assert!(rt; values.as_slice() == &VALUES[..16]);
     let mut bytes = [0; 32];
-    let mut values = [0; 32];
-    for place in 0..32usize {
-        (bytes[place], values[place]) = WORKED[place % 16];
-    }
-    let lanes = u8x16::from_slice(&bytes);
-    assert!(rt; lanes16::nibbles(lanes).to_array().as_slice() == &values[..16]);
-    let lanes = u8x32::from_array(bytes);
-    assert!(rt; lanes32::nibbles(lanes).to_array() == values);
+    bytes[..16].copy_from_slice(&BYTES[..16]);
+    bytes[16..].copy_from_slice(&BYTES[..16]);
+    let values = lanes32::nibbles(u8x32::from_array(bytes)).to_array();
+    assert!(rt; [&values[..16], &values[16..]] == [&VALUES[..16]; 2]);
 }
 
 #[test]
@@ -83,7 +60,7 @@ fn text_of_a_step(rt: HostRuntime) {
 }
 
 /// What decodes a step of vectors `V`. Generated proofs cover an option of a type parameter, and
-/// none of a vector, so the calls of `decode_chunk` stand in impls of this trait, which are proved
+/// none of a vector. So the calls of `decode_chunk` stand in impls of this trait, which are proved
 /// by hand, and all else is generic.
 trait DecodeChunk<V> {
     fn decode_chunk(text: [V; 2]) -> Option<V>;
@@ -101,11 +78,8 @@ impl DecodeChunk<u8x32> for Lanes32 {
     }
 }
 
-/// The bytes that a step spells, or `other` where it is refused.
-fn decoded_or<V, D: DecodeChunk<V>>(text: [V; 2], other: V) -> V
-where
-    V: Copy,
-{
+/// The bytes that a step spells, or `other` if it is refused.
+fn decoded_or<V: Copy, D: DecodeChunk<V>>(text: [V; 2], other: V) -> V {
     match D::decode_chunk(text) {
         Some(bytes) => bytes,
         None => other,
@@ -118,10 +92,7 @@ fn bytes_of_a_step(rt: HostRuntime) {
     let first = u8x16::from_array(*b"0011223344556677");
     let second = u8x16::from_array(*b"8899aAbBcCdDeEfF");
     let bytes = decoded_or::<u8x16, Lanes16>([first, second], other);
-    let spelled = [
-        0x00, 0x11, 0x22, 0x33, 0x44, 0x55, 0x66, 0x77, 0x88, 0x99, 0xAA, 0xBB, 0xCC, 0xDD, 0xEE,
-        0xFF,
-    ];
+    let spelled = *b"\x00\x11\x22\x33\x44\x55\x66\x77\x88\x99\xAA\xBB\xCC\xDD\xEE\xFF";
     assert!(rt; bytes.to_array() == spelled);
     let bad = u8x16::from_array(*b"001\x10223344556677");
     let refused = decoded_or::<u8x16, Lanes16>([bad, second], other);
@@ -132,11 +103,9 @@ fn bytes_of_a_step(rt: HostRuntime) {
 fn bytes_of_a_wide_step(rt: HostRuntime) {
     let other = u8x32::splat(0xEE);
     let text = u8x32::from_array(*b"0123456789abcdef0123456789ABCDEF");
-    let bytes = decoded_or::<u8x32, Lanes32>([text, text], other);
+    let bytes = decoded_or::<u8x32, Lanes32>([text, text], other).to_array();
     let half = [0x01, 0x23, 0x45, 0x67, 0x89, 0xAB, 0xCD, 0xEF];
-    for place in 0..32usize {
-        holds(&rt, &place, bytes.to_array()[place] == half[place % 8]);
-    }
+    assert!(rt; bytes.as_chunks::<8>().0 == [half; 4].as_slice());
     let bad = u8x32::from_array(*b"0123456789abcdef0123456789ABCDEG");
     let refused = decoded_or::<u8x32, Lanes32>([text, bad], other);
     assert!(rt; refused.to_array() == [0xEE; 32]);

@@ -12,25 +12,17 @@ mod encoding;
 #[cfg(test)]
 mod exhausted;
 #[cfg(test)]
-mod json;
-#[cfg(test)]
 mod kernels;
 #[cfg(test)]
 mod lanes;
 #[cfg(test)]
 mod long;
 #[cfg(test)]
-mod noting;
-#[cfg(test)]
-mod outputs;
-#[cfg(test)]
 mod printed;
 #[cfg(test)]
 mod refusals;
 #[cfg(test)]
 mod sinks;
-#[cfg(test)]
-mod sizes;
 #[cfg(test)]
 mod streaming;
 #[cfg(test)]

@@ -53,69 +53,44 @@ impl fmt::Display for EmptyPiece {
     }
 }
 
-#[test]
-fn an_empty_piece(rt: HostRuntime) -> Result<(), AllocError> {
-    assert!(rt; EmptyPiece.to_string(rt.alloc())?.as_str() == "true");
-    Ok(())
+/// Width, fill and alignment change nothing. A `#` as the fill makes no prefix.
+fn forms<D: fmt::Display>(alloc: Global, v: &D) -> Result<String, AllocError> {
+    format!(in alloc; "{v} {v:#} {v:*^20} {v:#020} {v:#<20} {v:*<20} {v:*>20}")
 }
 
 #[test]
 fn printed_forms(rt: HostRuntime) -> Result<(), Fail> {
+    let alloc = rt.alloc();
     let bytes = [0xDE, 0xAD, 0xBE, 0xEF];
     let lower = "deadbeef 0xdeadbeef deadbeef 0xdeadbeef deadbeef deadbeef deadbeef";
     let upper = "DEADBEEF 0xDEADBEEF DEADBEEF 0xDEADBEEF DEADBEEF DEADBEEF DEADBEEF";
-    prints(&rt, rt.alloc(), &display(&bytes), lower)?;
-    prints(&rt, rt.alloc(), &InRadix::Lower(display(&bytes)), lower)?;
-    prints(&rt, rt.alloc(), &InRadix::Upper(display(&bytes)), upper)?;
-    let text = format!(in rt.alloc(); "{}", ByLanes { bytes: &bytes })?;
-    assert!(rt; text.as_str() == "DEADBEEF");
+    assert!(rt; forms(alloc, &display(&bytes))?.as_str() == lower);
+    assert!(rt; forms(alloc, &InRadix::Lower(display(&bytes)))?.as_str() == lower);
+    assert!(rt; forms(alloc, &InRadix::Upper(display(&bytes)))?.as_str() == upper);
+    assert!(rt; ByLanes { bytes: &bytes }.to_string(alloc)?.as_str() == "DEADBEEF");
+    assert!(rt; EmptyPiece.to_string(alloc)?.as_str() == "true");
     Ok(())
 }
 
-/// Width, fill and alignment change nothing; `#` as the fill makes no prefix.
-fn prints<D: fmt::Display>(
-    rt: &impl Abort,
-    alloc: Global,
-    value: &D,
-    want: &str,
-) -> Result<(), Fail> {
-    let mut text = format!(in alloc; "{value} {value:#} {value:*^20} {value:#020}")?;
-    let aligned = format!(in alloc; " {value:#<20} {value:*<20} {value:*>20}")?;
-    text.push_str(&aligned)?;
-    holds(rt, &want, text.as_str() == want);
-    Ok(())
-}
-
-// 100,000 bytes, and each count that is printed in one piece.
+// Each count of bytes that is printed in one piece, and 100,000.
 #[test]
 fn printed_bytes(rt: HostRuntime) -> Result<(), Fail> {
     let alloc = rt.alloc();
     let data = bytes(alloc, 100_000)?;
     assert!(rt; data.len() == 100_000);
-    let lower = printed(alloc, &data, true, false)?;
+    let lower = printed(alloc, &data, false, false)?;
     let upper = printed(alloc, &data, true, true)?;
-    prints_both(&rt, alloc, &display(&data), &lower)?;
-    prints_both(&rt, alloc, &InRadix::Upper(display(&data)), &upper)?;
-    for count in 0..=2048usize {
-        let front = data.get(..count).unwrap_or(&[]);
-        let text = lower.get(..2 + 2 * count).unwrap_or("");
-        prints_both(&rt, alloc, &display(front), text)?;
+    let v = InRadix::Upper(display(&data));
+    assert!(rt; format!(in alloc; "{v:#}")? == upper);
+    assert!(rt; upper.strip_prefix("0x") == Some(v.to_string(alloc)?.as_str()));
+    for count in (0..=2048usize).chain([100_000]) {
+        let v = display(data.get(..count).unwrap_or(&[]));
+        let want = lower.get(..count.saturating_mul(2)).unwrap_or("");
+        let prefixed = format!(in alloc; "{v:#}")?;
+        let is_prefixed = prefixed.strip_prefix("0x") == Some(want);
+        let is_plain = v.to_string(alloc)?.as_str() == want;
+        holds(&rt, &count, is_prefixed && is_plain);
     }
-    Ok(())
-}
-
-/// A text, with its prefix and without.
-fn prints_both<D: fmt::Display>(
-    rt: &impl Abort,
-    alloc: Global,
-    value: &D,
-    prefixed: &str,
-) -> Result<(), AllocError> {
-    let text = format!(in alloc; "{value:#}")?;
-    holds(rt, &prefixed.len(), text.as_str() == prefixed);
-    let text = format!(in alloc; "{value}")?;
-    let body = prefixed.strip_prefix("0x");
-    holds(rt, &prefixed.len(), body == Some(text.as_str()));
     Ok(())
 }
 
@@ -139,17 +114,16 @@ impl Write for FailingWriter {
 #[test]
 fn nothing_follows_an_error(rt: HostRuntime) {
     let bytes = [0xABu8; 5000];
-    let rows = [(1, 1), (2, 2), (3, 3), (4, 3)];
-    for (fail_at, calls) in rows {
+    for (fail_at, calls) in [(1, 1), (2, 2), (3, 3), (4, 3)] {
         fails_once(&rt, &display(&bytes), fail_at, calls);
         fails_once(&rt, &ByLanes { bytes: &bytes }, fail_at, calls);
     }
 }
 
-/// A writer that fails at one call is called so often, and its error is answered.
+/// A writer that fails at one call gets that many calls, and its error is returned.
 fn fails_once<D: fmt::Display>(rt: &impl Abort, text: &D, fail_at: u32, calls: u32) {
     let mut writer = FailingWriter { calls: 0, fail_at };
     let has_failed = write!(writer, "{text}").is_err();
-    holds(rt, &fail_at, has_failed == (fail_at < 4));
-    holds(rt, &fail_at, writer.calls == calls);
+    let is_called = writer.calls == calls;
+    holds(rt, &fail_at, is_called && has_failed == (fail_at < 4));
 }

@@ -2,80 +2,71 @@
 
 ghost use Rattle.std.specs.Prelude.{IsTrue};
 
-use crate::texts::{holds, prints, refusal, shows};
+use crate::texts::{bad, holds};
+use const_hex::FromHexError::{self, InvalidStringLength, NoMemory, OddLength};
+use const_hex::SinkError;
 use const_hex::serde::JsonError;
 use const_hex::traits::HexFault;
-use const_hex::{FromHexError, SinkError};
-use std::alloc::AllocError;
+use std::alloc::{AllocError, Global};
 use std::test::Fail;
+
+const NOT_TEXT: JsonError<FromHexError> = JsonError::NotText;
+
+/// Whether a refusal prints this, also as the refusal of a JSON value.
+fn prints(alloc: Global, refusal: FromHexError, want: &str) -> Result<bool, AllocError> {
+    let in_json = JsonError::Hex(refusal).to_string(alloc)?;
+    Ok(refusal.to_string(alloc)?.as_str() == want && in_json.as_str() == want)
+}
 
 #[test]
 fn printed(rt: HostRuntime) -> Result<(), Fail> {
     let alloc = rt.alloc();
-    let rows = [
-        (FromHexError::OddLength, "odd number of digits"),
-        (FromHexError::InvalidStringLength, "invalid string length"),
-        (FromHexError::NoMemory, "out of memory"),
-    ];
-    for (refusal, want) in rows {
-        prints(&rt, alloc, &refusal, want)?;
-        prints(&rt, alloc, &JsonError::Hex(refusal), want)?;
-    }
-    let not_text: JsonError<FromHexError> = JsonError::NotText;
-    prints(&rt, alloc, &not_text, "expected a hex encoded string")?;
-    prints(&rt, alloc, &SinkError, "sink refused")?;
+    assert!(rt; prints(alloc, OddLength, "odd number of digits")?);
+    assert!(rt; prints(alloc, InvalidStringLength, "invalid string length")?);
+    assert!(rt; prints(alloc, NoMemory, "out of memory")?);
+    assert!(rt; NOT_TEXT.to_string(alloc)?.as_str() == "expected a hex encoded string");
+    assert!(rt; SinkError.to_string(alloc)?.as_str() == "sink refused");
     Ok(())
 }
 
 #[test]
 fn debug_forms(rt: HostRuntime) -> Result<(), Fail> {
-    let alloc = rt.alloc();
-    let odd = FromHexError::OddLength;
-    let not_text: JsonError<FromHexError> = JsonError::NotText;
-    shows(&rt, alloc, &odd, "OddLength")?;
-    let bad = refusal(b'z', 5);
-    shows(&rt, alloc, &bad, "InvalidHexCharacter { c: 'z', index: 5 }")?;
-    shows(&rt, alloc, &JsonError::Hex(odd), "Hex(OddLength)")?;
-    shows(&rt, alloc, &not_text, "NotText")?;
-    shows(&rt, alloc, &SinkError, "SinkError")
+    let refusals = (OddLength, bad(b'z', 5));
+    let text = format!(in rt.alloc(); "{refusals:?}")?;
+    assert!(rt; text.as_str() == "(OddLength, InvalidHexCharacter { c: 'z', index: 5 })");
+    let others = (JsonError::Hex(OddLength), NOT_TEXT, SinkError);
+    let text = format!(in rt.alloc(); "{others:?}")?;
+    assert!(rt; text.as_str() == "(Hex(OddLength), NotText, SinkError)");
+    Ok(())
 }
 
-// The character stands in Rust's debug form, and places have one figure to eight.
+// The character is printed in Rust's debug form. Places have one to eight figures.
 #[test]
 fn printed_places(rt: HostRuntime) -> Result<(), Fail> {
-    let rows: [(u8, usize, &str); 23] = [
-        (b'\n', 5, "invalid character '\\n' at position 5"),
-        (b'\'', 5, "invalid character '\\'' at position 5"),
-        (b'"', 5, "invalid character '\"' at position 5"),
-        (b'\\', 5, "invalid character '\\\\' at position 5"),
-        (b' ', 5, "invalid character ' ' at position 5"),
-        (b'z', 5, "invalid character 'z' at position 5"),
-        (0x00, 5, "invalid character '\\0' at position 5"),
-        (0x7F, 5, "invalid character '\\u{7f}' at position 5"),
-        (0x80, 5, "invalid character '\\u{80}' at position 5"),
-        (0x85, 5, "invalid character '\\u{85}' at position 5"),
-        (0xA0, 5, "invalid character '\\u{a0}' at position 5"),
-        (0xAD, 5, "invalid character '\\u{ad}' at position 5"),
-        (0xFF, 5, "invalid character '\u{FF}' at position 5"),
-        (b'z', 0, "invalid character 'z' at position 0"),
-        (b'z', 7, "invalid character 'z' at position 7"),
-        (b'z', 42, "invalid character 'z' at position 42"),
-        (b'z', 999, "invalid character 'z' at position 999"),
-        (b'z', 1000, "invalid character 'z' at position 1000"),
-        (b'z', 20_406, "invalid character 'z' at position 20406"),
-        (b'z', 135_790, "invalid character 'z' at position 135790"),
-        (b'z', 1_048_577, "invalid character 'z' at position 1048577"),
-        (b'z', 6_291_455, "invalid character 'z' at position 6291455"),
-        (
-            b'z',
-            87_654_321,
-            "invalid character 'z' at position 87654321",
-        ),
+    let rows: [(u8, &str); 13] = [
+        (b'\n', "invalid character '\\n' at position 5"),
+        (b'\'', "invalid character '\\'' at position 5"),
+        (b'"', "invalid character '\"' at position 5"),
+        (b'\\', "invalid character '\\\\' at position 5"),
+        (b' ', "invalid character ' ' at position 5"),
+        (b'z', "invalid character 'z' at position 5"),
+        (0x00, "invalid character '\\0' at position 5"),
+        (0x7F, "invalid character '\\u{7f}' at position 5"),
+        (0x80, "invalid character '\\u{80}' at position 5"),
+        (0x85, "invalid character '\\u{85}' at position 5"),
+        (0xA0, "invalid character '\\u{a0}' at position 5"),
+        (0xAD, "invalid character '\\u{ad}' at position 5"),
+        (0xFF, "invalid character '\u{FF}' at position 5"),
     ];
-    for (byte, place, want) in rows {
-        let refusal = refusal(byte, place);
-        prints(&rt, rt.alloc(), &refusal, want)?;
-        prints(&rt, rt.alloc(), &JsonError::Hex(refusal), want)?;
+    for (byte, want) in rows {
+        holds(&rt, &want, prints(rt.alloc(), bad(byte, 5), want)?);
+    }
+    let places = [
+        0, 7, 42, 999, 1000, 20_406, 135_790, 1_048_577, 6_291_455, 87_654_321,
+    ];
+    for place in places {
+        let want = format!(in rt.alloc(); "invalid character 'z' at position {place}")?;
+        holds(&rt, &want, prints(rt.alloc(), bad(b'z', place), &want)?);
     }
     Ok(())
 }
@@ -86,31 +77,26 @@ fn are_equal(a: SinkError, b: SinkError) -> bool
     a == b
 }
 
-// Each is equal to itself alone.
+// Each is equal only to itself.
 #[test]
 fn compared(rt: HostRuntime) {
     let refusals = [
-        refusal(b'z', 1),
-        refusal(b'z', 2),
-        refusal(b'x', 1),
-        FromHexError::OddLength,
-        FromHexError::InvalidStringLength,
-        FromHexError::NoMemory,
+        bad(b'z', 1),
+        bad(b'z', 2),
+        bad(b'x', 1),
+        OddLength,
+        InvalidStringLength,
+        NoMemory,
     ];
-    for i in 0..6usize {
-        let one = refusals[i];
-        holds(&rt, &one, JsonError::Hex(one) != JsonError::NotText);
-        holds(&rt, &one, JsonError::NotText != JsonError::Hex(one));
-        for j in 0..6usize {
-            let other = refusals[j];
-            let row = (one, other);
-            holds(&rt, &row, (one == other) == (i == j));
-            let are_equal = JsonError::Hex(one) == JsonError::Hex(other);
-            holds(&rt, &row, are_equal == (i == j));
+    for (i, one) in refusals.into_iter().enumerate() {
+        holds(&rt, &one, JsonError::Hex(one) != NOT_TEXT);
+        holds(&rt, &one, NOT_TEXT != JsonError::Hex(one));
+        for (j, other) in refusals.into_iter().enumerate() {
+            let are_equal = [one == other, JsonError::Hex(one) == JsonError::Hex(other)];
+            holds(&rt, &(one, other), are_equal == [i == j; 2]);
         }
     }
-    let not_text: JsonError<FromHexError> = JsonError::NotText;
-    assert!(rt; not_text == JsonError::NotText);
+    assert!(rt; NOT_TEXT == JsonError::NotText);
     assert!(rt; are_equal(SinkError, SinkError));
 }
 
@@ -121,14 +107,8 @@ fn faults<E: HexFault + Drop>(fault: &E) -> (bool, bool) {
 
 #[test]
 fn no_memory_alone_is_of_memory(rt: HostRuntime) {
-    let rows = [
-        (FromHexError::OddLength, false),
-        (FromHexError::InvalidStringLength, false),
-        (refusal(b'z', 0), false),
-        (FromHexError::NoMemory, true),
-    ];
-    for (fault, of_memory) in rows {
-        holds(&rt, &fault, faults(&fault) == (of_memory, true));
+    for fault in [OddLength, InvalidStringLength, bad(b'z', 0), NoMemory] {
+        holds(&rt, &fault, faults(&fault) == (fault == NoMemory, true));
     }
-    assert!(rt; FromHexError::from(AllocError) == FromHexError::NoMemory);
+    assert!(rt; FromHexError::from(AllocError) == NoMemory);
 }

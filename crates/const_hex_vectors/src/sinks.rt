@@ -1,14 +1,21 @@
-//! What reaches a sink: pieces of each size, and long texts with ample memory.
+//! What reaches a sink or a slice through outputs that gather, and long texts with ample memory.
 
-use crate::kernels::fronts::Habits;
-use crate::kernels::{Trial, with_each_kernel};
+ghost use Rattle.std.specs.Prelude.{◌<◌};
+
+use crate::kernels::{Habits, Trial};
 use crate::texts::{bytes, holds, printed};
-use const_hex::{BufferedHex, BufferedOutput, Kernel, Output, PieceSink, Sink, SinkOutput};
+use const_hex::{
+    BufferedHex, BufferedOutput, Kernel, Output, PieceSink, Sink, SinkOutput, SliceOutput,
+};
 use std::alloc::Global;
 use std::process::Abort;
 use std::test::Fail;
 
-// 8 MB in all, and memory is never wanting.
+type ToSink<'a, const N: usize> = BufferedOutput<SinkOutput<'a, PieceSink>, N>;
+
+type ToSlice<'a, const N: usize> = BufferedOutput<SliceOutput<'a>, N>;
+
+// The pieces have 8 MB, and no call is refused.
 #[test]
 fn pieces_of_each_size(rt: HostRuntime) -> Result<(), Fail> {
     let alloc = rt.alloc();
@@ -39,49 +46,134 @@ impl Trial for Stream<'_> {
     fn run<K: Kernel>(&self, rt: &impl Abort, alloc: Global, kernel: Habits) -> Result<(), Fail> {
         let mut sink = PieceSink::new(alloc, 0);
         let answer = BufferedHex::<false, true>::new(self.data).write_with::<K, _>(&mut sink);
-        holds(rt, &kernel.name, answer == Ok(()));
+        holds(rt, &kernel, answer == Ok(()));
         let mut rest = self.text;
         for piece in sink.pieces() {
             let is_large = piece.len() >= 4033 || piece.as_str() == rest;
-            holds(rt, &kernel.name, is_large && piece.len() <= 4096);
+            holds(rt, &kernel, is_large && piece.len() <= 4096);
             rest = rest.strip_prefix(piece.as_str()).unwrap_or("another text");
         }
-        holds(rt, &kernel.name, rest.is_empty());
+        holds(rt, &kernel, rest.is_empty());
         Ok(())
     }
 }
 
 #[test]
 fn long_streams(rt: HostRuntime) -> Result<(), Fail> {
-    let data = bytes(rt.alloc(), 100_000)?;
-    let text = printed(rt.alloc(), &data, true, false)?;
-    let stream = Stream {
-        data: &data,
-        text: &text,
-    };
-    with_each_kernel(&rt, rt.alloc(), &stream)
+    let data = &bytes(rt.alloc(), 100_000)?;
+    let text = &printed(rt.alloc(), data, true, false)?;
+    Stream { data, text }.with_each_kernel(&rt, rt.alloc())
 }
 
-// A piece of just the size that is gathered is handed on at once, behind what was pending: what is
-// pending where the output is dropped is lost.
+// An output that gathers four bytes hands on a piece of four at once, after what it has gathered. A
+// dropped output loses what it has gathered.
 #[test]
 fn pieces_of_just_the_size(rt: HostRuntime) {
     let mut sink = PieceSink::new(rt.alloc(), 0);
-    write_and_drop(&mut sink, "", "cdef");
-    write_and_drop(&mut sink, "ab", "cdef");
-    write_and_drop(&mut sink, "", "cde");
-    assert!(rt; sink.pieces().len() == 3);
-    for (piece, want) in sink.pieces().iter().zip(["cdef", "ab", "cdef"]) {
-        holds(&rt, &want, piece.as_str() == want);
+    for pieces in [["", "cdef"], ["ab", "cdef"], ["", "cde"]] {
+        assert!(rt; !sink.refused());
+        let mut output = ToSink::<4>::new(SinkOutput::new(&mut sink));
+        for piece in pieces {
+            put(&rt, &mut output, piece.as_bytes());
+        }
+    }
+    assert!(rt; has_pieces(&sink, &["cdef", "ab", "cdef"]));
+}
+
+pub(crate) fn has_pieces(sink: &PieceSink, want: &[&str]) -> bool {
+    let pieces = sink.pieces().iter();
+    pieces.map(String::as_str).eq(want.iter().copied())
+}
+
+/// Writes a piece for which the output says that there is room.
+fn put<O: Output>(rt: &impl Abort, output: &mut O, bytes: &[u8]) {
+    let fits = match output.remaining() {
+        Some(room) => bytes.len() <= room,
+        None => true,
+    };
+    assert!(rt; fits);
+    assert!(rt; bytes.is_ascii());
+    if bytes.len() == 1 {
+        output.write_byte(bytes[0]);
+    } else {
+        output.write(bytes);
     }
 }
 
-/// Writes two pieces, where four bytes are gathered.
-fn write_and_drop(sink: &mut PieceSink, first: &str, second: &str) {
-    if sink.refused() || !first.is_ascii() || !second.is_ascii() {
-        return;
+fn put_all<O: Output>(rt: &impl Abort, output: &mut O) {
+    for piece in ["a", "bc", "defghijk", "l", ""] {
+        put(rt, output, piece.as_bytes());
     }
-    let mut output = BufferedOutput::<SinkOutput<'_, PieceSink>, 4>::new(SinkOutput::new(sink));
-    output.write(first.as_bytes());
-    output.write(second.as_bytes());
+}
+
+#[test]
+fn pieces_that_are_handed_on(rt: HostRuntime) {
+    hands_on::<1>(&rt, rt.alloc(), &["a", "bc", "defghijk", "l"]);
+    hands_on::<4>(&rt, rt.alloc(), &["abc", "defghijk", "l"]);
+    hands_on::<8>(&rt, rt.alloc(), &["abc", "defghijk", "l"]);
+    hands_on::<64>(&rt, rt.alloc(), &["abcdefghijkl"]);
+}
+
+fn hands_on<const N: usize>(rt: &impl Abort, alloc: Global, pieces: &[&str])
+    requires { (0 < N) × (N < 100) }
+{
+    let mut sink = PieceSink::new(alloc, 0);
+    let mut output = ToSink::<N>::new(SinkOutput::new(&mut sink));
+    put_all(rt, &mut output);
+    assert!(rt; output.finish().finish().is_ok());
+    let mut text = [0u8; 12];
+    let mut output = ToSlice::<N>::new(SliceOutput::new(&mut text));
+    put_all(rt, &mut output);
+    let _ = output.finish();
+    holds(rt, &N, has_pieces(&sink, pieces));
+    holds(rt, &N, text == *b"abcdefghijkl");
+}
+
+#[test]
+fn room_that_remains(rt: HostRuntime) {
+    let mut text = [0u8; 12];
+    let slice = SliceOutput::new(&mut text);
+    assert!(rt; slice.remaining() == Some(12));
+    let mut output = ToSlice::<4>::new(slice);
+    put(&rt, &mut output, b"a");
+    assert!(rt; output.remaining() == Some(11));
+    put(&rt, &mut output, b"bc");
+    assert!(rt; output.remaining() == Some(9));
+    let mut sink = PieceSink::new(rt.alloc(), 0);
+    let output = ToSink::<4>::new(SinkOutput::new(&mut sink));
+    assert!(rt; output.remaining().is_none());
+}
+
+#[test]
+fn pieces_of_each_two_sizes(rt: HostRuntime) {
+    for first in 0..17usize {
+        for second in 0..17usize {
+            fills::<1>(&rt, first, second);
+            fills::<2>(&rt, first, second);
+            fills::<3>(&rt, first, second);
+            fills::<4>(&rt, first, second);
+            fills::<8>(&rt, first, second);
+            fills::<16>(&rt, first, second);
+            fills::<64>(&rt, first, second);
+        }
+    }
+}
+
+/// Writes that many `a`, an empty piece, that many `b`, and one `c`, into 33 zero bytes.
+fn fills<const N: usize>(rt: &impl Abort, first: usize, second: usize)
+    requires { (0 < N) × (N < 100) }
+{
+    assert!(rt; first < 17 && second < 17);
+    let mut want = [0u8; 33];
+    want[..first].fill(b'a');
+    want[first..first + second].fill(b'b');
+    want[first + second] = b'c';
+    let mut text = [0u8; 33];
+    let mut output = ToSlice::<N>::new(SliceOutput::new(&mut text));
+    put(rt, &mut output, [b'a'; 16].get(..first).unwrap_or(&[]));
+    put(rt, &mut output, b"");
+    put(rt, &mut output, [b'b'; 16].get(..second).unwrap_or(&[]));
+    put(rt, &mut output, b"c");
+    let _ = output.finish();
+    holds(rt, &(N, first, second), text == want);
 }

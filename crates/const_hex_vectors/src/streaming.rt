@@ -1,23 +1,67 @@
-//! The text of bytes, handed to a sink in each way, also to one that refuses.
+//! The text of bytes, handed to sinks in each way, also to sinks that refuse.
 
-ghost use Rattle.std.specs.Prelude.{◌≡◌, false};
+ghost use Rattle.std.specs.Prelude.{◌≡◌, false, None, refl};
 
-use crate::kernels::fronts::{Habits, Pieces};
-use crate::kernels::{Trial, with_each_kernel};
-use crate::noting::NotingSink;
+use crate::kernels::{Habits, Trial};
+use crate::sinks::has_pieces;
 use crate::texts::{bytes, cut, holds, printed};
 use const_hex::serde::serialize_inner;
-use const_hex::{BufferedHex, Kernel, Output, PieceSink, Sink, SinkError, SinkOutput};
+use const_hex::{BufferedHex, Kernel, Output, PieceSink, Plain, Sink, SinkError, SinkOutput};
 use std::alloc::{AllocError, Global};
-use std::marker::PhantomData;
 use std::process::Abort;
 use std::test::Fail;
 
-// A count of bytes, whether a prefix is written, and the sizes of the calls: by kernels that write
-// digit by digit or pair by pair, by 16 lanes, and by 32.
-type Row<'a> = (usize, bool, [&'a [usize]; 3]);
+/// Keeps the text of every call, also of a call that it refuses. It refuses the call of the given
+/// number, and any call if memory is refused.
+#[derive(Drop)]
+struct NotingSink {
+    alloc: Global,
+    noted: Vec<String>,
+    refuse_at: usize,
+    refused: bool,
+}
 
-const ROWS: [Row<'_>; 16] = [
+impl NotingSink {
+    fn new(alloc: Global, refuse_at: usize) -> NotingSink
+        ensures { result.refused ≡ false }
+    {
+        NotingSink {
+            alloc,
+            noted: Vec::new(alloc),
+            refuse_at,
+            refused: false,
+        }
+    }
+}
+
+impl Sink for NotingSink {
+    ghost step = { λ s piece t. t.refuse_at ≡ s.refuse_at };
+
+    ghost is_refused = { λ s. s.refused };
+
+    ghost told = { λ s. None };
+
+    fn refused(&self) -> bool {
+        self.refused
+    }
+
+    fn write_str(&mut self, s: &str) -> Result<(), SinkError> {
+        let is_noted = match String::from_str(self.alloc, s) {
+            Ok(note) => self.noted.push(note).is_ok(),
+            Err(AllocError) => false,
+        };
+        self.refused = !is_noted || self.noted.len() == self.refuse_at;
+        if self.refused { Err(SinkError) } else { Ok(()) }
+    }
+
+    ghost tells = { λ s piece t h. refl };
+}
+
+// A count of bytes, whether a prefix is written, and the sizes of the calls: by a kernel that
+// writes one or two digits at once, by 16 lanes, and by 32.
+type Row = (usize, bool, [&'static [usize]; 3]);
+
+const ROWS: [Row; 16] = [
     (0, false, [&[]; 3]),
     (0, true, [&[2]; 3]),
     (1, false, [&[2]; 3]),
@@ -43,120 +87,90 @@ const ROWS: [Row<'_>; 16] = [
 #[test]
 fn calls_in_each_way(rt: HostRuntime) -> Result<(), Fail> {
     for (count, prefix, sizes) in ROWS {
-        let data = bytes(rt.alloc(), count)?;
+        let data = &bytes(rt.alloc(), count)?;
         if prefix {
-            in_each_way::<false, true>(&rt, rt.alloc(), &data, sizes)?;
-            in_each_way::<true, true>(&rt, rt.alloc(), &data, sizes)?;
+            Stream::<false, true> { data, sizes }.in_each_way(&rt, rt.alloc())?;
+            Stream::<true, true> { data, sizes }.in_each_way(&rt, rt.alloc())?;
         } else {
-            in_each_way::<false, false>(&rt, rt.alloc(), &data, sizes)?;
-            in_each_way::<true, false>(&rt, rt.alloc(), &data, sizes)?;
+            Stream::<false, false> { data, sizes }.in_each_way(&rt, rt.alloc())?;
+            Stream::<true, false> { data, sizes }.in_each_way(&rt, rt.alloc())?;
         }
     }
     Ok(())
 }
 
-// The kernel of calls that name none is that of 32 lanes. As a part of a JSON text, an empty text
-// has a call too.
-fn in_each_way<const UPPER: bool, const PREFIX: bool>(
-    rt: &impl Abort,
-    alloc: Global,
-    data: &[u8],
-    [plain, lanes16, lanes32]: [&[usize]; 3],
-) -> Result<(), Fail> {
-    let text = printed(alloc, data, PREFIX, UPPER)?;
-    let calls = Calls::<UPPER, PREFIX> {
-        data: data.to_vec(alloc)?,
-        plain: pieces_of(rt, alloc, &text, plain)?,
-        lanes16: pieces_of(rt, alloc, &text, lanes16)?,
-        lanes32: pieces_of(rt, alloc, &text, lanes32)?,
-    };
-    with_each_kernel(rt, alloc, &calls)?;
-    streams::<ByNoName<UPPER, PREFIX>>(rt, alloc, data, &calls.lanes32);
-    let sizes = if lanes32.is_empty() { &[0] } else { lanes32 };
-    let pieces = pieces_of(rt, alloc, &text, sizes)?;
-    streams::<AsJson<UPPER, PREFIX>>(rt, alloc, data, &pieces);
-    Ok(())
-}
-
-/// Bytes, and the calls that bring their text.
+/// Bytes, and the sizes of the calls that bring their text, as in a row.
 #[derive(Drop)]
-struct Calls<const UPPER: bool, const PREFIX: bool> {
-    data: Vec<u8>,
-    plain: Vec<String>,
-    lanes16: Vec<String>,
-    lanes32: Vec<String>,
+struct Stream<'a, const UPPER: bool, const PREFIX: bool> {
+    data: &'a [u8],
+    sizes: [&'static [usize]; 3],
 }
 
-impl<const UPPER: bool, const PREFIX: bool> Trial for Calls<UPPER, PREFIX> {
+/// How the text of bytes is handed to a sink: by a kernel, by the fixed kernel, or as a part of a
+/// JSON text.
+#[derive(Clone, Copy, Debug)]
+enum Way {
+    ByKernel(Habits),
+    ByNoName,
+    AsJson,
+}
+
+impl<const UPPER: bool, const PREFIX: bool> Trial for Stream<'_, UPPER, PREFIX> {
     fn run<K: Kernel>(&self, rt: &impl Abort, alloc: Global, kernel: Habits) -> Result<(), Fail> {
-        let pieces = match kernel.pieces {
-            Pieces::Digits | Pieces::Pairs => &self.plain,
-            Pieces::Steps16 => &self.lanes16,
-            Pieces::Steps32 => &self.lanes32,
+        self.calls::<K>(rt, alloc, Way::ByKernel(kernel))
+    }
+}
+
+impl<const UPPER: bool, const PREFIX: bool> Stream<'_, UPPER, PREFIX> {
+    fn in_each_way(&self, rt: &impl Abort, alloc: Global) -> Result<(), Fail> {
+        self.with_each_kernel(rt, alloc)?;
+        self.calls::<Plain>(rt, alloc, Way::ByNoName)?;
+        self.calls::<Plain>(rt, alloc, Way::AsJson)
+    }
+
+    /// Tries sinks that never refuse, that refuse each call in turn, and that would refuse the call
+    /// after the last. In a JSON text, an empty text has a call too.
+    fn calls<K: Kernel>(&self, rt: &impl Abort, alloc: Global, way: Way) -> Result<(), Fail> {
+        let [by_digits, by_lanes16, by_lanes32] = self.sizes;
+        let sizes = match way {
+            Way::ByKernel(kernel) if !kernel.writes.contains(&32) => by_digits,
+            Way::ByKernel(kernel) if !kernel.writes.contains(&64) => by_lanes16,
+            Way::AsJson if by_lanes32.is_empty() => &[0],
+            _ => by_lanes32,
         };
-        streams::<By<K, UPPER, PREFIX>>(rt, alloc, &self.data, pieces);
+        let pieces = cut(alloc, &printed(alloc, self.data, PREFIX, UPPER)?, sizes)?;
+        let row = (way, self.data.len(), sizes);
+        holds(rt, &row, pieces.len() == sizes.len());
+        for refuse_at in 0..pieces.len() + 2 {
+            let (noted, accepted) = until(&pieces, refuse_at);
+            let is_refused = accepted.len() < noted.len();
+            let mut sink = NotingSink::new(alloc, refuse_at);
+            let answer = self.hand_over::<K, NotingSink>(way, &mut sink);
+            let is_told = [answer.is_err(), sink.refused()] == [is_refused; 2];
+            let is_noted = sink.noted.as_slice() == noted;
+            holds(rt, &(row, refuse_at), is_told && is_noted);
+            let mut sink = PieceSink::new(alloc, refuse_at);
+            let answer = self.hand_over::<K, PieceSink>(way, &mut sink);
+            let is_kept = answer.is_err() == is_refused && sink.pieces() == accepted;
+            let is_called = !sink.no_memory() && sink.calls() == noted.len();
+            holds(rt, &(row, refuse_at), is_kept && is_called);
+        }
         Ok(())
     }
-}
 
-/// A text in pieces of just these sizes.
-fn pieces_of(
-    rt: &impl Abort,
-    alloc: Global,
-    text: &str,
-    sizes: &[usize],
-) -> Result<Vec<String>, AllocError> {
-    let pieces = cut(alloc, text, sizes)?;
-    holds(rt, &sizes, pieces.len() == sizes.len());
-    Ok(pieces)
-}
-
-/// A way of handing the text of bytes to a sink.
-trait Way {
-    fn hand_over<S: Sink>(data: &[u8], sink: &mut S) -> Result<(), SinkError>
-        requires { S.is_refused sink.old ≡ false };
-}
-
-/// By a kernel.
-struct By<K, const UPPER: bool, const PREFIX: bool> {
-    kernel: PhantomData<K>,
-}
-
-impl<K: Kernel, const UPPER: bool, const PREFIX: bool> Way for By<K, UPPER, PREFIX> {
-    fn hand_over<S: Sink>(data: &[u8], sink: &mut S) -> Result<(), SinkError> {
-        BufferedHex::<UPPER, PREFIX>::new(data).write_with::<K, S>(sink)
+    fn hand_over<K: Kernel, S: Sink>(&self, way: Way, sink: &mut S) -> Result<(), SinkError>
+        requires { S.is_refused sink.old ≡ false }
+    {
+        let text = BufferedHex::<UPPER, PREFIX>::new(self.data);
+        match way {
+            Way::ByKernel(_) => text.write_with::<K, S>(sink),
+            Way::ByNoName => text.write_to(sink),
+            Way::AsJson => serialize_inner::<UPPER, PREFIX, S>(self.data, sink),
+        }
     }
 }
 
-/// By the kernel of calls that name none.
-struct ByNoName<const UPPER: bool, const PREFIX: bool>;
-
-impl<const UPPER: bool, const PREFIX: bool> Way for ByNoName<UPPER, PREFIX> {
-    fn hand_over<S: Sink>(data: &[u8], sink: &mut S) -> Result<(), SinkError> {
-        BufferedHex::<UPPER, PREFIX>::new(data).write_to(sink)
-    }
-}
-
-/// As a part of a JSON text.
-struct AsJson<const UPPER: bool, const PREFIX: bool>;
-
-impl<const UPPER: bool, const PREFIX: bool> Way for AsJson<UPPER, PREFIX> {
-    fn hand_over<S: Sink>(data: &[u8], sink: &mut S) -> Result<(), SinkError> {
-        serialize_inner::<UPPER, PREFIX, S>(data, sink)
-    }
-}
-
-/// With sinks that never refuse, that refuse at each call, and that are set to refuse at the call
-/// after the last.
-fn streams<W: Way>(rt: &impl Abort, alloc: Global, data: &[u8], pieces: &[String]) {
-    for refuse_at in 0..pieces.len() + 2 {
-        let (noted, accepted) = until(pieces, refuse_at);
-        notes::<W>(rt, (alloc, refuse_at), data, noted, accepted);
-        keeps::<W>(rt, (alloc, refuse_at), data, noted, accepted);
-    }
-}
-
-/// The pieces of all calls, and those that are accepted, where one call of a number is refused.
+/// The pieces of all calls, and the accepted ones, if the call of that number is refused.
 fn until(pieces: &[String], refuse_at: usize) -> (&[String], &[String]) {
     if refuse_at == 0 || refuse_at > pieces.len() {
         (pieces, pieces)
@@ -165,46 +179,12 @@ fn until(pieces: &[String], refuse_at: usize) -> (&[String], &[String]) {
     }
 }
 
-fn notes<W: Way>(
-    rt: &impl Abort,
-    (alloc, refuse_at): (Global, usize),
-    data: &[u8],
-    noted: &[String],
-    accepted: &[String],
-) {
-    let row = (data.len(), refuse_at);
-    let mut sink = NotingSink::new(alloc, refuse_at);
-    let answer = W::hand_over::<NotingSink>(data, &mut sink);
-    holds(rt, &row, answer.is_err() == (accepted.len() < noted.len()));
-    holds(rt, &row, answer.is_err() == sink.refused());
-    holds(rt, &row, sink.noted.as_slice() == noted);
-}
-
-fn keeps<W: Way>(
-    rt: &impl Abort,
-    (alloc, refuse_at): (Global, usize),
-    data: &[u8],
-    noted: &[String],
-    accepted: &[String],
-) {
-    let row = (data.len(), refuse_at);
-    let mut sink = PieceSink::new(alloc, refuse_at);
-    let answer = W::hand_over::<PieceSink>(data, &mut sink);
-    holds(rt, &row, answer.is_err() == (accepted.len() < noted.len()));
-    holds(rt, &row, !sink.no_memory() && sink.calls() == noted.len());
-    holds(rt, &row, sink.pieces() == accepted);
-}
-
-// Two forms, one behind the other into one sink.
 #[test]
 fn two_texts_into_one_sink(rt: HostRuntime) -> Result<(), SinkError> {
     let mut sink = PieceSink::new(rt.alloc(), 0);
     BufferedHex::<false, true>::new(b"kiwi").write_to(&mut sink)?;
     BufferedHex::<true, false>::new(b"kiwi").write_to(&mut sink)?;
-    assert!(rt; sink.pieces().len() == 2);
-    for (piece, want) in sink.pieces().iter().zip(["0x6b697769", "6B697769"]) {
-        assert!(rt; piece.as_str() == want);
-    }
+    assert!(rt; has_pieces(&sink, &["0x6b697769", "6B697769"]));
     Ok(())
 }
 
@@ -213,22 +193,13 @@ fn writes_after_a_refusal(rt: HostRuntime) -> Result<(), Fail> {
     let pieces = cut(rt.alloc(), "onetwo", &[3, 3])?;
     for refuse_at in 1..3usize {
         let mut sink = NotingSink::new(rt.alloc(), refuse_at);
-        assert!(rt; writes_on(&mut sink).is_err());
+        let mut output = SinkOutput::new(&mut sink);
+        for piece in ["one", "two", "three", "four", "five"] {
+            output.write(piece.as_bytes());
+        }
+        assert!(rt; output.finish().is_err());
         let (noted, _) = until(&pieces, refuse_at);
-        assert!(rt; sink.noted.as_slice() == noted);
+        holds(&rt, &refuse_at, sink.noted.as_slice() == noted);
     }
     Ok(())
-}
-
-/// Writes five pieces, whatever the sink says.
-fn writes_on(sink: &mut NotingSink) -> Result<(), SinkError>
-    requires { sink.old.refused ≡ false }
-{
-    let mut output = SinkOutput::new(sink);
-    output.write(b"one");
-    output.write(b"two");
-    output.write(b"three");
-    output.write(b"four");
-    output.write(b"five");
-    output.finish()
 }

@@ -9,10 +9,9 @@ fn digits_of_values(rt: HostRuntime) -> Result<(), Fail> {
     assert!(rt; HEX_CHARS_LOWER == b"0123456789abcdef");
     assert!(rt; HEX_CHARS_UPPER == b"0123456789ABCDEF");
     for v in 0..16u8 {
-        let lower = format!(in rt.alloc(); "{v:x}")?;
-        let upper = format!(in rt.alloc(); "{v:X}")?;
-        holds(&rt, &v, lower.as_bytes() == [digit_at(false, v)].as_slice());
-        holds(&rt, &v, upper.as_bytes() == [digit_at(true, v)].as_slice());
+        let texts = format!(in rt.alloc(); "{v:x}{v:X}")?;
+        let digits = [digit_at(false, v), digit_at(true, v)];
+        holds(&rt, &v, texts.as_bytes() == digits.as_slice());
     }
     Ok(())
 }
@@ -22,12 +21,9 @@ fn values_of_digits(rt: HostRuntime) {
     assert!(rt; NIL == 255);
     let mut digits = 0u32;
     for b in 0..=255u8 {
-        let want = match char::from(b).to_digit(16) {
-            Some(value) => value,
-            None => 255,
-        };
-        holds(&rt, &b, u32::from(HEX_DECODE_LUT[b as usize]) == want);
-        holds(&rt, &b, u32::from(value_at(b)) == want);
+        let want = char::from(b).to_digit(16).unwrap_or(255);
+        let values = [HEX_DECODE_LUT[b as usize], value_at(b)];
+        holds(&rt, &b, values.map(u32::from) == [want; 2]);
         if want < 16 {
             digits = digits.wrapping_add(1);
         }
