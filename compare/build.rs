@@ -40,7 +40,7 @@ fn main() {
     }
 }
 
-/// Answers the folder that is named, whose libraries are linked anew where they are new.
+/// Returns the named folder. If its libraries change, the program is linked again.
 fn taken(folder: OsString) -> PathBuf {
     let folder = PathBuf::from(folder);
     for library in LIBRARIES {

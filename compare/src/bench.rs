@@ -47,7 +47,7 @@ struct Row {
 }
 
 impl Row {
-    /// The times of a side, where it has that call.
+    /// The times of a side, if it has that call.
     fn of(&self, side: Side) -> Option<Times> {
         let found = self.times.iter().find(|(known, _)| *known == side);
         found.map(|(_, times)| *times)

@@ -14,10 +14,10 @@ usage: compare answers [--intended] < QUESTIONS
 
 Without numbers the seed is 1 and the count 1000000. README.md says what each command does.";
 
-/// The seed where none is given.
+/// The seed, if none is given.
 const SEED: u64 = 1;
 
-/// How many questions there are where no number is given.
+/// How many questions there are, if no number is given.
 const COUNT: usize = 1_000_000;
 
 /// What is asked for.
@@ -48,7 +48,7 @@ impl Command {
     }
 }
 
-/// The seed and the count, where they are numbers or left out.
+/// The seed and the count, if they are numbers or absent.
 fn asked(numbers: &[&str]) -> Option<Asked> {
     let (seed, count) = match numbers {
         [] => (SEED, COUNT),

@@ -31,7 +31,7 @@ pub fn run(output: &mut impl Write) -> io::Result<bool> {
     Ok(true)
 }
 
-/// Writes the row of a call by a build, where this processor can run it.
+/// Writes the row of a call by a build, if this processor can run it.
 fn write_row(
     output: &mut impl Write,
     place: usize,

@@ -119,16 +119,16 @@ impl fmt::Display for Refusal {
 
 impl std::error::Error for Refusal {}
 
-/// How long the text of so many bytes is, or `usize::MAX` where that does not fit.
+/// The length of the text of so many bytes, or `usize::MAX` if it does not fit.
 pub fn encoded_length(bytes: usize, form: Form) -> usize {
     // SAFETY: a number and a `bool` are passed.
     unsafe { const_hex_encoded_length(bytes, form.prefix) }
 }
 
-/// Fills the text of bytes, where there is room for just that text, and else tells so by `false`.
+/// Fills the text of bytes. If the room is not exactly that text's length, returns false.
 pub fn encode(bytes: &[u8], form: Form, text: &mut [u8]) -> bool {
     let (from, to) = (bytes.as_ptr(), text.as_mut_ptr());
-    // SAFETY: each pointer and its length are those of a slice; `text` is borrowed alone.
+    // SAFETY: each pointer and length come from one slice; `text` is borrowed exclusively.
     unsafe { const_hex_encode(from, bytes.len(), form.prefix, form.upper, to, text.len()) }
 }
 
@@ -142,11 +142,11 @@ pub fn encoded(bytes: &[u8], form: Form) -> String {
     String::from_utf8(text).expect("a text has digits alone")
 }
 
-/// Fills the bytes that a text spells, where they are just so many.
+/// Fills the bytes that a text spells, if they are exactly so many.
 pub fn decode(text: &[u8], bytes: &mut [u8]) -> Result<(), Refusal> {
     let mut raw = RawRefusal::default();
     let (from, to) = (text.as_ptr(), bytes.as_mut_ptr());
-    // SAFETY: each pointer and its length are those of a slice; `bytes` and `raw` are borrowed alone.
+    // SAFETY: each pointer and length come from one slice; `bytes` and `raw` are borrowed exclusively.
     let done = unsafe { const_hex_decode(from, text.len(), to, bytes.len(), &mut raw) };
     if done {
         Ok(())
@@ -173,7 +173,7 @@ pub fn decode_front(text: &[u8], bytes: &mut [u8]) -> Result<usize, Refusal> {
 /// Whether a text can be decoded, and else why not.
 pub fn check(text: &[u8]) -> Result<(), Refusal> {
     let mut raw = RawRefusal::default();
-    // SAFETY: the pointer and its length are those of a slice; `raw` is borrowed alone.
+    // SAFETY: the pointer and length come from one slice; `raw` is borrowed exclusively.
     let done = unsafe { const_hex_check(text.as_ptr(), text.len(), &mut raw) };
     if done {
         Ok(())
@@ -184,7 +184,7 @@ pub fn check(text: &[u8]) -> Result<(), Refusal> {
 
 /// Whether every byte of a text is a digit.
 pub fn check_raw(text: &[u8]) -> bool {
-    // SAFETY: the pointer and its length are those of a slice.
+    // SAFETY: the pointer and length come from one slice.
     unsafe { const_hex_check_raw(text.as_ptr(), text.len()) }
 }
 

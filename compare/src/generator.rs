@@ -1,9 +1,9 @@
 //! The command `questions`: questions without end, the same for the same seed.
 //!
-//! Every operation is asked in turn. Lengths and the places of bad bytes lie mostly where a kernel
-//! ends a step and begins another, every byte that is no digit takes its turn as the bad one, and
-//! texts have no prefix, `0x` or `0X`. One question in ten is odd: any length up to a great one, many
-//! bad bytes, other starts, JSON that few programs write, wide fields, and late refusals.
+//! Every operation is asked in turn. Most lengths and places of bad bytes are near the end of a
+//! kernel's step. Every byte that is not a digit takes its turn as the bad one. Texts have no prefix,
+//! `0x` or `0X`. One question in ten is unusual: any length up to a great one, many bad bytes, other
+//! starts, JSON that few programs write, wide fields, and late refusals.
 
 mod json;
 mod odd;

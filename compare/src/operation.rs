@@ -10,7 +10,7 @@ pub const OFFERED: [usize; 15] = [0, 1, 2, 3, 4, 8, 12, 16, 20, 32, 33, 48, 64, 
 pub enum Operation {
     /// The text of bytes, owned.
     Encode(Form),
-    /// The text of bytes, printed, in a field of so many characters where a number stands.
+    /// The text of bytes, printed; if there is a number, in a field of so many characters.
     Display(Hole),
     /// The bytes of a text, owned.
     Decode,

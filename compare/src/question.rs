@@ -11,7 +11,7 @@ const LARGEST: usize = 65_536;
 /// The most bytes of a line, without its line break.
 pub const LONGEST: usize = 65_536;
 
-/// An operation, the bytes that it is asked of, and a number where there is one.
+/// An operation, its bytes, and a number if there is one.
 #[derive(Clone, Debug, PartialEq, Eq)]
 pub struct Question {
     pub operation: Operation,
@@ -89,7 +89,7 @@ fn number_of(word: &str) -> Result<usize, Fault> {
     number.ok_or(Fault::NotNumber)
 }
 
-/// Whether an operation goes with such a number.
+/// Whether an operation takes such a number.
 fn takes(operation: Operation, number: Option<usize>) -> bool {
     match operation.numbers() {
         Numbers::Absent => number.is_none(),

@@ -5,7 +5,7 @@ use crate::answers::decoded;
 use crate::question::Fault;
 use const_hex::{FromHex, FromHexError};
 
-/// Makes a call at the length of its array, where it is offered.
+/// Makes a call at the length of its array, if that length is offered.
 macro_rules! at_size {
     ($call:ident, $input:ident, $size:ident) => {
         at_size!($call, $input, $size: 0 1 2 3 4 8 12 16 20 32 33 48 64 65 128)

@@ -6,7 +6,7 @@ use crate::operation::{Case, Form, Prefix};
 use crate::question::Fault;
 use const_hex::Buffer;
 
-/// Makes a call at the count of the bytes, where that is offered.
+/// Makes a call at the number of the bytes, if that number is offered.
 macro_rules! at_count {
     ($call:ident, $bytes:ident, $form:ident) => {
         at_count!($call, $bytes, $form: 0 1 2 3 4 8 12 16 20 32 33 48 64 65 128)

@@ -22,13 +22,13 @@ pub fn serialize(bytes: &[u8], form: Form) -> Result<Answer, Fault> {
     }
 }
 
-/// The text of a JSON value, where it is one.
+/// The text of a JSON value, if it is a string.
 pub fn text_of(json: &[u8]) -> Option<String> {
     serde_json::from_slice(json).ok()
 }
 
-/// The bytes of a JSON value. A refusal comes as printed words alone, through the error of the
-/// deserializer: it is named where the words are those of `decode`'s refusal of that text.
+/// The bytes of a JSON value. The crate only prints its refusal. If the words are the same as for
+/// `decode`'s refusal of that text, the answer is that refusal.
 pub fn deserialize(json: &[u8]) -> Result<Answer, Fault> {
     let value: Value = serde_json::from_slice(json).map_err(|_| Fault::NotJson)?;
     let printed = match const_hex::deserialize::<_, Vec<u8>>(&value) {

@@ -19,7 +19,7 @@ pub fn serialize_inner(bytes: &[u8], prefix: Prefix, refuse_at: usize) -> Result
     Ok(pieces(bytes, Form { prefix, case }, refuse_at))
 }
 
-/// The same where the text is streamed, which the crate does from 129 bytes on alone.
+/// The same for a streamed text. The crate streams only from 129 bytes on.
 pub fn buffered_hex(bytes: &[u8], form: Form, refuse_at: usize) -> Result<Answer, Fault> {
     if bytes.len() <= SHORT {
         return Err(Fault::NotOffered);

@@ -25,7 +25,7 @@ pub fn encode(bytes: &[u8], case: Case, size: usize) -> Answer {
     with_slice(encoded, slice)
 }
 
-/// The text of bytes, as it is lent.
+/// The text of bytes, which is lent.
 pub fn encode_str(bytes: &[u8], case: Case, size: usize) -> Answer {
     let mut slice = vec![FILLER; size];
     let encoded = match case {
@@ -38,7 +38,7 @@ pub fn encode_str(bytes: &[u8], case: Case, size: usize) -> Answer {
     }
 }
 
-/// The slice, behind a refusal where there is one.
+/// The slice, behind a refusal if there is one.
 fn with_slice(answer: Result<(), FromHexError>, slice: Vec<u8>) -> Answer {
     match answer {
         Ok(()) => Answer::Bytes(slice),

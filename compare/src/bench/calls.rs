@@ -48,7 +48,7 @@ pub enum Side {
     Default,
     /// The port, as built for x86-64-v3.
     Avx2,
-    /// A copy of the same output, or of the text where there is none.
+    /// A copy of the same output, or of the text if there is no output.
     Copy,
     /// The Rust crate hex.
     #[cfg(feature = "hex")]
@@ -93,7 +93,7 @@ impl Side {
     }
 }
 
-/// A batch of a call by a side, where the side has that call.
+/// A batch of a call by a side, if the side has that call.
 pub fn batch(call: Call, side: Side) -> Option<Batch> {
     match side {
         Side::ConstHex => Some(by_const_hex(call)),
@@ -150,7 +150,7 @@ pub fn by_build(build: impl Build, call: Call) -> Batch {
     }
 }
 
-/// A batch of copies of what a call writes, or reads where it writes nothing.
+/// A batch of copies of what a call writes, or of what it reads if it writes nothing.
 fn by_copy(call: Call) -> Batch {
     match call {
         Call::DecodeToSlice | Call::Decode => Box::new(Work::copy_bytes),
@@ -196,7 +196,7 @@ fn by_data_encoding(call: Call) -> Option<Batch> {
     })
 }
 
-/// So much of a result that it can't be left out: its length and its last byte.
+/// Enough of a result to keep the compiler from removing the call: its length and its last byte.
 fn told(result: &[u8]) -> usize {
     result.len() + usize::from(result.last().copied().unwrap_or(0))
 }

@@ -31,7 +31,7 @@ pub fn write_head(output: &mut impl Write, avx2: Avx2, pinned: Option<usize>) ->
     writeln!(output, "|{}", "---|".repeat(names.len()))
 }
 
-/// The name of the processor, where the system tells it.
+/// The name of the processor, if the system tells it.
 fn machine() -> Option<String> {
     let about = std::fs::read_to_string("/proc/cpuinfo").ok()?;
     let line = about.lines().find(|line| line.starts_with("model name"))?;
@@ -82,7 +82,7 @@ fn marked(ratio: Times) -> String {
     )
 }
 
-/// Whether a ratio is above 1 as it is printed.
+/// Whether a printed ratio is above 1.
 fn is_slower(ratio: f64) -> bool {
     ratio >= 1.005
 }
@@ -102,7 +102,7 @@ pub fn write_slower(output: &mut impl Write, rows: &[Row]) -> io::Result<()> {
     Ok(())
 }
 
-/// The cell of a row where one of the two ratios is above 1 as it is printed.
+/// The cell of a row if one of its two printed ratios is above 1.
 fn slower(row: &Row, side: Side) -> Option<String> {
     let ratio = ratio(row, side)?;
     let (call, size) = (row.call.name(), row.size);

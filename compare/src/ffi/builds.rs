@@ -4,13 +4,13 @@ use crate::ffi::RawRefusal;
 
 /// One build of the library, as a token that this processor can run it.
 pub trait Build: Copy + 'static {
-    /// The build, where this processor can run it.
+    /// The build, if this processor can run it.
     fn here() -> Option<Self>;
 
-    /// Fills the lower text of bytes, where there is room for just that text.
+    /// Fills the lower text of bytes, if the room is exactly that text's length.
     fn encode(self, bytes: &[u8], text: &mut [u8]) -> bool;
 
-    /// Fills the bytes that a text spells, where they are just so many.
+    /// Fills the bytes that a text spells, if they are exactly so many.
     fn decode(self, text: &[u8], bytes: &mut [u8]) -> bool;
 
     /// Whether every byte of a text is a digit.
@@ -93,7 +93,7 @@ macro_rules! build {
             }
         }
 
-        // SAFETY, of each call: a pointer and its length are those of a slice, what is written is
+        // SAFETY, of each call: a pointer and its length come from one slice, what is written is
         // borrowed alone, and the refusal and the last byte live in the call. Only `here` makes the
         // token.
         impl Build for $build {

@@ -63,7 +63,7 @@ mod linux {
             while at != back {
                 self.0.step()?;
                 let next = self.0.register(Register::Rip);
-                // One that the processor repeats, as `rep stosb`, stays in its place.
+                // A repeated instruction, as `rep stosb`, keeps its address.
                 count += u64::from(next != at);
                 at = next;
             }

@@ -57,7 +57,7 @@ impl Texts {
     }
 }
 
-/// Appends a character of a JSON text, by its number where it has to be or is to be.
+/// Appends a character of a JSON text: by its number if JSON needs that, or if `escape` is true.
 fn push_character(value: &mut String, character: char, escape: bool) {
     if !escape && character >= ' ' && character != '"' && character != '\\' {
         value.push(character);

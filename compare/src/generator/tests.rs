@@ -64,7 +64,7 @@ impl Reached {
     }
 }
 
-/// The text that a question asks to read, with a character for each byte, where it asks to read one.
+/// The text that a question asks to read, if it asks to read one, with a character for each byte.
 fn text_of(question: &Question) -> Option<String> {
     match question.operation {
         Operation::Deserialize => text_of_json(&question.bytes),

@@ -109,7 +109,7 @@ fn family_of(name: &str) -> Option<Family> {
     None
 }
 
-/// Whether the operations of a family go with such a number.
+/// Whether the operations of a family take such a number.
 fn takes(family: Family, number: Option<usize>) -> bool {
     match family {
         Family::Owned | Family::Buffer | Family::Array(_) => number.is_none(),

@@ -82,7 +82,7 @@ impl<const UPPER: bool> fmt::Display for InHex<'_, UPPER> {
     }
 }
 
-/// The six forms of a few bytes, and the sizes of those of many.
+/// The six forms of a few bytes, and the sizes of the six forms of many bytes.
 pub(crate) fn tell_displays(rt: &impl Print) -> io::Result<()> {
     let (plain, lower, upper) = (display(KIWI), InHex::<false>(KIWI), InHex::<true>(KIWI));
     println!(rt; "display = {plain} {plain:#} {plain:*>20}")?;
