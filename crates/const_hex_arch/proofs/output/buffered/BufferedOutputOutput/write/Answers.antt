@@ -1,4 +1,4 @@
-use Rattle.std.proofs.Common.{◌≡◌, [], length, take, refl, ap, ◌∙◌, arith}
+use Rattle.std.proofs.Common.{◌≡◌, [], take, refl, ap, ◌∙◌, arith}
 use Rattle.std.proofs.lemmas.List.{nil_from_length}
 use Rattle.const_hex_arch.proofs.Gathering.{Gathers-long}
 use Rattle.const_hex_arch.proofs.output.buffered.BufferedOutputOutput.write.Goals as goal
