@@ -4,7 +4,7 @@ ghost use Rattle.std.specs.Prelude.{◌≡◌, false, true};
 ghost use Rattle.const_hex.specs.Buffers.{text_length};
 
 use crate::hex::Hex;
-use crate::question::Fault;
+use crate::question::{Fault, UNKNOWN};
 use const_hex::serde::{JsonError, no_prefix, serialize_inner};
 use const_hex::{
     Buffer, BufferedHex, FromHex, FromHexError, PieceSink, check, check_raw, const_check,
@@ -38,7 +38,8 @@ pub(crate) fn owned(alloc: Global, name: &str, bytes: &[u8]) -> Result<String, F
         "no_prefix_serialize_upper" => json_text(alloc, no_prefix::serialize_upper(alloc, bytes)),
         "deserialize_json" => deserialized(alloc, bytes),
         "from_hex_i8_vec" => numbers(alloc, <Vec<i8>>::from_hex(alloc, bytes)),
-        _ => numbers(alloc, <[i8; 4]>::from_hex(alloc, bytes)),
+        "from_hex_i8_array4" => numbers(alloc, <[i8; 4]>::from_hex(alloc, bytes)),
+        _ => Err(UNKNOWN),
     }
 }
 
@@ -63,7 +64,7 @@ fn checked(alloc: Global, answer: Result<(), FromHexError>) -> Result<String, Fa
     }
 }
 
-/// The name of a refusal, with the number and the place of a bad byte. Refused memory is none.
+/// The name of a refusal, with the number and the place of a bad byte. Refused memory ends the run.
 fn refused(alloc: Global, refusal: FromHexError) -> Result<String, Fault> {
     match refusal {
         FromHexError::NoMemory => Err(Fault::NoMemory),
@@ -182,14 +183,15 @@ fn sized<const N: usize, const DIGITS: usize, const FULL: usize>(
         "buffer_format_upper_prefixed" => ok(alloc, full.format_upper(array)),
         "const_encode" => ok(alloc, const_encode::<N, false, DIGITS>(array).as_str()),
         "const_encode_prefixed" => ok(alloc, const_encode::<N, true, FULL>(array).as_str()),
-        _ => {
+        "buffer_debug" => {
             let formatted = full.clone()?.const_format(array);
             ok(alloc, format!(in alloc; "{full:?} {formatted:?}")?)
         }
+        _ => Err(UNKNOWN),
     }
 }
 
-/// The calls with a slice of a size. It has the bytes 0xEE before.
+/// The calls with a slice of that size, which is filled with 0xEE before.
 pub(crate) fn in_slice(
     alloc: Global,
     name: &str,
@@ -206,10 +208,11 @@ pub(crate) fn in_slice(
             Ok(lent) => return ok(alloc, lent),
             Err(refusal) => Err(refusal),
         },
-        _ => match encode_to_str_upper(bytes, &mut slice) {
+        "encode_to_str_upper" => match encode_to_str_upper(bytes, &mut slice) {
             Ok(lent) => return ok(alloc, lent),
             Err(refusal) => Err(refusal),
         },
+        _ => return Err(UNKNOWN),
     };
     match done {
         Ok(()) => ok(alloc, slice),
@@ -220,7 +223,7 @@ pub(crate) fn in_slice(
     }
 }
 
-/// The texts that are printed in a field of a width.
+/// The texts, printed in a field of that width.
 pub(crate) fn displayed(
     alloc: Global,
     name: &str,
@@ -238,7 +241,8 @@ pub(crate) fn displayed(
     }
 }
 
-/// Prints as `{}`, `{:x}` or `{:X}` does, with the options of the hole. In `{:x}` stand only numbers.
+/// Prints as `{}`, `{:x}` or `{:X}` does, with the options of the hole. A hole `{:x}` itself takes
+/// only numbers.
 #[derive(Drop)]
 struct Shown<'a> {
     bytes: const_hex::Display<'a>,
@@ -255,7 +259,7 @@ impl fmt::Display for Shown<'_> {
     }
 }
 
-/// The sizes of the pieces of a text, for a sink that refuses at a call, or at 0 never.
+/// The sizes of a text's pieces. The sink refuses the call of that number, or none if it is 0.
 pub(crate) fn in_pieces(
     alloc: Global,
     name: &str,
@@ -269,7 +273,8 @@ pub(crate) fn in_pieces(
         "buffered_hex" => BufferedHex::<false, false>::new(bytes).write_to(&mut sink),
         "buffered_hex_upper" => BufferedHex::<true, false>::new(bytes).write_to(&mut sink),
         "buffered_hex_prefixed" => BufferedHex::<false, true>::new(bytes).write_to(&mut sink),
-        _ => BufferedHex::<true, true>::new(bytes).write_to(&mut sink),
+        "buffered_hex_upper_prefixed" => BufferedHex::<true, true>::new(bytes).write_to(&mut sink),
+        _ => return Err(UNKNOWN),
     };
     if sink.no_memory() {
         return Err(Fault::NoMemory);

@@ -1,9 +1,8 @@
-//! Answers questions on `const_hex`, a line each, in the form in which the answers of the Rust crate
-//! were noted, so that the two can be compared.
+//! Answers questions about `const_hex`, one per line. The stored answers of the Rust crate have the
+//! same form, so that the two can be compared.
 //!
-//! A question is `OP HEX` or `OP HEX N`: an operation, its bytes in lower digits, `-` for none, and
-//! a number if it takes one. A line that is no question is answered `BAD` and why, and the run goes
-//! on.
+//! A question is `OP HEX` or `OP HEX N`: an operation, its bytes in lower digits, `-` for none, and a
+//! number if it takes one. The answer to another line is `BAD` and the reason, and the run goes on.
 #![tactic(auto)]
 
 mod answers;

@@ -7,6 +7,9 @@ use std::alloc::{AllocError, Global};
 /// The largest number of a question.
 const LARGEST: usize = 65_536;
 
+/// No operation has that name.
+pub(crate) const UNKNOWN: Fault = Fault::Bad("unknown operation");
+
 /// Why a line has no answer.
 #[derive(Clone, Copy)]
 pub(crate) enum Fault {
@@ -27,7 +30,7 @@ impl From<AllocError> for Fault {
 enum Family {
     Owned,
     Buffer,
-    /// The operations on arrays, with the length that stands behind their names.
+    /// The operations on arrays, with the length at the end of their names.
     Array(usize),
     /// The number is the length of a slice.
     Slice,
@@ -37,7 +40,7 @@ enum Family {
     Sink,
 }
 
-/// The names of operations, but for those on arrays.
+/// The names of the operations, except those on arrays.
 const NAMES: [(Family, &str); 5] = [
     (
         Family::Owned,
@@ -73,7 +76,7 @@ pub(crate) fn answer_of(alloc: Global, line: &[u8]) -> Result<String, Fault> {
     let line = str::from_utf8(line).map_err(|_| Fault::Bad("not UTF-8"))?;
     let mut words = line.split(' ');
     let name = words.next().unwrap_or("");
-    let family = family_of(name).ok_or(Fault::Bad("unknown operation"))?;
+    let family = family_of(name).ok_or(UNKNOWN)?;
     let count = Fault::Bad("wrong count of words");
     let bytes = bytes_of(alloc, words.next().ok_or(count)?)?;
     let number = match words.next() {

@@ -5,8 +5,8 @@ use const_hex::{BufferedHex, Kernel, SliceOutput};
 use std::alloc::Global;
 use std::marker::PhantomData;
 
-/// A call as it stands, and by a kernel. Both answer the last byte of what they made, or `None` if
-/// they were refused.
+/// A call by the fixed kernel, and by another. Both return a byte that depends on what they made, or
+/// `None` if they were refused.
 pub(crate) trait Call {
     fn own(alloc: Global, input: &[u8], output: &mut [u8]) -> Option<u8>;
 

@@ -15,7 +15,7 @@ const BATCH_BYTES: usize = 32_768;
 /// The most turns of a batch.
 const MOST_TURNS: usize = 1024;
 
-/// How many bytes a source has behind an input.
+/// A source is longer than an input by this many bytes, so that inputs can start at four places.
 pub(crate) const SLACK: usize = 192;
 
 /// How many batches are timed. The fastest counts.
@@ -111,8 +111,8 @@ impl<'a, R: Clock + AllocGlobal + Drop> Meter<'a, R> {
         self.least(call, source, size, written)
     }
 
-    /// The least time of a call with an output of a length. Its inputs have a length too, and start
-    /// at four places of the source.
+    /// The least time of a call. Its inputs have `size` bytes and start at four places of the source.
+    /// Its output has `written` bytes.
     fn least<F>(&mut self, call: F, source: &[u8], size: usize, written: usize) -> io::Result<Time>
     where
         F: Fn(Global, &[u8], &mut [u8]) -> Option<u8>,

@@ -7,8 +7,8 @@ use std::fmt;
 use std::fmt::Write;
 use std::marker::PhantomData;
 
-/// A sink that keeps no bytes. It counts them, to the last eight bits of the count, and adds the last
-/// byte of each piece: a compiler may leave out text that nobody reads.
+/// A sink that keeps no bytes. It adds up the length and the last byte of each piece, modulo 256.
+/// Without the last byte, the compiler could leave the text unwritten.
 #[derive(Drop)]
 pub(crate) struct CountingSink {
     pub(crate) count: u8,

@@ -1,4 +1,4 @@
-//! A sink and writers that keep counts alone, and so ask for no memory.
+//! A sink and writers that only count, and so ask for no memory.
 
 ghost use Rattle.std.specs.Prelude.{◌≡◌, false, None, refl};
 

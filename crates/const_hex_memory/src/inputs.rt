@@ -8,7 +8,7 @@ pub(crate) const NOTHING: &[u8] = b"";
 pub(crate) const KIWI: &[u8] = b"kiwi";
 /// Their text.
 pub(crate) const TEXT: &str = "0x6b697769";
-/// Their text as a line, with a large prefix.
+/// Their text as a line, with the prefix `0X`.
 pub(crate) const LINE: &[u8] = b"0X6b697769\n";
 /// A text of odd length.
 pub(crate) const ODD: &str = "0x1";
@@ -20,7 +20,7 @@ pub(crate) const BAD_LINE: &[u8] = b"0xzz\n";
 pub(crate) const HASH: &str = "0xabababababababababababababababababababababababababababababababab";
 /// A step of 32 lanes, one of 16, and a rest of 9.
 pub(crate) const BYTES: [u8; 57] = [0xAB; 57];
-/// Digits of as many bytes.
+/// The digits of 57 bytes 0xAA.
 pub(crate) const DIGITS: [u8; 114] = [b'a'; 114];
 /// Bytes whose text goes to a sink in three calls.
 pub(crate) const DATA: [u8; 4097] = [0xAB; 4097];

@@ -3,8 +3,8 @@
 use const_hex::{PieceSink, SinkError};
 use std::fmt;
 
-/// An answer to a stream of 4097 bytes 0xAB with prefix, and the sink afterwards. The sizes of the
-/// pieces are printed, up to the first wrong one.
+/// The answer of a call that writes 4097 bytes 0xAB with prefix, and its sink afterwards. Prints the
+/// size of each piece, up to the first wrong one.
 #[derive(Drop)]
 pub(crate) struct Kept<'a>(pub(crate) Result<(), SinkError>, pub(crate) &'a PieceSink);
 

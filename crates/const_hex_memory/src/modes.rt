@@ -69,7 +69,7 @@ fn tell_runs(rt: &impl Print, alloc: Global) -> io::Result<()> {
     Ok(())
 }
 
-/// Inputs for which the room of the first 4096 bytes has to grow.
+/// Inputs that do not fit into the first room of 4096 bytes.
 fn tell_long_runs(rt: &impl Print, alloc: Global) -> io::Result<()> {
     for mode in ENCODERS {
         tell_run(rt, alloc, mode, "4097 bytes", &DATA)?;

@@ -13,7 +13,7 @@ use const_hex_uses::own_kernel::Backward;
 use std::alloc::Global;
 use std::io;
 
-/// Makes a call by each kernel, with its name.
+/// Calls a function once for each kernel, with the kernel's name.
 macro_rules! by_each_kernel {
     ($tell:ident, $rt:expr, $alloc:expr) => {
         $tell::<Plain>($rt, $alloc, "by Plain")?;

@@ -11,7 +11,7 @@ pub(crate) fn holds<R: Debug>(rt: &impl Abort, row: &R, is_so: bool) {
     assert!(rt; is_so, "at {row:?}");
 }
 
-/// Hands out one byte per call. It fails at one call: a further one succeeds.
+/// Hands out one byte per call. One call fails, and later calls succeed.
 #[derive(Drop)]
 pub(crate) struct Source<'a> {
     rest: &'a [u8],
@@ -70,7 +70,7 @@ pub(crate) enum Fault {
     Flush(ErrorKind),
 }
 
-/// Keeps what it takes, up to so many bytes per call.
+/// Keeps what it takes: at most `most` bytes per call.
 #[derive(Drop)]
 pub(crate) struct Target {
     pub(crate) taken: Vec<u8>,

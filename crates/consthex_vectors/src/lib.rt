@@ -1,8 +1,8 @@
-//! Tests of what stands on the codec, from outside: the program, the line protocol, hashes, the
-//! callers of `const_hex_uses`; and of `WriteSink`, by the same writers that fail.
+//! Tests of what is built on the codec: the program, the line protocol, hashes, the callers of
+//! `const_hex_uses`; and of `WriteSink`, by the same writers that fail.
 //!
-//! Expected values come from the codec's written rules, from what std prints, and for lines that are
-//! no questions from the protocol of `const_hex_answers`.
+//! Expected values come from the codec's written rules and from what std prints. For lines that are
+//! not questions they come from the protocol of `const_hex_answers`.
 #![tactic(auto)]
 
 #[cfg(test)]

@@ -9,7 +9,7 @@ use std::io::{BufRead, BufReader, ErrorKind, Read};
 use std::process::Abort;
 use std::test::Fail;
 
-/// Why lines are no questions, and these lines with bars between them.
+/// Reasons why lines are not questions, each with its lines. A bar separates the lines.
 const NO_QUESTIONS: [(&str, &str); 6] = [
     (
         "unknown operation",
@@ -161,8 +161,8 @@ fn fails_by(ended: io::Result<bool>, kind: ErrorKind) -> bool {
     }
 }
 
-// A writer takes up to one or three bytes per call, and one call fails. It has a beginning of the
-// answers: at one byte per call, a byte for each call before.
+// The writer takes up to one or up to three bytes per call, and one call fails. It then has a
+// beginning of the answers. At one byte per call it has one byte for each call before the failed one.
 #[test]
 fn a_failed_write_ends_the_run(rt: HostRuntime) {
     for (most, calls) in [(1, 17usize), (3, 8)] {

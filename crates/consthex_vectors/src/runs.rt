@@ -147,7 +147,7 @@ fn handles_lengths_round_the_lanes(rt: HostRuntime) -> Result<(), Fail> {
     Ok(())
 }
 
-/// The first bytes are written as the front of the text, and read from it.
+/// The bytes below `count` are written as the front of `TEXT`, and read from it.
 fn there_and_back(rt: &impl Abort, alloc: Global, count: u8) -> Result<(), Fail> {
     let bytes: Vec<u8> = (0..count).collect(alloc)?;
     let digits = TEXT.get(..2 * usize::from(count)).unwrap_or("");

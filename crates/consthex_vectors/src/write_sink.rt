@@ -9,7 +9,7 @@ use std::process::Abort;
 use std::test::Fail;
 
 // A text of 6002 bytes comes in pieces of 4096 and 1906. A writer that takes 1000 per call gets them
-// in 7 calls. It has so many bytes before each call, and at the end.
+// in 7 calls. Before each call, and at the end, it has this many bytes.
 const TAKEN: [usize; 8] = [0, 1000, 2000, 3000, 4000, 4096, 5096, 6002];
 
 #[test]
@@ -46,7 +46,7 @@ fn at_call(rt: &impl Abort, alloc: Global, (call, taken): (usize, usize), case: 
     }
 }
 
-/// Writes bytes that have that text. Checked are the error, what the writer has, and its calls.
+/// Writes the bytes, whose text is `text`. Checks the error, what the writer has, and its calls.
 fn writes(
     rt: &impl Abort,
     alloc: Global,

@@ -38,12 +38,12 @@ pub(crate) fn tell_texts_in_slices(rt: &impl Print) -> io::Result<()> {
         "encode_to_str_upper" => encode_to_str_upper(KIWI, &mut text),
         "encode_full_to_slice" => (encode_full_to_slice(KIWI, true, false, &mut full), full),
     );
-    tell_each!(rt, "too short";
-        "encode_full_to_slice," => (encode_full_to_slice(KIWI, true, false, &mut short), short),
-        "encode_to_slice," => (encode_to_slice(KIWI, &mut short), short),
-        "encode_to_slice_upper," => (encode_to_slice_upper(KIWI, &mut short), short),
-        "encode_to_str," => encode_to_str(KIWI, &mut short),
-        "encode_to_str_upper," => encode_to_str_upper(KIWI, &mut short),
+    tell_each!(rt;
+        "encode_full_to_slice, too short" => (encode_full_to_slice(KIWI, true, false, &mut short), short),
+        "encode_to_slice, too short" => (encode_to_slice(KIWI, &mut short), short),
+        "encode_to_slice_upper, too short" => (encode_to_slice_upper(KIWI, &mut short), short),
+        "encode_to_str, too short" => encode_to_str(KIWI, &mut short),
+        "encode_to_str_upper, too short" => encode_to_str_upper(KIWI, &mut short),
     );
     Ok(())
 }
@@ -77,7 +77,7 @@ pub(crate) fn tell_odd(rt: &impl Print, alloc: Global) -> io::Result<()> {
     Ok(())
 }
 
-/// A JSON value is refused if it is no text or has an odd text.
+/// A JSON value that is not a text, or has an odd text, is refused before a call asks for memory.
 pub(crate) fn tell_no_texts(rt: &impl Print, alloc: Global, inputs: &Inputs) -> io::Result<()> {
     let number = Value::Number(Number::from(5u8));
     tell_no_text(rt, alloc, "of null", &Value::Null)?;
