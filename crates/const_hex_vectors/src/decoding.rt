@@ -231,6 +231,7 @@ fn fronts_of_outputs(rt: HostRuntime) {
     ];
     for (text, length, want) in rows {
         assert!(rt; length <= 12);
+        // One byte more than the longest output. It stays unchanged.
         let mut output = [0xEE; 13];
         let answer = decode_to_front(text, &mut output[..length]);
         let front = want.unwrap_or(b"");

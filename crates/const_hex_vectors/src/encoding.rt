@@ -51,7 +51,7 @@ impl Written {
         Ok(encoded == self.texts && is_json && self.is_text_of(alloc, &self.bytes)?)
     }
 
-    /// Whether these are the texts of a value, through its bounds.
+    /// Whether the calls of the traits write these texts of a value.
     fn is_text_of<T: ToHex + ToHexExt>(
         &self,
         alloc: Global,
@@ -138,6 +138,7 @@ fn texts_in_slices(rt: HostRuntime) -> Result<(), Fail> {
 /// Whether each call that writes text into a slice fills an output of that length, or refuses it
 /// and leaves it unchanged.
 fn fills(bytes: &[u8], text: &str, (prefix, upper): (bool, bool), length: usize) -> bool {
+    // A wrong `text_size` fails the row.
     if length > ROOM || text_size(prefix, bytes.len()) != text.len() {
         return false;
     }

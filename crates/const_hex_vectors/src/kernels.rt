@@ -121,8 +121,8 @@ pub(crate) fn refuses<K: Kernel>(
     let refusal = bad(byte, prefix.len().saturating_add(place));
     let mut left = bytes.to_vec(alloc)?;
     let decoded = kernel.decoded(body.len(), place);
-    for byte in left.iter_mut().skip(decoded) {
-        *byte = 0xEE;
+    if decoded <= left.len() {
+        left[decoded..].fill(0xEE);
     }
     answers::<K>(alloc, &behind(alloc, prefix, body)?, Err(refusal), &left)
 }
@@ -134,7 +134,17 @@ fn each_length(rt: HostRuntime) -> Result<(), Fail> {
 
 #[test]
 fn each_place(rt: HostRuntime) -> Result<(), Fail> {
-    suite::Places.with_each_kernel(&rt, rt.alloc())
+    suite::Places(&[0x10, b'G', b'g', 0xC1]).with_each_kernel(&rt, rt.alloc())
+}
+
+#[test]
+fn each_place_of_an_x(rt: HostRuntime) -> Result<(), Fail> {
+    suite::Places(b"xX").with_each_kernel(&rt, rt.alloc())
+}
+
+#[test]
+fn each_byte(rt: HostRuntime) -> Result<(), Fail> {
+    suite::Letters.with_each_kernel(&rt, rt.alloc())
 }
 
 // The length of a body, the place of its bad byte, and how many bytes `Plain`, `Lanes16` and

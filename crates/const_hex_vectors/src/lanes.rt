@@ -14,7 +14,7 @@ const VALUES: [u8; 17] = [
     201, 217, 216, 0, 9, 16, 16, 10, 15, 16, 48, 10, 15, 16, 138, 138, 168,
 ];
 
-/// The answers for vectors with the same byte in each lane.
+/// Checks each worked value, with the same byte in each lane.
 macro_rules! worked {
     ($rt:ident, $vector:ident, $lanes:ident) => {
         for (byte, value) in BYTES.into_iter().zip(VALUES) {

@@ -9,7 +9,7 @@ use std::alloc::{AllocError, Global};
 use std::process::Abort;
 use std::test::Fail;
 
-/// How many blocks of 256 bytes there are in 1.5 KiB of text, in 1 MiB and in 3 MiB of bytes.
+/// Counts of blocks of 256 bytes: for 768 bytes, 1 MiB and 3 MiB.
 const SHORT: usize = 3;
 
 const LONG: usize = 4096;

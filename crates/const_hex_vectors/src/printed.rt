@@ -85,7 +85,9 @@ fn printed_bytes(rt: HostRuntime) -> Result<(), Fail> {
     assert!(rt; upper.strip_prefix("0x") == Some(v.to_string(alloc)?.as_str()));
     for count in (0..=2048usize).chain([100_000]) {
         let v = display(data.get(..count).unwrap_or(&[]));
-        let want = lower.get(..count.saturating_mul(2)).unwrap_or("");
+        let want = lower
+            .get(..count.saturating_mul(2))
+            .unwrap_or("another text");
         let prefixed = format!(in alloc; "{v:#}")?;
         let is_prefixed = prefixed.strip_prefix("0x") == Some(want);
         let is_plain = v.to_string(alloc)?.as_str() == want;

@@ -62,10 +62,19 @@ fn printed_places(rt: HostRuntime) -> Result<(), Fail> {
         holds(&rt, &want, prints(rt.alloc(), bad(byte, 5), want)?);
     }
     let places = [
-        0, 7, 42, 999, 1000, 20_406, 135_790, 1_048_577, 6_291_455, 87_654_321,
+        (0, "0"),
+        (7, "7"),
+        (42, "42"),
+        (999, "999"),
+        (1000, "1000"),
+        (20_406, "20406"),
+        (135_790, "135790"),
+        (1_048_577, "1048577"),
+        (6_291_455, "6291455"),
+        (87_654_321, "87654321"),
     ];
-    for place in places {
-        let want = format!(in rt.alloc(); "invalid character 'z' at position {place}")?;
+    for (place, figures) in places {
+        let want = ["invalid character 'z' at position ", figures].concat(rt.alloc())?;
         holds(&rt, &want, prints(rt.alloc(), bad(b'z', place), &want)?);
     }
     Ok(())
@@ -107,8 +116,14 @@ fn faults<E: HexFault + Drop>(fault: &E) -> (bool, bool) {
 
 #[test]
 fn no_memory_alone_is_of_memory(rt: HostRuntime) {
-    for fault in [OddLength, InvalidStringLength, bad(b'z', 0), NoMemory] {
-        holds(&rt, &fault, faults(&fault) == (fault == NoMemory, true));
+    let rows = [
+        (OddLength, false),
+        (InvalidStringLength, false),
+        (bad(b'z', 0), false),
+        (NoMemory, true),
+    ];
+    for (fault, is_of_memory) in rows {
+        holds(&rt, &fault, faults(&fault) == (is_of_memory, true));
     }
     assert!(rt; FromHexError::from(AllocError) == NoMemory);
 }

@@ -111,7 +111,7 @@ struct Stream<'a, const UPPER: bool, const PREFIX: bool> {
 #[derive(Clone, Copy, Debug)]
 enum Way {
     ByKernel(Habits),
-    ByNoName,
+    ByFixedKernel,
     AsJson,
 }
 
@@ -124,12 +124,13 @@ impl<const UPPER: bool, const PREFIX: bool> Trial for Stream<'_, UPPER, PREFIX> 
 impl<const UPPER: bool, const PREFIX: bool> Stream<'_, UPPER, PREFIX> {
     fn in_each_way(&self, rt: &impl Abort, alloc: Global) -> Result<(), Fail> {
         self.with_each_kernel(rt, alloc)?;
-        self.calls::<Plain>(rt, alloc, Way::ByNoName)?;
+        self.calls::<Plain>(rt, alloc, Way::ByFixedKernel)?;
         self.calls::<Plain>(rt, alloc, Way::AsJson)
     }
 
     /// Tries sinks that never refuse, that refuse each call in turn, and that would refuse the call
-    /// after the last. In a JSON text, an empty text has a call too.
+    /// after the last. Only `Way::ByKernel` uses K. The fixed kernel has 32 lanes. In a JSON text, an
+    /// empty text has a call too.
     fn calls<K: Kernel>(&self, rt: &impl Abort, alloc: Global, way: Way) -> Result<(), Fail> {
         let [by_digits, by_lanes16, by_lanes32] = self.sizes;
         let sizes = match way {
@@ -164,7 +165,7 @@ impl<const UPPER: bool, const PREFIX: bool> Stream<'_, UPPER, PREFIX> {
         let text = BufferedHex::<UPPER, PREFIX>::new(self.data);
         match way {
             Way::ByKernel(_) => text.write_with::<K, S>(sink),
-            Way::ByNoName => text.write_to(sink),
+            Way::ByFixedKernel => text.write_to(sink),
             Way::AsJson => serialize_inner::<UPPER, PREFIX, S>(self.data, sink),
         }
     }

@@ -61,7 +61,7 @@ pub(crate) fn read(alloc: Global, digits: &[u8]) -> Result<Vec<u8>, AllocError> 
     bytes.collect(alloc)
 }
 
-/// A text in pieces of these sizes, as far as it goes.
+/// Cuts a text into pieces of these sizes. A size that is longer than the rest gives no piece.
 pub(crate) fn cut(alloc: Global, text: &str, sizes: &[usize]) -> Result<Vec<String>, AllocError> {
     let mut pieces = Vec::new(alloc);
     let mut rest = text;

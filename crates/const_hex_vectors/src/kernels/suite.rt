@@ -91,26 +91,30 @@ fn own_calls<K: Kernel>(rt: &impl Abort, alloc: Global, kernel: Habits) -> Resul
     holds(rt, &kernel, is_decoded && back == bytes);
     let mut back = [0; 49];
     K::decode_unchecked(&text, &mut back);
+    holds(rt, &kernel, back == bytes);
     let bytes_to_16 = [0, 1, 2, 3, 4, 5, 6, 7, 8, 9, 10, 11, 12, 13, 14, 15, 16];
     let text = encode_with::<K, false>(alloc, &bytes_to_16)?;
-    let is_text = text.as_str() == "000102030405060708090a0b0c0d0e0f10";
-    holds(rt, &kernel, is_text && back == bytes);
+    holds(
+        rt,
+        &kernel,
+        text.as_str() == "000102030405060708090a0b0c0d0e0f10",
+    );
     Ok(())
 }
 
-/// A bad byte at each place of texts of up to 130 bytes.
+/// Each of these bad bytes at each place of texts of up to 130 bytes.
 #[derive(Drop)]
-pub(crate) struct Places;
+pub(crate) struct Places<'a>(pub(crate) &'a [u8]);
 
-impl Trial for Places {
+impl Trial for Places<'_> {
     fn run<K: Kernel>(&self, rt: &impl Abort, alloc: Global, kernel: Habits) -> Result<(), Fail> {
         for half in 0..=65usize {
             let mut body = digits(alloc, 2 * half)?;
             let bytes = read(alloc, &body)?;
             for place in 0..body.len() {
                 let digit = body[place];
-                for byte in [0x10, b'G', b'g', 0xC1, b'x', b'X'] {
-                    body[place] = byte;
+                for byte in self.0 {
+                    body[place] = *byte;
                     for prefix in PREFIXES {
                         let row = (prefix, body.as_slice(), place);
                         let is_so = prefixed_or_refused::<K>(alloc, row, &bytes, kernel)?;
@@ -120,11 +124,12 @@ impl Trial for Places {
                 body[place] = digit;
             }
         }
-        letters::<K>(rt, alloc, kernel)
+        Ok(())
     }
 }
 
-/// A letter x at the second place makes a prefix. Each other byte that is tried is bad.
+/// If the prefix is empty, a letter x at the second place makes one. Any other byte that is tried is
+/// bad.
 fn prefixed_or_refused<K: Kernel>(
     alloc: Global,
     (prefix, body, place): (&str, &[u8], usize),
@@ -142,20 +147,25 @@ fn prefixed_or_refused<K: Kernel>(
 
 /// Each byte at each place of a body of letters. The bad bytes are next to a range of digits, or
 /// differ from a digit in one bit.
-fn letters<K: Kernel>(rt: &impl Abort, alloc: Global, kernel: Habits) -> Result<(), Fail> {
-    let mut body = [b'a'; 64];
-    for place in 0..64 {
-        for byte in 0..=255u8 {
-            body[place] = byte;
-            let is_digit = char::from(byte).to_digit(16).is_some();
-            holds(rt, &(kernel, byte, place), K::check(&body) == is_digit);
+#[derive(Drop)]
+pub(crate) struct Letters;
+
+impl Trial for Letters {
+    fn run<K: Kernel>(&self, rt: &impl Abort, alloc: Global, kernel: Habits) -> Result<(), Fail> {
+        let mut body = [b'a'; 64];
+        for place in 0..64 {
+            for byte in 0..=255u8 {
+                body[place] = byte;
+                let is_digit = char::from(byte).to_digit(16).is_some();
+                holds(rt, &(kernel, byte, place), K::check(&body) == is_digit);
+            }
+            for byte in [0x10, 0x2F, 0x3A, 0x40, 0x47, 0x60, 0x67, 0xC1, 0xE1] {
+                body[place] = byte;
+                let is_refused = refuses::<K>(alloc, ("", &body, place), &[0xAA; 32], kernel)?;
+                holds(rt, &(kernel, byte, place), is_refused && !check_raw(&body));
+            }
+            body[place] = b'a';
         }
-        for byte in [0x10, 0x2F, 0x3A, 0x40, 0x47, 0x60, 0x67, 0xC1, 0xE1] {
-            body[place] = byte;
-            let is_refused = refuses::<K>(alloc, ("", &body, place), &[0xAA; 32], kernel)?;
-            holds(rt, &(kernel, byte, place), is_refused && !check_raw(&body));
-        }
-        body[place] = b'a';
+        Ok(())
     }
-    Ok(())
 }
