@@ -32,6 +32,15 @@ impl Output for ReservedOutput {
         }
     }
 
+    // Both ends are stored whole, and the first is cut where the last begins.
+    #[inline(always)]
+    fn write_ends(&mut self, first: &[u8], last: &[u8], count: usize) {
+        let start = self.bytes.len() + count - last.len();
+        self.write(first);
+        self.bytes.truncate(start);
+        self.write(last);
+    }
+
     ghost use Rattle.std.proofs.Common.{arith};
 
     ghost shrinks = { λ s piece t h. Prim.grind (arith) };

@@ -1,4 +1,5 @@
 pub mod Computed
+pub mod Ends
 pub mod Gathering
 pub mod LaneBytes
 pub mod LaneLookups

@@ -1,49 +1,36 @@
 -- Texts that are worked through in steps, and the rest by another kernel.
-use Rattle.std.proofs.Common.{◌≡◌, ℕ, ◌+◌, ◌-◌, ◌*◌, ◌≤◌, ◌↔◌, Bool, List, [], ◌++◌, length, take, drop, refl, sym, ap, subst, ◌∙◌, arith, take-add, take-append-drop, drop-drop, length-take, length-drop, length-append, Option}
+use Rattle.std.proofs.Common.{◌≡◌, ℕ, ◌+◌, ◌-◌, ◌*◌, ◌≤◌, ◌↔◌, Bool, List, [], ◌++◌, length, take, drop, refl, sym, ap, subst, ◌∙◌, arith, take-add, take-append-drop, drop-drop, length-take, length-drop, Option}
 use Rattle.std.proofs.lemmas.Grind.{common_steps}
-use Rattle.std.proofs.lemmas.List.{append-nil, append_assoc, take_at, drop_at, take_rest}
-use Rattle.std.proofs.lemmas.List.Elements.{All-nil, All-take}
+use Rattle.std.proofs.lemmas.List.{append-nil, drop_at, take_rest}
+use Rattle.std.proofs.lemmas.List.Elements.{All-take, All-drop}
 use Rattle.std.proofs.lemmas.Slice.{take-put_mid, drop-put_mid}
 use borrow.Rule.Slice.PartMut.{put_mid}
 use Rattle.const_hex_arch.specs.Digits.{IsDigit}
 use Rattle.const_hex_arch.specs.Runs.{HasRoom, less_room, Writes}
 use Rattle.const_hex_arch.specs.Texts.{hex_text, AllDigits, Spells, Partial}
 use Rattle.const_hex_arch.proofs.Running.{HasRoom-less, Writes-none, Writes-more, Writes-append}
-use Rattle.const_hex_arch.proofs.Spelling.{Spells-append, digits_append, none_decoded, Partial-after}
+use Rattle.const_hex_arch.proofs.Spelling.{Spells-append, Spells-take, digits_append, none_decoded, Partial-after}
 use Rattle.const_hex_arch.proofs.Writing.{hex_text-nil, hex_text-append, length-hex_text}
 
 -- two parts of a list
 pub parts : (n : ℕ) {u front back : List ℕ} → front ≡ take n u → back ≡ drop n u → front ++ back ≡ u
 parts n {u} f b = rw (f, b) (take-append-drop n u)
 
--- ---- the bytes in front of what is left are digits
-pub record IsChecked (u left : List ℕ) : Type 0 where
-  pub front : List ℕ
-  pub whole : front ++ left ≡ u
-  pub digits : AllDigits front
+-- ---- digits
 
--- none of them yet
-pub none_checked : (u : List ℕ) → IsChecked u u
-none_checked u = record { front = []; whole = refl; digits = All-nil IsDigit }
+-- the first bytes are digits, and then n more
+pub digits_step : (u : List ℕ) (i n end : ℕ) → end ≡ i + n → AllDigits (take i u) → AllDigits (take n (drop i u)) → AllDigits (take end u)
+digits_step u i n end q d e = rw (q, take-add i n u) ((digits_append (take i u) (take n (drop i u))).1 (d, e))
 
--- some bytes more
-pub checked_step : {u left rest : List ℕ} (part : List ℕ) → IsChecked u left → part ++ rest ≡ left → AllDigits part → IsChecked u rest
-checked_step {rest = rest} part d e digits = record {
-  front = d.front ++ part;
-  whole = append_assoc d.front part rest ∙ ap (λ x. d.front ++ x) e ∙ d.whole;
-  digits = (digits_append d.front part).1 (d.digits, digits);
-}
-
--- for all bytes, from the rest
-pub digits_rest : {u left : List ℕ} → IsChecked u left → AllDigits left ↔ AllDigits u
-digits_rest {left = left} d = (
-  λ part. rw (← d.whole) ((digits_append d.front left).1 (d.digits, part)),
-  λ whole. ((digits_append d.front left).0 (rw d.whole whole)).1,
+-- the first i bytes are digits, and so are all bytes, from those behind e, which is not past i
+pub digits_last : (u : List ℕ) (i e : ℕ) → e ≤ i → AllDigits (take i u) → AllDigits (take (length u - e) (drop e u)) ↔ AllDigits u
+digits_last u i e h d = (
+  λ last.
+      let past : drop (i - e) (drop e u) ≡ drop i u = let q : e + (i - e) ≡ i = omega arith in drop-drop (i - e) e u ∙ ap (λ k. drop k u) q in
+      let rest : AllDigits (drop i u) = rw past at (All-drop IsDigit (i - e) (drop e u) (rw take_rest at last)) in
+      rw (take-append-drop i u) at ((digits_append (take i u) (drop i u)).1 (d, rest)),
+  λ whole. rw take_rest (All-drop IsDigit e u whole),
 )
-
--- the first bytes of what is left
-pub digits_left : {u left : List ℕ} (part rest : List ℕ) → IsChecked u left → part ++ rest ≡ left → AllDigits u → AllDigits part
-digits_left part rest d e whole = ((digits_append part rest).0 (rw e ((digits_rest d).1 whole))).0
 
 -- ---- the text of the first bytes is written, and there is room for the rest
 pub record IsWritten {S : Type 0} (step : S → List ℕ → S → Type 0) (room : S → Option ℕ) (up : Bool) (u : List ℕ) (old new : S) (i : ℕ) : Type 0 where
@@ -117,6 +104,18 @@ decoded_step {u} {old} {new} {i} {end} r n m d e h f l s =
       rest = past ∙ rw e (sym (drop-drop n i new) ∙ ap (drop n) d.rest ∙ drop-drop n i old);
     }
 
+-- fewer bytes are decoded than there are
+pub decoded_less : (u new : List ℕ) (i e : ℕ) → e ≤ i → i ≤ length new → Spells (take (2 * i) u) (take i new) → IsDecoded u new new e
+decoded_less u new i e h within front = record {
+  within = omega arith;
+  same_length = refl;
+  front =
+      let text : take (2 * e) (take (2 * i) u) ≡ take (2 * e) u = grind (arith, common_steps) in
+      let bytes : take e (take i new) ≡ take e new = grind (arith, common_steps) in
+      rw (text, bytes) at (Spells-take (take (2 * i) u) (take i new) e (2 * e) refl front);
+  rest = refl;
+}
+
 -- a step that wrote nothing
 pub kept_step : (new r : List ℕ) (i n : ℕ) → r ≡ take n (drop i new) → put_mid i n new r ≡ new
 kept_step new r i n e = rw e (ap (λ x. take i new ++ x) (take-append-drop n (drop i new)) ∙ take-append-drop i new)
@@ -140,13 +139,9 @@ module _ {u old new : List ℕ} {i : ℕ} (r : List ℕ) (d : IsDecoded u old ne
   pub spells_rest : Spells (take (length u - 2 * i) (drop (2 * i) u)) r → Spells u (put_mid i (length new - i) new r)
   spells_rest s = rw whole (subst (λ x. Spells x (take i new ++ r)) (take-append-drop (2 * i) u) (Spells-append _ _ _ _ d.front (rw take_rest at s)))
 
-  pub partial_rest : Partial (take (length new - i) (drop i new)) (take (length u - 2 * i) (drop (2 * i) u)) r
-      → Partial old u (put_mid i (length new - i) new r)
-  partial_rest p =
+  pub partial_behind : Partial (take (length new - i) (drop i new)) (take (length u - 2 * i) (drop (2 * i) u)) r
+      → Partial (drop i old) (drop (2 * i) u) (drop i (put_mid i (length new - i) new r))
+  partial_behind p =
       let within = d.within in
-      let same = d.same_length in
       let front : length (take i new) ≡ i = omega (arith, length-take i new) in
-      let length_kept : length (take i new ++ r) ≡ length old = omega (arith, length-append (take i new) r) in
-      let behind : Partial (drop i old) (drop (2 * i) u) r = rw (take_rest, take_rest, d.rest) at p in
-      rw whole (Partial-after old u (take i new ++ r) i (2 * i) (omega arith) (omega arith) length_kept (omega arith)
-      (rw (take_at (take i new) r i front) d.front) (rw (drop_at (take i new) r i front) behind))
+      rw (whole, drop_at (take i new) r i front) (rw (take_rest, take_rest, d.rest) at p)

@@ -11,6 +11,7 @@ mod lanes;
 pub mod lanes16;
 pub mod lanes32;
 pub mod plain;
+mod short;
 mod steps;
 
 use crate::arch::kernel32::Lanes32;

@@ -1,6 +1,6 @@
 //! Outputs, which text is written to.
 
-ghost use Rattle.std.specs.Prelude.{◌≡◌, ℕ, ◌+◌, ◌<◌, ◌≤◌, List, [], ◌∷◌, length, Option};
+ghost use Rattle.std.specs.Prelude.{◌≡◌, ℕ, ◌+◌, ◌-◌, ◌*◌, ◌<◌, ◌≤◌, List, [], ◌∷◌, ◌++◌, length, take, Option};
 ghost use Rattle.std.specs.Str.{IsAscii};
 ghost use Rattle.const_hex_arch.specs.Runs.{HasRoom, less_room};
 
@@ -63,7 +63,45 @@ pub trait Output {
         self.write(&[byte])
     }
 
+    /// Writes a piece of `count` bytes by its first and its last bytes, as many of each. They may
+    /// overlap; there the last ones count.
+    ///
+    /// ```rust
+    /// let mut text = [b'.'; 4];
+    /// SliceOutput::new(&mut text).write_ends(b"ab", b"bc", 3);
+    /// assert_eq!(rt; text, *b"abc.");
+    /// ```
+    #[inline(always)]
+    fn write_ends(&mut self, first: &[u8], last: &[u8], count: usize)
+        requires first_ascii { IsAscii first.now }
+        requires last_ascii { IsAscii last.now }
+        requires same_size { length first.now ≡ length last.now }
+        requires least { length last.now ≤ count }
+        requires most { count ≤ 2 * length last.now }
+        requires bound { count ≤ 64 }
+        requires fits { HasRoom (room self.old) count }
+        ensures { step self.old (take (count - length last.now) first.now ++ last.now) self.new }
+    {
+        self.write(&joined(first, last, count)[..count])
+    }
+
     /// A write takes its length from the room.
     ghost shrinks: { (s : Self) (piece : List ℕ) (t : Self) → step s piece t
         → room t ≡ less_room (room s) (length piece) };
+}
+
+/// An array that begins with the piece that has these ends.
+#[inline(always)]
+#[tactic(auto, using(std::proofs::lemmas::Slice::overwrites, std::proofs::lemmas::Grind::common_steps))]
+fn joined(first: &[u8], last: &[u8], count: usize) -> [u8; 64]
+    requires same_size { length first.now ≡ length last.now }
+    requires least { length last.now ≤ count }
+    requires most { count ≤ 2 * length last.now }
+    requires bound { count ≤ 64 }
+    ensures { take count result ≡ take (count - length last.now) first.now ++ last.now }
+{
+    let mut piece = [0; 64];
+    piece[..first.len()].copy_from_slice(first);
+    piece[count - last.len()..count].copy_from_slice(last);
+    piece
 }

@@ -21,12 +21,12 @@ pub(crate) struct Habits {
     /// How many digits it decodes in a step: the first number as long as possible, then the next.
     /// Empty if it decodes nothing of a text that it refuses.
     reads: &'static [usize],
-    /// How many digits it writes in a piece, in the same way.
-    pub(crate) writes: &'static [usize],
+    /// How many digits it writes in a piece. If fewer are left, they are one piece.
+    pub(crate) writes: usize,
 }
 
 impl Habits {
-    fn new(name: &'static str, reads: &'static [usize], writes: &'static [usize]) -> Habits {
+    fn new(name: &'static str, reads: &'static [usize], writes: usize) -> Habits {
         Habits {
             name,
             checks_first: false,
@@ -56,13 +56,10 @@ impl Habits {
 
     /// The sizes of the pieces in which it writes a text of that length.
     fn pieces(self, alloc: Global, length: usize) -> Result<Vec<usize>, AllocError> {
-        let mut sizes = Vec::new(alloc);
-        let mut left = length;
-        for size in self.writes {
-            if *size > 0 {
-                sizes.extend_from_slice(&vec![in alloc; *size; left / *size]?)?;
-                left %= *size;
-            }
+        let size = self.writes.max(1);
+        let mut sizes = vec![in alloc; size; length / size]?;
+        if length % size > 0 {
+            sizes.push(length % size)?;
         }
         Ok(sizes)
     }
@@ -70,10 +67,10 @@ impl Habits {
 
 fn every_kernel() -> [Habits; 4] {
     [
-        Habits::new("Plain", &[2], &[1]),
-        Habits::new("Lanes16", &[32, 2], &[32, 1]),
-        Habits::new("Lanes32", &[64, 32, 2], &[64, 32, 1]),
-        Habits::new("Backward", &[], &[2]),
+        Habits::new("Plain", &[2], 1),
+        Habits::new("Lanes16", &[32, 2], 32),
+        Habits::new("Lanes32", &[64, 32, 2], 64),
+        Habits::new("Backward", &[], 2),
     ]
 }
 
@@ -170,7 +167,7 @@ fn worked_fronts(rt: HostRuntime) {
 // How many pieces each kernel makes of 49 bytes.
 #[test]
 fn worked_pieces(rt: HostRuntime) -> Result<(), Fail> {
-    for (kernel, count) in every_kernel().into_iter().zip([98, 5, 4, 49]) {
+    for (kernel, count) in every_kernel().into_iter().zip([98, 4, 2, 49]) {
         holds(&rt, &kernel, kernel.pieces(rt.alloc(), 98)?.len() == count);
     }
     Ok(())

@@ -61,7 +61,7 @@ impl Sink for NotingSink {
 // writes one or two digits at once, by 16 lanes, and by 32.
 type Row = (usize, bool, [&'static [usize]; 3]);
 
-const ROWS: [Row; 16] = [
+const ROWS: [Row; 17] = [
     (0, false, [&[]; 3]),
     (0, true, [&[2]; 3]),
     (1, false, [&[2]; 3]),
@@ -81,6 +81,11 @@ const ROWS: [Row; 16] = [
         4097,
         true,
         [&[4096, 4096, 4], &[4066, 4096, 34], &[4034, 4096, 66]],
+    ),
+    (
+        4127,
+        true,
+        [&[4096, 4096, 64], &[4066, 4096, 94], &[4034, 4096, 126]],
     ),
 ];
 
@@ -134,8 +139,8 @@ impl<const UPPER: bool, const PREFIX: bool> Stream<'_, UPPER, PREFIX> {
     fn calls<K: Kernel>(&self, rt: &impl Abort, alloc: Global, way: Way) -> Result<(), Fail> {
         let [by_digits, by_lanes16, by_lanes32] = self.sizes;
         let sizes = match way {
-            Way::ByKernel(kernel) if !kernel.writes.contains(&32) => by_digits,
-            Way::ByKernel(kernel) if !kernel.writes.contains(&64) => by_lanes16,
+            Way::ByKernel(kernel) if kernel.writes < 32 => by_digits,
+            Way::ByKernel(kernel) if kernel.writes < 64 => by_lanes16,
             Way::AsJson if by_lanes32.is_empty() => &[0],
             _ => by_lanes32,
         };

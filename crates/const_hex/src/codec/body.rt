@@ -1,6 +1,6 @@
 //! The body of a text: the prefix rule, the first bad byte, and decoding by a kernel.
 
-ghost use Rattle.std.specs.Prelude.{◌≡◌, ◌*◌, ◌%◌, ◌≤◌, true, false, length, IsTrue};
+ghost use Rattle.std.specs.Prelude.{◌≡◌, ◌*◌, ◌%◌, ◌≤◌, ◌==◌, ◌&&◌, ◌||◌, true, false, length, IsTrue};
 ghost use Rattle.const_hex_arch.specs.Texts.{AllDigits, Spells, Partial};
 ghost use Rattle.const_hex.specs.Bodies.{body_of, NamesFirstBad};
 
@@ -15,9 +15,19 @@ pub(crate) fn strip_prefix(text: &[u8]) -> &[u8]
     ensures shorter { length result.now ≤ length text.now }
 {
     match text {
-        [b'0', b'x' | b'X', rest @ ..] => rest,
+        [first, second, rest @ ..] if is_prefix(*first, *second) => rest,
         _ => text,
     }
+}
+
+/// Whether two bytes are `0x` or `0X`.
+// Both are compared at once: byte by byte, a text that begins with `0` would take a path of its own.
+#[inline(always)]
+fn is_prefix(first: u8, second: u8) -> bool
+    ensures { result ≡ ((first == 48) && (second == 120 || second == 88)) }
+{
+    let pair = u16::from_le_bytes([first, second]);
+    pair == u16::from_le_bytes(*b"0x") || pair == u16::from_le_bytes(*b"0X")
 }
 
 /// The refusal that names the first byte behind the prefix that is not a digit, and its place in

@@ -3,13 +3,12 @@
 ghost use Rattle.std.specs.Prelude.{false};
 
 use crate::arch::kernel16::Lanes16;
-use crate::arch::plain::Plain;
 use crate::arch::{Kernel, steps};
 use crate::output::Output;
 
-/// Works in steps of 32 bytes, and decodes in steps of 64 bytes of text. Then comes at most one
-/// step of half that size, by 16 lanes. What is left goes byte by byte. Only `decode_unchecked` has
-/// no half step.
+/// Works in steps of 32 bytes, and decodes in steps of 64 bytes of text. What follows the last
+/// whole step is encoded as one piece, and is checked with the last bytes before it. Decoding takes
+/// at most one step of half that size, by 16 lanes, and then goes on as there.
 ///
 /// ```rust
 /// let mut bytes = [0; 4];
@@ -28,23 +27,26 @@ impl Kernel for Lanes32 {
 
     #[inline(always)]
     fn encode<O: Output>(input: &[u8], upper: bool, output: &mut O) {
-        steps::encode::<32, Lanes32, Lanes16, O>(input, upper, output);
+        steps::encode::<32, Lanes32, O>(input, upper, output);
     }
 
     // Not `always`: decoders name `CheckFirst` in a branch that this kernel never takes. With all
     // of `check` in that branch, they would be too large to be inlined.
     #[inline]
     fn check(input: &[u8]) -> bool {
-        steps::check::<32, Lanes32, Lanes16>(input)
+        if input.len() < 32 {
+            return Lanes16::check(input);
+        }
+        steps::check::<32, Lanes32>(input)
     }
 
     #[inline(always)]
     fn decode_checked(input: &[u8], output: &mut [u8]) -> bool {
-        steps::decode_checked::<32, Lanes32, Lanes16>(input, output)
+        steps::decode_checked::<32, Lanes32>(input, output)
     }
 
     #[inline(always)]
     fn decode_unchecked(input: &[u8], output: &mut [u8]) {
-        steps::decode_unchecked::<32, Lanes32, Plain>(input, output);
+        steps::decode_unchecked::<32, Lanes32>(input, output);
     }
 }

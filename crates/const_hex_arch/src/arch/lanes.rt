@@ -1,8 +1,8 @@
 //! The values of digits and the tests of lanes, for vectors of any number of lanes.
 
-ghost use Rattle.std.specs.Prelude.{◌≡◌, ◌*◌, ◌++◌, ◌≤◌, ◌↔◌, length, map, IsTrue};
+ghost use Rattle.std.specs.Prelude.{◌≡◌, ◌-◌, ◌*◌, ◌++◌, ◌≤◌, ◌↔◌, length, take, drop, map, IsTrue};
 ghost use Rattle.std.specs.List.{AllZip};
-ghost use Rattle.const_hex_arch.specs.Digits.{hex_value};
+ghost use Rattle.const_hex_arch.specs.Digits.{hex_value, IsDigit};
 ghost use Rattle.const_hex_arch.specs.Lanes.{AllNibbles, AllUnmarked, byte_pairs};
 ghost use Rattle.const_hex_arch.specs.Nibbles.{as_value, IsValueOf, IsMarkOf, IsPartOf, IsLimitOf};
 ghost use Rattle.const_hex_arch.specs.Runs.{HasRoom};
@@ -147,4 +147,19 @@ pub(crate) fn decode_digits<const N: usize, V: Vectors<N>>(
     ensures { AllDigits (first.entry ++ second.entry) → Spells (first.entry ++ second.entry) result }
 {
     V::merge(unhex(first), unhex(second))
+}
+
+/// A step that begins with the first `H` bytes and then the last `H`, and is filled up.
+#[inline(always)]
+pub(crate) fn ends<const H: usize, const N: usize>(bytes: &[u8], fill: u8) -> [u8; N]
+    requires half { 2 * H ≤ N }
+    requires size { H ≤ length bytes.now }
+    ensures ends { take (2 * H) result ≡ take H bytes.now ++ drop (length bytes.now - H) bytes.now }
+    ensures rest { IsDigit fill → AllDigits (drop (2 * H) result) }
+{
+    let mut step = [fill; N];
+    let lanes = &mut step[..];
+    lanes[..H].copy_from_slice(&bytes[..H]);
+    lanes[H..2 * H].copy_from_slice(&bytes[bytes.len() - H..]);
+    step
 }

@@ -3,12 +3,13 @@
 //! Each of these calls has a contract for every vector: [`encode_chunk`], [`check_chunk`],
 //! [`decode_chunk`], [`nibbles`] and [`unhex`].
 
-ghost use Rattle.std.specs.Prelude.{◌≡◌, ◌↔◌, [], ◌∷◌, ◌++◌, length, map, IsTrue, IsNone, IfSome};
+ghost use Rattle.std.specs.Prelude.{◌≡◌, ◌≤◌, ◌*◌, ◌↔◌, [], ◌∷◌, ◌++◌, length, map, IsTrue, IsNone, IfSome};
 ghost use Rattle.std.specs.List.{AllZip, concat};
 ghost use Rattle.std.specs.Str.{IsAscii};
 ghost use Rattle.const_hex_arch.specs.Digits.{hex_value};
 ghost use Rattle.const_hex_arch.specs.Lanes.{AllNibbles, low_digit, byte_pairs};
 ghost use Rattle.const_hex_arch.specs.Nibbles.{as_value, IsValueOf, IsLimitOf};
+ghost use Rattle.const_hex_arch.specs.Runs.{HasRoom};
 ghost use Rattle.const_hex_arch.specs.Texts.{hex_text, AllDigits, Spells};
 
 use crate::arch::kernel16::Lanes16;
@@ -151,6 +152,34 @@ fn encode_piece<const UPPER: bool>(bytes: &[u8]) -> [u8; 64]
     text[0].copy_to_slice(&mut piece[..32]);
     text[1].copy_to_slice(&mut piece[32..]);
     piece
+}
+
+/// The text of a step, in upper or lower digits.
+#[inline(always)]
+fn text_of(bytes: &[u8], upper: bool) -> [u8; 64]
+    requires { length bytes.now ≡ 32 }
+    ensures text { result ≡ hex_text upper bytes.now }
+    ensures ascii { IsAscii result }
+{
+    if upper {
+        encode_piece::<true>(bytes)
+    } else {
+        encode_piece::<false>(bytes)
+    }
+}
+
+/// Writes two digits for each of `H` to `2 * H` bytes, as one piece. The first `H` bytes and the last
+/// `H` share a vector.
+#[inline(always)]
+pub(crate) fn encode_ends<const H: usize, O: Output>(bytes: &[u8], upper: bool, output: &mut O)
+    requires half { (1 ≤ H) × (H ≤ 16) }
+    requires least { H ≤ length bytes.now }
+    requires most { length bytes.now ≤ 2 * H }
+    requires room { HasRoom (O.room output.old) (2 * length bytes.now) }
+    ensures { O.step output.old (hex_text upper bytes.now) output.new }
+{
+    let text = text_of(&lanes::ends::<H, 32>(bytes, 0), upper);
+    output.write_ends(&text[..2 * H], &text[2 * H..4 * H], 2 * bytes.len());
 }
 
 /// The bytes that the lanes of a text spell, and whether each of these lanes is a digit. If one is

@@ -1,19 +1,20 @@
-//! Kernels that work in steps of lanes, with another kernel for the rest.
+//! Kernels that work in steps of lanes, and then do the rest.
 
-ghost use Rattle.std.specs.Prelude.{◌≡◌, ◌+◌, ◌*◌, ◌<◌, ◌++◌, ◌↔◌, IsTrue, false, length};
+ghost use Rattle.std.specs.Prelude.{◌≡◌, ◌+◌, ◌*◌, ◌<◌, ◌≤◌, ◌++◌, ◌↔◌, IsTrue, false, length, take, drop};
 ghost use Rattle.const_hex_arch.specs.Lanes.{AllUnmarked};
 ghost use Rattle.const_hex_arch.specs.Runs.{HasRoom, Writes};
 ghost use Rattle.const_hex_arch.specs.Texts.{hex_text, AllDigits, Spells, Partial};
 
-use crate::arch::Kernel;
+use crate::arch::kernel16::Lanes16;
 use crate::arch::lanes::{self, Vectors};
+use crate::arch::{lanes16, lanes32, short};
 use crate::output::Output;
 use std::simd::prelude::*;
 
-/// Encodes two steps in each turn of the loop, and then one more step if the input has one. Another
-/// kernel encodes the rest.
+/// Encodes two steps in each turn of the loop, then one more step if the input has one, and then the
+/// rest, as one piece.
 #[inline(always)]
-pub(crate) fn encode<const N: usize, V: Vectors<N>, R: Kernel, O: Output>(
+pub(crate) fn encode<const N: usize, V: Vectors<N>, O: Output>(
     input: &[u8],
     upper: bool,
     output: &mut O,
@@ -29,17 +30,12 @@ pub(crate) fn encode<const N: usize, V: Vectors<N>, R: Kernel, O: Output>(
         V::encode_step(&input[middle..end], upper, output);
         at = end;
     }
-    encode_last::<N, V, R, O>(&input[at..], upper, output);
+    encode_last::<N, V, O>(&input[at..], upper, output);
 }
 
-/// Encodes one step if the input has one. Another kernel encodes the rest, which is less than a
-/// step.
+/// Encodes one step if the input has one, and then the rest, as one piece.
 #[inline(always)]
-fn encode_last<const N: usize, V: Vectors<N>, R: Kernel, O: Output>(
-    input: &[u8],
-    upper: bool,
-    output: &mut O,
-)
+fn encode_last<const N: usize, V: Vectors<N>, O: Output>(input: &[u8], upper: bool, output: &mut O)
     requires fewer { length input.now < 2 * N }
     requires room { HasRoom (O.room output.old) (2 * length input.now) }
     ensures { Writes O.step output.old (hex_text upper input.now) output.new }
@@ -50,61 +46,99 @@ fn encode_last<const N: usize, V: Vectors<N>, R: Kernel, O: Output>(
         V::encode_step(bytes, upper, output);
         left = rest;
     }
-    R::encode(left, upper, output);
+    encode_rest::<O>(left, upper, output);
 }
 
-/// Checks four steps by one test while there are four, and then what is left.
+/// Encodes at most 32 bytes, as one piece, or none if there are no bytes.
 #[inline(always)]
-pub(crate) fn check<const N: usize, V: Vectors<N>, R: Kernel>(input: &[u8]) -> bool
+fn encode_rest<O: Output>(rest: &[u8], upper: bool, output: &mut O)
+    requires few { length rest.now ≤ 32 }
+    requires room { HasRoom (O.room output.old) (2 * length rest.now) }
+    ensures { Writes O.step output.old (hex_text upper rest.now) output.new }
+{
+    if rest.len() > 0 {
+        encode_few::<O>(rest, upper, output);
+    }
+}
+
+/// Encodes 1 to 32 bytes, as one piece.
+// Not `always`: its callers would be too large to be inlined.
+#[inline]
+fn encode_few<O: Output>(bytes: &[u8], upper: bool, output: &mut O)
+    requires some { 1 ≤ length bytes.now }
+    requires few { length bytes.now ≤ 32 }
+    requires room { HasRoom (O.room output.old) (2 * length bytes.now) }
+    ensures { O.step output.old (hex_text upper bytes.now) output.new }
+{
+    if bytes.len() == 1 {
+        lanes16::encode_ends::<1, O>(bytes, upper, output);
+    } else if bytes.len() > 16 {
+        lanes32::encode_ends::<16, O>(bytes, upper, output);
+    } else if bytes.len() == 16 {
+        Lanes16::encode_step(bytes, upper, output);
+    } else if bytes.len() >= 8 {
+        lanes16::encode_ends::<8, O>(bytes, upper, output);
+    } else if bytes.len() >= 4 {
+        lanes16::encode_ends::<4, O>(bytes, upper, output);
+    } else {
+        lanes16::encode_ends::<2, O>(bytes, upper, output);
+    }
+}
+
+/// Checks four steps by one test while more are left, and two if more are left then. The last step of
+/// the input may begin before what is left. The input has at least a step.
+#[inline(always)]
+pub(crate) fn check<const N: usize, V: Vectors<N>>(input: &[u8]) -> bool
+    requires { N ≤ length input.now }
     ensures { IsTrue result ↔ AllDigits input.now }
 {
-    let mut left = input;
-    while left.len() >= 4 * N {
-        let (text, rest) = left.split_at(4 * N);
-        if !check_four_steps::<N, V>(text) {
+    let mut at = 0;
+    while input.len() - at > 4 * N {
+        let end = at + 4 * N;
+        if !check_four_steps::<N, V>(&input[at..end]) {
             return false;
         }
-        left = rest;
+        at = end;
     }
-    check_last::<N, V, R>(left)
+    if input.len() - at > 2 * N {
+        let end = at + 2 * N;
+        if !check_two_steps::<N, V>(&input[at..end]) {
+            return false;
+        }
+        at = end;
+    }
+    check_last::<N, V>(input, at)
 }
 
-/// Checks two steps by one test if the input has two, and then one step if one is left. Another
-/// kernel checks the rest, which is less than a step.
+/// Checks an input whose first `at` bytes are digits: what is left, at most two steps, by one test.
+/// The last step of the input may begin before what is left.
 #[inline(always)]
-fn check_last<const N: usize, V: Vectors<N>, R: Kernel>(input: &[u8]) -> bool
-    requires { length input.now < 4 * N }
+fn check_last<const N: usize, V: Vectors<N>>(input: &[u8], at: usize) -> bool
+    requires step { N ≤ length input.now }
+    requires within { at ≤ length input.now }
+    requires few { length input.now ≤ at + 2 * N }
+    requires digits { AllDigits (take at input.now) }
     ensures { IsTrue result ↔ AllDigits input.now }
 {
-    let mut left = input;
-    if left.len() >= 2 * N {
-        let (text, rest) = left.split_at(2 * N);
-        if !check_two_steps::<N, V>(text) {
-            return false;
-        }
-        left = rest;
+    let last = &input[input.len() - N..];
+    if input.len() - at > N {
+        check_pair::<N, V>(&input[at..at + N], last)
+    } else {
+        check_step::<N, V>(last)
     }
-    if left.len() >= N {
-        let (text, rest) = left.split_at(N);
-        if !check_step::<N, V>(text) {
-            return false;
-        }
-        left = rest;
-    }
-    R::check(left)
 }
 
-/// Decodes two steps at a time, and then single steps. If two steps are refused, single steps
-/// decode the first of them if possible. Another kernel decodes the rest.
+/// Decodes two steps at a time, then single steps, and then 16 bytes if they are left. If two steps
+/// are refused, single steps decode the first of them if possible. A short text goes by itself.
 #[inline(always)]
-pub(crate) fn decode_checked<const N: usize, V: Vectors<N>, R: Kernel>(
-    input: &[u8],
-    output: &mut [u8],
-) -> bool
+pub(crate) fn decode_checked<const N: usize, V: Vectors<N>>(input: &[u8], output: &mut [u8]) -> bool
     requires { length input.now ≡ 2 * length output.old }
     ensures spells { IsTrue result → Spells input.now output.new }
     ensures refused { result ≡ false → Partial output.old input.now output.new }
 {
+    if output.len() < 16 {
+        return short::decode(input, output);
+    }
     let mut at = 0;
     while output.len() - at >= 2 * N {
         let end = at + 2 * N;
@@ -113,18 +147,6 @@ pub(crate) fn decode_checked<const N: usize, V: Vectors<N>, R: Kernel>(
         }
         at = end;
     }
-    decode_steps::<N, V, R>(&input[2 * at..], &mut output[at..])
-}
-
-/// Decodes single steps, and stops at a refused one. Another kernel decodes the rest.
-#[inline(always)]
-#[tactic(auto, using(crate::proofs::Stepping::spells_rest, crate::proofs::Stepping::partial_rest))]
-fn decode_steps<const N: usize, V: Vectors<N>, R: Kernel>(input: &[u8], output: &mut [u8]) -> bool
-    requires { length input.now ≡ 2 * length output.old }
-    ensures spells { IsTrue result → Spells input.now output.new }
-    ensures refused { result ≡ false → Partial output.old input.now output.new }
-{
-    let mut at = 0;
     while output.len() - at >= N {
         let end = at + N;
         if !decode_step::<N, V>(&input[2 * at..2 * end], &mut output[at..end]) {
@@ -132,37 +154,103 @@ fn decode_steps<const N: usize, V: Vectors<N>, R: Kernel>(input: &[u8], output: 
         }
         at = end;
     }
-    R::decode_checked(&input[2 * at..], &mut output[at..])
+    if output.len() - at >= 16 {
+        let end = at + 16;
+        if !decode_step::<16, Lanes16>(&input[2 * at..2 * end], &mut output[at..end]) {
+            return false;
+        }
+        at = end;
+    }
+    decode_last(input, output, at)
 }
 
-/// Decodes digits in steps. Another kernel decodes the rest.
+/// Decodes a text whose first `at` bytes are decoded: by its last 16 bytes, some of them again. If a
+/// bad byte is found, what is left goes by itself.
 #[inline(always)]
-#[tactic(auto, using(crate::proofs::Stepping::spells_rest))]
-pub(crate) fn decode_unchecked<const N: usize, V: Vectors<N>, R: Kernel>(
-    input: &[u8],
-    output: &mut [u8],
-)
+fn decode_last(input: &[u8], output: &mut [u8], at: usize) -> bool
+    requires size { length input.now ≡ 2 * length output.old }
+    requires step { 16 ≤ length output.old }
+    requires within { at ≤ length output.old }
+    requires few { length output.old ≤ at + 16 }
+    requires front { Spells (take (2 * at) input.now) (take at output.old) }
+    ensures spells { IsTrue result → Spells input.now output.new }
+    ensures kept { result ≡ false → take at output.new ≡ take at output.old }
+    ensures refused { result ≡ false
+        → Partial (drop at output.old) (drop (2 * at) input.now) (drop at output.new) }
+{
+    if at == output.len() {
+        return true;
+    }
+    let start = output.len() - 16;
+    if decode_step::<16, Lanes16>(&input[2 * start..], &mut output[start..]) {
+        return true;
+    }
+    short::decode(&input[2 * at..], &mut output[at..])
+}
+
+/// Decodes digits in steps, and then by the last 16 bytes, some of them again. A short text goes by
+/// itself.
+#[inline(always)]
+pub(crate) fn decode_unchecked<const N: usize, V: Vectors<N>>(input: &[u8], output: &mut [u8])
     requires size { length input.now ≡ 2 * length output.old }
     requires digits { AllDigits input.now }
     ensures { Spells input.now output.new }
 {
+    if output.len() < 16 {
+        short::decode(input, output);
+        return;
+    }
     let mut at = 0;
     while output.len() - at >= N {
         let end = at + N;
         decode_digits_step::<N, V>(&input[2 * at..2 * end], &mut output[at..end]);
         at = end;
     }
-    R::decode_unchecked(&input[2 * at..], &mut output[at..]);
+    if output.len() - at >= 16 {
+        let end = at + 16;
+        decode_digits_step::<16, Lanes16>(&input[2 * at..2 * end], &mut output[at..end]);
+        at = end;
+    }
+    decode_digits_last(input, output, at);
+}
+
+/// As `decode_last`, for a text that has only digits.
+#[inline(always)]
+fn decode_digits_last(input: &[u8], output: &mut [u8], at: usize)
+    requires size { length input.now ≡ 2 * length output.old }
+    requires step { 16 ≤ length output.old }
+    requires within { at ≤ length output.old }
+    requires few { length output.old ≤ at + 16 }
+    requires front { Spells (take (2 * at) input.now) (take at output.old) }
+    requires digits { AllDigits input.now }
+    ensures { Spells input.now output.new }
+{
+    if at < output.len() {
+        let start = output.len() - 16;
+        decode_digits_step::<16, Lanes16>(&input[2 * start..], &mut output[start..]);
+    }
 }
 
 /// Whether every byte of a step is a digit.
 #[inline(always)]
 #[tactic(auto, using(std::proofs::lemmas::List::take_all))]
-fn check_step<const N: usize, V: Vectors<N>>(text: &[u8]) -> bool
+pub(crate) fn check_step<const N: usize, V: Vectors<N>>(text: &[u8]) -> bool
     requires { length text.now ≡ N }
     ensures { IsTrue result ↔ AllDigits text.now }
 {
     lanes::check::<N, V>(Simd::from_slice(text))
+}
+
+/// As `check_step`, for two steps that need not follow one another, by one test.
+#[inline(always)]
+#[tactic(auto, using(crate::proofs::LaneMarks::through, std::proofs::lemmas::List::take_all))]
+fn check_pair<const N: usize, V: Vectors<N>>(first: &[u8], second: &[u8]) -> bool
+    requires first { length first.now ≡ N }
+    requires second { length second.now ≡ N }
+    ensures { IsTrue result ↔ AllDigits (first.now ++ second.now) }
+{
+    let marks = lanes::two_marks::<N, V>(Simd::from_slice(first), Simd::from_slice(second));
+    lanes::are_unmarked(marks)
 }
 
 /// As `check_step`, for the text of two steps, by one test.
@@ -199,7 +287,7 @@ fn two_marks<const N: usize, V: Vectors<N>>(text: &[u8]) -> Simd<u8, N>
 /// is not a digit, the output stays unchanged, and the answer is false.
 #[inline(always)]
 #[tactic(auto, using(std::proofs::lemmas::Simd::put_chunk_whole))]
-fn decode_step<const N: usize, V: Vectors<N>>(text: &[u8], output: &mut [u8]) -> bool
+pub(crate) fn decode_step<const N: usize, V: Vectors<N>>(text: &[u8], output: &mut [u8]) -> bool
     requires text { length text.now ≡ 2 * N }
     requires output { length output.old ≡ N }
     ensures digits { IsTrue result ↔ AllDigits text.now }

@@ -5,6 +5,7 @@ ghost use Rattle.std.specs.Str.{IsAscii};
 ghost use Rattle.const_hex_arch.specs.SliceOutputs.{SliceStep, slice_bytes, slice_written, slice_name};
 
 use crate::output::Output;
+use std::simd::prelude::*;
 
 /// Writes into a slice, from its start.
 ///
@@ -56,11 +57,34 @@ impl Output for SliceOutput<'_> {
         }
         let end = self.count + bytes.len();
         let slice = &mut *self.slice;
-        slice[self.count..end].copy_from_slice(bytes);
+        copy_over(&mut slice[self.count..end], bytes);
         self.count = end;
+    }
+
+    #[inline(always)]
+    fn write_ends(&mut self, first: &[u8], last: &[u8], count: usize) {
+        self.write(first);
+        self.count -= first.len() + last.len() - count;
+        self.write(last);
     }
 
     ghost use Rattle.std.proofs.Common.{arith};
 
     ghost shrinks = { λ s piece t h. Prim.grind (arith) };
+}
+
+/// Puts bytes in the place of as many others.
+// The piece of a step goes through registers. Byte by byte, the compiler may write it to memory first.
+#[inline(always)]
+fn copy_over(place: &mut [u8], bytes: &[u8])
+    requires { length place.old ≡ length bytes.now }
+    ensures { place.new ≡ bytes.now }
+{
+    if bytes.len() == 64 {
+        u8x64::from_slice(bytes).copy_to_slice(place);
+    } else if bytes.len() == 32 {
+        u8x32::from_slice(bytes).copy_to_slice(place);
+    } else {
+        place.copy_from_slice(bytes);
+    }
 }

@@ -1,17 +1,18 @@
-use Rattle.std.proofs.Common.{refl}
-use Rattle.const_hex_arch.proofs.LaneMarks.{through}
-use Rattle.const_hex_arch.proofs.Spelling.{false_is_true}
-use Rattle.const_hex_arch.proofs.Stepping.{checked_step, digits_left, digits_rest, parts}
+use Rattle.std.proofs.Common.{refl, arith}
+use Rattle.const_hex_arch.proofs.Stepping.{digits_step}
 use Rattle.const_hex_arch.proofs.arch.steps.check.Goals as goal
+use Rattle.const_hex_arch.proofs.arch.steps.check.Goals.{then-input-at+else-not-check_two_steps, else-input-at}
 
-pub returns-then-not-check_four_steps : goal.returns-then-not-check_four_steps
-returns-then-not-check_four_steps g c =
-    let halves = parts _ c.split_at.ensures.front c.split_at.ensures.back in
-    (λ t. absurd (false_is_true t), λ d. c.if-not-check_four_steps.ensures.1 (digits_left _ _ c.loop-left.invariant halves d))
+pub loop-at-preserved : goal.loop-at-preserved
+loop-at-preserved g c = record {
+  within = omega arith;
+  digits = digits_step _ _ _ _ (omega arith) c.loop-at.invariant.digits (c.if-not-check_four_steps.ensures.0 refl);
+}
 
-pub loop-left-preserved : goal.loop-left-preserved
-loop-left-preserved g c =
-    checked_step _ c.loop-left.invariant (parts _ c.split_at.ensures.front c.split_at.ensures.back) (c.if-not-check_four_steps.ensures.0 refl)
-
-pub returns : goal.returns
-returns g c = through c.check_last.ensures (digits_rest c.loop-left.invariant)
+pub check_last-requires-clause-digits : goal.check_last-requires-clause-digits
+check_last-requires-clause-digits g c =
+    elim c.if-input-at.branch [
+      | then-input-at+else-not-check_two_steps w ↦
+          rw w.at-is (digits_step _ _ _ _ (omega arith) c.loop-at.invariant.digits (w.if-not-check_two_steps.ensures.0 refl))
+      | else-input-at w ↦ rw w.at-is c.loop-at.invariant.digits
+    ]

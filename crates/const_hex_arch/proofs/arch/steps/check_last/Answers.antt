@@ -1,21 +1,26 @@
-use Rattle.std.proofs.Common.{refl}
-use Rattle.const_hex_arch.proofs.LaneMarks.{through}
-use Rattle.const_hex_arch.proofs.Stepping.{IsChecked, none_checked, checked_step, digits_rest, parts}
+use Rattle.std.proofs.Common.{◌+◌, ◌-◌, length, take, drop, arith}
+use Rattle.std.proofs.lemmas.List.Elements.{All-take, All-drop}
+use Rattle.const_hex_arch.specs.Digits.{IsDigit}
+use Rattle.const_hex_arch.proofs.Spelling.{digits_append}
+use Rattle.const_hex_arch.proofs.Stepping.{digits_step, digits_last}
 use Rattle.const_hex_arch.proofs.arch.steps.check_last.Goals as goal
-use Rattle.const_hex_arch.proofs.arch.steps.check_last.Goals.{then-left+else-not-check_two_steps, else-left, then-left-2+else-not-check_step, else-left-2}
 
-pub returns : goal.returns
-returns g c =
-    let none = none_checked c.args.input.now in
-    let pair : IsChecked c.args.input.now c.if-left.left.now = elim c.if-left.branch [
-      | then-left+else-not-check_two_steps w ↦
-          rw w.left-is (checked_step _ none (parts _ w.split_at.ensures.front w.split_at.ensures.back) (w.if-not-check_two_steps.ensures.0 refl))
-      | else-left w ↦ rw w.left-is none
-    ] in
-    let last : IsChecked c.args.input.now c.if-left-2.left.now = elim c.if-left-2.branch [
-      | then-left-2+else-not-check_step w ↦
-          let halves = w.split_at-then-left-2.ensures in
-          rw w.left-is (checked_step _ pair (parts _ halves.front halves.back) (w.if-not-check_step.ensures.0 refl))
-      | else-left-2 w ↦ rw w.left-is pair
-    ] in
-    through c.check.ensures (digits_rest last)
+pub returns-then-input-at : goal.returns-then-input-at
+returns-then-input-at g c =
+    let u = c.args.input.now in
+    let at = c.args.at in
+    let end = at + g.row.N in
+    let start = length u - g.row.N in
+    let pair = digits_append (take (end - at) (drop at u)) (take (length u - start) (drop start u)) in (
+      λ t.
+          let both = pair.0 (c.check_pair.ensures.0 t) in
+          (digits_last u end start (omega arith) (digits_step u at (end - at) end (omega arith) c.requires.digits both.0)).0 both.1,
+      λ d. c.check_pair.ensures.1 (pair.1 (All-take IsDigit (end - at) (drop at u) (All-drop IsDigit at u d), All-take IsDigit (length u - start) (drop start u) (All-drop IsDigit start u d))),
+    )
+
+pub returns-else-input-at : goal.returns-else-input-at
+returns-else-input-at g c =
+    let u = c.args.input.now in
+    let start = length u - g.row.N in
+    let last = digits_last u c.args.at start (omega arith) c.requires.digits in
+    (λ t. last.0 (c.check_step.ensures.0 t), λ d. c.check_step.ensures.1 (last.1 d))

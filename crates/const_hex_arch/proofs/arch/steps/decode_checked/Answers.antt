@@ -1,21 +1,54 @@
-use Rattle.std.proofs.Common.{refl, arith}
-use Rattle.const_hex_arch.proofs.Stepping.{IsDecoded, decoded_step, kept_step, spells_rest, partial_rest}
+use Rattle.std.proofs.Common.{◌*◌, refl, arith}
+use Rattle.const_hex_arch.proofs.Spelling.{false_is_true, Partial-after}
+use Rattle.const_hex_arch.proofs.Stepping.{IsDecoded, decoded_step, kept_step, refused_step}
 use Rattle.const_hex_arch.proofs.arch.steps.decode_checked.Goals as goal
-use Rattle.const_hex_arch.proofs.arch.steps.decode_checked.Goals.{else-loop-output-test, then-loop-output-test+then-not-decode_two_steps}
+use Rattle.const_hex_arch.proofs.arch.steps.decode_checked.Goals.{else-loop-output-test, then-loop-output-test+then-not-decode_two_steps, then-output-at-ge16+else-not-decode_step-2, else-output-at-ge16}
 
 pub loop-output-preserved : goal.loop-output-preserved
 loop-output-preserved g c =
     decoded_step _ _ _ c.loop-output.invariant (omega arith) (omega arith) (omega arith) (omega arith) (c.if-not-decode_two_steps.ensures.spells refl)
 
-pub returns : goal.returns
-returns g c =
-    let decoded : IsDecoded c.args.input.now c.args.output.now c.loop-output-test.output c.loop-output.at =
-    elim c.loop-output-test.branch [
-      | else-loop-output-test w ↦ rw w.output-is c.loop-output.invariant
-      | then-loop-output-test+then-not-decode_two_steps w ↦
-          rw (w.output-is, kept_step c.loop-output.output _ c.loop-output.at _ (w.if-not-decode_two_steps.ensures.unchanged refl)) c.loop-output.invariant
+pub loop-output-2-init : goal.loop-output-2-init
+loop-output-2-init g c = elim c.loop-output-test.branch [
+  | else-loop-output-test w ↦ rw w.output-is c.loop-output.invariant
+  | then-loop-output-test+then-not-decode_two_steps w ↦
+      rw (w.output-is, kept_step c.loop-output.output _ c.loop-output.at _ (w.if-not-decode_two_steps.ensures.unchanged refl)) c.loop-output.invariant
+]
+
+pub loop-output-2-preserved : goal.loop-output-2-preserved
+loop-output-2-preserved g c =
+    decoded_step _ _ _ c.loop-output-2.invariant (omega arith) (omega arith) (omega arith) (omega arith) (c.if-not-decode_step.ensures.spells refl)
+
+pub returns-then-not-decode_step-clause-refused : goal.returns-then-not-decode_step-clause-refused
+returns-then-not-decode_step-clause-refused g c = λ _.
+    let is = c.if-not-decode_step.ensures in
+    refused_step _ _ c.loop-output-2.invariant c.requires (is.unchanged refl) (λ d. false_is_true (is.digits.1 d))
+
+pub returns-then-not-decode_step-2-clause-refused : goal.returns-then-not-decode_step-2-clause-refused
+returns-then-not-decode_step-2-clause-refused g c = λ _.
+    let is = c.if-not-decode_step-2.ensures in
+    refused_step _ _ c.loop-output-2.invariant c.requires (is.unchanged refl) (λ d. false_is_true (is.digits.1 d))
+
+pub decode_last-requires-clause-front : goal.decode_last-requires-clause-front
+decode_last-requires-clause-front g c = elim c.if-output-at-ge16.branch [
+  | then-output-at-ge16+else-not-decode_step-2 w ↦
+      let last = decoded_step _ _ _ c.loop-output-2.invariant (omega arith) (omega arith) (omega arith) (omega arith) (w.if-not-decode_step-2.ensures.spells refl) in
+      rw (w.output-is, w.at-is) last.front
+  | else-output-at-ge16 w ↦ rw (w.output-is, w.at-is) c.loop-output-2.invariant.front
+]
+
+pub returns-clause-refused : goal.returns-clause-refused
+returns-clause-refused g c = λ f.
+    let at = c.if-output-at-ge16.at in
+    let decoded : IsDecoded c.args.input.now c.args.output.now c.if-output-at-ge16.output at = elim c.if-output-at-ge16.branch [
+      | then-output-at-ge16+else-not-decode_step-2 w ↦
+          rw (w.output-is, w.at-is)
+          (decoded_step _ _ _ c.loop-output-2.invariant (omega arith) (omega arith) (omega arith) (omega arith) (w.if-not-decode_step-2.ensures.spells refl))
+      | else-output-at-ge16 w ↦ rw (w.output-is, w.at-is) c.loop-output-2.invariant
     ] in
-    let is = c.decode_steps.ensures in record {
-      spells = λ t. spells_rest _ decoded c.requires (omega arith) (is.spells t);
-      refused = λ t. partial_rest _ decoded c.requires (omega arith) (is.refused t);
-    }
+    let within = decoded.within in
+    let same = decoded.same_length in
+    let is = c.decode_last.ensures in
+    let long = c.decode_last.auto.output in
+    Partial-after c.args.output.now c.args.input.now c.decode_last.new.output at (2 * at) refl
+    (omega arith) (omega arith) (omega arith) (rw (is.kept f) decoded.front) (rw decoded.rest at (is.refused f))

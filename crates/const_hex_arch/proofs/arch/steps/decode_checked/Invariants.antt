@@ -7,3 +7,9 @@ invariant-loop-output g l = IsDecoded l.input l.initial.output l.output l.at
 
 abbrev pub decreases-loop-output : goal.decreases-loop-output
 decreases-loop-output g l = length l.output - l.at
+
+abbrev pub invariant-loop-output-2 : goal.invariant-loop-output-2
+invariant-loop-output-2 g l = IsDecoded l.input l.fn.output l.output l.at
+
+abbrev pub decreases-loop-output-2 : goal.decreases-loop-output-2
+decreases-loop-output-2 g l = length l.output - l.at

@@ -1,0 +1,111 @@
+//! Checks and decodes a short text, by its first and its last digits at once.
+
+ghost use Rattle.std.specs.Prelude.{◌≡◌, ◌-◌, ◌*◌, ◌≤◌, ◌++◌, ◌↔◌, length, take, IsTrue, false};
+ghost use Rattle.const_hex_arch.specs.Texts.{AllDigits, Spells, Partial};
+
+use crate::arch::kernel16::Lanes16;
+use crate::arch::plain::Plain;
+use crate::arch::{Kernel, lanes, steps};
+use std::simd::prelude::*;
+
+/// Whether every byte is a digit, of at most 16.
+#[inline(always)]
+pub(crate) fn check(text: &[u8]) -> bool
+    requires { length text.now ≤ 16 }
+    ensures { IsTrue result ↔ AllDigits text.now }
+{
+    if text.len() >= 8 {
+        check_ends::<8>(text)
+    } else if text.len() >= 4 {
+        check_ends::<4>(text)
+    } else if text.len() >= 2 {
+        check_ends::<2>(text)
+    } else {
+        Plain::check(text)
+    }
+}
+
+/// As `check`, for `H` to `2 * H` bytes.
+#[inline(always)]
+fn check_ends<const H: usize>(text: &[u8]) -> bool
+    requires half { H ≤ 8 }
+    requires least { H ≤ length text.now }
+    requires most { length text.now ≤ 2 * H }
+    ensures { IsTrue result ↔ AllDigits text.now }
+{
+    steps::check_step::<16, Lanes16>(&lanes::ends::<H, 16>(text, b'0'))
+}
+
+/// Fills an output of at most 16 bytes with the bytes that the text spells, and returns true.
+/// Returns false if some byte is not a digit. Then a front of the output may be decoded.
+// A call of its own: with its body, the calls that decode would be too large to be inlined.
+#[inline(never)]
+pub(crate) fn decode(text: &[u8], output: &mut [u8]) -> bool
+    requires size { length text.now ≡ 2 * length output.old }
+    requires short { length output.old ≤ 16 }
+    ensures spells { IsTrue result → Spells text.now output.new }
+    ensures refused { result ≡ false → Partial output.old text.now output.new }
+{
+    if decode_whole(text, output) {
+        return true;
+    }
+    Plain::decode_checked(text, output)
+}
+
+/// Fills an output of at most 16 bytes with the bytes that the text spells, and returns true.
+/// Otherwise the output stays unchanged, and the answer is false.
+#[inline(always)]
+fn decode_whole(text: &[u8], output: &mut [u8]) -> bool
+    requires size { length text.now ≡ 2 * length output.old }
+    requires short { length output.old ≤ 16 }
+    ensures spells { IsTrue result → Spells text.now output.new }
+    ensures unchanged { result ≡ false → output.new ≡ output.old }
+{
+    if output.len() >= 8 {
+        decode_ends::<8, 16>(text, output)
+    } else if output.len() >= 4 {
+        decode_ends::<4, 8>(text, output)
+    } else if output.len() >= 2 {
+        decode_ends::<2, 4>(text, output)
+    } else if output.len() == 1 {
+        decode_ends::<1, 2>(text, output)
+    } else {
+        false
+    }
+}
+
+/// As `decode_whole`, for `H` to `2 * H` bytes. `D` digits spell `H` bytes.
+#[inline(always)]
+fn decode_ends<const H: usize, const D: usize>(text: &[u8], output: &mut [u8]) -> bool
+    requires half { H ≤ 8 }
+    requires digits { D ≡ 2 * H }
+    requires size { length text.now ≡ 2 * length output.old }
+    requires least { H ≤ length output.old }
+    requires most { length output.old ≤ 2 * H }
+    ensures spells { IsTrue result → Spells text.now output.new }
+    ensures unchanged { result ≡ false → output.new ≡ output.old }
+{
+    let mut bytes = [0; 16];
+    let step = lanes::ends::<D, 32>(text, b'0');
+    let are_digits = steps::decode_step::<16, Lanes16>(&step, &mut bytes);
+    if are_digits {
+        put::<H>(
+            Simd::from_slice(&bytes),
+            Simd::from_slice(&bytes[H..]),
+            output,
+        );
+    }
+    are_digits
+}
+
+/// Fills the output with the first bytes and the last ones. The last ones replace some of the first.
+#[inline(always)]
+fn put<const H: usize>(first: Simd<u8, H>, last: Simd<u8, H>, output: &mut [u8])
+    requires least { H ≤ length output.old }
+    requires most { length output.old ≤ 2 * H }
+    ensures { output.new ≡ take (length output.old - H) first.entry ++ last.entry }
+{
+    let start = output.len() - H;
+    first.copy_to_slice(output);
+    last.copy_to_slice(&mut output[start..]);
+}
