@@ -13,4 +13,5 @@
 -- steps and locals to `Code/Mir.antt` in that folder. Replace the old numbers by the new ones, from
 -- the top down, and check after each. The check names the first step that no longer fits. Both
 -- walks are the same except for the number of lanes. The toolchain's guide is its `docs/WALKS.md`.
+pub mod DecodedChunk
 pub mod LaneOptions

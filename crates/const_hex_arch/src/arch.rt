@@ -5,8 +5,6 @@ ghost use Rattle.const_hex_arch.specs.Runs.{HasRoom, Writes};
 ghost use Rattle.const_hex_arch.specs.Texts.{hex_text, prefix_of, full_text, AllDigits, Spells, Partial};
 
 pub mod check_first;
-pub mod kernel16;
-pub mod kernel32;
 mod lanes;
 pub mod lanes16;
 pub mod lanes32;
@@ -14,7 +12,7 @@ pub mod plain;
 mod short;
 mod steps;
 
-use crate::arch::kernel32::Lanes32;
+use crate::arch::lanes32::Lanes32;
 use crate::output::Output;
 
 /// The kernel of every call that does not name one. It is named here and nowhere else.

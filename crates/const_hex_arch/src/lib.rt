@@ -24,8 +24,8 @@ pub mod tables;
 pub mod text;
 
 pub use crate::arch::check_first::CheckFirst;
-pub use crate::arch::kernel16::Lanes16;
-pub use crate::arch::kernel32::Lanes32;
+pub use crate::arch::lanes16::Lanes16;
+pub use crate::arch::lanes32::Lanes32;
 pub use crate::arch::plain::Plain;
 pub use crate::arch::{FixedKernel, Kernel, encode_full, lanes16, lanes32};
 pub use crate::output::Output;
@@ -38,4 +38,4 @@ pub use crate::stream::BufferedHex;
 pub use crate::tables::{
     HEX_CHARS_LOWER, HEX_CHARS_UPPER, HEX_DECODE_LUT, NIL, digit_at, value_at,
 };
-pub use crate::text::{fill_text, text_size};
+pub use crate::text::{ascii_text, fill_text, text_size};

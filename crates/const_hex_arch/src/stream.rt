@@ -1,6 +1,6 @@
 //! The text of bytes, handed to a sink in large pieces.
 
-ghost use Rattle.std.specs.Prelude.{◌≡◌, ◌≤◌, ◌↔◌, false, not, is_ok, length, IsTrue};
+ghost use Rattle.std.specs.Prelude.{◌≡◌, ◌≤◌, false, not, is_ok, length};
 ghost use Rattle.const_hex_arch.specs.Texts.{full_text};
 ghost use Rattle.const_hex_arch.specs.Streams.{Handed, Streams, TellsCut, hex_bytes};
 
@@ -8,7 +8,7 @@ use crate::arch::{FixedKernel, Kernel, encode_full};
 use crate::output::buffered::BufferedOutput;
 use crate::sink::output::SinkOutput;
 use crate::sink::{Sink, SinkError, refusal_of};
-use crate::text::{fill_text, text_size};
+use crate::text::{ascii_text, fill_text, text_size};
 
 /// How many bytes are gathered for one call of a sink. A text of at most this length is handed over
 /// whole.
@@ -79,6 +79,7 @@ impl<'a, const UPPER: bool, const PREFIX: bool> BufferedHex<'a, UPPER, PREFIX> {
     /// assert!(rt; hex.write_with::<Plain, PieceSink>(&mut sink).is_ok());
     /// assert_eq!(rt; sink.pieces()[0].as_str(), "6b697769");
     /// ```
+    #[tactic(auto, using(crate::proofs::Writing::full_text_size))]
     pub fn write_with<K: Kernel, S: Sink>(&self, sink: &mut S) -> Result<(), SinkError>
         requires { S.is_refused sink.old ≡ false }
         ensures streams { Streams S.step S.is_refused sink.old
@@ -88,30 +89,20 @@ impl<'a, const UPPER: bool, const PREFIX: bool> BufferedHex<'a, UPPER, PREFIX> {
             → TellsCut (S.told sink.old) (full_text PREFIX UPPER (hex_bytes self.now))
             (S.told sink.new) }
     {
-        if self.fits(SHORT) {
+        let size = text_size(PREFIX, self.bytes.len());
+        if size <= SHORT {
             self.write_whole::<K, S, SHORT>(sink)
-        } else if self.fits(MIDDLE) {
+        } else if size <= MIDDLE {
             self.write_whole::<K, S, MIDDLE>(sink)
-        } else if self.fits(GATHERED) {
+        } else if size <= GATHERED {
             self.write_whole::<K, S, GATHERED>(sink)
         } else {
             self.gather::<K, S>(sink)
         }
     }
 
-    /// Whether the text has at most `room` bytes. The room must be at least 2.
-    #[inline(always)]
-    #[tactic(auto, using(crate::proofs::Writing::full_text_size))]
-    fn fits(&self, room: usize) -> bool
-        requires { 2 ≤ room }
-        ensures { IsTrue result ↔ (length (full_text PREFIX UPPER (hex_bytes self.now)) ≤ room) }
-    {
-        let digits = if PREFIX { room - 2 } else { room };
-        self.bytes.len() <= digits / 2
-    }
-
     /// As `write_with`, for a text of at most `N` bytes: one call, or none if the text is empty.
-    #[tactic(auto, using(crate::proofs::Writing::full_text_size, crate::proofs::Writing::texts))]
+    #[tactic(auto, using(crate::proofs::Writing::full_text_size))]
     fn write_whole<K: Kernel, S: Sink, const N: usize>(&self, sink: &mut S) -> Result<(), SinkError>
         requires accepting { S.is_refused sink.old ≡ false }
         requires size { N ≤ 4096 }
@@ -125,7 +116,7 @@ impl<'a, const UPPER: bool, const PREFIX: bool> BufferedHex<'a, UPPER, PREFIX> {
         if text.is_empty() {
             return Ok(());
         }
-        sink.write_str(unsafe { str::from_utf8_unchecked(text) })
+        sink.write_str(ascii_text(text))
     }
 
     /// As `write_with`, with up to 4096 bytes gathered for each call.

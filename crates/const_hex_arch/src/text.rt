@@ -41,3 +41,17 @@ pub fn fill_text<K: Kernel>(input: &[u8], prefix: bool, upper: bool, output: &mu
     let mut written = SliceOutput::new(output);
     encode_full::<K, SliceOutput>(input, prefix, upper, &mut written);
 }
+
+/// ASCII bytes as text, without a copy or a test at run time. Does not allocate.
+///
+/// ```rust
+/// assert_eq!(rt; ascii_text(b"0x6b"), "0x6b");
+/// ```
+#[inline(always)]
+#[tactic(auto, using(crate::proofs::Writing::texts))]
+pub fn ascii_text(bytes: &[u8]) -> &str
+    requires { IsAscii bytes.now }
+    ensures { result.now ≡ bytes.now }
+{
+    unsafe { str::from_utf8_unchecked(bytes) }
+}

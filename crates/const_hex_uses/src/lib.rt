@@ -5,6 +5,7 @@
 
 pub mod accounts;
 pub mod addresses;
+pub mod chunks;
 pub mod constants;
 pub mod files;
 pub mod json_rpc;

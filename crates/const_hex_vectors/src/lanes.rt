@@ -2,6 +2,7 @@
 
 use crate::texts::holds;
 use const_hex::{Lanes16, Lanes32, lanes16, lanes32};
+use const_hex_uses::chunks::decoded_or;
 use std::simd::prelude::*;
 
 // Bytes at the edges of the ranges of digits, and what the lane arithmetic makes of them.
@@ -57,33 +58,6 @@ fn text_of_a_step(rt: HostRuntime) {
     let [first, second] = lanes32::encode_chunk::<true>(lanes);
     assert!(rt; first.to_array() == *b"A0A1A2A3A4A5A6A7A8A9AAABACADAEAF");
     assert!(rt; second.to_array() == *b"B0B1B2B3B4B5B6B7B8B9BABBBCBDBEBF");
-}
-
-/// What decodes a step of vectors `V`. Generated proofs cover an option of a type parameter, and
-/// none of a vector. So the calls of `decode_chunk` stand in impls of this trait, which are proved
-/// by hand, and all else is generic.
-trait DecodeChunk<V> {
-    fn decode_chunk(text: [V; 2]) -> Option<V>;
-}
-
-impl DecodeChunk<u8x16> for Lanes16 {
-    fn decode_chunk(text: [u8x16; 2]) -> Option<u8x16> {
-        lanes16::decode_chunk(text)
-    }
-}
-
-impl DecodeChunk<u8x32> for Lanes32 {
-    fn decode_chunk(text: [u8x32; 2]) -> Option<u8x32> {
-        lanes32::decode_chunk(text)
-    }
-}
-
-/// The bytes that a step spells, or `other` if it is refused.
-fn decoded_or<V: Copy, D: DecodeChunk<V>>(text: [V; 2], other: V) -> V {
-    match D::decode_chunk(text) {
-        Some(bytes) => bytes,
-        None => other,
-    }
 }
 
 #[test]

@@ -47,7 +47,7 @@ use Rattle.const_hex.specs.declared.error.FromHexError.TheVariants.{InvalidStrin
 use Rattle.const_hex.proofs.Walks.LentSlice.{Rests-of, let_go, shared, InvalidStringLength-of}
 use Rattle.const_hex.specs.contracts.codec.encoders.fits as t
 use Rattle.const_hex.specs.contracts.codec.encoders.filled as g
-use Rattle.const_hex.specs.contracts.codec.encoders.lent_text as h
+use Rattle.const_hex_arch.specs.contracts.text.ascii_text as h
 use Rattle.const_hex.proofs.Walks.Flags.{flag, flag_lit}
 
 refused_fits : {A E : Type 0} (res : Result A E) (e : E) (F : Type 0) (r : Bool) → res ≡ Err e → T (not r) → IsTrue r ↔ F → IsOk res ↔ F

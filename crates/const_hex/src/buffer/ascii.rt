@@ -4,7 +4,7 @@ ghost use Rattle.std.specs.Prelude.{◌≡◌, ◌<◌, length, replicate, slice
 ghost use Rattle.std.specs.Str.{IsAscii};
 ghost use Rattle.const_hex_arch.specs.Texts.{full_text, text_length};
 
-use const_hex_arch::{FixedKernel, fill_text};
+use const_hex_arch::{FixedKernel, ascii_text, fill_text};
 
 /// An array of LEN bytes, all of them ASCII.
 #[derive(Clone, Copy)]
@@ -54,10 +54,9 @@ impl<const LEN: usize> AsciiArray<LEN> {
 
     /// The text, without a copy or a test.
     #[inline]
-    #[tactic(auto, using(const_hex_arch::proofs::Writing::texts))]
     pub(crate) fn as_str(&self) -> &str
         ensures { result.now ≡ self.now.bytes }
     {
-        unsafe { str::from_utf8_unchecked(&self.bytes) }
+        ascii_text(&self.bytes)
     }
 }

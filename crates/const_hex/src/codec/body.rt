@@ -30,8 +30,10 @@ fn is_prefix(first: u8, second: u8) -> bool
     pair == u16::from_le_bytes(*b"0x") || pair == u16::from_le_bytes(*b"0X")
 }
 
-/// The refusal that names the first byte behind the prefix that is not a digit, and its place in
-/// the whole text. There must be such a byte.
+/// The error that names the first byte behind the prefix that is not a digit, and its place in the
+/// whole text. There must be such a byte.
+// If another process makes the text valid meanwhile, no byte is found. Then the error names the end
+// of the text. The check proves that this cannot come while the text stays the same.
 #[cold]
 #[tactic(auto, using(const_hex_arch::proofs::Spelling::digits_more))]
 pub(crate) fn bad_character(text: &[u8]) -> FromHexError
@@ -49,7 +51,10 @@ pub(crate) fn bad_character(text: &[u8]) -> FromHexError
             };
         }
     }
-    unreachable!()
+    FromHexError::InvalidHexCharacter {
+        c: '\0',
+        index: text.len(),
+    }
 }
 
 /// Fills the output with the bytes that the body spells, and returns true. Returns false if some

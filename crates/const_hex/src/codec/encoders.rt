@@ -10,7 +10,7 @@ ghost use Rattle.const_hex.specs.declared.error.FromHexError.TheVariants.{Invali
 
 use crate::error::FromHexError;
 use crate::reserved::reserved_bytes;
-use const_hex_arch::{FixedKernel, Kernel, fill_text, text_size};
+use const_hex_arch::{FixedKernel, Kernel, ascii_text, fill_text};
 use std::alloc::{AllocError, Global};
 
 /// The text, as a `String`.
@@ -109,12 +109,12 @@ pub fn encode_with<K: Kernel, const UPPER: bool>(
     owned::<K>(alloc, input, false, UPPER)
 }
 
-/// Whether the output length is exactly two bytes for each byte of the input.
+/// Whether there are exactly two digits for each byte. No length is too large for this test.
 #[inline(always)]
-fn fits(input_length: usize, output_length: usize) -> bool
-    ensures { IsTrue result ↔ (output_length ≡ 2 * input_length) }
+fn fits(bytes: usize, digits: usize) -> bool
+    ensures { IsTrue result ↔ (digits ≡ 2 * bytes) }
 {
-    output_length % 2 == 0 && output_length / 2 == input_length
+    digits % 2 == 0 && digits / 2 == bytes
 }
 
 /// Fills an output of the text's length with the text, and returns it.
@@ -127,22 +127,6 @@ fn filled<'a>(input: &[u8], upper: bool, output: &'a mut [u8]) -> &'a mut [u8]
 {
     fill_text::<FixedKernel>(input, false, upper, output);
     output
-}
-
-/// Fills a slice with the text, if the slice has exactly the text's length.
-#[inline(always)]
-fn into_slice(input: &[u8], upper: bool, output: &mut [u8]) -> Result<(), FromHexError>
-    ensures fits { IsOk result ↔ (length output.old ≡ 2 * length input.now) }
-    ensures text { OnOk result (output.new ≡ hex_text upper input.now) }
-    ensures refusal { OnErr result (result ≡ Err InvalidStringLength) }
-    ensures unchanged { OnErr result (output.new ≡ output.old) }
-{
-    if fits(input.len(), output.len()) {
-        filled(input, upper, output);
-        Ok(())
-    } else {
-        Err(FromHexError::InvalidStringLength)
-    }
 }
 
 /// Fills the output with the text of the input, with lower letters.
@@ -162,7 +146,7 @@ pub fn encode_to_slice(input: &[u8], output: &mut [u8]) -> Result<(), FromHexErr
     ensures refusal { OnErr result (result ≡ Err InvalidStringLength) }
     ensures unchanged { OnErr result (output.new ≡ output.old) }
 {
-    into_slice(input, false, output)
+    encode_full_to_slice(input, false, false, output)
 }
 
 /// As [`encode_to_slice`], with upper letters. Takes no memory.
@@ -179,7 +163,7 @@ pub fn encode_to_slice_upper(input: &[u8], output: &mut [u8]) -> Result<(), From
     ensures refusal { OnErr result (result ≡ Err InvalidStringLength) }
     ensures unchanged { OnErr result (output.new ≡ output.old) }
 {
-    into_slice(input, true, output)
+    encode_full_to_slice(input, false, true, output)
 }
 
 /// Fills the output with the text of the input, in upper or lower letters, behind `0x` if `prefix`
@@ -206,21 +190,12 @@ pub fn encode_full_to_slice(
     ensures refusal { OnErr result (result ≡ Err InvalidStringLength) }
     ensures unchanged { OnErr result (output.new ≡ output.old) }
 {
-    if output.len() != text_size(prefix, input.len()) {
+    let digits = output.len().checked_sub(if prefix { 2 } else { 0 });
+    if !digits.is_some_and(|digits| fits(input.len(), digits)) {
         return Err(FromHexError::InvalidStringLength);
     }
     fill_text::<FixedKernel>(input, prefix, upper, output);
     Ok(())
-}
-
-/// ASCII bytes as text, without a copy or a test.
-#[inline(always)]
-#[tactic(auto, using(const_hex_arch::proofs::Writing::texts))]
-fn lent_text(bytes: &[u8]) -> &str
-    requires { IsAscii bytes.now }
-    ensures { result.now ≡ bytes.now }
-{
-    unsafe { str::from_utf8_unchecked(bytes) }
 }
 
 /// Fills the output with the text of the input, with lower letters, and lends it as text.
@@ -242,7 +217,7 @@ pub fn encode_to_str<'a>(input: &[u8], output: &'a mut [u8]) -> Result<&'a str, 
     if !fits(input.len(), output.len()) {
         return Err(FromHexError::InvalidStringLength);
     }
-    Ok(lent_text(filled(input, false, output)))
+    Ok(ascii_text(filled(input, false, output)))
 }
 
 /// As [`encode_to_str`], with upper letters. Takes no memory.
@@ -261,5 +236,5 @@ pub fn encode_to_str_upper<'a>(input: &[u8], output: &'a mut [u8]) -> Result<&'a
     if !fits(input.len(), output.len()) {
         return Err(FromHexError::InvalidStringLength);
     }
-    Ok(lent_text(filled(input, true, output)))
+    Ok(ascii_text(filled(input, true, output)))
 }

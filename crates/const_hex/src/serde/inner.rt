@@ -5,7 +5,7 @@ ghost use Rattle.const_hex_arch.specs.Texts.{full_text};
 ghost use Rattle.const_hex_arch.specs.Streams.{Streams, TellsCut};
 ghost use Rattle.const_hex.specs.Json.{TellsWhole};
 
-use const_hex_arch::{BufferedHex, FixedKernel, Sink, SinkError, fill_text, text_size};
+use const_hex_arch::{BufferedHex, FixedKernel, Sink, SinkError, ascii_text, fill_text, text_size};
 
 /// The largest number of bytes whose text is handed over in one call.
 const AT_ONCE: usize = 128;
@@ -46,7 +46,6 @@ pub fn serialize_inner<const UPPER: bool, const PREFIX: bool, S: Sink>(
 
 /// The text, at the start of a buffer that has room for it and a prefix.
 #[inline(always)]
-#[tactic(auto, using(const_hex_arch::proofs::Writing::texts))]
 fn text_in<'a>(buffer: &'a mut [u8], bytes: &[u8], prefix: bool, upper: bool) -> &'a str
     requires { 2 + 2 * length bytes.now ≤ length buffer.old }
     ensures { result.now ≡ full_text prefix upper bytes.now }
@@ -54,5 +53,5 @@ fn text_in<'a>(buffer: &'a mut [u8], bytes: &[u8], prefix: bool, upper: bool) ->
     let text = &mut buffer[..text_size(prefix, bytes.len())];
     fill_text::<FixedKernel>(bytes, prefix, upper, text);
     let text: &'a [u8] = text;
-    unsafe { str::from_utf8_unchecked(text) }
+    ascii_text(text)
 }

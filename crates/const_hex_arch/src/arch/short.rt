@@ -3,7 +3,7 @@
 ghost use Rattle.std.specs.Prelude.{◌≡◌, ◌-◌, ◌*◌, ◌≤◌, ◌++◌, ◌↔◌, length, take, IsTrue, false};
 ghost use Rattle.const_hex_arch.specs.Texts.{AllDigits, Spells, Partial};
 
-use crate::arch::kernel16::Lanes16;
+use crate::arch::lanes16::Lanes16;
 use crate::arch::plain::Plain;
 use crate::arch::{Kernel, lanes, steps};
 use std::simd::prelude::*;

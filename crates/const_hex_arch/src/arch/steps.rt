@@ -5,9 +5,9 @@ ghost use Rattle.const_hex_arch.specs.Lanes.{AllUnmarked};
 ghost use Rattle.const_hex_arch.specs.Runs.{HasRoom, Writes};
 ghost use Rattle.const_hex_arch.specs.Texts.{hex_text, AllDigits, Spells, Partial};
 
-use crate::arch::kernel16::Lanes16;
 use crate::arch::lanes::{self, Vectors};
-use crate::arch::{lanes16, lanes32, short};
+use crate::arch::lanes16::{self, Lanes16};
+use crate::arch::{lanes32, short};
 use crate::output::Output;
 use std::simd::prelude::*;
 

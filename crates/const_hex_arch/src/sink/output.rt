@@ -5,6 +5,7 @@ ghost use Rattle.const_hex_arch.specs.Sinks.{SinkStep, output_sink, sink_name};
 
 use crate::output::Output;
 use crate::sink::{Sink, SinkError, refusal_of};
+use crate::text::ascii_text;
 
 /// Writes to a sink. After the first refusal it writes nothing more.
 ///
@@ -75,14 +76,11 @@ impl<S: Sink> Output for SinkOutput<'_, S> {
     }
 
     #[inline]
-    #[tactic(auto, using(crate::proofs::Writing::texts))]
     fn write(&mut self, bytes: &[u8]) {
         if self.sink.refused() {
             return;
         }
-        let _ = self
-            .sink
-            .write_str(unsafe { str::from_utf8_unchecked(bytes) });
+        let _ = self.sink.write_str(ascii_text(bytes));
     }
 
     ghost use Rattle.std.proofs.Common.{refl};

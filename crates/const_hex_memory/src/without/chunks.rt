@@ -1,40 +1,10 @@
 //! The steps of 16 and of 32 lanes.
 
 use crate::line::tell;
-use const_hex::{lanes16, lanes32};
+use const_hex::{Lanes16, Lanes32, lanes16, lanes32};
+use const_hex_uses::chunks::decoded_or;
 use std::io;
 use std::simd::prelude::*;
-
-/// What decodes a chunk of vectors `V`. Generated proofs cover an option of a type parameter, and
-/// none of a vector. So the calls of `decode_chunk` stand in impls of this trait, which are proved
-/// by hand, and all else is generic.
-trait DecodeChunk<V> {
-    fn decode_chunk(text: [V; 2]) -> Option<V>;
-}
-
-struct Chunk16;
-
-impl DecodeChunk<u8x16> for Chunk16 {
-    fn decode_chunk(text: [u8x16; 2]) -> Option<u8x16> {
-        lanes16::decode_chunk(text)
-    }
-}
-
-struct Chunk32;
-
-impl DecodeChunk<u8x32> for Chunk32 {
-    fn decode_chunk(text: [u8x32; 2]) -> Option<u8x32> {
-        lanes32::decode_chunk(text)
-    }
-}
-
-/// The bytes that a chunk spells, or `other` if it is refused.
-fn decoded_or<V: Copy, D: DecodeChunk<V>>(text: [V; 2], other: V) -> V {
-    match D::decode_chunk(text) {
-        Some(bytes) => bytes,
-        None => other,
-    }
-}
 
 /// Tells the answers of each call of a module of lanes.
 macro_rules! tell_each {
@@ -58,9 +28,9 @@ macro_rules! tell_each {
 }
 
 pub(crate) fn tell_lanes16(rt: &impl Print) -> io::Result<()> {
-    tell_each!(rt, lanes16, u8x16, Chunk16)
+    tell_each!(rt, lanes16, u8x16, Lanes16)
 }
 
 pub(crate) fn tell_lanes32(rt: &impl Print) -> io::Result<()> {
-    tell_each!(rt, lanes32, u8x32, Chunk32)
+    tell_each!(rt, lanes32, u8x32, Lanes32)
 }

@@ -12,8 +12,8 @@ returns-then-value_at c =
     let bad : FirstBad u p = record { within = omega arith; before = c.digits.invariant; here = here } in
     rw (sym c.strip_prefix-body.ensures.body) (p, bad, c.from.ensures, omega arith)
 
-pub unreachable-requires : goal.unreachable-requires
-unreachable-requires c =
+pub returns : goal.returns
+returns c =
     let u = c.strip_prefix-body.result.now in
     let whole = rw (take_all c.digits.place u (omega arith)) at c.digits.invariant in
-    c.requires (rw c.strip_prefix-body.ensures.body at whole)
+    absurd (c.requires (rw c.strip_prefix-body.ensures.body at whole))
