@@ -1,0 +1,217 @@
+/*
+ * What a call does with a key: which instructions run, and which addresses are read.
+ *
+ *     keys paths N    Steps through each call an instruction at a time, for many valid inputs of each
+ *                     length. All inputs of one length have to take the same path. N is 0 to 3, and
+ *                     stands for a quarter of the lengths.
+ *     keys encode     Encodes bytes that memcheck takes for undefined. It may report nothing.
+ *     keys decode     Decodes and checks digits that memcheck takes for undefined. It may report only
+ *                     jumps: those which tell digits from other bytes, and a prefix from digits.
+ *     keys table      Looks a digit up in a table by a byte that memcheck takes for undefined. It has
+ *                     to report that address.
+ *
+ * A text that is refused is outside of all this: its error says where the bad byte is.
+ */
+#define _GNU_SOURCE
+#include "builds.h"
+#include <signal.h>
+#include <stdlib.h>
+#include <string.h>
+#include <ucontext.h>
+#ifdef WITH_MEMCHECK
+#include <valgrind/memcheck.h>
+#else
+#define VALGRIND_MAKE_MEM_UNDEFINED(address, length) ((void)(address), (void)(length))
+#endif
+
+enum { LONGEST = 256, RANDOM = 200, CHOSEN = 5, PARTS = 4 };
+
+static const size_t LENGTHS[] = {1,  2,  3,  4,  7,  8,  9,  12, 15, 16, 17,  20,
+                                 24, 31, 32, 33, 47, 48, 63, 64, 65, 96, 128, 256};
+enum { COUNT = sizeof LENGTHS / sizeof LENGTHS[0] };
+
+static const struct build *build;
+
+static unsigned char bytes[LONGEST];
+static char text[2 + 2 * LONGEST];
+static unsigned char decoded[LONGEST];
+static char encoded[2 + 2 * LONGEST];
+static struct const_hex_refusal refusal;
+static size_t count;
+
+/* The calls, for so many bytes and a text of `digits` bytes. */
+typedef void run_call(size_t length, size_t digits, bool prefix, bool upper);
+
+static void run_encode(size_t length, size_t digits, bool prefix, bool upper) {
+    (void)build->encode(bytes, length, prefix, upper, encoded, digits);
+}
+
+static void run_decode(size_t length, size_t digits, bool prefix, bool upper) {
+    (void)prefix, (void)upper;
+    (void)build->decode(text, digits, decoded, length, &refusal);
+}
+
+static void run_decode_front(size_t length, size_t digits, bool prefix, bool upper) {
+    (void)length, (void)prefix, (void)upper;
+    (void)build->decode_front(text, digits, decoded, LONGEST, &count, &refusal);
+}
+
+static void run_check(size_t length, size_t digits, bool prefix, bool upper) {
+    (void)length, (void)prefix, (void)upper;
+    (void)build->check(text, digits, &refusal);
+}
+
+static void run_check_raw(size_t length, size_t digits, bool prefix, bool upper) {
+    (void)length, (void)prefix, (void)upper;
+    (void)build->check_raw(text, digits);
+}
+
+/* A call, with the prefix of its text, and the case that it is asked for. */
+static const struct row {
+    const char *name;
+    run_call *run;
+    const char *prefix;
+    bool upper;
+    bool encodes;
+} ROWS[] = {
+    {"encode", run_encode, "", false, true},
+    {"encode, uppercase", run_encode, "", true, true},
+    {"encode, prefix", run_encode, "0x", false, true},
+    {"encode, prefix, uppercase", run_encode, "0x", true, true},
+    {"decode", run_decode, "", false, false},
+    {"decode, 0x", run_decode, "0x", false, false},
+    {"decode, 0X", run_decode, "0X", false, false},
+    {"decode_front", run_decode_front, "", false, false},
+    {"decode_front, 0x", run_decode_front, "0x", false, false},
+    {"check", run_check, "", false, false},
+    {"check, 0x", run_check, "0x", false, false},
+    {"check_raw", run_check_raw, "", false, false},
+};
+enum { ROW_COUNT = sizeof ROWS / sizeof ROWS[0] };
+
+static void run(const struct row *row, size_t length) {
+    size_t prefix = strlen(row->prefix);
+    row->run(length, prefix + 2 * length, prefix != 0, row->upper);
+}
+
+/* Fills the input with its prefix and valid bytes: chosen ones first, then random ones. */
+static void fill(const struct row *row, size_t length, size_t which) {
+    static const unsigned char CHOSEN_BYTES[CHOSEN] = {0x00, 0xFF, 0x80, 0x7F, 0x30};
+    static const char CHOSEN_DIGITS[CHOSEN + 1] = "0Ff9a";
+    static const char DIGITS[] = "0123456789abcdefABCDEF";
+    size_t prefix = strlen(row->prefix);
+    memcpy(text, row->prefix, prefix);
+    for (size_t at = 0; at < length; at++) {
+        bytes[at] = which < CHOSEN ? CHOSEN_BYTES[which] : (unsigned char)(rand() >> 8);
+    }
+    for (size_t at = 0; at < 2 * length; at++) {
+        text[prefix + at] = which < CHOSEN ? CHOSEN_DIGITS[which] : DIGITS[(rand() >> 8) % 22];
+    }
+    /* A first digit 0 is no prefix. */
+    if (which == CHOSEN) {
+        text[prefix] = '0';
+    }
+}
+
+#ifdef __x86_64__
+static uint64_t path;
+
+/* Adds the address of the next instruction to the path. */
+static void on_step(int number, siginfo_t *info, void *context) {
+    const ucontext_t *state = context;
+    (void)number, (void)info;
+    path = (path ^ (uint64_t)state->uc_mcontext.gregs[REG_RIP]) * 0x100000001B3;
+}
+
+/* The path of a call. The trap flag makes the processor stop behind each instruction. */
+__attribute__((noinline)) static uint64_t path_of(const struct row *row, size_t length) {
+    path = 0;
+    __asm__ volatile("leaq -128(%%rsp), %%rsp; pushfq; orl $0x100, (%%rsp); popfq;"
+                     "leaq 128(%%rsp), %%rsp" ::: "memory", "cc");
+    run(row, length);
+    __asm__ volatile("leaq -128(%%rsp), %%rsp; pushfq; andl $0xFFFFFEFF, (%%rsp); popfq;"
+                     "leaq 128(%%rsp), %%rsp" ::: "memory", "cc");
+    return path;
+}
+
+/* Whether all inputs of so many bytes take one path. */
+static bool has_one_path(const struct row *row, size_t length) {
+    uint64_t first = 0;
+    for (size_t which = 0; which < CHOSEN + 1 + RANDOM; which++) {
+        fill(row, length, which);
+        if (which == 0) {
+            /* The first call may still have to look for a function of the C library. */
+            run(row, length);
+            first = path_of(row, length);
+        } else if (path_of(row, length) != first) {
+            printf("FAILED: %s: %s: another path at %zu bytes, input %zu\n", build->name, row->name,
+                   length, which);
+            return false;
+        }
+    }
+    return true;
+}
+
+static int paths(size_t part) {
+    struct sigaction action = {0};
+    unsigned long passed = 0, failed = 0;
+    size_t builds = builds_here();
+    action.sa_sigaction = on_step;
+    action.sa_flags = SA_SIGINFO;
+    if (sigaction(SIGTRAP, &action, NULL) != 0) {
+        return 2;
+    }
+    /* The first one picks one of the others. */
+    for (size_t which = 1; which < builds; which++) {
+        build = &BUILDS[which];
+        for (size_t at = part; at < ROW_COUNT * COUNT; at += PARTS) {
+            bool is_one = has_one_path(&ROWS[at / COUNT], LENGTHS[at % COUNT]);
+            passed += is_one;
+            failed += !is_one;
+        }
+    }
+    printf("%lu passed, %lu failed\n", passed, failed);
+    return failed == 0 ? 0 : 1;
+}
+#endif
+
+/* Runs the calls that encode, or the others, over bytes that memcheck takes for undefined. */
+static int undefined(bool encodes) {
+    size_t builds = builds_here();
+    for (size_t which = 1; which < builds; which++) {
+        build = &BUILDS[which];
+        for (size_t at = 0; at < ROW_COUNT * COUNT; at++) {
+            const struct row *row = &ROWS[at / COUNT];
+            size_t length = LENGTHS[at % COUNT];
+            size_t prefix = strlen(row->prefix);
+            if (row->encodes == encodes) {
+                fill(row, length, CHOSEN + 1);
+                VALGRIND_MAKE_MEM_UNDEFINED(bytes, length);
+                VALGRIND_MAKE_MEM_UNDEFINED(text + prefix, 2 * length);
+                run(row, length);
+            }
+        }
+    }
+    return 0;
+}
+
+/* Looks a digit up in a table, by a byte that memcheck takes for undefined. */
+static int table(void) {
+    static const volatile char DIGITS[] = "0123456789abcdef";
+    VALGRIND_MAKE_MEM_UNDEFINED(bytes, 1);
+    encoded[0] = DIGITS[bytes[0] >> 4];
+    return 0;
+}
+
+int main(int arguments, char **words) {
+    const char *word = arguments > 1 ? words[1] : "";
+#ifdef __x86_64__
+    if (strcmp(word, "paths") == 0 && arguments == 3) {
+        return paths(strtoul(words[2], NULL, 10));
+    }
+#endif
+    if (strcmp(word, "table") == 0) {
+        return table();
+    }
+    return undefined(strcmp(word, "encode") == 0);
+}
