@@ -196,6 +196,7 @@ pub fn version() -> u32 {
 
 pub mod builds;
 pub mod hidden;
+pub mod rust_calls;
 pub mod steps;
 pub mod system;
 #[cfg(all(target_os = "linux", target_arch = "x86_64"))]

@@ -2,6 +2,7 @@
 
 use crate::bench::measure::{Batch, Work};
 use crate::ffi::builds::{Avx2Build, Build, DefaultBuild};
+use crate::ffi::rust_calls::RustCalls;
 use std::fmt::{self, Write};
 
 /// A call that is measured.
@@ -42,8 +43,10 @@ impl Call {
 /// Whose calls are measured.
 #[derive(Clone, Copy, Debug, PartialEq, Eq)]
 pub enum Side {
-    /// The Rust crate const-hex, which picks its kernel by the processor.
+    /// The Rust crate const-hex, which picks its kernel by the processor, called from Rust.
     ConstHex,
+    /// The same crate, called through C as the port is.
+    ConstHexByC,
     /// The port, as built for the default processor.
     Default,
     /// The port, as built for x86-64-v3.
@@ -61,7 +64,7 @@ pub enum Side {
 impl Side {
     /// Every side that can be measured here.
     pub fn here() -> Vec<Side> {
-        let mut sides = vec![Side::ConstHex, Side::Default];
+        let mut sides = vec![Side::ConstHex, Side::ConstHexByC, Side::Default];
         if Avx2Build::here().is_some() {
             sides.push(Side::Avx2);
         }
@@ -77,6 +80,7 @@ impl Side {
     pub fn name(self) -> &'static str {
         match self {
             Side::ConstHex => "const-hex",
+            Side::ConstHexByC => "const-hex through C",
             Side::Default => "default build",
             Side::Avx2 => "AVX2 build",
             Side::Copy => "copy",
@@ -97,6 +101,7 @@ impl Side {
 pub fn batch(call: Call, side: Side) -> Option<Batch> {
     match side {
         Side::ConstHex => Some(by_const_hex(call)),
+        Side::ConstHexByC => Some(by_build(RustCalls, call)),
         Side::Default => Some(by_build(DefaultBuild::here()?, call)),
         Side::Avx2 => Some(by_build(Avx2Build::here()?, call)),
         Side::Copy => Some(by_copy(call)),
@@ -138,7 +143,7 @@ fn by_const_hex(call: Call) -> Batch {
     }
 }
 
-/// A batch of a call by a build of the port.
+/// A batch of a call through C.
 pub fn by_build(build: impl Build, call: Call) -> Batch {
     match call {
         Call::EncodeToSlice => on_bytes(move |bytes, text| usize::from(build.encode(bytes, text))),
@@ -224,8 +229,9 @@ mod tests {
             for size in [1, 4, 33, 300, 5000] {
                 let mut work = Work::new(size);
                 let wanted = by_const_hex(call)(&mut work, 7);
-                let builds = Side::here().into_iter().filter(|side| side.is_port());
-                for batch in builds.filter_map(|side| batch(call, side)) {
+                let through_c = |side: &Side| side.is_port() || *side == Side::ConstHexByC;
+                let sides = Side::here().into_iter().filter(through_c);
+                for batch in sides.filter_map(|side| batch(call, side)) {
                     assert_eq!(batch(&mut work, 7), wanted, "{} at {size}", call.name());
                 }
             }

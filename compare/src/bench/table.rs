@@ -18,7 +18,7 @@ pub fn write_head(output: &mut impl Write, avx2: Avx2, pinned: Option<usize>) ->
     }
     writeln!(
         output,
-        "\nNanoseconds a call, least and median; ratios to const-hex of both.\n"
+        "\nNanoseconds a call, least and median; ratios of both to const-hex through C.\n"
     )?;
     let mut names = vec!["call", "bytes"];
     for side in Side::here() {
@@ -51,9 +51,10 @@ pub fn write_row(output: &mut impl Write, row: &Row) -> io::Result<()> {
     writeln!(output, "| {} |", cells.join(" | "))
 }
 
-/// What a side takes over the Rust crate const-hex, of the least times and of the medians.
+/// What a side takes over the Rust crate const-hex, both called through C, of the least times and of
+/// the medians.
 fn ratio(row: &Row, side: Side) -> Option<Times> {
-    let (times, crates) = (row.of(side)?, row.of(Side::ConstHex)?);
+    let (times, crates) = (row.of(side)?, row.of(Side::ConstHexByC)?);
     Some(Times {
         least: times.least / crates.least,
         median: times.median / crates.median,

@@ -2,7 +2,8 @@
 
 use crate::ffi::RawRefusal;
 
-/// One build of the library, as a token that this processor can run it.
+/// One build of the library, or the Rust crate behind calls of the same form, as a token that this
+/// processor can run it.
 pub trait Build: Copy + 'static {
     /// The build, if this processor can run it.
     fn here() -> Option<Self>;
