@@ -28,8 +28,14 @@
  * On x86-64 the library needs a processor with x86-64-v2 (SSE4.2 and what came with it, since about
  * 2009). On an older one a call may stop the program with an illegal instruction.
  *
- * Calls are not constant in time: the time depends on the bytes. No memory is wiped. So keep keys
- * away if others can measure time or read memory.
+ * KEYS
+ *
+ * If a text is valid, and for all bytes that are encoded, the instructions that a call runs depend
+ * only on the call, the lengths, the prefix, and upper. No address that it reads or writes depends
+ * on a byte or a digit. This is tested for both builds on x86-64, and not proved. It is not said of
+ * const_hex_check_raw of one digit alone, nor of a text that is refused: the refusal names the place
+ * of the bad character, and the time tells it too. How long an instruction takes is up to the
+ * processor. No memory is wiped. libsodium has sodium_bin2hex and sodium_hex2bin, made for keys.
  *
  * EXAMPLES
  *
