@@ -16,7 +16,7 @@ use std::fmt;
 ///
 /// LEN must be the length of that text: `2 * N`, plus 2 if PREFIX is true. Each call that writes
 /// requires this, and writes the prefix again. Only [`to_string`](Self::to_string) and
-/// [`to_vec`](Self::to_vec) take memory.
+/// [`to_vec`](Self::to_vec) allocate.
 ///
 /// If LEN is wrong, the check refuses the line that makes the buffer: "it is not proved that what
 /// `new` requires holds". The line `must prove` of its report ends in the right number, as `≡ 42`.
@@ -30,9 +30,9 @@ pub struct Buffer<const N: usize, const PREFIX: bool, const LEN: usize> {
     text: AsciiArray<LEN>,
 }
 
-/// A buffer that holds the text of the input, with lower letters.
+/// A buffer that holds the text of the input, in lowercase.
 ///
-/// LEN must be `2 * N`, plus 2 if PREFIX is true. Takes no memory.
+/// LEN must be `2 * N`, plus 2 if PREFIX is true. Does not allocate.
 ///
 /// ```rust
 /// let buffer = const_hex::const_encode::<4, false, 8>(b"kiwi");
@@ -99,7 +99,7 @@ impl<const N: usize, const PREFIX: bool, const LEN: usize> Buffer<N, PREFIX, LEN
         self.text.fill(input, PREFIX, upper);
     }
 
-    /// The buffer with the text of the input, with lower letters.
+    /// The buffer with the text of the input, in lowercase.
     ///
     /// LEN must be `2 * N`, plus 2 if PREFIX is true.
     ///
@@ -116,7 +116,7 @@ impl<const N: usize, const PREFIX: bool, const LEN: usize> Buffer<N, PREFIX, LEN
         self
     }
 
-    /// As [`const_format`](Self::const_format), with upper letters. The prefix is still `0x`.
+    /// As [`const_format`](Self::const_format), in uppercase. The prefix is still `0x`.
     ///
     /// ```rust
     /// let buffer = Buffer::<4, true, 10>::new().const_format_upper(b"kiwi");
@@ -155,7 +155,7 @@ impl<const N: usize, const PREFIX: bool, const LEN: usize> Buffer<N, PREFIX, LEN
         self.formatted(input, upper)
     }
 
-    /// Writes the text of the input, with lower letters, and lends it.
+    /// Writes the text of the input, in lowercase, and lends it.
     ///
     /// LEN must be `2 * N`, plus 2 if PREFIX is true.
     ///
@@ -173,7 +173,7 @@ impl<const N: usize, const PREFIX: bool, const LEN: usize> Buffer<N, PREFIX, LEN
         self.formatted_array(input, false).as_str()
     }
 
-    /// As [`format`](Self::format), with upper letters. The prefix is still `0x`.
+    /// As [`format`](Self::format), in uppercase. The prefix is still `0x`.
     ///
     /// ```rust
     /// let mut buffer = Buffer::<4, true, 10>::new();
@@ -206,7 +206,7 @@ impl<const N: usize, const PREFIX: bool, const LEN: usize> Buffer<N, PREFIX, LEN
         self.formatted(input, false).as_str()
     }
 
-    /// As [`format_slice`](Self::format_slice), with upper letters. The prefix is still `0x`.
+    /// As [`format_slice`](Self::format_slice), in uppercase. The prefix is still `0x`.
     ///
     /// ```rust
     /// let mut buffer = Buffer::<4, false, 8>::new();
@@ -261,7 +261,7 @@ impl<const N: usize, const PREFIX: bool, const LEN: usize> Buffer<N, PREFIX, LEN
 
     /// A copy of the contents, as text.
     ///
-    /// Returns `AllocError` if memory is refused.
+    /// Returns `AllocError` if memory cannot be allocated.
     ///
     /// ```rust
     /// let text = Buffer::<0, true, 2>::new().to_string(rt.alloc())?;
@@ -275,7 +275,7 @@ impl<const N: usize, const PREFIX: bool, const LEN: usize> Buffer<N, PREFIX, LEN
 
     /// A copy of the contents, as bytes.
     ///
-    /// Returns `AllocError` if memory is refused.
+    /// Returns `AllocError` if memory cannot be allocated.
     ///
     /// ```rust
     /// let bytes = Buffer::<0, true, 2>::new().to_vec(rt.alloc())?;
@@ -288,7 +288,7 @@ impl<const N: usize, const PREFIX: bool, const LEN: usize> Buffer<N, PREFIX, LEN
     }
 }
 
-/// An equal buffer. Takes no memory, and never fails.
+/// An equal buffer. Does not allocate, and never fails.
 impl<const N: usize, const PREFIX: bool, const LEN: usize> Clone for Buffer<N, PREFIX, LEN> {
     ghost is_clone = { λ x y. buffer_text y ≡ buffer_text x };
 

@@ -30,7 +30,7 @@ pub enum FromHexError {
         /// The byte's place, counted from 0 at the start of the whole text, prefix included.
         index: usize,
     },
-    /// A request for memory was refused.
+    /// Memory could not be allocated.
     NoMemory,
 }
 

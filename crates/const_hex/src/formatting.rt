@@ -8,7 +8,7 @@ pub mod text;
 
 use crate::formatting::text::Display;
 
-/// Bytes to be printed as text: `{}` prints lower digits. Takes no memory.
+/// Bytes to be printed as text: `{}` prints lowercase digits. Does not allocate.
 ///
 /// ```rust
 /// println!(rt; "{}", display(b"kiwi"))?; // 6b697769

@@ -12,7 +12,7 @@
 //! - `Loans.antt`: what a buffer or a slice holds after a loan of it has ended;
 //! - `Formatting.antt`: printing through a formatter;
 //! - `Json.antt`: reading a JSON value, and the text that a sink is handed;
-//! - `Messages.antt`: what a refusal prints;
+//! - `Messages.antt`: what an error prints;
 //! - `Reserved.antt`: a write to a vector that has room;
 //! - `WriteSinks.antt`: a sink over a writer.
 //!
@@ -49,6 +49,6 @@ pub use crate::write_sink::WriteSink;
 pub use const_hex_arch::{
     BufferedHex, BufferedOutput, CheckFirst, FixedKernel, HEX_CHARS_LOWER, HEX_CHARS_UPPER,
     HEX_DECODE_LUT, Kernel, Lanes16, Lanes32, NIL, Output, PieceSink, Plain, Sink, SinkError,
-    SinkOutput, SliceOutput, digit_at, encode_full, fill_text, lanes16, lanes32, text_size,
+    SinkOutput, SliceOutput, digit_at, encode_full, fill_text, lanes16, lanes32, text_length,
     value_at,
 };

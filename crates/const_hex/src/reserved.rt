@@ -4,7 +4,7 @@ ghost use Rattle.std.specs.Prelude.{◌≡◌, Some, IfOk};
 ghost use Rattle.const_hex_arch.specs.Texts.{full_text};
 ghost use Rattle.const_hex.specs.Reserved.{ReservedStep, spare_room};
 
-use const_hex_arch::{Kernel, Output, encode_full, text_size};
+use const_hex_arch::{Kernel, Output, encode_full, text_length};
 use std::alloc::{AllocError, Global};
 
 /// Puts each piece behind what a vector holds, into its spare room.
@@ -46,8 +46,7 @@ impl Output for ReservedOutput {
     ghost shrinks = { λ s piece t h. Prim.grind (arith) };
 }
 
-/// The bytes of the text, behind `0x` if `prefix` is true. Memory is asked for once, for exactly
-/// the text.
+/// The bytes of the text, behind `0x` if `prefix` is true. Allocates once, for exactly the text.
 #[inline(always)]
 #[tactic(auto, using(const_hex_arch::proofs::Writing::full_text_size))]
 pub(crate) fn reserved_bytes<K: Kernel>(
@@ -59,7 +58,7 @@ pub(crate) fn reserved_bytes<K: Kernel>(
     ensures { IfOk result (λ v. v.items ≡ full_text prefix upper input.now) }
 {
     let mut output = ReservedOutput {
-        bytes: Vec::with_capacity(alloc, text_size(prefix, input.len()))?,
+        bytes: Vec::with_capacity(alloc, text_length(prefix, input.len()))?,
     };
     encode_full::<K, ReservedOutput>(input, prefix, upper, &mut output);
     let ReservedOutput { bytes } = output;

@@ -22,9 +22,9 @@ use crate::traits::FromHex;
 use serde_json::Value;
 use std::alloc::{AllocError, Global};
 
-/// A JSON string with `0x` and two digits for each byte, with lower letters.
+/// A JSON string with `0x` and two digits for each byte, in lowercase.
 ///
-/// Returns `AllocError` if memory is refused.
+/// Returns `AllocError` if memory cannot be allocated.
 ///
 /// ```rust
 /// let value = const_hex::serialize(rt.alloc(), &[0xde, 0xad])?;
@@ -36,9 +36,9 @@ pub fn serialize(alloc: Global, bytes: &[u8]) -> Result<Value, AllocError>
     Ok(Value::String(encode_prefixed(alloc, bytes)?))
 }
 
-/// As [`serialize`], with upper letters. The prefix is still `0x`.
+/// As [`serialize`], in uppercase. The prefix is still `0x`.
 ///
-/// Returns `AllocError` if memory is refused.
+/// Returns `AllocError` if memory cannot be allocated.
 ///
 /// ```rust
 /// let value = const_hex::serialize_upper(rt.alloc(), &[0xde, 0xad])?;
@@ -52,9 +52,9 @@ pub fn serialize_upper(alloc: Global, bytes: &[u8]) -> Result<Value, AllocError>
 
 /// The value that a JSON string spells, with or without a prefix, in either case.
 ///
-/// Returns [`JsonError::NotText`] if the JSON value is not a string. This takes no memory. If the
-/// type refuses the text, returns that refusal inside [`JsonError::Hex`]. The type may also refuse
-/// because memory was refused.
+/// Returns [`JsonError::NotText`] if the JSON value is not a string. This does not allocate. If the
+/// type refuses the text, returns that error inside [`JsonError::Hex`]. The type may also refuse
+/// because memory could not be allocated.
 ///
 /// ```rust
 /// let value = const_hex::serialize(rt.alloc(), b"kiwi")?;

@@ -16,7 +16,7 @@ use std::io::{ErrorKind, Write};
 /// A piece may take several calls of `write`. A call that a signal interrupts is made again. After
 /// a failed write, the writer has a beginning of what was offered, and nothing more is written:
 /// [`write_hex`](WriteSink::write_hex) only returns the error, and `write_str` may not be called.
-/// No call flushes the writer. Only the writer itself takes memory.
+/// No call flushes the writer. Only the writer itself allocates.
 ///
 /// ```rust
 /// let mut file = Vec::new(rt.alloc());

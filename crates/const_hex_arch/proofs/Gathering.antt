@@ -7,19 +7,19 @@ use Rattle.std.specs.List.{FoldsTo, concat}
 use Rattle.const_hex_arch.specs.Gathering.{Gathers, piece_of}
 use Rattle.const_hex_arch.proofs.Running.{run_append}
 
-pub concat-piece_of : (held : List ℕ) → concat (piece_of held) ≡ held
+pub concat-piece_of : (pending : List ℕ) → concat (piece_of pending) ≡ pending
 concat-piece_of [] = refl
 concat-piece_of (b ∷ bs) = append-nil (b ∷ bs)
 
 module _ {O : Type 0} (step : O → List ℕ → O → Type 0) (room : O → Option ℕ) where
   -- the pending text goes first, and then a long piece
-  pub Gathers-long : (n : ℕ) (old : O) (held piece : List ℕ) (mid new : O) → FoldsTo step old (piece_of held) mid → step mid piece new
-      → n ≤ length piece → Gathers step room n old held piece new []
-  Gathers-long n old held piece mid new h k w = record {
-    handed = piece_of held ++ piece ∷ [];
-    run = run_append step old (piece_of held) mid (piece ∷ []) new h (new, k, refl);
-    whole = append-nil _ ∙ concat-append (piece_of held) (piece ∷ []) ∙ ap (λ x. x ++ (piece ++ [])) (concat-piece_of held)
-        ∙ ap (λ x. held ++ x) (append-nil piece);
+  pub Gathers-long : (n : ℕ) (old : O) (pending piece : List ℕ) (mid new : O) → FoldsTo step old (piece_of pending) mid → step mid piece new
+      → n ≤ length piece → Gathers step room n old pending piece new []
+  Gathers-long n old pending piece mid new h k w = record {
+    handed = piece_of pending ++ piece ∷ [];
+    run = run_append step old (piece_of pending) mid (piece ∷ []) new h (new, k, refl);
+    whole = append-nil _ ∙ concat-append (piece_of pending) (piece ∷ []) ∙ ap (λ x. x ++ (piece ++ [])) (concat-piece_of pending)
+        ∙ ap (λ x. pending ++ x) (append-nil piece);
     bound = omega arith;
     fits = omega arith;
     short = λ l. absurd (omega arith);

@@ -7,7 +7,7 @@ use Rattle.std.proofs.lemmas.List.{append-nil, append_assoc, take_all, take_at}
 use Rattle.std.proofs.lemmas.List.Elements.{All-nil, All-cons, All-head, All-tail, All-append, All-take, All-weaker, All-same}
 use Rattle.std.proofs.lemmas.List.Folds.{concat-append}
 use Rattle.const_hex_arch.specs.Runs.{Writes, IsKernelPiece}
-use Rattle.const_hex_arch.specs.Gathering.{Gathers, piece_of, HandsOnHeld}
+use Rattle.const_hex_arch.specs.Gathering.{Gathers, piece_of, FlushesPending}
 use Rattle.const_hex_arch.specs.Sinks.{SinkStep, output_sink, sink_name, told_after}
 use Rattle.const_hex_arch.specs.declared.sink.output.SinkOutput.{SinkOutput}
 use Rattle.const_hex_arch.specs.Streams.{IsCallPiece, IsLargePiece, all_but_last, Cut, Offers, Streams, Handed}
@@ -19,33 +19,33 @@ use Rattle.const_hex_arch.proofs.Gathering.{concat-piece_of}
 IsHandedOn : List ℕ → Type 0
 IsHandedOn p = (4033 ≤ length p) × (length p ≤ 4096)
 
-record Gathered {O : Type 0} (step : O → List ℕ → O → Type 0) (old : O) (held text : List ℕ) (new : O) (rest : List ℕ) : Type 0 where
+record Gathered {O : Type 0} (step : O → List ℕ → O → Type 0) (old : O) (pending text : List ℕ) (new : O) (rest : List ℕ) : Type 0 where
   handed : List (List ℕ)
   run : FoldsTo step old handed new
-  whole : concat handed ++ rest ≡ held ++ text
+  whole : concat handed ++ rest ≡ pending ++ text
   sizes : All IsHandedOn handed
   bound : length rest ≤ 4096
 
-handed_sizes : (held piece : List ℕ) (handed : List (List ℕ)) → length held ≤ 4096 → IsKernelPiece piece → HandsOnHeld 4096 held piece handed
+handed_sizes : (pending piece : List ℕ) (handed : List (List ℕ)) → length pending ≤ 4096 → IsKernelPiece piece → FlushesPending 4096 pending piece handed
     → All IsHandedOn handed
 unfolding IsHandedOn
-handed_sizes held piece handed f k (inl e) = All-same IsHandedOn handed [] e (All-nil IsHandedOn)
-handed_sizes held piece handed f k (inr (e, m)) =
-    All-same IsHandedOn handed (held ∷ []) e (All-cons IsHandedOn held [] (omega arith, omega arith) (All-nil IsHandedOn))
+handed_sizes pending piece handed f k (inl e) = All-same IsHandedOn handed [] e (All-nil IsHandedOn)
+handed_sizes pending piece handed f k (inr (e, m)) =
+    All-same IsHandedOn handed (pending ∷ []) e (All-cons IsHandedOn pending [] (omega arith, omega arith) (All-nil IsHandedOn))
 
 module _ {O : Type 0} (step : O → List ℕ → O → Type 0) (room : O → Option ℕ) where
-  gathered_none : (o : O) (held : List ℕ) → length held ≤ 4096 → Gathered step o held [] o held
-  gathered_none o held f = record { handed = []; run = refl; whole = sym (append-nil held); sizes = All-nil IsHandedOn; bound = omega arith }
+  gathered_none : (o : O) (pending : List ℕ) → length pending ≤ 4096 → Gathered step o pending [] o pending
+  gathered_none o pending f = record { handed = []; run = refl; whole = sym (append-nil pending); sizes = All-nil IsHandedOn; bound = omega arith }
 
-  gathered_more : (old : O) (held piece : List ℕ) (mid : O) (kept text : List ℕ) (new : O) (rest : List ℕ) → length held ≤ 4096 → IsKernelPiece piece
-      → Gathers step room 4096 old held piece mid kept → Gathered step mid kept text new rest → Gathered step old held (piece ++ text) new rest
-  gathered_more old held piece mid kept text new rest f k g r = record {
+  gathered_more : (old : O) (pending piece : List ℕ) (mid : O) (kept text : List ℕ) (new : O) (rest : List ℕ) → length pending ≤ 4096 → IsKernelPiece piece
+      → Gathers step room 4096 old pending piece mid kept → Gathered step mid kept text new rest → Gathered step old pending (piece ++ text) new rest
+  gathered_more old pending piece mid kept text new rest f k g r = record {
     handed = g.handed ++ r.handed;
     run = run_append step old g.handed mid r.handed new g.run r.run;
     whole = ap (λ x. x ++ rest) (concat-append g.handed r.handed) ∙ append_assoc (concat g.handed) (concat r.handed) rest
         ∙ ap (λ x. concat g.handed ++ x) r.whole
-        ∙ sym (append_assoc (concat g.handed) kept text) ∙ ap (λ x. x ++ text) g.whole ∙ append_assoc held piece text;
-    sizes = All-append IsHandedOn g.handed r.handed (handed_sizes held piece g.handed f k (g.short (omega arith))) r.sizes;
+        ∙ sym (append_assoc (concat g.handed) kept text) ∙ ap (λ x. x ++ text) g.whole ∙ append_assoc pending piece text;
+    sizes = All-append IsHandedOn g.handed r.handed (handed_sizes pending piece g.handed f k (g.short (omega arith))) r.sizes;
     bound = r.bound;
   }
 

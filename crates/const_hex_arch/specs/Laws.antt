@@ -27,13 +27,13 @@ module _ {S : Type 0} (step : S → List ℕ → S → Type 0) (room : S → Opt
       ∙ less_room-add (room s) (length p) (length (concat ps)) ∙ ap (less_room (room s)) (sym (length-append p (concat ps)))
 
   -- gathering takes from the room the length of the piece
-  pub Gathers_room : (n : ℕ) (old : S) (held piece : List ℕ) (new : S) (rest : List ℕ) → Gathers step room n old held piece new rest
-      → less_room (room new) (length rest) ≡ less_room (less_room (room old) (length held)) (length piece)
-  Gathers_room n old held piece new rest h =
+  pub Gathers_room : (n : ℕ) (old : S) (pending piece : List ℕ) (new : S) (rest : List ℕ) → Gathers step room n old pending piece new rest
+      → less_room (room new) (length rest) ≡ less_room (less_room (room old) (length pending)) (length piece)
+  Gathers_room n old pending piece new rest h =
       ap (λ r. less_room r (length rest)) (run_shrinks old h.handed new h.run)
       ∙ less_room-add (room old) (length (concat h.handed)) (length rest)
-      ∙ ap (less_room (room old)) (sym (length-append (concat h.handed) rest) ∙ ap length h.whole ∙ length-append held piece)
-      ∙ sym (less_room-add (room old) (length held) (length piece))
+      ∙ ap (less_room (room old)) (sym (length-append (concat h.handed) rest) ∙ ap length h.whole ∙ length-append pending piece)
+      ∙ sym (less_room-add (room old) (length pending) (length piece))
 
 -- ---- a sink that keeps its pieces
 

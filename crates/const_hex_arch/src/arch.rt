@@ -25,7 +25,7 @@ pub type FixedKernel = Lanes32;
 /// Turns bytes into digits, and digits into bytes.
 ///
 /// The codec relies only on the contracts of these four calls, so it runs over any type that meets
-/// them. None of them takes memory.
+/// them. None of them allocates.
 ///
 /// ```rust
 /// fn read<K: Kernel>(text: &[u8; 8]) -> Option<[u8; 4]> {
@@ -39,7 +39,7 @@ pub trait Kernel {
     /// The constant of the same name, for contracts.
     ghost USE_CHECK_FN: { Bool };
 
-    /// Whether decoders check a text before they decode it by this kernel. If so, a refusal leaves
+    /// Whether decoders check a text before they decode it by this kernel. If so, an error leaves
     /// their output unchanged.
     const USE_CHECK_FN: bool;
 
@@ -95,7 +95,7 @@ pub trait Kernel {
 }
 
 /// Writes `0x` if `prefix` is true, and then two digits for each byte, by the kernel `K`. The
-/// output must have room for them. Takes only the memory that the output takes.
+/// output must have room for them. Allocates only what the output allocates.
 ///
 /// ```rust
 /// let mut text = [0; 10];

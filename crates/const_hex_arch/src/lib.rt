@@ -38,4 +38,4 @@ pub use crate::stream::BufferedHex;
 pub use crate::tables::{
     HEX_CHARS_LOWER, HEX_CHARS_UPPER, HEX_DECODE_LUT, NIL, digit_at, value_at,
 };
-pub use crate::text::{ascii_text, fill_text, text_size};
+pub use crate::text::{ascii_text, fill_text, text_length};

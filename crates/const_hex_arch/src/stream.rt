@@ -8,7 +8,7 @@ use crate::arch::{FixedKernel, Kernel, encode_full};
 use crate::output::buffered::BufferedOutput;
 use crate::sink::output::SinkOutput;
 use crate::sink::{Sink, SinkError, refusal_of};
-use crate::text::{ascii_text, fill_text, text_size};
+use crate::text::{ascii_text, fill_text, text_length};
 
 /// How many bytes are gathered for one call of a sink. A text of at most this length is handed over
 /// whole.
@@ -20,10 +20,10 @@ const SHORT: usize = 256;
 /// The room for a text of middle length.
 const MIDDLE: usize = 1024;
 
-/// Bytes that are written as text, in upper or lower digits, with or without `0x` in front.
+/// Bytes that are written as text, in uppercase or lowercase, with or without `0x` in front.
 ///
 /// Each piece has at most 4096 bytes, and each but the last at least 4033. No call follows a
-/// refusal. An empty text makes no call. Only the sink takes memory.
+/// refusal. An empty text makes no call. Only the sink allocates.
 ///
 /// ```rust
 /// let mut sink = PieceSink::new(rt.alloc(), 0);
@@ -89,7 +89,7 @@ impl<'a, const UPPER: bool, const PREFIX: bool> BufferedHex<'a, UPPER, PREFIX> {
             → TellsCut (S.told sink.old) (full_text PREFIX UPPER (hex_bytes self.now))
             (S.told sink.new) }
     {
-        let size = text_size(PREFIX, self.bytes.len());
+        let size = text_length(PREFIX, self.bytes.len());
         if size <= SHORT {
             self.write_whole::<K, S, SHORT>(sink)
         } else if size <= MIDDLE {
@@ -111,7 +111,7 @@ impl<'a, const UPPER: bool, const PREFIX: bool> BufferedHex<'a, UPPER, PREFIX> {
             (full_text PREFIX UPPER (hex_bytes self.now)) (is_ok result) sink.new }
     {
         let mut buffer = [0; N];
-        let text = &mut buffer[..text_size(PREFIX, self.bytes.len())];
+        let text = &mut buffer[..text_length(PREFIX, self.bytes.len())];
         fill_text::<K>(self.bytes, PREFIX, UPPER, text);
         if text.is_empty() {
             return Ok(());

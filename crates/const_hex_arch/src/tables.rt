@@ -3,14 +3,14 @@
 ghost use Rattle.std.specs.Prelude.{◌≡◌, ◌<◌};
 ghost use Rattle.const_hex_arch.specs.Digits.{hex_digit, hex_value, value_or_nil};
 
-/// The digit of each value, with lower letters.
+/// The digit of each value, in lowercase.
 ///
 /// ```rust
 /// assert_eq!(rt; HEX_CHARS_LOWER[11], b'b');
 /// ```
 pub const HEX_CHARS_LOWER: &[u8; 16] = b"0123456789abcdef";
 
-/// The digit of each value, with upper letters.
+/// The digit of each value, in uppercase.
 ///
 /// ```rust
 /// assert_eq!(rt; HEX_CHARS_UPPER[11], b'B');
@@ -46,7 +46,7 @@ pub const HEX_DECODE_LUT: &[u8; 256] = &[
     NIL, NIL, NIL,
 ];
 
-/// The digit of a value below 16, with upper or lower letters.
+/// The digit of a value below 16, in uppercase or lowercase.
 ///
 /// ```rust
 /// assert_eq!(rt; const_hex::digit_at(false, 11), b'b');

@@ -11,11 +11,11 @@ use crate::output::slice::SliceOutput;
 /// into a `usize`, the answer is the greatest one, and no text has that length.
 ///
 /// ```rust
-/// assert_eq!(rt; text_size(true, 20), 42);
-/// assert_eq!(rt; text_size(false, usize::MAX), usize::MAX);
+/// assert_eq!(rt; text_length(true, 20), 42);
+/// assert_eq!(rt; text_length(false, usize::MAX), usize::MAX);
 /// ```
 #[inline(always)]
-pub fn text_size(prefix: bool, count: usize) -> usize
+pub fn text_length(prefix: bool, count: usize) -> usize
     ensures { result ≡ min (text_length prefix count) usize.MAX }
 {
     count
@@ -24,7 +24,7 @@ pub fn text_size(prefix: bool, count: usize) -> usize
 }
 
 /// Fills the output with the text of the input, by the kernel `K`, behind `0x` if `prefix` is true.
-/// The output must have exactly the length of that text. Takes no memory.
+/// The output must have exactly the length of that text. Does not allocate.
 ///
 /// ```rust
 /// let mut text = [0; 10];

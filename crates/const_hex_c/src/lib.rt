@@ -24,7 +24,7 @@ use crate::refusal::Refusal;
 
 /// The length of the text of so many bytes: two digits for each byte, and two bytes more for a
 /// prefix. If that does not fit, the answer is the greatest number, and no text has that length.
-/// Takes no memory.
+/// Does not allocate.
 ///
 /// ```c
 /// size_t length = const_hex_encoded_length(20, true); /* 42 */
@@ -33,12 +33,12 @@ use crate::refusal::Refusal;
 pub extern "C" fn const_hex_encoded_length(bytes: usize, prefix: bool) -> usize
     ensures { result ≡ min (text_length prefix bytes) usize.MAX }
 {
-    const_hex::text_size(prefix, bytes)
+    const_hex::text_length(prefix, bytes)
 }
 
-/// Fills the text with the digits of the bytes, in upper or lower letters, behind `0x` if `prefix`
+/// Fills the text with the digits of the bytes, in uppercase or lowercase, behind `0x` if `prefix`
 /// is true. Returns false if the text does not have exactly that length; the text is then
-/// unchanged. Takes no memory.
+/// unchanged. Does not allocate.
 ///
 /// ```c
 /// char text[10];
@@ -59,7 +59,7 @@ pub extern "C" fn const_hex_encode(bytes: &[u8], prefix: bool, upper: bool, text
 /// that are not two for each byte; the first byte that is not a digit. The first two leave the
 /// bytes unchanged. After the third, a front of the bytes may be decoded, no longer than the pairs
 /// before the bad byte, and the rest is unchanged. If the text is accepted, the refusal is
-/// unchanged. Takes no memory.
+/// unchanged. Does not allocate.
 ///
 /// ```c
 /// unsigned char bytes[4];
@@ -72,7 +72,7 @@ pub extern "C" fn const_hex_decode(text: &[u8], bytes: &mut [u8], refusal: &mut 
     ensures kept { IsTrue result → refusal.new ≡ refusal.old }
     ensures err { result ≡ false
         → StandsFor refusal.new (λ e. ReadsSized text.now (length bytes.old) (Err e)) }
-    ensures left { result ≡ false
+    ensures after_error { result ≡ false
         → StandsFor refusal.new (λ e. Leaves text.now bytes.old bytes.new e) }
 {
     match const_hex::decode_to_slice(text, bytes) {
@@ -89,7 +89,7 @@ pub extern "C" fn const_hex_decode(text: &[u8], bytes: &mut [u8], refusal: &mut 
 ///
 /// Returns false if the text is refused; the count is then unchanged. The refusals are those of
 /// `const_hex_decode`, but the second comes only if the text has more digits than the room takes.
-/// Takes no memory.
+/// Does not allocate.
 ///
 /// ```c
 /// unsigned char bytes[32];
@@ -112,7 +112,7 @@ pub extern "C" fn const_hex_decode_front(
     ensures kept { IsTrue result → refusal.new ≡ refusal.old }
     ensures err { result ≡ false
         → StandsFor refusal.new (λ e. ReadsWithin text.now (length bytes.old) (Err e)) }
-    ensures left { result ≡ false
+    ensures after_error { result ≡ false
         → StandsFor refusal.new (λ e. Leaves text.now bytes.old bytes.new e) }
     ensures uncounted { result ≡ false → count.new ≡ count.old }
 {
@@ -131,7 +131,7 @@ pub extern "C" fn const_hex_decode_front(
 /// Whether the text can be decoded, with or without a prefix, in either case.
 ///
 /// Returns false if the text is refused, and sets the refusal: an odd length, or else the first
-/// byte that is not a digit. If the answer is true, the refusal is unchanged. Takes no memory.
+/// byte that is not a digit. If the answer is true, the refusal is unchanged. Does not allocate.
 ///
 /// ```c
 /// struct const_hex_refusal refusal;
@@ -152,8 +152,8 @@ pub extern "C" fn const_hex_check(text: &[u8], refusal: &mut Refusal) -> bool
     }
 }
 
-/// Whether every byte is a digit. No prefix is allowed, and the length does not matter. Takes no
-/// memory.
+/// Whether every byte is a digit. No prefix is allowed, and the length does not matter. Does not
+/// allocate.
 ///
 /// ```c
 /// bool digits = const_hex_check_raw("6b6", 3); /* true */
@@ -170,7 +170,7 @@ pub extern "C" fn const_hex_check_raw(text: &[u8]) -> bool
 ///
 /// If the buffer is too small, the words are cut. If it is empty, nothing is written. A struct that
 /// is no refusal has no words. No contract says that any words come, since printing could give up;
-/// tests show it, and the words of a bad character. Takes no memory.
+/// tests show it, and the words of a bad character. Does not allocate.
 ///
 /// ```c
 /// char words[CONST_HEX_WORDS];
@@ -199,7 +199,7 @@ pub extern "C" fn const_hex_refusal_words(refusal: &Refusal, buffer: &mut [u8]) 
 }
 
 /// The version of these calls: 10,000 times the major one, 100 times the minor one, and the patch.
-/// Takes no memory.
+/// Does not allocate.
 ///
 /// ```c
 /// uint32_t version = const_hex_version(); /* 10000 is 1.0.0 */

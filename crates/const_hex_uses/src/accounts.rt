@@ -10,7 +10,7 @@ use std::alloc::Global;
 
 /// Whether two texts name the same account. Their prefixes and their case make no difference.
 ///
-/// Returns an error if one of the texts is not an address. Takes no memory.
+/// Returns an error if one of the texts is not an address. Does not allocate.
 ///
 /// ```rust
 /// assert!(rt; is_same_account(rt.alloc(), &[b'a'; 40], &[b'A'; 40])?);

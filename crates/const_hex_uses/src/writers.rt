@@ -18,7 +18,7 @@ pub fn vector_text(alloc: Global, bytes: &Vec<u8>) -> Result<String, AllocError>
     ToHex::encode_hex(bytes, alloc)
 }
 
-/// The text of the bytes of another text, with upper letters.
+/// The text of the bytes of another text, in uppercase.
 ///
 /// ```rust
 /// let text = string_text(rt.alloc(), &"kiwi".to_string(rt.alloc())?)?;

@@ -7,7 +7,7 @@ use const_hex::traits::BytesToHexChars;
 use const_hex::{
     FromHexError, Plain, ToHex, ToHexExt, encode, encode_full_to_slice, encode_prefixed,
     encode_to_slice, encode_to_slice_upper, encode_to_str, encode_to_str_upper, encode_upper,
-    encode_upper_prefixed, fill_text, serialize, serialize_upper, text_size,
+    encode_upper_prefixed, fill_text, serialize, serialize_upper, text_length,
 };
 use std::alloc::{AllocError, Global};
 use std::test::Fail;
@@ -138,8 +138,8 @@ fn texts_in_slices(rt: HostRuntime) -> Result<(), Fail> {
 /// Whether each call that writes text into a slice fills an output of that length, or refuses it
 /// and leaves it unchanged.
 fn fills(bytes: &[u8], text: &str, (prefix, upper): (bool, bool), length: usize) -> bool {
-    // A wrong `text_size` fails the row.
-    if length > ROOM || text_size(prefix, bytes.len()) != text.len() {
+    // A wrong `text_length` fails the row.
+    if length > ROOM || text_length(prefix, bytes.len()) != text.len() {
         return false;
     }
     let mut left = [0xEE; ROOM];
@@ -167,8 +167,8 @@ fn fills(bytes: &[u8], text: &str, (prefix, upper): (bool, bool), length: usize)
 
 #[test]
 fn full_texts(rt: HostRuntime) {
-    assert!(rt; text_size(true, 20) == 42);
-    assert!(rt; text_size(false, usize::MAX) == usize::MAX);
+    assert!(rt; text_length(true, 20) == 42);
+    assert!(rt; text_length(false, usize::MAX) == usize::MAX);
     let mut text = [0; 10];
     fill_text::<Plain>(b"kiwi", true, false, &mut text);
     assert!(rt; text == *b"0x6b697769");

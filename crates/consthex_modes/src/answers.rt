@@ -8,7 +8,7 @@ ghost use Rattle.consthex_modes.specs.declared.error.RunError.TheVariants.{TooLo
 
 use crate::error::RunError;
 use crate::mode::Mode;
-use const_hex::{FixedKernel, fill_text, text_size};
+use const_hex::{FixedKernel, fill_text, text_length};
 use std::alloc::{AllocError, Global};
 
 /// The most bytes that an input may have.
@@ -46,12 +46,12 @@ pub fn answer(alloc: Global, mode: Mode, input: &[u8]) -> Result<Vec<u8>, RunErr
     }
 }
 
-/// The text of the bytes and a newline. Memory is asked for once, for exactly these.
+/// The text of the bytes and a newline. Allocates once, for exactly these.
 fn encoded(alloc: Global, input: &[u8], prefix: bool, upper: bool) -> Result<Vec<u8>, AllocError>
     requires { length input.now ≤ limit }
     ensures { IfOk result (λ v. v.items ≡ full_text prefix upper input.now ++ newline) }
 {
-    let mut line = vec![in alloc; 0u8; text_size(prefix, input.len()) + 1]?;
+    let mut line = vec![in alloc; 0u8; text_length(prefix, input.len()) + 1]?;
     write_line(input, prefix, upper, &mut line);
     Ok(line)
 }

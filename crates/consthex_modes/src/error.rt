@@ -25,7 +25,7 @@ pub enum RunError {
     WriteFailed,
     /// The input has more than 1,048,576 bytes.
     TooLong,
-    /// A request for memory was refused.
+    /// Memory could not be allocated.
     NoMemory,
 }
 

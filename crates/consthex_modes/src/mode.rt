@@ -17,7 +17,7 @@ pub enum Mode {
     Encode,
     /// Two upper digits for each byte, and a newline.
     EncodeUpper,
-    /// `0x`, two lower digits for each byte, and a newline.
+    /// `0x`, two lowercase digits for each byte, and a newline.
     EncodePrefixed,
     /// `0x`, two upper digits for each byte, and a newline.
     EncodeUpperPrefixed,

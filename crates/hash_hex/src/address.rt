@@ -16,7 +16,7 @@ use const_hex::{Buffer, const_encode};
 pub type Address20 = FixedBytes<20>;
 
 impl Address20 {
-    /// The text that the address prints, in a buffer. Takes no memory.
+    /// The text that the address prints, in a buffer. Does not allocate.
     ///
     /// ```rust
     /// let text = Address20::from_bytes([0xAB; 20]).to_buffer();

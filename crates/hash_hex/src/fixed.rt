@@ -22,8 +22,8 @@ use std::fmt;
 
 /// A value of N bytes.
 ///
-/// It is read from text as N bytes, and prints as `0x` and two lower digits per byte. Values are
-/// compared, ordered and hashed by their bytes.
+/// It is read from text as N bytes, and prints as `0x` and two lowercase digits per byte. Values
+/// are compared, ordered and hashed by their bytes.
 ///
 /// ```rust
 /// let hash = Hash32::from_hex(rt.alloc(), &[b'F'; 64])?;
@@ -35,7 +35,7 @@ pub struct FixedBytes<const N: usize> {
 }
 
 impl<const N: usize> FixedBytes<N> {
-    /// The value of these bytes. Takes no memory.
+    /// The value of these bytes. Does not allocate.
     ///
     /// ```rust
     /// assert_eq!(rt; Hash32::from_bytes([7; 32]).as_bytes(), &[7; 32]);
@@ -47,7 +47,7 @@ impl<const N: usize> FixedBytes<N> {
         FixedBytes { bytes }
     }
 
-    /// The bytes. Takes no memory.
+    /// The bytes. Does not allocate.
     ///
     /// ```rust
     /// assert_eq!(rt; Address20::from_bytes([7; 20]).as_bytes(), &[7; 20]);
@@ -59,9 +59,9 @@ impl<const N: usize> FixedBytes<N> {
         &self.bytes
     }
 
-    /// The JSON string of the value: `0x` and two lower digits per byte.
+    /// The JSON string of the value: `0x` and two lowercase digits per byte.
     ///
-    /// Returns `AllocError` if memory is refused.
+    /// Returns `AllocError` if memory cannot be allocated.
     ///
     /// ```rust
     /// let value = Address20::from_bytes([7; 20]).to_value(rt.alloc())?;
@@ -76,8 +76,8 @@ impl<const N: usize> FixedBytes<N> {
     /// The value that a JSON string spells, with or without a prefix, in either case.
     ///
     /// Returns [`JsonError::NotText`] if the JSON value is not a string. Otherwise returns the
-    /// answer of [`from_hex`](FromHex::from_hex), with its refusals inside [`JsonError::Hex`].
-    /// Takes no memory.
+    /// answer of [`from_hex`](FromHex::from_hex), with its errors inside [`JsonError::Hex`]. Does
+    /// not allocate.
     ///
     /// ```rust
     /// assert_eq!(rt; Hash32::from_value(rt.alloc(), &Value::Null), Err(JsonError::NotText));
@@ -93,7 +93,7 @@ impl<const N: usize> FixedBytes<N> {
     }
 }
 
-/// With the answers of [`decode_to_array`](const_hex::decode_to_array). Takes no memory.
+/// With the answers of [`decode_to_array`](const_hex::decode_to_array). Does not allocate.
 impl<const N: usize> FromHex for FixedBytes<N> {
     type Error = FromHexError;
 
@@ -132,7 +132,7 @@ impl<const N: usize> From<[u8; N]> for FixedBytes<N> {
     }
 }
 
-/// `0x` and two lower digits per byte. Takes no memory.
+/// `0x` and two lowercase digits per byte. Does not allocate.
 impl<const N: usize> fmt::Display for FixedBytes<N> {
     ghost output = { λ v. Some (full_text true false (fixed_bytes v)) };
 

@@ -16,7 +16,7 @@ use const_hex::{Buffer, const_encode};
 pub type Hash32 = FixedBytes<32>;
 
 impl Hash32 {
-    /// The text that the hash prints, in a buffer. Takes no memory.
+    /// The text that the hash prints, in a buffer. Does not allocate.
     ///
     /// ```rust
     /// let text = Hash32::from_bytes([0xAB; 32]).to_buffer();

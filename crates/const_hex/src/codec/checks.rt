@@ -13,7 +13,7 @@ use const_hex_arch::{FixedKernel, Kernel};
 ///
 /// Returns [`FromHexError::OddLength`] for an odd length. Otherwise returns
 /// [`FromHexError::InvalidHexCharacter`] with the first byte behind the prefix that is not a digit,
-/// if there is one. Takes no memory.
+/// if there is one. Does not allocate.
 ///
 /// ```rust
 /// assert_eq!(rt; const_hex::check(b"0x6b"), Ok(()));
@@ -27,7 +27,7 @@ pub fn check(input: &[u8]) -> Result<(), FromHexError>
     check_with::<FixedKernel>(input)
 }
 
-/// As [`check`], by a kernel of the caller's choice. Takes no memory.
+/// As [`check`], by a kernel of the caller's choice. Does not allocate.
 ///
 /// ```rust
 /// assert_eq!(rt; const_hex::check_with::<Plain>(b"0X6B"), Ok(()));
@@ -48,7 +48,7 @@ pub fn check_with<K: Kernel>(input: &[u8]) -> Result<(), FromHexError>
     }
 }
 
-/// As [`check`], with the same answer on every text. Takes no memory.
+/// As [`check`], with the same answer on every text. Does not allocate.
 ///
 /// ```rust
 /// let refusal = FromHexError::InvalidHexCharacter { c: 'z', index: 2 };
@@ -60,13 +60,13 @@ pub fn const_check(input: &[u8]) -> Result<(), FromHexError>
     ensures answer { Checks input.now result }
     ensures accepts { IsOk result ↔ ((bs : List ℕ) × Reads input.now (Ok bs)) }
     // This is the only answer that meets `Checks`.
-    ensures alone { (r : Result Unit FromHexError) → Checks input.now r → r ≡ result }
+    ensures unique { (r : Result Unit FromHexError) → Checks input.now r → r ≡ result }
 {
     check(input)
 }
 
-/// Whether every byte is a digit. No prefix is allowed, and the length does not matter. Takes no
-/// memory.
+/// Whether every byte is a digit. No prefix is allowed, and the length does not matter. Does not
+/// allocate.
 ///
 /// ```rust
 /// assert!(rt; const_hex::check_raw(b"6b6"));
@@ -79,7 +79,7 @@ pub fn check_raw(input: &[u8]) -> bool
     FixedKernel::check(input)
 }
 
-/// As [`check_raw`], with the same answer on every text. Takes no memory.
+/// As [`check_raw`], with the same answer on every text. Does not allocate.
 ///
 /// ```rust
 /// assert!(rt; const_hex::const_check_raw(b"6B6"));

@@ -14,10 +14,10 @@ use std::alloc::Global;
 
 /// The bytes that a text spells, with or without a prefix, in either case.
 ///
-/// The first of these refusals is returned:
+/// The first of these errors is returned:
 ///
-/// - [`FromHexError::OddLength`], before memory is asked for;
-/// - [`FromHexError::NoMemory`], if memory is refused;
+/// - [`FromHexError::OddLength`], before anything is allocated;
+/// - [`FromHexError::NoMemory`], if memory cannot be allocated;
 /// - [`FromHexError::InvalidHexCharacter`], with the first byte behind the prefix that is not a
 ///   digit.
 ///
@@ -34,7 +34,7 @@ pub fn decode(alloc: Global, input: &[u8]) -> Result<Vec<u8>, FromHexError>
     ensures round_trip { (prefix up : Bool) (bs : List ℕ) → AreBytes bs
         → input.now ≡ full_text prefix up bs
         → MatchResult result (λ v. v.items ≡ bs) (λ e. e ≡ NoMemory) }
-    // The text of the bytes is the body with lower letters.
+    // The text of the bytes is the body in lowercase.
     ensures canonical { IfOk result (λ v. hex_text false v.items ≡ lowered (body_of input.now)) }
     // Another text gives the same bytes exactly if the two bodies differ only in case.
     ensures agree { (t bs : List ℕ) → Reads t (Ok bs)
@@ -43,7 +43,7 @@ pub fn decode(alloc: Global, input: &[u8]) -> Result<Vec<u8>, FromHexError>
     decode_with::<FixedKernel>(alloc, input)
 }
 
-/// As [`decode`], by a kernel of the caller's choice. The refusals are the same,
+/// As [`decode`], by a kernel of the caller's choice. The errors are the same,
 /// [`FromHexError::NoMemory`] included.
 ///
 /// ```rust
@@ -61,7 +61,7 @@ pub fn decode_with<K: Kernel>(alloc: Global, input: &[u8]) -> Result<Vec<u8>, Fr
     ensures round_trip { (prefix up : Bool) (bs : List ℕ) → AreBytes bs
         → input.now ≡ full_text prefix up bs
         → MatchResult result (λ v. v.items ≡ bs) (λ e. e ≡ NoMemory) }
-    // The text of the bytes is the body with lower letters.
+    // The text of the bytes is the body in lowercase.
     ensures canonical { IfOk result (λ v. hex_text false v.items ≡ lowered (body_of input.now)) }
     // Another text gives the same bytes exactly if the two bodies differ only in case.
     ensures agree { (t bs : List ℕ) → Reads t (Ok bs)
@@ -70,7 +70,7 @@ pub fn decode_with<K: Kernel>(alloc: Global, input: &[u8]) -> Result<Vec<u8>, Fr
     decode_owned::<K>(alloc, input)
 }
 
-/// The bytes that a text spells. Memory is asked for once, for exactly these bytes.
+/// The bytes that a text spells. Allocates once, for exactly these bytes.
 #[inline(always)]
 fn decode_owned<K: Kernel>(alloc: Global, input: &[u8]) -> Result<Vec<u8>, FromHexError>
     ensures ok { IfOk result (λ v. Reads input.now (Ok v.items)) }
@@ -90,7 +90,7 @@ fn decode_owned<K: Kernel>(alloc: Global, input: &[u8]) -> Result<Vec<u8>, FromH
 
 /// Fills the output with the bytes that a text spells, with or without a prefix, in either case.
 ///
-/// The first of these refusals is returned:
+/// The first of these errors is returned:
 ///
 /// - [`FromHexError::OddLength`], and the output is unchanged;
 /// - [`FromHexError::InvalidStringLength`], if the text spells another number of bytes than the
@@ -98,7 +98,7 @@ fn decode_owned<K: Kernel>(alloc: Global, input: &[u8]) -> Result<Vec<u8>, FromH
 /// - [`FromHexError::InvalidHexCharacter`]. A front of the output may be decoded, no longer than
 ///   the pairs before the bad byte, and the rest is unchanged.
 ///
-/// Takes no memory.
+/// Does not allocate.
 ///
 /// ```rust
 /// let mut bytes = [0; 4];
@@ -109,13 +109,13 @@ fn decode_owned<K: Kernel>(alloc: Global, input: &[u8]) -> Result<Vec<u8>, FromH
 pub fn decode_to_slice(input: &[u8], output: &mut [u8]) -> Result<(), FromHexError>
     ensures ok { IfOk result (λ _. ReadsSized input.now (length output.old) (Ok output.new)) }
     ensures err { IfErr result (λ e. ReadsSized input.now (length output.old) (Err e)) }
-    ensures left { IfErr result (λ e. Leaves input.now output.old output.new e) }
+    ensures after_error { IfErr result (λ e. Leaves input.now output.old output.new e) }
 {
     decode_to_slice_with::<FixedKernel>(input, output)
 }
 
 /// As [`decode_to_slice`], by a kernel of the caller's choice. If the kernel checks a text before
-/// it decodes, every refusal leaves the output unchanged. Takes no memory.
+/// it decodes, every error leaves the output unchanged. Does not allocate.
 ///
 /// ```rust
 /// let mut bytes = [0; 4];
@@ -126,7 +126,7 @@ pub fn decode_to_slice(input: &[u8], output: &mut [u8]) -> Result<(), FromHexErr
 pub fn decode_to_slice_with<K: Kernel>(input: &[u8], output: &mut [u8]) -> Result<(), FromHexError>
     ensures ok { IfOk result (λ _. ReadsSized input.now (length output.old) (Ok output.new)) }
     ensures err { IfErr result (λ e. ReadsSized input.now (length output.old) (Err e)) }
-    ensures left { IfErr result (λ e. Leaves input.now output.old output.new e) }
+    ensures after_error { IfErr result (λ e. Leaves input.now output.old output.new e) }
     ensures unchanged { K.USE_CHECK_FN ≡ true → OnErr result (output.new ≡ output.old) }
 {
     if input.len() % 2 != 0 {
@@ -145,7 +145,7 @@ pub fn decode_to_slice_with<K: Kernel>(input: &[u8], output: &mut [u8]) -> Resul
 /// Fills the front of the output with the bytes that a text spells, with or without a prefix, in
 /// either case, and returns their number. The rest of the output is unchanged.
 ///
-/// The first of these refusals is returned:
+/// The first of these errors is returned:
 ///
 /// - [`FromHexError::OddLength`], and the output is unchanged;
 /// - [`FromHexError::InvalidStringLength`], if the text spells more bytes than the output has, and
@@ -153,7 +153,7 @@ pub fn decode_to_slice_with<K: Kernel>(input: &[u8], output: &mut [u8]) -> Resul
 /// - [`FromHexError::InvalidHexCharacter`]. A front of the output may be decoded, no longer than
 ///   the pairs before the bad byte, and the rest is unchanged.
 ///
-/// Takes no memory.
+/// Does not allocate.
 ///
 /// ```rust
 /// let mut bytes = *b"......";
@@ -167,7 +167,7 @@ pub fn decode_to_front(input: &[u8], output: &mut [u8]) -> Result<usize, FromHex
     ensures count { IfOk result (λ n. length (body_of input.now) ≡ 2 * n) }
     ensures rest { IfOk result (λ n. drop n output.new ≡ drop n output.old) }
     ensures err { IfErr result (λ e. ReadsWithin input.now (length output.old) (Err e)) }
-    ensures left { IfErr result (λ e. Leaves input.now output.old output.new e) }
+    ensures after_error { IfErr result (λ e. Leaves input.now output.old output.new e) }
 {
     if input.len() % 2 != 0 {
         return Err(FromHexError::OddLength);
@@ -185,9 +185,9 @@ pub fn decode_to_front(input: &[u8], output: &mut [u8]) -> Result<usize, FromHex
 
 /// The N bytes that a text spells, with or without a prefix, in either case.
 ///
-/// The first of these refusals is returned: [`FromHexError::OddLength`];
+/// The first of these errors is returned: [`FromHexError::OddLength`];
 /// [`FromHexError::InvalidStringLength`], if the text behind the prefix does not have 2 * N bytes;
-/// [`FromHexError::InvalidHexCharacter`]. Takes no memory.
+/// [`FromHexError::InvalidHexCharacter`]. Does not allocate.
 ///
 /// ```rust
 /// let bytes = const_hex::decode_to_array::<4>(b"0x6b697769")?;
@@ -221,7 +221,7 @@ fn read_array<const N: usize>(input: &[u8]) -> Result<[u8; N], FromHexError>
     }
 }
 
-/// As [`decode_to_array`], with the same answer on every text. Takes no memory.
+/// As [`decode_to_array`], with the same answer on every text. Does not allocate.
 ///
 /// ```rust
 /// let bytes = const_hex::const_decode_to_array::<4>(b"6B697769")?;
@@ -234,7 +234,7 @@ pub fn const_decode_to_array<const N: usize>(input: &[u8]) -> Result<[u8; N], Fr
     // For a constant text this computes, so the check proves an `unwrap`.
     ensures accepts { IsOk result ↔ IsTrue (is_text_of N input.now) }
     // This is the only answer that meets `ReadsSized`.
-    ensures alone { (r : Result (List ℕ) FromHexError) → ReadsSized input.now N r → r ≡ result }
+    ensures unique { (r : Result (List ℕ) FromHexError) → ReadsSized input.now N r → r ≡ result }
 {
     decode_to_array(input)
 }
@@ -242,7 +242,7 @@ pub fn const_decode_to_array<const N: usize>(input: &[u8]) -> Result<[u8; N], Fr
 /// The N bytes that a constant text spells. The check proves that it spells them.
 ///
 /// The text must be 2 * N digits, with or without a prefix. If a digit is wrong, or the length, the
-/// check refuses the program, and it never runs. Takes no memory.
+/// check refuses the program, and it never runs. Does not allocate.
 ///
 /// ```rust
 /// let bytes: [u8; 4] = const_hex::bytes_of(b"0x6b697769");

@@ -28,9 +28,9 @@ fn owned<K: Kernel>(
     Ok(unsafe { String::from_utf8_unchecked(text) })
 }
 
-/// Two digits for each byte, in order, with lower letters.
+/// Two digits for each byte, in order, in lowercase.
 ///
-/// Returns `AllocError` if memory is refused.
+/// Returns `AllocError` if memory cannot be allocated.
 ///
 /// ```rust
 /// let text = const_hex::encode(rt.alloc(), b"Hello world!")?;
@@ -44,9 +44,9 @@ pub fn encode(alloc: Global, input: &[u8]) -> Result<String, AllocError>
     encode_with::<FixedKernel, false>(alloc, input)
 }
 
-/// As [`encode`], with upper letters.
+/// As [`encode`], in uppercase.
 ///
-/// Returns `AllocError` if memory is refused.
+/// Returns `AllocError` if memory cannot be allocated.
 ///
 /// ```rust
 /// let text = const_hex::encode_upper(rt.alloc(), b"kiwi")?;
@@ -62,7 +62,7 @@ pub fn encode_upper(alloc: Global, input: &[u8]) -> Result<String, AllocError>
 
 /// `0x`, and then the text of [`encode`].
 ///
-/// Returns `AllocError` if memory is refused.
+/// Returns `AllocError` if memory cannot be allocated.
 ///
 /// ```rust
 /// let text = const_hex::encode_prefixed(rt.alloc(), b"kiwi")?;
@@ -76,7 +76,7 @@ pub fn encode_prefixed(alloc: Global, input: &[u8]) -> Result<String, AllocError
 
 /// `0x`, and then the text of [`encode_upper`].
 ///
-/// Returns `AllocError` if memory is refused.
+/// Returns `AllocError` if memory cannot be allocated.
 ///
 /// ```rust
 /// let text = const_hex::encode_upper_prefixed(rt.alloc(), b"kiwi")?;
@@ -90,7 +90,7 @@ pub fn encode_upper_prefixed(alloc: Global, input: &[u8]) -> Result<String, Allo
 
 /// As [`encode`] or [`encode_upper`], by a kernel of the caller's choice.
 ///
-/// Returns `AllocError` if memory is refused.
+/// Returns `AllocError` if memory cannot be allocated.
 ///
 /// ```rust
 /// let text = const_hex::encode_with::<Plain, true>(rt.alloc(), b"kiwi")?;
@@ -129,10 +129,10 @@ fn filled<'a>(input: &[u8], upper: bool, output: &'a mut [u8]) -> &'a mut [u8]
     output
 }
 
-/// Fills the output with the text of the input, with lower letters.
+/// Fills the output with the text of the input, in lowercase.
 ///
 /// The output must have exactly two bytes for each byte of the input. Otherwise returns
-/// [`FromHexError::InvalidStringLength`], and the output is unchanged. Takes no memory.
+/// [`FromHexError::InvalidStringLength`], and the output is unchanged. Does not allocate.
 ///
 /// ```rust
 /// let mut text = [0; 8];
@@ -149,7 +149,7 @@ pub fn encode_to_slice(input: &[u8], output: &mut [u8]) -> Result<(), FromHexErr
     encode_full_to_slice(input, false, false, output)
 }
 
-/// As [`encode_to_slice`], with upper letters. Takes no memory.
+/// As [`encode_to_slice`], in uppercase. Does not allocate.
 ///
 /// ```rust
 /// let mut text = [0; 8];
@@ -166,12 +166,12 @@ pub fn encode_to_slice_upper(input: &[u8], output: &mut [u8]) -> Result<(), From
     encode_full_to_slice(input, false, true, output)
 }
 
-/// Fills the output with the text of the input, in upper or lower letters, behind `0x` if `prefix`
+/// Fills the output with the text of the input, in uppercase or lowercase, behind `0x` if `prefix`
 /// is true.
 ///
 /// The output must have exactly two bytes for each byte of the input, and two more for a prefix.
-/// Otherwise returns [`FromHexError::InvalidStringLength`], and the output is unchanged. Takes no
-/// memory.
+/// Otherwise returns [`FromHexError::InvalidStringLength`], and the output is unchanged. Does not
+/// allocate.
 ///
 /// ```rust
 /// let mut text = [0; 10];
@@ -198,10 +198,10 @@ pub fn encode_full_to_slice(
     Ok(())
 }
 
-/// Fills the output with the text of the input, with lower letters, and lends it as text.
+/// Fills the output with the text of the input, in lowercase, and lends it as text.
 ///
 /// The output must have exactly two bytes for each byte of the input. Otherwise returns
-/// [`FromHexError::InvalidStringLength`], and the output is unchanged. Takes no memory.
+/// [`FromHexError::InvalidStringLength`], and the output is unchanged. Does not allocate.
 ///
 /// ```rust
 /// let mut output = [0; 8];
@@ -220,7 +220,7 @@ pub fn encode_to_str<'a>(input: &[u8], output: &'a mut [u8]) -> Result<&'a str, 
     Ok(ascii_text(filled(input, false, output)))
 }
 
-/// As [`encode_to_str`], with upper letters. Takes no memory.
+/// As [`encode_to_str`], in uppercase. Does not allocate.
 ///
 /// ```rust
 /// let mut output = [0; 8];

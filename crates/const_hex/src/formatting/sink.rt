@@ -22,7 +22,7 @@ pub struct FormatterSink<'f, W> {
 }
 
 impl<'f, W: fmt::Write> FormatterSink<'f, W> {
-    /// A sink over that formatter, which has not refused.
+    /// A sink over the given formatter, which has not refused.
     ///
     /// ```rust
     /// let sink = FormatterSink::new(f);

@@ -11,9 +11,9 @@ use std::fmt;
 
 /// Bytes that are printed as text: two digits for each.
 ///
-/// `{}` and `LowerHex` print lower digits, `UpperHex` upper digits. With `#` they put `0x` in
-/// front. Width and fill are ignored. If the formatter fails, nothing more is written, and the
-/// error is returned. Takes no memory.
+/// `{}` and `LowerHex` print lowercase digits, `UpperHex` uppercase digits. With `#` they put `0x`
+/// in front. Width and fill are ignored. If the formatter fails, nothing more is written, and the
+/// error is returned. Does not allocate.
 ///
 /// ```rust
 /// let bytes = const_hex::display(&[0xde, 0xad]);

@@ -7,7 +7,7 @@ use std::fmt;
 
 /// Why a JSON value cannot be read into a type.
 ///
-/// It prints `expected a hex encoded string`, or the words of the type's refusal. It is an `Error`,
+/// It prints `expected a hex encoded string`, or the message of the type's error. It is an `Error`,
 /// so `?` hands it on, also to an `anyhow::Error`.
 ///
 /// ```rust
@@ -18,7 +18,7 @@ use std::fmt;
 pub enum JsonError<E> {
     /// The JSON value is not a string: it is null, a truth value, a number, a list or an object.
     NotText,
-    /// The type's refusal of the text.
+    /// The type's error for the text.
     Hex(E),
 }
 

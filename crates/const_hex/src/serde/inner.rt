@@ -5,7 +5,7 @@ ghost use Rattle.const_hex_arch.specs.Texts.{full_text};
 ghost use Rattle.const_hex_arch.specs.Streams.{Streams, TellsCut};
 ghost use Rattle.const_hex.specs.Json.{TellsWhole};
 
-use const_hex_arch::{BufferedHex, FixedKernel, Sink, SinkError, ascii_text, fill_text, text_size};
+use const_hex_arch::{BufferedHex, FixedKernel, Sink, SinkError, ascii_text, fill_text, text_length};
 
 /// The largest number of bytes whose text is handed over in one call.
 const AT_ONCE: usize = 128;
@@ -13,7 +13,7 @@ const AT_ONCE: usize = 128;
 /// Hands the text of some bytes to a sink that has not refused. Up to 128 bytes go in one call,
 /// even for the empty text. More bytes go as [`BufferedHex`] hands them.
 ///
-/// Returns [`SinkError`] if the sink refused a piece. Only the sink takes memory.
+/// Returns [`SinkError`] if the sink refused a piece. Only the sink allocates.
 ///
 /// ```rust
 /// let mut sink = PieceSink::new(rt.alloc(), 0);
@@ -50,7 +50,7 @@ fn text_in<'a>(buffer: &'a mut [u8], bytes: &[u8], prefix: bool, upper: bool) ->
     requires { 2 + 2 * length bytes.now ≤ length buffer.old }
     ensures { result.now ≡ full_text prefix upper bytes.now }
 {
-    let text = &mut buffer[..text_size(prefix, bytes.len())];
+    let text = &mut buffer[..text_length(prefix, bytes.len())];
     fill_text::<FixedKernel>(bytes, prefix, upper, text);
     let text: &'a [u8] = text;
     ascii_text(text)

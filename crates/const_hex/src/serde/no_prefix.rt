@@ -10,9 +10,9 @@ pub use crate::serde::deserialize;
 use serde_json::Value;
 use std::alloc::{AllocError, Global};
 
-/// A JSON string with two digits for each byte, with lower letters.
+/// A JSON string with two digits for each byte, in lowercase.
 ///
-/// Returns `AllocError` if memory is refused.
+/// Returns `AllocError` if memory cannot be allocated.
 ///
 /// ```rust
 /// let value = const_hex::serde::no_prefix::serialize(rt.alloc(), &[0xde, 0xad])?;
@@ -24,9 +24,9 @@ pub fn serialize(alloc: Global, bytes: &[u8]) -> Result<Value, AllocError>
     Ok(Value::String(encode(alloc, bytes)?))
 }
 
-/// As [`serialize`], with upper letters.
+/// As [`serialize`], in uppercase.
 ///
-/// Returns `AllocError` if memory is refused.
+/// Returns `AllocError` if memory cannot be allocated.
 ///
 /// ```rust
 /// let value = const_hex::serde::no_prefix::serialize_upper(rt.alloc(), &[0xde, 0xad])?;

@@ -9,7 +9,7 @@ use const_hex_arch::digit_at;
 
 /// The characters of the text of some bytes: two for each byte, in order, and then always `None`.
 ///
-/// Takes no memory.
+/// Does not allocate.
 ///
 /// ```rust
 /// let mut chars = BytesToHexChars::<true>::new(&[0x0f]);

@@ -10,8 +10,8 @@ use std::rc::Rc;
 
 /// A value behind a pointer.
 ///
-/// An error of the value is returned as it is. If memory for the pointer is refused, the error is
-/// of memory.
+/// An error of the value is returned as it is. If the pointer cannot be allocated, the error is of
+/// memory.
 impl<T: FromHex + Drop> FromHex for Box<T> {
     type Error = T::Error;
 
@@ -37,8 +37,8 @@ impl<T: FromHex + Drop> FromHex for Box<T> {
 
 /// A value behind a shared pointer.
 ///
-/// An error of the value is returned as it is. If memory for the pointer is refused, the error is
-/// of memory.
+/// An error of the value is returned as it is. If the pointer cannot be allocated, the error is of
+/// memory.
 impl<T: FromHex + Drop> FromHex for Rc<T> {
     type Error = T::Error;
 

@@ -35,7 +35,7 @@ pub trait FromHex: Sized {
 
     /// The value with the bytes that a text spells, with or without a prefix, in either case.
     ///
-    /// May take memory. If memory is refused, [`HexFault::is_memory`] is true of the error.
+    /// May allocate. If that fails, [`HexFault::is_memory`] is true of the error.
     ///
     /// ```rust
     /// assert_eq!(rt; <[u8; 4] as FromHex>::from_hex(rt.alloc(), b"6B697769"), Ok(*b"kiwi"));

@@ -65,7 +65,7 @@ impl FromHex for BoxedSlice<i8> {
 }
 
 /// The N numbers with the bits of the bytes, with the answers of
-/// [`decode_to_array`](crate::decode_to_array). Takes no memory.
+/// [`decode_to_array`](crate::decode_to_array). Does not allocate.
 impl<const N: usize> FromHex for [i8; N] {
     type Error = FromHexError;
 

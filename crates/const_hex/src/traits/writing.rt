@@ -49,9 +49,9 @@ pub trait ToHex {
     /// The bytes that are written.
     ghost written_bytes: { Self → List ℕ };
 
-    /// The text with lower letters.
+    /// The text in lowercase.
     ///
-    /// Returns `AllocError` if memory is refused.
+    /// Returns `AllocError` if memory cannot be allocated.
     ///
     /// ```rust
     /// let text = ToHex::encode_hex(b"kiwi", rt.alloc())?;
@@ -60,9 +60,9 @@ pub trait ToHex {
     fn encode_hex(&self, alloc: Global) -> Result<String, AllocError>
         ensures { IfOk result (λ s. string_bytes s ≡ hex_text false (written_bytes self.now)) };
 
-    /// The text with upper letters.
+    /// The text in uppercase.
     ///
-    /// Returns `AllocError` if memory is refused.
+    /// Returns `AllocError` if memory cannot be allocated.
     ///
     /// ```rust
     /// let text = ToHex::encode_hex_upper(b"kiwi", rt.alloc())?;
@@ -94,9 +94,9 @@ pub trait ToHexExt {
     /// The bytes that are written.
     ghost written_bytes: { Self → List ℕ };
 
-    /// The text with lower letters.
+    /// The text in lowercase.
     ///
-    /// Returns `AllocError` if memory is refused.
+    /// Returns `AllocError` if memory cannot be allocated.
     ///
     /// ```rust
     /// let text = ToHexExt::encode_hex(b"kiwi", rt.alloc())?;
@@ -105,9 +105,9 @@ pub trait ToHexExt {
     fn encode_hex(&self, alloc: Global) -> Result<String, AllocError>
         ensures { IfOk result (λ s. string_bytes s ≡ hex_text false (written_bytes self.now)) };
 
-    /// The text with upper letters.
+    /// The text in uppercase.
     ///
-    /// Returns `AllocError` if memory is refused.
+    /// Returns `AllocError` if memory cannot be allocated.
     ///
     /// ```rust
     /// let text = ToHexExt::encode_hex_upper(b"kiwi", rt.alloc())?;
@@ -116,9 +116,9 @@ pub trait ToHexExt {
     fn encode_hex_upper(&self, alloc: Global) -> Result<String, AllocError>
         ensures { IfOk result (λ s. string_bytes s ≡ hex_text true (written_bytes self.now)) };
 
-    /// `0x`, and then the text with lower letters.
+    /// `0x`, and then the text in lowercase.
     ///
-    /// Returns `AllocError` if memory is refused.
+    /// Returns `AllocError` if memory cannot be allocated.
     ///
     /// ```rust
     /// let text = b"kiwi".encode_hex_with_prefix(rt.alloc())?;
@@ -128,9 +128,9 @@ pub trait ToHexExt {
         ensures { IfOk result (λ s. string_bytes s
             ≡ full_text true false (written_bytes self.now)) };
 
-    /// `0x`, and then the text with upper letters.
+    /// `0x`, and then the text in uppercase.
     ///
-    /// Returns `AllocError` if memory is refused.
+    /// Returns `AllocError` if memory cannot be allocated.
     ///
     /// ```rust
     /// let text = b"kiwi".encode_hex_upper_with_prefix(rt.alloc())?;

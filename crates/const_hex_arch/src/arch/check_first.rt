@@ -6,7 +6,7 @@ use crate::arch::Kernel;
 use crate::output::Output;
 use std::marker::PhantomData;
 
-/// The kernel `K`, but it decodes a text only after it has checked all of it. So a refusal leaves
+/// The kernel `K`, but it decodes a text only after it has checked all of it. So an error leaves
 /// the output unchanged.
 ///
 /// ```rust

@@ -107,7 +107,7 @@ fn digit_marks<const N: usize, V: Vectors<N>>(v: Simd<u8, N>) -> Simd<u8, N>
 /// Whether every lane is a digit.
 #[inline(always)]
 #[tactic(auto, using(crate::proofs::LaneMarks::through))]
-pub(crate) fn check<const N: usize, V: Vectors<N>>(v: Simd<u8, N>) -> bool
+pub(crate) fn are_digits<const N: usize, V: Vectors<N>>(v: Simd<u8, N>) -> bool
     ensures { IsTrue result ↔ AllDigits v.entry }
 {
     are_unmarked(digit_marks::<N, V>(v))
@@ -115,7 +115,7 @@ pub(crate) fn check<const N: usize, V: Vectors<N>>(v: Simd<u8, N>) -> bool
 
 /// The marks of two vectors, joined.
 #[inline(always)]
-pub(crate) fn two_marks<const N: usize, V: Vectors<N>>(
+pub(crate) fn joint_marks<const N: usize, V: Vectors<N>>(
     first: Simd<u8, N>,
     second: Simd<u8, N>,
 ) -> Simd<u8, N>

@@ -54,7 +54,7 @@ pub fn encode_chunk<const UPPER: bool>(v: u8x16) -> [u8x16; 2]
 pub fn check_chunk(v: u8x16) -> bool
     ensures { IsTrue result ↔ AllDigits v }
 {
-    lanes::check::<16, Lanes16>(v)
+    lanes::are_digits::<16, Lanes16>(v)
 }
 
 /// The value of each lane that is a digit, and more than 15 for every other lane.
@@ -204,7 +204,7 @@ fn encode_piece<const UPPER: bool>(bytes: &[u8]) -> [u8; 32]
     piece
 }
 
-/// The text of a step, in upper or lower digits.
+/// The text of a step, in uppercase or lowercase.
 #[inline(always)]
 fn text_of(bytes: &[u8], upper: bool) -> [u8; 32]
     requires { length bytes.now ≡ 16 }
@@ -240,7 +240,7 @@ fn decode_flagged(text: [u8x16; 2]) -> (u8x16, bool)
     ensures digits { IsTrue result.1 ↔ AllDigits (concat text) }
     ensures spells { IsTrue result.1 → Spells (concat text) result.0 }
 {
-    let marks = lanes::two_marks::<16, Lanes16>(text[0], text[1]);
+    let marks = lanes::joint_marks::<16, Lanes16>(text[0], text[1]);
     let bytes = lanes::decode::<16, Lanes16>(text[0], text[1]);
     (bytes, lanes::are_unmarked(marks))
 }

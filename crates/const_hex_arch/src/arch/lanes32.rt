@@ -21,7 +21,7 @@ use std::simd::prelude::*;
 /// The digits of each value, for each half of the lanes.
 const DIGITS_LOWER: [u8; 32] = *b"0123456789abcdef0123456789abcdef";
 
-/// The same with upper letters.
+/// The same in uppercase.
 const DIGITS_UPPER: [u8; 32] = *b"0123456789ABCDEF0123456789ABCDEF";
 
 /// Two digits for each lane, in order: the text of the first 16 lanes, and the text of the last 16.
@@ -50,7 +50,7 @@ pub fn encode_chunk<const UPPER: bool>(v: u8x32) -> [u8x32; 2]
 pub fn check_chunk(v: u8x32) -> bool
     ensures { IsTrue result ↔ AllDigits v }
 {
-    lanes::check::<32, Lanes32>(v)
+    lanes::are_digits::<32, Lanes32>(v)
 }
 
 /// The value of each lane that is a digit, and more than 15 for every other lane.
@@ -198,7 +198,7 @@ fn encode_piece<const UPPER: bool>(bytes: &[u8]) -> [u8; 64]
     piece
 }
 
-/// The text of a step, in upper or lower digits.
+/// The text of a step, in uppercase or lowercase.
 #[inline(always)]
 fn text_of(bytes: &[u8], upper: bool) -> [u8; 64]
     requires { length bytes.now ≡ 32 }
@@ -234,7 +234,7 @@ fn decode_flagged(text: [u8x32; 2]) -> (u8x32, bool)
     ensures digits { IsTrue result.1 ↔ AllDigits (concat text) }
     ensures spells { IsTrue result.1 → Spells (concat text) result.0 }
 {
-    let marks = lanes::two_marks::<32, Lanes32>(text[0], text[1]);
+    let marks = lanes::joint_marks::<32, Lanes32>(text[0], text[1]);
     let bytes = lanes::decode::<32, Lanes32>(text[0], text[1]);
     (bytes, lanes::are_unmarked(marks))
 }

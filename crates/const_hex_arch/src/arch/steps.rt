@@ -238,7 +238,7 @@ pub(crate) fn check_step<const N: usize, V: Vectors<N>>(text: &[u8]) -> bool
     requires { length text.now ≡ N }
     ensures { IsTrue result ↔ AllDigits text.now }
 {
-    lanes::check::<N, V>(Simd::from_slice(text))
+    lanes::are_digits::<N, V>(Simd::from_slice(text))
 }
 
 /// As `check_step`, for two steps that need not follow one another, by one test.
@@ -249,7 +249,7 @@ fn check_pair<const N: usize, V: Vectors<N>>(first: &[u8], second: &[u8]) -> boo
     requires second { length second.now ≡ N }
     ensures { IsTrue result ↔ AllDigits (first.now ++ second.now) }
 {
-    let marks = lanes::two_marks::<N, V>(Simd::from_slice(first), Simd::from_slice(second));
+    let marks = lanes::joint_marks::<N, V>(Simd::from_slice(first), Simd::from_slice(second));
     lanes::are_unmarked(marks)
 }
 
@@ -260,7 +260,7 @@ fn check_two_steps<const N: usize, V: Vectors<N>>(text: &[u8]) -> bool
     requires { length text.now ≡ 2 * N }
     ensures { IsTrue result ↔ AllDigits text.now }
 {
-    lanes::are_unmarked(two_marks::<N, V>(text))
+    lanes::are_unmarked(marks_of_two_steps::<N, V>(text))
 }
 
 /// As `check_step`, for the text of four steps, by one test.
@@ -270,17 +270,17 @@ fn check_four_steps<const N: usize, V: Vectors<N>>(text: &[u8]) -> bool
     ensures { IsTrue result ↔ AllDigits text.now }
 {
     let (front, back) = text.split_at(2 * N);
-    lanes::are_unmarked(two_marks::<N, V>(front) | two_marks::<N, V>(back))
+    lanes::are_unmarked(marks_of_two_steps::<N, V>(front) | marks_of_two_steps::<N, V>(back))
 }
 
 /// Marks of the text of two steps: there are none exactly if each byte is a digit.
 #[inline(always)]
 #[tactic(auto, using(crate::proofs::LaneBytes::in_two))]
-fn two_marks<const N: usize, V: Vectors<N>>(text: &[u8]) -> Simd<u8, N>
+fn marks_of_two_steps<const N: usize, V: Vectors<N>>(text: &[u8]) -> Simd<u8, N>
     requires { length text.now ≡ 2 * N }
     ensures { AllUnmarked result ↔ AllDigits text.now }
 {
-    lanes::two_marks::<N, V>(Simd::from_slice(text), Simd::from_slice(&text[N..]))
+    lanes::joint_marks::<N, V>(Simd::from_slice(text), Simd::from_slice(&text[N..]))
 }
 
 /// Fills the output with the bytes that the text of a step spells, and returns true. If some byte

@@ -24,7 +24,7 @@ pub struct SliceOutput<'a> {
 }
 
 impl<'a> SliceOutput<'a> {
-    /// An output into that slice, with nothing written yet.
+    /// An output into the given slice, with nothing written yet.
     ///
     /// ```rust
     /// assert_eq!(rt; SliceOutput::new(&mut [0; 4]).remaining(), Some(4));

@@ -24,7 +24,7 @@ pub struct SinkOutput<'a, S: Sink> {
 }
 
 impl<'a, S: Sink> SinkOutput<'a, S> {
-    /// An output to that sink, which must not have refused.
+    /// An output to the given sink, which must not have refused.
     ///
     /// ```rust
     /// let mut sink = PieceSink::new(rt.alloc(), 0);

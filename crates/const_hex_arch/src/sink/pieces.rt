@@ -7,8 +7,8 @@ use crate::sink::{Sink, SinkError};
 use std::alloc::{AllocError, Global};
 use std::marker::Model;
 
-/// Keeps a copy of each piece. Refuses the call with a given number, or a piece for which memory is
-/// refused.
+/// Keeps a copy of each piece. Refuses the call with a given number, or a piece that it cannot
+/// allocate.
 ///
 /// Contracts see it as the pieces that it accepted, that number, and whether it has refused.
 ///
@@ -41,8 +41,8 @@ impl Model for PieceSink {
 
 impl PieceSink {
     /// A sink with no pieces, which refuses the call with the number `refuse_at`. The first call
-    /// has the number 1; for 0 it refuses none. It takes no memory, and keeps the allocator for the
-    /// pieces.
+    /// has the number 1; for 0 it refuses none. It does not allocate, and keeps the allocator for
+    /// the pieces.
     ///
     /// ```rust
     /// let mut sink = PieceSink::new(rt.alloc(), 2);
@@ -84,7 +84,7 @@ impl PieceSink {
         self.pieces.len() + usize::from(self.refused)
     }
 
-    /// Whether it refused because memory was refused, and not because of the number of the call.
+    /// Whether it refused because it could not allocate, and not because of the number of the call.
     ///
     /// ```rust
     /// let mut sink = PieceSink::new(rt.alloc(), 1);
@@ -98,7 +98,7 @@ impl PieceSink {
         self.refused && self.calls() != self.refuse_at
     }
 
-    /// Keeps a copy of a piece. All memory is asked for before anything is added.
+    /// Keeps a copy of a piece. All is allocated before anything is added.
     fn keep(&mut self, piece: &str) -> Result<(), AllocError>
         ensures ok { OnOk result
             (self.new ≡ record self.old { pieces = self.old.pieces ++ piece.now ∷ [] }) }

@@ -1,6 +1,6 @@
 use Rattle.std.proofs.Common.{arith}
 use Rattle.const_hex_arch.proofs.LaneMarks.{joint_test}
-use Rattle.const_hex_arch.proofs.arch.lanes.two_marks.Goals as goal
+use Rattle.const_hex_arch.proofs.arch.lanes.joint_marks.Goals as goal
 
 pub returns : goal.returns
 returns g c = joint_test _ _ _ _ (omega arith) c.digit_marks.ensures c.digit_marks-2.ensures
