@@ -39,68 +39,69 @@ static char encoded[2 + 2 * LONGEST];
 static struct const_hex_refusal refusal;
 static size_t count;
 
-/* The calls, for so many bytes and a text of `digits` bytes. */
-typedef void run_call(size_t length, size_t digits, bool prefix, bool upper);
+/* The calls, for so many bytes and a text of `digits` bytes. Each returns what its call answers. */
+typedef bool run_call(size_t length, size_t digits, bool prefix, bool upper);
 
-static void run_encode(size_t length, size_t digits, bool prefix, bool upper) {
-    (void)build->encode(bytes, length, prefix, upper, encoded, digits);
+static bool run_encode(size_t length, size_t digits, bool prefix, bool upper) {
+    return build->encode(bytes, length, prefix, upper, encoded, digits);
 }
 
-static void run_decode(size_t length, size_t digits, bool prefix, bool upper) {
+static bool run_decode(size_t length, size_t digits, bool prefix, bool upper) {
     (void)prefix, (void)upper;
-    (void)build->decode(text, digits, decoded, length, &refusal);
+    return build->decode(text, digits, decoded, length, &refusal);
 }
 
-static void run_decode_front(size_t length, size_t digits, bool prefix, bool upper) {
+static bool run_decode_front(size_t length, size_t digits, bool prefix, bool upper) {
     (void)length, (void)prefix, (void)upper;
-    (void)build->decode_front(text, digits, decoded, LONGEST, &count, &refusal);
+    return build->decode_front(text, digits, decoded, LONGEST, &count, &refusal);
 }
 
-static void run_check(size_t length, size_t digits, bool prefix, bool upper) {
+static bool run_check(size_t length, size_t digits, bool prefix, bool upper) {
     (void)length, (void)prefix, (void)upper;
-    (void)build->check(text, digits, &refusal);
+    return build->check(text, digits, &refusal);
 }
 
-static void run_check_raw(size_t length, size_t digits, bool prefix, bool upper) {
+static bool run_check_raw(size_t length, size_t digits, bool prefix, bool upper) {
     (void)length, (void)prefix, (void)upper;
-    (void)build->check_raw(text, digits);
+    return build->check_raw(text, digits);
 }
 
-/* A call, with the prefix of its text, and the case that it is asked for. */
+/* A call, whether its text has a prefix, and the case that it is asked for. */
 static const struct row {
     const char *name;
     run_call *run;
-    const char *prefix;
+    bool prefix;
     bool upper;
     bool encodes;
 } ROWS[] = {
-    {"encode", run_encode, "", false, true},
-    {"encode, uppercase", run_encode, "", true, true},
-    {"encode, prefix", run_encode, "0x", false, true},
-    {"encode, prefix, uppercase", run_encode, "0x", true, true},
-    {"decode", run_decode, "", false, false},
-    {"decode, 0x", run_decode, "0x", false, false},
-    {"decode, 0X", run_decode, "0X", false, false},
-    {"decode_front", run_decode_front, "", false, false},
-    {"decode_front, 0x", run_decode_front, "0x", false, false},
-    {"check", run_check, "", false, false},
-    {"check, 0x", run_check, "0x", false, false},
-    {"check_raw", run_check_raw, "", false, false},
+    {"encode", run_encode, false, false, true},
+    {"encode, uppercase", run_encode, false, true, true},
+    {"encode, prefix", run_encode, true, false, true},
+    {"encode, prefix, uppercase", run_encode, true, true, true},
+    {"decode", run_decode, false, false, false},
+    {"decode, prefix", run_decode, true, false, false},
+    {"decode_front", run_decode_front, false, false, false},
+    {"decode_front, prefix", run_decode_front, true, false, false},
+    {"check", run_check, false, false, false},
+    {"check, prefix", run_check, true, false, false},
+    {"check_raw", run_check_raw, false, false, false},
 };
 enum { ROW_COUNT = sizeof ROWS / sizeof ROWS[0] };
 
-static void run(const struct row *row, size_t length) {
-    size_t prefix = strlen(row->prefix);
-    row->run(length, prefix + 2 * length, prefix != 0, row->upper);
+static bool run(const struct row *row, size_t length) {
+    return row->run(length, (row->prefix ? 2 : 0) + 2 * length, row->prefix, row->upper);
 }
 
-/* Fills the input with its prefix and valid bytes: chosen ones first, then random ones. */
+/*
+ * Fills the input with its prefix and valid bytes: chosen ones first, then random ones. The prefix
+ * is 0x and 0X in turn.
+ */
 static void fill(const struct row *row, size_t length, size_t which) {
     static const unsigned char CHOSEN_BYTES[CHOSEN] = {0x00, 0xFF, 0x80, 0x7F, 0x30};
     static const char CHOSEN_DIGITS[CHOSEN + 1] = "0Ff9a";
     static const char DIGITS[] = "0123456789abcdefABCDEF";
-    size_t prefix = strlen(row->prefix);
-    memcpy(text, row->prefix, prefix);
+    size_t prefix = row->prefix ? 2 : 0;
+    memcpy(text, which % 2 == 0 ? "0x" : "0X", prefix);
     for (size_t at = 0; at < length; at++) {
         bytes[at] = which < CHOSEN ? CHOSEN_BYTES[which] : (unsigned char)(rand() >> 8);
     }
@@ -134,20 +135,26 @@ __attribute__((noinline)) static uint64_t path_of(const struct row *row, size_t 
     return path;
 }
 
-/* Whether all inputs of so many bytes take one path. */
+/* Whether all inputs of so many bytes are accepted and take one path. */
 static bool has_one_path(const struct row *row, size_t length) {
     uint64_t first = 0;
     for (size_t which = 0; which < CHOSEN + 1 + RANDOM; which++) {
+        const char *fault = NULL;
         fill(row, length, which);
-        if (which == 0) {
-            /* The first call may still have to look for a function of the C library. */
-            run(row, length);
-            first = path_of(row, length);
-        } else if (path_of(row, length) != first) {
-            printf("FAILED: %s: %s: another path at %zu bytes, input %zu\n", build->name, row->name,
+        /* The first call may still have to look for a function of the C library. */
+        if (!run(row, length)) {
+            fault = "refused";
+        } else if (path_of(row, length) == 0) {
+            fault = "not stepped through";
+        } else if (which > 0 && path != first) {
+            fault = "another path";
+        }
+        if (fault != NULL) {
+            printf("FAILED: %s: %s: %s at %zu bytes, input %zu\n", build->name, row->name, fault,
                    length, which);
             return false;
         }
+        first = path;
     }
     return true;
 }
@@ -183,12 +190,15 @@ static int undefined(bool encodes) {
         for (size_t at = 0; at < ROW_COUNT * COUNT; at++) {
             const struct row *row = &ROWS[at / COUNT];
             size_t length = LENGTHS[at % COUNT];
-            size_t prefix = strlen(row->prefix);
             if (row->encodes == encodes) {
                 fill(row, length, CHOSEN + 1);
+                if (!run(row, length)) {
+                    printf("FAILED: %s: %s: refused at %zu bytes\n", build->name, row->name, length);
+                    return 1;
+                }
                 VALGRIND_MAKE_MEM_UNDEFINED(bytes, length);
-                VALGRIND_MAKE_MEM_UNDEFINED(text + prefix, 2 * length);
-                run(row, length);
+                VALGRIND_MAKE_MEM_UNDEFINED(text + (row->prefix ? 2 : 0), 2 * length);
+                (void)run(row, length);
             }
         }
     }
