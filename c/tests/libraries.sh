@@ -57,6 +57,8 @@ test_answers() {
     starts "lengths.c" "$room/lengths"
     does "compilers.c" compiled compilers c/tests/compilers.c "$room/second/libconst_hex.a" "$archive"
     starts "compilers.c" "$room/compilers"
+    does "shared_text.c" compiled shared_text c/tests/shared_text.c "$archive"
+    starts "shared_text.c" "$room/shared_text"
     # -E: no variable of the environment takes its assertions away.
     starts "check.py" python3 -E c/tests/check.py "$shared" crates/const_hex_replay/stdin \
         crates/const_hex_replay/stdout crates/consthex/out/consthex
