@@ -9,12 +9,14 @@
  *
  * THE CALLER'S PART
  *
- * No call can check these rules. If one is broken, nothing is promised:
+ * No call can check these rules. Unless a rule says more, nothing is promised if it is broken:
  *  - a pointer points to as many bytes as the length after it says. They can be read, and also
  *    written if the pointer is not to const. A null pointer is allowed if the length is 0;
  *  - what a call writes (text or bytes, count, refusal, buffer) overlaps nothing else that the call
  *    is given, and no other thread touches it during the call;
- *  - no other thread changes what a call reads during the call;
+ *  - nothing else changes what a call reads during the call: no other thread, and no other process
+ *    through shared memory or a mapped file. If the text changes all the same, the call still
+ *    returns and writes only what it was given, but the answer and what is written may be anything;
  *  - a pointer to one value (count, refusal) is not null and is aligned for its type. The value can
  *    be written; const_hex_refusal_words only reads its refusal;
  *  - prefix and upper are 0 or 1. In C and C++ the type bool ensures that. From another language,
@@ -27,6 +29,9 @@
  *
  * On x86-64 the library needs a processor with x86-64-v2 (SSE4.2 and what came with it, since about
  * 2009). On an older one a call may stop the program with an illegal instruction.
+ *
+ * The archive with two builds picks one by an indirect function (ifunc). musl has none, and programs
+ * that are built with -mcmodel=large cannot link it. Both need the archive of c/build --single.
  *
  * KEYS
  *
@@ -133,7 +138,7 @@ bool const_hex_encode(const void *bytes, size_t bytes_length, bool prefix, bool 
 
 /*
  * Fills bytes with what text spells: a prefix "0x" or "0X" or none, and then two digits per byte,
- * in either case.
+ * in either case. It does not decode in place: bytes must not overlap text.
  *
  * Returns true if text spells exactly bytes_length bytes. Then bytes holds them, and refusal is
  * unchanged. Returns false if text is refused. Then refusal has the first of these:
@@ -148,7 +153,7 @@ bool const_hex_decode(const char *text, size_t text_length, void *bytes, size_t 
 
 /*
  * As const_hex_decode, but bytes may have more room than the text needs. Half of text_length is
- * always enough.
+ * always enough. It does not decode in place either.
  *
  * Returns true if text spells at most bytes_length bytes. Then the front of bytes holds them,
  * *count is their number, and the rest of bytes and refusal are unchanged. Returns false if text is

@@ -7,18 +7,39 @@
  * The builds are hidden. So a shared object exports only the calls of the header, and another library
  * cannot replace a build by a call of its own. The code that picks finds both builds by their distance
  * from itself. The loader may run it before it has filled in this library's addresses; it does so if
- * another library calls this one without being linked with it.
+ * another library calls this one without being linked with it. For the same reason it asks the processor
+ * itself, and no runtime library.
  */
 #include "const_hex.h"
+#include <cpuid.h>
 
 #define HIDDEN __attribute__((visibility("hidden")))
+
+/* Whether the processor has all the bits. */
+#define HAS(bits, word) (((word) & (bits)) == (bits))
+
+/*
+ * Whether the processor has x86-64-v3. The builds need what x86-64-v2 has in any case, so only what
+ * is new in x86-64-v3 is asked for: the bits of three leaves, and that the system keeps the wide
+ * registers (bits 1 and 2 of the word that xgetbv reads).
+ */
+static inline bool has_v3(void) {
+    unsigned a, b, c, d, kept;
+    const unsigned first = bit_FMA | bit_MOVBE | bit_OSXSAVE | bit_AVX | bit_F16C;
+    if (!__get_cpuid(1, &a, &b, &c, &d) || !HAS(first, c) ||
+        !__get_cpuid_count(7, 0, &a, &b, &c, &d) || !HAS(bit_BMI | bit_AVX2 | bit_BMI2, b) ||
+        !__get_cpuid(0x80000001, &a, &b, &c, &d) || !HAS(bit_LZCNT, c)) {
+        return false;
+    }
+    __asm__ volatile("xgetbv" : "=a"(kept), "=d"(d) : "c"(0));
+    return HAS(6, kept);
+}
 
 #define EITHER(answer, name, parameters)                                                          \
     HIDDEN answer name##_default parameters;                                                      \
     HIDDEN answer name##_v3 parameters;                                                           \
     static answer(*pick_##name(void)) parameters {                                                \
-        __builtin_cpu_init();                                                                     \
-        return __builtin_cpu_supports("x86-64-v3") ? name##_v3 : name##_default;                  \
+        return has_v3() ? name##_v3 : name##_default;                                             \
     }                                                                                             \
     answer name parameters __attribute__((ifunc("pick_" #name)));
 

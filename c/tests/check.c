@@ -105,6 +105,7 @@ static void words(void) {
         {{CONST_HEX_INVALID_CHARACTER, 0xFFFFFFFF, 0}, ""},
     };
     unsigned char *page = fenced();
+    holds(CONST_HEX_WORDS == 64, "room for all words", CONST_HEX_WORDS, 64);
     for (size_t row = 0; row < sizeof rows / sizeof rows[0]; row++) {
         size_t whole = strlen(rows[row].words);
         for (size_t room = 1; room <= CONST_HEX_WORDS; room++) {

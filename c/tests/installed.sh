@@ -1,7 +1,109 @@
 # Tests of an installed library, for c/test.
 
 # Installs into $room/usr. What is said goes to a file.
-installs() { c/install --prefix "$room/usr" "$room/both" > "$room/said"; }
+installs() { (umask 077; c/install --prefix "$room/usr" "$room/both" > "$room/said"); }
+
+# Whether the files of $room/usr hold what was built, and others may read them.
+is_whole() {
+    local lib=$room/usr/lib
+    cmp "$archive" "$lib/libconst_hex.a" && cmp "$shared" "$lib/libconst_hex.so.1.0.0" &&
+        cmp c/const_hex.h "$room/usr/include/const_hex.h" &&
+        (cd "$room/usr" && find . ! -type l -printf '%m %P\n' | sort -k 2 | sed 's/ $//') | diff - <(
+            cat << 'END'
+755
+755 include
+644 include/const_hex.h
+755 lib
+644 lib/libconst_hex.a
+755 lib/libconst_hex.so.1.0.0
+755 lib/pkgconfig
+644 lib/pkgconfig/const_hex.pc
+755 share
+755 share/man
+755 share/man/man3
+644 share/man/man3/const_hex.3
+END
+        )
+}
+
+# Whether a file that a program holds stays what it is when the library is installed again.
+replaces() {
+    ln "$room/usr/lib/libconst_hex.so.1.0.0" "$room/held" && installs &&
+        [ ! "$room/held" -ef "$room/usr/lib/libconst_hex.so.1.0.0" ] && cmp "$room/held" "$shared"
+}
+
+# Whether the archive alone of the folder $1 is installed, over both libraries.
+alone() {
+    local to="$room/alone $1"
+    c/install --prefix "$to" "$room/both" > "$room/said" &&
+        c/install --prefix "$to" "$room/$1" > "$room/said" &&
+        cmp "$room/$1/libconst_hex.a" "$to/lib/libconst_hex.a" &&
+        [ -z "$(find "$to" -name '*.so*')" ] && [ "$(ls "$room/$1")" = libconst_hex.a ]
+}
+
+# Whether a prefix with a blank is one word of what pkg-config says.
+has_blank() {
+    eval "set -- $(PKG_CONFIG_PATH="$room/alone single/lib/pkgconfig" pkg-config --cflags --libs \
+        const_hex)"
+    [ "$1" = "-I$room/alone single/include" ] && [ "$2" = "-L$room/alone single/lib" ]
+}
+
+# Makes $room/other: the scripts beside a header of version 1.2.3.
+copy_scripts() {
+    mkdir -p "$room/other/c" && cp c/build c/install c/manual.awk "$room/other/c" &&
+        sed 's/^\(#define CONST_HEX_VERSION \).*/\110203/' c/const_hex.h > "$room/other/c/const_hex.h"
+}
+
+# Whether each file names the version of its header.
+is_other_version() {
+    local usr=$room/other/usr
+    copy_scripts && "$room/other/c/install" --prefix "$usr" "$room/both" > "$room/said" &&
+        [ -f "$usr/lib/libconst_hex.so.1.2.3" ] &&
+        grep -qx 'Version: 1.2.3' "$usr/lib/pkgconfig/const_hex.pc" &&
+        grep -qx '.TH CONST_HEX 3 "" "const_hex 1.2.3"' "$usr/share/man/man3/const_hex.3"
+}
+
+# Whether c/install, started through a link, installs the header.
+by_link() {
+    ln -s "$PWD/c/install" "$room/link" &&
+        "$room/link" --prefix "$room/linked" "$room/both" > "$room/said" &&
+        cmp c/const_hex.h "$room/linked/include/const_hex.h"
+}
+
+# Whether c/install says that it failed, and leaves no file that is half made. $1 is its folder.
+fails() {
+    ! "$1/c/install" --prefix "$1/usr" "$room/both" > "$room/said" 2> "$room/complaint" &&
+        grep -q '^c/install: ' "$room/complaint" && [ -z "$(find "$1/usr" -type f -name '*.new')" ]
+}
+
+without_page() { copy_scripts && rm "$room/other/c/manual.awk" && fails "$room/other"; }
+without_header() { copy_scripts && rm "$room/other/c/const_hex.h" && fails "$room/other"; }
+folder_for_file() {
+    copy_scripts && rm -rf "$room/other/usr" &&
+        mkdir -p "$room/other/usr/include/const_hex.h" && fails "$room/other"
+}
+folder_for_link() {
+    copy_scripts && rm -rf "$room/other/usr" &&
+        mkdir -p "$room/other/usr/lib/libconst_hex.so" && fails "$room/other"
+}
+full_disk() {
+    copy_scripts && rm -rf "$room/other/usr" && (ulimit -f 64; fails "$room/other")
+}
+without_awk() {
+    copy_scripts && mkdir "$room/other/bin" &&
+        printf '#!/bin/sh\nexit 127\n' > "$room/other/bin/awk" && chmod +x "$room/other/bin/awk" &&
+        PATH=$room/other/bin:$PATH fails "$room/other"
+}
+
+test_failed_installs() {
+    does "c/install of version 1.2.3" is_other_version
+    does "c/install without the page's script" without_page
+    does "c/install without the header" without_header
+    does "c/install without awk" without_awk
+    does "c/install where a folder stands for a file" folder_for_file
+    does "c/install where a folder stands for a link" folder_for_link
+    does "c/install on a full disk" full_disk
+}
 
 # The files and links below a folder.
 listed() { (cd "$1" && find . ! -type d | sort); }
@@ -59,9 +161,16 @@ test_install() {
     local compiler static
     does "c/install" installs
     does "what is installed" is_installed "$room/usr"
+    does "the files are what was built, for all to read" is_whole
+    does "c/install again" replaces
+    does "c/install of the default build alone" alone single
+    does "c/install of the build for ARM" alone aarch64
+    does "c/install by a link" by_link
+    test_failed_installs
     does "the manual page" is_page
     does "c/install for a package" staged
-    if has 17 "pkg-config" pkg-config; then
+    if has 18 "pkg-config" pkg-config; then
+        does "a prefix with a blank" has_blank
         does "its version" [ "$(package --modversion)" = 1.0.0 ]
         for compiler in cc c++; do
             for static in "" --static; do

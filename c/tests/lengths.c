@@ -101,6 +101,13 @@ static void lengths_that_wrap(void) {
                   !build->encode(bytes, half, true, false, (char *)page, 2 * more + 2) &&
                   !build->encode(bytes, SIZE_MAX - more, false, false, (char *)page, ROOM),
               "encode", more, 0);
+        /* No text has the length SIZE_MAX. */
+        holds(!build->encode(bytes, SIZE_MAX - more, false, false, (char *)page, SIZE_MAX),
+              "encode into the greatest length", more, 0);
+        holds(!build->encode(bytes, half, false, false, (char *)page, SIZE_MAX),
+              "encode of half of all lengths", more, 0);
+        holds(!build->encode(bytes, SIZE_MAX / 2 - more, true, false, (char *)page, SIZE_MAX),
+              "encode of nearly half with a prefix", more, 0);
         holds(!build->decode((char *)bytes, 2 * more, page, half, &refusal) &&
                   refusal.kind == CONST_HEX_INVALID_LENGTH,
               "decode into", more, 0);

@@ -24,7 +24,24 @@ exports() {
 
 soname() { objdump -p "$shared" | grep -q 'SONAME *libconst_hex.so.1$'; }
 
+# Whether the loader closes what it has filled in, and fills it in at once.
+closes() {
+    objdump -p "$shared" > "$room/headers" && grep -q '^ *RELRO ' "$room/headers" &&
+        grep -Eq '^ *FLAGS +0x0*8$' "$room/headers"
+}
+
+# Whether the code that picks a build names nothing outside the library.
+picks_alone() {
+    (cd "$room" && ar x both/libconst_hex.a dispatch.o) &&
+        nm -u "$room/dispatch.o" > "$room/undefined" && ! grep -v ' U const_hex_' "$room/undefined"
+}
+
 test_symbols() {
+    does "the header's names are the calls' own" python3 -E c/tests/names.py c/const_hex.h \
+        crates/const_hex_c/src/lib.rt
+    does "the loader closes what it has filled in" closes
+    does "the choice of a build needs nothing of a runtime" picks_alone
+
     does "the shared object exports the calls of the header" exports
     does "the shared object names its version" soname
 }
@@ -38,6 +55,10 @@ test_answers() {
     starts "check.c as C++" "$room/check++" 8
     does "lengths.c" compiled lengths c/tests/lengths.c "$archive"
     starts "lengths.c" "$room/lengths"
+    does "compilers.c" compiled compilers c/tests/compilers.c "$room/second/libconst_hex.a" "$archive"
+    starts "compilers.c" "$room/compilers"
+    does "shared_text.c" compiled shared_text c/tests/shared_text.c "$archive"
+    starts "shared_text.c" "$room/shared_text"
     # -E: no variable of the environment takes its assertions away.
     starts "check.py" python3 -E c/tests/check.py "$shared" crates/const_hex_replay/stdin \
         crates/const_hex_replay/stdout crates/consthex/out/consthex
