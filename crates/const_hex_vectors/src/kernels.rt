@@ -5,8 +5,8 @@ mod suite;
 use crate::decoding::{checked, each_is, same};
 use crate::texts::{bad, behind, holds};
 use const_hex::{
-    CheckFirst, FromHexError, Kernel, Lanes16, Lanes32, Plain, check_with, decode_to_slice_with,
-    decode_with,
+    CheckFirst, FromHexError, Kernel, Lanes16, Lanes32, PieceSink, Plain, SinkOutput, check_with,
+    decode_to_slice_with, decode_with,
 };
 use const_hex_uses::own_kernel::Backward;
 use std::alloc::{AllocError, Global};
@@ -17,6 +17,8 @@ use std::test::Fail;
 #[derive(Clone, Copy, Debug)]
 pub(crate) struct Habits {
     name: &'static str,
+    /// Its place in rows with a figure for each kernel.
+    number: usize,
     checks_first: bool,
     /// How many digits it decodes in a step: the first number as long as possible, then the next.
     /// Empty if it decodes nothing of a text that it refuses.
@@ -26,9 +28,10 @@ pub(crate) struct Habits {
 }
 
 impl Habits {
-    fn new(name: &'static str, reads: &'static [usize], writes: usize) -> Habits {
+    fn new(name: &'static str, number: usize, reads: &'static [usize], writes: usize) -> Habits {
         Habits {
             name,
+            number,
             checks_first: false,
             reads,
             writes,
@@ -65,12 +68,15 @@ impl Habits {
     }
 }
 
+/// A figure for each kernel.
+type Figures = [usize; 4];
+
 fn every_kernel() -> [Habits; 4] {
     [
-        Habits::new("Plain", &[2], 1),
-        Habits::new("Lanes16", &[32, 2], 32),
-        Habits::new("Lanes32", &[64, 32, 2], 64),
-        Habits::new("Backward", &[], 2),
+        Habits::new("Plain", 0, &[2], 1),
+        Habits::new("Lanes16", 1, &[32, 2], 32),
+        Habits::new("Lanes32", 2, &[64, 32, 2], 64),
+        Habits::new("Backward", 3, &[], 2),
     ]
 }
 
@@ -144,31 +150,66 @@ fn each_byte(rt: HostRuntime) -> Result<(), Fail> {
     suite::Letters.with_each_kernel(&rt, rt.alloc())
 }
 
-// The length of a body, the place of its bad byte, and how many bytes `Plain`, `Lanes16` and
-// `Lanes32` decode of it.
-#[test]
-fn worked_fronts(rt: HostRuntime) {
-    let rows = [
-        (64, 31, [15, 0, 0]),
-        (64, 32, [16, 16, 0]),
-        (64, 33, [16, 16, 0]),
-        (100, 98, [49, 49, 49]),
-        (96, 63, [31, 16, 0]),
-        (96, 70, [35, 32, 32]),
-    ];
-    for (length, place, counts) in rows {
-        for (kernel, count) in every_kernel().into_iter().zip(counts) {
-            let is_so = kernel.decoded(length, place) == count;
-            holds(&rt, &(kernel, length, place), is_so);
+/// A prefix and that many letters `a`, with `g` at a place, and how many bytes each kernel decodes.
+#[derive(Drop)]
+struct Front(&'static str, usize, usize, Figures);
+
+impl Trial for Front {
+    fn run<K: Kernel>(&self, rt: &impl Abort, alloc: Global, kernel: Habits) -> Result<(), Fail> {
+        let Front(prefix, length, place, counts) = self;
+        let count = match kernel.checks_first {
+            true => 0,
+            false => counts.get(kernel.number).copied().unwrap_or(*length),
+        };
+        let mut body = vec![in alloc; b'a'; *length]?;
+        if let Some(byte) = body.get_mut(*place) {
+            *byte = b'g';
         }
+        let mut left = vec![in alloc; 0xEEu8; *length / 2]?;
+        if count <= left.len() {
+            left[..count].fill(0xAA);
+        }
+        let text = behind(alloc, prefix, &body)?;
+        let refusal = bad(b'g', prefix.len().saturating_add(*place));
+        let row = (kernel, *prefix, *length, *place);
+        holds(rt, &row, answers::<K>(alloc, &text, Err(refusal), &left)?);
+        holds(rt, &row, kernel.decoded(*length, *place) == count);
+        Ok(())
     }
 }
 
-// How many pieces each kernel makes of 49 bytes.
 #[test]
-fn worked_pieces(rt: HostRuntime) -> Result<(), Fail> {
-    for (kernel, count) in every_kernel().into_iter().zip([98, 4, 2, 49]) {
-        holds(&rt, &kernel, kernel.pieces(rt.alloc(), 98)?.len() == count);
+fn worked_fronts(rt: HostRuntime) -> Result<(), Fail> {
+    let rows = [
+        Front("", 64, 31, [15, 0, 0, 0]),
+        Front("", 64, 32, [16, 16, 0, 0]),
+        Front("0x", 64, 33, [16, 16, 0, 0]),
+        Front("", 100, 98, [49, 49, 49, 0]),
+        Front("", 96, 63, [31, 16, 0, 0]),
+        Front("", 96, 70, [35, 32, 32, 0]),
+    ];
+    for row in &rows {
+        row.with_each_kernel(&rt, rt.alloc())?;
     }
     Ok(())
+}
+
+/// How many pieces each kernel makes of the text of 49 bytes.
+#[derive(Drop)]
+struct Pieces(Figures);
+
+impl Trial for Pieces {
+    fn run<K: Kernel>(&self, rt: &impl Abort, alloc: Global, kernel: Habits) -> Result<(), Fail> {
+        let mut sink = PieceSink::new(alloc, 0);
+        K::encode(&[0xAB; 49], false, &mut SinkOutput::new(&mut sink));
+        let figure = self.0.get(kernel.number).copied();
+        holds(rt, &kernel, figure == Some(sink.pieces().len()));
+        holds(rt, &kernel, figure == Some(kernel.pieces(alloc, 98)?.len()));
+        Ok(())
+    }
+}
+
+#[test]
+fn worked_pieces(rt: HostRuntime) -> Result<(), Fail> {
+    Pieces([98, 4, 2, 49]).with_each_kernel(&rt, rt.alloc())
 }

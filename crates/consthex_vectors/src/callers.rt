@@ -1,6 +1,6 @@
 //! What the small callers of `const_hex_uses` answer.
 
-use crate::devices::holds;
+use crate::devices::{Source, holds};
 use const_hex::{Buffer, FromHexError, JsonError, PieceSink, bytes_of};
 use const_hex_uses::accounts::is_same_account;
 use const_hex_uses::addresses::{address_text, digest_text, empty_text, prefixed_digest_text};
@@ -15,6 +15,7 @@ use const_hex_uses::writers::{array_text, string_text, vector_text};
 use serde_json::json;
 use std::boxed::BoxedSlice;
 use std::collections::HashMap;
+use std::io::ErrorKind;
 use std::process::Abort;
 use std::rc::Rc;
 use std::test::Fail;
@@ -112,9 +113,16 @@ fn files_and_sinks(rt: HostRuntime) -> Result<(), Fail> {
 
 #[test]
 fn pieces(rt: HostRuntime) -> Result<(), Fail> {
-    let sink = packets(rt.alloc(), &[0xAB; 5000])?;
-    let lengths: [usize; 3] = [4034, 4096, 1872];
-    assert!(rt; sink.pieces().iter().map(|p| p.len()).eq(lengths));
+    let bytes = [0xAB; 10_000];
+    let rows: [(usize, &[usize]); 2] = [
+        (5000, &[4034, 4096, 1872]),
+        (10_000, &[4034, 4096, 4096, 4096, 3680]),
+    ];
+    for (count, lengths) in rows {
+        let sink = packets(rt.alloc(), bytes.get(..count).unwrap_or(&[]))?;
+        let pieces = sink.pieces().iter().map(|piece| piece.len());
+        holds(&rt, &count, pieces.eq(lengths.iter().copied()));
+    }
     Ok(())
 }
 
@@ -128,6 +136,24 @@ fn lines_of_a_reader(rt: HostRuntime) -> Result<(), Fail> {
     assert!(rt; dump(&mut b"kiwi".as_slice(), &mut room.as_mut_slice()).is_err());
     assert!(rt; &room == b"6b697");
     Ok(())
+}
+
+// The reader hands out one byte per call. One call fails, or none if its number is 0.
+#[test]
+fn lines_of_short_and_failed_reads(rt: HostRuntime) {
+    let rows = [
+        (0, true, "6b\n69\n77\n69\n"),
+        (1, false, ""),
+        (3, false, "6b\n69\n"),
+        (5, false, "6b\n69\n77\n69\n"),
+    ];
+    for (fail_at, is_whole, lines) in rows {
+        let mut reader = Source::new(b"kiwi", fail_at, ErrorKind::Other);
+        let mut file = Vec::new(rt.alloc());
+        let done = dump(&mut reader, &mut file);
+        holds(&rt, &fail_at, done.is_ok() == is_whole);
+        holds(&rt, &fail_at, file.as_slice() == lines.as_bytes());
+    }
 }
 
 #[test]

@@ -30,7 +30,7 @@ fn writers_that_fail_at_each_call(rt: HostRuntime) -> Result<(), Fail> {
 }
 
 /// A writer has taken so many bytes before that call. The call fails, or takes no bytes; or a signal
-/// interrupts it once, twice or a hundred times in a row, and it is made again.
+/// interrupts it 1, 2, 100 or 10,000 times in a row, and it is made again.
 fn at_call(rt: &impl Abort, alloc: Global, (call, taken): (usize, usize), case: (&[u8], &[u8])) {
     let (fails, calls) = (call < 8, call.min(7));
     for kind in [ErrorKind::Other, ErrorKind::WouldBlock] {
@@ -39,7 +39,7 @@ fn at_call(rt: &impl Abort, alloc: Global, (call, taken): (usize, usize), case: 
     }
     let want = (fails.then_some(ErrorKind::WriteZero), taken, calls);
     writes(rt, alloc, Fault::Full(call), case, want);
-    for more in [0, 1, 99usize] {
+    for more in [0, 1, 99, 9999usize] {
         let fault = Fault::Writes(call, call.saturating_add(more), ErrorKind::Interrupted);
         let calls = if fails { more.saturating_add(8) } else { 7 };
         writes(rt, alloc, fault, case, (None, 6002, calls));
@@ -97,6 +97,20 @@ fn writing_goes_on_after_an_error(rt: HostRuntime) {
     }
     assert!(rt; sink.finish().is_err());
     assert!(rt; target.taken.as_slice() == b"6b69".as_slice() && target.writes == 2);
+}
+
+#[test]
+fn no_call_flushes(rt: HostRuntime) -> Result<(), Fail> {
+    let mut target = Target::new(rt.alloc(), 4, Fault::Nothing);
+    let mut sink = WriteSink::new(&mut target);
+    assert_eq!(rt; sink.write_hex::<false, false>(&[0xab]), Ok(()));
+    assert_eq!(rt; sink.write_hex::<true, false>(&[0xab]), Ok(()));
+    assert_eq!(rt; sink.write_hex::<false, true>(&[0xab]), Ok(()));
+    assert_eq!(rt; sink.write_hex::<true, true>(&[0xab]), Ok(()));
+    sink.finish()?;
+    assert!(rt; target.taken.as_slice() == b"abAB0xab0xAB".as_slice());
+    assert!(rt; target.flushes == 0);
+    Ok(())
 }
 
 #[test]
