@@ -57,8 +57,10 @@ fn made() -> PathBuf {
         println!("cargo:rerun-if-changed={}", top.join(source).display());
     }
     let folder = PathBuf::from(env::var_os("OUT_DIR").expect("cargo names a folder"));
-    for script in ["c/build", "compare/build"] {
+    // With --again the proofs in the folders out/ of the crates are used again.
+    for (script, words) in [("c/build", &["--again"][..]), ("compare/build", &[])] {
         let ended = Command::new(top.join(script))
+            .args(words)
             .arg(&folder)
             .stdin(Stdio::null())
             .status()

@@ -11,10 +11,28 @@ uses_newer() { grep -Eq "^ *[0-9a-f]+:[[:space:]]+($newer)[wlq]?[[:space:]]" "$r
 wide() { code v3 && uses_newer && grep -q '%ymm' "$room/code"; }
 narrow() { code default && grep -q '<const_hex_decode' "$room/code" && ! uses_newer; }
 
+# Whether each call that encodes, decodes or checks looks up in lanes: a call by the plain kernel alone
+# would be right, and ten times as slow. $1 is the disassembler, $2 the object, $3 what the calls' names
+# end in, and $4 the instruction.
+looks_up() {
+    local call
+    for call in encode decode decode_front check check_raw; do
+        "$1" -d --no-show-raw-insn "$2" |
+            awk -v head="<const_hex_$call$3>:" '$2 == head { is_in = 1 } !NF { is_in = 0 } is_in' |
+            grep -Eq "[[:space:]]$4" && continue
+        echo "const_hex_$call$3 has no look-up in lanes"
+        return 1
+    done
+}
+
 test_code() {
     (cd "$room" && ar x both/libconst_hex.a const_hex_default.o const_hex_v3.o)
     does "the build for x86-64-v3 has its lanes" wide
     does "the default build goes without them" narrow
+    does "the default build looks up in 16 lanes" looks_up objdump "$room/const_hex_default.o" \
+        _default 'pshufb '
+    does "the build for x86-64-v3 looks up in 32 lanes" looks_up objdump "$room/const_hex_v3.o" _v3 \
+        'vpshufb .*%ymm'
 }
 
 # Whether the shared object exports the calls of the header, and nothing else.

@@ -53,7 +53,9 @@ compiled_for_arm() {
 
 test_arm() {
     local name
-    has 18 ARM qemu-aarch64 aarch64-linux-gnu-gcc || return
+    has 19 ARM qemu-aarch64 aarch64-linux-gnu-gcc aarch64-linux-gnu-objdump || return
+    does "the build for ARM looks up in lanes" looks_up aarch64-linux-gnu-objdump \
+        "$room/aarch64/libconst_hex.a" "" 'tbl[[:space:]]'
     for name in check lengths; do
         does "$name.c for ARM" compiled_for_arm "arm-$name" "c/tests/$name.c"
     done
