@@ -5,7 +5,9 @@ ghost use Rattle.const_hex_arch.specs.Texts.{full_text};
 ghost use Rattle.const_hex_arch.specs.Streams.{Streams, TellsCut};
 ghost use Rattle.const_hex.specs.Json.{TellsWhole};
 
-use const_hex_arch::{BufferedHex, FixedKernel, Sink, SinkError, ascii_text, fill_text, text_length};
+use const_hex_arch::{
+    BufferedHex, FixedKernel, Sink, SinkError, ascii_text, fill_text, text_length,
+};
 
 /// The largest number of bytes whose text is handed over in one call.
 const AT_ONCE: usize = 128;

@@ -17,6 +17,8 @@ pub(crate) fn tell_outputs(rt: &impl Print) -> io::Result<()> {
     output.write(b"ef");
     let left = output.finish().remaining();
     tell_each!(rt; "BufferedOutput::finish, SliceOutput::remaining" => (left, text),);
+    SliceOutput::new(&mut text).write_ends(b"uvw", b"wxy", 5);
+    tell_each!(rt; "SliceOutput::write_ends" => text,);
     let mut sink = Counting::new(2);
     let mut output = SinkOutput::new(&mut sink);
     output.write(b"one");

@@ -4,9 +4,10 @@ use crate::inputs::{BAD, HASH, Inputs, KIWI, ODD, TEXT};
 use crate::line::{tell_each, tell_of};
 use const_hex::serde::no_prefix;
 use const_hex::{
-    FromHex, check, check_raw, const_check, const_check_raw, const_decode_to_array, decode,
-    decode_to_array, decode_to_front, decode_to_slice, deserialize, digit_at, encode_full_to_slice,
-    encode_to_slice, encode_to_slice_upper, encode_to_str, encode_to_str_upper, value_at,
+    FixedKernel, FromHex, ascii_text, bytes_of, check, check_raw, const_check, const_check_raw,
+    const_decode_to_array, decode, decode_to_array, decode_to_front, decode_to_slice, deserialize,
+    digit_at, encode_full_to_slice, encode_to_slice, encode_to_slice_upper, encode_to_str,
+    encode_to_str_upper, fill_text, text_length, value_at,
 };
 use hash_hex::{Address20, Hash32};
 use serde_json::{Number, Value};
@@ -44,6 +45,13 @@ pub(crate) fn tell_texts_in_slices(rt: &impl Print) -> io::Result<()> {
         "encode_to_slice_upper, too short" => (encode_to_slice_upper(KIWI, &mut short), short),
         "encode_to_str, too short" => encode_to_str(KIWI, &mut short),
         "encode_to_str_upper, too short" => encode_to_str_upper(KIWI, &mut short),
+    );
+    fill_text::<FixedKernel>(KIWI, true, true, &mut full);
+    tell_each!(rt;
+        "fill_text" => full,
+        "text_length of 4 bytes and a prefix" => text_length(true, 4),
+        "ascii_text" => ascii_text(b"0x6b"),
+        "bytes_of" => bytes_of::<4>(b"0x6b697769"),
     );
     Ok(())
 }
