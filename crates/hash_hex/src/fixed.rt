@@ -23,7 +23,8 @@ use std::fmt;
 /// A value of N bytes.
 ///
 /// It is read from text as N bytes, and prints as `0x` and two lowercase digits per byte. Values
-/// are compared, ordered and hashed by their bytes.
+/// are compared, ordered and hashed by their bytes. `==` stops at the first difference, so it is not
+/// for comparing secrets.
 ///
 /// ```rust
 /// let hash = Hash32::from_hex(rt.alloc(), &[b'F'; 64])?;
