@@ -126,7 +126,7 @@ CONST_HEX_ANSWER
 size_t const_hex_encoded_length(size_t bytes, bool prefix);
 
 /*
- * Fills text with two digits for each of the bytes, in order, with upper or lower letters. If
+ * Fills text with two digits for each of the bytes, in order, in uppercase or lowercase. If
  * prefix is true, "0x" stands before them (never "0X").
  *
  * Returns true exactly if text_length is the length of that text (const_hex_encoded_length); then

@@ -63,8 +63,9 @@ pub trait Output {
         self.write(&[byte])
     }
 
-    /// Writes a piece of `count` bytes by its first and its last bytes, as many of each. They may
-    /// overlap; there the last ones count.
+    /// Writes the piece of `count` bytes, at most 64, that begins with `first` and ends with `last`.
+    /// Both have the same length, and together they cover the piece. Where they overlap, the bytes
+    /// of `last` are written.
     ///
     /// ```rust
     /// let mut text = [b'.'; 4];

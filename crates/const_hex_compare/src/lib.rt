@@ -1,6 +1,6 @@
-//! Calls of the codec that take memory or print, for the times beside the Rust crate.
+//! Calls of the codec that allocate or print, for the times beside the Rust crate.
 //!
-//! The calls for C in `const_hex_c` take no memory, so they can't measure what an owned text costs.
+//! The calls for C in `const_hex_c` do not allocate, so they can't measure what an owned text costs.
 //! Each call here makes its result and drops it, and returns enough of it to keep the compiler from
 //! removing the call. In C, a `Global` is no parameter.
 #![tactic(auto)]
@@ -51,7 +51,7 @@ pub extern "C" fn const_hex_compare_decode(alloc: Global, text: &[u8], last: &mu
 }
 
 /// Prints the bytes into a sink that keeps nothing, and returns how many bytes were printed, plus the
-/// last byte of each piece. Takes no memory.
+/// last byte of each piece. Does not allocate.
 #[unsafe(no_mangle)]
 pub extern "C" fn const_hex_compare_display(bytes: &[u8]) -> usize {
     let mut counter = Counter::new();

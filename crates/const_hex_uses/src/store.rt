@@ -10,7 +10,7 @@ use const_hex::{FromHexError, decode, encode};
 use std::alloc::Global;
 use std::collections::HashMap;
 
-/// The one spelling of bytes that is stored: no prefix, and lower letters.
+/// The one spelling of bytes that is stored: no prefix, and in lowercase.
 ///
 /// ```rust
 /// assert_eq!(rt; canonical(rt.alloc(), b"0x6B69")?.as_str(), "6b69");

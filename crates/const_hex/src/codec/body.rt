@@ -33,7 +33,7 @@ fn is_prefix(first: u8, second: u8) -> bool
 /// The error that names the first byte behind the prefix that is not a digit, and its place in the
 /// whole text. There must be such a byte.
 // If another process makes the text valid meanwhile, no byte is found. Then the error names the end
-// of the text. The check proves that this cannot come while the text stays the same.
+// of the text. `rt check` proves that this line is not reached while the text stays the same.
 #[cold]
 #[tactic(auto, using(const_hex_arch::proofs::Spelling::digits_more))]
 pub(crate) fn bad_character(text: &[u8]) -> FromHexError

@@ -149,7 +149,7 @@ pub(crate) fn decode_digits<const N: usize, V: Vectors<N>>(
     V::merge(unhex(first), unhex(second))
 }
 
-/// A step that begins with the first `H` bytes and then the last `H`, and is filled up.
+/// A step of `N` bytes: the first `H` bytes, then the last `H`, and then only `fill`.
 #[inline(always)]
 pub(crate) fn ends<const H: usize, const N: usize>(bytes: &[u8], fill: u8) -> [u8; N]
     requires half { 2 * H ≤ N }

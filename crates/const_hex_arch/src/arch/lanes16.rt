@@ -102,7 +102,8 @@ pub fn unhex(v: u8x16) -> u8x16
 }
 
 /// Works in steps of 16 bytes, and decodes in steps of 32 bytes of text. What follows the last
-/// whole step is encoded as one piece, and is checked and decoded with the last bytes before it.
+/// whole step is encoded as one piece, and is checked and decoded with the last bytes before it. If
+/// it has a bad byte, the pairs before that byte are decoded.
 ///
 /// ```rust
 /// let mut bytes = [0; 4];

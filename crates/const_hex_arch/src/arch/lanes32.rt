@@ -99,7 +99,7 @@ pub fn unhex(v: u8x32) -> u8x32
 
 /// Works in steps of 32 bytes, and decodes in steps of 64 bytes of text. What follows the last
 /// whole step is encoded as one piece, and is checked with the last bytes before it. Decoding takes
-/// at most one step of half that size, by 16 lanes, and then goes on as there.
+/// at most one step of half that size, by 16 lanes, and then goes on as [`Lanes16`].
 ///
 /// ```rust
 /// let mut bytes = [0; 4];

@@ -8,7 +8,7 @@ use crate::arch::plain::Plain;
 use crate::arch::{Kernel, lanes, steps};
 use std::simd::prelude::*;
 
-/// Whether every byte is a digit, of at most 16.
+/// Whether every byte of a text of at most 16 bytes is a digit.
 #[inline(always)]
 pub(crate) fn check(text: &[u8]) -> bool
     requires { length text.now ≤ 16 }
@@ -98,7 +98,7 @@ fn decode_ends<const H: usize, const D: usize>(text: &[u8], output: &mut [u8]) -
     are_digits
 }
 
-/// Fills the output with the first bytes and the last ones. The last ones replace some of the first.
+/// Fills the output with the first bytes and the last ones. Where both overlap, the last ones count.
 #[inline(always)]
 fn put<const H: usize>(first: Simd<u8, H>, last: Simd<u8, H>, output: &mut [u8])
     requires least { H ≤ length output.old }

@@ -85,8 +85,8 @@ fn encode_few<O: Output>(bytes: &[u8], upper: bool, output: &mut O)
     }
 }
 
-/// Checks four steps by one test while more are left, and two if more are left then. The last step of
-/// the input may begin before what is left. The input has at least a step.
+/// Checks an input of at least one step: four steps by one test while more than four are left, two if
+/// more than two are left, and then the rest by one test. The last step may begin before the rest.
 #[inline(always)]
 pub(crate) fn check<const N: usize, V: Vectors<N>>(input: &[u8]) -> bool
     requires { N ≤ length input.now }
@@ -110,8 +110,8 @@ pub(crate) fn check<const N: usize, V: Vectors<N>>(input: &[u8]) -> bool
     check_last::<N, V>(input, at)
 }
 
-/// Checks an input whose first `at` bytes are digits: what is left, at most two steps, by one test.
-/// The last step of the input may begin before what is left.
+/// Checks the end of an input whose first `at` bytes are digits: at most two steps, by one test. The
+/// last step of the input may begin before that end.
 #[inline(always)]
 fn check_last<const N: usize, V: Vectors<N>>(input: &[u8], at: usize) -> bool
     requires step { N ≤ length input.now }
@@ -129,7 +129,8 @@ fn check_last<const N: usize, V: Vectors<N>>(input: &[u8], at: usize) -> bool
 }
 
 /// Decodes two steps at a time, then single steps, and then 16 bytes if they are left. If two steps
-/// are refused, single steps decode the first of them if possible. A short text goes by itself.
+/// are refused, single steps decode the first of them if possible. A text of less than 16 bytes is
+/// left to `short::decode`.
 #[inline(always)]
 pub(crate) fn decode_checked<const N: usize, V: Vectors<N>>(input: &[u8], output: &mut [u8]) -> bool
     requires { length input.now ≡ 2 * length output.old }
@@ -164,8 +165,9 @@ pub(crate) fn decode_checked<const N: usize, V: Vectors<N>>(input: &[u8], output
     decode_last(input, output, at)
 }
 
-/// Decodes a text whose first `at` bytes are decoded: by its last 16 bytes, some of them again. If a
-/// bad byte is found, what is left goes by itself.
+/// Decodes the end of a text: the first `at` bytes of the output are decoded, and at most 16 are left.
+/// The last 16 bytes are one step, which decodes some again. If it is refused, it has written nothing,
+/// and `short::decode` decodes what is left.
 #[inline(always)]
 fn decode_last(input: &[u8], output: &mut [u8], at: usize) -> bool
     requires size { length input.now ≡ 2 * length output.old }
@@ -188,8 +190,8 @@ fn decode_last(input: &[u8], output: &mut [u8], at: usize) -> bool
     short::decode(&input[2 * at..], &mut output[at..])
 }
 
-/// Decodes digits in steps, and then by the last 16 bytes, some of them again. A short text goes by
-/// itself.
+/// Decodes digits in steps, and then by the last 16 bytes, some of them again. A text of less than 16
+/// bytes is left to `short::decode`.
 #[inline(always)]
 pub(crate) fn decode_unchecked<const N: usize, V: Vectors<N>>(input: &[u8], output: &mut [u8])
     requires size { length input.now ≡ 2 * length output.old }
