@@ -11,12 +11,13 @@ use std::alloc::{AllocError, Global};
 use std::process::Abort;
 use std::test::Fail;
 
-/// Keeps the text of every call, also of a call that it refuses. It refuses the call of the given
-/// number, and any call if memory is refused.
+/// Keeps the text of every call, also of a call that it refuses, and beside it the accepted pieces. It
+/// refuses the call of the given number, and any call whose text it cannot keep.
 #[derive(Drop)]
 struct NotingSink {
     alloc: Global,
     noted: Vec<String>,
+    accepted: Vec<String>,
     refuse_at: usize,
     refused: bool,
 }
@@ -28,6 +29,7 @@ impl NotingSink {
         NotingSink {
             alloc,
             noted: Vec::new(alloc),
+            accepted: Vec::new(alloc),
             refuse_at,
             refused: false,
         }
@@ -46,15 +48,21 @@ impl Sink for NotingSink {
     }
 
     fn write_str(&mut self, s: &str) -> Result<(), SinkError> {
-        let is_noted = match String::from_str(self.alloc, s) {
-            Ok(note) => self.noted.push(note).is_ok(),
-            Err(AllocError) => false,
-        };
-        self.refused = !is_noted || self.noted.len() == self.refuse_at;
+        self.refused = !is_kept(self.alloc, &mut self.noted, s)
+            || self.noted.len() == self.refuse_at
+            || !is_kept(self.alloc, &mut self.accepted, s);
         if self.refused { Err(SinkError) } else { Ok(()) }
     }
 
     ghost tells = { λ s piece t h. refl };
+}
+
+/// Adds a copy of a text, and answers whether there was memory for it.
+fn is_kept(alloc: Global, texts: &mut Vec<String>, text: &str) -> bool {
+    match String::from_str(alloc, text) {
+        Ok(copy) => texts.push(copy).is_ok(),
+        Err(AllocError) => false,
+    }
 }
 
 // A count of bytes, whether a prefix is written, and the sizes of the calls: by a kernel that
@@ -153,7 +161,7 @@ impl<const UPPER: bool, const PREFIX: bool> Stream<'_, UPPER, PREFIX> {
             let mut sink = NotingSink::new(alloc, refuse_at);
             let answer = self.hand_over::<K, NotingSink>(way, &mut sink);
             let is_told = [answer.is_err(), sink.refused()] == [is_refused; 2];
-            let is_noted = sink.noted.as_slice() == noted;
+            let is_noted = [sink.noted.as_slice(), sink.accepted.as_slice()] == [noted, accepted];
             holds(rt, &(row, refuse_at), is_told && is_noted);
             let mut sink = PieceSink::new(alloc, refuse_at);
             let answer = self.hand_over::<K, PieceSink>(way, &mut sink);
@@ -204,8 +212,9 @@ fn writes_after_a_refusal(rt: HostRuntime) -> Result<(), Fail> {
             output.write(piece.as_bytes());
         }
         assert!(rt; output.finish().is_err());
-        let (noted, _) = until(&pieces, refuse_at);
-        holds(&rt, &refuse_at, sink.noted.as_slice() == noted);
+        let (noted, accepted) = until(&pieces, refuse_at);
+        let is_noted = [sink.noted.as_slice(), sink.accepted.as_slice()] == [noted, accepted];
+        holds(&rt, &refuse_at, is_noted);
     }
     Ok(())
 }
