@@ -16,7 +16,8 @@
  *    is given, and no other thread touches it during the call;
  *  - nothing else changes what a call reads during the call: no other thread, and no other process
  *    through shared memory or a mapped file. If the text changes all the same, the call still
- *    returns and writes only what it was given, but the answer and what is written may be anything;
+ *    returns and writes only what it was given, but the answer and what is written may be anything.
+ *    Tests show this, and no proof does;
  *  - a pointer to one value (count, refusal) is not null and is aligned for its type. The value can
  *    be written; const_hex_refusal_words only reads its refusal;
  *  - prefix and upper are 0 or 1. In C and C++ the type bool ensures that. From another language,
@@ -32,6 +33,8 @@
  *
  * The archive with two builds picks one by an indirect function (ifunc). musl has none, and programs
  * that are built with -mcmodel=large cannot link it. Both need the archive of c/build --single.
+ *
+ * The objects have no marks for IBT and SHSTK. A program that is linked with them runs without both.
  *
  * KEYS
  *
