@@ -17,7 +17,7 @@ narrow() { code default && grep -q '<const_hex_decode' "$room/code" && ! uses_ne
 looks_up() {
     local call
     for call in encode decode decode_front check check_raw; do
-        "$1" -d --no-show-raw-insn "$2" |
+        "$1" -dr --no-show-raw-insn "$2" |
             awk -v head="<const_hex_$call$3>:" '$2 == head { is_in = 1 } !NF { is_in = 0 } is_in' |
             grep -Eq "[[:space:]]$4" && continue
         echo "const_hex_$call$3 has no look-up in lanes"

@@ -54,8 +54,9 @@ compiled_for_arm() {
 test_arm() {
     local name
     has 19 ARM qemu-aarch64 aarch64-linux-gnu-gcc aarch64-linux-gnu-objdump || return
+    # There the checks call the kernel of 32 lanes, and hold none of its code.
     does "the build for ARM looks up in lanes" looks_up aarch64-linux-gnu-objdump \
-        "$room/aarch64/libconst_hex.a" "" 'tbl[[:space:]]'
+        "$room/aarch64/libconst_hex.a" "" '(tbl[[:space:]]|R_AARCH64_CALL26.*::Lanes32)'
     for name in check lengths; do
         does "$name.c for ARM" compiled_for_arm "arm-$name" "c/tests/$name.c"
     done
