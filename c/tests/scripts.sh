@@ -24,12 +24,14 @@ finds_out() {
 
 trusts() { finds_out yes --again --single && grep -q 'trusts the work' "$room/said"; }
 
-# Whether what rt started is gone soon after c/build was ended by the signal $1.
+# Whether what rt started is gone soon after c/build was ended by the signal $1. Whoever started the
+# tests may ignore that signal, and a shell cannot undo that: env does.
 ends() {
     local turn building pid=$room/planted/pid
     rm -f "$pid"
     plant_rt "sleep 300 & echo \$! > '$pid'; wait" || return 1
-    PATH=$room/planted/bin:$PATH "$room/planted/c/build" --single > "$room/said" 2>&1 &
+    PATH=$room/planted/bin:$PATH env --default-signal="$1" "$room/planted/c/build" --single \
+        > "$room/said" 2>&1 &
     building=$!
     for turn in {1..100}; do
         [ -s "$pid" ] && break
