@@ -89,6 +89,14 @@ test_answers() {
 # A device that takes nothing: what is written is lost, which a program has to say.
 full() { ! "$@" > /dev/full 2> "$room/complaint" && grep -q 'cannot be written' "$room/complaint"; }
 
+# Whether hash.py refuses a library of version 2.
+other_version() {
+    echo "unsigned const_hex_version(void) { return 20000; }" |
+        cc -x c -shared -fPIC -o "$room/version2.so" - &&
+        ! python3 -E c/examples/hash.py "$room/version2.so" "$room/foobar" 2> "$room/complaint" &&
+        grep -q 'does not have version 1' "$room/complaint"
+}
+
 test_examples() {
     local build
     for build in both single; do
@@ -98,6 +106,8 @@ test_examples() {
         examples_run "$build"
         does "mark of other lines ($build)" writes 1 "$room/lines.stdout" "$room/mark" < "$room/lines"
     done
+    does "hash.py" writes 0 "$room/hash.stdout" python3 -E c/examples/hash.py "$shared" "$room/foobar"
+    does "hash.py of another version" other_version
     does "fingerprint to a full device" full "$room/fingerprint" "$room/foobar"
     does "mark to a full device" full "$room/mark" < c/examples/mark.stdin
     does "mark of many lines to a full device" full "$room/mark" < "$room/lines"

@@ -3,8 +3,8 @@
 
     names.py HEADER SOURCE
 
-A slice of the source is two parameters of the header, its pointer and its length. No compiler sees it
-if two names of one type change places. Each call that differs is printed, and the status is then 1.
+SOURCE defines the calls, or declares them for Rust. A slice of the source is two parameters of the
+header, its pointer and its length. No compiler sees it if two names of one type change places. Each call that differs is printed, and the status is then 1.
 """
 import re
 import sys
@@ -29,7 +29,7 @@ def calls(path, pattern, separator):
 
 
 header = calls(sys.argv[1], r"^\w+ (const_hex_\w+)\(([^)]*)\);", "")
-source = calls(sys.argv[2], r'^pub extern "C" fn (const_hex_\w+)\(([^)]*)\)', ": ")
+source = calls(sys.argv[2], r'^(?:pub extern "C"|   ) fn (const_hex_\w+)\(([^)]*)\)', ": ")
 differing = [name for name in header | source if header.get(name) != source.get(name)]
 for name in differing:
     print(f"{name}: {header.get(name)} in the header, {source.get(name)} in the source")

@@ -47,6 +47,23 @@ ends() {
     return 1
 }
 
+# Whether a build for wasm64 uses the plain kernel, and leaves the sources alone. The arguments go to
+# c/build.
+uses_plain() {
+    local line='pub type FixedKernel ='
+    plant_rt "grep '^$line' src/arch.rt >&2; exit 1" || return 1
+    PATH=$room/planted/bin:$PATH "$room/planted/c/build" "$@" --target wasm64 > "$room/said" 2> "$room/complaint"
+    [ $? -eq 1 ] && [ "$(head -n 1 "$room/complaint")" = "$line Plain;" ] &&
+        grep -qx "$line Lanes32;" "$room/planted/crates/const_hex_arch/src/arch.rt"
+}
+
+# Whether that build ends if it does not find the kernel.
+misses_kernel() {
+    sed -i 's/^pub type FixedKernel = Lanes32;$/& /' "$room/planted/crates/const_hex_arch/src/arch.rt"
+    PATH=$room/planted/bin:$PATH "$room/planted/c/build" --target wasm64 > "$room/said" 2> "$room/complaint"
+    [ $? -eq 1 ] && grep -q "has not just one line 'pub type FixedKernel" "$room/complaint"
+}
+
 test_scripts() {
     local signal
     does "a copy of the repository" plant
@@ -55,4 +72,7 @@ test_scripts() {
     for signal in HUP TERM; do
         does "c/build that $signal ends leaves nothing running" ends "$signal"
     done
+    does "c/build uses the plain kernel for wasm64" uses_plain
+    does "c/build --again uses the plain kernel for wasm64" uses_plain --again
+    does "c/build for wasm64 ends if it does not find the kernel" misses_kernel
 }

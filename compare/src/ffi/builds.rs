@@ -1,4 +1,4 @@
-//! Each build of the library by its own names, and the calls of `const_hex_compare`.
+//! Each build of the library by its own names, and the calls of `timed_calls`.
 
 use crate::ffi::RawRefusal;
 
@@ -159,9 +159,9 @@ build!(
     "const_hex_encode_default",
     "const_hex_decode_default",
     "const_hex_check_raw_default",
-    "const_hex_compare_encode_default",
-    "const_hex_compare_decode_default",
-    "const_hex_compare_display_default"
+    "timed_calls_encode_default",
+    "timed_calls_decode_default",
+    "timed_calls_display_default"
 );
 
 build!(
@@ -171,7 +171,7 @@ build!(
     "const_hex_encode_v3",
     "const_hex_decode_v3",
     "const_hex_check_raw_v3",
-    "const_hex_compare_encode_v3",
-    "const_hex_compare_decode_v3",
-    "const_hex_compare_display_v3"
+    "timed_calls_encode_v3",
+    "timed_calls_decode_v3",
+    "timed_calls_display_v3"
 );

@@ -1,7 +1,6 @@
 -- What a buffer holds.
 use Rattle.std.specs.Prelude.{ℕ, ◌*◌, Bool, List, ◌++◌, replicate}
 use Rattle.const_hex_arch.specs.Texts.{prefix_of}
-pub use Rattle.const_hex_arch.specs.Texts.{text_length}
 use Rattle.const_hex.specs.declared.buffer.Buffer.{Buffer}
 
 -- what a buffer holds before any bytes are formatted: `0x` or nothing, and a NUL byte for each

@@ -2,7 +2,7 @@
 use Rattle.std.specs.Prelude.{◌≡◌, ℕ, suc, ◌+◌, ◌-◌, ◌*◌, ◌%◌, ◌<◌, ◌≢◌, nat_lt, if◌then◌else◌, Bool, true, false, List, [], ◌∷◌, length, map, ℤ, pos, negsuc, slice_index, Result, Ok, Err, refl}
 use Rattle.std.proofs.Common.{inl, inr, sym, ap, subst, ◌∙◌, arith}
 use Rattle.std.proofs.lemmas.Bool.{cases_eq}
-use Rattle.const_hex_arch.proofs.Spelling.{Spells-length, Spells-bytes, Spells-some, digits_or_bad}
+use Rattle.const_hex_arch.proofs.lemmas.Spelling.{Spells-length, Spells-bytes, Spells-some, digits_or_bad}
 use Rattle.const_hex.specs.Bodies.{body_of}
 use Rattle.const_hex.specs.Answers.{Reads, ReadsSized, AreBytes, IsEven}
 use Rattle.const_hex.specs.Elements.{signed_of, byte_of}

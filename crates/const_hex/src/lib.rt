@@ -17,7 +17,7 @@
 //! - `WriteSinks.antt`: a sink over a writer.
 //!
 //! `specs/Lib.antt` passes on the words of `const_hex_arch` for digits, texts and what they spell.
-//! `proofs/Reading.antt` proves that each text has one answer.
+//! `proofs/lemmas/Reading.antt` proves that each text has one answer.
 #![tactic(auto)]
 
 mod buffer;

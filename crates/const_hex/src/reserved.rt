@@ -25,7 +25,7 @@ impl Output for ReservedOutput {
 
     // The length of a kernel's piece is known at compile time, so the machine stores it whole.
     #[inline(always)]
-    #[tactic(auto, using(crate::proofs::Reserving::pieces))]
+    #[tactic(auto, using(crate::proofs::lemmas::Reserving::pieces))]
     fn write(&mut self, bytes: &[u8]) {
         for byte in bytes {
             self.bytes.push_reserved(*byte);
@@ -48,7 +48,7 @@ impl Output for ReservedOutput {
 
 /// The bytes of the text, behind `0x` if `prefix` is true. Allocates once, for exactly the text.
 #[inline(always)]
-#[tactic(auto, using(const_hex_arch::proofs::Writing::full_text_size))]
+#[tactic(auto, using(const_hex_arch::proofs::lemmas::Texts::full_text_size))]
 pub(crate) fn reserved_bytes<K: Kernel>(
     alloc: Global,
     input: &[u8],

@@ -159,7 +159,7 @@ impl<W: Write> Sink for WriteSink<'_, W> {
 }
 
 /// Writes a piece. If a signal interrupts a write, it is made again.
-#[tactic(auto, using(crate::proofs::WriteSinks::writes))]
+#[tactic(auto, using(crate::proofs::lemmas::WriteSinks::writes))]
 fn write_piece<W: Write>(writer: &mut W, piece: &[u8]) -> io::Result<()>
     ensures ok { OnOk result (Appends (W.contents writer.old) (W.contents writer.new) piece.now) }
     ensures err { OnErr result

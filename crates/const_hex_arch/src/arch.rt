@@ -114,7 +114,7 @@ pub fn encode_full<K: Kernel, O: Output>(input: &[u8], prefix: bool, upper: bool
 
 /// Writes `0x` if `prefix` is true.
 #[inline(always)]
-#[tactic(auto, using(crate::proofs::Running::one_written))]
+#[tactic(auto, using(crate::proofs::lemmas::Runs::one_written))]
 fn write_prefix<O: Output>(prefix: bool, output: &mut O)
     requires { HasRoom (O.room output.old) (length (prefix_of prefix)) }
     ensures { Writes O.step output.old (prefix_of prefix) output.new }

@@ -32,7 +32,7 @@ pub fn text_length(prefix: bool, count: usize) -> usize
 /// assert_eq!(rt; text, *b"0x6b697769");
 /// ```
 #[inline(always)]
-#[tactic(auto, using(crate::proofs::Writing::full_text_size))]
+#[tactic(auto, using(crate::proofs::lemmas::Texts::full_text_size))]
 pub fn fill_text<K: Kernel>(input: &[u8], prefix: bool, upper: bool, output: &mut [u8])
     requires { length output.old ≡ text_length prefix (length input.now) }
     ensures text { output.new ≡ full_text prefix upper input.now }
@@ -48,7 +48,7 @@ pub fn fill_text<K: Kernel>(input: &[u8], prefix: bool, upper: bool, output: &mu
 /// assert_eq!(rt; ascii_text(b"0x6b"), "0x6b");
 /// ```
 #[inline(always)]
-#[tactic(auto, using(crate::proofs::Writing::texts))]
+#[tactic(auto, using(crate::proofs::lemmas::Texts::texts))]
 pub fn ascii_text(bytes: &[u8]) -> &str
     requires { IsAscii bytes.now }
     ensures { result.now ≡ bytes.now }

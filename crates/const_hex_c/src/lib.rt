@@ -11,10 +11,9 @@
 #![tactic(auto)]
 
 ghost use Rattle.std.specs.Prelude.{◌≡◌, ◌↔◌, ◌*◌, ◌+◌, ◌-◌, ◌<◌, ℕ, List, true, false, length, take, drop, min, slice_index, IsTrue, Ok, Err};
-ghost use Rattle.const_hex.specs.Texts.{full_text, AllDigits};
+ghost use Rattle.const_hex.specs.Texts.{full_text, text_length, AllDigits};
 ghost use Rattle.const_hex.specs.Answers.{Reads, ReadsSized, ReadsWithin, Leaves};
 ghost use Rattle.const_hex.specs.Bodies.{body_of};
-ghost use Rattle.const_hex.specs.Buffers.{text_length};
 ghost use Rattle.const_hex_c.specs.Crossing.{StandsFor, Says, IsUnknown};
 
 mod refusal;

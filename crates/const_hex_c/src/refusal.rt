@@ -63,7 +63,7 @@ impl Refusal {
     }
 
     /// Its words. A struct that stands for no refusal has none.
-    #[tactic(auto, using(crate::proofs::Wording::says_by_kind))]
+    #[tactic(auto, using(crate::proofs::lemmas::Wording::says_by_kind))]
     pub(crate) fn words(&self) -> Words
         ensures words { Says self.now (λ m. 0 < result.count → take result.count result.bytes ≡ m) }
         ensures wordless { IsUnknown self.now → result.count ≡ 0 }

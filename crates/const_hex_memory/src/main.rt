@@ -6,7 +6,6 @@
 //! none come first.
 #![tactic(auto)]
 
-mod counting;
 mod inputs;
 mod kept;
 mod line;

@@ -1,8 +1,8 @@
 //! The modes of the program `consthex`: what each answers to bytes in hand, and whole runs.
 
-use crate::counting::Counting;
 use crate::inputs::{BAD_LINE, DATA, KIWI, LINE, LONG, NOTHING, ODD};
 use consthex_modes::{Mode, answer, run};
+use hex_testing::Counting;
 use std::alloc::Global;
 use std::io;
 

@@ -32,7 +32,7 @@ pub fn read<T: FromHex>(alloc: Global, text: &[u8]) -> Result<T, T::Error>
 /// let (one, two) = read_both::<[u8; 2]>(rt.alloc(), b"0xff80", b"FF80")?;
 /// assert_eq!(rt; one, two);
 /// ```
-#[tactic(auto, using(const_hex::proofs::Lowering::read_back))]
+#[tactic(auto, using(const_hex::proofs::lemmas::Lowering::read_back))]
 pub fn read_both<T: FromHex + Drop>(
     alloc: Global,
     first: &[u8],
@@ -63,7 +63,7 @@ pub fn read_both<T: FromHex + Drop>(
 /// let (list, array) = read_twice::<2>(rt.alloc(), b"ff80")?;
 /// assert_eq!(rt; list.as_slice(), array.as_slice());
 /// ```
-#[tactic(auto, using(const_hex_arch::proofs::Spelling::spelled))]
+#[tactic(auto, using(const_hex_arch::proofs::lemmas::Spelling::spelled))]
 pub fn read_twice<const N: usize>(
     alloc: Global,
     text: &[u8],

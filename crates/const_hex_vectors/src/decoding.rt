@@ -1,15 +1,17 @@
 //! Every call that checks or reads a text, on worked examples.
 
-use crate::texts::{bad, digits, front_of, holds};
+use crate::texts::{bad, digits};
 use const_hex::serde::{JsonError, no_prefix};
 use const_hex::{
     FromHex, FromHexError, Plain, check, check_raw, const_check, const_check_raw,
     const_decode_to_array, decode, decode_to_array, decode_to_front, decode_to_slice,
     decode_to_slice_with, deserialize, serialize,
 };
+use hex_testing::{Text, same, same_bytes};
 use serde_json::{Value, json};
 use std::alloc::{AllocError, Global};
 use std::boxed::BoxedSlice;
+use std::fmt::Debug;
 use std::process::Abort;
 use std::rc::Rc;
 use std::test::Fail;
@@ -18,26 +20,53 @@ const ODD: FromHexError = FromHexError::OddLength;
 
 const OTHER_LENGTH: FromHexError = FromHexError::InvalidStringLength;
 
-/// Whether each answer has the wanted bytes, compared by `$same`, or is the wanted refusal.
-macro_rules! each_is {
-    ($same:ident, $want:expr; $($answer:expr),+ $(,)?) => {
-        true $(&& match ($answer, $want) {
-            (Ok(bytes), Ok(want)) => $same(&bytes[..], want),
-            (answer, want) => answer.err() == want.err(),
-        })+
+/// Checks by `$check` that each call answers the wanted bytes or error.
+macro_rules! each_answers {
+    ($check:ident, $rt:expr, $text:expr, $want:expr; $($call:expr),+ $(,)?) => {$(
+        match $call {
+            Ok(bytes) => $check($rt, stringify!($call), $text, Ok(&bytes[..]), $want),
+            Err(error) => $check($rt, stringify!($call), $text, Err(error), $want),
+        }
+    )+};
+}
+
+pub(crate) use each_answers;
+
+/// A call of a text answers these bytes or this error.
+pub(crate) fn reads<E: Debug + PartialEq + Drop>(
+    rt: &impl Abort,
+    call: &str,
+    text: &[u8],
+    answer: Result<&[u8], E>,
+    want: Result<&[u8], E>,
+) {
+    let (answer, want) = (
+        answer.map(|bytes| Text(bytes)),
+        want.map(|bytes| Text(bytes)),
+    );
+    same!(rt, call, Text(text); answer, want);
+}
+
+/// As [`reads`], for numbers that have the bits of the bytes.
+fn reads_numbers(
+    rt: &impl Abort,
+    call: &str,
+    text: &[u8],
+    answer: Result<&[i8], FromHexError>,
+    want: Result<&[u8], FromHexError>,
+) {
+    let is_same = match (answer, want) {
+        (Ok(numbers), Ok(bytes)) => {
+            let bits = numbers.iter().map(|number| number.cast_unsigned());
+            bits.eq(bytes.iter().copied())
+        }
+        (answer, want) => answer.err() == want.err(),
     };
-}
-
-pub(crate) use each_is;
-
-pub(crate) fn same(bytes: &[u8], want: &[u8]) -> bool {
-    bytes == want
-}
-
-/// Whether numbers have the bits of these bytes.
-fn same_bits(numbers: &[i8], want: &[u8]) -> bool {
-    let bits = numbers.iter().map(|number| number.cast_unsigned());
-    bits.eq(want.iter().copied())
+    assert!(rt;
+        is_same,
+        "{call} at {:?}: {answer:?}, but wanted {want:?}",
+        Text(text)
+    );
 }
 
 /// What a check answers to a text to which decoders answer this.
@@ -46,36 +75,38 @@ pub(crate) fn checked(want: Result<&[u8], FromHexError>) -> Result<(), FromHexEr
     Ok(())
 }
 
-/// Whether each call that reads any count of bytes answers this. If the text is not UTF-8, no JSON
-/// value has it.
+/// Each call that reads any count of bytes answers this. If the text is not UTF-8, no JSON value has
+/// it.
 pub(crate) fn each_call_answers(
+    rt: &impl Abort,
     alloc: Global,
     text: &[u8],
     want: Result<&[u8], FromHexError>,
-) -> Result<bool, AllocError> {
-    let is_answered = [check(text), const_check(text)] == [checked(want); 2]
-        && each_is!(same, want;
-            decode(alloc, text),
-            <Vec<u8>>::from_hex(alloc, text),
-            <BoxedSlice<u8>>::from_hex(alloc, text),
-            <Box<Rc<Vec<u8>>>>::from_hex(alloc, text))
-        && each_is!(same_bits, want;
-            <Vec<i8>>::from_hex(alloc, text),
-            <BoxedSlice<i8>>::from_hex(alloc, text),
-            <Rc<Box<Vec<i8>>>>::from_hex(alloc, text));
-    let Ok(text) = str::from_utf8(text) else {
-        return Ok(is_answered);
+) -> Result<(), AllocError> {
+    same!(rt, "check", Text(text); check(text), checked(want));
+    same!(rt, "const_check", Text(text); const_check(text), checked(want));
+    each_answers!(reads, rt, text, want;
+        decode(alloc, text),
+        <Vec<u8>>::from_hex(alloc, text),
+        <BoxedSlice<u8>>::from_hex(alloc, text),
+        <Box<Rc<Vec<u8>>>>::from_hex(alloc, text));
+    each_answers!(reads_numbers, rt, text, want;
+        <Vec<i8>>::from_hex(alloc, text),
+        <BoxedSlice<i8>>::from_hex(alloc, text),
+        <Rc<Box<Vec<i8>>>>::from_hex(alloc, text));
+    let Ok(string) = str::from_utf8(text) else {
+        return Ok(());
     };
-    let value = Value::String(text.to_string(alloc)?);
-    let is_read = each_is!(same, want.map_err(JsonError::Hex);
+    let value = Value::String(string.to_string(alloc)?);
+    each_answers!(reads, rt, text, want.map_err(JsonError::Hex);
         deserialize::<Vec<u8>>(alloc, &value),
         deserialize::<BoxedSlice<u8>>(alloc, &value),
         no_prefix::deserialize::<Vec<u8>>(alloc, &value));
-    Ok(is_answered && is_read)
+    Ok(())
 }
 
 #[test]
-fn accepted_and_refused_texts(rt: HostRuntime) {
+fn accepted_and_refused_texts(rt: HostRuntime) -> Result<(), Fail> {
     let rows: [(&[u8], Result<&[u8], FromHexError>); 24] = [
         (b"", Ok(b"")),
         (b"0x", Ok(b"")),
@@ -103,9 +134,9 @@ fn accepted_and_refused_texts(rt: HostRuntime) {
         (&[0xFF, 0x30], Err(bad(0xFF, 0))),
     ];
     for (text, want) in rows {
-        let is_so = each_call_answers(rt.alloc(), text, want) == Ok(true);
-        holds(&rt, &front_of(text), is_so);
+        each_call_answers(&rt, rt.alloc(), text, want)?;
     }
+    Ok(())
 }
 
 /// Each call that reads N bytes answers this, and a slice of bytes 0xEE then holds `left`.
@@ -116,20 +147,20 @@ fn sized<const N: usize>(
     answer: Result<(), FromHexError>,
     left: [u8; N],
 ) {
-    let mut output = [0xEE; N];
-    let is_answer = decode_to_slice(text, &mut output) == answer && output == left;
+    let (row, mut output) = ((N, Text(text)), [0xEE; N]);
+    same!(rt, "decode_to_slice", row; decode_to_slice(text, &mut output), answer);
+    same_bytes!(rt, "what decode_to_slice leaves", row; &output, &left);
     let want = match answer {
         Ok(()) => Ok(left.as_slice()),
-        Err(refusal) => Err(refusal),
+        Err(error) => Err(error),
     };
-    let is_array = each_is!(same, want;
+    each_answers!(reads, rt, text, want;
         decode_to_array::<N>(text),
         const_decode_to_array::<N>(text),
         <[u8; N]>::from_hex(alloc, text));
-    let is_signed = each_is!(same_bits, want;
+    each_answers!(reads_numbers, rt, text, want;
         <[i8; N]>::from_hex(alloc, text),
         <Box<[i8; N]>>::from_hex(alloc, text));
-    holds(rt, &text, is_answer && is_array && is_signed);
 }
 
 #[test]
@@ -149,7 +180,7 @@ fn one_byte(rt: HostRuntime) {
         sized(&rt, rt.alloc(), text, answer, [byte]);
     }
     let shared = <Rc<[u8; 1]>>::from_hex(rt.alloc(), b"0x0");
-    assert!(rt; shared.err() == Some(ODD));
+    assert_eq!(rt; shared.err(), Some(ODD));
 }
 
 #[test]
@@ -195,10 +226,11 @@ fn other_counts(rt: HostRuntime) {
     }
 }
 
-fn by_plain<const N: usize>(rt: &impl Abort, text: &[u8], refusal: FromHexError, left: [u8; N]) {
+fn by_plain<const N: usize>(rt: &impl Abort, text: &[u8], error: FromHexError, left: [u8; N]) {
     let mut output = [0xEE; N];
     let answer = decode_to_slice_with::<Plain>(text, &mut output);
-    holds(rt, &text, answer == Err(refusal) && output == left);
+    same!(rt, "decode_to_slice_with", Text(text); answer, Err(error));
+    same_bytes!(rt, "what it leaves", Text(text); &output, &left);
 }
 
 #[test]
@@ -238,8 +270,9 @@ fn fronts_of_outputs(rt: HostRuntime) {
         assert!(rt; front.len() <= 12);
         let mut left = [0xEE; 13];
         left[..front.len()].copy_from_slice(front);
-        let is_answer = answer == want.map(|bytes| bytes.len());
-        holds(&rt, &(text, length), is_answer && output == left);
+        let row = (Text(text), length);
+        same!(&rt, "decode_to_front", row; answer, want.map(|bytes| bytes.len()));
+        same_bytes!(&rt, "what it leaves", row; &output, &left);
     }
 }
 
@@ -254,14 +287,15 @@ fn raw_checks(rt: HostRuntime) -> Result<(), Fail> {
     ];
     for (text, want) in rows {
         let checks = [check_raw(text), const_check_raw(text)];
-        holds(&rt, &text, checks == [want; 2]);
+        same!(&rt, "check_raw, const_check_raw", Text(text); checks, [want; 2]);
     }
     for length in 1..=130usize {
         let text = digits(rt.alloc(), length)?;
         let answer = if length % 2 == 0 { Ok(()) } else { Err(ODD) };
-        let is_checked = [check(&text), const_check(&text)] == [answer; 2];
-        let are_digits = check_raw(&text) && const_check_raw(&text);
-        holds(&rt, &length, is_checked && are_digits);
+        let checks = [check(&text), const_check(&text)];
+        same!(&rt, "check, const_check", length; checks, [answer; 2]);
+        let checks = [check_raw(&text), const_check_raw(&text)];
+        same!(&rt, "check_raw, const_check_raw", length; checks, [true; 2]);
     }
     Ok(())
 }
@@ -271,10 +305,11 @@ fn json_values_that_are_no_text(rt: HostRuntime) -> Result<(), Fail> {
     let list = Value::from_str(rt.alloc(), "[null, true, 5, -1, [], {}, [\"0xff\"]]")?;
     for place in 0..7usize {
         let value = list.get(place).ok_or("a value is missing")?;
-        let answer = deserialize::<Vec<u8>>(rt.alloc(), value).err();
-        holds(&rt, value, answer == Some(JsonError::NotText));
-        let answer = no_prefix::deserialize::<Vec<u8>>(rt.alloc(), value).err();
-        holds(&rt, value, answer == Some(JsonError::NotText));
+        let want = Some(JsonError::NotText);
+        let error = deserialize::<Vec<u8>>(rt.alloc(), value).err();
+        same!(&rt, "deserialize", *value; error, want);
+        let error = no_prefix::deserialize::<Vec<u8>>(rt.alloc(), value).err();
+        same!(&rt, "no_prefix::deserialize", *value; error, want);
     }
     Ok(())
 }
@@ -285,13 +320,16 @@ fn json_there_and_back(rt: HostRuntime) -> Result<(), Fail> {
     let alloc = rt.alloc();
     let message = json!(in alloc; {"id": 1, "result": (serialize(alloc, b"Hello world!")?)})?;
     let printed = message.to_string(alloc)?;
-    assert!(rt; printed.as_str() == "{\"id\":1,\"result\":\"0x48656c6c6f20776f726c6421\"}");
+    assert_eq!(rt;
+        printed.as_str(),
+        "{\"id\":1,\"result\":\"0x48656c6c6f20776f726c6421\"}"
+    );
     let read = Value::from_str(alloc, &printed)?;
     let text = read.get("result").unwrap_or(&Value::Null);
-    assert!(rt; deserialize::<[u8; 12]>(alloc, text) == Ok(*b"Hello world!"));
+    assert_eq!(rt; deserialize::<[u8; 12]>(alloc, text), Ok(*b"Hello world!"));
     let other_length = Some(JsonError::Hex(OTHER_LENGTH));
-    assert!(rt; deserialize::<[u8; 2]>(alloc, text).err() == other_length);
+    assert_eq!(rt; deserialize::<[u8; 2]>(alloc, text).err(), other_length);
     let short = Value::String("0xff".to_string(alloc)?);
-    assert!(rt; deserialize::<[u8; 2]>(alloc, &short).err() == other_length);
+    assert_eq!(rt; deserialize::<[u8; 2]>(alloc, &short).err(), other_length);
     Ok(())
 }

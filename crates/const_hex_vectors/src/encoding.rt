@@ -1,7 +1,7 @@
 //! Every call that writes text, on worked examples.
 
 use crate::decoding::each_call_answers;
-use crate::texts::{bytes, holds, printed};
+use crate::texts::{bytes, printed};
 use const_hex::serde::no_prefix;
 use const_hex::traits::BytesToHexChars;
 use const_hex::{
@@ -9,13 +9,15 @@ use const_hex::{
     encode_to_slice, encode_to_slice_upper, encode_to_str, encode_to_str_upper, encode_upper,
     encode_upper_prefixed, fill_text, serialize, serialize_upper, text_length,
 };
+use hex_testing::{Text, same, same_bytes};
 use std::alloc::{AllocError, Global};
+use std::process::Abort;
 use std::test::Fail;
 
-/// Bytes, and their text in lower and in upper letters.
+/// Bytes, and their text in lowercase and in uppercase.
 type Row<'a> = (&'a [u8], &'a str, &'a str);
 
-/// Bytes, and their texts: in lower letters, in upper letters, and both behind a prefix.
+/// Bytes, and their texts: in lowercase, in uppercase, and both behind a prefix.
 #[derive(Drop)]
 pub(crate) struct Written {
     pub(crate) bytes: Vec<u8>,
@@ -34,39 +36,81 @@ impl Written {
         Ok(Written { bytes, texts })
     }
 
-    /// Whether each call that makes a text of the bytes makes these.
-    pub(crate) fn is_text_of_bytes(&self, alloc: Global) -> Result<bool, AllocError> {
+    /// Each call that makes a text of the bytes makes these.
+    pub(crate) fn each_call_writes(
+        &self,
+        rt: &impl Abort,
+        alloc: Global,
+    ) -> Result<(), AllocError> {
         let bytes = self.bytes.as_slice();
-        let encoded = [
-            encode(alloc, bytes)?,
-            encode_upper(alloc, bytes)?,
-            encode_prefixed(alloc, bytes)?,
-            encode_upper_prefixed(alloc, bytes)?,
+        let texts = [
+            ("encode", encode(alloc, bytes)?),
+            ("encode_upper", encode_upper(alloc, bytes)?),
+            ("encode_prefixed", encode_prefixed(alloc, bytes)?),
+            (
+                "encode_upper_prefixed",
+                encode_upper_prefixed(alloc, bytes)?,
+            ),
         ];
-        let [lower, upper, prefixed_lower, prefixed_upper] = &self.texts;
-        let is_json = no_prefix::serialize(alloc, bytes)?.as_str() == Some(lower)
-            && no_prefix::serialize_upper(alloc, bytes)?.as_str() == Some(upper)
-            && serialize(alloc, bytes)?.as_str() == Some(prefixed_lower)
-            && serialize_upper(alloc, bytes)?.as_str() == Some(prefixed_upper);
-        Ok(encoded == self.texts && is_json && self.is_text_of(alloc, &self.bytes)?)
+        let values = [
+            ("no_prefix::serialize", no_prefix::serialize(alloc, bytes)?),
+            (
+                "no_prefix::serialize_upper",
+                no_prefix::serialize_upper(alloc, bytes)?,
+            ),
+            ("serialize", serialize(alloc, bytes)?),
+            ("serialize_upper", serialize_upper(alloc, bytes)?),
+        ];
+        for (place, want) in self.texts.iter().enumerate() {
+            let (call, text) = &texts[place];
+            same_bytes!(rt, call, Text(bytes); text.as_bytes(), want.as_bytes());
+            let (call, value) = &values[place];
+            let text = value.as_str().unwrap_or("no text");
+            same_bytes!(rt, call, Text(bytes); text.as_bytes(), want.as_bytes());
+        }
+        self.traits_write(rt, alloc, &self.bytes)
     }
 
-    /// Whether the calls of the traits write these texts of a value.
-    fn is_text_of<T: ToHex + ToHexExt>(
+    /// The calls of the traits write these texts of a value.
+    fn traits_write<T: ToHex + ToHexExt>(
         &self,
+        rt: &impl Abort,
         alloc: Global,
         value: &T,
-    ) -> Result<bool, AllocError> {
-        let forms = [
-            ToHexExt::encode_hex(value, alloc)?,
-            ToHexExt::encode_hex_upper(value, alloc)?,
-            value.encode_hex_with_prefix(alloc)?,
-            value.encode_hex_upper_with_prefix(alloc)?,
+    ) -> Result<(), AllocError> {
+        let [lower, upper, prefixed_lower, prefixed_upper] = &self.texts;
+        let rows = [
+            ("ToHex::encode_hex", ToHex::encode_hex(value, alloc)?, lower),
+            (
+                "ToHex::encode_hex_upper",
+                ToHex::encode_hex_upper(value, alloc)?,
+                upper,
+            ),
+            (
+                "ToHexExt::encode_hex",
+                ToHexExt::encode_hex(value, alloc)?,
+                lower,
+            ),
+            (
+                "ToHexExt::encode_hex_upper",
+                ToHexExt::encode_hex_upper(value, alloc)?,
+                upper,
+            ),
+            (
+                "encode_hex_with_prefix",
+                value.encode_hex_with_prefix(alloc)?,
+                prefixed_lower,
+            ),
+            (
+                "encode_hex_upper_with_prefix",
+                value.encode_hex_upper_with_prefix(alloc)?,
+                prefixed_upper,
+            ),
         ];
-        let [lower, upper, _, _] = &self.texts;
-        let is_lower = ToHex::encode_hex(value, alloc)? == *lower;
-        let is_upper = ToHex::encode_hex_upper(value, alloc)? == *upper;
-        Ok(forms == self.texts && is_lower && is_upper)
+        for (call, text, want) in &rows {
+            same_bytes!(rt, call, Text(&self.bytes); text.as_bytes(), want.as_bytes());
+        }
+        Ok(())
     }
 }
 
@@ -88,15 +132,11 @@ const ROWS: [Row<'_>; 5] = [
 fn owned_texts(rt: HostRuntime) -> Result<(), Fail> {
     let alloc = rt.alloc();
     for row in ROWS {
-        holds(
-            &rt,
-            &row,
-            Written::new(alloc, row)?.is_text_of_bytes(alloc)?,
-        );
+        Written::new(alloc, row)?.each_call_writes(&rt, alloc)?;
     }
     let want = Written::new(alloc, HELLO)?;
-    assert!(rt; want.is_text_of(alloc, b"Hello world!")?);
-    assert!(rt; want.is_text_of(alloc, &"Hello world!".to_string(alloc)?)?);
+    want.traits_write(&rt, alloc, b"Hello world!")?;
+    want.traits_write(&rt, alloc, &"Hello world!".to_string(alloc)?)?;
     Ok(())
 }
 
@@ -109,9 +149,8 @@ fn there_and_back(rt: HostRuntime) -> Result<(), Fail> {
         let lower = printed(alloc, &bytes, false, false)?;
         let upper = printed(alloc, &bytes, false, true)?;
         let want = Written::new(alloc, (&bytes, &lower, &upper))?;
-        let is_written = want.is_text_of_bytes(alloc)?;
-        let is_read = each_call_answers(alloc, lower.as_bytes(), Ok(&bytes))?;
-        holds(&rt, &count, is_written && is_read);
+        want.each_call_writes(&rt, alloc)?;
+        each_call_answers(&rt, alloc, lower.as_bytes(), Ok(&bytes))?;
     }
     Ok(())
 }
@@ -126,67 +165,71 @@ fn texts_in_slices(rt: HostRuntime) -> Result<(), Fail> {
         for (is_upper, text) in [(false, lower), (true, upper)] {
             let prefixed = ["0x", text].concat(rt.alloc())?;
             for length in 0..=ROOM {
-                let is_so = fills(bytes, text, (false, is_upper), length)
-                    && fills(bytes, &prefixed, (true, is_upper), length);
-                holds(&rt, &(text, is_upper, length), is_so);
+                fills(&rt, bytes, text, (false, is_upper), length);
+                fills(&rt, bytes, &prefixed, (true, is_upper), length);
             }
         }
     }
     Ok(())
 }
 
-/// Whether each call that writes text into a slice fills an output of that length, or refuses it
-/// and leaves it unchanged.
-fn fills(bytes: &[u8], text: &str, (prefix, upper): (bool, bool), length: usize) -> bool {
-    // A wrong `text_length` fails the row.
-    if length > ROOM || text_length(prefix, bytes.len()) != text.len() {
-        return false;
-    }
-    let mut left = [0xEE; ROOM];
-    let mut want = Err(FromHexError::InvalidStringLength);
+/// Each call that writes text into a slice fills an output of that length; or it is an error, and the
+/// output stays unchanged.
+fn fills(rt: &impl Abort, bytes: &[u8], text: &str, (prefix, upper): (bool, bool), length: usize) {
+    assert!(rt; length <= ROOM);
+    let row = (text, upper, length);
+    same!(rt, "text_length", row; text_length(prefix, bytes.len()), text.len());
+    let (mut left, mut want) = ([0xEE; ROOM], Err(FromHexError::InvalidStringLength));
     if text.len() == length {
         left[..length].copy_from_slice(text.as_bytes());
         want = Ok(text);
     }
-    let answer = want.map(|_| ());
-    let [mut full, mut filled, mut lent] = [[0xEE; ROOM]; 3];
-    let is_full = encode_full_to_slice(bytes, prefix, upper, &mut full[..length]) == answer;
-    let is_body = match (prefix, upper) {
-        (true, _) => return is_full && full == left,
-        (false, false) => {
-            encode_to_slice(bytes, &mut filled[..length]) == answer
-                && encode_to_str(bytes, &mut lent[..length]) == want
-        }
-        (false, true) => {
-            encode_to_slice_upper(bytes, &mut filled[..length]) == answer
-                && encode_to_str_upper(bytes, &mut lent[..length]) == want
-        }
+    let mut output = [0xEE; ROOM];
+    let filled = encode_full_to_slice(bytes, prefix, upper, &mut output[..length]);
+    same!(rt, "encode_full_to_slice", row; filled, want.map(|_| ()));
+    same_bytes!(rt, "what encode_full_to_slice leaves", row; &output, &left);
+    if prefix {
+        return;
+    }
+    let (mut output, mut lender) = ([0xEE; ROOM], [0xEE; ROOM]);
+    let (filled, lent) = match upper {
+        false => (
+            encode_to_slice(bytes, &mut output[..length]),
+            encode_to_str(bytes, &mut lender[..length]),
+        ),
+        true => (
+            encode_to_slice_upper(bytes, &mut output[..length]),
+            encode_to_str_upper(bytes, &mut lender[..length]),
+        ),
     };
-    is_full && is_body && [full, filled, lent] == [left; 3]
+    same!(rt, "encode_to_slice(_upper)", row; filled, want.map(|_| ()));
+    same!(rt, "encode_to_str(_upper)", row; lent, want);
+    same_bytes!(rt, "what encode_to_slice(_upper) leaves", row; &output, &left);
+    same_bytes!(rt, "what encode_to_str(_upper) leaves", row; &lender, &left);
 }
 
 #[test]
 fn full_texts(rt: HostRuntime) {
-    assert!(rt; text_length(true, 20) == 42);
-    assert!(rt; text_length(false, usize::MAX) == usize::MAX);
+    assert_eq!(rt; text_length(true, 20), 42);
+    assert_eq!(rt; text_length(false, usize::MAX), usize::MAX);
     let mut text = [0; 10];
     fill_text::<Plain>(b"kiwi", true, false, &mut text);
-    assert!(rt; text == *b"0x6b697769");
+    assert_eq!(rt; Text(&text), Text(b"0x6b697769"));
 }
 
 #[test]
 fn characters(rt: HostRuntime) -> Result<(), AllocError> {
     let mut upper = BytesToHexChars::<true>::new(&[0x0f]);
     for (left, want) in [(2, Some('0')), (1, Some('F')), (0, None), (0, None)] {
-        let is_left = upper.size_hint() == (left, Some(left));
-        holds(&rt, &left, is_left && upper.next() == want);
+        same!(&rt, "size_hint", left; upper.size_hint(), (left, Some(left)));
+        same!(&rt, "next", left; upper.next(), want);
     }
     let mut none = BytesToHexChars::<false>::new(&[]);
     for row in 0..2usize {
-        let is_left = none.size_hint() == (0, Some(0));
-        holds(&rt, &row, is_left && none.next().is_none());
+        same!(&rt, "size_hint of none", row; none.size_hint(), (0, Some(0)));
+        same!(&rt, "next of none", row; none.next(), None);
     }
     let text: String = BytesToHexChars::<false>::new(b"kiwi").collect(rt.alloc())?;
-    assert!(rt; text.as_str() == "6b697769");
+    assert_eq!(rt; text.as_str(), "6b697769");
     Ok(())
 }

@@ -51,9 +51,9 @@ fn names_refused_memory(rt: HostRuntime) -> Result<(), Fail> {
     let bad = decode(alloc, b"zz").err();
     drop(blocks);
     if is_refused {
-        assert!(rt; encoded == Some(AllocError));
-        assert!(rt; [decoded, bad] == [Some(FromHexError::NoMemory); 2]);
-        assert!(rt; odd == Some(FromHexError::OddLength));
+        assert_eq!(rt; encoded, Some(AllocError));
+        assert_eq!(rt; [decoded, bad], [Some(FromHexError::NoMemory); 2]);
+        assert_eq!(rt; odd, Some(FromHexError::OddLength));
     }
     Ok(())
 }

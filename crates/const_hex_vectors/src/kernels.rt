@@ -2,20 +2,21 @@
 
 mod suite;
 
-use crate::decoding::{checked, each_is, same};
-use crate::texts::{bad, behind, holds};
+use crate::decoding::checked;
+use crate::texts::{bad, behind};
 use const_hex::{
     CheckFirst, FromHexError, Kernel, Lanes16, Lanes32, PieceSink, Plain, SinkOutput, check_with,
     decode_to_slice_with, decode_with,
 };
 use const_hex_uses::own_kernel::Backward;
+use hex_testing::{Text, same, same_bytes};
 use std::alloc::{AllocError, Global};
 use std::process::Abort;
 use std::test::Fail;
 
 /// A kernel's name, whether it is tried behind `CheckFirst`, and in which steps it works.
 #[derive(Clone, Copy, Debug)]
-pub(crate) struct Habits {
+pub(crate) struct KernelCase {
     name: &'static str,
     /// Its place in rows with a figure for each kernel.
     number: usize,
@@ -27,9 +28,14 @@ pub(crate) struct Habits {
     pub(crate) writes: usize,
 }
 
-impl Habits {
-    fn new(name: &'static str, number: usize, reads: &'static [usize], writes: usize) -> Habits {
-        Habits {
+impl KernelCase {
+    fn new(
+        name: &'static str,
+        number: usize,
+        reads: &'static [usize],
+        writes: usize,
+    ) -> KernelCase {
+        KernelCase {
             name,
             number,
             checks_first: false,
@@ -39,8 +45,8 @@ impl Habits {
     }
 
     /// The same kernel behind `CheckFirst`.
-    fn checking_first(self) -> Habits {
-        Habits {
+    fn checking_first(self) -> KernelCase {
+        KernelCase {
             checks_first: true,
             reads: &[],
             ..self
@@ -71,18 +77,23 @@ impl Habits {
 /// A figure for each kernel.
 type Figures = [usize; 4];
 
-fn every_kernel() -> [Habits; 4] {
+fn every_kernel() -> [KernelCase; 4] {
     [
-        Habits::new("Plain", 0, &[2], 1),
-        Habits::new("Lanes16", 1, &[32, 2], 32),
-        Habits::new("Lanes32", 2, &[64, 32, 2], 64),
-        Habits::new("Backward", 3, &[], 2),
+        KernelCase::new("Plain", 0, &[2], 1),
+        KernelCase::new("Lanes16", 1, &[32, 2], 32),
+        KernelCase::new("Lanes32", 2, &[64, 32, 2], 64),
+        KernelCase::new("Backward", 3, &[], 2),
     ]
 }
 
 /// What is tried with each kernel, by itself and behind `CheckFirst`.
-pub(crate) trait Trial {
-    fn run<K: Kernel>(&self, rt: &impl Abort, alloc: Global, kernel: Habits) -> Result<(), Fail>;
+pub(crate) trait KernelTest {
+    fn run<K: Kernel>(
+        &self,
+        rt: &impl Abort,
+        alloc: Global,
+        kernel: KernelCase,
+    ) -> Result<(), Fail>;
 
     fn with_each_kernel(&self, rt: &impl Abort, alloc: Global) -> Result<(), Fail> {
         let [plain, lanes16, lanes32, backward] = every_kernel();
@@ -97,37 +108,46 @@ pub(crate) trait Trial {
     }
 }
 
-/// Whether each call that reads a text by a kernel answers this, and an output of bytes 0xEE then
-/// holds `left`.
+/// Each call that reads a text by a kernel answers this, and an output of bytes 0xEE then holds `left`.
 pub(crate) fn answers<K: Kernel>(
+    rt: &impl Abort,
     alloc: Global,
+    kernel: KernelCase,
     text: &[u8],
     want: Result<&[u8], FromHexError>,
     left: &[u8],
-) -> Result<bool, AllocError> {
+) -> Result<(), AllocError> {
+    let row = (kernel, Text(text), want.err());
+    same!(rt, "check_with", row; check_with::<K>(text), checked(want));
     let mut output = vec![in alloc; 0xEEu8; left.len()]?;
     let filled = decode_to_slice_with::<K>(text, &mut output);
-    let is_answered = [check_with::<K>(text), filled] == [checked(want); 2];
-    let is_decoded = each_is!(same, want; decode_with::<K>(alloc, text));
-    Ok(is_answered && is_decoded && output.as_slice() == left)
+    same!(rt, "decode_to_slice_with", row; filled, checked(want));
+    same_bytes!(rt, "what decode_to_slice_with leaves", row; &output, left);
+    match (decode_with::<K>(alloc, text), want) {
+        (Ok(bytes), Ok(want)) => same_bytes!(rt, "decode_with", row; &bytes, want),
+        (answer, want) => same!(rt, "decode_with", row; answer.err(), want.err()),
+    }
+    Ok(())
 }
 
-/// Whether each of these calls refuses a body behind a prefix, for its byte at that place. Before
-/// that place the body spells the first of these bytes.
+/// Each of these calls refuses a body behind a prefix, for its byte at that place. Before that place
+/// the body spells the first of these bytes.
 pub(crate) fn refuses<K: Kernel>(
+    rt: &impl Abort,
     alloc: Global,
+    kernel: KernelCase,
     (prefix, body, place): (&str, &[u8], usize),
     bytes: &[u8],
-    kernel: Habits,
-) -> Result<bool, AllocError> {
+) -> Result<(), AllocError> {
     let byte = body.get(place).copied().unwrap_or(0);
-    let refusal = bad(byte, prefix.len().saturating_add(place));
+    let error = bad(byte, prefix.len().saturating_add(place));
     let mut left = bytes.to_vec(alloc)?;
     let decoded = kernel.decoded(body.len(), place);
     if decoded <= left.len() {
         left[decoded..].fill(0xEE);
     }
-    answers::<K>(alloc, &behind(alloc, prefix, body)?, Err(refusal), &left)
+    let text = behind(alloc, prefix, body)?;
+    answers::<K>(rt, alloc, kernel, &text, Err(error), &left)
 }
 
 #[test]
@@ -154,8 +174,13 @@ fn each_byte(rt: HostRuntime) -> Result<(), Fail> {
 #[derive(Drop)]
 struct Front(&'static str, usize, usize, Figures);
 
-impl Trial for Front {
-    fn run<K: Kernel>(&self, rt: &impl Abort, alloc: Global, kernel: Habits) -> Result<(), Fail> {
+impl KernelTest for Front {
+    fn run<K: Kernel>(
+        &self,
+        rt: &impl Abort,
+        alloc: Global,
+        kernel: KernelCase,
+    ) -> Result<(), Fail> {
         let Front(prefix, length, place, counts) = self;
         let count = match kernel.checks_first {
             true => 0,
@@ -170,10 +195,10 @@ impl Trial for Front {
             left[..count].fill(0xAA);
         }
         let text = behind(alloc, prefix, &body)?;
-        let refusal = bad(b'g', prefix.len().saturating_add(*place));
-        let row = (kernel, *prefix, *length, *place);
-        holds(rt, &row, answers::<K>(alloc, &text, Err(refusal), &left)?);
-        holds(rt, &row, kernel.decoded(*length, *place) == count);
+        let error = bad(b'g', prefix.len().saturating_add(*place));
+        answers::<K>(rt, alloc, kernel, &text, Err(error), &left)?;
+        let decoded = kernel.decoded(*length, *place);
+        same!(rt, "the figure", (kernel, Text(&text)); decoded, count);
         Ok(())
     }
 }
@@ -198,13 +223,18 @@ fn worked_fronts(rt: HostRuntime) -> Result<(), Fail> {
 #[derive(Drop)]
 struct Pieces(Figures);
 
-impl Trial for Pieces {
-    fn run<K: Kernel>(&self, rt: &impl Abort, alloc: Global, kernel: Habits) -> Result<(), Fail> {
+impl KernelTest for Pieces {
+    fn run<K: Kernel>(
+        &self,
+        rt: &impl Abort,
+        alloc: Global,
+        kernel: KernelCase,
+    ) -> Result<(), Fail> {
         let mut sink = PieceSink::new(alloc, 0);
         K::encode(&[0xAB; 49], false, &mut SinkOutput::new(&mut sink));
         let figure = self.0.get(kernel.number).copied();
-        holds(rt, &kernel, figure == Some(sink.pieces().len()));
-        holds(rt, &kernel, figure == Some(kernel.pieces(alloc, 98)?.len()));
+        same!(rt, "pieces", kernel; Some(sink.pieces().len()), figure);
+        same!(rt, "the figure", kernel; Some(kernel.pieces(alloc, 98)?.len()), figure);
         Ok(())
     }
 }

@@ -10,6 +10,8 @@ mod decoding;
 #[cfg(test)]
 mod encoding;
 #[cfg(test)]
+mod errors;
+#[cfg(test)]
 mod exhausted;
 #[cfg(test)]
 mod kernels;
@@ -20,7 +22,7 @@ mod long;
 #[cfg(test)]
 mod printed;
 #[cfg(test)]
-mod refusals;
+mod rows;
 #[cfg(test)]
 mod sinks;
 #[cfg(test)]
@@ -29,3 +31,5 @@ mod streaming;
 mod tables;
 #[cfg(test)]
 mod texts;
+#[cfg(test)]
+mod write_sink;

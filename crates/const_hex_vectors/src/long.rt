@@ -1,10 +1,11 @@
-//! Long texts, with ample memory: each call that takes memory, and a bad byte late in a text.
+//! Long texts, with ample memory: each call that allocates, and a bad byte late in a text.
 
 use crate::decoding::each_call_answers;
 use crate::encoding::Written;
-use crate::kernels::{Habits, Trial, answers, refuses};
-use crate::texts::{bad, behind, bytes, holds, printed};
+use crate::kernels::{KernelCase, KernelTest, answers, refuses};
+use crate::texts::{bad, behind, bytes, printed};
 use const_hex::{Buffer, Kernel, ToHex, ToHexExt, const_encode, decode_to_slice, encode_with};
+use hex_testing::{Text, same, same_bytes};
 use std::alloc::{AllocError, Global};
 use std::process::Abort;
 use std::test::Fail;
@@ -27,8 +28,7 @@ fn long_text(alloc: Global, blocks: usize) -> Result<Written, AllocError> {
 #[test]
 fn owned_texts(rt: HostRuntime) -> Result<(), Fail> {
     for blocks in [SHORT, LONG, LONGEST] {
-        let long = long_text(rt.alloc(), blocks)?;
-        holds(&rt, &blocks, long.is_text_of_bytes(rt.alloc())?);
+        long_text(rt.alloc(), blocks)?.each_call_writes(&rt, rt.alloc())?;
     }
     Ok(())
 }
@@ -39,8 +39,7 @@ fn owned_bytes(rt: HostRuntime) -> Result<(), Fail> {
         let Written { bytes, texts } = long_text(rt.alloc(), blocks)?;
         let [lower, _, _, prefixed_upper] = texts;
         for text in [lower, prefixed_upper] {
-            let is_read = each_call_answers(rt.alloc(), text.as_bytes(), Ok(&bytes))?;
-            holds(&rt, &blocks, is_read);
+            each_call_answers(&rt, rt.alloc(), text.as_bytes(), Ok(&bytes))?;
         }
     }
     Ok(())
@@ -64,11 +63,11 @@ fn late_bad_bytes_of(rt: &impl Abort, alloc: Global, blocks: usize) -> Result<()
     for prefix in ["", "0X"] {
         for place in [lower.len() / 2, lower.len().saturating_sub(1)] {
             let text = behind(alloc, prefix, &with_g(alloc, lower.as_bytes(), place)?)?;
-            let refusal = bad(b'g', prefix.len().saturating_add(place));
+            let error = bad(b'g', prefix.len().saturating_add(place));
             let mut output = vec![in alloc; 0u8; bytes.len()]?;
-            let is_refused = decode_to_slice(&text, &mut output) == Err(refusal);
-            let is_so = each_call_answers(alloc, &text, Err(refusal))?;
-            holds(rt, &refusal, is_refused && is_so);
+            let answer = decode_to_slice(&text, &mut output);
+            same!(rt, "decode_to_slice", Text(&text); answer, Err(error));
+            each_call_answers(rt, alloc, &text, Err(error))?;
         }
     }
     Ok(())
@@ -94,21 +93,29 @@ fn kernels_on_the_longest(rt: HostRuntime) -> Result<(), Fail> {
     long_text(rt.alloc(), LONGEST)?.with_each_kernel(&rt, rt.alloc())
 }
 
-impl Trial for Written {
+impl KernelTest for Written {
     /// Writes the text in both cases, and reads it, also with a bad byte at the end.
-    fn run<K: Kernel>(&self, rt: &impl Abort, alloc: Global, kernel: Habits) -> Result<(), Fail> {
+    fn run<K: Kernel>(
+        &self,
+        rt: &impl Abort,
+        alloc: Global,
+        kernel: KernelCase,
+    ) -> Result<(), Fail> {
         let bytes = self.bytes.as_slice();
         let [lower, upper, _, prefixed_upper] = &self.texts;
-        let row = (kernel, bytes.len());
-        holds(rt, &row, encode_with::<K, false>(alloc, bytes)? == *lower);
-        holds(rt, &row, encode_with::<K, true>(alloc, bytes)? == *upper);
+        let row = (kernel, Text(bytes));
+        let encoded = [
+            encode_with::<K, false>(alloc, bytes)?,
+            encode_with::<K, true>(alloc, bytes)?,
+        ];
+        same_bytes!(rt, "encode_with", row; encoded[0].as_bytes(), lower.as_bytes());
+        same_bytes!(rt, "encode_with, upper", row; encoded[1].as_bytes(), upper.as_bytes());
         for text in [lower.as_bytes(), prefixed_upper.as_bytes()] {
-            holds(rt, &row, answers::<K>(alloc, text, Ok(bytes), bytes)?);
+            answers::<K>(rt, alloc, kernel, text, Ok(bytes), bytes)?;
         }
         let place = lower.len().saturating_sub(1);
         let body = with_g(alloc, lower.as_bytes(), place)?;
-        let is_refused = refuses::<K>(alloc, ("0x", &body, place), bytes, kernel)?;
-        holds(rt, &row, is_refused);
+        refuses::<K>(rt, alloc, kernel, ("0x", &body, place), bytes)?;
         Ok(())
     }
 }
@@ -121,14 +128,33 @@ fn large_arrays(rt: HostRuntime) -> Result<(), Fail> {
     let lower = "ab".repeat(alloc, 50_000)?;
     let prefixed = ["0x", &lower].concat(alloc)?;
     let buffer = const_encode::<50_000, true, 100_002>(&bytes);
-    assert!(rt; buffer.to_string(alloc)? == prefixed);
-    assert!(rt; buffer.to_vec(alloc)?.as_slice() == prefixed.as_bytes());
+    assert_eq!(rt;
+        Text(buffer.to_string(alloc)?.as_bytes()),
+        Text(prefixed.as_bytes())
+    );
+    assert_eq!(rt; Text(&buffer.to_vec(alloc)?), Text(prefixed.as_bytes()));
     let mut buffer = Buffer::<50_000, false, 100_000>::new();
-    assert!(rt; buffer.format(&bytes) == lower.as_str());
-    assert!(rt; buffer.to_string(alloc)? == lower);
-    assert!(rt; buffer.to_vec(alloc)?.as_slice() == lower.as_bytes());
-    assert!(rt; ToHex::encode_hex(&bytes, alloc)? == lower);
-    assert!(rt; bytes.encode_hex_with_prefix(alloc)? == prefixed);
-    assert!(rt; ToHex::encode_hex(&lower, alloc)? == "6162".repeat(alloc, 50_000)?);
+    assert_eq!(rt;
+        Text(buffer.format(&bytes).as_bytes()),
+        Text(lower.as_bytes())
+    );
+    assert_eq!(rt;
+        Text(buffer.to_string(alloc)?.as_bytes()),
+        Text(lower.as_bytes())
+    );
+    assert_eq!(rt; Text(&buffer.to_vec(alloc)?), Text(lower.as_bytes()));
+    assert_eq!(rt;
+        Text(ToHex::encode_hex(&bytes, alloc)?.as_bytes()),
+        Text(lower.as_bytes())
+    );
+    assert_eq!(rt;
+        Text(bytes.encode_hex_with_prefix(alloc)?.as_bytes()),
+        Text(prefixed.as_bytes())
+    );
+    let (answer, want) = (
+        ToHex::encode_hex(&lower, alloc)?,
+        "6162".repeat(alloc, 50_000)?,
+    );
+    assert_eq!(rt; Text(answer.as_bytes()), Text(want.as_bytes()));
     Ok(())
 }

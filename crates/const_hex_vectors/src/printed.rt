@@ -1,30 +1,15 @@
 //! What `display` prints.
 
-use crate::texts::{bytes, holds, printed};
-use const_hex::{BufferedHex, Display, FormatterSink, Lanes16, Sink, display};
+use crate::texts::{bytes, printed};
+use const_hex::{BufferedHex, FormatterSink, Lanes16, Sink, display};
+use hex_testing::{Counting, InHex, Text, same, same_bytes};
 use std::alloc::{AllocError, Global};
 use std::fmt;
 use std::fmt::Write;
 use std::process::Abort;
 use std::test::Fail;
 
-/// Prints as `{:x}` or `{:X}` does, with the options of the hole.
-#[derive(Drop)]
-enum InRadix<'a> {
-    Lower(Display<'a>),
-    Upper(Display<'a>),
-}
-
-impl fmt::Display for InRadix<'_> {
-    fn fmt<W: fmt::Write>(&self, f: &mut fmt::Formatter<W>) -> fmt::Result {
-        match self {
-            InRadix::Lower(text) => fmt::LowerHex::fmt(text, f),
-            InRadix::Upper(text) => fmt::UpperHex::fmt(text, f),
-        }
-    }
-}
-
-/// Prints the upper text by 16 lanes, through the library's sink over a formatter.
+/// Prints the uppercase text by 16 lanes, through the library's sink over a formatter.
 #[derive(Drop)]
 struct ByLanes<'a> {
     bytes: &'a [u8],
@@ -64,11 +49,14 @@ fn printed_forms(rt: HostRuntime) -> Result<(), Fail> {
     let bytes = [0xDE, 0xAD, 0xBE, 0xEF];
     let lower = "deadbeef 0xdeadbeef deadbeef 0xdeadbeef deadbeef deadbeef deadbeef";
     let upper = "DEADBEEF 0xDEADBEEF DEADBEEF 0xDEADBEEF DEADBEEF DEADBEEF DEADBEEF";
-    assert!(rt; forms(alloc, &display(&bytes))?.as_str() == lower);
-    assert!(rt; forms(alloc, &InRadix::Lower(display(&bytes)))?.as_str() == lower);
-    assert!(rt; forms(alloc, &InRadix::Upper(display(&bytes)))?.as_str() == upper);
-    assert!(rt; ByLanes { bytes: &bytes }.to_string(alloc)?.as_str() == "DEADBEEF");
-    assert!(rt; EmptyPiece.to_string(alloc)?.as_str() == "true");
+    assert_eq!(rt; forms(alloc, &display(&bytes))?.as_str(), lower);
+    assert_eq!(rt; forms(alloc, &InHex::<false>(&bytes))?.as_str(), lower);
+    assert_eq!(rt; forms(alloc, &InHex::<true>(&bytes))?.as_str(), upper);
+    assert_eq!(rt;
+        ByLanes { bytes: &bytes }.to_string(alloc)?.as_str(),
+        "DEADBEEF"
+    );
+    assert_eq!(rt; EmptyPiece.to_string(alloc)?.as_str(), "true");
     Ok(())
 }
 
@@ -77,40 +65,27 @@ fn printed_forms(rt: HostRuntime) -> Result<(), Fail> {
 fn printed_bytes(rt: HostRuntime) -> Result<(), Fail> {
     let alloc = rt.alloc();
     let data = bytes(alloc, 100_000)?;
-    assert!(rt; data.len() == 100_000);
+    assert_eq!(rt; data.len(), 100_000);
     let lower = printed(alloc, &data, false, false)?;
     let upper = printed(alloc, &data, true, true)?;
-    let v = InRadix::Upper(display(&data));
-    assert!(rt; format!(in alloc; "{v:#}")? == upper);
-    assert!(rt; upper.strip_prefix("0x") == Some(v.to_string(alloc)?.as_str()));
+    let v = InHex::<true>(&data);
+    assert_eq!(rt;
+        Text(format!(in alloc; "{v:#}")?.as_bytes()),
+        Text(upper.as_bytes())
+    );
+    let body = upper.strip_prefix("0x").unwrap_or("no prefix");
+    assert_eq!(rt; Text(v.to_string(alloc)?.as_bytes()), Text(body.as_bytes()));
     for count in (0..=2048usize).chain([100_000]) {
         let v = display(data.get(..count).unwrap_or(&[]));
         let want = lower
             .get(..count.saturating_mul(2))
             .unwrap_or("another text");
-        let prefixed = format!(in alloc; "{v:#}")?;
-        let is_prefixed = prefixed.strip_prefix("0x") == Some(want);
-        let is_plain = v.to_string(alloc)?.as_str() == want;
-        holds(&rt, &count, is_prefixed && is_plain);
+        let (plain, prefixed) = (v.to_string(alloc)?, format!(in alloc; "{v:#}")?);
+        same_bytes!(&rt, "{}", count; plain.as_bytes(), want.as_bytes());
+        let body = prefixed.strip_prefix("0x").unwrap_or("no prefix");
+        same_bytes!(&rt, "{:#}", count; body.as_bytes(), want.as_bytes());
     }
     Ok(())
-}
-
-/// Counts its calls, and fails at the one of that number.
-#[derive(Drop)]
-struct FailingWriter {
-    calls: u32,
-    fail_at: u32,
-}
-
-impl Write for FailingWriter {
-    fn write_str(&mut self, _s: &str) -> fmt::Result {
-        self.calls = self.calls.saturating_add(1);
-        if self.calls == self.fail_at {
-            return Err(fmt::Error);
-        }
-        Ok(())
-    }
 }
 
 #[test]
@@ -123,9 +98,9 @@ fn nothing_follows_an_error(rt: HostRuntime) {
 }
 
 /// A writer that fails at one call gets that many calls, and its error is returned.
-fn fails_once<D: fmt::Display>(rt: &impl Abort, text: &D, fail_at: u32, calls: u32) {
-    let mut writer = FailingWriter { calls: 0, fail_at };
-    let has_failed = write!(writer, "{text}").is_err();
-    let is_called = writer.calls == calls;
-    holds(rt, &fail_at, is_called && has_failed == (fail_at < 4));
+fn fails_once<D: fmt::Display>(rt: &impl Abort, text: &D, fail_at: usize, calls: usize) {
+    let mut writer = Counting::new(fail_at);
+    let answer = write!(writer, "{text}");
+    same!(rt, "write!", fail_at; answer.is_err(), (fail_at < 4));
+    same!(rt, "calls of the writer", fail_at; writer.calls, calls);
 }

@@ -2,12 +2,14 @@
 
 ghost use Rattle.std.specs.Prelude.{◌<◌};
 
-use crate::kernels::{Habits, Trial};
-use crate::texts::{bytes, holds, printed};
+use crate::kernels::{KernelCase, KernelTest};
+use crate::texts::{bytes, printed};
 use const_hex::{
     BufferedHex, BufferedOutput, Kernel, Output, PieceSink, Sink, SinkOutput, SliceOutput,
 };
+use hex_testing::{same, same_bytes};
 use std::alloc::Global;
+use std::fmt::Debug;
 use std::process::Abort;
 use std::test::Fail;
 
@@ -21,15 +23,17 @@ fn pieces_of_each_size(rt: HostRuntime) -> Result<(), Fail> {
     let alloc = rt.alloc();
     let text = printed(alloc, &bytes(alloc, 2048)?, false, false)?;
     let mut sink = PieceSink::new(alloc, 0);
+    assert_eq!(rt; text.len(), 4096);
     for size in 1..=4096usize {
         assert!(rt; !sink.refused());
         let piece = text.get(..size).unwrap_or("");
         assert!(rt; sink.write_str(piece).is_ok());
     }
-    assert!(rt; sink.calls() == 4096);
-    assert!(rt; sink.pieces().len() == 4096);
+    assert_eq!(rt; sink.calls(), 4096);
+    assert_eq!(rt; sink.pieces().len(), 4096);
     for (place, piece) in sink.pieces().iter().enumerate() {
-        holds(&rt, &place, text.get(..place + 1) == Some(piece.as_str()));
+        let want = text.get(..place + 1).unwrap_or("");
+        same_bytes!(&rt, "write_str", place; piece.as_bytes(), want.as_bytes());
     }
     Ok(())
 }
@@ -41,19 +45,30 @@ struct Stream<'a> {
     text: &'a str,
 }
 
-impl Trial for Stream<'_> {
+impl KernelTest for Stream<'_> {
     /// The pieces are the text, and each but the last has 4033 to 4096 bytes.
-    fn run<K: Kernel>(&self, rt: &impl Abort, alloc: Global, kernel: Habits) -> Result<(), Fail> {
+    fn run<K: Kernel>(
+        &self,
+        rt: &impl Abort,
+        alloc: Global,
+        kernel: KernelCase,
+    ) -> Result<(), Fail> {
         let mut sink = PieceSink::new(alloc, 0);
         let answer = BufferedHex::<false, true>::new(self.data).write_with::<K, _>(&mut sink);
-        holds(rt, &kernel, answer == Ok(()));
+        same!(rt, "write_with", kernel; answer, Ok(()));
         let mut rest = self.text;
         for piece in sink.pieces() {
-            let is_large = piece.len() >= 4033 || piece.as_str() == rest;
-            holds(rt, &kernel, is_large && piece.len() <= 4096);
-            rest = rest.strip_prefix(piece.as_str()).unwrap_or("another text");
+            let least = rest.len().min(4033);
+            assert!(rt;
+                least <= piece.len() && piece.len() <= 4096,
+                "{kernel:?}: {}",
+                piece.len()
+            );
+            let (front, after) = rest.split_at_checked(piece.len()).unwrap_or((rest, ""));
+            same_bytes!(rt, "write_with", kernel; piece.as_bytes(), front.as_bytes());
+            rest = after;
         }
-        holds(rt, &kernel, rest.is_empty());
+        same!(rt, "what write_with left out", kernel; rest.len(), 0);
         Ok(())
     }
 }
@@ -77,21 +92,21 @@ fn pieces_of_just_the_size(rt: HostRuntime) {
             put(&rt, &mut output, piece.as_bytes());
         }
     }
-    assert!(rt; has_pieces(&sink, &["cdef", "ab", "cdef"]));
+    has_pieces(&rt, &4, &sink, &["cdef", "ab", "cdef"]);
 }
 
-pub(crate) fn has_pieces(sink: &PieceSink, want: &[&str]) -> bool {
-    let pieces = sink.pieces().iter();
-    pieces.map(String::as_str).eq(want.iter().copied())
+/// A sink has accepted these pieces.
+pub(crate) fn has_pieces<R: Debug>(rt: &impl Abort, row: &R, sink: &PieceSink, want: &[&str]) {
+    same!(rt, "pieces", *row; sink.pieces().len(), want.len());
+    for (piece, want) in sink.pieces().iter().zip(want) {
+        same!(rt, "pieces", *row; piece.as_str(), *want);
+    }
 }
 
 /// Writes a piece for which the output says that there is room.
 fn put<O: Output>(rt: &impl Abort, output: &mut O, bytes: &[u8]) {
-    let fits = match output.remaining() {
-        Some(room) => bytes.len() <= room,
-        None => true,
-    };
-    assert!(rt; fits);
+    let room = output.remaining().unwrap_or(usize::MAX);
+    assert!(rt; bytes.len() <= room);
     assert!(rt; bytes.is_ascii());
     if bytes.len() == 1 {
         output.write_byte(bytes[0]);
@@ -125,20 +140,20 @@ fn hands_on<const N: usize>(rt: &impl Abort, alloc: Global, pieces: &[&str])
     let mut output = ToSlice::<N>::new(SliceOutput::new(&mut text));
     put_all(rt, &mut output);
     let _ = output.finish();
-    holds(rt, &N, has_pieces(&sink, pieces));
-    holds(rt, &N, text == *b"abcdefghijkl");
+    has_pieces(rt, &N, &sink, pieces);
+    same_bytes!(rt, "write", N; &text, b"abcdefghijkl");
 }
 
 #[test]
 fn room_that_remains(rt: HostRuntime) {
     let mut text = [0u8; 12];
     let slice = SliceOutput::new(&mut text);
-    assert!(rt; slice.remaining() == Some(12));
+    assert_eq!(rt; slice.remaining(), Some(12));
     let mut output = ToSlice::<4>::new(slice);
     put(&rt, &mut output, b"a");
-    assert!(rt; output.remaining() == Some(11));
+    assert_eq!(rt; output.remaining(), Some(11));
     put(&rt, &mut output, b"bc");
-    assert!(rt; output.remaining() == Some(9));
+    assert_eq!(rt; output.remaining(), Some(9));
     let mut sink = PieceSink::new(rt.alloc(), 0);
     let output = ToSink::<4>::new(SinkOutput::new(&mut sink));
     assert!(rt; output.remaining().is_none());
@@ -175,5 +190,5 @@ fn fills<const N: usize>(rt: &impl Abort, first: usize, second: usize)
     put(rt, &mut output, [b'b'; 16].get(..second).unwrap_or(&[]));
     put(rt, &mut output, b"c");
     let _ = output.finish();
-    holds(rt, &(N, first, second), text == want);
+    same_bytes!(rt, "write", (N, first, second); &text, &want);
 }

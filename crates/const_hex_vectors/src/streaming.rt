@@ -2,11 +2,12 @@
 
 ghost use Rattle.std.specs.Prelude.{◌≡◌, false, None, refl};
 
-use crate::kernels::{Habits, Trial};
+use crate::kernels::{KernelCase, KernelTest};
 use crate::sinks::has_pieces;
-use crate::texts::{bytes, cut, holds, printed};
+use crate::texts::{bytes, cut, printed};
 use const_hex::serde::serialize_inner;
 use const_hex::{BufferedHex, Kernel, Output, PieceSink, Plain, Sink, SinkError, SinkOutput};
+use hex_testing::same;
 use std::alloc::{AllocError, Global};
 use std::process::Abort;
 use std::test::Fail;
@@ -123,13 +124,18 @@ struct Stream<'a, const UPPER: bool, const PREFIX: bool> {
 /// JSON text.
 #[derive(Clone, Copy, Debug)]
 enum Way {
-    ByKernel(Habits),
+    ByKernel(KernelCase),
     ByFixedKernel,
     AsJson,
 }
 
-impl<const UPPER: bool, const PREFIX: bool> Trial for Stream<'_, UPPER, PREFIX> {
-    fn run<K: Kernel>(&self, rt: &impl Abort, alloc: Global, kernel: Habits) -> Result<(), Fail> {
+impl<const UPPER: bool, const PREFIX: bool> KernelTest for Stream<'_, UPPER, PREFIX> {
+    fn run<K: Kernel>(
+        &self,
+        rt: &impl Abort,
+        alloc: Global,
+        kernel: KernelCase,
+    ) -> Result<(), Fail> {
         self.calls::<K>(rt, alloc, Way::ByKernel(kernel))
     }
 }
@@ -154,20 +160,23 @@ impl<const UPPER: bool, const PREFIX: bool> Stream<'_, UPPER, PREFIX> {
         };
         let pieces = cut(alloc, &printed(alloc, self.data, PREFIX, UPPER)?, sizes)?;
         let row = (way, self.data.len(), sizes);
-        holds(rt, &row, pieces.len() == sizes.len());
+        same!(rt, "the row's sizes", row; pieces.len(), sizes.len());
         for refuse_at in 0..pieces.len() + 2 {
             let (noted, accepted) = until(&pieces, refuse_at);
             let is_refused = accepted.len() < noted.len();
             let mut sink = NotingSink::new(alloc, refuse_at);
             let answer = self.hand_over::<K, NotingSink>(way, &mut sink);
-            let is_told = [answer.is_err(), sink.refused()] == [is_refused; 2];
-            let is_noted = [sink.noted.as_slice(), sink.accepted.as_slice()] == [noted, accepted];
-            holds(rt, &(row, refuse_at), is_told && is_noted);
+            let row = (row, refuse_at);
+            same!(rt, "the noting sink's error", row; answer.is_err(), is_refused);
+            same!(rt, "its refused", row; sink.refused(), is_refused);
+            same!(rt, "the noting sink's calls", row; sink.noted.as_slice(), noted);
+            same!(rt, "its accepted pieces", row; sink.accepted.as_slice(), accepted);
             let mut sink = PieceSink::new(alloc, refuse_at);
             let answer = self.hand_over::<K, PieceSink>(way, &mut sink);
-            let is_kept = answer.is_err() == is_refused && sink.pieces() == accepted;
-            let is_called = !sink.no_memory() && sink.calls() == noted.len();
-            holds(rt, &(row, refuse_at), is_kept && is_called);
+            same!(rt, "PieceSink's error", row; answer.is_err(), is_refused);
+            same!(rt, "pieces", row; sink.pieces(), accepted);
+            let counts = (sink.no_memory(), sink.calls());
+            same!(rt, "no_memory, calls", row; counts, (false, noted.len()));
         }
         Ok(())
     }
@@ -198,12 +207,12 @@ fn two_texts_into_one_sink(rt: HostRuntime) -> Result<(), SinkError> {
     let mut sink = PieceSink::new(rt.alloc(), 0);
     BufferedHex::<false, true>::new(b"kiwi").write_to(&mut sink)?;
     BufferedHex::<true, false>::new(b"kiwi").write_to(&mut sink)?;
-    assert!(rt; has_pieces(&sink, &["0x6b697769", "6B697769"]));
+    has_pieces(&rt, &"two texts", &sink, &["0x6b697769", "6B697769"]);
     Ok(())
 }
 
 #[test]
-fn writes_after_a_refusal(rt: HostRuntime) -> Result<(), Fail> {
+fn writes_after_an_error(rt: HostRuntime) -> Result<(), Fail> {
     let pieces = cut(rt.alloc(), "onetwo", &[3, 3])?;
     for refuse_at in 1..3usize {
         let mut sink = NotingSink::new(rt.alloc(), refuse_at);
@@ -213,8 +222,8 @@ fn writes_after_a_refusal(rt: HostRuntime) -> Result<(), Fail> {
         }
         assert!(rt; output.finish().is_err());
         let (noted, accepted) = until(&pieces, refuse_at);
-        let is_noted = [sink.noted.as_slice(), sink.accepted.as_slice()] == [noted, accepted];
-        holds(&rt, &refuse_at, is_noted);
+        same!(&rt, "the noting sink's calls", refuse_at; sink.noted.as_slice(), noted);
+        same!(&rt, "its accepted pieces", refuse_at; sink.accepted.as_slice(), accepted);
     }
     Ok(())
 }

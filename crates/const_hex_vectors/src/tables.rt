@@ -1,32 +1,32 @@
 //! The 288 entries of the three tables, seen from outside.
 
-use crate::texts::holds;
 use const_hex::{HEX_CHARS_LOWER, HEX_CHARS_UPPER, HEX_DECODE_LUT, NIL, digit_at, value_at};
+use hex_testing::{same, same_bytes};
 use std::test::Fail;
 
 #[test]
 fn digits_of_values(rt: HostRuntime) -> Result<(), Fail> {
-    assert!(rt; HEX_CHARS_LOWER == b"0123456789abcdef");
-    assert!(rt; HEX_CHARS_UPPER == b"0123456789ABCDEF");
+    assert_eq!(rt; HEX_CHARS_LOWER, b"0123456789abcdef");
+    assert_eq!(rt; HEX_CHARS_UPPER, b"0123456789ABCDEF");
     for v in 0..16u8 {
         let texts = format!(in rt.alloc(); "{v:x}{v:X}")?;
         let digits = [digit_at(false, v), digit_at(true, v)];
-        holds(&rt, &v, texts.as_bytes() == digits.as_slice());
+        same_bytes!(&rt, "digit_at", v; &digits, texts.as_bytes());
     }
     Ok(())
 }
 
 #[test]
 fn values_of_digits(rt: HostRuntime) {
-    assert!(rt; NIL == 255);
+    assert_eq!(rt; NIL, 255);
     let mut digits = 0u32;
     for b in 0..=255u8 {
         let want = char::from(b).to_digit(16).unwrap_or(255);
         let values = [HEX_DECODE_LUT[b as usize], value_at(b)];
-        holds(&rt, &b, values.map(u32::from) == [want; 2]);
+        same!(&rt, "the table, value_at", b; values.map(u32::from), [want; 2]);
         if want < 16 {
             digits = digits.wrapping_add(1);
         }
     }
-    assert!(rt; digits == 22);
+    assert_eq!(rt; digits, 22);
 }

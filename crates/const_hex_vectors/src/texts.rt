@@ -2,13 +2,6 @@
 
 use const_hex::FromHexError;
 use std::alloc::{AllocError, Global};
-use std::fmt;
-use std::process::Abort;
-
-/// Ends the test if a row does not hold, and names the row.
-pub(crate) fn holds<R: fmt::Debug>(rt: &impl Abort, row: &R, is_so: bool) {
-    assert!(rt; is_so, "at {row:?}");
-}
 
 const DIGITS: &[u8; 22] = b"0123456789abcdefABCDEF";
 
@@ -30,7 +23,7 @@ pub(crate) fn behind(alloc: Global, prefix: &str, body: &[u8]) -> Result<Vec<u8>
     [prefix.as_bytes(), body].concat(alloc)
 }
 
-/// The refusal that names a byte and its place in the text.
+/// The error that names a byte and its place in the text.
 pub(crate) fn bad(byte: u8, index: usize) -> FromHexError {
     let c = char::from(byte);
     FromHexError::InvalidHexCharacter { c, index }
@@ -72,9 +65,4 @@ pub(crate) fn cut(alloc: Global, text: &str, sizes: &[usize]) -> Result<Vec<Stri
         }
     }
     Ok(pieces)
-}
-
-/// The first bytes of a text, which name it in a failing row.
-pub(crate) fn front_of(text: &[u8]) -> &[u8] {
-    text.get(..64).unwrap_or(text)
 }

@@ -36,7 +36,7 @@ impl<const LEN: usize> AsciiArray<LEN> {
     /// Fills the array with the text of the input, behind `0x` if `prefix` is true. The array must
     /// have the length of that text.
     #[inline]
-    #[tactic(auto, using(const_hex_arch::proofs::Writing::full_text_size))]
+    #[tactic(auto, using(const_hex_arch::proofs::lemmas::Texts::full_text_size))]
     pub(crate) fn fill(&mut self, input: &[u8], prefix: bool, upper: bool)
         requires { LEN ≡ text_length prefix (length input.now) }
         ensures { self.new.bytes ≡ full_text prefix upper input.now }

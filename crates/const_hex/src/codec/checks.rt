@@ -33,7 +33,7 @@ pub fn check(input: &[u8]) -> Result<(), FromHexError>
 /// assert_eq!(rt; const_hex::check_with::<Plain>(b"0X6B"), Ok(()));
 /// ```
 #[inline]
-#[tactic(auto, using(crate::proofs::Reading::checked))]
+#[tactic(auto, using(crate::proofs::lemmas::Reading::checked))]
 pub fn check_with<K: Kernel>(input: &[u8]) -> Result<(), FromHexError>
     ensures answer { Checks input.now result }
     ensures accepts { IsOk result ↔ ((bs : List ℕ) × Reads input.now (Ok bs)) }
@@ -55,7 +55,7 @@ pub fn check_with<K: Kernel>(input: &[u8]) -> Result<(), FromHexError>
 /// assert_eq!(rt; const_hex::const_check(b"0xzz"), Err(refusal));
 /// ```
 #[inline]
-#[tactic(auto, using(crate::proofs::Reading::one_check_answer))]
+#[tactic(auto, using(crate::proofs::lemmas::Reading::one_check_answer))]
 pub fn const_check(input: &[u8]) -> Result<(), FromHexError>
     ensures answer { Checks input.now result }
     ensures accepts { IsOk result ↔ ((bs : List ℕ) × Reads input.now (Ok bs)) }

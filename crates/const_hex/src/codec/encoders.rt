@@ -3,8 +3,7 @@
 ghost use Rattle.std.specs.Prelude.{◌≡◌, ◌*◌, ◌+◌, ◌++◌, ℕ, List, true, false, length, IsTrue, IsOk, OnOk, OnErr, IfOk, IfErr, Err, ◌↔◌, string_bytes};
 ghost use Rattle.std.specs.Borrow.{sem};
 ghost use Rattle.std.specs.Str.{IsAscii};
-ghost use Rattle.const_hex_arch.specs.Texts.{hex_text, full_text};
-ghost use Rattle.const_hex.specs.Buffers.{text_length};
+ghost use Rattle.const_hex_arch.specs.Texts.{hex_text, full_text, text_length};
 ghost use Rattle.const_hex.specs.Loans.{EndsEncoded};
 ghost use Rattle.const_hex.specs.declared.error.FromHexError.TheVariants.{InvalidStringLength};
 
@@ -15,7 +14,7 @@ use std::alloc::{AllocError, Global};
 
 /// The text, as a `String`.
 #[inline(always)]
-#[tactic(auto, using(const_hex_arch::proofs::Writing::texts))]
+#[tactic(auto, using(const_hex_arch::proofs::lemmas::Texts::texts))]
 fn owned<K: Kernel>(
     alloc: Global,
     input: &[u8],
@@ -97,7 +96,7 @@ pub fn encode_upper_prefixed(alloc: Global, input: &[u8]) -> Result<String, Allo
 /// assert_eq!(rt; text.as_str(), "6B697769");
 /// ```
 #[inline]
-#[tactic(auto, using(const_hex_arch::proofs::Writing::texts))]
+#[tactic(auto, using(const_hex_arch::proofs::lemmas::Texts::texts))]
 pub fn encode_with<K: Kernel, const UPPER: bool>(
     alloc: Global,
     input: &[u8],
@@ -111,7 +110,7 @@ pub fn encode_with<K: Kernel, const UPPER: bool>(
 
 /// Whether there are exactly two digits for each byte. No length is too large for this test.
 #[inline(always)]
-fn fits(bytes: usize, digits: usize) -> bool
+fn two_per_byte(bytes: usize, digits: usize) -> bool
     ensures { IsTrue result ↔ (digits ≡ 2 * bytes) }
 {
     digits % 2 == 0 && digits / 2 == bytes
@@ -191,7 +190,7 @@ pub fn encode_full_to_slice(
     ensures unchanged { OnErr result (output.new ≡ output.old) }
 {
     let digits = output.len().checked_sub(if prefix { 2 } else { 0 });
-    if !digits.is_some_and(|digits| fits(input.len(), digits)) {
+    if !digits.is_some_and(|digits| two_per_byte(input.len(), digits)) {
         return Err(FromHexError::InvalidStringLength);
     }
     fill_text::<FixedKernel>(input, prefix, upper, output);
@@ -214,7 +213,7 @@ pub fn encode_to_str<'a>(input: &[u8], output: &'a mut [u8]) -> Result<&'a str, 
     ensures refusal { IfErr result (λ e. e ≡ InvalidStringLength) }
     ensures* after { sem 𝓛 (EndsEncoded false input.now output.entry result) }
 {
-    if !fits(input.len(), output.len()) {
+    if !two_per_byte(input.len(), output.len()) {
         return Err(FromHexError::InvalidStringLength);
     }
     Ok(ascii_text(filled(input, false, output)))
@@ -233,7 +232,7 @@ pub fn encode_to_str_upper<'a>(input: &[u8], output: &'a mut [u8]) -> Result<&'a
     ensures refusal { IfErr result (λ e. e ≡ InvalidStringLength) }
     ensures* after { sem 𝓛 (EndsEncoded true input.now output.entry result) }
 {
-    if !fits(input.len(), output.len()) {
+    if !two_per_byte(input.len(), output.len()) {
         return Err(FromHexError::InvalidStringLength);
     }
     Ok(ascii_text(filled(input, true, output)))

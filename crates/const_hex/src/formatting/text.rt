@@ -74,7 +74,7 @@ impl fmt::Display for Display<'_> {
 }
 
 impl fmt::LowerHex for Display<'_> {
-    #[tactic(auto, using(crate::proofs::Printing::plain_from_styled))]
+    #[tactic(auto, using(crate::proofs::lemmas::Printing::plain_from_styled))]
     fn fmt<W: fmt::Write>(&self, f: &mut fmt::Formatter<W>) -> fmt::Result
         ensures { WritesStyledOnOk W.write_str_gives f.old result
             (printed_text (spec_alternate (formatter_spec f.old)) false self.now) f.new }

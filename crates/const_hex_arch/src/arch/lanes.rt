@@ -1,23 +1,20 @@
 //! The values of digits and the tests of lanes, for vectors of any number of lanes.
 
-ghost use Rattle.std.specs.Prelude.{◌≡◌, ◌-◌, ◌*◌, ◌++◌, ◌≤◌, ◌↔◌, length, take, drop, map, IsTrue};
-ghost use Rattle.std.specs.List.{AllZip};
+ghost use Rattle.std.specs.Prelude.{◌≡◌, ◌-◌, ◌*◌, ◌++◌, ◌≤◌, ◌↔◌, [], ◌∷◌, length, take, drop, map, IsTrue};
+ghost use Rattle.std.specs.List.{AllZip, concat};
 ghost use Rattle.const_hex_arch.specs.Digits.{hex_value, IsDigit};
 ghost use Rattle.const_hex_arch.specs.Lanes.{AllNibbles, AllUnmarked, byte_pairs};
 ghost use Rattle.const_hex_arch.specs.Nibbles.{as_value, IsValueOf, IsMarkOf, IsPartOf, IsLimitOf};
-ghost use Rattle.const_hex_arch.specs.Runs.{HasRoom};
 ghost use Rattle.const_hex_arch.specs.Texts.{hex_text, AllDigits, Spells};
 
-use crate::output::Output;
 use std::simd::prelude::*;
 
 /// What differs between vectors of different `N`. The rest of a kernel is the same for every `N`.
 pub(crate) trait Vectors<const N: usize> {
-    /// Writes two digits for each byte, as one piece.
-    fn encode_step<O: Output>(bytes: &[u8], upper: bool, output: &mut O)
-        requires size { length bytes.now ≡ N }
-        requires room { HasRoom (O.room output.old) (2 * N) }
-        ensures { O.step output.old (hex_text upper bytes.now) output.new };
+    /// Two digits for each lane, in order: the text of the first half, and the text of the second.
+    fn encode(v: Simd<u8, N>, upper: bool) -> [Simd<u8, N>; 2]
+        ensures text { concat result ≡ hex_text upper v.entry }
+        ensures lanes { map length result ≡ N ∷ N ∷ [] };
 
     /// The limit of each lane. If the lane is a digit, its value is at most the limit.
     fn limits(v: Simd<u8, N>) -> Simd<u8, N>
@@ -71,7 +68,7 @@ pub(crate) fn marks<const N: usize>(v: Simd<u8, N>, values: Simd<u8, N>) -> Simd
 
 /// Whether no lane has a mark, so all have the bits 7, 6, 4 and 3 clear.
 #[inline(always)]
-#[tactic(auto, using(crate::proofs::LaneMarks::are_unmarked))]
+#[tactic(auto, using(crate::proofs::lemmas::LaneMarks::are_unmarked))]
 pub(crate) fn are_unmarked<const N: usize>(marks: Simd<u8, N>) -> bool
     ensures { IsTrue result ↔ AllUnmarked marks.entry }
 {
@@ -97,7 +94,7 @@ fn digit_values<const N: usize, V: Vectors<N>>(v: Simd<u8, N>) -> Simd<u8, N>
 
 /// Marks of a vector: there are none exactly if each lane is a digit.
 #[inline(always)]
-#[tactic(auto, using(crate::proofs::LaneMarks::unmarked_are_digits))]
+#[tactic(auto, using(crate::proofs::lemmas::LaneMarks::unmarked_are_digits))]
 fn digit_marks<const N: usize, V: Vectors<N>>(v: Simd<u8, N>) -> Simd<u8, N>
     ensures { AllUnmarked result ↔ AllDigits v.entry }
 {
@@ -106,7 +103,7 @@ fn digit_marks<const N: usize, V: Vectors<N>>(v: Simd<u8, N>) -> Simd<u8, N>
 
 /// Whether every lane is a digit.
 #[inline(always)]
-#[tactic(auto, using(crate::proofs::LaneMarks::through))]
+#[tactic(auto, using(crate::proofs::lemmas::LaneMarks::through))]
 pub(crate) fn are_digits<const N: usize, V: Vectors<N>>(v: Simd<u8, N>) -> bool
     ensures { IsTrue result ↔ AllDigits v.entry }
 {
@@ -127,7 +124,7 @@ pub(crate) fn joint_marks<const N: usize, V: Vectors<N>>(
 /// The bytes that the text of two vectors spells, if each of its lanes is a digit. Otherwise they
 /// mean nothing.
 #[inline(always)]
-#[tactic(auto, using(crate::proofs::LaneBytes::merge_spells, crate::proofs::LaneMarks::values_of_parts))]
+#[tactic(auto, using(crate::proofs::lemmas::LaneBytes::merge_spells, crate::proofs::lemmas::LaneMarks::values_of_parts))]
 pub(crate) fn decode<const N: usize, V: Vectors<N>>(
     first: Simd<u8, N>,
     second: Simd<u8, N>,
@@ -139,7 +136,7 @@ pub(crate) fn decode<const N: usize, V: Vectors<N>>(
 
 /// As [`decode`], by [`unhex`], for a text that was tested before.
 #[inline(always)]
-#[tactic(auto, using(crate::proofs::LaneBytes::merge_spells))]
+#[tactic(auto, using(crate::proofs::lemmas::LaneBytes::merge_spells))]
 pub(crate) fn decode_digits<const N: usize, V: Vectors<N>>(
     first: Simd<u8, N>,
     second: Simd<u8, N>,

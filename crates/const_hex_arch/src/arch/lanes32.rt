@@ -5,11 +5,9 @@
 
 ghost use Rattle.std.specs.Prelude.{◌≡◌, ◌≤◌, ◌*◌, ◌↔◌, [], ◌∷◌, ◌++◌, length, map, IsTrue, false, IsNone, IfSome};
 ghost use Rattle.std.specs.List.{AllZip, concat};
-ghost use Rattle.std.specs.Str.{IsAscii};
 ghost use Rattle.const_hex_arch.specs.Digits.{hex_value};
 ghost use Rattle.const_hex_arch.specs.Lanes.{AllNibbles, low_digit, byte_pairs};
 ghost use Rattle.const_hex_arch.specs.Nibbles.{as_value, IsValueOf, IsLimitOf};
-ghost use Rattle.const_hex_arch.specs.Runs.{HasRoom};
 ghost use Rattle.const_hex_arch.specs.Texts.{hex_text, AllDigits, Spells};
 
 use crate::arch::lanes::{self, Vectors};
@@ -144,11 +142,14 @@ impl Kernel for Lanes32 {
 
 impl Vectors<32> for Lanes32 {
     #[inline(always)]
-    fn encode_step<O: Output>(bytes: &[u8], upper: bool, output: &mut O) {
+    fn encode(v: u8x32, upper: bool) -> [u8x32; 2]
+        ensures text { concat result ≡ hex_text upper v }
+        ensures lanes { map length result ≡ 32 ∷ 32 ∷ [] }
+    {
         if upper {
-            output.write(&encode_piece::<true>(bytes));
+            encode_chunk::<true>(v)
         } else {
-            output.write(&encode_piece::<false>(bytes));
+            encode_chunk::<false>(v)
         }
     }
 
@@ -184,52 +185,10 @@ fn low_digits<const UPPER: bool>(v: u8x32) -> u8x32
     u8x32::from_array(digits).swizzle_dyn_within::<16>(v & u8x32::splat(15))
 }
 
-/// The text of a step, as one piece.
-#[inline(always)]
-fn encode_piece<const UPPER: bool>(bytes: &[u8]) -> [u8; 64]
-    requires { length bytes.now ≡ 32 }
-    ensures text { result ≡ hex_text UPPER bytes.now }
-    ensures ascii { IsAscii result }
-{
-    let text = encode_chunk::<UPPER>(u8x32::from_slice(bytes));
-    let mut piece = [0; 64];
-    text[0].copy_to_slice(&mut piece[..32]);
-    text[1].copy_to_slice(&mut piece[32..]);
-    piece
-}
-
-/// The text of a step, in uppercase or lowercase.
-#[inline(always)]
-fn text_of(bytes: &[u8], upper: bool) -> [u8; 64]
-    requires { length bytes.now ≡ 32 }
-    ensures text { result ≡ hex_text upper bytes.now }
-    ensures ascii { IsAscii result }
-{
-    if upper {
-        encode_piece::<true>(bytes)
-    } else {
-        encode_piece::<false>(bytes)
-    }
-}
-
-/// Writes two digits for each of `H` to `2 * H` bytes, as one piece. The first `H` bytes and the last
-/// `H` share a vector.
-#[inline(always)]
-pub(crate) fn encode_ends<const H: usize, O: Output>(bytes: &[u8], upper: bool, output: &mut O)
-    requires half { (1 ≤ H) × (H ≤ 16) }
-    requires least { H ≤ length bytes.now }
-    requires most { length bytes.now ≤ 2 * H }
-    requires room { HasRoom (O.room output.old) (2 * length bytes.now) }
-    ensures { O.step output.old (hex_text upper bytes.now) output.new }
-{
-    let text = text_of(&lanes::ends::<H, 32>(bytes, 0), upper);
-    output.write_ends(&text[..2 * H], &text[2 * H..4 * H], 2 * bytes.len());
-}
-
 /// The bytes that the lanes of a text spell, and whether each of these lanes is a digit. If one is
 /// not, the bytes mean nothing.
 #[inline(always)]
-#[tactic(auto, using(crate::proofs::LaneMarks::through, crate::proofs::LaneText::concat_pair))]
+#[tactic(auto, using(crate::proofs::lemmas::LaneMarks::through, crate::proofs::lemmas::LaneText::concat_pair))]
 fn decode_flagged(text: [u8x32; 2]) -> (u8x32, bool)
     ensures digits { IsTrue result.1 ↔ AllDigits (concat text) }
     ensures spells { IsTrue result.1 → Spells (concat text) result.0 }

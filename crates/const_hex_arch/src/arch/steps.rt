@@ -1,13 +1,15 @@
 //! Kernels that work in steps of lanes, and then do the rest.
 
 ghost use Rattle.std.specs.Prelude.{◌≡◌, ◌+◌, ◌*◌, ◌<◌, ◌≤◌, ◌++◌, ◌↔◌, IsTrue, false, length, take, drop};
+ghost use Rattle.std.specs.Str.{IsAscii};
 ghost use Rattle.const_hex_arch.specs.Lanes.{AllUnmarked};
 ghost use Rattle.const_hex_arch.specs.Runs.{HasRoom, Writes};
 ghost use Rattle.const_hex_arch.specs.Texts.{hex_text, AllDigits, Spells, Partial};
 
 use crate::arch::lanes::{self, Vectors};
-use crate::arch::lanes16::{self, Lanes16};
-use crate::arch::{lanes32, short};
+use crate::arch::lanes16::Lanes16;
+use crate::arch::lanes32::Lanes32;
+use crate::arch::short;
 use crate::output::Output;
 use std::simd::prelude::*;
 
@@ -26,8 +28,8 @@ pub(crate) fn encode<const N: usize, V: Vectors<N>, O: Output>(
     while input.len() - at >= 2 * N {
         let middle = at + N;
         let end = middle + N;
-        V::encode_step(&input[at..middle], upper, output);
-        V::encode_step(&input[middle..end], upper, output);
+        encode_step::<N, V, O>(&input[at..middle], upper, output);
+        encode_step::<N, V, O>(&input[middle..end], upper, output);
         at = end;
     }
     encode_last::<N, V, O>(&input[at..], upper, output);
@@ -43,7 +45,7 @@ fn encode_last<const N: usize, V: Vectors<N>, O: Output>(input: &[u8], upper: bo
     let mut left = input;
     if left.len() >= N {
         let (bytes, rest) = left.split_at(N);
-        V::encode_step(bytes, upper, output);
+        encode_step::<N, V, O>(bytes, upper, output);
         left = rest;
     }
     encode_rest::<O>(left, upper, output);
@@ -71,18 +73,66 @@ fn encode_few<O: Output>(bytes: &[u8], upper: bool, output: &mut O)
     ensures { O.step output.old (hex_text upper bytes.now) output.new }
 {
     if bytes.len() == 1 {
-        lanes16::encode_ends::<1, O>(bytes, upper, output);
+        encode_ends::<1, 16, Lanes16, O>(bytes, upper, output);
     } else if bytes.len() > 16 {
-        lanes32::encode_ends::<16, O>(bytes, upper, output);
+        encode_ends::<16, 32, Lanes32, O>(bytes, upper, output);
     } else if bytes.len() == 16 {
-        Lanes16::encode_step(bytes, upper, output);
+        encode_step::<16, Lanes16, O>(bytes, upper, output);
     } else if bytes.len() >= 8 {
-        lanes16::encode_ends::<8, O>(bytes, upper, output);
+        encode_ends::<8, 16, Lanes16, O>(bytes, upper, output);
     } else if bytes.len() >= 4 {
-        lanes16::encode_ends::<4, O>(bytes, upper, output);
+        encode_ends::<4, 16, Lanes16, O>(bytes, upper, output);
     } else {
-        lanes16::encode_ends::<2, O>(bytes, upper, output);
+        encode_ends::<2, 16, Lanes16, O>(bytes, upper, output);
     }
+}
+
+/// Writes two digits for each of `H` to `2 * H` bytes, as one piece. The first `H` bytes and the last
+/// `H` share a vector.
+#[inline(always)]
+fn encode_ends<const H: usize, const N: usize, V: Vectors<N>, O: Output>(
+    bytes: &[u8],
+    upper: bool,
+    output: &mut O,
+)
+    requires half { (1 ≤ H) × (2 * H ≤ N) }
+    requires least { H ≤ length bytes.now }
+    requires most { length bytes.now ≤ 2 * H }
+    requires room { HasRoom (O.room output.old) (2 * length bytes.now) }
+    ensures { O.step output.old (hex_text upper bytes.now) output.new }
+{
+    let text = &text_of::<N, V>(&lanes::ends::<H, N>(bytes, 0), upper)[..2 * N];
+    output.write_ends(&text[..2 * H], &text[2 * H..4 * H], 2 * bytes.len());
+}
+
+/// Writes two digits for each byte of a step, as one piece.
+// With one write for both cases, the machine code for few bytes has three instructions more.
+#[inline(always)]
+fn encode_step<const N: usize, V: Vectors<N>, O: Output>(bytes: &[u8], upper: bool, output: &mut O)
+    requires size { length bytes.now ≡ N }
+    requires room { HasRoom (O.room output.old) (2 * N) }
+    ensures { O.step output.old (hex_text upper bytes.now) output.new }
+{
+    if upper {
+        output.write(&text_of::<N, V>(bytes, true)[..2 * N]);
+    } else {
+        output.write(&text_of::<N, V>(bytes, false)[..2 * N]);
+    }
+}
+
+/// An array that begins with the text of a step.
+#[inline(always)]
+fn text_of<const N: usize, V: Vectors<N>>(bytes: &[u8], upper: bool) -> [u8; 64]
+    requires { length bytes.now ≡ N }
+    ensures text { take (2 * N) result ≡ hex_text upper bytes.now }
+    ensures ascii { IsAscii (take (2 * N) result) }
+{
+    let digits = V::encode(Simd::from_slice(bytes), upper);
+    let mut text = [0; 64];
+    let place = &mut text[..];
+    digits[0].copy_to_slice(place);
+    digits[1].copy_to_slice(&mut place[N..]);
+    text
 }
 
 /// Checks an input of at least one step: four steps by one test while more than four are left, two if
@@ -245,7 +295,7 @@ pub(crate) fn check_step<const N: usize, V: Vectors<N>>(text: &[u8]) -> bool
 
 /// As `check_step`, for two steps that need not follow one another, by one test.
 #[inline(always)]
-#[tactic(auto, using(crate::proofs::LaneMarks::through, std::proofs::lemmas::List::take_all))]
+#[tactic(auto, using(crate::proofs::lemmas::LaneMarks::through, std::proofs::lemmas::List::take_all))]
 fn check_pair<const N: usize, V: Vectors<N>>(first: &[u8], second: &[u8]) -> bool
     requires first { length first.now ≡ N }
     requires second { length second.now ≡ N }
@@ -257,7 +307,7 @@ fn check_pair<const N: usize, V: Vectors<N>>(first: &[u8], second: &[u8]) -> boo
 
 /// As `check_step`, for the text of two steps, by one test.
 #[inline(always)]
-#[tactic(auto, using(crate::proofs::LaneMarks::through))]
+#[tactic(auto, using(crate::proofs::lemmas::LaneMarks::through))]
 fn check_two_steps<const N: usize, V: Vectors<N>>(text: &[u8]) -> bool
     requires { length text.now ≡ 2 * N }
     ensures { IsTrue result ↔ AllDigits text.now }
@@ -277,7 +327,7 @@ fn check_four_steps<const N: usize, V: Vectors<N>>(text: &[u8]) -> bool
 
 /// Marks of the text of two steps: there are none exactly if each byte is a digit.
 #[inline(always)]
-#[tactic(auto, using(crate::proofs::LaneBytes::in_two))]
+#[tactic(auto, using(crate::proofs::lemmas::LaneBytes::in_two))]
 fn marks_of_two_steps<const N: usize, V: Vectors<N>>(text: &[u8]) -> Simd<u8, N>
     requires { length text.now ≡ 2 * N }
     ensures { AllUnmarked result ↔ AllDigits text.now }
@@ -305,7 +355,7 @@ pub(crate) fn decode_step<const N: usize, V: Vectors<N>>(text: &[u8], output: &m
 
 /// As `decode_step`, for the text of two steps, by one test.
 #[inline(always)]
-#[tactic(auto, using(crate::proofs::Spelling::spelled, crate::proofs::Stepping::parts, std::proofs::lemmas::Simd::put_chunk_whole))]
+#[tactic(auto, using(crate::proofs::lemmas::Spelling::spelled, crate::proofs::lemmas::Steps::parts, std::proofs::lemmas::Simd::put_chunk_whole))]
 fn decode_two_steps<const N: usize, V: Vectors<N>>(text: &[u8], output: &mut [u8]) -> bool
     requires text { length text.now ≡ 4 * N }
     requires output { length output.old ≡ 2 * N }
@@ -328,7 +378,7 @@ fn decode_two_steps<const N: usize, V: Vectors<N>>(text: &[u8], output: &mut [u8
 /// The bytes that the text of a step spells.
 // The values are computed again here. The compiler reuses those of the test.
 #[inline(always)]
-#[tactic(auto, using(crate::proofs::LaneBytes::in_two))]
+#[tactic(auto, using(crate::proofs::lemmas::LaneBytes::in_two))]
 fn decoded<const N: usize, V: Vectors<N>>(text: &[u8]) -> Simd<u8, N>
     requires text { length text.now ≡ 2 * N }
     requires digits { AllDigits text.now }
@@ -339,7 +389,7 @@ fn decoded<const N: usize, V: Vectors<N>>(text: &[u8]) -> Simd<u8, N>
 
 /// Fills the output with the bytes that the digits of a step spell.
 #[inline(always)]
-#[tactic(auto, using(crate::proofs::LaneBytes::in_two, std::proofs::lemmas::Simd::put_chunk_whole))]
+#[tactic(auto, using(crate::proofs::lemmas::LaneBytes::in_two, std::proofs::lemmas::Simd::put_chunk_whole))]
 fn decode_digits_step<const N: usize, V: Vectors<N>>(text: &[u8], output: &mut [u8])
     requires text { length text.now ≡ 2 * N }
     requires output { length output.old ≡ N }

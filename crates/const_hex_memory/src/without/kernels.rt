@@ -1,9 +1,9 @@
 //! Calls by each kernel, and the kernels' own.
 
-use crate::counting::Counting;
 use crate::inputs::{BYTES, DATA, DIGITS, ODD, TEXT, bad_digits};
 use crate::line::tell_each;
 use const_hex::{BufferedHex, Kernel, SliceOutput, check_with, decode_to_slice_with, decode_with};
+use hex_testing::Counting;
 use std::alloc::Global;
 use std::io;
 

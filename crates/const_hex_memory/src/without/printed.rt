@@ -1,11 +1,11 @@
 //! What is printed: errors, characters, buffers, and texts of bytes.
 
-use crate::counting::Counting;
 use crate::inputs::{DATA, KIWI};
 use crate::line::{tell_each, tell_of};
 use const_hex::serde::JsonError;
 use const_hex::traits::{BytesToHexChars, HexFault};
 use const_hex::{Buffer, FromHexError, SinkError, const_encode, display};
+use hex_testing::{Counting, InHex};
 use std::alloc::AllocError;
 use std::fmt::Write;
 use std::{fmt, io};
@@ -66,20 +66,6 @@ pub(crate) fn tell_chars(rt: &impl Print) -> io::Result<()> {
         "BytesToHexChars, upper" => BytesToHexChars::<true>::new(KIWI).eq("6B697769".chars()),
     );
     Ok(())
-}
-
-/// Prints by `{:x}`, or if `UPPER` by `{:X}`, with the options of the hole.
-#[derive(Drop)]
-struct InHex<'a, const UPPER: bool>(&'a [u8]);
-
-impl<const UPPER: bool> fmt::Display for InHex<'_, UPPER> {
-    fn fmt<W: fmt::Write>(&self, f: &mut fmt::Formatter<W>) -> fmt::Result {
-        if UPPER {
-            fmt::UpperHex::fmt(&display(self.0), f)
-        } else {
-            fmt::LowerHex::fmt(&display(self.0), f)
-        }
-    }
 }
 
 /// The six forms of a few bytes, and the sizes of the six forms of many bytes.

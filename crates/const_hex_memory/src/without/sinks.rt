@@ -1,10 +1,10 @@
 //! Outputs, sinks and streams.
 
-use crate::counting::Counting;
 use crate::inputs::DATA;
 use crate::line::tell_each;
 use const_hex::serde::serialize_inner;
 use const_hex::{BufferedHex, BufferedOutput, Output, PieceSink, Sink, SinkOutput, SliceOutput};
+use hex_testing::Counting;
 use std::alloc::Global;
 use std::io;
 

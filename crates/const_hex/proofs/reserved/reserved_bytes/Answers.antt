@@ -1,4 +1,4 @@
-use Rattle.const_hex.proofs.Reserving.{reserved_text}
+use Rattle.const_hex.proofs.lemmas.Reserving.{reserved_text}
 use Rattle.const_hex.proofs.reserved.reserved_bytes.Goals as goal
 
 pub returns : goal.returns

@@ -1,8 +1,8 @@
 use Rattle.std.proofs.Common.{rules, ◌≡◌, sym, ◌∙◌, arith}
 use Rattle.const_hex_arch.specs.SliceOutputs.{slice_bytes}
 use Rattle.const_hex_arch.specs.Texts.{full_text}
-use Rattle.const_hex_arch.proofs.SliceRuns.{SliceStep-run, Placed-whole}
-use Rattle.const_hex_arch.proofs.Writing.{full_text_size, IsAscii-full_text}
+use Rattle.const_hex_arch.proofs.lemmas.SliceRuns.{SliceStep-run, Placed-whole}
+use Rattle.const_hex_arch.proofs.lemmas.Texts.{full_text_size, IsAscii-full_text}
 use Rattle.const_hex_arch.proofs.text.fill_text.Goals as goal
 
 pub returns-clause-text : goal.returns-clause-text

@@ -3,7 +3,7 @@ use Rattle.std.proofs.lemmas.Iterator.Splits.{YieldsList-from_lines}
 use Rattle.std.proofs.lemmas.Iterator.Consumers.{YieldsList-from_enumerate, YieldsList-turn, YieldsList-end}
 use Rattle.std.proofs.lemmas.List.FromFn.{length-enumerate_from}
 use Rattle.std.specs.Str.Lines.{lines}
-use Rattle.const_hex_uses.proofs.Lines.{item_at, fault_of, one_more}
+use Rattle.const_hex_uses.proofs.lemmas.Lines.{item_at, fault_of, one_more}
 use Rattle.const_hex_uses.specs.Settings.{HasValue, line_at}
 use Rattle.const_hex_uses.specs.declared.settings.LineFault.TheVariants.{NoSign}
 use Rattle.const_hex_uses.proofs.settings.first_fault.Goals as goal

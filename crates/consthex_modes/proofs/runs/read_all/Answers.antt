@@ -1,5 +1,5 @@
 use Rattle.std.proofs.Common.{◌≤◌, length, arith}
-use Rattle.const_hex.proofs.WriteSinks.{step_within}
+use Rattle.const_hex.proofs.lemmas.WriteSinks.{step_within}
 use Rattle.consthex_modes.proofs.Pieces.{read_step}
 use Rattle.consthex_modes.proofs.runs.read_all.Goals as goal
 

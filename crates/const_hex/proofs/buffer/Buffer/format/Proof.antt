@@ -1,6 +1,6 @@
 -- `format` hands on what `formatted_array` lends, as text.
 use Rattle.std.specs.Prelude.{false}
-use Rattle.const_hex.proofs.Walks.LentText.{array_input, numbers, layout_of, hands_on}
+use Rattle.const_hex.proofs.lemmas.Walks.LentText.{array_input, numbers, layout_of, hands_on}
 use Rattle.const_hex.specs.contracts.buffer.Buffer.format.Key.{name}
 use Rattle.const_hex.specs.contracts.buffer.Buffer.formatted_array.Key.{name as fills}
 use Rattle.const_hex.specs.contracts.buffer.Buffer.as_str.Key.{name as hands}

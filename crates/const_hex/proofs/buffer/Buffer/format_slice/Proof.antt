@@ -1,6 +1,6 @@
 -- `format_slice` hands on what `formatted` lends, as text.
 use Rattle.std.specs.Prelude.{false}
-use Rattle.const_hex.proofs.Walks.LentText.{slice_input, numbers, layout_of, hands_on}
+use Rattle.const_hex.proofs.lemmas.Walks.LentText.{slice_input, numbers, layout_of, hands_on}
 use Rattle.const_hex.specs.contracts.buffer.Buffer.format_slice.Key.{name}
 use Rattle.const_hex.specs.contracts.buffer.Buffer.formatted.Key.{name as fills}
 use Rattle.const_hex.specs.contracts.buffer.Buffer.as_str.Key.{name as hands}

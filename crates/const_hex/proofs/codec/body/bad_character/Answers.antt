@@ -1,7 +1,7 @@
 use Rattle.std.proofs.Common.{get_or, sym, arith}
 use Rattle.std.proofs.lemmas.List.{take_all}
 use Rattle.const_hex_arch.specs.Texts.{FirstBad}
-use Rattle.const_hex_arch.proofs.Spelling.{value_not_found}
+use Rattle.const_hex_arch.proofs.lemmas.Spelling.{value_not_found}
 use Rattle.const_hex.proofs.codec.body.bad_character.Goals as goal
 
 pub returns-then-value_at : goal.returns-then-value_at

@@ -1,4 +1,4 @@
-use Rattle.const_hex.proofs.RoundTrip.{round_trip}
+use Rattle.const_hex.proofs.lemmas.RoundTrip.{round_trip}
 use Rattle.const_hex.proofs.codec.decoders.decode_with.Goals as goal
 
 pub returns-clause-round_trip : goal.returns-clause-round_trip

@@ -1,4 +1,4 @@
-use Rattle.const_hex.proofs.WriteSinks.{streamed_text}
+use Rattle.const_hex.proofs.lemmas.WriteSinks.{streamed_text}
 use Rattle.const_hex.proofs.write_sink.WriteSink.write_hex.Goals as goal
 
 pub returns-clause-text : goal.returns-clause-text

@@ -1,5 +1,5 @@
 use Rattle.std.proofs.Common.{arith}
-use Rattle.const_hex_arch.proofs.LaneMarks.{joint_test}
+use Rattle.const_hex_arch.proofs.lemmas.LaneMarks.{joint_test}
 use Rattle.const_hex_arch.proofs.arch.lanes.joint_marks.Goals as goal
 
 pub returns : goal.returns

@@ -1,4 +1,4 @@
-use Rattle.const_hex_arch.proofs.LaneMarks.{marks_are}
+use Rattle.const_hex_arch.proofs.lemmas.LaneMarks.{marks_are}
 use Rattle.const_hex_arch.proofs.arch.lanes.marks.Goals as goal
 
 pub returns : goal.returns

@@ -1,4 +1,4 @@
-use Rattle.const_hex_arch.proofs.LaneValues.{nibbles_are}
+use Rattle.const_hex_arch.proofs.lemmas.LaneValues.{nibbles_are}
 use Rattle.const_hex_arch.proofs.arch.lanes.nibbles.Goals as goal
 
 pub returns : goal.returns

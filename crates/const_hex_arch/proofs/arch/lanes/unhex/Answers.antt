@@ -1,4 +1,4 @@
-use Rattle.const_hex_arch.proofs.LaneValues.{unhex_are}
+use Rattle.const_hex_arch.proofs.lemmas.LaneValues.{unhex_are}
 use Rattle.const_hex_arch.proofs.arch.lanes.unhex.Goals as goal
 
 pub returns : goal.returns

@@ -1,4 +1,4 @@
-use Rattle.const_hex_arch.proofs.LaneMarks.{parts_are, values_of_parts}
+use Rattle.const_hex_arch.proofs.lemmas.LaneMarks.{parts_are, values_of_parts}
 use Rattle.const_hex_arch.proofs.arch.lanes.values.Goals as goal
 
 pub returns : goal.returns

@@ -1,4 +1,4 @@
-use Rattle.const_hex_arch.proofs.LaneText.{interleaved_text}
+use Rattle.const_hex_arch.proofs.lemmas.LaneText.{interleaved_text}
 use Rattle.const_hex_arch.proofs.arch.lanes16.encode_chunk.Goals as goal
 
 pub returns-clause-text : goal.returns-clause-text

@@ -1,4 +1,4 @@
-use Rattle.const_hex_arch.proofs.LaneBytes.{join_are}
+use Rattle.const_hex_arch.proofs.lemmas.LaneBytes.{join_are}
 use Rattle.const_hex_arch.proofs.arch.lanes16.join.Goals as goal
 
 pub returns : goal.returns

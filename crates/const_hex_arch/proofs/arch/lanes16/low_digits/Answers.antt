@@ -2,8 +2,8 @@ use Rattle.std.proofs.Common.{refl, true, false, rules, ◌≡◌}
 use denote.Param.{number}
 use Rattle.const_hex_arch.specs.contracts.arch.lanes16.low_digits.{UPPER-type}
 use Rattle.const_hex_arch.specs.declared.tables.TheConstants.{HEX_CHARS_LOWER, HEX_CHARS_UPPER}
-use Rattle.const_hex_arch.proofs.LaneLookups.{masked_ok}
-use Rattle.const_hex_arch.proofs.LaneText.{low_digits_are}
+use Rattle.const_hex_arch.proofs.lemmas.LaneLookups.{masked_ok}
+use Rattle.const_hex_arch.proofs.lemmas.LaneText.{low_digits_are}
 use Rattle.const_hex_arch.proofs.arch.lanes16.low_digits.Goals as goal
 use Rattle.const_hex_arch.proofs.arch.lanes16.low_digits.Goals.{then-this-ne0, else-this-ne0}
 

@@ -1,4 +1,4 @@
-use Rattle.const_hex_arch.proofs.LaneBytes.{merge_all}
+use Rattle.const_hex_arch.proofs.lemmas.LaneBytes.{merge_all}
 use Rattle.const_hex_arch.proofs.arch.lanes32.packed.Goals as goal
 
 pub returns : goal.returns

@@ -1,6 +1,6 @@
 use Rattle.std.proofs.Common.{refl}
-use Rattle.const_hex_arch.proofs.Ends.{digits_ends}
-use Rattle.const_hex_arch.proofs.LaneMarks.{through}
+use Rattle.const_hex_arch.proofs.lemmas.Ends.{digits_ends}
+use Rattle.const_hex_arch.proofs.lemmas.LaneMarks.{through}
 use Rattle.const_hex_arch.proofs.arch.short.check_ends.Goals as goal
 
 pub returns : goal.returns

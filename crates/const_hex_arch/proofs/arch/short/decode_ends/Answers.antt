@@ -1,6 +1,6 @@
 use Rattle.std.proofs.Common.{◌≡◌, ◌-◌, ◌++◌, length, take, drop, ap, ◌∙◌, arith}
 use Rattle.std.proofs.lemmas.List.{take-take}
-use Rattle.const_hex_arch.proofs.Ends.{spells_ends}
+use Rattle.const_hex_arch.proofs.lemmas.Ends.{spells_ends}
 use Rattle.const_hex_arch.proofs.arch.short.decode_ends.Goals as goal
 
 pub returns-then-are_digits-clause-spells : goal.returns-then-are_digits-clause-spells

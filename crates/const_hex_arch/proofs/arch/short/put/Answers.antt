@@ -1,4 +1,4 @@
-use Rattle.const_hex_arch.proofs.Ends.{put_ends}
+use Rattle.const_hex_arch.proofs.lemmas.Ends.{put_ends}
 use Rattle.const_hex_arch.proofs.arch.short.put.Goals as goal
 
 pub returns : goal.returns

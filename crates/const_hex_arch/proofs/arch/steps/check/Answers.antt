@@ -1,5 +1,5 @@
 use Rattle.std.proofs.Common.{refl, arith}
-use Rattle.const_hex_arch.proofs.Stepping.{digits_step}
+use Rattle.const_hex_arch.proofs.lemmas.Steps.{digits_step}
 use Rattle.const_hex_arch.proofs.arch.steps.check.Goals as goal
 use Rattle.const_hex_arch.proofs.arch.steps.check.Goals.{then-input-at+else-not-check_two_steps, else-input-at}
 

@@ -1,8 +1,8 @@
 use Rattle.std.proofs.Common.{◌+◌, ◌-◌, length, take, drop, arith}
 use Rattle.std.proofs.lemmas.List.Elements.{All-take, All-drop}
 use Rattle.const_hex_arch.specs.Digits.{IsDigit}
-use Rattle.const_hex_arch.proofs.Spelling.{digits_append}
-use Rattle.const_hex_arch.proofs.Stepping.{digits_step, digits_last}
+use Rattle.const_hex_arch.proofs.lemmas.Spelling.{digits_append}
+use Rattle.const_hex_arch.proofs.lemmas.Steps.{digits_step, digits_last}
 use Rattle.const_hex_arch.proofs.arch.steps.check_last.Goals as goal
 
 pub returns-then-input-at : goal.returns-then-input-at

@@ -1,6 +1,6 @@
 use Rattle.std.proofs.Common.{◌*◌, refl, arith}
-use Rattle.const_hex_arch.proofs.Spelling.{false_is_true, Partial-after}
-use Rattle.const_hex_arch.proofs.Stepping.{IsDecoded, decoded_step, kept_step, refused_step}
+use Rattle.const_hex_arch.proofs.lemmas.Spelling.{false_is_true, Partial-after}
+use Rattle.const_hex_arch.proofs.lemmas.Steps.{IsDecoded, decoded_step, kept_step, refused_step}
 use Rattle.const_hex_arch.proofs.arch.steps.decode_checked.Goals as goal
 use Rattle.const_hex_arch.proofs.arch.steps.decode_checked.Goals.{else-loop-output-test, then-loop-output-test+then-not-decode_two_steps, then-output-at-ge16+else-not-decode_step-2, else-output-at-ge16}
 

@@ -1,5 +1,5 @@
 use Rattle.std.proofs.Common.{◌-◌, length}
-use Rattle.const_hex_arch.proofs.Stepping.{IsDecoded}
+use Rattle.const_hex_arch.proofs.lemmas.Steps.{IsDecoded}
 use Rattle.const_hex_arch.proofs.arch.steps.decode_checked.Given as goal
 
 abbrev pub invariant-loop-output : goal.invariant-loop-output

@@ -1,6 +1,6 @@
 use Rattle.std.proofs.Common.{◌-◌, ◌*◌, length, arith}
 use Rattle.std.proofs.lemmas.List.{take_all}
-use Rattle.const_hex_arch.proofs.Stepping.{decoded_less, spells_rest}
+use Rattle.const_hex_arch.proofs.lemmas.Steps.{decoded_less, spells_rest}
 use Rattle.const_hex_arch.proofs.arch.steps.decode_digits_last.Goals as goal
 
 pub returns-then-at-output : goal.returns-then-at-output

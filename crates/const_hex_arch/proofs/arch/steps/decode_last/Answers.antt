@@ -1,7 +1,7 @@
 use Rattle.std.proofs.Common.{◌≡◌, ◌-◌, length, take, ap, ◌∙◌, refl, arith}
 use Rattle.std.proofs.lemmas.Slice.{take-put_mid_below}
 use borrow.Rule.Slice.PartMut.{put_mid}
-use Rattle.const_hex_arch.proofs.Stepping.{IsDecoded, decoded_less, kept_step, spells_rest, partial_behind}
+use Rattle.const_hex_arch.proofs.lemmas.Steps.{IsDecoded, decoded_less, kept_step, spells_rest, partial_behind}
 use Rattle.const_hex_arch.proofs.arch.steps.decode_last.Goals as goal
 
 pub returns-then-decode_step-clause-spells : goal.returns-then-decode_step-clause-spells

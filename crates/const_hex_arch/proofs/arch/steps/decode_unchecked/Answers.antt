@@ -1,5 +1,5 @@
 use Rattle.std.proofs.Common.{arith}
-use Rattle.const_hex_arch.proofs.Stepping.{decoded_step}
+use Rattle.const_hex_arch.proofs.lemmas.Steps.{decoded_step}
 use Rattle.const_hex_arch.proofs.arch.steps.decode_unchecked.Goals as goal
 use Rattle.const_hex_arch.proofs.arch.steps.decode_unchecked.Goals.{then-output-at-ge16, else-output-at-ge16}
 

@@ -1,7 +1,7 @@
 use Rattle.std.proofs.Common.{◌+◌, ◌-◌, ◌*◌, length, arith}
 use Rattle.std.proofs.lemmas.List.{take_rest}
-use Rattle.const_hex_arch.proofs.Running.{HasRoom-fewer}
-use Rattle.const_hex_arch.proofs.Stepping.{none_written, written_step, written_rest}
+use Rattle.const_hex_arch.proofs.lemmas.Runs.{HasRoom-fewer}
+use Rattle.const_hex_arch.proofs.lemmas.Steps.{none_written, written_step, written_rest}
 use Rattle.const_hex_arch.proofs.arch.steps.encode.Goals as goal
 
 pub loop-at-init : goal.loop-at-init

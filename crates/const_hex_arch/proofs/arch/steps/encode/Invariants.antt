@@ -1,5 +1,5 @@
 use Rattle.std.proofs.Common.{◌-◌, length}
-use Rattle.const_hex_arch.proofs.Stepping.{IsWritten}
+use Rattle.const_hex_arch.proofs.lemmas.Steps.{IsWritten}
 use Rattle.const_hex_arch.proofs.arch.steps.encode.Given as goal
 
 abbrev pub invariant-loop-at : goal.invariant-loop-at

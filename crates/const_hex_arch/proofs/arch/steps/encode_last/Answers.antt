@@ -1,5 +1,5 @@
 use Rattle.std.proofs.Common.{arith}
-use Rattle.const_hex_arch.proofs.Stepping.{first_written, room_rest, written_rest}
+use Rattle.const_hex_arch.proofs.lemmas.Steps.{first_written, room_rest, written_rest}
 use Rattle.const_hex_arch.proofs.arch.steps.encode_last.Goals as goal
 use Rattle.const_hex_arch.proofs.arch.steps.encode_last.Goals.{then-left, else-left}
 

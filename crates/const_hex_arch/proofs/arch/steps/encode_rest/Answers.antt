@@ -1,7 +1,7 @@
 use Rattle.std.proofs.Common.{◌≡◌, [], arith}
 use Rattle.std.proofs.lemmas.List.{nil_from_length}
-use Rattle.const_hex_arch.proofs.Running.{Writes-none, one_written}
-use Rattle.const_hex_arch.proofs.Writing.{hex_text-nil, length-hex_text}
+use Rattle.const_hex_arch.proofs.lemmas.Runs.{Writes-none, one_written}
+use Rattle.const_hex_arch.proofs.lemmas.Texts.{hex_text-nil, length-hex_text}
 use Rattle.const_hex_arch.proofs.arch.steps.encode_rest.Goals as goal
 
 pub returns-then-rest-gt0 : goal.returns-then-rest-gt0

@@ -1,6 +1,6 @@
 use Rattle.std.proofs.Common.{rules}
 use Rattle.std.proofs.lemmas.List.{nil_from_length}
-use Rattle.const_hex_arch.proofs.Streaming.{Streams-one, Streams-none, Handed-of}
+use Rattle.const_hex_arch.proofs.lemmas.Streams.{Streams-one, Streams-none, Handed-of}
 use Rattle.const_hex_arch.proofs.stream.BufferedHex.write_whole.Goals as goal
 
 pub returns-then-is_empty : goal.returns-then-is_empty

@@ -1,7 +1,7 @@
 use Rattle.std.proofs.Common.{◌++◌, ◌∙◌, ap, take}
 use Rattle.std.proofs.lemmas.Fmt.{contents_after_writes}
 use Rattle.const_hex.specs.Messages.{message_of}
-use Rattle.const_hex_c.proofs.Wording.{some_weaker}
+use Rattle.const_hex_c.proofs.lemmas.Wording.{some_weaker}
 use Rattle.const_hex_c.proofs.words.Words.of.Goals as goal
 
 -- what was written stands behind the empty text

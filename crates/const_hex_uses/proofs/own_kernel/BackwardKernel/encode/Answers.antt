@@ -1,7 +1,7 @@
 use Rattle.std.proofs.Common.{◌≡◌, ◌*◌, length, ◌-◌, arith}
-use Rattle.const_hex_arch.proofs.Running.{HasRoom-fewer, Writes-none}
-use Rattle.const_hex_arch.proofs.Writing.{hex_text-nil}
-use Rattle.const_hex_uses.proofs.Backward.{pair_written, room_after_pair}
+use Rattle.const_hex_arch.proofs.lemmas.Runs.{HasRoom-fewer, Writes-none}
+use Rattle.const_hex_arch.proofs.lemmas.Texts.{hex_text-nil}
+use Rattle.const_hex_uses.proofs.lemmas.Backward.{pair_written, room_after_pair}
 use Rattle.const_hex_uses.proofs.own_kernel.BackwardKernel.encode.Goals as goal
 
 pub loop-byte-init : goal.loop-byte-init

@@ -1,5 +1,5 @@
 use Rattle.std.proofs.Common.{rules}
-use Rattle.const_hex.proofs.Printing.{printed_stream, written_at, false_from_not}
+use Rattle.const_hex.proofs.lemmas.Printing.{printed_stream, written_at, false_from_not}
 use Rattle.const_hex.proofs.formatting.text.Display.write_full.Goals as goal
 
 pub returns-in-Ok : goal.returns-in-Ok

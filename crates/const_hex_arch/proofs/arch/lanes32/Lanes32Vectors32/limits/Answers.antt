@@ -1,5 +1,5 @@
 use Rattle.const_hex_arch.specs.Nibbles.{IsLimitOf}
-use Rattle.const_hex_arch.proofs.LaneLookups.{by_halves}
+use Rattle.const_hex_arch.proofs.lemmas.LaneLookups.{by_halves}
 use Rattle.const_hex_arch.proofs.arch.lanes32.Lanes32Vectors32.limits.Goals as goal
 
 pub returns : goal.returns

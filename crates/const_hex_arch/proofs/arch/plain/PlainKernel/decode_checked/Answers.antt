@@ -1,5 +1,5 @@
 use Rattle.std.proofs.Common.{arith, ◌*◌, ◌+◌, get_or}
-use Rattle.const_hex_arch.proofs.Spelling.{value_found, value_not_found, refused_high, refused_low}
+use Rattle.const_hex_arch.proofs.lemmas.Spelling.{value_found, value_not_found, refused_high, refused_low}
 use Rattle.const_hex_arch.proofs.arch.plain.PlainKernel.decode_checked.Goals as goal
 use Rattle.const_hex_arch.proofs.arch.plain.PlainKernel.decode_checked.Goals.{then-high-via-then-high, then-high-via-else-high+then-low}
 

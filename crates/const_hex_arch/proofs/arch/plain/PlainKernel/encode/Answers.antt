@@ -1,6 +1,6 @@
 use Rattle.std.proofs.Common.{◌≡◌, length, ◌-◌, arith}
-use Rattle.const_hex_arch.proofs.Running.{Writes-none, Writes-more, room_after_two}
-use Rattle.const_hex_arch.proofs.Writing.{hex_text-nil, hex_text-more}
+use Rattle.const_hex_arch.proofs.lemmas.Runs.{Writes-none, Writes-more, room_after_two}
+use Rattle.const_hex_arch.proofs.lemmas.Texts.{hex_text-nil, hex_text-more}
 use Rattle.const_hex_arch.proofs.arch.plain.PlainKernel.encode.Goals as goal
 
 pub loop-b-init : goal.loop-b-init

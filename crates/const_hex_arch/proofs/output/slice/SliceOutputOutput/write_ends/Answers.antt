@@ -1,5 +1,5 @@
 use Rattle.std.proofs.Common.{◌∙◌}
-use Rattle.const_hex_arch.proofs.Ends.{Placed-ends}
+use Rattle.const_hex_arch.proofs.lemmas.Ends.{Placed-ends}
 use Rattle.const_hex_arch.proofs.output.slice.SliceOutputOutput.write_ends.Goals as goal
 
 pub returns : goal.returns

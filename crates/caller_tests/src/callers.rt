@@ -1,0 +1,217 @@
+//! What the small callers of `const_hex_uses` answer.
+
+use const_hex::{Buffer, FromHexError, JsonError, PieceSink, bytes_of};
+use const_hex_uses::accounts::is_same_account;
+use const_hex_uses::addresses::{address_text, digest_text, empty_text, prefixed_digest_text};
+use const_hex_uses::constants::{transfer, wrapped_ether};
+use const_hex_uses::files::{dump, write_text};
+use const_hex_uses::json_rpc::{code_of, code_request, explained};
+use const_hex_uses::readers::{read_both, read_twice};
+use const_hex_uses::settings::{LineFault, first_fault};
+use const_hex_uses::sinks::{packets, send};
+use const_hex_uses::store::{find, put};
+use const_hex_uses::writers::{array_text, string_text, vector_text};
+use hex_testing::{Source, Text, same, same_bytes};
+use serde_json::json;
+use std::boxed::BoxedSlice;
+use std::collections::HashMap;
+use std::io::ErrorKind;
+use std::process::Abort;
+use std::rc::Rc;
+use std::test::Fail;
+
+#[test]
+fn texts_without_memory(rt: HostRuntime) {
+    let upper = "0C0C0C0C0C0C0C0C0C0C0C0C0C0C0C0C0C0C0C0C0C0C0C0C0C0C0C0C0C0C0C0C";
+    let lower = "0x0c0c0c0c0c0c0c0c0c0c0c0c0c0c0c0c0c0c0c0c0c0c0c0c0c0c0c0c0c0c0c0c";
+    let address = "0xabababababababababababababababababababab";
+    lends(&rt, &address_text(&[0xAB; 20]), address);
+    lends(&rt, &digest_text(&[0x0C; 32]), upper);
+    lends(&rt, &prefixed_digest_text(&[0x0C; 32]), lower);
+    lends(&rt, &empty_text(), "0x");
+}
+
+fn lends<const N: usize, const PREFIX: bool, const LEN: usize>(
+    rt: &impl Abort,
+    buffer: &Buffer<N, PREFIX, LEN>,
+    text: &str,
+) {
+    same!(rt, "as_str", N; buffer.as_str(), text);
+    same_bytes!(rt, "as_bytes", N; buffer.as_bytes(), text.as_bytes());
+    same_bytes!(rt, "as_byte_array", N; buffer.as_byte_array(), text.as_bytes());
+}
+
+#[test]
+fn texts_of_each_type(rt: HostRuntime) -> Result<(), Fail> {
+    let alloc = rt.alloc();
+    let (vector, string) = (b"kiwi".to_vec(alloc)?, "jolly".to_string(alloc)?);
+    let rows = [
+        ("vector_text", vector_text(alloc, &vector)?, "6b697769"),
+        ("string_text", string_text(alloc, &string)?, "6A6F6C6C79"),
+        ("array_text", array_text(alloc, b"kiwi")?, "0x6b697769"),
+        ("array_text", array_text(alloc, &[])?, "0x"),
+    ];
+    for (call, text, want) in &rows {
+        same!(&rt, call, *want; text.as_str(), *want);
+    }
+    Ok(())
+}
+
+const LOWER: &[u8] = b"ff80";
+
+const UPPER: &[u8] = b"0XFF80";
+
+/// The two texts are read as the same value of each type.
+macro_rules! agree {
+    ($rt:ident: $($type:ty),+) => {$(
+        let (one, two) = read_both::<$type>($rt.alloc(), LOWER, UPPER)?;
+        same!(&$rt, "read_both", stringify!($type); one.as_slice(), two.as_slice());
+    )+};
+}
+
+#[test]
+fn two_texts(rt: HostRuntime) -> Result<(), Fail> {
+    agree!(rt: Vec<u8>, Vec<i8>, BoxedSlice<u8>, BoxedSlice<i8>, [u8; 2], [i8; 2], Box<[u8; 2]>);
+    let (one, two) = read_both::<Rc<Vec<u8>>>(rt.alloc(), LOWER, b"ff81")?;
+    assert!(rt; *one != *two);
+    let (list, array) = read_twice::<2>(rt.alloc(), UPPER)?;
+    assert_eq!(rt; list.as_slice(), array.as_slice());
+    let refusal = FromHexError::InvalidStringLength;
+    assert_eq!(rt; read_twice::<3>(rt.alloc(), UPPER).err(), Some(refusal));
+    Ok(())
+}
+
+#[test]
+fn accounts(rt: HostRuntime) -> Result<(), Fail> {
+    assert!(rt; is_same_account(rt.alloc(), &[b'a'; 40], &[b'A'; 40])?);
+    assert!(rt; !is_same_account(rt.alloc(), &[b'a'; 40], &[b'b'; 40])?);
+    Ok(())
+}
+
+#[test]
+fn store(rt: HostRuntime) -> Result<(), Fail> {
+    let alloc = rt.alloc();
+    let mut store = HashMap::new(alloc);
+    put(alloc, &mut store, b"0x6B69", 7)?;
+    assert_eq!(rt; find(alloc, &store, b"6b69")?, Some(7));
+    assert!(rt; find(alloc, &store, b"6b6a")?.is_none());
+    Ok(())
+}
+
+#[test]
+fn files_and_sinks(rt: HostRuntime) -> Result<(), Fail> {
+    let mut file = Vec::new(rt.alloc());
+    write_text(b"kiwi", &mut file)?;
+    assert_eq!(rt; Text(&file), Text(b"0x6b697769"));
+    let mut sink = PieceSink::new(rt.alloc(), 0);
+    send(b"kiwi", &mut sink)?;
+    assert_eq!(rt; sink.pieces().len(), 1);
+    assert_eq!(rt; sink.pieces()[0].as_str(), "0x6b697769");
+    Ok(())
+}
+
+#[test]
+fn pieces(rt: HostRuntime) -> Result<(), Fail> {
+    let bytes = [0xAB; 10_000];
+    let rows: [(usize, &[usize]); 2] = [
+        (5000, &[4034, 4096, 1872]),
+        (10_000, &[4034, 4096, 4096, 4096, 3680]),
+    ];
+    for (count, lengths) in rows {
+        let sink = packets(rt.alloc(), bytes.get(..count).unwrap_or(&[]))?;
+        let pieces: Vec<usize> = sink
+            .pieces()
+            .iter()
+            .map(|piece| piece.len())
+            .collect(rt.alloc())?;
+        same!(&rt, "packets", count; pieces.as_slice(), lengths);
+    }
+    Ok(())
+}
+
+#[test]
+fn lines_of_a_reader(rt: HostRuntime) -> Result<(), Fail> {
+    let mut file = Vec::new(rt.alloc());
+    dump(&mut b"0123456789abcdefgh".as_slice(), &mut file)?;
+    let lines = b"30313233343536373839616263646566\n6768\n".as_slice();
+    assert_eq!(rt; Text(&file), Text(lines));
+    let mut room = [0u8; 5];
+    assert!(rt; dump(&mut b"kiwi".as_slice(), &mut room.as_mut_slice()).is_err());
+    assert_eq!(rt; Text(&room), Text(b"6b697"));
+    Ok(())
+}
+
+// The reader hands out one byte per call. One call fails, or none if its number is 0.
+#[test]
+fn lines_of_short_and_failed_reads(rt: HostRuntime) {
+    let rows = [
+        (0, true, "6b\n69\n77\n69\n"),
+        (1, false, ""),
+        (3, false, "6b\n69\n"),
+        (5, false, "6b\n69\n77\n69\n"),
+    ];
+    for (fail_at, is_whole, lines) in rows {
+        let mut reader = Source::new(b"kiwi", fail_at, ErrorKind::Other);
+        let mut file = Vec::new(rt.alloc());
+        let done = dump(&mut reader, &mut file);
+        same!(&rt, "dump", fail_at; done.is_ok(), is_whole);
+        same_bytes!(&rt, "dump", fail_at; &file, lines.as_bytes());
+    }
+}
+
+#[test]
+fn constants(rt: HostRuntime) {
+    let ether = [
+        0xC0, 0x2A, 0xAA, 0x39, 0xB2, 0x23, 0xFE, 0x8D, 0x0A, 0x0E, 0x5C, 0x4F, 0x27, 0xEA, 0xD9,
+        0x08, 0x3C, 0x75, 0x6C, 0xC2,
+    ];
+    let topic = [
+        0xDD, 0xF2, 0x52, 0xAD, 0x1B, 0xE2, 0xC8, 0x9B, 0x69, 0xC2, 0xB0, 0x68, 0xFC, 0x37, 0x8D,
+        0xAA, 0x95, 0x2B, 0xA7, 0xF1, 0x63, 0xC4, 0xA1, 0x16, 0x28, 0xF5, 0x5A, 0x4D, 0xF5, 0x23,
+        0xB3, 0xEF,
+    ];
+    assert_eq!(rt; wrapped_ether(), ether);
+    assert_eq!(rt; transfer(), topic);
+    assert_eq!(rt; bytes_of::<4>(b"0X6B697769"), *b"kiwi");
+    assert!(rt; bytes_of::<0>(b"").is_empty());
+}
+
+#[test]
+fn settings(rt: HostRuntime) {
+    let rows = [
+        ("salt=6b69\nkey=6b!9", Some((2, Some(7)))),
+        ("salt", Some((1, None))),
+        ("salt=0x6B\nkey=\n", None),
+    ];
+    for (text, fault) in rows {
+        let found = first_fault(rt.alloc(), text).map(|f| (f.0, f.1.column()));
+        same!(&rt, "first_fault", text; found, fault);
+    }
+    assert_eq!(rt; first_fault(rt.alloc(), "a"), Some((1, LineFault::NoSign)));
+}
+
+#[test]
+fn requests(rt: HostRuntime) -> Result<(), Fail> {
+    let request = code_request(rt.alloc(), &[0xab; 20])?.to_string(rt.alloc())?;
+    let text =
+        "{\"id\":1,\"jsonrpc\":\"2.0\",\"method\":\"eth_getCode\",\"params\":[\"0xabababababababababababababababababababab\",\"latest\"]}";
+    assert_eq!(rt; request.as_str(), text);
+    let shown = explained(rt.alloc(), "0xzz", const_hex::check(b"0xzz").unwrap_err())?;
+    assert_eq!(rt; shown.as_str(), "0xzz\n  ^");
+    Ok(())
+}
+
+#[test]
+fn answers(rt: HostRuntime) -> Result<(), Fail> {
+    let answer = json!(in rt.alloc(); {"id": 1, "result": "0x6001"})?;
+    assert_eq!(rt;
+        code_of(rt.alloc(), &answer)?.as_slice(),
+        [0x60, 1].as_slice()
+    );
+    let answer = json!(in rt.alloc(); {"id": 1})?;
+    assert_eq!(rt;
+        code_of(rt.alloc(), &answer).err(),
+        Some(JsonError::NotText)
+    );
+    Ok(())
+}

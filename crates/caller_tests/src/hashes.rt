@@ -1,0 +1,160 @@
+//! Hashes and addresses, on examples.
+
+use const_hex::serde::JsonError;
+use const_hex::{FromHex, FromHexError};
+use hash_hex::{Address20, FixedBytes, Hash32};
+use hex_testing::{Text, same};
+use serde_json::{Value, json};
+use std::alloc::{AllocError, Global};
+use std::cmp::Ordering;
+use std::collections::HashSet;
+use std::fmt;
+use std::process::Abort;
+use std::test::Fail;
+
+const COUNTED: &str = "0x000102030405060708090a0b0c0d0e0f101112131415161718191a1b1c1d1e1f";
+
+/// The bytes 0 to 31.
+fn counted() -> [u8; 32] {
+    let mut bytes = [0; 32];
+    for byte in 0..32u8 {
+        bytes[usize::from(byte)] = byte;
+    }
+    bytes
+}
+
+/// The value prints that text by `{}`.
+fn prints<D: fmt::Display>(
+    rt: &impl Abort,
+    alloc: Global,
+    value: &D,
+    want: &str,
+) -> Result<(), AllocError> {
+    same!(rt, "{}", want; value.to_string(alloc)?.as_str(), want);
+    Ok(())
+}
+
+/// The value prints that text by `{:?}`.
+fn shows<D: fmt::Debug>(rt: &impl Abort, alloc: Global, value: &D, want: &str) -> Result<(), Fail> {
+    same!(rt, "{:?}", want; format!(in alloc; "{value:?}")?.as_str(), want);
+    Ok(())
+}
+
+#[test]
+fn texts_of_hashes(rt: HostRuntime) -> Result<(), Fail> {
+    let alloc = rt.alloc();
+    let hash = Hash32::from(counted());
+    prints(&rt, alloc, &hash, COUNTED)?;
+    assert_eq!(rt; hash.to_buffer().as_str(), COUNTED);
+    assert_eq!(rt; Hash32::from_hex(alloc, COUNTED.as_bytes()), Ok(hash));
+    let letters = Hash32::from_bytes([255; 32]);
+    assert_eq!(rt; Hash32::from_hex(alloc, &[b'F'; 64]), Ok(letters));
+    let lower = "0xffffffffffffffffffffffffffffffffffffffffffffffffffffffffffffffff";
+    prints(&rt, alloc, &letters, lower)?;
+    Ok(())
+}
+
+#[test]
+fn refused_texts(rt: HostRuntime) {
+    let refused: [(&[u8], FromHexError); 4] = [
+        (b"0x0", FromHexError::OddLength),
+        (b"0xzz", FromHexError::InvalidStringLength),
+        (
+            b"0x000102030405060708090a0b0c0d0e0f101112131415161718191a1b1c1d1e",
+            FromHexError::InvalidStringLength,
+        ),
+        (
+            b"0xzz00000000000000000000000000000000000000000000000000000000000000",
+            FromHexError::InvalidHexCharacter { c: 'z', index: 2 },
+        ),
+    ];
+    for (text, error) in refused {
+        let answer = Hash32::from_hex(rt.alloc(), text);
+        same!(&rt, "from_hex", Text(text); answer, Err(error));
+    }
+}
+
+// The first example of EIP-55. Its checksum, the case of letters, does not matter here.
+#[test]
+fn texts_of_addresses(rt: HostRuntime) -> Result<(), Fail> {
+    let alloc = rt.alloc();
+    let address = Address20::from_hex(alloc, b"0x5aAeb6053F3E94C9b9A09f33669435E7Ef1BeAed")?;
+    let lower = "0x5aaeb6053f3e94c9b9a09f33669435e7ef1beaed";
+    prints(&rt, alloc, &address, lower)?;
+    assert_eq!(rt; address.to_buffer().as_str(), lower);
+    for text in [lower, "5AAEB6053F3E94C9B9A09F33669435E7EF1BEAED"] {
+        let read = Address20::from_hex(alloc, text.as_bytes());
+        same!(&rt, "from_hex", text; read, Ok(address));
+    }
+    Ok(())
+}
+
+#[test]
+fn debug_forms(rt: HostRuntime) -> Result<(), Fail> {
+    let (alloc, pair) = (rt.alloc(), FixedBytes::from([1, 0xAB]));
+    let address = Address20::from_hex(alloc, b"0x5aAeb6053F3E94C9b9A09f33669435E7Ef1BeAed")?;
+    let text = "Address20(0x5aaeb6053f3e94c9b9a09f33669435e7ef1beaed)";
+    shows(&rt, alloc, &address, text)?;
+    let hash = "Hash32(0x000102030405060708090a0b0c0d0e0f101112131415161718191a1b1c1d1e1f)";
+    shows(&rt, alloc, &Hash32::from(counted()), hash)?;
+    shows(&rt, alloc, &pair, "FixedBytes(0x01ab)")
+}
+
+// The first byte that differs decides.
+#[test]
+fn order_of_values(rt: HostRuntime) {
+    let address = Address20::from([0xAB; 20]);
+    assert_eq!(rt; address.partial_cmp(&address), Some(Ordering::Equal));
+    ordered(&rt, address, Address20::from([0xAC; 20]));
+    let (mut low, mut high) = ([9; 20], [9; 20]);
+    (low[0], low[19], high[0], high[19]) = (1, 2, 2, 1);
+    ordered(&rt, Address20::from(low), Address20::from(high));
+    let (mut low, mut high) = ([9; 32], [9; 32]);
+    (low[0], low[31], high[0], high[31]) = (1, 2, 2, 1);
+    ordered(&rt, Hash32::from(low), Hash32::from(high));
+}
+
+fn ordered<T: Ord + Copy + fmt::Debug>(rt: &impl Abort, low: T, high: T) {
+    let answers = (low == high, low < high, low.cmp(&high), high.cmp(&low));
+    let want = (false, true, Ordering::Less, Ordering::Greater);
+    same!(rt, "==, <, cmp", low; answers, want);
+}
+
+#[test]
+fn sets_of_values(rt: HostRuntime) -> Result<(), Fail> {
+    let mut seen = HashSet::new(rt.alloc());
+    assert!(rt; seen.insert(Address20::from([0xAB; 20]))?);
+    let address = Address20::from_hex(rt.alloc(), b"aBaBaBaBaBaBaBaBaBaBaBaBaBaBaBaBaBaBaBaB")?;
+    assert!(rt; !seen.insert(address)?);
+    assert!(rt; !seen.contains(&Address20::from([0xAC; 20])));
+    Ok(())
+}
+
+#[test]
+fn json_values(rt: HostRuntime) -> Result<(), Fail> {
+    let alloc = rt.alloc();
+    let hash = Hash32::from(counted());
+    let value = hash.to_value(alloc)?;
+    assert_eq!(rt; value.as_str(), Some(COUNTED));
+    assert_eq!(rt; Hash32::from_value(alloc, &value), Ok(hash));
+    let address = Address20::from([7; 20]);
+    let value = address.to_value(alloc)?;
+    assert_eq!(rt; Address20::from_value(alloc, &value), Ok(address));
+    let other_length = JsonError::Hex(FromHexError::InvalidStringLength);
+    assert_eq!(rt; Hash32::from_value(alloc, &value), Err(other_length));
+    Ok(())
+}
+
+#[test]
+fn json_values_that_are_no_text(rt: HostRuntime) -> Result<(), Fail> {
+    let number = json!(in rt.alloc(); 5)?;
+    assert_eq!(rt;
+        Hash32::from_value(rt.alloc(), &number),
+        Err(JsonError::NotText)
+    );
+    assert_eq!(rt;
+        Address20::from_value(rt.alloc(), &Value::Null),
+        Err(JsonError::NotText)
+    );
+    Ok(())
+}

@@ -1,0 +1,262 @@
+//! The whole program, from its words to its exit status and its line on standard error.
+
+use consthex_modes::{Mode, USAGE, mode_of, program};
+use hex_testing::{Endless, Fault, Source, Target, Text, same, same_bytes};
+use std::alloc::{AllocError, Global};
+use std::cell::Cell;
+use std::env::{Env, FillError};
+use std::fmt::{self, Debug, Display};
+use std::io;
+use std::io::{Eprint, ErrorKind, Read, Write};
+use std::process::{Abort, ExitCode};
+use std::test::Fail;
+
+/// The words of a program, beginning with its name, and its standard error: the first 128 bytes that
+/// were printed, and how many were printed.
+#[derive(Drop)]
+struct Host<'a> {
+    words: &'a [&'a [u8]],
+    printed: Cell<([u8; 128], usize)>,
+    can_print: bool,
+}
+
+impl<'a> Host<'a> {
+    fn new(words: &'a [&'a [u8]], can_print: bool) -> Host<'a> {
+        Host {
+            words,
+            printed: Cell::new(([0; 128], 0)),
+            can_print,
+        }
+    }
+}
+
+impl Env for Host<'_> {
+    fn arg(&self, i: usize, buf: &mut [u8]) -> Result<usize, FillError> {
+        if i >= self.words.len() {
+            return Err(FillError::NotPresent);
+        }
+        let word = self.words[i];
+        if word.len() > buf.len() {
+            return Err(FillError::TooLong);
+        }
+        buf[..word.len()].copy_from_slice(word);
+        Ok(word.len())
+    }
+
+    fn var(&self, _name: &str, _buf: &mut [u8]) -> Result<usize, FillError> {
+        Err(FillError::NotPresent)
+    }
+
+    fn var_at(&self, _i: usize, _buf: &mut [u8]) -> Result<usize, FillError> {
+        Err(FillError::NotPresent)
+    }
+}
+
+impl Eprint for Host<'_> {
+    fn eprint<D: Display + Drop>(&self, value: D) -> io::Result<()> {
+        let (mut bytes, count) = self.printed.get();
+        let mut room = &mut bytes[count.min(128)..];
+        let _ = write!(room, "{value}");
+        let left = room.len();
+        self.printed.set((bytes, 128usize.saturating_sub(left)));
+        if self.can_print {
+            return Ok(());
+        }
+        Err(io::Error::from(ErrorKind::BrokenPipe))
+    }
+
+    fn eprintln<D: Display + Drop>(&self, value: D) -> io::Result<()> {
+        let _ = self.eprint(value);
+        self.eprint("\n")
+    }
+}
+
+const LONG_NAME: &[u8] = &[0xFF; 5000];
+
+const LONG_WORD: &[u8] = &[b'e'; 5000];
+
+const DECODE: &[&[u8]] = &[b"consthex", b"decode"];
+
+const ENCODE: &[&[u8]] = &[b"consthex", b"encode"];
+
+/// Words that print as texts.
+#[derive(Drop)]
+struct Words<'a>(&'a [&'a [u8]]);
+
+impl Debug for Words<'_> {
+    fn fmt<W: fmt::Write>(&self, f: &mut fmt::Formatter<W>) -> fmt::Result {
+        for word in self.0 {
+            write!(f, "{:?} ", Text(word))?;
+        }
+        Ok(())
+    }
+}
+
+/// The program on that host ends with that status, and prints that line.
+fn ends<R: Read>(
+    rt: &impl Abort,
+    alloc: Global,
+    host: Host<'_>,
+    input: &mut R,
+    output: &mut Target,
+    (status, line): (u8, &str),
+) {
+    let code = program(&(&host, alloc), input, output);
+    same!(rt, "program", Words(host.words); code, ExitCode::from(status));
+    let (bytes, count) = host.printed.get();
+    let printed = &bytes[..count.min(128)];
+    let line = (status != 0).then_some(Text(line.as_bytes()));
+    let shown = printed.strip_suffix(b"\n").map(|line| Text(line));
+    same!(rt, "standard error", Words(host.words); shown, line);
+    same!(rt, "standard error", Words(host.words); printed.is_empty(), (status == 0));
+}
+
+// The name of the program does not matter.
+#[test]
+fn words_that_name_a_mode(rt: HostRuntime) {
+    let rows: [(&[&[u8]], &[u8], &[u8]); 10] = [
+        (&[b"consthex", b"encode"], b"kiwi", b"6b697769\n"),
+        (&[b"\xff\xfe/consthex", b"encode"], b"kiwi", b"6b697769\n"),
+        (&[b"", b"encode"], b"kiwi", b"6b697769\n"),
+        (&[LONG_NAME, b"encode"], b"kiwi", b"6b697769\n"),
+        (&[b"check", b"encode"], b"kiwi", b"6b697769\n"),
+        (&[b"consthex", b"encode-upper"], b"kiwi", b"6B697769\n"),
+        (&[b"consthex", b"encode-prefixed"], b"kiwi", b"0x6b697769\n"),
+        (
+            &[b"consthex", b"encode-upper-prefixed"],
+            b"kiwi",
+            b"0x6B697769\n",
+        ),
+        (&[b"consthex", b"decode"], b"6b697769\n", b"kiwi"),
+        (&[b"consthex", b"check"], b"6b697769\n", b"ok\n"),
+    ];
+    for (words, input, answer) in rows {
+        answers(&rt, rt.alloc(), words, input, answer);
+    }
+}
+
+/// The program with these words writes that answer.
+fn answers(rt: &impl Abort, alloc: Global, words: &[&[u8]], input: &[u8], answer: &[u8]) {
+    let mut input = input;
+    let mut output = Target::new(alloc, 1, Fault::Nothing);
+    let host = Host::new(words, true);
+    ends(rt, alloc, host, &mut input, &mut output, (0, ""));
+    same_bytes!(rt, "program", Words(words); &output.taken, answer);
+}
+
+// It makes no difference if standard error fails.
+#[test]
+fn words_that_name_none(rt: HostRuntime) {
+    let rows: [(&[&[u8]], bool); 14] = [
+        (&[], true),
+        (&[b"consthex"], true),
+        (&[b"encode"], false),
+        (&[b"consthex", b""], true),
+        (&[b"consthex", b"encode\0"], false),
+        (&[b"consthex", b"encode", b""], true),
+        (&[b"consthex", b"encode", b"encode"], true),
+        (&[b"consthex", b"encode", b"\xff"], true),
+        (&[b"consthex", b"encode", LONG_WORD], false),
+        (&[b"consthex", b"encode", b"", b""], true),
+        (&[b"consthex", b"", b"encode"], false),
+        (&[b"consthex", b"\xff"], true),
+        (&[b"consthex", b"encode\xff"], true),
+        (&[b"consthex", LONG_WORD], true),
+    ];
+    for (words, can_print) in rows {
+        misused(&rt, rt.alloc(), words, can_print);
+    }
+}
+
+/// The program with these words ends with status 2, and reads and writes nothing.
+fn misused(rt: &impl Abort, alloc: Global, words: &[&[u8]], can_print: bool) {
+    let mut input = b"kiwi".as_slice();
+    let mut output = Target::new(alloc, 1, Fault::Nothing);
+    let host = Host::new(words, can_print);
+    ends(rt, alloc, host, &mut input, &mut output, (2, USAGE));
+    same_bytes!(rt, "what is left to read", Words(words); input, b"kiwi");
+    same!(rt, "writes, flushes", Words(words); (output.writes, output.flushes), (0, 0));
+}
+
+// A text that is refused, a failed read, and too long an input.
+#[test]
+fn statuses_and_lines(rt: HostRuntime) {
+    let alloc = rt.alloc();
+    let mut output = Target::new(alloc, 1, Fault::Nothing);
+    let (host, line) = (Host::new(DECODE, false), (1, "odd number of digits"));
+    let mut odd = b"0x1\n".as_slice();
+    ends(&rt, alloc, host, &mut odd, &mut output, line);
+    let (host, line) = (Host::new(ENCODE, true), (3, "read failed"));
+    let mut failing = Source::new(b"kiwi", 2, ErrorKind::Interrupted);
+    ends(&rt, alloc, host, &mut failing, &mut output, line);
+    let (host, line) = (Host::new(ENCODE, true), (3, "input too long"));
+    ends(&rt, alloc, host, &mut Endless, &mut output, line);
+    assert_eq!(rt; (output.writes, output.flushes), (0, 0));
+}
+
+// The reader of the output goes away: at a write, or only at the flush.
+#[test]
+fn statuses_of_failed_writes(rt: HostRuntime) {
+    let kind = ErrorKind::BrokenPipe;
+    for fault in [
+        Fault::Writes(1, 1, kind),
+        Fault::Writes(2, 2, kind),
+        Fault::Full(2),
+        Fault::Flush(kind),
+    ] {
+        let mut input = b"kiwi".as_slice();
+        let mut output = Target::new(rt.alloc(), 1, fault);
+        let host = Host::new(ENCODE, true);
+        let line = (3, "write failed");
+        ends(&rt, rt.alloc(), host, &mut input, &mut output, line);
+    }
+}
+
+#[test]
+fn six_words_name_a_mode(rt: HostRuntime) -> Result<(), Fail> {
+    let rows = [
+        ("encode", Mode::Encode),
+        ("encode-upper", Mode::EncodeUpper),
+        ("encode-prefixed", Mode::EncodePrefixed),
+        ("encode-upper-prefixed", Mode::EncodeUpperPrefixed),
+        ("decode", Mode::Decode),
+        ("check", Mode::Check),
+    ];
+    for (word, mode) in rows {
+        name(&rt, rt.alloc(), &[word], Some(mode))?;
+        name(&rt, rt.alloc(), &[word, word], None)?;
+    }
+    Ok(())
+}
+
+#[test]
+fn other_words_name_none(rt: HostRuntime) -> Result<(), Fail> {
+    for word in "|ENCODE|Decode|encode |encodes|--check|upper".split('|') {
+        name(&rt, rt.alloc(), &[word], None)?;
+    }
+    name(&rt, rt.alloc(), &[], None)?;
+    name(&rt, rt.alloc(), &["encode", "-upper"], None)?;
+    Ok(())
+}
+
+/// These words name that mode, or none.
+fn name(
+    rt: &impl Abort,
+    alloc: Global,
+    words: &[&str],
+    mode: Option<Mode>,
+) -> Result<(), AllocError> {
+    let mut strings = Vec::new(alloc);
+    for word in words {
+        strings.push(String::from_str(alloc, word)?)?;
+    }
+    same!(rt, "mode_of", words; mode_of(&strings), mode);
+    Ok(())
+}
+
+#[test]
+fn usage(rt: HostRuntime) {
+    let line =
+        "usage: consthex encode|encode-upper|encode-prefixed|encode-upper-prefixed|decode|check";
+    assert_eq!(rt; USAGE, line);
+}

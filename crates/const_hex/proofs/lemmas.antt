@@ -1,0 +1,9 @@
+pub mod Characters
+pub mod Fronts
+pub mod Lowering
+pub mod Printing
+pub mod Reading
+pub mod Reserving
+pub mod RoundTrip
+pub mod Walks
+pub mod WriteSinks

@@ -1,0 +1,38 @@
+-- Steps of an iterator over the characters of bytes.
+use mir.Val.{bool_byte}
+use Rattle.std.proofs.Common.{◌≡◌, ℕ, ◌+◌, ◌*◌, ◌/◌, ◌%◌, Bool, List, [], ◌∷◌, length, Option, Some, None, refl, arith}
+use Rattle.std.specs.Prelude.{is_some}
+use Rattle.std.specs.Iterator.{MakesProgress, item_count}
+use Rattle.const_hex_arch.specs.Digits.{hex_digit}
+use Rattle.const_hex_arch.specs.Texts.{hex_text}
+use Rattle.const_hex_arch.proofs.lemmas.Texts.{length-hex_text}
+use Rattle.const_hex.specs.Chars.{with_low}
+
+-- nothing is left
+pub left-none : (up : Bool) (low : Option ℕ) (u : List ℕ) → low ≡ None → length u ≡ 0 → with_low low (hex_text up u) ≡ []
+unfolding hex_text
+left-none up low [] h e = rw h refl
+left-none up low (b ∷ u) h e = absurd (omega (arith, e))
+
+-- one more byte is left
+pub left-more : (up : Bool) (low : Option ℕ) (t u : List ℕ) (b x y : ℕ) → low ≡ None → t ≡ b ∷ u
+    → x ≡ hex_digit up (b / 16) → y ≡ hex_digit up (b % 16)
+    → with_low low (hex_text up t) ≡ x ∷ y ∷ hex_text up u
+unfolding hex_text
+left-more up low t u b x y h e ex ey = rw (h, e, ex, ey) refl
+
+-- how many are left
+pub length-left : (up : Bool) (low : Option ℕ) (u : List ℕ) → length (with_low low (hex_text up u)) ≡ 2 * length u + bool_byte (is_some low)
+length-left up None u = let two = length-hex_text up u in omega (arith, two)
+length-left up (Some c) u = let two = length-hex_text up u in omega (arith, two)
+
+-- an item that was the first of those left
+pub goes : {S A : Type 0} (can : S → Type 0) (rest : S → List A) (s t : S) (x : A) → can t → rest s ≡ x ∷ rest t
+    → MakesProgress can (item_count rest) s (Some x) t
+goes can rest s t x ok e = record {
+  on = λ _. (ok, tt, rw e (omega arith));
+  keeps = ok;
+  rests = λ _. tt;
+}
+
+pub ruleset lefts = (left-none, left-more, length-left)

@@ -1,0 +1,50 @@
+-- Texts that are handed to a formatter in pieces.
+use Rattle.std.proofs.Common.{◌≡◌, ℕ, Bool, true, false, not, List, [], ◌∷◌, refl, sym, subst, ◌∙◌}
+use Rattle.std.specs.List.{concat}
+use Rattle.std.specs.Prelude.{Result}
+use Rattle.std.specs.Fmt.{IsFlush, HasWrittenStyled, WritesOnOk, WritesStyledOnOk, formatter_spec, spec_alternate}
+use Rattle.std.specs.declared.fmt.Error.{Error}
+use Rattle.std.specs.declared.fmt.Formatter.{Formatter}
+use Rattle.std.proofs.Output.{has_written_styled_nil, has_written_styled_append}
+use Rattle.const_hex_arch.specs.Streams.{Offers, Streams}
+use Rattle.const_hex_arch.specs.Texts.{hex_text, full_text}
+use Rattle.const_hex_arch.proofs.lemmas.Spelling.{false_is_true}
+use Rattle.const_hex_arch.proofs.lemmas.Streams.{Offers-accepting, Streams-all}
+use Rattle.const_hex.specs.declared.formatting.sink.FormatterSink.{FormatterSink}
+use Rattle.const_hex.specs.Formatting.{FormatterStep, sink_formatter}
+
+pub false_from_not : (b : Bool) → true ≡ not b → b ≡ false
+false_from_not true e = absurd (false_is_true (sym e))
+false_from_not false e = refl
+
+module _ {W : Type 0} (took : W → List ℕ → W → Type 0) where
+  -- if nothing failed, pieces are written as one
+  offered_text : (s : FormatterSink W) (ps : List (List ℕ)) (t : FormatterSink W) → t.failed ≡ false
+      → Offers (FormatterStep took) (λ x. x.failed) s ps t → FormatterStep took s (concat ps) t
+  offered_text s [] t e h =
+      subst (λ x. FormatterStep took s [] x) h (record { same_formatter = refl; writes = λ _ f. has_written_styled_nil took _ f })
+  offered_text s (p ∷ ps) t e (o, (m, h, k)) =
+      let rest = offered_text m ps t e k in record {
+        same_formatter = rest.same_formatter ∙ h.same_formatter;
+        writes = λ _ f.
+            let x = h.writes (Offers-accepting (FormatterStep took) (λ x. x.failed) m ps t e k) f in
+            has_written_styled_append took _ p _ (concat ps) _ x (rest.writes e x.flush);
+      }
+
+  -- the same for a stream
+  pub printed_stream : (s : FormatterSink W) (text : List ℕ) (t : FormatterSink W) → t.failed ≡ false
+      → Streams (FormatterStep took) (λ x. x.failed) s text t → FormatterStep took s text t
+  printed_stream s text t e h =
+      rw h.cut.whole at (offered_text s h.pieces t e (Streams-all (FormatterStep took) (λ x. x.failed) s text t e h))
+
+  -- the same for the formatters that the sinks begin and end with
+  pub written_at : (s : FormatterSink W) (text : List ℕ) (t : FormatterSink W) → t.failed ≡ false → FormatterStep took s text t
+      → (f : Formatter W) → sink_formatter s ≡ f → IsFlush f → (g : Formatter W) → g ≡ sink_formatter t → HasWrittenStyled took f text g
+  written_at s text t ok h f a p g e = rw (e, ← a) (h.writes ok (rw (← a) at p))
+
+  -- a formatter without options writes no prefix
+  pub plain_from_styled : (f : Formatter W) (r : Result (Unit {0}) Error) (up : Bool) (bs : List ℕ) (g : Formatter W)
+      → WritesStyledOnOk took f r (full_text (spec_alternate (formatter_spec f)) up bs) g → WritesOnOk took f r (hex_text up bs) g
+  plain_from_styled f r up bs g h p ok =
+      let x = h p.flush ok in
+      record { wrote = rw p.bare.alternate at x.wrote; plain = record { bare = rw x.spec p.bare; flush = x.flush } }

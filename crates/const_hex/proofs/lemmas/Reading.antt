@@ -1,0 +1,83 @@
+-- Each text has exactly one answer when it is read.
+use Rattle.std.proofs.Common.{◌≡◌, ℕ, ◌*◌, List, length, Result, Ok, Err, refl, ap, ◌∙◌, arith, eqb-true, eq-eqb}
+use Rattle.std.proofs.lemmas.Bool.{and_parts, and_from}
+use Rattle.std.proofs.lemmas.List.Sums.{AllPass-from_list_all, list_all-from_AllPass}
+use Rattle.std.specs.Prelude.{IsOk, IsTrue, ◌↔◌}
+use Rattle.const_hex_arch.specs.Texts.{Spells, AllDigits, FirstBad}
+use Rattle.const_hex_arch.proofs.lemmas.Spelling.{Spells-same, Spells-digits, Spells-some, FirstBad-same, digits_no_bad}
+use Rattle.const_hex.specs.Bodies.{body_of}
+use Rattle.const_hex.specs.Answers.{Reads, ReadsSized, Checks, IsEven, is_text_of}
+use Rattle.const_hex.specs.TypeLaws.{body-parity}
+use Rattle.const_hex.specs.declared.error.FromHexError.{FromHexError}
+use Rattle.const_hex.specs.declared.error.FromHexError.TheVariants.{OddLength, InvalidStringLength, InvalidHexCharacter, NoMemory}
+
+-- no text spells bytes and has a bad byte
+pub Spells-no_bad : (u bs : List ℕ) (p : ℕ) → Spells u bs → FirstBad u p → ⊥
+Spells-no_bad u bs p s f = digits_no_bad u p (Spells-digits u bs s) f
+
+-- no text is both read as bytes and refused
+pub Reads-not_both : (t bs : List ℕ) (e : FromHexError) → Reads t (Ok bs) → Reads t (Err e) → ⊥
+Reads-not_both t bs OddLength h k = omega (arith, h.0, k)
+Reads-not_both t bs InvalidStringLength h k = k
+Reads-not_both t bs (InvalidHexCharacter c i) h k = Spells-no_bad (body_of t) bs k.1.0 h.1 k.1.1
+Reads-not_both t bs NoMemory h k = k
+
+one_refusal : (t : List ℕ) (e f : FromHexError) → Reads t (Err e) → Reads t (Err f) → e ≡ f
+one_refusal t e f h k = grind (arith, FirstBad-same)
+
+-- a text that is read has one answer
+pub one_answer : (t : List ℕ) (r s : Result (List ℕ) FromHexError) → Reads t r → Reads t s → r ≡ s
+one_answer t (Ok a) (Ok b) h k = ap Ok (Spells-same (body_of t) a b h.1 k.1)
+one_answer t (Ok a) (Err f) h k = absurd (Reads-not_both t a f h k)
+one_answer t (Err e) (Ok b) h k = absurd (Reads-not_both t b e k h)
+one_answer t (Err e) (Err f) h k = ap Err (one_refusal t e f h k)
+
+sized_not_both : (t : List ℕ) (n : ℕ) (bs : List ℕ) (e : FromHexError) → ReadsSized t n (Ok bs) → ReadsSized t n (Err e) → ⊥
+sized_not_both t n bs OddLength h k = Reads-not_both t bs OddLength h.1 k
+sized_not_both t n bs InvalidStringLength h k = k.1 h.0
+sized_not_both t n bs (InvalidHexCharacter c i) h k = Reads-not_both t bs (InvalidHexCharacter c i) h.1 k.1
+sized_not_both t n bs NoMemory h k = k
+
+one_sized_refusal : (t : List ℕ) (n : ℕ) (e f : FromHexError) → ReadsSized t n (Err e) → ReadsSized t n (Err f) → e ≡ f
+one_sized_refusal t n e f h k = grind (arith, FirstBad-same)
+
+-- a text that is read as n bytes has one answer
+pub one_sized_answer : (t : List ℕ) (n : ℕ) (r s : Result (List ℕ) FromHexError) → ReadsSized t n r → ReadsSized t n s → r ≡ s
+one_sized_answer t n (Ok a) (Ok b) h k = one_answer t (Ok a) (Ok b) h.1 k.1
+one_sized_answer t n (Ok a) (Err f) h k = absurd (sized_not_both t n a f h k)
+one_sized_answer t n (Err e) (Ok b) h k = absurd (sized_not_both t n b e k h)
+one_sized_answer t n (Err e) (Err f) h k = ap Err (one_sized_refusal t n e f h k)
+
+-- a text that is checked has one answer
+pub one_check_answer : (t : List ℕ) (r s : Result Unit FromHexError) → Checks t r → Checks t s → r ≡ s
+one_check_answer t (Ok u) (Ok v) h k = refl
+one_check_answer t (Ok u) (Err f) h k = absurd (Reads-not_both t h.0 f h.1 k)
+one_check_answer t (Err e) (Ok v) h k = absurd (Reads-not_both t k.0 e k.1 h)
+one_check_answer t (Err e) (Err f) h k = ap Err (one_refusal t e f h k)
+
+-- ---- what the calls answer
+
+-- a text of digits with an even length is read as bytes
+pub Reads-digits : (t : List ℕ) → IsEven (length t) → AllDigits (body_of t) → (bs : List ℕ) × Reads t (Ok bs)
+Reads-digits t even a = let s = Spells-some (body_of t) (body-parity t ∙ even) a in (s.0, (even, s.1))
+
+-- ---- texts of n bytes
+
+-- what the test says about a text
+is_text-parts : (n : ℕ) (t : List ℕ) → IsTrue (is_text_of n t) → (length (body_of t) ≡ 2 * n) × AllDigits (body_of t)
+is_text-parts n t e = let p = and_parts _ _ e in (eqb-true _ _ p.0, AllPass-from_list_all _ (body_of t) p.1)
+
+-- and no text of n bytes is refused
+text_not_refused : (n : ℕ) (t : List ℕ) (e : FromHexError) → ReadsSized t n (Err e) → (length (body_of t) ≡ 2 * n) × AllDigits (body_of t) → ⊥
+text_not_refused n t OddLength h is = omega (arith, is.0, body-parity t, h)
+text_not_refused n t InvalidStringLength h is = h.1 is.0
+text_not_refused n t (InvalidHexCharacter c i) h is = digits_no_bad (body_of t) h.1.1.0 is.1 h.1.1.1
+text_not_refused n t NoMemory h is = h
+
+-- a text is read as n bytes exactly if the test says so
+pub sized_accepts : (n : ℕ) (t : List ℕ) (r : Result (List ℕ) FromHexError) → ReadsSized t n r → IsOk r ↔ IsTrue (is_text_of n t)
+sized_accepts n t (Ok bs) h =
+    (λ _. and_from _ _ (eq-eqb _ _ h.0) (list_all-from_AllPass _ (body_of t) (Spells-digits (body_of t) bs h.1.1)), λ _. refl)
+sized_accepts n t (Err e) h = (λ gone. absurd (cc gone), λ is. absurd (text_not_refused n t e h (is_text-parts n t is)))
+
+pub ruleset checked = (Reads-digits, Spells-no_bad)

@@ -1,0 +1,58 @@
+-- Text that was written is read again.
+use Rattle.std.proofs.Common.{◌≡◌, ℕ, ◌*◌, ◌/◌, ◌%◌, ◌<◌, ◌==◌, ◌&&◌, ◌||◌, Bool, true, false, List, [], ◌∷◌, length, Result, Ok, Err, refl, arith}
+use Rattle.std.specs.Prelude.{MatchResult, IfOk, IfErr, ◌≢◌}
+use Rattle.std.proofs.lemmas.Bool.Decides.{nat_tests}
+use Rattle.const_hex_arch.specs.Digits.{hex_digit}
+use Rattle.const_hex_arch.specs.Texts.{hex_text, full_text}
+use Rattle.const_hex_arch.proofs.lemmas.Texts.{Spells-hex_text, length-hex_text, length-full_text}
+use Rattle.const_hex.specs.Bodies.{body_of}
+use Rattle.const_hex.specs.Answers.{Reads, ReadsSized, IsEven, AreBytes}
+use Rattle.const_hex.specs.declared.error.FromHexError.{FromHexError}
+use Rattle.const_hex.specs.declared.error.FromHexError.TheVariants.{OddLength, InvalidStringLength, InvalidHexCharacter, NoMemory}
+use Rattle.const_hex.proofs.lemmas.Reading.{one_answer, one_sized_answer, Reads-not_both, sized_accepts}
+use Rattle.const_hex.proofs.lemmas.Lowering.{read_back}
+
+-- the second byte of a text is no `x`
+no_prefix : (up : Bool) (c v : ℕ) → v < 16 → ((c == 48) && (hex_digit up v == 120 || hex_digit up v == 88)) ≡ false
+no_prefix true c v h = grind (arith, nat_tests)
+no_prefix false c v h = grind (arith, nat_tests)
+
+-- the body of a full text is its text
+pub body-full_text : (prefix up : Bool) (bs : List ℕ) → body_of (full_text prefix up bs) ≡ hex_text up bs
+unfolding hex_text
+body-full_text true up bs = refl
+body-full_text false up [] = refl
+body-full_text false up (b ∷ bs) = rw (no_prefix up (hex_digit up (b / 16)) (b % 16) (omega arith)) refl
+
+even-full_text : (prefix up : Bool) (bs : List ℕ) → IsEven (length (full_text prefix up bs))
+even-full_text true up bs = let l = length-full_text true up bs in omega (arith, l)
+even-full_text false up bs = let l = length-full_text false up bs in omega (arith, l)
+
+-- what was written is read as its bytes
+pub Reads-full_text : (t : List ℕ) (prefix up : Bool) (bs : List ℕ) → AreBytes bs → t ≡ full_text prefix up bs → Reads t (Ok bs)
+Reads-full_text t prefix up bs h e = rw e (even-full_text prefix up bs, rw (body-full_text prefix up bs) (Spells-hex_text up bs h))
+
+-- so a decoder whose answer is the reader's, or no memory, gives these bytes
+pub round_trip : {V : Type 0} (items : V → List ℕ) (t : List ℕ) (r : Result V FromHexError)
+    → IfOk r (λ v. Reads t (Ok (items v))) → IfErr r (λ e. e ≢ NoMemory → Reads t (Err e))
+    → (prefix up : Bool) (bs : List ℕ) → AreBytes bs → t ≡ full_text prefix up bs
+    → MatchResult r (λ v. items v ≡ bs) (λ e. e ≡ NoMemory)
+round_trip items t r ok err prefix up bs h e = go r ok err (Reads-full_text t prefix up bs h e)
+  where
+    go : (r' : Result _ FromHexError) → IfOk r' (λ v. Reads t (Ok (items v))) → IfErr r' (λ e. e ≢ NoMemory → Reads t (Err e)) → Reads t (Ok bs)
+        → MatchResult r' (λ v. items v ≡ bs) (λ f. f ≡ NoMemory)
+    go (Ok v) ok err read = let same = one_answer t (Ok (items v)) (Ok bs) ok read in cc same
+    go (Err OddLength) ok err read = absurd (Reads-not_both t bs OddLength read (err (λ e. cc e)))
+    go (Err InvalidStringLength) ok err read = absurd (err (λ e. cc e))
+    go (Err (InvalidHexCharacter c i)) ok err read = absurd (Reads-not_both t bs (InvalidHexCharacter c i) read (err (λ e. cc e)))
+    go (Err NoMemory) ok err read = refl
+
+-- the text of n bytes is read as these bytes, and has no other answer
+pub sized_round_trip : (n : ℕ) (t : List ℕ) (r : Result (List ℕ) FromHexError) → ReadsSized t n r
+    → (prefix up : Bool) (bs : List ℕ) → AreBytes bs → length bs ≡ n → t ≡ full_text prefix up bs
+    → r ≡ Ok bs
+sized_round_trip n t r h prefix up bs bytes len e =
+    let twice : length (body_of t) ≡ 2 * n = rw (e, body-full_text prefix up bs, length-hex_text up bs, len) refl in
+    one_sized_answer t n r (Ok bs) h (twice, Reads-full_text t prefix up bs bytes e)
+
+pub ruleset sized = (sized_round_trip, sized_accepts, read_back)

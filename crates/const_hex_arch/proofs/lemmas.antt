@@ -1,0 +1,15 @@
+pub mod Ends
+pub mod Gathering
+pub mod LaneBytes
+pub mod LaneLookups
+pub mod LaneMarks
+pub mod LaneText
+pub mod LaneValues
+pub mod Runs
+pub mod SliceRuns
+pub mod Spelling
+pub mod Steps
+pub mod Streams
+pub mod Tables
+pub mod Texts
+pub mod Walks

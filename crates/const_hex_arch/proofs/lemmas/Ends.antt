@@ -1,0 +1,129 @@
+-- Texts and pieces by their first and their last bytes.
+use Rattle.std.proofs.Common.{◌≡◌, ℕ, ◌+◌, ◌-◌, ◌*◌, ◌≤◌, ◌↔◌, Bool, List, [], ◌∷◌, ◌++◌, length, take, drop, refl, sym, ap, ◌∙◌, arith, take-append-drop, drop-drop, length-take, length-drop, length-append}
+use Rattle.std.proofs.lemmas.Grind.{common_steps}
+use Rattle.std.proofs.lemmas.List.{append_assoc, take_all, take_at, take_rest, drop_at, drop-take, take-append-le}
+use Rattle.std.proofs.lemmas.List.Elements.{All-take, All-drop}
+use Rattle.std.proofs.Math.Seq.{take-append-add, drop-append-add}
+use Rattle.std.proofs.lemmas.Simd.{length-put_chunk, take_more_put_chunk}
+use lib.Lanes.{put_chunk}
+use Rattle.const_hex_arch.specs.Digits.{IsDigit}
+use Rattle.const_hex_arch.specs.SliceOutputs.{Placed}
+use Rattle.const_hex_arch.specs.Texts.{hex_text, AllDigits, Spells}
+use Rattle.const_hex_arch.proofs.lemmas.SliceRuns.{Placed-more}
+use Rattle.const_hex_arch.proofs.lemmas.Spelling.{digits_append, Spells-append, Spells-take, Spells-drop}
+use Rattle.const_hex_arch.proofs.lemmas.Steps.{digits_last}
+use Rattle.const_hex_arch.proofs.lemmas.Texts.{hex_text-append, length-hex_text}
+
+-- the text of the first k bytes
+take-hex_text : (up : Bool) (k : ℕ) (bs : List ℕ) → k ≤ length bs → take (2 * k) (hex_text up bs) ≡ hex_text up (take k bs)
+take-hex_text up k bs h =
+    let long : length (hex_text up (take k bs)) ≡ 2 * k = omega (arith, length-hex_text up (take k bs), length-take k bs) in
+    ap (take (2 * k)) (ap (hex_text up) (sym (take-append-drop k bs)) ∙ hex_text-append up (take k bs) (drop k bs)) ∙ take_at _ _ (2 * k) long
+
+-- the digits of the first h and of the last h bytes, where both share a step, are those of all
+pub ends_text : (up : Bool) (h : ℕ) (bs ends text first last : List ℕ) (count : ℕ) → h ≤ length bs → length bs ≤ 2 * h
+    → take (2 * h) ends ≡ take h bs ++ drop (length bs - h) bs → text ≡ hex_text up ends → first ≡ take (2 * h) text
+    → last ≡ take (2 * h) (drop (2 * h) text) → count ≡ 2 * length bs → take (count - length last) first ++ last ≡ hex_text up bs
+ends_text up h bs ends text first last count least most e t f l c =
+    let k = length bs - h in
+    let front = hex_text up (take h bs) in
+    let back = hex_text up (drop k bs) in
+    let rest = hex_text up (drop (2 * h) ends) in
+    let front_long : length front ≡ 2 * h = omega (arith, length-hex_text up (take h bs), length-take h bs) in
+    let back_long : length back ≡ 2 * h = omega (arith, length-hex_text up (drop k bs), length-drop k bs) in
+    let whole : ends ≡ take h bs ++ (drop k bs ++ drop (2 * h) ends) =
+    sym (take-append-drop (2 * h) ends) ∙ ap (λ x. x ++ drop (2 * h) ends) e ∙ append_assoc (take h bs) (drop k bs) (drop (2 * h) ends) in
+    let digits : text ≡ front ++ (back ++ rest) =
+    t ∙ ap (hex_text up) whole ∙ hex_text-append up (take h bs) _ ∙ ap (λ x. front ++ x) (hex_text-append up (drop k bs) (drop (2 * h) ends)) in
+    let first_is : first ≡ front = f ∙ ap (take (2 * h)) digits ∙ take_at front _ (2 * h) front_long in
+    let last_is : last ≡ back =
+    l ∙ ap (λ x. take (2 * h) (drop (2 * h) x)) digits ∙ ap (take (2 * h)) (drop_at front _ (2 * h) front_long) ∙ take_at back rest (2 * h) back_long in
+    let kept : take (2 * k) front ≡ hex_text up (take k (take h bs)) = take-hex_text up k (take h bs) (omega (arith, length-take h bs)) in
+    let same : take k (take h bs) ≡ take k bs = grind (arith, common_steps) in
+    let many : count - length back ≡ 2 * k = omega arith in
+    rw (first_is, last_is, many, kept, same) (sym (hex_text-append up (take k bs) (drop k bs)) ∙ ap (hex_text up) (take-append-drop k bs))
+
+-- ---- digits
+
+-- of what a step holds: the first and the last bytes of a list, and digits
+pub digits_ends : (n : ℕ) (u step : List ℕ) → n ≤ length u → length u ≤ 2 * n → take (2 * n) step ≡ take n u ++ drop (length u - n) u
+    → AllDigits (drop (2 * n) step) → AllDigits step ↔ AllDigits u
+digits_ends n u step h k e rest =
+    let start = length u - n in
+    let all = digits_append (take (2 * n) step) (drop (2 * n) step) in
+    let pair = digits_append (take n u) (drop start u) in (
+      λ d.
+          let both = pair.0 (rw e at (all.0 (rw take-append-drop d)).0) in
+          (digits_last u n start (omega arith) both.0).0 (rw (take_rest u start) both.1),
+      λ d. rw take-append-drop at (all.1 (rw e (pair.1 (All-take IsDigit n u d, All-drop IsDigit start u d)), rest)),
+    )
+
+-- a store of the first h bytes, and then of the last
+pub put_ends : (h : ℕ) (old first last : List ℕ) → length first ≡ h → length last ≡ h → h ≤ length old → length old ≤ 2 * h
+    → put_chunk (length old - h) (put_chunk 0 old first) last ≡ take (length old - h) first ++ last
+put_ends h old first last p q least most =
+    let start = length old - h in
+    let mid = put_chunk 0 old first in
+    let long = length-put_chunk 0 old first in
+    let all = length-put_chunk start mid last in
+    let front : take h mid ≡ first = take_more_put_chunk 0 old first h (omega (arith, p)) least in
+    let less : take start (take h mid) ≡ take start mid = grind (arith, common_steps) in
+    sym (take_all (length old) (put_chunk start mid last) (omega (arith, long, all)))
+    ∙ take_more_put_chunk start mid last (length old) (omega (arith, q)) (omega (arith, long))
+    ∙ ap (λ x. x ++ last) (sym less ∙ ap (take start) front)
+
+-- what the first d and the last d digits spell, put into place
+pub spells_ends : (h d n : ℕ) (u step bytes : List ℕ) → d ≡ 2 * h → length u ≡ 2 * n → h ≤ n → n ≤ 2 * h
+    → take (2 * d) step ≡ take d u ++ drop (length u - d) u → Spells step bytes → Spells u (take (n - h) (take h bytes) ++ take h (drop h bytes))
+spells_ends h d n u step bytes two long least most e s =
+    let start = length u - d in
+    let both = take d u ++ drop start u in
+    let wide : length (take d u) ≡ d = grind (arith, common_steps) in
+    let front : take start both ≡ take start u = grind (arith, common_steps) in
+    let back : drop d both ≡ drop start u = grind (arith, common_steps) in
+    let first : take (n - h) (take d bytes) ≡ take (n - h) (take h bytes) = grind (arith, common_steps) in
+    let last : drop h (take d bytes) ≡ take h (drop h bytes) = let twice : h + h ≡ d = omega arith in rw twice at (drop-take h h bytes) in
+    let spelled : Spells both (take d bytes) = rw e at (Spells-take step bytes d (2 * d) refl s) in
+    rw take-append-drop at (Spells-append _ _ _ _ (rw (front, first) at (Spells-take both (take d bytes) (n - h) start (omega arith) spelled))
+    (rw (back, last) at (Spells-drop both (take d bytes) h d two spelled)))
+
+-- ---- pieces of an output
+
+-- one piece, and then another that begins within it
+Placed-some : (old : List ℕ) (at : ℕ) (first mid : List ℕ) (m : ℕ) (last new : List ℕ) (end count : ℕ) → Placed old at first mid m
+    → Placed mid (m - (length first + length last - count)) last new end → length first ≡ length last → length last ≤ count → count ≤ 2 * length last
+    → 1 ≤ length first → Placed old at (take (count - length last) first ++ last) new end
+Placed-some old at first mid m last new end count h g same least most some =
+    let k = count - length last in
+    let b = h.bytes in
+    let e = h.end_at in
+    let f = g.end_at in
+    let sum = length-append (take at old ++ first) (drop m old) in
+    let part = length-append (take at old) first in
+    let long = ap length b in
+    let kept = h.same_length in
+    let within : m ≤ length old = omega (arith, sum, part, long, kept, length-take at old, length-drop m old) in
+    let short : length (take at old) ≡ at = omega (arith, length-take at old) in
+    let from : m - (length first + length last - count) ≡ length (take at old) + k = omega arith in
+    let past : end ≡ length (take at old ++ first) + (end - m) = omega (arith, part) in
+    let front : take (length (take at old) + k) mid ≡ take at old ++ take k first =
+    ap (take (length (take at old) + k)) (b ∙ append_assoc (take at old) first (drop m old)) ∙ take-append-add (take at old) (first ++ drop m old) k
+    ∙ ap (λ x. take at old ++ x) (take-append-le k first (drop m old) (omega arith)) in
+    let behind : drop end mid ≡ drop end old =
+    let q : m + (end - m) ≡ end = omega arith in
+    ap (drop end) b ∙ ap (λ n. drop n ((take at old ++ first) ++ drop m old)) past
+    ∙ drop-append-add (take at old ++ first) (drop m old) (end - m) ∙ drop-drop (end - m) m old ∙ ap (λ n. drop n old) q in record {
+      end_at = omega (arith, length-append (take k first) last, length-take k first);
+      same_length = g.same_length ∙ h.same_length;
+      bytes = g.bytes ∙ rw (from, front, behind) (ap (λ x. x ++ drop end old) (append_assoc (take at old) (take k first) last));
+    }
+
+pub Placed-ends : (old : List ℕ) (at : ℕ) (first mid : List ℕ) (m : ℕ) (last new : List ℕ) (end count : ℕ) → Placed old at first mid m
+    → Placed mid (m - (length first + length last - count)) last new end → length first ≡ length last → length last ≤ count → count ≤ 2 * length last
+    → Placed old at (take (count - length last) first ++ last) new end
+Placed-ends old at [] mid m last new end count h g same least most =
+    let stays : m - (0 + length last - count) ≡ m = omega arith in
+    let none : count - length last ≡ 0 = omega arith in
+    rw none (Placed-more old at [] mid m last new end h (rw stays at g))
+Placed-ends old at (x ∷ p) mid m last new end count h g same least most =
+    Placed-some old at (x ∷ p) mid m last new end count h g same least most (omega arith)

@@ -1,0 +1,194 @@
+-- Digits in a vector: their values and the test of each lane by one look-up, and the test of all
+-- lanes.
+use Rattle.std.proofs.Common.{◌≡◌, ℕ, zero, suc, ◌+◌, ◌-◌, ◌*◌, ◌/◌, ◌%◌, ◌<◌, ◌≤◌, ◌↔◌, Bool, true, false, not, eqb, cond, ltb, ◌||◌, T, List, [], ◌∷◌, ◌++◌, length, replicate, get_or, bit_and, bit_or, refl, subst, arith, w8, Fits, eqb-true, eq-eqb, IsTrue, Some}
+use Rattle.std.specs.List.{AllZip}
+use Rattle.std.specs.Int.{bit_at}
+use Rattle.std.specs.Option.{is_some}
+use Rattle.std.proofs.lemmas.List.Elements.{All-nil, All-head, All-tail, All-cons}
+use Rattle.std.proofs.lemmas.Nat.{le_or_l, le_or_r}
+use Rattle.std.proofs.lemmas.Nat.Bits.{bit_at_or}
+use Rattle.std.proofs.lemmas.Simd.{swz_l}
+use lib.Lanes.{zip2, sel_l, top, fold_l, Each1}
+use mir.Val.{zeroes}
+use Rattle.const_hex_arch.specs.Digits.{hex_value, IsDigit}
+use Rattle.const_hex_arch.specs.Lanes.{IsUnmarked, AllUnmarked}
+use Rattle.const_hex_arch.specs.Nibbles.{IsMarkOf, IsValueOf, IsPartOf, IsLimitOf}
+use Rattle.const_hex_arch.specs.Texts.{AllDigits}
+use Rattle.const_hex_arch.proofs.lemmas.Tables.{all_below, every_below}
+use Rattle.const_hex_arch.proofs.lemmas.LaneValues.{same_value, is_none, same_if_some, sub8, min_l}
+use Rattle.const_hex_arch.proofs.lemmas.Spelling.{digits_append}
+
+-- ---- tests that compute
+
+abbrev same_truth : Bool → Bool → Bool
+same_truth true b = b
+same_truth false b = not b
+
+same_truth-cases : (a b : Bool) → T (same_truth a b) → (a ≡ true) ↔ (b ≡ true)
+same_truth-cases true true t = (λ _. refl, λ _. refl)
+same_truth-cases true false t = absurd t
+same_truth-cases false true t = absurd t
+same_truth-cases false false t = (λ h. h, λ h. h)
+
+-- two tests that agree below 256
+agreed : (p q : ℕ → Bool) → T (all_below (λ x. same_truth (p x) (q x)) 256) → (x : ℕ) → x < 256 → (p x ≡ true) ↔ (q x ≡ true)
+agreed p q t x h = same_truth-cases (p x) (q x) (every_below (λ x. same_truth (p x) (q x)) 256 t x h)
+
+-- the bits that mark a lane
+abbrev mark_bits : ℕ → ℕ
+mark_bits z = bit_at z 7 + bit_at z 6 + bit_at z 4 + bit_at z 3
+
+-- ---- the limits of 16 lanes, by a table of the low halves
+
+abbrev less : ℕ → ℕ
+less b = (b + 208) % 256
+
+module _ (table : List ℕ) where
+  abbrev read : ℕ → ℕ → ℕ
+  read q j = cond (zeroes 16 w8 j) zero (get_or table (16 * q + j) zero)
+
+  abbrev limit : ℕ → ℕ
+  limit b = read 0 (bit_and b 143)
+
+  abbrev value_of : ℕ → ℕ
+  value_of b = cond (ltb (less b) (limit b)) (less b) (limit b)
+
+  abbrev mark_of : ℕ → ℕ
+  mark_of b = (less b + (256 - value_of b)) % 256
+
+  -- each of the 256 bytes
+  abbrev pub marks_are_right : Bool
+  marks_are_right = all_below (λ b. same_truth (eqb (mark_bits (mark_of b)) 0) (is_some (hex_value b))) 256
+
+  abbrev pub values_are_right : Bool
+  values_are_right = all_below (λ b. is_none (hex_value b) || same_value (hex_value b) (Some (value_of b))) 256
+
+  module _ (t : T marks_are_right) (u : T values_are_right) where
+    limit_at : (b : ℕ) → b < 256 → IsLimitOf b (limit b)
+    limit_at b h =
+        let same = agreed (λ b. eqb (mark_bits (mark_of b)) 0) (λ b. is_some (hex_value b)) t b h in
+        let right = every_below (λ b. is_none (hex_value b) || same_value (hex_value b) (Some (value_of b))) 256 u b h in (
+          λ d. same_if_some (hex_value b) (Some (value_of b)) right d,
+          (λ p. same.0 (eq-eqb (mark_bits (mark_of b)) 0 p), λ d. eqb-true (mark_bits (mark_of b)) 0 (same.1 d)),
+        )
+
+    -- from lane i on
+    limits_all : (i : ℕ) (v : List ℕ) → i + length v ≤ 16 → Each1 (Fits w8) v
+        → AllZip IsLimitOf v (swz_l w8 16 table i (zip2 bit_and v (replicate (length v) 143)))
+    limits_all i [] h f = tt
+    limits_all i (x ∷ xs) h f =
+        let first : zero ≡ i / 16 = omega arith in
+        (subst (λ q. IsLimitOf x (read q (bit_and x 143))) first (limit_at x f.0.fits), limits_all (suc i) xs (omega arith) f.1)
+
+    pub limits_are : (v : List ℕ) → (length v ≡ 16) × Each1 (Fits w8) v → AllZip IsLimitOf v (swz_l w8 16 table 0 (zip2 bit_and v (replicate 16 143)))
+    limits_are v f = subst (λ n. AllZip IsLimitOf v (swz_l w8 16 table 0 (zip2 bit_and v (replicate n 143)))) f.0 (limits_all 0 v (omega (arith, f.0)) f.1)
+
+-- ---- values at most the limit, and what they leave of a lane
+
+abbrev within : ℕ → ℕ → ℕ
+within x y = get_or (min_l (x ∷ []) (y ∷ [])) 0 0
+
+within_by : (x y : ℕ) (b : Bool) → cond b x y ≡ get_or (sel_l (top 7 (cond b 255 0) ∷ []) (x ∷ []) (y ∷ [])) 0 0
+within_by x y true = refl
+within_by x y false = refl
+
+within_is : (x y : ℕ) → cond (ltb x y) x y ≡ within x y
+within_is x y = within_by x y (ltb x y)
+
+abbrev less_l : ℕ → List ℕ → List ℕ
+less_l n v = zip2 sub8 v (replicate n 48)
+
+parts_all : (v t : List ℕ) → AllZip IsLimitOf v t → AllZip IsPartOf v (min_l (less_l (length v) v) t)
+parts_all [] [] z = tt
+parts_all [] (y ∷ t) z = absurd z
+parts_all (x ∷ v) [] z = absurd z
+parts_all (x ∷ v) (y ∷ t) z = (subst (IsPartOf x) (within_is (less x) y) z.0, parts_all v t z.1)
+
+pub parts_are : (n : ℕ) (v t : List ℕ) → length v ≡ n → AllZip IsLimitOf v t → AllZip IsPartOf v (min_l (less_l n v) t)
+parts_are n v t e z = subst (λ n. AllZip IsPartOf v (min_l (less_l n v) t)) e (parts_all v t z)
+
+pub values_of_parts : (v ns : List ℕ) → AllZip IsPartOf v ns → AllZip IsValueOf v ns
+values_of_parts [] [] z = tt
+values_of_parts [] (n ∷ ns) z = absurd z
+values_of_parts (x ∷ v) [] z = absurd z
+values_of_parts (x ∷ v) (n ∷ ns) z = (z.0.0, values_of_parts v ns z.1)
+
+marks_all : (v ns : List ℕ) → AllZip IsPartOf v ns → AllZip IsMarkOf v (zip2 sub8 (less_l (length v) v) ns)
+marks_all [] [] z = tt
+marks_all [] (n ∷ ns) z = absurd z
+marks_all (x ∷ v) [] z = absurd z
+marks_all (x ∷ v) (n ∷ ns) z = (z.0.1, marks_all v ns z.1)
+
+pub marks_are : (n : ℕ) (v ns : List ℕ) → length v ≡ n → AllZip IsPartOf v ns → AllZip IsMarkOf v (zip2 sub8 (less_l n v) ns)
+marks_are n v ns e z = subst (λ n. AllZip IsMarkOf v (zip2 sub8 (less_l n v) ns)) e (marks_all v ns z)
+
+-- ---- lanes have no mark if they stand for digits
+
+pub unmarked_are_digits : (v zs : List ℕ) → AllZip IsMarkOf v zs → AllUnmarked zs ↔ AllDigits v
+unmarked_are_digits [] [] z = (λ _. All-nil IsDigit, λ _. tt)
+unmarked_are_digits [] (n ∷ ns) z = absurd z
+unmarked_are_digits (b ∷ v) [] z = absurd z
+unmarked_are_digits (b ∷ v) (n ∷ ns) z =
+    let more = unmarked_are_digits v ns z.1 in
+    (λ a. All-cons IsDigit b v (z.0.0 a.0) (more.0 a.1), λ a. (z.0.1 (All-head IsDigit b v a), more.1 (All-tail IsDigit b v a)))
+
+-- a lane of two together
+both_unmarked : (y z : ℕ) → IsUnmarked (bit_or y z) ↔ (IsUnmarked y × IsUnmarked z)
+both_unmarked y z =
+    let seven = bit_at_or y z 7 in
+    let four = bit_at_or y z 4 in
+    let three = bit_at_or y z 3 in
+    let six = bit_at_or y z 6 in
+    (λ h. (omega (arith, seven, six, four, three, h), omega (arith, seven, six, four, three, h)), λ h. omega (arith, seven, six, four, three, h.0, h.1))
+
+all_unmarked : (ys zs : List ℕ) → length ys ≡ length zs → AllUnmarked (zip2 bit_or ys zs) ↔ (AllUnmarked ys × AllUnmarked zs)
+all_unmarked [] [] e = (λ h. (tt, tt), λ h. tt)
+all_unmarked [] (z ∷ zs) e = absurd (omega arith)
+all_unmarked (y ∷ ys) [] e = absurd (omega arith)
+all_unmarked (y ∷ ys) (z ∷ zs) e =
+    let here = both_unmarked y z in
+    let more = all_unmarked ys zs (omega arith) in
+    (λ h. (((here.0 h.0).0, (more.0 h.1).0), ((here.0 h.0).1, (more.0 h.1).1)), λ h. (here.1 (h.0.0, h.1.0), more.1 (h.0.1, h.1.1)))
+
+-- the marks of two texts joined, for the text of both
+pub joint_test : (ys zs t u : List ℕ) → length ys ≡ length zs → AllUnmarked ys ↔ AllDigits t → AllUnmarked zs ↔ AllDigits u
+    → AllUnmarked (zip2 bit_or ys zs) ↔ AllDigits (t ++ u)
+joint_test ys zs t u e first second =
+    let both = all_unmarked ys zs e in
+    let parts = digits_append t u in
+    (λ h. parts.1 (first.0 (both.0 h).0, second.0 (both.0 h).1), λ d. both.1 (first.1 (parts.0 d).0, second.1 (parts.0 d).1))
+
+-- ---- one test of all lanes
+
+abbrev marked : ℕ → ℕ
+marked x = bit_and x 216
+
+unmarked_at : (x : ℕ) → x < 256 → (marked x ≡ 0) ↔ IsUnmarked x
+unmarked_at x h =
+    let same = agreed (λ x. eqb (marked x) 0) (λ x. eqb (mark_bits x) 0) tt x h in
+    (λ e. eqb-true (mark_bits x) 0 (same.0 (eq-eqb (marked x) 0 e)), λ p. eqb-true (marked x) 0 (same.1 (eq-eqb (mark_bits x) 0 p)))
+
+unmarked_fold : (a : ℕ) (xs : List ℕ) → Each1 (Fits w8) xs → (fold_l bit_or a (zip2 bit_and xs (replicate (length xs) 216)) ≡ 0) ↔ ((a ≡ 0) × AllUnmarked xs)
+unmarked_fold a [] f = (λ e. (e, tt), λ h. h.0)
+unmarked_fold a (x ∷ xs) f =
+    let one = unmarked_at x f.0.fits in
+    let more = unmarked_fold (bit_or a (marked x)) xs f.1 in (
+      λ e.
+          let none = (more.0 e).0 in
+          (omega (arith, none, le_or_l a (marked x)), (one.0 (omega (arith, none, le_or_r a (marked x))), (more.0 e).1)),
+      λ h. let none : marked x ≡ 0 = one.1 h.1.0 in more.1 (rw (none, h.0) refl, h.1.1),
+    )
+
+pub are_unmarked : (n : ℕ) (xs : List ℕ) → (length xs ≡ n) × Each1 (Fits w8) xs
+    → IsTrue (eqb (fold_l bit_or 0 (zip2 bit_and xs (replicate n 216))) 0) ↔ AllUnmarked xs
+are_unmarked n xs f =
+    let all = unmarked_fold 0 xs f.1 in
+    let joined = λ (n : ℕ). fold_l bit_or 0 (zip2 bit_and xs (replicate n 216)) in
+    let none : zero ≡ 0 = refl in
+    subst (λ n. IsTrue (eqb (joined n) 0) ↔ AllUnmarked xs) f.0
+    (λ t. (all.0 (eqb-true (joined (length xs)) 0 t)).1, λ a. eq-eqb (joined (length xs)) 0 (all.1 (none, a)))
+
+-- ---- one condition through another
+
+pub through : {A B C : Type 0} → A ↔ B → B ↔ C → A ↔ C
+through p q = (λ a. q.0 (p.0 a), λ c. p.1 (q.1 c))

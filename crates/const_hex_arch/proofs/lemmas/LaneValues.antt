@@ -1,0 +1,117 @@
+-- The values of digits, in vectors of any number of lanes.
+use Rattle.std.proofs.Common.{◌≡◌, ℕ, zero, suc, ◌+◌, ◌-◌, ◌%◌, ◌^◌, ◌<◌, ◌≤◌, Bool, true, false, cond, eqb, ltb, T, ◌||◌, List, [], ◌∷◌, map, length, replicate, drop, get_or, bit_and, refl, ap, subst, arith, w8, Fits, Option, Some, None, IsSome, eqb→eq}
+use Rattle.std.specs.List.{AllZip}
+use Rattle.std.proofs.lemmas.Bool.Decides.{nat_tests}
+use Rattle.std.proofs.lemmas.List.Elements.{All-head, All-tail}
+use lib.Lanes.{zip2, sel_l, top, Each1}
+use Rattle.const_hex_arch.specs.Digits.{hex_value, IsDigit}
+use Rattle.const_hex_arch.specs.Texts.{AllDigits}
+use Rattle.const_hex_arch.specs.Lanes.{AllNibbles}
+use Rattle.const_hex_arch.specs.Nibbles.{as_value, IsValueOf}
+use Rattle.const_hex_arch.proofs.lemmas.Tables.{every_below}
+use Rattle.const_hex_arch.proofs.lemmas.Spelling.{false_is_true, hex_value-small}
+
+-- ---- values that are compared by computing
+
+abbrev pub same_value : Option ℕ → Option ℕ → Bool
+same_value None None = true
+same_value None (Some b) = false
+same_value (Some a) None = false
+same_value (Some a) (Some b) = eqb a b
+
+pub same_value-true : (o p : Option ℕ) → T (same_value o p) → o ≡ p
+same_value-true None None t = refl
+same_value-true None (Some b) t = absurd t
+same_value-true (Some a) None t = absurd t
+same_value-true (Some a) (Some b) t = ap Some (eqb→eq a b t)
+
+abbrev pub is_none : Option ℕ → Bool
+is_none None = true
+is_none (Some v) = false
+
+pub same_if_some : (o p : Option ℕ) → T (is_none o || same_value o p) → IsSome o → o ≡ p
+same_if_some None p t s = absurd (false_is_true s)
+same_if_some (Some v) p t s = same_value-true (Some v) p t
+
+pub cons_same : {A : Type 0} {x y : A} {xs ys : List A} → x ≡ y → xs ≡ ys → ◌≡◌ {A = List A} (x ∷ xs) (y ∷ ys)
+cons_same e f = rw (e, f) refl
+
+-- ---- the operations on a vector
+
+abbrev pub add8 : ℕ → ℕ → ℕ
+add8 a b = (a + b) % 2 ^ 8
+
+abbrev pub sub8 : ℕ → ℕ → ℕ
+sub8 a b = (a + (2 ^ 8 - b)) % 2 ^ 8
+
+abbrev pub below_mask : ℕ → ℕ → ℕ
+below_mask a b = cond (ltb a b) 255 0
+
+abbrev pub min_l : List ℕ → List ℕ → List ℕ
+min_l xs ys = sel_l (map (top 7) (zip2 below_mask xs ys)) xs ys
+
+abbrev pub satsub_l : List ℕ → List ℕ → List ℕ
+satsub_l xs ys = zip2 sub8 (sel_l (map (top 7) (zip2 below_mask xs ys)) ys xs) ys
+
+-- what `nibbles` computes of n lanes
+abbrev pub nibbles_l : ℕ → List ℕ → List ℕ
+nibbles_l n v =
+    min_l (zip2 sub8 (satsub_l (zip2 add8 v (replicate n 198)) (replicate n 6)) (replicate n 240))
+    (zip2 add8 (min_l (zip2 sub8 (zip2 bit_and v (replicate n 223)) (replicate n 65)) (replicate n 245)) (replicate n 10))
+
+-- what `unhex` computes of n lanes
+abbrev pub unhex_l : ℕ → List ℕ → List ℕ
+unhex_l n v = zip2 add8 (zip2 bit_and v (replicate n 15)) (sel_l (map (top 7) (zip2 below_mask (replicate n 64) v)) (replicate n 9) (replicate n 0))
+
+-- ---- one lane: each of the 256 values is computed
+
+abbrev value_in : List ℕ → Option ℕ
+value_in [] = None
+value_in (x ∷ xs) = as_value x
+
+nibble_at : (b : ℕ) → b < 256 → value_in (nibbles_l 1 (b ∷ [])) ≡ hex_value b
+nibble_at b h = same_value-true _ _ (every_below (λ b. same_value (value_in (nibbles_l 1 (b ∷ []))) (hex_value b)) 256 tt b h)
+
+abbrev first_in : List ℕ → Option ℕ
+first_in [] = None
+first_in (x ∷ xs) = Some x
+
+unhex_at : (b : ℕ) → b < 256 → IsDigit b → hex_value b ≡ first_in (unhex_l 1 (b ∷ []))
+unhex_at b h s = same_if_some _ _ (every_below (λ b. is_none (hex_value b) || same_value (hex_value b) (first_in (unhex_l 1 (b ∷ [])))) 256 tt b h) s
+
+-- ---- all lanes
+
+nibbles_all : (v : List ℕ) → Each1 (Fits w8) v → map as_value (nibbles_l (length v) v) ≡ map hex_value v
+nibbles_all [] f = refl
+nibbles_all (x ∷ xs) f = cons_same (nibble_at x f.0.fits) (nibbles_all xs f.1)
+
+unhex_all : (v : List ℕ) → Each1 (Fits w8) v → AllZip IsValueOf v (unhex_l (length v) v)
+unhex_all [] f = tt
+unhex_all (x ∷ xs) f = (unhex_at x f.0.fits, unhex_all xs f.1)
+
+pub nibbles_are : (n : ℕ) (v : List ℕ) → (length v ≡ n) × Each1 (Fits w8) v → map as_value (nibbles_l n v) ≡ map hex_value v
+nibbles_are n v f = subst (λ n. map as_value (nibbles_l n v) ≡ map hex_value v) f.0 (nibbles_all v f.1)
+
+pub unhex_are : (n : ℕ) (v : List ℕ) → (length v ≡ n) × Each1 (Fits w8) v → AllZip IsValueOf v (unhex_l n v)
+unhex_are n v f = subst (λ n. AllZip IsValueOf v (unhex_l n v)) f.0 (unhex_all v f.1)
+
+-- the values of digits
+one_value : (b n : ℕ) → hex_value b ≡ Some n → as_value n ≡ hex_value b
+one_value b n e = let small = hex_value-small b n e in grind (arith, nat_tests)
+
+pub values_of_digits : (v ns : List ℕ) → AllZip IsValueOf v ns → AllDigits v → map as_value ns ≡ map hex_value v
+values_of_digits [] [] z d = refl
+values_of_digits [] (n ∷ ns) z d = absurd z
+values_of_digits (b ∷ v) [] z d = absurd z
+values_of_digits (b ∷ v) (n ∷ ns) z d =
+    cons_same (one_value b n (z.0 (All-head IsDigit b v d))) (values_of_digits v ns z.1 (All-tail IsDigit b v d))
+
+one_small : (n x : ℕ) → as_value n ≡ hex_value x → IsDigit x → n ≤ 15
+one_small n x e = rw (← e) (λ s. grind (arith, nat_tests))
+
+-- the values of digits are small
+pub small_values : (ns v : List ℕ) → map as_value ns ≡ map hex_value v → AllDigits v → AllNibbles ns
+small_values [] v e d = tt
+small_values (n ∷ ns) [] e d = absurd (let q : suc (length (map as_value ns)) ≡ zero = ap length e in omega arith)
+small_values (n ∷ ns) (x ∷ v) e d =
+    (one_small n x (ap (λ l. get_or l 0 None) e) (All-head IsDigit x v d), small_values ns v (ap (drop 1) e) (All-tail IsDigit x v d))

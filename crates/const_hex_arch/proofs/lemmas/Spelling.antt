@@ -1,0 +1,309 @@
+-- What texts spell.
+use Rattle.std.proofs.Common.{◌≡◌, ℕ, zero, suc, ◌+◌, ◌-◌, ◌*◌, ◌/◌, ◌%◌, ◌<◌, ◌≤◌, ◌≢◌, ◌↔◌, eqb, eqb→eq, List, [], ◌∷◌, ◌++◌, length, take, drop, get_or, set, slice_index, false, ◌⊎◌, Option, Some, None, IsSome, IsNone, inl, inr, refl, sym, ap, subst, ◌∙◌, arith, take-add, drop-drop, length-take}
+use Rattle.std.specs.Prelude.{unwrap_or}
+use Rattle.std.proofs.lemmas.Bool.{cases_lt}
+use Rattle.std.proofs.lemmas.Bool.Decides.{nat_tests}
+use Rattle.std.proofs.lemmas.Grind.{common_steps}
+use Rattle.std.proofs.lemmas.List.{get_or-take, take_more, append_assoc, take_at, drop_at}
+use Rattle.std.proofs.lemmas.List.Elements.{All-nil, All-cons, All-head, All-tail, All-append, All-take, All-drop, All-get_or, All-more, All-same}
+use Rattle.const_hex_arch.specs.declared.tables.TheConstants.{HEX_DECODE_LUT}
+use Rattle.const_hex_arch.specs.Digits.{hex_value, value_or_nil, IsDigit}
+use Rattle.const_hex_arch.specs.Texts.{IsPair, Spells, AllDigits, FirstBad, Partial}
+use Rattle.const_hex_arch.proofs.lemmas.Tables.{every_below}
+
+pub false_is_true : false ≡ Rattle.std.proofs.Common.true → ⊥
+false_is_true e = cc
+
+-- ---- digits
+
+-- a byte that has a value is a digit
+pub IsDigit-from_value : (b v : ℕ) → hex_value b ≡ Some v → IsDigit b
+IsDigit-from_value b v h = rw h refl
+
+-- a digit's value is below 16
+pub hex_value-small : (b v : ℕ) → hex_value b ≡ Some v → v < 16
+hex_value-small b v h = grind (arith, nat_tests)
+
+-- what the look-up tells of a byte
+pub value_found : (b r : ℕ) → r ≡ value_or_nil (hex_value b) → r ≢ 255 → hex_value b ≡ Some r
+value_found b r e n = grind (arith, nat_tests)
+
+pub value_not_found : (b r : ℕ) → r ≡ value_or_nil (hex_value b) → r ≡ 255 → IsNone (hex_value b)
+value_not_found b r e n = grind (arith, nat_tests)
+
+-- the table of the look-up
+pub in_table : (b : ℕ) → b < 256 → get_or HEX_DECODE_LUT.now b 0 ≡ value_or_nil (hex_value b)
+in_table b h = eqb→eq _ _ (every_below (λ b. eqb (get_or HEX_DECODE_LUT.now b 0) (value_or_nil (hex_value b))) 256 tt b h)
+
+value_of_digit : (o : Option ℕ) (r : ℕ) → r ≡ value_or_nil o → IsSome o → o ≡ Some r
+value_of_digit (Some v) r e n = ap Some (sym e)
+value_of_digit None r e n = absurd (false_is_true n)
+
+pub digit_found : (b r : ℕ) → r ≡ value_or_nil (hex_value b) → IsDigit b → hex_value b ≡ Some r
+digit_found b r e n = value_of_digit (hex_value b) r e n
+
+-- a byte has a value or none
+pub value_cases : (o : Option ℕ) → ((v : ℕ) × (o ≡ Some v)) ⊎ IsNone o
+value_cases (Some v) = inl (v, refl)
+value_cases None = inr refl
+
+no_value : (o : Option ℕ) → IsNone o → IsSome o → ⊥
+no_value (Some v) n s = cc
+no_value None n s = cc
+
+-- ---- digits throughout
+
+pub digits_append : (xs ys : List ℕ) → AllDigits (xs ++ ys) ↔ (AllDigits xs × AllDigits ys)
+digits_append xs ys = (
+  λ h. (
+    All-same IsDigit xs (take (length xs) (xs ++ ys)) (sym (take_at xs ys (length xs) refl)) (All-take IsDigit (length xs) (xs ++ ys) h),
+    All-same IsDigit ys (drop (length xs) (xs ++ ys)) (sym (drop_at xs ys (length xs) refl)) (All-drop IsDigit (length xs) (xs ++ ys) h),
+  ),
+  λ h. All-append IsDigit xs ys h.0 h.1,
+)
+
+-- one byte more of a text, which the look-up takes for a digit
+pub digits_more : (u : List ℕ) (i : ℕ) → AllDigits (take i u) → i < length u → value_or_nil (hex_value (get_or u i 0)) ≢ 255 → AllDigits (take (i + 1) u)
+digits_more u i a h n = All-more IsDigit u i 0 h a (IsDigit-from_value (get_or u i 0) _ (value_found (get_or u i 0) _ refl n))
+
+-- the look-up takes each byte of digits for one
+pub digit_values : (u : List ℕ) (i : ℕ) → AllDigits u → i < length u → value_or_nil (hex_value (get_or u i 0)) ≢ 255
+digit_values u i a h = let d = All-get_or IsDigit u i 0 h a in grind (arith, nat_tests)
+
+-- ---- what is spelled
+
+-- two digits that spell a byte
+pub IsPair-of : (c d h l b : ℕ) → hex_value c ≡ Some h → hex_value d ≡ Some l → b ≡ 16 * h + l → IsPair c d b
+IsPair-of c d h l b p q e = record { high = h; low = l; high_is = p; low_is = q; byte_is = e }
+
+pub IsPair-byte : (c d b : ℕ) → IsPair c d b → b < 256
+IsPair-byte c d b p =
+    let high = hex_value-small c p.high p.high_is in
+    let low = hex_value-small d p.low p.low_is in
+    let e = p.byte_is in
+    omega (arith, high, low, e)
+
+-- two texts, one behind the other
+pub Spells-append : (u bs v cs : List ℕ) → Spells u bs → Spells v cs → Spells (u ++ v) (bs ++ cs)
+Spells-append [] [] v cs s t = t
+Spells-append [] (b ∷ bs) v cs s t = absurd s
+Spells-append (x ∷ []) bs v cs s t = absurd s
+Spells-append (x ∷ y ∷ u) [] v cs s t = absurd s
+Spells-append (x ∷ y ∷ u) (b ∷ bs) v cs s t = (s.0, Spells-append u bs v cs s.1 t)
+
+-- a text that spells bytes has two digits for each
+pub Spells-length : (u bs : List ℕ) → Spells u bs → length u ≡ 2 * length bs
+Spells-length [] [] s = refl
+Spells-length [] (x ∷ bs) s = absurd s
+Spells-length (x ∷ []) bs s = absurd s
+Spells-length (x ∷ y ∷ u) [] s = absurd s
+Spells-length (x ∷ y ∷ u) (z ∷ bs) s = let e = Spells-length u bs s.1 in omega (arith, e)
+
+-- the first pairs of a text spell the first bytes
+pub Spells-take : (u bs : List ℕ) (k m : ℕ) → m ≡ 2 * k → Spells u bs → Spells (take m u) (take k bs)
+Spells-take u bs zero zero e s = tt
+Spells-take u bs zero (suc m) e s = absurd (omega (arith, e))
+Spells-take u bs (suc k) zero e s = absurd (omega (arith, e))
+Spells-take u bs (suc k) (suc zero) e s = absurd (omega (arith, e))
+Spells-take [] [] (suc k) (suc (suc m)) e s = tt
+Spells-take [] (b ∷ bs) (suc k) (suc (suc m)) e s = absurd s
+Spells-take (x ∷ []) bs (suc k) (suc (suc m)) e s = absurd s
+Spells-take (x ∷ y ∷ u) [] (suc k) (suc (suc m)) e s = absurd s
+Spells-take (x ∷ y ∷ u) (b ∷ bs) (suc k) (suc (suc m)) e s = (s.0, Spells-take u bs k m (omega (arith, e)) s.1)
+
+-- the other pairs spell the other bytes
+pub Spells-drop : (u bs : List ℕ) (k m : ℕ) → m ≡ 2 * k → Spells u bs → Spells (drop m u) (drop k bs)
+Spells-drop u bs zero zero e s = s
+Spells-drop u bs zero (suc m) e s = absurd (omega (arith, e))
+Spells-drop u bs (suc k) zero e s = absurd (omega (arith, e))
+Spells-drop u bs (suc k) (suc zero) e s = absurd (omega (arith, e))
+Spells-drop [] [] (suc k) (suc (suc m)) e s = tt
+Spells-drop [] (b ∷ bs) (suc k) (suc (suc m)) e s = absurd s
+Spells-drop (x ∷ []) bs (suc k) (suc (suc m)) e s = absurd s
+Spells-drop (x ∷ y ∷ u) [] (suc k) (suc (suc m)) e s = absurd s
+Spells-drop (x ∷ y ∷ u) (b ∷ bs) (suc k) (suc (suc m)) e s = Spells-drop u bs k m (omega (arith, e)) s.1
+
+-- a text that spells bytes has only digits
+pub Spells-digits : (u bs : List ℕ) → Spells u bs → AllDigits u
+Spells-digits [] [] s = All-nil IsDigit
+Spells-digits [] (x ∷ bs) s = absurd s
+Spells-digits (x ∷ []) bs s = absurd s
+Spells-digits (x ∷ y ∷ u) [] s = absurd s
+Spells-digits (x ∷ y ∷ u) (z ∷ bs) s =
+    All-cons IsDigit x (y ∷ u) (IsDigit-from_value x s.0.high s.0.high_is)
+    (All-cons IsDigit y u (IsDigit-from_value y s.0.low s.0.low_is) (Spells-digits u bs s.1))
+
+-- what a text spells are bytes
+pub Spells-bytes : (u bs : List ℕ) → Spells u bs → (k : ℕ) → slice_index bs k < 256
+Spells-bytes [] [] s k = omega arith
+Spells-bytes [] (b ∷ bs) s k = absurd s
+Spells-bytes (c ∷ []) bs s k = absurd s
+Spells-bytes (c ∷ d ∷ u) [] s k = absurd s
+Spells-bytes (c ∷ d ∷ u) (b ∷ bs) s zero = IsPair-byte c d b s.0
+Spells-bytes (c ∷ d ∷ u) (b ∷ bs) s (suc k) = Spells-bytes u bs s.1 k
+
+-- a pair spells one byte
+IsPair-same : (c d a b : ℕ) → IsPair c d a → IsPair c d b → a ≡ b
+IsPair-same c d a b p q =
+    let eh : p.high ≡ q.high = ap (λ (o : Option ℕ). unwrap_or o 0) (sym p.high_is ∙ q.high_is) in
+    let el : p.low ≡ q.low = ap (λ (o : Option ℕ). unwrap_or o 0) (sym p.low_is ∙ q.low_is) in
+    let ea = p.byte_is in
+    let eb = q.byte_is in
+    omega (arith, eh, el, ea, eb)
+
+-- a text spells one list of bytes
+pub Spells-same : (u xs ys : List ℕ) → Spells u xs → Spells u ys → xs ≡ ys
+Spells-same [] [] [] s t = refl
+Spells-same [] [] (b ∷ ys) s t = absurd t
+Spells-same [] (a ∷ xs) ys s t = absurd s
+Spells-same (x ∷ []) xs ys s t = absurd s
+Spells-same (x ∷ y ∷ u) [] ys s t = absurd s
+Spells-same (x ∷ y ∷ u) (a ∷ xs) [] s t = absurd t
+Spells-same (x ∷ y ∷ u) (a ∷ xs) (b ∷ ys) s t =
+    let e = IsPair-same x y a b s.0 t.0 in
+    let r = Spells-same u xs ys s.1 t.1 in cc (e, r)
+
+pub ruleset spelled = (Spells-append, Spells-same)
+
+-- ---- the first bad byte
+
+-- no text of digits has a bad byte
+pub digits_no_bad : (u : List ℕ) (p : ℕ) → AllDigits u → FirstBad u p → ⊥
+digits_no_bad u p a f = no_value (hex_value (slice_index u p)) f.here (All-get_or IsDigit u p 0 f.within a)
+
+-- a text has one first bad byte
+pub FirstBad-same : (u : List ℕ) (p q : ℕ) → FirstBad u p → FirstBad u q → p ≡ q
+FirstBad-same u p q f g =
+    elim (cases_lt p q) [
+      | inl below ↦ absurd (no_value _ f.here (front u q p g below))
+      | inr above ↦
+          elim (cases_lt q p) [
+            | inl under ↦ absurd (no_value _ g.here (front u p q f under))
+            | inr over ↦ omega arith
+          ]
+    ]
+  where
+    front : (u : List ℕ) (n k : ℕ) → FirstBad u n → k < n → IsDigit (slice_index u k)
+    front u n k f h =
+        let w = f.within in
+        let len : k < length (take n u) = simp length-take (omega arith) in
+        rw (get_or-take n u k 0 h) at (All-get_or IsDigit (take n u) k 0 len f.before)
+
+-- a bad byte behind k digits
+pub FirstBad-after : (k : ℕ) (u : List ℕ) (p : ℕ) → AllDigits (take k u) → k ≤ length u → FirstBad (drop k u) p → FirstBad u (k + p)
+FirstBad-after k u p a h f =
+    let w = f.within in
+    record {
+      within = grind (arith, common_steps);
+      before = rw (take-add k p u) ((digits_append _ _).1 (a, f.before));
+      here = let e : get_or (drop k u) p 0 ≡ get_or u (k + p) 0 = grind (arith, common_steps) in rw e at f.here;
+    }
+
+-- a text has only digits, or it has a first bad byte
+pub digits_or_bad : (u : List ℕ) → AllDigits u ⊎ ((p : ℕ) × FirstBad u p)
+digits_or_bad [] = inl (All-nil IsDigit)
+digits_or_bad (b ∷ u) =
+    elim (value_cases (hex_value b)) [
+      | inl v ↦
+          let here = IsDigit-from_value b v.0 v.1 in
+          elim (digits_or_bad u) [
+            | inl a ↦ inl (All-cons IsDigit b u here a)
+            | inr f ↦ inr (
+              suc f.0,
+              record {
+                within = let w = f.1.within in omega arith;
+                before = All-cons IsDigit b (take f.0 u) here f.1.before;
+                here = f.1.here;
+              },
+            )
+          ]
+      | inr n ↦ inr (zero, record { within = omega arith; before = All-nil IsDigit; here = n })
+    ]
+
+-- if not every byte is a digit, there is a first bad byte
+pub first_bad : (u : List ℕ) → (AllDigits u → ⊥) → (p : ℕ) × FirstBad u p
+first_bad u n = elim (digits_or_bad u) [ inl a ↦ absurd (n a) | inr f ↦ f ]
+
+-- digits, two for each byte, spell bytes
+pub Spells-some : (u : List ℕ) → length u % 2 ≡ 0 → AllDigits u → (bs : List ℕ) × Spells u bs
+Spells-some [] e a = ([], tt)
+Spells-some (c ∷ []) e a = absurd (omega arith)
+Spells-some (c ∷ d ∷ u) e a =
+    let rest = All-tail IsDigit c (d ∷ u) a in
+    let high = digit_found c _ refl (All-head IsDigit c (d ∷ u) a) in
+    let low = digit_found d _ refl (All-head IsDigit d u rest) in
+    let more = Spells-some u (omega arith) (All-tail IsDigit d u rest) in
+    (_ ∷ more.0, (IsPair-of c d _ _ _ high low refl, more.1))
+
+-- ---- one more pair of a text
+
+take-pair : (u : List ℕ) (m n : ℕ) → n ≡ m + 2 → m + 1 < length u → take n u ≡ take m u ++ get_or u m 0 ∷ get_or u (m + 1) 0 ∷ []
+take-pair u m n e h =
+    let q : n ≡ m + 1 + 1 = omega arith in
+    rw (q, take_more u (m + 1) 0 h, take_more u m 0 (omega arith)) (append_assoc (take m u) (get_or u m 0 ∷ []) (get_or u (m + 1) 0 ∷ []))
+
+-- one pair more is decoded
+pub pair_more : (u new : List ℕ) (i high low : ℕ) → Spells (take (2 * i) u) (take i new) → 2 * i + 1 < length u → i < length new
+    → high ≡ value_or_nil (hex_value (get_or u (2 * i) 0)) → low ≡ value_or_nil (hex_value (get_or u (2 * i + 1) 0)) → high ≢ 255 → low ≢ 255
+    → Spells (take (2 * (i + 1)) u) (take (i + 1) (set new i (high * 16 + low)))
+pair_more u new i high low s h k e f p q =
+    let pair = take-pair u (2 * i) (2 * (i + 1)) (omega arith) h in
+    let front : take (i + 1) (set new i (high * 16 + low)) ≡ take i new ++ (high * 16 + low) ∷ [] = grind (arith, common_steps) in
+    let first = value_found (get_or u (2 * i) 0) high e p in
+    let second = value_found (get_or u (2 * i + 1) 0) low f q in
+    rw (pair, front) (Spells-append _ _ _ _ s (IsPair-of _ _ high low _ first second (omega arith), tt))
+
+-- ---- what is left of an output
+
+-- nothing was decoded
+pub none_decoded : (old u : List ℕ) → (AllDigits u → ⊥) → Partial old u old
+none_decoded old u n =
+    let r = first_bad u n in
+    record { bad = r.0; done = 0; first_bad = r.1; not_past = omega arith; same_length = refl; front = tt; rest = refl }
+
+-- a bad byte after i pairs: the first byte of its pair, or the second
+pub refused_high : (old u new : List ℕ) (i : ℕ) → Spells (take (2 * i) u) (take i new) → drop i new ≡ drop i old → 2 * i + 1 < length u
+    → length new ≡ length old → IsNone (hex_value (get_or u (2 * i) 0)) → Partial old u new
+refused_high old u new i s d h l n = record {
+  bad = 2 * i;
+  done = i;
+  first_bad = record { within = omega arith; before = Spells-digits _ _ s; here = n };
+  not_past = omega arith;
+  same_length = l;
+  front = s;
+  rest = d;
+}
+
+pub refused_low : (old u new : List ℕ) (i v : ℕ) → Spells (take (2 * i) u) (take i new) → drop i new ≡ drop i old → 2 * i + 1 < length u
+    → length new ≡ length old
+    → hex_value (get_or u (2 * i) 0) ≡ Some v → IsNone (hex_value (get_or u (2 * i + 1) 0)) → Partial old u new
+refused_low old u new i v s d h l e n = record {
+  bad = 2 * i + 1;
+  done = i;
+  first_bad = record {
+    within = h;
+    before = All-more IsDigit u (2 * i) 0 (omega arith) (Spells-digits _ _ s) (IsDigit-from_value (get_or u (2 * i) 0) v e);
+    here = n;
+  };
+  not_past = omega arith;
+  same_length = l;
+  front = s;
+  rest = d;
+}
+
+-- a text that is refused after k bytes were decoded
+pub Partial-after : (old u new : List ℕ) (k m : ℕ) → m ≡ 2 * k → m ≤ length u → length new ≡ length old → k ≤ length new
+    → Spells (take m u) (take k new) → Partial (drop k old) (drop m u) (drop k new) → Partial old u new
+Partial-after old u new k m e h l b s p =
+    let not_past = p.not_past in
+    record {
+      bad = m + p.bad;
+      done = k + p.done;
+      first_bad = FirstBad-after m u p.bad (Spells-digits _ _ s) h p.first_bad;
+      not_past = omega (arith, not_past);
+      same_length = l;
+      front =
+          let q : 2 * (k + p.done) ≡ m + 2 * p.done = omega arith in
+          rw (q, take-add m (2 * p.done) u, take-add k p.done new) (Spells-append _ _ _ _ s p.front);
+      rest = sym (drop-drop p.done k new) ∙ p.rest ∙ drop-drop p.done k old;
+    }

@@ -1,0 +1,254 @@
+-- From writes in small pieces to the calls of a sink.
+use Rattle.std.proofs.Common.{◌≡◌, ℕ, suc, ◌+◌, ◌*◌, ◌/◌, ◌<◌, ◌≤◌, Bool, true, false, not, List, [], ◌∷◌, ◌++◌, length, take, refl, sym, ap, subst, ◌∙◌, arith, inl, inr, length-append}
+use Rattle.std.specs.Prelude.{Option, Some, None, ◌-◌, if◌then◌else◌}
+use Rattle.std.specs.List.{FoldsTo, concat, All}
+use Rattle.std.proofs.Math.Nat.{le-div_iff_mul-le}
+use Rattle.std.proofs.lemmas.List.{append-nil, append_assoc, take_all, take_at}
+use Rattle.std.proofs.lemmas.List.Elements.{All-nil, All-cons, All-head, All-tail, All-append, All-take, All-weaker, All-same}
+use Rattle.std.proofs.lemmas.List.Folds.{concat-append}
+use Rattle.const_hex_arch.specs.Runs.{Writes, IsKernelPiece}
+use Rattle.const_hex_arch.specs.Gathering.{Gathers, piece_of, FlushesPending}
+use Rattle.const_hex_arch.specs.Sinks.{SinkStep, output_sink, sink_name, told_after}
+use Rattle.const_hex_arch.specs.declared.sink.output.SinkOutput.{SinkOutput}
+use Rattle.const_hex_arch.specs.Streams.{IsCallPiece, IsLargePiece, all_but_last, Cut, Offers, Streams, Handed}
+use Rattle.const_hex_arch.proofs.lemmas.Runs.{run_append}
+use Rattle.const_hex_arch.proofs.lemmas.Gathering.{concat-piece_of}
+
+-- ---- what a run of small writes to a gathering output hands on
+
+IsHandedOn : List ℕ → Type 0
+IsHandedOn p = (4033 ≤ length p) × (length p ≤ 4096)
+
+record Gathered {O : Type 0} (step : O → List ℕ → O → Type 0) (old : O) (pending text : List ℕ) (new : O) (rest : List ℕ) : Type 0 where
+  handed : List (List ℕ)
+  run : FoldsTo step old handed new
+  whole : concat handed ++ rest ≡ pending ++ text
+  sizes : All IsHandedOn handed
+  bound : length rest ≤ 4096
+
+handed_sizes : (pending piece : List ℕ) (handed : List (List ℕ)) → length pending ≤ 4096 → IsKernelPiece piece → FlushesPending 4096 pending piece handed
+    → All IsHandedOn handed
+unfolding IsHandedOn
+handed_sizes pending piece handed f k (inl e) = All-same IsHandedOn handed [] e (All-nil IsHandedOn)
+handed_sizes pending piece handed f k (inr (e, m)) =
+    All-same IsHandedOn handed (pending ∷ []) e (All-cons IsHandedOn pending [] (omega arith, omega arith) (All-nil IsHandedOn))
+
+module _ {O : Type 0} (step : O → List ℕ → O → Type 0) (room : O → Option ℕ) where
+  gathered_none : (o : O) (pending : List ℕ) → length pending ≤ 4096 → Gathered step o pending [] o pending
+  gathered_none o pending f = record { handed = []; run = refl; whole = sym (append-nil pending); sizes = All-nil IsHandedOn; bound = omega arith }
+
+  gathered_more : (old : O) (pending piece : List ℕ) (mid : O) (kept text : List ℕ) (new : O) (rest : List ℕ) → length pending ≤ 4096 → IsKernelPiece piece
+      → Gathers step room 4096 old pending piece mid kept → Gathered step mid kept text new rest → Gathered step old pending (piece ++ text) new rest
+  gathered_more old pending piece mid kept text new rest f k g r = record {
+    handed = g.handed ++ r.handed;
+    run = run_append step old g.handed mid r.handed new g.run r.run;
+    whole = ap (λ x. x ++ rest) (concat-append g.handed r.handed) ∙ append_assoc (concat g.handed) (concat r.handed) rest
+        ∙ ap (λ x. concat g.handed ++ x) r.whole
+        ∙ sym (append_assoc (concat g.handed) kept text) ∙ ap (λ x. x ++ text) g.whole ∙ append_assoc pending piece text;
+    sizes = All-append IsHandedOn g.handed r.handed (handed_sizes pending piece g.handed f k (g.short (omega arith))) r.sizes;
+    bound = r.bound;
+  }
+
+  module _ {B : Type 0} (inner : B → O) (pending : B → List ℕ) where
+    gathered_run : (s : B) (ps : List (List ℕ)) (t : B) → length (pending s) ≤ 4096 → All IsKernelPiece ps
+        → FoldsTo (λ s p t. Gathers step room 4096 (inner s) (pending s) p (inner t) (pending t)) s ps t
+        → Gathered step (inner s) (pending s) (concat ps) (inner t) (pending t)
+    gathered_run s [] t f a h = subst (λ x. Gathered step (inner s) (pending s) [] (inner x) (pending x)) h (gathered_none (inner s) (pending s) f)
+    gathered_run s (p ∷ ps) t f a (m, h, k) =
+        gathered_more (inner s) (pending s) p (inner m) (pending m) (concat ps) (inner t) (pending t) f (All-head IsKernelPiece p ps a) h
+        (gathered_run m ps t h.bound (All-tail IsKernelPiece p ps a) k)
+
+-- ---- what was handed on, and then the pending text, is a cut
+
+all_but_last-append : (ps : List (List ℕ)) (rest : List ℕ) → All IsHandedOn ps → All IsLargePiece (all_but_last (ps ++ piece_of rest))
+unfolding IsHandedOn
+all_but_last-append ps [] a =
+    rw (append-nil ps) (All-take IsLargePiece _ ps (All-weaker IsHandedOn IsLargePiece (λ p h. h.0) ps a))
+all_but_last-append ps (b ∷ bs) a =
+    let n : length (ps ++ (b ∷ bs) ∷ []) - 1 ≡ length ps = simp length-append (omega arith) in
+    rw (n, take_at ps ((b ∷ bs) ∷ []) (length ps) refl) (All-weaker IsHandedOn IsLargePiece (λ p h. h.0) ps a)
+
+piece_of-sizes : (rest : List ℕ) → length rest ≤ 4096 → All IsCallPiece (piece_of rest)
+piece_of-sizes [] f = All-nil IsCallPiece
+piece_of-sizes (b ∷ bs) f = All-cons IsCallPiece (b ∷ bs) [] (omega arith, f) (All-nil IsCallPiece)
+
+Cut-of : (text : List ℕ) (ps : List (List ℕ)) (rest : List ℕ) → concat ps ++ rest ≡ text → All IsHandedOn ps → length rest ≤ 4096
+    → Cut text (ps ++ piece_of rest)
+unfolding IsHandedOn
+Cut-of text ps rest w a f = record {
+  whole = concat-append ps (piece_of rest) ∙ ap (λ x. concat ps ++ x) (concat-piece_of rest) ∙ w;
+  sizes = All-append IsCallPiece ps (piece_of rest) (All-weaker IsHandedOn IsCallPiece (λ p h. (omega arith, h.1)) ps a) (piece_of-sizes rest f);
+  large = all_but_last-append ps rest a;
+}
+
+-- so many pieces have so many bytes
+many_bytes : (ps : List (List ℕ)) → All IsHandedOn ps → 4033 * length ps ≤ length (concat ps)
+unfolding IsHandedOn
+many_bytes [] a = omega arith
+many_bytes (p ∷ ps) a =
+    let h = (All-head IsHandedOn p ps a).0 in
+    omega (arith, h, many_bytes ps (All-tail IsHandedOn p ps a), length-append p (concat ps))
+
+few_pieces : (text : List ℕ) (ps : List (List ℕ)) (rest : List ℕ) → concat ps ++ rest ≡ text → All IsHandedOn ps
+    → length (ps ++ piece_of rest) ≤ (length text + 4032) / 4033
+few_pieces text ps [] w a =
+    let m = many_bytes ps a in
+    let e = ap length w in
+    let n = length-append ps [] in
+    let b = length-append (concat ps) [] in
+    let l : length (ps ++ []) * 4033 ≤ length text + 4032 = omega (arith, m, e, n, b) in
+    (le-div_iff_mul-le {k = 4033} (omega arith)).1 l
+few_pieces text ps (x ∷ rest) w a =
+    let m = many_bytes ps a in
+    let e = ap length w in
+    let n = length-append ps ((x ∷ rest) ∷ []) in
+    let b = length-append (concat ps) (x ∷ rest) in
+    let l : length (ps ++ (x ∷ rest) ∷ []) * 4033 ≤ length text + 4032 = omega (arith, m, e, n, b) in
+    (le-div_iff_mul-le {k = 4033} (omega arith)).1 l
+
+-- ---- what is offered to a sink
+
+true_is_false : true ≡ false → ⊥
+true_is_false e = cc
+
+module _ {S : Type 0} (step : S → List ℕ → S → Type 0) (is_refused : S → Bool) where
+  sink_name-run : (s : SinkOutput S) (ps : List (List ℕ)) (t : SinkOutput S) → FoldsTo (SinkStep step is_refused) s ps t → sink_name t ≡ sink_name s
+  sink_name-run s [] t h = ap (λ (x : SinkOutput S). sink_name x) (sym h)
+  sink_name-run s (p ∷ ps) t (m, h, k) = sink_name-run m ps t k ∙ h.same_sink
+
+  refused_run : (s : SinkOutput S) (ps : List (List ℕ)) (t : SinkOutput S) → is_refused (output_sink s) ≡ true
+      → FoldsTo (SinkStep step is_refused) s ps t → output_sink t ≡ output_sink s
+  refused_run s [] t r h = ap (λ (x : SinkOutput S). output_sink x) (sym h)
+  refused_run s (p ∷ ps) t r (m, h, k) = let e = h.after_refusal r in refused_run m ps t (ap is_refused e ∙ r) k ∙ e
+
+  record Offered (old : S) (pieces : List (List ℕ)) (new : S) : Type 0 where
+    count : ℕ
+    within : count ≤ length pieces
+    run : Offers step is_refused old (take count pieces) new
+    complete : is_refused new ≡ false → count ≡ length pieces
+
+  offered_more : (s : S) (p : List ℕ) (m : S) (ps : List (List ℕ)) (t : S) → is_refused s ≡ false → step s p m → Offered m ps t → Offered s (p ∷ ps) t
+  offered_more s p m ps t e h o = record {
+    count = suc o.count;
+    within = omega arith;
+    run = (e, (m, h, o.run));
+    complete = λ u. ap suc (o.complete u);
+  }
+
+  offered_one : (s : SinkOutput S) (p : List ℕ) (m : SinkOutput S) (ps : List (List ℕ)) (t : SinkOutput S) → is_refused (output_sink s) ≡ false
+      → SinkStep step is_refused s p m → FoldsTo (SinkStep step is_refused) m ps t
+      → (is_refused (output_sink m) ≡ false → Offered (output_sink m) ps (output_sink t))
+      → (b : Bool) → is_refused (output_sink m) ≡ b → Offered (output_sink s) (p ∷ ps) (output_sink t)
+  offered_one s p m ps t e h k more false u = offered_more (output_sink s) p (output_sink m) ps (output_sink t) e (h.accepting e) (more u)
+  offered_one s p m ps t e h k more true u = let c = refused_run m ps t u k in record {
+    count = 1;
+    within = omega arith;
+    run = (e, (output_sink m, h.accepting e, sym c));
+    complete = λ v. absurd (true_is_false (sym u ∙ ap is_refused (sym c) ∙ v));
+  }
+
+  offered_run : (s : SinkOutput S) (ps : List (List ℕ)) (t : SinkOutput S) → is_refused (output_sink s) ≡ false
+      → FoldsTo (SinkStep step is_refused) s ps t → Offered (output_sink s) ps (output_sink t)
+  offered_run s [] t e h = record { count = 0; within = omega arith; run = ap (λ (x : SinkOutput S). output_sink x) h; complete = λ _. refl }
+  offered_run s (p ∷ ps) t e (m, h, k) = offered_one s p m ps t e h k (λ u. offered_run m ps t u k) (is_refused (output_sink m)) refl
+
+  -- a run of small writes through a gathering output, and then the pending text
+  pub Streams-from_writes : {B : Type 0} (room : SinkOutput S → Option ℕ) (inner : B → SinkOutput S) (pending : B → List ℕ)
+      (s : B) (text : List ℕ) (t : B) (out : SinkOutput S) → pending s ≡ []
+      → Writes (λ s p t. Gathers (SinkStep step is_refused) room 4096 (inner s) (pending s) p (inner t) (pending t)) s text t
+      → FoldsTo (SinkStep step is_refused) (inner t) (piece_of (pending t)) out
+      → is_refused (output_sink (inner s)) ≡ false
+      → (sink_name out ≡ sink_name (inner s)) × Streams step is_refused (output_sink (inner s)) text (output_sink out)
+  Streams-from_writes room inner pending s text t out none w k e =
+      let g = gathered_run (SinkStep step is_refused) room inner pending s w.pieces t (rw none (omega arith)) w.sizes w.run in
+      let pieces = g.handed ++ piece_of (pending t) in
+      let whole : concat g.handed ++ pending t ≡ text = g.whole ∙ ap (λ x. x ++ concat w.pieces) none ∙ w.whole in
+      let run = run_append (SinkStep step is_refused) (inner s) g.handed (inner t) (piece_of (pending t)) out g.run k in
+      let o = offered_run (inner s) pieces out e run in
+      let few = few_pieces text g.handed (pending t) whole g.sizes in (
+        sink_name-run (inner s) pieces out run,
+        record {
+          pieces = pieces;
+          offered = o.count;
+          cut = Cut-of text g.handed (pending t) whole g.sizes g.bound;
+          within = o.within;
+          run = o.run;
+          complete = o.complete;
+          calls = let h = o.within in omega (arith, h, few);
+        },
+      )
+
+  -- a text that is one piece
+  pub Streams-one : (s : S) (text : List ℕ) (t : S) → 0 < length text → length text ≤ 4096 → is_refused s ≡ false → step s text t
+      → Streams step is_refused s text t
+  Streams-one s text t some most e h = record {
+    pieces = text ∷ [];
+    offered = 1;
+    cut = record {
+      whole = append-nil text;
+      sizes = All-cons IsCallPiece text [] (omega arith, most) (All-nil IsCallPiece);
+      large = All-nil IsLargePiece;
+    };
+    within = omega arith;
+    run = (e, (t, h, refl));
+    complete = λ _. refl;
+    calls = (le-div_iff_mul-le {k = 4033} (omega arith)).1 (omega arith);
+  }
+
+  -- a text of no bytes
+  pub Streams-none : (s : S) (text : List ℕ) → text ≡ [] → Streams step is_refused s text s
+  Streams-none s text e = rw e (record {
+    pieces = [];
+    offered = 0;
+    cut = record { whole = refl; sizes = All-nil IsCallPiece; large = All-nil IsLargePiece };
+    within = omega arith;
+    run = refl;
+    complete = λ _. refl;
+    calls = omega arith;
+  })
+
+-- ---- what is offered to a sink that accepts all
+
+module _ {S : Type 0} (step : S → List ℕ → S → Type 0) (is_refused : S → Bool) where
+  pub Offers-accepting : (s : S) (ps : List (List ℕ)) (t : S) → is_refused t ≡ false → Offers step is_refused s ps t → is_refused s ≡ false
+  Offers-accepting s [] t e h = ap is_refused h ∙ e
+  Offers-accepting s (p ∷ ps) t e h = h.0
+
+  -- all pieces of a stream are offered
+  pub Streams-all : (s : S) (text : List ℕ) (t : S) → is_refused t ≡ false → (h : Streams step is_refused s text t) → Offers step is_refused s h.pieces t
+  Streams-all s text t e h =
+      let all : take h.offered h.pieces ≡ h.pieces = rw (h.complete e) (take_all (length h.pieces) h.pieces (omega arith)) in
+      rw all at h.run
+
+-- ---- what a sink tells
+
+told_after-none : (o : Option (List (List ℕ))) → told_after o [] ≡ o
+told_after-none (Some told) = ap Some (append-nil told)
+told_after-none None = refl
+
+told_after-more : (o : Option (List (List ℕ))) (xs ys : List (List ℕ)) → told_after (told_after o xs) ys ≡ told_after o (xs ++ ys)
+told_after-more (Some told) xs ys = ap Some (append_assoc told xs ys)
+told_after-more None xs ys = refl
+
+module _ {S : Type 0} (step : S → List ℕ → S → Type 0) (is_refused : S → Bool) (told : S → Option (List (List ℕ)))
+    (tells : (s : S) (piece : List ℕ) (t : S) → step s piece t → told t ≡ told_after (told s) (if is_refused t then [] else piece ∷ [])) where
+  -- what is offered to a sink that accepts all is told
+  told-Offers : (s : S) (ps : List (List ℕ)) (t : S) → is_refused t ≡ false → Offers step is_refused s ps t → told t ≡ told_after (told s) ps
+  told-Offers s [] t e h = ap told (sym h) ∙ sym (told_after-none (told s))
+  told-Offers s (p ∷ ps) t e (o, (m, h, k)) =
+      let accepted = Offers-accepting step is_refused m ps t e k in
+      told-Offers m ps t e k ∙ ap (λ x. told_after x ps) (tells s p m h ∙ ap (λ b. told_after (told s) (if b then [] else p ∷ [])) accepted)
+      ∙ told_after-more (told s) (p ∷ []) ps
+
+  pub Handed-of : (s : S) (text : List ℕ) (ok : Bool) (t : S) → Streams step is_refused s text t → ok ≡ not (is_refused t)
+      → Handed step is_refused told s text ok t
+  Handed-of s text ok t h flag = record {
+    streams = h;
+    flag = flag;
+    told = λ e. record { pieces = h.pieces; cut = h.cut; told = told-Offers s h.pieces t e (Streams-all step is_refused s text t e h) };
+  }
+
+-- the same for the value that the sink ends as
+pub Streams-at : {S : Type 0} (step : S → List ℕ → S → Type 0) (is_refused : S → Bool) (old : S) (text : List ℕ) (new : S)
+    → Streams step is_refused old text new → (end : S) → end ≡ new → Streams step is_refused old text end
+Streams-at step is_refused old text new h end e = rw e h

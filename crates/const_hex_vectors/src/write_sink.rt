@@ -1,0 +1,131 @@
+//! `WriteSink`, over writers that fail, take few bytes per call, or come back.
+
+use const_hex::{BufferedHex, Plain, Sink, WriteSink};
+use hex_testing::{Fault, Target, Text, same, same_bytes};
+use std::alloc::Global;
+use std::io;
+use std::io::ErrorKind;
+use std::process::Abort;
+use std::test::Fail;
+
+// A text of 6002 bytes comes in pieces of 4096 and 1906. A writer that takes 1000 per call gets them
+// in 7 calls. Before each call, and at the end, it has this many bytes.
+const TAKEN: [usize; 8] = [0, 1000, 2000, 3000, 4000, 4096, 5096, 6002];
+
+#[test]
+fn writers_that_fail_at_each_call(rt: HostRuntime) -> Result<(), Fail> {
+    let alloc = rt.alloc();
+    let bytes: Vec<u8> = (0..3000usize)
+        .map(|i| (i % 256 * 37 % 256) as u8)
+        .collect(alloc)?;
+    let mut text = "0x".to_string(alloc)?;
+    for byte in &bytes {
+        text.push_str(&format!(in alloc; "{byte:02x}")?)?;
+    }
+    let case = (bytes.as_slice(), text.as_bytes());
+    for (before, taken) in TAKEN.into_iter().enumerate() {
+        at_call(&rt, alloc, (before.saturating_add(1), taken), case);
+    }
+    Ok(())
+}
+
+/// A writer has taken so many bytes before that call. The call fails, or takes no bytes; or a signal
+/// interrupts it 1, 2, 100 or 10,000 times in a row, and it is made again.
+fn at_call(rt: &impl Abort, alloc: Global, (call, taken): (usize, usize), case: (&[u8], &[u8])) {
+    let (fails, calls) = (call < 8, call.min(7));
+    for kind in [ErrorKind::Other, ErrorKind::WouldBlock] {
+        let want = (fails.then_some(kind), taken, calls);
+        writes(rt, alloc, Fault::Writes(call, call, kind), case, want);
+    }
+    let want = (fails.then_some(ErrorKind::WriteZero), taken, calls);
+    writes(rt, alloc, Fault::Full(call), case, want);
+    for more in [0, 1, 99, 9999usize] {
+        let fault = Fault::Writes(call, call.saturating_add(more), ErrorKind::Interrupted);
+        let calls = if fails { more.saturating_add(8) } else { 7 };
+        writes(rt, alloc, fault, case, (None, 6002, calls));
+    }
+}
+
+/// Writes the bytes, whose text is `text`. Checks the error, what the writer has, and its calls.
+fn writes(
+    rt: &impl Abort,
+    alloc: Global,
+    fault: Fault,
+    (bytes, text): (&[u8], &[u8]),
+    (kind, taken, calls): (Option<ErrorKind>, usize, usize),
+) {
+    let mut target = Target::new(alloc, 1000, fault);
+    let mut sink = WriteSink::new(&mut target);
+    let answer = BufferedHex::<false, true>::new(bytes).write_with::<Plain, _>(&mut sink);
+    same!(rt, "write_with", fault; answer.is_err(), kind.is_some());
+    same!(rt, "refused", fault; sink.refused(), kind.is_some());
+    same!(rt, "error", fault; kind_of(sink.error()), kind);
+    same!(rt, "finish", fault; kind_of(sink.finish().as_ref().err()), kind);
+    same!(rt, "writes and flushes", fault; (target.writes, target.flushes), (calls, 0));
+    let front = text.get(..taken).unwrap_or(&[]);
+    same_bytes!(rt, "what the writer has", fault; &target.taken, front);
+}
+
+fn kind_of(error: Option<&io::Error>) -> Option<ErrorKind> {
+    Some(error?.kind())
+}
+
+// A writer that takes one byte per call is called once per byte, and not for an empty piece.
+#[test]
+fn a_byte_a_call(rt: HostRuntime) -> Result<(), Fail> {
+    let text = "01234".repeat(rt.alloc(), 1000)?;
+    let mut target = Target::new(rt.alloc(), 1, Fault::Nothing);
+    let mut sink = WriteSink::new(&mut target);
+    assert!(rt; sink.write_str("").is_ok());
+    assert!(rt; !sink.refused());
+    assert!(rt; sink.write_str(&text).is_ok());
+    sink.finish()?;
+    assert_eq!(rt; Text(&target.taken), Text(text.as_bytes()));
+    assert_eq!(rt; (target.writes, target.flushes), (5000, 0));
+    Ok(())
+}
+
+// After an error `write_hex` calls nothing, and returns the error again.
+#[test]
+fn writing_goes_on_after_an_error(rt: HostRuntime) {
+    let fault = Fault::Writes(2, 2, ErrorKind::Other);
+    let mut target = Target::new(rt.alloc(), 4, fault);
+    let mut sink = WriteSink::new(&mut target);
+    for _ in 0..3 {
+        assert!(rt; sink.write_hex::<false, false>(b"kiwi").is_err());
+        assert_eq!(rt; kind_of(sink.error()), Some(ErrorKind::Other));
+    }
+    assert!(rt; sink.finish().is_err());
+    assert_eq!(rt; (Text(&target.taken), target.writes), (Text(b"6b69"), 2));
+}
+
+#[test]
+fn no_call_flushes(rt: HostRuntime) -> Result<(), Fail> {
+    let mut target = Target::new(rt.alloc(), 4, Fault::Nothing);
+    let mut sink = WriteSink::new(&mut target);
+    assert_eq!(rt; sink.write_hex::<false, false>(&[0xab]), Ok(()));
+    assert_eq!(rt; sink.write_hex::<true, false>(&[0xab]), Ok(()));
+    assert_eq!(rt; sink.write_hex::<false, true>(&[0xab]), Ok(()));
+    assert_eq!(rt; sink.write_hex::<true, true>(&[0xab]), Ok(()));
+    sink.finish()?;
+    assert_eq!(rt; Text(&target.taken), Text(b"abAB0xab0xAB"));
+    assert_eq!(rt; target.flushes, 0);
+    Ok(())
+}
+
+#[test]
+fn a_writer_comes_back(rt: HostRuntime) -> Result<(), Fail> {
+    let mut file = Vec::new(rt.alloc());
+    let mut sink = WriteSink::new(&mut file);
+    assert_eq!(rt; sink.write_hex::<true, false>(&[0xab]), Ok(()));
+    let (writer, error) = sink.into_parts();
+    assert!(rt; error.is_none());
+    writer.push(b'!')?;
+    assert_eq!(rt; Text(&file), Text(b"AB!"));
+    let mut sink = WriteSink::new(&mut file);
+    assert_eq!(rt; sink.write_hex::<false, true>(b"kiwi"), Ok(()));
+    assert!(rt; sink.error().is_none());
+    sink.finish()?;
+    assert_eq!(rt; Text(&file), Text(b"AB!0x6b697769"));
+    Ok(())
+}

@@ -1,0 +1,63 @@
+/** Bytes: an array of bytes, any other view of a part of a buffer, or a whole buffer. */
+export type Bytes = ArrayBufferView | ArrayBufferLike;
+
+/** A text: a string, or the bytes of a text. */
+export type Text = string | Bytes;
+
+export interface EncodeOptions {
+    /** Whether `0x` stands in front of the digits. */
+    prefix?: boolean;
+    /** Whether the digits are uppercase. */
+    upper?: boolean;
+}
+
+/**
+ * The text of bytes: two digits for each byte, in order.
+ *
+ * @throws {TypeError} if an argument has another type, or its buffer is detached
+ * @throws {RangeError} if there is not enough memory, or the text is longer than a string can be
+ */
+export function encode(bytes: Bytes, options?: EncodeOptions): string;
+
+/**
+ * The bytes that a text spells, with or without `0x` or `0X` in front, in either case.
+ *
+ * @throws {HexError} if the length is odd, or a character is not a digit
+ * @throws {TypeError} if the text has another type, or its buffer is detached
+ * @throws {RangeError} if there is not enough memory
+ */
+export function decode(text: Text): Uint8Array;
+
+/**
+ * Fills the target with the bytes that a text spells, and returns it. After an error the target is
+ * unchanged.
+ *
+ * @throws {HexError} if the length is odd, if the text does not spell exactly as many bytes as the
+ *     target has, or if a character is not a digit
+ * @throws {TypeError} if an argument has another type, or its buffer is detached
+ * @throws {RangeError} if there is not enough memory
+ */
+export function decodeInto<Target extends Uint8Array>(text: Text, target: Target): Target;
+
+/** Throws what `decode` throws for the text, and returns nothing if it throws nothing. */
+export function check(text: Text): void;
+
+/** Whether `decode` accepts the text. A wrong type throws a `TypeError` as there. */
+export function isHex(text: Text): boolean;
+
+/** The error of a text that cannot be decoded. */
+export class HexError extends SyntaxError {
+    readonly kind: 'OddLength' | 'InvalidStringLength' | 'InvalidHexCharacter';
+    /**
+     * The place of the first byte that is not a digit, if the kind is `'InvalidHexCharacter'`. It
+     * counts from the start of the text, prefix included, in bytes of its UTF-8. Everything before it
+     * is ASCII, so in a string it is the place of the character.
+     */
+    readonly index?: number;
+    /** That byte, if the kind is `'InvalidHexCharacter'`. */
+    readonly byte?: number;
+    private constructor();
+}
+
+/** The version of the library, such as `'1.0.0'`. */
+export const version: string;

@@ -1,0 +1,178 @@
+// Tests that need Node: stored answers of the Rust crate, Buffer, large inputs, and engines that lack
+// something.
+import assert from 'node:assert/strict';
+import { spawnSync } from 'node:child_process';
+import { readFileSync } from 'node:fs';
+import test from 'node:test';
+import { fileURLToPath } from 'node:url';
+import { check, decode, decodeInto, encode, isHex, version } from '../const_hex.js';
+import { answer, randomOf, randomText, thrown } from './rows.js';
+
+const TOP = new URL('../../', import.meta.url);
+const read = (path) => readFileSync(new URL(path, TOP), 'utf8');
+
+/** What a call answers, in the words of the stored answers. */
+function words(call) {
+    const found = answer(call);
+    if (found === undefined) return 'OK';
+    if (found.kind) return `ERR ${found.kind} ${found.byte} ${found.index}`;
+    if (/^(OddLength|InvalidStringLength)$/.test(found)) return `ERR ${found}`;
+    return `OK ${Buffer.from(found).toString('hex') || '-'}`;
+}
+
+function message(call) {
+    try {
+        call();
+        return 'OK';
+    } catch (error) {
+        return `MSG ${Buffer.from(error.message).toString('hex')}`;
+    }
+}
+
+/** After an error the crate may have decoded a front of the target. Here nothing is decoded. */
+function intoSlice(text, length) {
+    const target = new Uint8Array(length).fill(0xee);
+    const found = words(() => decodeInto(text, target));
+    if (found.startsWith('ERR')) assert(target.every((byte) => byte === 0xee));
+    return found;
+}
+
+const OPERATIONS = {
+    encode: (bytes) => words(() => encode(bytes)),
+    encode_upper: (bytes) => words(() => encode(bytes, { upper: true })),
+    encode_prefixed: (bytes) => words(() => encode(bytes, { prefix: true })),
+    encode_upper_prefixed: (bytes) => words(() => encode(bytes, { prefix: true, upper: true })),
+    decode: (text) => words(() => decode(text)),
+    check: (text) => words(() => check(text)),
+    decode_to_slice: intoSlice,
+    msg_decode: (text) => message(() => decode(text)),
+    msg_check: (text) => message(() => check(text)),
+};
+
+test('stored answers of the Rust crate', () => {
+    const [questions, answers] = ['stdin', 'stdout'].map((name) =>
+        read(`crates/const_hex_replay/${name}`).trimEnd().split('\n'));
+    const asked = {};
+    questions.forEach((question, at) => {
+        const [operation, hex, length] = question.split(' ');
+        const run = OPERATIONS[operation];
+        if (!run) return;
+        asked[operation] = (asked[operation] ?? 0) + 1;
+        const wanted = answers[at].replace(/ BUF .*/, '');
+        const bytes = Buffer.from(hex === '-' ? '' : hex, 'hex');
+        assert.equal(run(bytes, Number(length)), wanted, question);
+        if (operation.startsWith('encode') || bytes.some((byte) => byte > 127)) return;
+        assert.equal(run(bytes.toString('latin1'), Number(length)), wanted, question);
+    });
+    for (const operation of Object.keys(OPERATIONS)) assert(asked[operation] > 10, operation);
+});
+
+test('Buffer, of 100,000 random texts that are valid', () => {
+    const random = randomOf(11);
+    let valid = 0;
+    while (valid < 100000) {
+        const text = randomText(random);
+        if (!isHex(text)) continue;
+        valid += 1;
+        const body = text.replace(/^0[xX]/, '');
+        const bytes = decode(text);
+        assert.equal(Buffer.compare(bytes, Buffer.from(body, 'hex')), 0, text);
+        assert.equal(encode(bytes), body.toLowerCase());
+    }
+});
+
+test('a buffer that is shared', () => {
+    const buffer = new SharedArrayBuffer(4);
+    new Uint8Array(buffer).set(Buffer.from('kiwi'));
+    assert.equal(encode(buffer), '6b697769');
+});
+
+test('values of another realm', async () => {
+    const { runInNewContext } = await import('node:vm');
+    const [bytes, buffer, target] = runInNewContext(
+        '[Uint8Array.of(1, 2), Uint8Array.of(1, 2).buffer, new Uint8Array(1)]');
+    assert.equal(encode(bytes), '0102');
+    assert.equal(encode(buffer), '0102');
+    assert.equal(decodeInto('ff', target)[0], 255);
+});
+
+test('256 MiB', () => {
+    const bytes = decode('6B'.repeat(2 ** 27));
+    assert.equal(bytes.length, 2 ** 27);
+    assert(bytes.every((byte) => byte === 0x6b));
+    const text = encode(bytes);
+    assert.equal(text.length, 2 ** 28);
+    assert.equal(Buffer.compare(Buffer.from(text, 'hex'), bytes), 0);
+});
+
+test('more than the memory can have, and more than a string can have', () => {
+    for (const call of [
+        () => encode(new ArrayBuffer(600 * 2 ** 20)),
+        () => decode(new ArrayBuffer(2 ** 31)),
+        () => encode(new ArrayBuffer(2 ** 28)),
+    ]) {
+        assert.equal(thrown(call).name, 'RangeError');
+        assert.equal(encode(Buffer.from('kiwi')), '6b697769');
+    }
+});
+
+/** Runs a program in a Node of its own, and returns what it prints. */
+function printed(program) {
+    const source = program.replace('PACKAGE', JSON.stringify(new URL('../const_hex.js', import.meta.url)));
+    const { stdout, stderr } = spawnSync(
+        process.execPath,
+        [...process.execArgv.filter((word) => word.includes('memory64')), '--input-type=module', '-e', source],
+        { encoding: 'utf8', cwd: fileURLToPath(TOP) },
+    );
+    return stdout + stderr;
+}
+
+test('a memory that cannot grow', () => {
+    assert.equal(printed(`
+        import { decode, encode } from PACKAGE;
+        const { grow } = WebAssembly.Memory.prototype;
+        WebAssembly.Memory.prototype.grow = () => { throw new RangeError('no'); };
+        const large = new Uint8Array(2 ** 20);
+        for (const call of [() => encode(large), () => decode('00'.repeat(2 ** 20)), () => decode('\u00e9'.repeat(2 ** 20))]) {
+            try { call(); } catch (error) { console.log(error.name, encode(decode('0x6b'))); }
+        }
+        WebAssembly.Memory.prototype.grow = grow;
+        console.log(encode(large).length);
+    `), 'RangeError 6b\nRangeError 6b\nRangeError 6b\n2097152\n');
+});
+
+test('an engine without 64-bit memories', () => {
+    for (const lack of ['WebAssembly.validate = () => false', 'delete globalThis.WebAssembly']) {
+        assert.match(printed(`
+            ${lack};
+            await import(PACKAGE).catch((error) => console.log(error.message));
+        `), /^const-hex-proved needs 64-bit WebAssembly memories, .* Chrome 133, Firefox 134 and Node 24 .*\n$/);
+    }
+});
+
+test('a memory whose pages are counted by the other type of number', () => {
+    assert.equal(printed(`
+        const { grow } = WebAssembly.Memory.prototype;
+        let own;
+        try { new WebAssembly.Memory({ initial: 0n, address: 'i64' }).grow(0n); own = BigInt; } catch { own = Number; }
+        const other = own === BigInt ? Number : BigInt;
+        WebAssembly.Memory.prototype.grow = function (pages) {
+            if (typeof pages !== typeof other(0)) throw new TypeError('not this type');
+            return grow.call(this, own(pages));
+        };
+        const { encode } = await import(PACKAGE);
+        console.log(encode(new Uint8Array(2 ** 20)).length);
+    `), '2097152\n');
+});
+
+test('the version is the one of the header', () => {
+    const number = Number(/^#define CONST_HEX_VERSION (\d+)$/m.exec(read('c/const_hex.h'))[1]);
+    const [major, minor, patch] = version.split('.').map(Number);
+    assert.equal(10000 * major + 100 * minor + patch, number);
+});
+
+test('the types declare each export', async () => {
+    const exported = Object.keys(await import('../const_hex.js')).sort();
+    const declared = [...read('js/index.d.ts').matchAll(/^export (?:declare )?(?:function|class|const) (\w+)/gm)];
+    assert.deepEqual(declared.map(([, name]) => name).sort(), exported);
+});

@@ -1,0 +1,295 @@
+// Tests that run in Node and in a browser. Each row is a name and a function that throws if it fails.
+import { check, decode, decodeInto, encode, HexError, isHex, version } from '../const_hex.js';
+
+export const rows = [];
+
+const HELLO = '48656c6c6f20776f726c6421';
+const KIWI = ascii('kiwi');
+
+function row(name, run) {
+    rows.push([name, run]);
+}
+
+function ascii(text) {
+    return Uint8Array.from(text, (character) => character.charCodeAt(0));
+}
+
+/** Throws if two values do not have the same type and the same JSON text. */
+export function same(found, wanted, what = '') {
+    const [one, other] = [found, wanted].map((it) => `${typeof it} ${JSON.stringify(it)}`);
+    if (one !== other) throw new Error(`${what}: ${one}, and not ${other}`.slice(0, 500));
+}
+
+/** What a call throws. */
+export function thrown(call, what = call) {
+    try {
+        call();
+    } catch (error) {
+        return error;
+    }
+    throw new Error(`${what}: nothing is thrown`);
+}
+
+/** The answer of a call: bytes as an array, or what a HexError has. */
+export function answer(call) {
+    try {
+        const value = call();
+        return value instanceof Uint8Array ? [...value] : value;
+    } catch (error) {
+        if (!(error instanceof HexError)) throw error;
+        const { kind, index, byte } = error;
+        return index === undefined ? kind : { kind, index, byte };
+    }
+}
+
+/** The rules again: what reading the bytes of a text answers. */
+function model(text) {
+    const body = text[0] === 0x30 && (text[1] === 0x78 || text[1] === 0x58) ? 2 : 0;
+    if (text.length % 2 === 1) return 'OddLength';
+    const characters = String.fromCharCode(...text);
+    for (let index = body; index < text.length; index++) {
+        if (!/[0-9a-fA-F]/.test(characters[index])) {
+            return { kind: 'InvalidHexCharacter', index, byte: text[index] };
+        }
+    }
+    return (characters.slice(body).match(/../g) ?? []).map((pair) => parseInt(pair, 16));
+}
+
+/** Compares every call that reads a text with the model. */
+function compare(text) {
+    const wanted = model(typeof text === 'string' ? new TextEncoder().encode(text) : text);
+    const accepted = Array.isArray(wanted);
+    same(answer(() => decode(text)), wanted, text);
+    same(answer(() => check(text)), accepted ? undefined : wanted, text);
+    same(isHex(text), accepted, text);
+    const target = new Uint8Array(accepted ? wanted.length : 3).fill(0xee);
+    const into = answer(() => decodeInto(text, target));
+    if (into === 'InvalidStringLength' && !accepted) return;
+    same(into, wanted, text);
+    if (!accepted) same([...target], [0xee, 0xee, 0xee], text);
+}
+
+/** Random numbers below 2^32, the same in each run. */
+export function randomOf(seed) {
+    return () => {
+        seed = (seed + 0x6d2b79f5) | 0;
+        let mixed = Math.imul(seed ^ (seed >>> 15), seed | 1);
+        mixed ^= mixed + Math.imul(mixed ^ (mixed >>> 7), mixed | 61);
+        return (mixed ^ (mixed >>> 14)) >>> 0;
+    };
+}
+
+/** A random text of 0 to 80 characters: often a prefix, seldom a character that is not a digit. */
+export function randomText(random) {
+    const digits = '0123456789abcdefABCDEF';
+    let text = ['', '', '0x', '0X', '0', 'x'][random() % 6];
+    const others = random() % 3 === 0 ? 20 : Infinity;
+    for (let left = random() % 80; left > 0; left--) {
+        text += random() % others === 0
+            ? String.fromCharCode(random() % [128, 256, 65536][random() % 3])
+            : digits[random() % digits.length];
+    }
+    return text;
+}
+
+row('encode', () => {
+    same(encode(KIWI), '6b697769');
+    same(encode(ascii('Hello world!'), {}), HELLO);
+    same(encode(ascii('Hello world!'), { upper: true }), HELLO.toUpperCase());
+    same(encode(Uint8Array.of(1, 2, 3, 15, 16), { prefix: true, upper: true }), '0x0102030F10');
+    same(encode(Uint8Array.of(1, 2, 3, 15, 16), { prefix: true, upper: undefined }), '0x0102030f10');
+    same(encode(new Uint8Array(0)), '');
+    same(encode(new Uint8Array(0), { prefix: true }), '0x');
+});
+
+row('decode', () => {
+    for (const text of ['6b697769', '6B697769', '0x6b697769', '0X6b697769']) {
+        same([...decode(text)], [...KIWI]);
+        same([...decode(ascii(text))], [...KIWI]);
+    }
+    same([...decode('')], []);
+    same([...decode('0x')], []);
+});
+
+row('decode gives an array of its own', () => {
+    const first = decode('6b697769');
+    same([first.buffer.byteLength, first.byteOffset], [4, 0]);
+    decode('ffffffff');
+    same([...first], [...KIWI]);
+    same(first.constructor.name, 'Uint8Array');
+});
+
+row('decodeInto', () => {
+    const target = new Uint8Array(8).fill(0xee);
+    const part = target.subarray(2, 6);
+    same(decodeInto('0x6b697769', part) === part, true);
+    same([...target], [0xee, 0xee, ...KIWI, 0xee, 0xee]);
+    for (const length of [0, 3, 5, 1000]) {
+        const other = new Uint8Array(length).fill(0xee);
+        same(answer(() => decodeInto('0x6b697769', other)), 'InvalidStringLength');
+        same(answer(() => decodeInto('6b69776', other)), 'OddLength');
+        same(other.every((byte) => byte === 0xee), true);
+    }
+    same(answer(() => decodeInto('', new Uint8Array(1))), 'InvalidStringLength');
+    same(answer(() => decodeInto('0x', new Uint8Array(1))), 'InvalidStringLength');
+    same(answer(() => decodeInto('6b6977zz', part)), { kind: 'InvalidHexCharacter', index: 6, byte: 122 });
+    same([...part], [...KIWI]);
+});
+
+row('decodeInto over its own text', () => {
+    const text = ascii('0x6b697769');
+    decodeInto(text, text.subarray(1, 5));
+    same(String.fromCharCode(...text), '0kiwi97769');
+});
+
+row('check and isHex', () => {
+    for (const text of [HELLO, `0x${HELLO}`, `0X${HELLO.toUpperCase()}`]) {
+        same(check(text), undefined);
+        same(isHex(text), true);
+    }
+    same(answer(() => check(HELLO.slice(1))), 'OddLength');
+    same(isHex(HELLO.slice(1)), false);
+    same(isHex('Hello world!'), false);
+});
+
+row('messages', () => {
+    for (const [text, message] of [
+        ['0x1', 'odd number of digits'],
+        ['0xzz', "invalid character 'z' at position 2"],
+        ['6b\n0', "invalid character '\\n' at position 2"],
+        ['6b\u00e90', 'odd number of digits'],
+        ['6b\u00e9', "invalid character '\u00c3' at position 2"],
+    ]) {
+        const error = thrown(() => decode(text));
+        same([error.name, error.message], ['HexError', message]);
+        same([error instanceof HexError, error instanceof SyntaxError], [true, true]);
+    }
+    same(thrown(() => decodeInto('6b', new Uint8Array(2))).message, 'invalid string length');
+    same(Object.keys(thrown(() => decode('1'))).includes('index'), false);
+});
+
+row('version', () => same(/^\d+\.\d+\.\d+$/.test(version), true));
+
+row('texts past ASCII count the bytes of their UTF-8', () => {
+    const place = (index, byte) => ({ kind: 'InvalidHexCharacter', index, byte });
+    same(answer(() => decode('\ud800a')), place(0, 0xef));
+    same(answer(() => decode('6\u00e95')), place(1, 0xc3));
+    same(answer(() => decode('6b\u{1f95d}')), place(2, 0xf0));
+    same(answer(() => decode(`${'6b'.repeat(60)}\u20ac6`)), place(120, 0xe2));
+    same(answer(() => decode(`${'6b'.repeat(60)}\u20ac`)), 'OddLength');
+});
+
+row('each byte', () => {
+    for (let byte = 0; byte < 256; byte++) {
+        const digits = byte.toString(16).padStart(2, '0');
+        same(encode(Uint8Array.of(byte)), digits);
+        same([...decode(digits)], [byte]);
+        compare(Uint8Array.of(byte, 0x61));
+        compare(Uint8Array.of(0x61, byte));
+    }
+});
+
+row('lengths of 0 to 200 bytes, with each bad place', () => {
+    for (let length = 0; length <= 200; length++) {
+        const bytes = Uint8Array.from({ length }, (_, at) => (37 * at + 11) % 256);
+        const text = [...bytes].map((byte) => byte.toString(16).padStart(2, '0')).join('');
+        same(encode(bytes), text);
+        same(encode(bytes, { prefix: true, upper: true }), `0x${text.toUpperCase()}`);
+        same(answer(() => decode(text)), [...bytes]);
+        for (let index = 0; index < text.length; index++) {
+            const wanted = { kind: 'InvalidHexCharacter', index, byte: 103 };
+            const bad = `${text.slice(0, index)}g${text.slice(index + 1)}`;
+            same(answer(() => decode(bad)), wanted);
+            same(answer(() => check(ascii(bad))), wanted);
+        }
+    }
+});
+
+row('prefixes', () => {
+    for (const text of ['0', 'x', '0x', '0X', '0x0x', '0x0X6b', 'x0', '00x0', '0y', ' 0x', '0x0', '0x 0']) {
+        compare(text);
+        compare(ascii(text));
+    }
+});
+
+row('100,000 random texts', () => {
+    const random = randomOf(7);
+    for (let count = 0; count < 100000; count++) compare(randomText(random));
+});
+
+row('views', () => {
+    const buffer = Uint8Array.of(9, 9, ...KIWI, 9, 9).buffer;
+    for (const view of [
+        new Uint8Array(buffer, 2, 4),
+        new Uint8ClampedArray(buffer, 2, 4),
+        new Int16Array(buffer, 2, 2),
+        new DataView(buffer, 2, 4),
+        buffer.slice(2, 6),
+    ]) {
+        same(encode(view), '6b697769');
+    }
+    same([...decode(new DataView(ascii('..6b69').buffer, 2))], [0x6b, 0x69]);
+    same(encode(new Float64Array([1])), '000000000000f03f');
+});
+
+row('a shared buffer', () => {
+    const { buffer } = new WebAssembly.Memory({ initial: 1, maximum: 1, shared: true });
+    const view = new Uint8Array(buffer, 100, 8);
+    view.set(ascii('6b697769'));
+    same([...decode(view)], [...KIWI]);
+    same(encode(view), '3662363937373639');
+    same([...decodeInto(view, view.subarray(4))], [...KIWI]);
+});
+
+row('a detached buffer', () => {
+    const view = new Uint8Array(8);
+    const whole = view.buffer;
+    const numbers = new DataView(whole);
+    structuredClone(whole, { transfer: [whole] });
+    const calls = {
+        bytes: [() => encode(view), () => encode(whole), () => encode(numbers)],
+        text: [() => decode(view), () => isHex(view), () => check(whole), () => decode(numbers)],
+        target: [() => decodeInto('', view), () => decodeInto('6b', view)],
+    };
+    for (const [name, all] of Object.entries(calls)) {
+        for (const call of all) {
+            const error = thrown(call);
+            same([error.name, error.message], ['TypeError', `${name} has no bytes: its buffer is detached`], call);
+        }
+    }
+});
+
+row('arguments of other types', () => {
+    const others = [undefined, null, 5, 5n, true, [1], {}, { length: 2 }, () => 1, Symbol('a'), new Date(0)];
+    const calls = [encode, decode, check, isHex, (text) => decodeInto(text, new Uint8Array(1))];
+    for (const other of others) {
+        calls.forEach((call, at) => {
+            const error = thrown(() => call(other), String(other));
+            same([error.name, error.message.split(' ')[0]], ['TypeError', at === 0 ? 'bytes' : 'text']);
+        });
+    }
+    for (const other of [...others, '6b', new ArrayBuffer(1), new Int8Array(1), new DataView(new ArrayBuffer(1))]) {
+        const error = thrown(() => decodeInto('6b', other), String(other));
+        same([error.name, error.message.split(' ')[0]], ['TypeError', 'target']);
+    }
+    same(thrown(() => encode('6b')).name, 'TypeError');
+});
+
+row('options of other types', () => {
+    for (const [options, name] of [
+        [null, 'options'], [true, 'options'], ['upper', 'options'], [1, 'options'],
+        [{ prefix: 1 }, 'prefix'], [{ prefix: null }, 'prefix'], [{ upper: 'yes' }, 'upper'],
+    ]) {
+        const error = thrown(() => encode(KIWI, options), JSON.stringify(options));
+        same([error.name, error.message.split(' ')[0]], ['TypeError', name]);
+    }
+});
+
+row('a mebibyte', () => {
+    const bytes = new Uint8Array(2 ** 20).map((_, at) => (at * 7919) >> 5);
+    const text = encode(bytes, { prefix: true });
+    same(text.length, 2 ** 21 + 2);
+    same(decode(text).every((byte, at) => byte === bytes[at]), true);
+    same(answer(() => check(`${text.slice(0, -1)}g`)), { kind: 'InvalidHexCharacter', index: 2 ** 21 + 1, byte: 103 });
+    same(encode(KIWI), '6b697769');
+});

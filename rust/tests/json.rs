@@ -1,0 +1,70 @@
+//! Fields of JSON, beside the crate `hex`.
+#![cfg(all(feature = "alloc", feature = "serde"))]
+
+use proptest::prelude::*;
+use serde::{Deserialize, Serialize};
+
+#[derive(Debug, Deserialize, PartialEq, Serialize)]
+struct Fields {
+    #[serde(with = "const_hex_proved")]
+    lower: Vec<u8>,
+    #[serde(serialize_with = "const_hex_proved::serialize_upper")]
+    #[serde(deserialize_with = "const_hex_proved::deserialize")]
+    upper: [u8; 4],
+    #[serde(with = "const_hex_proved::serde::prefixed")]
+    prefixed: Vec<u8>,
+    #[serde(serialize_with = "const_hex_proved::serde::prefixed::serialize_upper")]
+    #[serde(deserialize_with = "const_hex_proved::serde::prefixed::deserialize")]
+    prefixed_upper: [u8; 2],
+}
+
+#[derive(Deserialize, Serialize)]
+struct Ours(#[serde(with = "const_hex_proved::serde")] Vec<u8>);
+
+#[derive(Deserialize, Serialize)]
+struct Theirs(#[serde(with = "hex::serde")] Vec<u8>);
+
+#[test]
+fn all_forms() {
+    let fields = Fields {
+        lower: b"kiwi".to_vec(),
+        upper: [0, 1, 0xAB, 0xFF],
+        prefixed: vec![0xDE, 0xAD],
+        prefixed_upper: [0xBE, 0xEF],
+    };
+    let text =
+        r#"{"lower":"6b697769","upper":"0001ABFF","prefixed":"0xdead","prefixed_upper":"0xBEEF"}"#;
+    assert_eq!(serde_json::to_string(&fields).unwrap(), text);
+    assert_eq!(serde_json::from_str::<Fields>(text).unwrap(), fields);
+    let other =
+        r#"{"lower":"0x6B697769","upper":"0X0001abff","prefixed":"DEAD","prefixed_upper":"beef"}"#;
+    assert_eq!(serde_json::from_str::<Fields>(other).unwrap(), fields);
+}
+
+#[test]
+fn refusals() {
+    for (value, words) in [
+        ("\"0x6g\"", "invalid character 'g' at position 3"),
+        ("\"6\"", "odd number of digits"),
+        (
+            "7",
+            "invalid type: integer `7`, expected a hex encoded string",
+        ),
+    ] {
+        let error = serde_json::from_str::<Ours>(value)
+            .err()
+            .unwrap()
+            .to_string();
+        assert!(error.starts_with(words), "{error}");
+    }
+}
+
+proptest! {
+    #[test]
+    fn as_hex(bytes in proptest::collection::vec(any::<u8>(), 0..200)) {
+        let text = serde_json::to_string(&Ours(bytes.clone())).unwrap();
+        prop_assert_eq!(&text, &serde_json::to_string(&Theirs(bytes.clone())).unwrap());
+        prop_assert_eq!(&serde_json::from_str::<Ours>(&text).unwrap().0, &bytes);
+        prop_assert_eq!(&serde_json::from_str::<Theirs>(&text).unwrap().0, &bytes);
+    }
+}
