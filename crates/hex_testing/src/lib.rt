@@ -10,4 +10,4 @@ mod rows;
 pub use crate::counting::Counting;
 pub use crate::devices::{Endless, Fault, Source, Target};
 pub use crate::formatted::InHex;
-pub use crate::rows::Text;
+pub use crate::rows::{Text, difference};

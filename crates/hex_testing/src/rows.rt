@@ -21,11 +21,24 @@ impl Debug for Text<'_> {
     }
 }
 
+/// Where two slices of bytes differ: a place a little before the first byte that does, and both
+/// slices from there on. `None` if they are equal.
+pub fn difference<'a>(bytes: &'a [u8], want: &'a [u8]) -> Option<(usize, Text<'a>, Text<'a>)> {
+    if bytes == want {
+        return None;
+    }
+    let place = bytes.iter().zip(want).position(|(byte, want)| byte != want);
+    let from = place.unwrap_or(0).saturating_sub(8);
+    let [bytes, want] = [bytes, want].map(|bytes| Text(bytes.get(from..).unwrap_or(&[])));
+    Some((from, bytes, want))
+}
+
 /// Ends the test if a call did not answer what is wanted. Prints the call, its row and both answers.
+// No library may end the process. So each crate of tests has the module `rows` with what ends it.
 #[macro_export]
 macro_rules! same {
     ($rt:expr, $call:expr, $row:expr; $answer:expr, $want:expr) => {
-        crate::rows::Rows::check($rt, $call, &$row, &$answer, &$want)
+        crate::rows::check($rt, $call, &$row, &$answer, &$want)
     };
 }
 
@@ -33,42 +46,7 @@ macro_rules! same {
 #[macro_export]
 macro_rules! same_bytes {
     ($rt:expr, $call:expr, $row:expr; $bytes:expr, $want:expr) => {
-        crate::rows::Rows::check_bytes($rt, $call, &$row, $bytes, $want)
-    };
-}
-
-/// Writes what `same` and `same_bytes` call: functions of the type `Rows` in the module `rows` of a
-/// crate's tests. They end the test, which no library may do.
-#[macro_export]
-macro_rules! checks {
-    ($rows:ident) => {
-        impl $rows {
-            pub(crate) fn check<R: Debug, A: Debug + PartialEq>(
-                rt: &impl Abort,
-                call: &str,
-                row: &R,
-                answer: &A,
-                want: &A,
-            ) {
-                assert!(rt; answer == want, "{call} at {row:?}: {answer:?}, but wanted {want:?}");
-            }
-
-            pub(crate) fn check_bytes<R: Debug>(
-                rt: &impl Abort,
-                call: &str,
-                row: &R,
-                bytes: &[u8],
-                want: &[u8],
-            ) {
-                if bytes == want {
-                    return;
-                }
-                let place = bytes.iter().zip(want).position(|(byte, want)| byte != want);
-                let from = place.unwrap_or(0).saturating_sub(8);
-                let [answer, want] = [bytes, want].map(|bytes| Text(bytes.get(from..).unwrap_or(&[])));
-                panic!(rt; "{call} at {row:?}, from byte {from} on: {answer:?}, but wanted {want:?}");
-            }
-        }
+        crate::rows::check_bytes($rt, $call, &$row, $bytes, $want)
     };
 }
 
@@ -83,6 +61,15 @@ mod tests {
         assert!(rt; short.as_str() == "\"0x\\\"\\xff\\n\"");
         let long = format!(in rt.alloc(); "{:?}", Text(&[b'a'; 65]))?;
         assert!(rt; long.ends_with("aaa..\" of 65 bytes"));
+        Ok(())
+    }
+
+    #[test]
+    fn differences(rt: HostRuntime) -> Result<(), Fail> {
+        assert!(rt; difference(b"6b69", b"6b69") == None);
+        let (bytes, want) = (Text(b"12345678!"), Text(b"12345678a"));
+        assert!(rt; difference(b"0012345678!", b"0012345678a") == Some((2, bytes, want)));
+        assert!(rt; difference(b"6b", b"6b69") == Some((0, Text(b"6b"), Text(b"6b69"))));
         Ok(())
     }
 }
