@@ -11,6 +11,7 @@
 pub(crate) mod calls;
 pub(crate) mod measure;
 mod table;
+mod versions;
 
 use crate::bench::calls::{batch, Call, Side};
 use crate::bench::measure::{measure, Times, Work};

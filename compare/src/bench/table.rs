@@ -2,20 +2,20 @@
 
 use crate::bench::calls::Side;
 use crate::bench::measure::Times;
-use crate::bench::{Avx2, Row};
+use crate::bench::{versions, Avx2, Row};
 use std::io::{self, Write};
 
-/// Writes what the times were taken on, and the head of the table.
+/// Writes what is measured and on what machine, and the head of the table.
 pub fn write_head(output: &mut impl Write, avx2: Avx2, pinned: Option<usize>) -> io::Result<()> {
     let machine = machine().unwrap_or_else(|| "an unknown processor".to_owned());
     let shown = match avx2 {
         Avx2::Hidden => ", its AVX2 hidden",
         Avx2::AsFound | Avx2::ToHide => "",
     };
-    match pinned {
-        Some(processor) => writeln!(output, "{machine}{shown}; pinned to processor {processor}.")?,
-        None => writeln!(output, "{machine}{shown}; not pinned to a processor.")?,
-    }
+    let pinned = pinned.map_or("not pinned to a processor".to_owned(), |processor| {
+        format!("pinned to processor {processor}")
+    });
+    writeln!(output, "{machine}{shown}; {pinned}; {}.", versions::line())?;
     writeln!(
         output,
         "\nNanoseconds a call, least and median; ratios of both to const-hex through C.\n"
