@@ -37,7 +37,7 @@ fn run(command: Command) -> io::Result<bool> {
         Command::Answers(wanted) => print_answers(wanted, &mut output)?,
         Command::Questions(asked) => print_questions(asked, &mut output)?,
         Command::Differ(asked) => print_differences(asked, &mut output)?,
-        Command::Bench(avx2) => bench::run(avx2, &mut output)?,
+        Command::Bench(asked) => bench::run(&asked, &mut output)?,
         Command::Count => count::run(&mut output)?,
     };
     output.flush()?;

@@ -118,7 +118,9 @@ fn time_of(batch: &Batch, work: &mut Work, calls: usize) -> Duration {
 /// The time of a call, in nanoseconds.
 #[derive(Clone, Copy)]
 pub struct Times {
-    pub least: f64,
+    /// By the fastest batch.
+    pub fastest: f64,
+    /// By the median batch.
     pub median: f64,
 }
 
@@ -128,7 +130,7 @@ impl Times {
         batches.sort_unstable();
         let a_call = |batch: Duration| batch.as_nanos() as f64 / calls as f64;
         Times {
-            least: a_call(batches[0]),
+            fastest: a_call(batches[0]),
             median: a_call(batches[batches.len() / 2]),
         }
     }
