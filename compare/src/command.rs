@@ -31,7 +31,7 @@ pub enum Command {
 }
 
 impl Command {
-    /// The command of these words.
+    /// The command of these arguments.
     pub fn of(words: &[String]) -> Option<Command> {
         let words: Vec<&str> = words.iter().map(String::as_str).collect();
         match words.as_slice() {

@@ -30,7 +30,7 @@ fn main() -> ExitCode {
     }
 }
 
-/// Does what is asked, and tells whether all is well.
+/// Does what is asked, and returns whether all is well.
 fn run(command: Command) -> io::Result<bool> {
     let mut output = BufWriter::new(io::stdout().lock());
     let is_well = match command {

@@ -14,7 +14,7 @@ const WARMING: usize = 5;
 /// The seed of the orders in which the sides take turns.
 const ORDERS: u64 = 1;
 
-/// How many bytes of data go through a call in one batch, if one call takes fewer.
+/// How many bytes of data go through the calls of one batch, if one call gets fewer.
 const BATCH_BYTES: usize = 32_768;
 
 /// The most calls of a batch.

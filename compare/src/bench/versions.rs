@@ -2,7 +2,7 @@
 
 use std::time::SystemTime;
 
-/// The date and the versions. The build script has read those of the crates and of the compilers.
+/// The date and the versions. The build script has read the crates' and the compilers' versions.
 pub fn line() -> String {
     let crates = [
         concat!("const-hex ", env!("VERSION_OF_CONST_HEX")),
