@@ -175,7 +175,7 @@ fn draw_mark(root: &Root, which: usize, place: Place) -> Drawn<()> {
     Ok(())
 }
 
-/// Draws the name of each line behind its right end, the first without a mark.
+/// Draws the name of each line behind its right end. The first is the line of the ratio 1.
 fn draw_names(root: &Root, names: &[(&str, Place)]) -> Drawn<()> {
     let ends: Vec<i32> = names.iter().map(|(_, end)| end.1).collect();
     let left = names.iter().map(|(_, end)| end.0).max().unwrap_or(0) + 8;
@@ -185,8 +185,13 @@ fn draw_names(root: &Root, names: &[(&str, Place)]) -> Drawn<()> {
     for (which, ((name, end), y)) in names.iter().zip(spread(&ends)).enumerate() {
         let leader = [(end.0 + 8, end.1), (left + 10, y)];
         root.draw(&PathElement::new(leader, RGBColor(0x99, 0x99, 0x99)))?;
-        if let Some(which) = which.checked_sub(1) {
-            draw_mark(root, which, (left + 18, y))?;
+        let middle = (left + 18, y);
+        match which.checked_sub(1) {
+            Some(call) => draw_mark(root, call, middle)?,
+            None => {
+                let ends = [(left + 10, y), (left + 26, y)];
+                root.draw(&PathElement::new(ends, BLACK.stroke_width(3)))?;
+            }
         }
         root.draw(&Text::new(*name, (left + 30, y), &style))?;
     }
