@@ -2,10 +2,10 @@
  * const_hex: hexadecimal text, proved.
  *
  * Every call is a function of the Rattle crate const_hex_c. It is proved that each call is safe,
- * returns, and meets its contract for every input. This header says in words what the contracts
- * say. No proof compares the two; reading and tests do. Only tests show that the words of a refusal
- * are written, and the words of a bad character. No call takes memory or keeps anything between
- * calls. Any number of threads may call at once.
+ * returns, and meets its contract for every input. This header says in prose what the contracts
+ * say. No proof compares the two; reading and tests do. Only tests show that the message of a
+ * refusal is written, and what it says of a bad character. No call allocates or keeps anything
+ * between calls. Any number of threads may call at once.
  *
  * THE CALLER'S PART
  *
@@ -42,7 +42,7 @@
  * only on the call, the lengths, the prefix, and upper. No address that it reads or writes depends
  * on a byte or a digit. This is tested for both builds on x86-64, and not proved. It is not said of
  * const_hex_check_raw of one digit alone, nor of a text that is refused: the refusal names the place
- * of the bad character, and the time tells it too. How long an instruction takes is up to the
+ * of the bad character, and the time shows it too. How long an instruction takes is up to the
  * processor. No memory is wiped. libsodium has sodium_bin2hex and sodium_hex2bin, made for keys.
  *
  * EXAMPLES
@@ -50,9 +50,9 @@
  *     unsigned char bytes[32];
  *     struct const_hex_refusal refusal;
  *     if (!const_hex_decode(text, length, bytes, sizeof bytes, &refusal)) {
- *         char words[CONST_HEX_WORDS];
- *         const_hex_refusal_words(&refusal, words, sizeof words);
- *         fprintf(stderr, "not a hash: %s\n", words);
+ *         char message[CONST_HEX_WORDS];
+ *         const_hex_refusal_words(&refusal, message, sizeof message);
+ *         fprintf(stderr, "not a hash: %s\n", message);
  *     }
  *
  * A text has no NUL at its end. To print it with %s, make room for one:
@@ -84,7 +84,7 @@
 /* How long the text of so many bytes is, as a constant that can size an array. */
 #define CONST_HEX_TEXT_LENGTH(bytes, prefix) (2 * (bytes) + ((prefix) ? 2 : 0))
 
-/* Room for the words of any refusal, with the NUL behind them. */
+/* Room for the message of any refusal, with the NUL behind it. */
 #define CONST_HEX_WORDS 64
 
 /* GCC and Clang warn if an answer is ignored. */
@@ -106,7 +106,7 @@ enum {
     CONST_HEX_INVALID_LENGTH = 2,
     /* A byte behind the prefix is not a digit: the first such byte, and its place. */
     CONST_HEX_INVALID_CHARACTER = 3,
-    /* Memory was refused. No call here takes memory, so none gives this kind. */
+    /* Out of memory. No call here allocates, so none gives this kind. */
     CONST_HEX_NO_MEMORY = 4
 };
 
@@ -182,14 +182,14 @@ CONST_HEX_ANSWER
 bool const_hex_check_raw(const char *text, size_t text_length);
 
 /*
- * Puts the words of a refusal into buffer, such as "odd number of digits", and then a NUL. Returns
- * how many bytes stand before the NUL. Words that do not fit are cut, so that the NUL always fits.
- * CONST_HEX_WORDS bytes are enough for all words. If buffer_length is 0, nothing is written and the
- * answer is 0. A struct that no call here has filled may have no words.
+ * Puts the message of a refusal into buffer, such as "odd number of digits", and then a NUL.
+ * Returns how many bytes stand before the NUL. A message that does not fit is cut, so that the NUL
+ * always fits. CONST_HEX_WORDS bytes are enough for every message. If buffer_length is 0, nothing
+ * is written and the answer is 0. A struct that no call here has filled may have no message.
  *
- * The words show a bad byte as the character with its number, in single quotes: 'z'. Control
+ * The message shows a bad byte as the character with its number, in single quotes: 'z'. Control
  * characters (0 to 31 and 127 to 159), a single quote, a backslash, 160 and 173 are escaped, as in
- * '\n', '\'' or '\u{80}'. The words are UTF-8: a character past 127 has two bytes, and a cut may
+ * '\n', '\'' or '\u{80}'. The message is UTF-8: a character past 127 has two bytes, and a cut may
  * fall between them.
  */
 size_t const_hex_refusal_words(const struct const_hex_refusal *refusal, char *buffer,

@@ -1,4 +1,4 @@
-# Writes the manual page const_hex(3) from const_hex.h, whose comments are its words.
+# Writes the manual page const_hex(3) from const_hex.h, whose comments are its text.
 #
 # The first comment is the front: its lines in capitals head sections, and its lines that are set in by
 # four blanks are shown as they stand. Behind it, each comment with what it stands above is a part of
@@ -12,7 +12,7 @@ function shown(line) {
     return line
 }
 
-# A line of words of a comment, without what marks it as one.
+# A line of a comment, without what marks it as one.
 function words(line) {
     sub(/^ *\/\*+ ?/, "", line)
     sub(/ ?\*\/ *$/, "", line)
@@ -51,7 +51,7 @@ function print_front(line) {
     is_apart = is_first = 0
 }
 
-# A line of words, or an item of a list.
+# A line of prose, or an item of a list.
 function print_words(line) {
     if (line ~ /^ +- /) {
         print ".IP \\(bu 2"

@@ -24,8 +24,8 @@ const calls = instance(Uint8Array.from(atob(MODULE), (character) => character.ch
 const memory = calls.memory;
 const toPages = typeOfPages();
 
-// From `__heap_base` on, the module leaves its memory alone. First come a refusal, a count, and the
-// words of a refusal, then the input, and then the output.
+// From `__heap_base` on, the module leaves its memory alone. First come the struct of a refusal, a
+// count, and the message of an error, then the input, and then the output.
 const REFUSAL = 16 * Math.ceil(Number(calls.__heap_base.value) / 16);
 const COUNT = REFUSAL + 16;
 const WORDS = COUNT + 16;
@@ -202,7 +202,7 @@ function textAt(address, length) {
     }
 }
 
-/** The refusal in the memory, as an error. */
+/** The struct of a refusal in the memory, as an error. */
 function refusal() {
     const count = calls.const_hex_refusal_words(REFUSAL_ADDRESS, BigInt(WORDS), BigInt(WORDS_LENGTH));
     const kind = KINDS[numbers.getUint32(REFUSAL, true)];

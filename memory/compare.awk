@@ -1,12 +1,12 @@
 # Compares a run with requests for memory refused with the answers that are allowed.
 #
-# It takes four files:
+# It reads four files:
 #   1. what the program prints with ample memory, one line per call;
 #   2. the answers that a call may give instead if one of its requests is refused;
 #   3. how many requests a call makes, if more than one;
 #   4. the run. Its lines that begin with ">" mark requests. The last one counts the blocks of memory
 #      that are still alive.
-# The words before " = " in a line name its call.
+# What stands before " = " in a line names its call.
 #
 # A line of the run is right if it is the line with ample memory. If a request right before it was
 # refused, it may also be one of the answers in file 2. A call with no refused request has to make

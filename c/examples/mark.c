@@ -1,6 +1,6 @@
 /*
  * Reads lines of hexadecimal text and marks what is wrong with each, as compilers do. A line may
- * have any bytes and any length; of its bytes, those that are no printed ASCII show as '?'.
+ * have any bytes and any length; each byte that is not printable ASCII shows as '?'.
  *
  *     mark < FILE
  *
@@ -55,16 +55,16 @@ int main(void) {
     int status = 0;
     for (unsigned long number = 1; read_line(&line); number++) {
         struct const_hex_refusal refusal;
-        char words[CONST_HEX_WORDS];
+        char message[CONST_HEX_WORDS];
         if (const_hex_check(line.bytes, line.length, &refusal)) {
             continue;
         }
         status = 1;
-        const_hex_refusal_words(&refusal, words, sizeof words);
+        const_hex_refusal_words(&refusal, message, sizeof message);
         /* The mark stands under the bad character, or under the whole line if that is odd. */
         bool bad = refusal.kind == CONST_HEX_INVALID_CHARACTER;
         size_t place = bad ? refusal.index : 0;
-        printf("%lu:%lu: %s\n", number, (unsigned long)place + 1, words);
+        printf("%lu:%lu: %s\n", number, (unsigned long)place + 1, message);
         show(&line, place, bad ? 1 : line.length);
     }
     free(line.bytes);

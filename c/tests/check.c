@@ -121,7 +121,7 @@ static void words(void) {
     }
 }
 
-/* What the words name a byte by: its character, or an escape of it. */
+/* What a message names a byte by: its character, or an escape of it. */
 static void plain_name(unsigned byte, char *name) {
     static const char short_ones[] = {0, '0', '\t', 't', '\n', 'n', '\r', 'r', '\'', '\'', '\\', '\\'};
     for (size_t at = 0; at < sizeof short_ones; at += 2) {

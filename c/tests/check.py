@@ -176,7 +176,7 @@ def against_consthex(library, questions, answers):
         operation, data, *_ = question.split(" ")
         data = b"" if data == "-" else bytes.fromhex(data)
         mode = MODES.get(operation)
-        # The program takes one newline from the end of a text that it reads, and the library none.
+        # The program removes one newline from the end of a text that it reads, and the library none.
         if mode is None or (mode in ("decode", "check") and data.endswith(b"\n")):
             continue
         asked += 1

@@ -131,7 +131,7 @@ by_package() {
     shift 2
     [ "$compiler" = c++ ] && language=(-x c++)
     [ "${1-}" = --static ] && static=(-static)
-    # pkg-config's answer is words for the compiler.
+    # pkg-config's answer is several arguments of the compiler.
     # shellcheck disable=SC2046
     "$compiler" "${language[@]}" -Wall -Wextra -Werror -O2 "c/examples/$example.c" -x none \
         "${static[@]}" $(package --cflags --libs "$@") -o "$room/$example"

@@ -2,12 +2,12 @@
  * What a call does with a key: which instructions run, and which addresses are read.
  *
  *     keys paths N    Steps through each call an instruction at a time, for many valid inputs of each
- *                     length. All inputs of one length have to take the same path. N is 0 to 3, and
+ *                     length. All inputs of one length have to run the same path. N is 0 to 3, and
  *                     stands for a quarter of the lengths.
- *     keys encode     Encodes bytes that memcheck takes for undefined. It may report nothing.
- *     keys decode     Decodes and checks digits that memcheck takes for undefined. It may report only
- *                     jumps: those which tell digits from other bytes, and a prefix from digits.
- *     keys table      Looks a digit up in a table by a byte that memcheck takes for undefined. It has
+ *     keys encode     Encodes bytes that are undefined for memcheck. It may report nothing.
+ *     keys decode     Decodes and checks digits that are undefined for memcheck. It may report only
+ *                     jumps: by whether a byte is a digit, and by whether there is a prefix.
+ *     keys table      Looks a digit up in a table by a byte that is undefined for memcheck. It has
  *                     to report that address.
  *
  * A text that is refused is outside of all this: its error says where the bad byte is.
@@ -135,7 +135,7 @@ __attribute__((noinline)) static uint64_t path_of(const struct row *row, size_t 
     return path;
 }
 
-/* Whether all inputs of so many bytes are accepted and take one path. */
+/* Whether all inputs of so many bytes are accepted and run one path. */
 static bool has_one_path(const struct row *row, size_t length) {
     uint64_t first = 0;
     for (size_t which = 0; which < CHOSEN + 1 + RANDOM; which++) {
@@ -182,7 +182,7 @@ static int paths(size_t part) {
 }
 #endif
 
-/* Runs the calls that encode, or the others, over bytes that memcheck takes for undefined. */
+/* Runs the calls that encode, or the others, over bytes that are undefined for memcheck. */
 static int undefined(bool encodes) {
     size_t builds = builds_here();
     for (size_t which = 1; which < builds; which++) {
@@ -205,7 +205,7 @@ static int undefined(bool encodes) {
     return 0;
 }
 
-/* Looks a digit up in a table, by a byte that memcheck takes for undefined. */
+/* Looks a digit up in a table, by a byte that is undefined for memcheck. */
 static int table(void) {
     static const volatile char DIGITS[] = "0123456789abcdef";
     VALGRIND_MAKE_MEM_UNDEFINED(bytes, 1);

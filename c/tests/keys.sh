@@ -7,7 +7,7 @@ watched() {
         grep -q 'ERROR SUMMARY: ' "$room/memcheck.$1"
 }
 
-# How many reports of memcheck have the words $2. $1 is the run.
+# How many reports of memcheck begin with $2. $1 is the run.
 reports() { grep -c "== $2 uninitialised value" "$room/memcheck.$1"; }
 
 # Encoding has no jump and no address that depends on a byte.

@@ -70,7 +70,7 @@ static void there_and_back(size_t count) {
     }
 }
 
-/* Each length to 600, and those around a page and around 65,536 bytes. */
+/* Each length to 600, and lengths around a page and around 65,536 bytes. */
 static void longer_texts(void) {
     static const size_t far_off[] = {2048, 4096, 32768, 65536};
     for (size_t count = 1; count <= EACH; count++) {

@@ -5,7 +5,7 @@ code() { objdump -d --no-show-raw-insn "$room/const_hex_$1.o" > "$room/code"; }
 
 # Only the build for x86-64-v3 may use what the default processor lacks: AVX, AVX2, FMA and F16C,
 # whose names begin with v, LZCNT, MOVBE, BMI1 and BMI2. tzcnt is left out, as it stands in code for
-# older processors too, which take it for bsf.
+# older processors too, which run it as bsf.
 newer='v[a-z0-9]+|lzcnt|movbe|andn|bextr|bls(i|r|msk)|bzhi|mulx|pdep|pext|rorx|sarx|shlx|shrx'
 uses_newer() { grep -Eq "^ *[0-9a-f]+:[[:space:]]+($newer)[wlq]?[[:space:]]" "$room/code"; }
 wide() { code v3 && uses_newer && grep -q '%ymm' "$room/code"; }
@@ -77,7 +77,7 @@ test_answers() {
     starts "compilers.c" "$room/compilers"
     does "shared_text.c" compiled shared_text c/tests/shared_text.c "$archive"
     starts "shared_text.c" "$room/shared_text"
-    # -E: no variable of the environment takes its assertions away.
+    # -E: no variable of the environment turns its assertions off.
     starts "check.py" python3 -E c/tests/check.py "$shared" crates/const_hex_replay/stdin \
         crates/const_hex_replay/stdout crates/consthex/out/consthex
     does "the default build alone, as a shared object" cc -shared -Wl,--whole-archive "$single" \
@@ -86,7 +86,7 @@ test_answers() {
         crates/const_hex_replay/stdin crates/const_hex_replay/stdout
 }
 
-# A device that takes nothing: what is written is lost, which a program has to say.
+# A device that accepts nothing: what is written is lost, which a program has to say.
 full() { ! "$@" > /dev/full 2> "$room/complaint" && grep -q 'cannot be written' "$room/complaint"; }
 
 # Whether hash.py refuses a library of version 2.
@@ -155,7 +155,7 @@ misused() { "$@" 2> "$room/complaint"; [ $? -eq 2 ] && grep -q "^usage: $1 " "$r
 test_words_of_build() {
     local words
     for words in --bogus --help "--target riscv" --target "a b" "--single a b"; do
-        # Each row is one line of words.
+        # Each row is one line of arguments.
         # shellcheck disable=SC2086
         does "c/build $words" misused c/build $words
     done

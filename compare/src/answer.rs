@@ -7,7 +7,7 @@ use std::io::Write;
 /// What a question is answered.
 #[derive(Clone, Debug, PartialEq, Eq)]
 pub enum Answer {
-    /// It is done, and there is nothing to tell.
+    /// It is done, and there is nothing more to say.
     Done,
     /// Bytes, or the bytes of a text.
     Bytes(Vec<u8>),
@@ -15,13 +15,13 @@ pub enum Answer {
     Truth(bool),
     /// Numbers.
     Numbers(Vec<i8>),
-    /// A refusal.
+    /// An error.
     Refused(FromHexError),
-    /// A refusal, and the slice afterwards.
+    /// An error, and the slice afterwards.
     RefusedWithSlice(FromHexError, Vec<u8>),
     /// A JSON value that is no text.
     NotText,
-    /// The text that a refusal prints.
+    /// The message of an error.
     Message(String),
     /// The size of each piece that a sink accepted, and the number of the call that it refused.
     Pieces(Vec<usize>, Option<usize>),
@@ -59,7 +59,7 @@ impl Answer {
     }
 }
 
-/// Appends printed words.
+/// Appends printed text.
 fn written(line: &mut Vec<u8>, words: std::fmt::Arguments<'_>) {
     // Writing to a vector does not fail.
     let _ = line.write_fmt(words);
@@ -76,7 +76,7 @@ fn write_pieces(line: &mut Vec<u8>, sizes: &[usize], refused: Option<usize>) {
     }
 }
 
-/// Appends a refusal: its name, and of a character its number and its place.
+/// Appends an error: its name, and of a character its number and its place.
 fn write_refusal(line: &mut Vec<u8>, refusal: FromHexError) {
     match refusal {
         FromHexError::OddLength => line.extend_from_slice(b"ERR OddLength"),

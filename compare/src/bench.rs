@@ -2,15 +2,19 @@
 //!
 //! For each call and size every side makes a batch of calls in turn, many times over, so that a
 //! drift of the machine falls on all of them. The order is drawn anew each time. What is printed is
-//! a table in Markdown: nanoseconds a call, the least and the median of the batches, and what the
-//! port takes over the Rust crate.
+//! a table in Markdown: nanoseconds a call, the fastest and the median batch, and the ratio of the
+//! port's time to the Rust crate's.
 //!
 //! With `--without-avx2` a child process measures, and AVX2 is hidden from it. So the Rust crate
 //! picks the kernel that it picks on a processor without AVX2.
 
 pub(crate) mod calls;
+mod files;
 pub(crate) mod measure;
+#[cfg(feature = "pictures")]
+mod picture;
 mod table;
+mod versions;
 
 use crate::bench::calls::{batch, Call, Side};
 use crate::bench::measure::{measure, Times, Work};
@@ -20,10 +24,19 @@ use crate::ffi::system::pin;
 use std::env;
 use std::hint::black_box;
 use std::io::{self, Write};
+use std::path::PathBuf;
 use std::process;
 
 /// The bytes of data that are encoded, or that a text spells.
 const SIZES: [usize; 10] = [4, 20, 32, 33, 65, 256, 2048, 16_384, 131_072, 1_048_576];
+
+/// What is asked for.
+#[derive(Clone, Debug)]
+pub struct Bench {
+    pub avx2: Avx2,
+    /// The folder for the pictures and the times, if these are to be written.
+    pub pictures: Option<PathBuf>,
+}
 
 /// Who measures, and whether that process sees AVX2.
 #[derive(Clone, Copy, Debug)]
@@ -36,8 +49,11 @@ pub enum Avx2 {
     Hidden,
 }
 
-/// The word that asks for `Avx2::Hidden`. Only the parent says it.
+/// The argument that asks for `Avx2::Hidden`. Only the parent passes it.
 pub const HIDDEN: &str = "--avx2-is-hidden";
+
+/// The argument before the folder for the pictures.
+pub const PICTURES: &str = "--pictures";
 
 /// The times of every side for a call at a size.
 struct Row {
@@ -52,24 +68,40 @@ impl Row {
         let found = self.times.iter().find(|(known, _)| *known == side);
         found.map(|(_, times)| *times)
     }
+
+    /// The ratios of a side's times to the Rust crate's, both called through C.
+    fn ratio(&self, side: Side) -> Option<Times> {
+        let (times, of_crate) = (self.of(side)?, self.of(Side::ConstHexByC)?);
+        Some(Times {
+            fastest: times.fastest / of_crate.fastest,
+            median: times.median / of_crate.median,
+        })
+    }
 }
 
-/// Measures as is asked, and prints.
-pub fn run(avx2: Avx2, output: &mut impl Write) -> io::Result<bool> {
-    match avx2 {
-        Avx2::AsFound => print(avx2, output),
+/// Measures as is asked, prints, and writes the files.
+pub fn run(asked: &Bench, output: &mut impl Write) -> io::Result<bool> {
+    if let Some(folder) = &asked.pictures {
+        files::prepare(folder)?;
+    }
+    match asked.avx2 {
+        Avx2::AsFound => print(asked, output),
         Avx2::ToHide => {
             let mut child = process::Command::new(env::current_exe()?);
-            hidden::run(child.args(["bench", HIDDEN]))
+            child.args(["bench", HIDDEN]);
+            if let Some(folder) = &asked.pictures {
+                child.arg(PICTURES).arg(folder);
+            }
+            hidden::run(&mut child)
         }
         Avx2::Hidden => {
             ask()?;
-            print(avx2, output)
+            print(asked, output)
         }
     }
 }
 
-/// Lets each side ask what the processor has, and then tells the parent.
+/// Lets each side ask what the processor has, and then lets the parent know.
 fn ask() -> io::Result<()> {
     let text = const_hex::encode([0x6B; 64]);
     black_box(const_hex::check_raw(&text));
@@ -81,8 +113,8 @@ fn ask() -> io::Result<()> {
 }
 
 /// Measures all calls at all sizes and prints the table, and which ratios are above 1.
-fn print(avx2: Avx2, output: &mut impl Write) -> io::Result<bool> {
-    table::write_head(output, avx2, pin())?;
+fn print(asked: &Bench, output: &mut impl Write) -> io::Result<bool> {
+    table::write_head(output, asked.avx2, pin())?;
     let mut rows = Vec::new();
     for call in Call::ALL {
         for size in SIZES {
@@ -93,6 +125,9 @@ fn print(avx2: Avx2, output: &mut impl Write) -> io::Result<bool> {
         }
     }
     table::write_slower(output, &rows)?;
+    if let Some(folder) = &asked.pictures {
+        files::write(folder, asked.avx2, &rows)?;
+    }
     Ok(true)
 }
 

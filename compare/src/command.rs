@@ -1,6 +1,6 @@
 //! What the arguments ask for.
 
-use crate::bench::{self, Avx2};
+use crate::bench::{self, Avx2, Bench};
 use crate::differ::Asked;
 use crate::replies::Answers;
 
@@ -9,7 +9,7 @@ pub const USAGE: &str = "\
 usage: compare answers [--intended] < QUESTIONS
        compare questions [SEED] [COUNT]
        compare differ [SEED] [COUNT]
-       compare bench [--without-avx2]
+       compare bench [--without-avx2] [--pictures FOLDER]
        compare count
 
 Without numbers the seed is 1 and the count 1000000. README.md says what each command does.";
@@ -21,17 +21,17 @@ const SEED: u64 = 1;
 const COUNT: usize = 1_000_000;
 
 /// What is asked for.
-#[derive(Clone, Copy, Debug)]
+#[derive(Clone, Debug)]
 pub enum Command {
     Answers(Answers),
     Questions(Asked),
     Differ(Asked),
-    Bench(Avx2),
+    Bench(Bench),
     Count,
 }
 
 impl Command {
-    /// The command of these words.
+    /// The command of these arguments.
     pub fn of(words: &[String]) -> Option<Command> {
         let words: Vec<&str> = words.iter().map(String::as_str).collect();
         match words.as_slice() {
@@ -39,9 +39,7 @@ impl Command {
             ["answers", "--intended"] => Some(Command::Answers(Answers::ThePorts)),
             ["questions", numbers @ ..] => asked(numbers).map(Command::Questions),
             ["differ", numbers @ ..] => asked(numbers).map(Command::Differ),
-            ["bench"] => Some(Command::Bench(Avx2::AsFound)),
-            ["bench", "--without-avx2"] => Some(Command::Bench(Avx2::ToHide)),
-            ["bench", bench::HIDDEN] => Some(Command::Bench(Avx2::Hidden)),
+            ["bench", flags @ ..] => measured(flags).map(Command::Bench),
             ["count"] => Some(Command::Count),
             _ => None,
         }
@@ -59,6 +57,24 @@ fn asked(numbers: &[&str]) -> Option<Asked> {
     Some(Asked { seed, count })
 }
 
+/// What `bench` is to do, if these are its flags.
+fn measured(mut flags: &[&str]) -> Option<Bench> {
+    let (mut avx2, mut pictures) = (Avx2::AsFound, None);
+    while let [first, rest @ ..] = flags {
+        flags = rest;
+        match (*first, rest) {
+            ("--without-avx2", _) => avx2 = Avx2::ToHide,
+            (bench::HIDDEN, _) => avx2 = Avx2::Hidden,
+            (bench::PICTURES, [folder, rest @ ..]) => {
+                pictures = Some(folder.into());
+                flags = rest;
+            }
+            _ => return None,
+        }
+    }
+    Some(Bench { avx2, pictures })
+}
+
 #[cfg(test)]
 mod tests {
     use super::*;
@@ -73,11 +89,14 @@ mod tests {
             ("differ 7 1000", true),
             ("bench", true),
             ("bench --without-avx2", true),
+            ("bench --pictures here", true),
+            ("bench --without-avx2 --pictures here", true),
             ("count", true),
             ("", false),
             ("differ seven", false),
             ("differ 1 2 3", false),
             ("bench 1", false),
+            ("bench --pictures", false),
             ("count 1", false),
         ];
         for (line, known) in rows {

@@ -109,7 +109,7 @@ pub fn differ(asked: Asked, output: &mut impl Write) -> io::Result<Tally> {
     let compared = thread::scope(|scope| {
         let asking = scope.spawn(move || ask(asked, BufWriter::with_capacity(WRITTEN, questions)));
         let compared = compare(asked, BufReader::with_capacity(WRITTEN, answers), output);
-        // Where the port has ended early, both fail, and the second tells more.
+        // If the port has ended early, both fail, and the second error says more.
         let written = asking
             .join()
             .unwrap_or_else(|_| Err(io::ErrorKind::Other.into()));

@@ -1,5 +1,5 @@
-//! What measuring calls by C, and the only `unsafe` of this project: each of the two builds by its own
-//! name, the calls of `timed_calls`, the Rust crate behind calls of the same form, and what is
+//! What is called through C, and the only `unsafe` of this project: each of the two builds by its
+//! own name, the calls of `timed_calls`, the Rust crate behind calls of the same form, and what is
 //! asked of the system.
 //!
 //! The package `const-hex-proved` brings `libconst_hex.a`, whose builds are called.

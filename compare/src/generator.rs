@@ -1,9 +1,9 @@
 //! The command `questions`: questions without end, the same for the same seed.
 //!
 //! Every operation is asked in turn. Most lengths and places of bad bytes are near the end of a
-//! kernel's step. Every byte that is not a digit takes its turn as the bad one. Texts have no prefix,
+//! kernel's step. Every byte that is not a digit is the bad one in turn. Texts have no prefix,
 //! `0x` or `0X`. One question in ten is unusual: any length up to a great one, many bad bytes, other
-//! starts, JSON that few programs write, wide fields, and late refusals.
+//! starts, JSON that few programs write, wide fields, and late errors of sinks.
 
 mod json;
 mod odd;
@@ -13,7 +13,7 @@ use crate::generator::texts::Texts;
 use crate::operation::{Operation, Refusing, OFFERED};
 use crate::question::Question;
 
-/// How wide a field is at most, and how wide in an odd question: no format of Rust takes more.
+/// How wide a field is at most, and how wide in an odd question: no format of Rust allows more.
 const WIDEST: usize = 300;
 const WIDEST_OF_ODD: usize = u16::MAX as usize;
 

@@ -11,7 +11,7 @@ use crate::operation::{Operation, Refusing};
 use crate::question::Question;
 use const_hex::FromHexError;
 
-/// What stands before the place in the printed refusal of a character.
+/// What stands before the place in the message of a bad character.
 const PLACE: &str = " at position ";
 
 /// How long a prefix is.
@@ -63,7 +63,7 @@ fn is_prefixed(question: &Question) -> bool {
     }
 }
 
-/// A refusal with its place moved.
+/// An error with its place moved.
 fn moved(refusal: FromHexError) -> FromHexError {
     match refusal {
         FromHexError::InvalidHexCharacter { c, index } => FromHexError::InvalidHexCharacter {
@@ -74,7 +74,7 @@ fn moved(refusal: FromHexError) -> FromHexError {
     }
 }
 
-/// The words of a refusal with their place moved.
+/// The message of an error with its place moved.
 fn moved_words(words: &str) -> String {
     let place = words.rsplit_once(PLACE);
     let place = place.and_then(|(front, index)| Some((front, index.parse::<usize>().ok()?)));
@@ -124,7 +124,7 @@ mod tests {
             "ERR InvalidHexCharacter 122 0",
             "ERR InvalidHexCharacter 122 2",
         ),
-        // The printed refusal, at position 0 and at position 2.
+        // The message, at position 0 and at position 2.
         (
             "msg_decode 30787a7a",
             "MSG 696e76616c69642063686172616374657220277a2720617420706f736974696f6e2030",

@@ -30,14 +30,14 @@ fn main() -> ExitCode {
     }
 }
 
-/// Does what is asked, and tells whether all is well.
+/// Does what is asked, and returns whether all is well.
 fn run(command: Command) -> io::Result<bool> {
     let mut output = BufWriter::new(io::stdout().lock());
     let is_well = match command {
         Command::Answers(wanted) => print_answers(wanted, &mut output)?,
         Command::Questions(asked) => print_questions(asked, &mut output)?,
         Command::Differ(asked) => print_differences(asked, &mut output)?,
-        Command::Bench(avx2) => bench::run(avx2, &mut output)?,
+        Command::Bench(asked) => bench::run(&asked, &mut output)?,
         Command::Count => count::run(&mut output)?,
     };
     output.flush()?;

@@ -18,7 +18,7 @@ pub enum Operation {
     Check,
     /// The same, by the call for constants.
     ConstCheck,
-    /// What the refusal of a call prints.
+    /// The message of a call's error.
     Message(Refusing),
     /// Whether a text has digits alone.
     CheckRaw,
@@ -92,7 +92,7 @@ pub enum Hole {
     UpperAlternate,
 }
 
-/// A call whose refusal is printed.
+/// A call whose error is printed.
 #[derive(Clone, Copy, Debug, PartialEq, Eq)]
 pub enum Refusing {
     Decode,
@@ -136,7 +136,7 @@ const UPPER_PREFIXED: Form = Form {
     case: Case::Upper,
 };
 
-/// Each operation by its name, but for those on arrays.
+/// Each operation by its name, except the operations on arrays.
 const NAMED: [(&str, Operation); 44] = [
     ("encode", Operation::Encode(PLAIN)),
     ("encode_upper", Operation::Encode(UPPER)),
@@ -206,7 +206,7 @@ const NAMED: [(&str, Operation); 44] = [
 ];
 
 impl Operation {
-    /// Every operation, those on arrays at each length that is offered.
+    /// Every operation, on arrays at each length that is offered.
     pub fn all() -> Vec<Operation> {
         let named = NAMED.iter().map(|(_, operation)| *operation);
         let arrays = OFFERED.into_iter().flat_map(|size| {

@@ -89,7 +89,7 @@ fn number_of(word: &str) -> Result<usize, Fault> {
     number.ok_or(Fault::NotNumber)
 }
 
-/// Whether an operation takes such a number.
+/// Whether an operation goes with such a number.
 fn takes(operation: Operation, number: Option<usize>) -> bool {
     match operation.numbers() {
         Numbers::Absent => number.is_none(),

@@ -10,7 +10,7 @@ use std::io::{self, BufRead, Write};
 pub enum Answers {
     /// The Rust crate's own.
     TheCrates,
-    /// The same with the intended differences applied: those that the port has to give.
+    /// The same with the intended differences applied: the answers that the port has to give.
     ThePorts,
 }
 
@@ -33,7 +33,7 @@ impl Answers {
     }
 }
 
-/// Answers each line of the input, and tells whether each was a question.
+/// Answers each line of the input, and returns whether each was a question.
 pub fn reply(
     wanted: Answers,
     input: &mut impl BufRead,

@@ -11,7 +11,7 @@ import { answer, randomOf, randomText, thrown } from './rows.js';
 const TOP = new URL('../../', import.meta.url);
 const read = (path) => readFileSync(new URL(path, TOP), 'utf8');
 
-/** What a call answers, in the words of the stored answers. */
+/** What a call answers, as the stored answers say it. */
 function words(call) {
     const found = answer(call);
     if (found === undefined) return 'OK';

@@ -6,10 +6,10 @@
 
 use crate::FromHexError;
 
-/// Room for the words of any error, with the NUL behind them.
+/// Room for the message of any error, with the NUL behind it.
 pub const WORDS: usize = 64;
 
-// The kinds of a refusal.
+// The kinds of a `Refusal`.
 const ODD_LENGTH: u32 = 1;
 const INVALID_LENGTH: u32 = 2;
 const INVALID_CHARACTER: u32 = 3;
@@ -174,13 +174,13 @@ pub fn check_raw(text: &[u8]) -> bool {
     unsafe { const_hex_check_raw(text.as_ptr(), text.len()) }
 }
 
-/// Puts the words of an error into `buffer`, and returns them.
+/// Puts the message of an error into `buffer`, and returns it.
 pub fn words(error: FromHexError, buffer: &mut [u8; WORDS]) -> &str {
     let refusal = Refusal::from(error);
     // SAFETY: the length is the buffer's own; the buffer is borrowed mutably, and `refusal` lives
     // here.
     let count = unsafe { const_hex_refusal_words(&refusal, buffer.as_mut_ptr(), buffer.len()) };
-    core::str::from_utf8(&buffer[..count]).expect("the words are UTF-8, and fit")
+    core::str::from_utf8(&buffer[..count]).expect("the message is UTF-8, and fits")
 }
 
 /// Returns the version of the library.

@@ -44,8 +44,8 @@ where
 ///
 /// # Errors
 ///
-/// Returns the deserializer's error if the value is not a string, or with the words of the type's
-/// error if the type refuses the text.
+/// Returns the deserializer's error if the value is not a string, or with the message of the type's
+/// error if the type does not accept the text.
 pub fn deserialize<'de, D, T>(deserializer: D) -> Result<T, D::Error>
 where
     D: Deserializer<'de>,

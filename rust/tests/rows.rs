@@ -158,7 +158,7 @@ fn other_words() {
         FromHexError::InvalidStringLength.to_string(),
         "invalid string length"
     );
-    // No call returns this one. No words are longer.
+    // No call returns this one. No message is longer.
     let longest = bad('\u{10ffff}', usize::MAX);
     let words = format!(
         "invalid character '\\u{{10ffff}}' at position {}",

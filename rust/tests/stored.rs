@@ -49,7 +49,7 @@ fn filled(length: usize, call: impl Fn(&mut [u8]) -> Result<(), FromHexError>) -
     }
 }
 
-/// The words of an answer's error.
+/// The message of an answer's error.
 fn message<T>(answer: Result<T, FromHexError>) -> String {
     match answer {
         Ok(_) => "OK".to_string(),

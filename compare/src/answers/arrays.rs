@@ -34,7 +34,7 @@ fn to_array<const N: usize>(input: &[u8]) -> Result<[u8; N], FromHexError> {
     const_hex::decode_to_array(input)
 }
 
-/// The answer of an array, or of a refusal.
+/// The answer of an array, or of an error.
 fn array<const N: usize>(answer: Result<[u8; N], FromHexError>) -> Answer {
     decoded(answer.map(|bytes| bytes.to_vec()))
 }

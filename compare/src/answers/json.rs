@@ -27,8 +27,8 @@ pub fn text_of(json: &[u8]) -> Option<String> {
     serde_json::from_slice(json).ok()
 }
 
-/// The bytes of a JSON value. The crate only prints its refusal. If the words are the same as for
-/// `decode`'s refusal of that text, the answer is that refusal.
+/// The bytes of a JSON value. The crate only prints its error. If the message is the same as for
+/// `decode`'s error of that text, the answer is that error.
 pub fn deserialize(json: &[u8]) -> Result<Answer, Fault> {
     let value: Value = serde_json::from_slice(json).map_err(|_| Fault::NotJson)?;
     let printed = match const_hex::deserialize::<_, Vec<u8>>(&value) {

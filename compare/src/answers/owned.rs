@@ -38,7 +38,7 @@ pub fn decode(input: &[u8]) -> Answer {
     decoded(const_hex::decode(input))
 }
 
-/// What the refusal of a text prints.
+/// The message of a text's error.
 pub fn message(input: &[u8], call: Refusing, size: usize) -> Answer {
     let refusal = match call {
         Refusing::Decode => const_hex::decode(input).err(),

@@ -38,7 +38,7 @@ pub fn encode_str(bytes: &[u8], case: Case, size: usize) -> Answer {
     }
 }
 
-/// The slice, behind a refusal if there is one.
+/// The slice, behind an error if there is one.
 fn with_slice(answer: Result<(), FromHexError>, slice: Vec<u8>) -> Answer {
     match answer {
         Ok(()) => Answer::Bytes(slice),

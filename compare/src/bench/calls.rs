@@ -136,7 +136,7 @@ fn by_const_hex(call: Call) -> Batch {
         Call::Decode => on_text(|text, _| const_hex::decode(text).map_or(0, |bytes| told(&bytes))),
         Call::Display => on_bytes(|bytes, _| {
             let mut counter = Counter { count: 0 };
-            // The sink refuses nothing.
+            // The sink has no errors.
             let _ = write!(counter, "{}", const_hex::display(bytes));
             counter.count
         }),

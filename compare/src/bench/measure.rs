@@ -14,7 +14,7 @@ const WARMING: usize = 5;
 /// The seed of the orders in which the sides take turns.
 const ORDERS: u64 = 1;
 
-/// How many bytes of data go through a call in one batch, if one call takes fewer.
+/// How many bytes of data go through the calls of one batch, if one call gets fewer.
 const BATCH_BYTES: usize = 32_768;
 
 /// The most calls of a batch.
@@ -118,7 +118,9 @@ fn time_of(batch: &Batch, work: &mut Work, calls: usize) -> Duration {
 /// The time of a call, in nanoseconds.
 #[derive(Clone, Copy)]
 pub struct Times {
-    pub least: f64,
+    /// By the fastest batch.
+    pub fastest: f64,
+    /// By the median batch.
     pub median: f64,
 }
 
@@ -128,7 +130,7 @@ impl Times {
         batches.sort_unstable();
         let a_call = |batch: Duration| batch.as_nanos() as f64 / calls as f64;
         Times {
-            least: a_call(batches[0]),
+            fastest: a_call(batches[0]),
             median: a_call(batches[batches.len() / 2]),
         }
     }

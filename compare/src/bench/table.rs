@@ -2,23 +2,24 @@
 
 use crate::bench::calls::Side;
 use crate::bench::measure::Times;
-use crate::bench::{Avx2, Row};
+use crate::bench::{versions, Avx2, Row};
 use std::io::{self, Write};
 
-/// Writes what the times were taken on, and the head of the table.
+/// Writes what is measured and on what machine, and the head of the table.
 pub fn write_head(output: &mut impl Write, avx2: Avx2, pinned: Option<usize>) -> io::Result<()> {
     let machine = machine().unwrap_or_else(|| "an unknown processor".to_owned());
     let shown = match avx2 {
         Avx2::Hidden => ", its AVX2 hidden",
         Avx2::AsFound | Avx2::ToHide => "",
     };
-    match pinned {
-        Some(processor) => writeln!(output, "{machine}{shown}; pinned to processor {processor}.")?,
-        None => writeln!(output, "{machine}{shown}; not pinned to a processor.")?,
-    }
+    let pinned = pinned.map_or("not pinned to a processor".to_owned(), |processor| {
+        format!("pinned to processor {processor}")
+    });
+    writeln!(output, "{machine}{shown}; {pinned}; {}.", versions::line())?;
     writeln!(
         output,
-        "\nNanoseconds a call, least and median; ratios of both to const-hex through C.\n"
+        "\nNanoseconds a call, of the fastest batch and of the median; ratios of both to const-hex \
+         through C.\n"
     )?;
     let mut names = vec!["call", "bytes"];
     for side in Side::here() {
@@ -31,7 +32,7 @@ pub fn write_head(output: &mut impl Write, avx2: Avx2, pinned: Option<usize>) ->
     writeln!(output, "|{}", "---|".repeat(names.len()))
 }
 
-/// The name of the processor, if the system tells it.
+/// The name of the processor, if the system gives it.
 fn machine() -> Option<String> {
     let about = std::fs::read_to_string("/proc/cpuinfo").ok()?;
     let line = about.lines().find(|line| line.starts_with("model name"))?;
@@ -45,41 +46,35 @@ pub fn write_row(output: &mut impl Write, row: &Row) -> io::Result<()> {
         let times = row.of(side);
         cells.push(times.map_or(String::new(), nanoseconds));
         if side.is_port() {
-            cells.push(ratio(row, side).map_or(String::new(), marked));
+            cells.push(row.ratio(side).map_or(String::new(), marked));
         }
     }
     writeln!(output, "| {} |", cells.join(" | "))
 }
 
-/// What a side takes over the Rust crate const-hex, both called through C, of the least times and of
-/// the medians.
-fn ratio(row: &Row, side: Side) -> Option<Times> {
-    let (times, crates) = (row.of(side)?, row.of(Side::ConstHexByC)?);
-    Some(Times {
-        least: times.least / crates.least,
-        median: times.median / crates.median,
-    })
-}
-
 /// Two times of a cell.
 fn nanoseconds(times: Times) -> String {
-    let digits = |time: f64| usize::from(time < 100.0);
-    let (least, median) = (times.least, times.median);
-    format!("{least:.*}, {median:.*}", digits(least), digits(median))
+    format!("{}, {}", printed(times.fastest), printed(times.median))
+}
+
+/// A time with its first three digits at least.
+pub fn printed(time: f64) -> String {
+    let digits = usize::from(time < 100.0);
+    format!("{time:.digits$}")
 }
 
 /// Two ratios.
 fn ratios(ratio: Times) -> String {
-    format!("{:.2}, {:.2}", ratio.least, ratio.median)
+    format!("{:.2}, {:.2}", ratio.fastest, ratio.median)
 }
 
 /// Two ratios of a cell, bold if above 1.
 fn marked(ratio: Times) -> String {
     let mark = |ratio| if is_slower(ratio) { "**" } else { "" };
-    let (least, median) = (mark(ratio.least), mark(ratio.median));
+    let (fastest, median) = (mark(ratio.fastest), mark(ratio.median));
     format!(
-        "{least}{:.2}{least}, {median}{:.2}{median}",
-        ratio.least, ratio.median
+        "{fastest}{:.2}{fastest}, {median}{:.2}{median}",
+        ratio.fastest, ratio.median
     )
 }
 
@@ -88,7 +83,7 @@ fn is_slower(ratio: f64) -> bool {
     ratio >= 1.005
 }
 
-/// Writes which ratios, of the least times or of the medians, are above 1, for each build of the
+/// Writes which ratios, of the fastest times or of the medians, are above 1, for each build of the
 /// port.
 pub fn write_slower(output: &mut impl Write, rows: &[Row]) -> io::Result<()> {
     for side in Side::here().into_iter().filter(|side| side.is_port()) {
@@ -105,8 +100,8 @@ pub fn write_slower(output: &mut impl Write, rows: &[Row]) -> io::Result<()> {
 
 /// The cell of a row if one of its two printed ratios is above 1.
 fn slower(row: &Row, side: Side) -> Option<String> {
-    let ratio = ratio(row, side)?;
+    let ratio = row.ratio(side)?;
     let (call, size) = (row.call.name(), row.size);
-    is_slower(ratio.least.max(ratio.median))
+    is_slower(ratio.fastest.max(ratio.median))
         .then(|| format!("`{call}` at {size} ({})", ratios(ratio)))
 }

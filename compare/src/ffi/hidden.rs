@@ -2,7 +2,7 @@
 //!
 //! Libraries ask what the processor has by the instruction `cpuid`: the C library when it is
 //! loaded, a Rust crate at its first call. The parent lets the child run one instruction at a time,
-//! and takes AVX2 out of each answer of `cpuid`. When the child says that all have asked, the parent
+//! and removes AVX2 from each answer of `cpuid`. When the child says that all have asked, the parent
 //! lets it go. So each library picks the code that it picks on a processor without AVX2, and nothing
 //! is built again.
 
@@ -11,12 +11,12 @@
 #[cfg(all(target_os = "linux", target_arch = "x86_64"))]
 pub use linux::run;
 
-/// Tells the parent that this process has asked what the processor has. If nobody traces this
+/// Lets the parent know that this process has asked what the processor has. If nobody traces this
 /// process, nothing happens.
 #[cfg(all(target_os = "linux", target_arch = "x86_64"))]
 pub use linux::has_asked;
 
-/// Tells that AVX2 can't be hidden here.
+/// Fails, as AVX2 can't be hidden here.
 #[cfg(not(all(target_os = "linux", target_arch = "x86_64")))]
 pub fn run(_command: &mut std::process::Command) -> std::io::Result<bool> {
     let reason = "AVX2 can be hidden on Linux on x86-64 alone";
@@ -66,7 +66,7 @@ mod linux {
         signal(SIGURG)
     }
 
-    /// Takes AVX2 out of the answers that the child gets, until it has asked.
+    /// Removes AVX2 from the answers that the child gets, until it has asked.
     fn hide(child: Traced) -> Result<()> {
         // The child stands still after its exec.
         let mut stopped = child.wait()?;

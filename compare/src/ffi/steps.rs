@@ -6,7 +6,7 @@
 #[cfg(all(target_os = "linux", target_arch = "x86_64"))]
 pub use linux::instructions;
 
-/// Tells that instructions are not counted here.
+/// Fails, as instructions are not counted here.
 #[cfg(not(all(target_os = "linux", target_arch = "x86_64")))]
 pub fn instructions(_entry: *const (), _call: impl FnMut() -> usize) -> std::io::Result<u64> {
     let reason = "instructions are counted on Linux on x86-64 alone";

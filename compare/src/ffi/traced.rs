@@ -22,7 +22,7 @@ extern "C" {
     fn raise(signal: i32) -> i32;
 }
 
-/// A register, by its place among those that `ptrace` reads.
+/// A register, by its place in what `ptrace` reads.
 #[derive(Clone, Copy)]
 pub enum Register {
     Rbx = 5,
@@ -91,7 +91,7 @@ impl Traced {
     }
 
     fn ask(self, request: u32, address: usize, data: usize) -> i64 {
-        // SAFETY: numbers are passed. None of these requests takes `data` for a pointer.
+        // SAFETY: numbers are passed. None of these requests uses `data` as a pointer.
         unsafe { ptrace(request, self.process, address, data as *mut ()) }
     }
 }

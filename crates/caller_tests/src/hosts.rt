@@ -1,4 +1,4 @@
-//! The whole program, from its words to its exit status and its line on standard error.
+//! The whole program, from its arguments to its exit status and its line on standard error.
 
 use consthex_modes::{Mode, USAGE, mode_of, program};
 use hex_testing::{Endless, Fault, Source, Target, Text, same, same_bytes};
@@ -11,8 +11,8 @@ use std::io::{Eprint, ErrorKind, Read, Write};
 use std::process::{Abort, ExitCode};
 use std::test::Fail;
 
-/// The words of a program, beginning with its name, and its standard error: the first 128 bytes that
-/// were printed, and how many were printed.
+/// The arguments of a program, beginning with its name, and its standard error: the first 128 bytes
+/// that were printed, and how many were printed.
 #[derive(Drop)]
 struct Host<'a> {
     words: &'a [&'a [u8]],
@@ -79,7 +79,7 @@ const DECODE: &[&[u8]] = &[b"consthex", b"decode"];
 
 const ENCODE: &[&[u8]] = &[b"consthex", b"encode"];
 
-/// Words that print as texts.
+/// Arguments that print as texts.
 #[derive(Drop)]
 struct Words<'a>(&'a [&'a [u8]]);
 
@@ -135,7 +135,7 @@ fn words_that_name_a_mode(rt: HostRuntime) {
     }
 }
 
-/// The program with these words writes that answer.
+/// The program with these arguments writes that answer.
 fn answers(rt: &impl Abort, alloc: Global, words: &[&[u8]], input: &[u8], answer: &[u8]) {
     let mut input = input;
     let mut output = Target::new(alloc, 1, Fault::Nothing);
@@ -168,7 +168,7 @@ fn words_that_name_none(rt: HostRuntime) {
     }
 }
 
-/// The program with these words ends with status 2, and reads and writes nothing.
+/// The program with these arguments ends with status 2, and reads and writes nothing.
 fn misused(rt: &impl Abort, alloc: Global, words: &[&[u8]], can_print: bool) {
     let mut input = b"kiwi".as_slice();
     let mut output = Target::new(alloc, 1, Fault::Nothing);
@@ -239,7 +239,7 @@ fn other_words_name_none(rt: HostRuntime) -> Result<(), Fail> {
     Ok(())
 }
 
-/// These words name that mode, or none.
+/// These arguments name that mode, or none.
 fn name(
     rt: &impl Abort,
     alloc: Global,

@@ -1,4 +1,4 @@
-//! Runs of the program: worked inputs, refusals, the limit, and devices that fail.
+//! Runs of the program: worked inputs, refused texts, the limit, and devices that fail.
 
 use const_hex::FromHexError;
 use consthex_modes::{Mode, RunError, answer, run};
@@ -211,7 +211,7 @@ fn stops_an_endless_reader(rt: HostRuntime) {
     assert_eq!(rt; (output.writes, output.flushes), (0, 0));
 }
 
-// A write that fails or takes nothing, at each call, and a flush that fails.
+// A write that fails or accepts nothing, at each call, and a flush that fails.
 #[test]
 fn names_a_failed_write(rt: HostRuntime) {
     for row in ANSWERS {

@@ -13,8 +13,8 @@ use std::{error, fmt};
 /// characters.
 ///
 /// ```rust
-/// let refusal = const_hex::check(b"0xzz").unwrap_err();
-/// assert_eq!(rt; refusal, FromHexError::InvalidHexCharacter { c: 'z', index: 2 });
+/// let error = const_hex::check(b"0xzz").unwrap_err();
+/// assert_eq!(rt; error, FromHexError::InvalidHexCharacter { c: 'z', index: 2 });
 /// ```
 #[derive(Clone, Copy, PartialEq, Eq, Debug)]
 pub enum FromHexError {

@@ -1,6 +1,6 @@
 //! Hexadecimal text: encoding, checking and decoding, after the Rust crate `const-hex`.
 //!
-//! The words of the contracts are defined in `specs/`:
+//! The terms of the contracts are defined in `specs/`:
 //!
 //! - `Bodies.antt`: a text without its prefix, and its first byte that is not a digit;
 //! - `Answers.antt`: the answers when a text is read or checked;
@@ -16,7 +16,7 @@
 //! - `Reserved.antt`: a write to a vector that has room;
 //! - `WriteSinks.antt`: a sink over a writer.
 //!
-//! `specs/Lib.antt` passes on the words of `const_hex_arch` for digits, texts and what they spell.
+//! `specs/Lib.antt` passes on the terms of `const_hex_arch` for digits, texts and what they spell.
 //! `proofs/lemmas/Reading.antt` proves that each text has one answer.
 #![tactic(auto)]
 

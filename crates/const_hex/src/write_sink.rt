@@ -13,7 +13,7 @@ use std::io::{ErrorKind, Write};
 
 /// Hands pieces on to a writer until a write fails, and keeps that error.
 ///
-/// A piece may take several calls of `write`. A call that a signal interrupts is made again. After
+/// A piece may need several calls of `write`. A call that a signal interrupts is made again. After
 /// a failed write, the writer has a beginning of what was offered, and nothing more is written:
 /// [`write_hex`](WriteSink::write_hex) only returns the error, and `write_str` may not be called.
 /// No call flushes the writer. Only the writer itself allocates.

@@ -1,7 +1,7 @@
 //! The lower half of a hexadecimal codec: tables, outputs and kernels.
 //!
-//! A kernel turns bytes into digits and digits into bytes, and an output takes the digits. The
-//! words of their contracts are defined in `specs/`:
+//! A kernel turns bytes into digits and digits into bytes, and an output receives the digits. The
+//! terms of their contracts are defined in `specs/`:
 //!
 //! - `Digits.antt`: digits and their values;
 //! - `Texts.antt`: the text of bytes, and the bytes that a text spells;
@@ -10,7 +10,7 @@
 //! - `Runs.antt`: pieces that are written one after another, and the room that they leave;
 //! - `SliceOutputs.antt`: a write into a slice;
 //! - `Gathering.antt`: a write to an output that gathers;
-//! - `Sinks.antt`: what sinks tell of their pieces, and what an output over a sink does;
+//! - `Sinks.antt`: the pieces that a sink accepted, and what an output over a sink does;
 //! - `Pieces.antt`: a sink that keeps its pieces;
 //! - `Streams.antt`: a text that is handed to a sink in large pieces;
 //! - `Laws.antt`: lemmas that the laws of outputs and sinks follow from.

@@ -86,7 +86,7 @@ pub trait Output {
         self.write(&joined(first, last, count)[..count])
     }
 
-    /// A write takes its length from the room.
+    /// A write leaves less room, by its length.
     ghost shrinks: { (s : Self) (piece : List ℕ) (t : Self) → step s piece t
         → room t ≡ less_room (room s) (length piece) };
 }

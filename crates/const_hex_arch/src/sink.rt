@@ -46,7 +46,7 @@ pub trait Sink {
     /// Whether it has refused a piece.
     ghost is_refused: { Self → Bool };
 
-    /// The pieces that it accepted, in order, if it tells them.
+    /// The pieces that it accepted, in order, if its contract gives them.
     ghost told: { Self → Option (List (List ℕ)) };
 
     /// Whether it has refused a piece.
@@ -68,7 +68,7 @@ pub trait Sink {
         ensures step { step self.old s.now self.new }
         ensures flag { is_ok result ≡ not (is_refused self.new) };
 
-    /// An accepted piece is told last. A refusal adds nothing to what is told.
+    /// An accepted piece is the last of `told`. A refused piece adds nothing to it.
     ghost tells: { (s : Self) (piece : List ℕ) (t : Self) → step s piece t
         → told t ≡ told_after (told s) (if is_refused t then [] else piece ∷ []) };
 }

@@ -1,13 +1,13 @@
 //! The codec's calls, for C.
 //!
 //! Each call that encodes, decodes or checks makes one call of `const_hex`, and has that call's
-//! clauses. Besides there are the length of a text, the words of a refusal, and the version. No
-//! call takes memory, and none requires anything of its arguments. A slice is a pointer and a
-//! length; the pointer may be null if the length is 0. The header `c/const_hex.h` tells C the same.
+//! clauses. Besides there are the length of a text, the message of a refusal, and the version. No
+//! call allocates, and none requires anything of its arguments. A slice is a pointer and a length;
+//! the pointer may be null if the length is 0. The header `c/const_hex.h` says the same for C.
 //!
-//! The contracts use the words of `const_hex`, and of one file of `specs/`:
+//! The contracts use the terms of `const_hex`, and of one file of `specs/`:
 //!
-//! - `Crossing.antt`: a refusal as C has it, and its words.
+//! - `Crossing.antt`: a refusal as C has it, and its message.
 #![tactic(auto)]
 
 ghost use Rattle.std.specs.Prelude.{◌≡◌, ◌↔◌, ◌*◌, ◌+◌, ◌-◌, ◌<◌, ℕ, List, true, false, length, take, drop, min, slice_index, IsTrue, Ok, Err};
@@ -54,10 +54,10 @@ pub extern "C" fn const_hex_encode(bytes: &[u8], prefix: bool, upper: bool, text
 
 /// Fills the bytes with what the text spells, with or without a prefix, in either case.
 ///
-/// Returns false if the text is refused, with the first of these refusals: an odd length; digits
-/// that are not two for each byte; the first byte that is not a digit. The first two leave the
-/// bytes unchanged. After the third, a front of the bytes may be decoded, no longer than the pairs
-/// before the bad byte, and the rest is unchanged. If the text is accepted, the refusal is
+/// Returns false if the text is refused, and sets the refusal to the first of these: an odd length;
+/// digits that are not two for each byte; the first byte that is not a digit. The first two leave
+/// the bytes unchanged. After the third, a front of the bytes may be decoded, no longer than the
+/// pairs before the bad byte, and the rest is unchanged. If the text is accepted, the refusal is
 /// unchanged. Does not allocate.
 ///
 /// ```c
@@ -86,9 +86,9 @@ pub extern "C" fn const_hex_decode(text: &[u8], bytes: &mut [u8], refusal: &mut 
 /// As `const_hex_decode`, but the bytes may have more room than needed. Sets the count to the
 /// number of bytes decoded, and leaves what is behind them unchanged.
 ///
-/// Returns false if the text is refused; the count is then unchanged. The refusals are those of
-/// `const_hex_decode`, but the second comes only if the text has more digits than the room takes.
-/// Does not allocate.
+/// Returns false if the text is refused; the count is then unchanged. The refusal is as for
+/// `const_hex_decode`, but an invalid length means that the text has more digits than fit into the
+/// bytes. Does not allocate.
 ///
 /// ```c
 /// unsigned char bytes[32];
@@ -164,16 +164,16 @@ pub extern "C" fn const_hex_check_raw(text: &[u8]) -> bool
     const_hex::check_raw(text)
 }
 
-/// Puts the words of a refusal and a NUL into the buffer, and returns how many bytes stand before
+/// Puts the message of a refusal and a NUL into the buffer, and returns how many bytes stand before
 /// the NUL.
 ///
-/// If the buffer is too small, the words are cut. If it is empty, nothing is written. A struct that
-/// is no refusal has no words. No contract says that any words come, since printing could give up;
-/// tests show it, and the words of a bad character. Does not allocate.
+/// If the buffer is too small, the message is cut. If it is empty, nothing is written. A struct that
+/// is no refusal has no message. No contract says that a message is written, since printing could
+/// give up; tests show it, and the message of a bad character. Does not allocate.
 ///
 /// ```c
-/// char words[CONST_HEX_WORDS];
-/// size_t count = const_hex_refusal_words(&refusal, words, sizeof words);
+/// char message[CONST_HEX_WORDS];
+/// size_t count = const_hex_refusal_words(&refusal, message, sizeof message);
 /// ```
 #[unsafe(no_mangle)]
 pub extern "C" fn const_hex_refusal_words(refusal: &Refusal, buffer: &mut [u8]) -> usize

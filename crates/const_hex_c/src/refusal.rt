@@ -13,7 +13,7 @@ pub const ODD_LENGTH: u32 = 1;
 pub const INVALID_LENGTH: u32 = 2;
 /// The kind of a text with a byte that is not a digit.
 pub const INVALID_CHARACTER: u32 = 3;
-/// The kind of refused memory. No call for C takes memory, so none returns it.
+/// The kind of refused memory. No call for C allocates, so none returns it.
 pub const NO_MEMORY: u32 = 4;
 
 /// Why a text was refused. For a bad character, `byte` is the byte, and `index` its place in the
@@ -62,7 +62,7 @@ impl Refusal {
         }
     }
 
-    /// Its words. A struct that stands for no refusal has none.
+    /// Its message. A struct that stands for no refusal has none.
     #[tactic(auto, using(crate::proofs::lemmas::Wording::says_by_kind))]
     pub(crate) fn words(&self) -> Words
         ensures words { Says self.now (λ m. 0 < result.count → take result.count result.bytes ≡ m) }

@@ -1,4 +1,4 @@
-//! The words of a refusal, in room of their own.
+//! The message of an error, in room of its own.
 
 ghost use Rattle.std.specs.Prelude.{◌≡◌, ◌≤◌, ◌<◌, ◌++◌, take, IfSome};
 ghost use Rattle.const_hex.specs.Messages.{message_of};
@@ -6,10 +6,10 @@ ghost use Rattle.const_hex.specs.Messages.{message_of};
 use const_hex::FromHexError;
 use std::fmt;
 
-/// Room for the words of any refusal of a text. The longest words have 59 bytes.
+/// Room for the message of any refused text. The longest message has 59 bytes.
 const ROOM: usize = 64;
 
-/// Printed words.
+/// A printed message.
 #[derive(Drop)]
 pub(crate) struct Words {
     pub(crate) bytes: [u8; ROOM],
@@ -18,7 +18,7 @@ pub(crate) struct Words {
 }
 
 impl Words {
-    /// No words.
+    /// An empty message.
     pub(crate) fn none() -> Words
         ensures { result.count ≡ 0 }
     {
@@ -28,7 +28,7 @@ impl Words {
         }
     }
 
-    /// The words of a refusal, or none if they could not be printed whole.
+    /// The message of an error, or an empty one if it could not be printed whole.
     pub(crate) fn of(error: FromHexError) -> Words
         ensures { IfSome (message_of error) (λ m. 0 < result.count → take result.count result.bytes ≡ m) }
     {
@@ -39,7 +39,7 @@ impl Words {
         }
     }
 
-    /// The words, as bytes.
+    /// The message, as bytes.
     pub(crate) fn as_bytes(&self) -> &[u8]
         ensures { result.now ≡ take self.now.count self.now.bytes }
     {
@@ -51,7 +51,7 @@ impl fmt::Write for Words {
     ghost write_str_gives = { λ old text new.
         take new.count new.bytes ≡ take old.count old.bytes ++ text };
 
-    /// An error if the words and this text together do not fit.
+    /// An error if the message and this text together do not fit.
     fn write_str(&mut self, text: &str) -> fmt::Result {
         if text.len() > ROOM - self.count {
             return Err(fmt::Error);

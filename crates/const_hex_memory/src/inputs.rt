@@ -34,7 +34,7 @@ pub(crate) fn bad_digits() -> [u8; 114] {
     text
 }
 
-/// The values that take memory.
+/// The values that are allocated.
 #[derive(Drop)]
 pub(crate) struct Inputs {
     pub(crate) vector: Vec<u8>,

@@ -65,7 +65,7 @@ fn checked(alloc: Global, answer: Result<(), FromHexError>) -> Result<String, Fa
     }
 }
 
-/// The name of a refusal, with the number and the place of a bad byte. Refused memory ends the run.
+/// The name of an error, with the number and the place of a bad byte. Refused memory ends the run.
 fn refused(alloc: Global, refusal: FromHexError) -> Result<String, Fault> {
     match refusal {
         FromHexError::NoMemory => Err(Fault::NoMemory),
@@ -77,7 +77,7 @@ fn refused(alloc: Global, refusal: FromHexError) -> Result<String, Fault> {
     }
 }
 
-/// What a refusal prints.
+/// The message of an error.
 fn message(alloc: Global, refusal: Option<FromHexError>) -> Result<String, Fault> {
     match refusal {
         None => Ok("OK".to_string(alloc)?),

@@ -1,4 +1,4 @@
-//! Questions: the name of an operation, its bytes, and a number if it takes one.
+//! Questions: the name of an operation, its bytes, and a number if it has one.
 
 use crate::answers;
 use crate::hex::bytes_of;
@@ -25,7 +25,7 @@ impl From<AllocError> for Fault {
     }
 }
 
-/// Operations that take the same numbers and answer alike.
+/// Operations that go with the same numbers and answer alike.
 #[derive(Clone, Copy)]
 enum Family {
     Owned,
@@ -40,7 +40,7 @@ enum Family {
     Sink,
 }
 
-/// The names of the operations, except those on arrays.
+/// The names of the operations, except the operations on arrays.
 const NAMES: [(Family, &str); 5] = [
     (
         Family::Owned,
@@ -112,7 +112,7 @@ fn family_of(name: &str) -> Option<Family> {
     None
 }
 
-/// Whether the operations of a family take such a number.
+/// Whether the operations of a family go with such a number.
 fn takes(family: Family, number: Option<usize>) -> bool {
     match family {
         Family::Owned | Family::Buffer | Family::Array(_) => number.is_none(),

@@ -171,7 +171,7 @@ fn kind_of(ended: io::Result<bool>) -> Option<ErrorKind> {
     Some(ended.err()?.kind())
 }
 
-// The writer takes up to one or up to three bytes per call, and one call fails. It then has a
+// The writer accepts up to one or up to three bytes per call, and one call fails. It then has a
 // beginning of the answers. At one byte per call it has one byte for each call before the failed one.
 #[test]
 fn a_failed_write_ends_the_run(rt: HostRuntime) {

@@ -1,4 +1,4 @@
-//! A file or a socket that takes text.
+//! A file or a socket that receives text.
 
 ghost use Rattle.std.specs.Prelude.{◌≡◌, true, false, OnOk, OnErr};
 ghost use Rattle.std.specs.Io.KnownBytes.{Appends};

@@ -66,11 +66,11 @@ pub fn marked(alloc: Global, text: &str, place: usize) -> Result<String, AllocEr
     Ok(shown)
 }
 
-/// What a user sees of a refused text: a mark under the bad byte, or the words of another refusal.
+/// What a user sees of a refused text: a mark under the bad byte, or the message of another error.
 ///
 /// ```rust
-/// let refusal = const_hex::check(b"0xzz").unwrap_err();
-/// assert_eq!(rt; explained(rt.alloc(), "0xzz", refusal)?.as_str(), "0xzz\n  ^");
+/// let error = const_hex::check(b"0xzz").unwrap_err();
+/// assert_eq!(rt; explained(rt.alloc(), "0xzz", error)?.as_str(), "0xzz\n  ^");
 /// ```
 pub fn explained(alloc: Global, text: &str, refusal: FromHexError) -> Result<String, AllocError>
     ensures { IfOk result (λ s. string_bytes s ≡ explained_text text.now refusal) }

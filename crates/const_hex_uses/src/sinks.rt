@@ -23,7 +23,7 @@ pub fn send<S: Sink>(bytes: &[u8], sink: &mut S) -> Result<(), SinkError>
     BufferedHex::<false, true>::new(bytes).write_to(sink)
 }
 
-/// The text of some bytes, behind `0x`, in pieces of at most 4096 bytes, as a network takes them.
+/// The text of some bytes, behind `0x`, in pieces of at most 4096 bytes, as for a network.
 ///
 /// Returns an error if memory is refused.
 ///

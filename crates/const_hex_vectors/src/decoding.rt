@@ -241,8 +241,8 @@ fn slices_by_the_plain_kernel(rt: HostRuntime) {
     by_plain(&rt, b"zzz", ODD, [0xEE; 3]);
 }
 
-// A text, the length of the output, and the answer. No row has a pair before its bad byte, so a
-// refusal leaves the whole output unchanged.
+// A text, the length of the output, and the answer. No row has a pair before its bad byte, so an
+// error leaves the whole output unchanged.
 #[test]
 fn fronts_of_outputs(rt: HostRuntime) {
     let rows: [(&[u8], usize, Result<&[u8], FromHexError>); 14] = [

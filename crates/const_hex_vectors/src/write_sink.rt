@@ -1,4 +1,4 @@
-//! `WriteSink`, over writers that fail, take few bytes per call, or come back.
+//! `WriteSink`, over writers that fail, accept few bytes per call, or come back.
 
 use const_hex::{BufferedHex, Plain, Sink, WriteSink};
 use hex_testing::{Fault, Target, Text, same, same_bytes};
@@ -8,8 +8,8 @@ use std::io::ErrorKind;
 use std::process::Abort;
 use std::test::Fail;
 
-// A text of 6002 bytes comes in pieces of 4096 and 1906. A writer that takes 1000 per call gets them
-// in 7 calls. Before each call, and at the end, it has this many bytes.
+// A text of 6002 bytes comes in pieces of 4096 and 1906. A writer that accepts 1000 per call gets
+// them in 7 calls. Before each call, and at the end, it has this many bytes.
 const TAKEN: [usize; 8] = [0, 1000, 2000, 3000, 4000, 4096, 5096, 6002];
 
 #[test]
@@ -29,8 +29,8 @@ fn writers_that_fail_at_each_call(rt: HostRuntime) -> Result<(), Fail> {
     Ok(())
 }
 
-/// A writer has taken so many bytes before that call. The call fails, or takes no bytes; or a signal
-/// interrupts it 1, 2, 100 or 10,000 times in a row, and it is made again.
+/// A writer has accepted so many bytes before that call. The call fails, or accepts no bytes; or a
+/// signal interrupts it 1, 2, 100 or 10,000 times in a row, and it is made again.
 fn at_call(rt: &impl Abort, alloc: Global, (call, taken): (usize, usize), case: (&[u8], &[u8])) {
     let (fails, calls) = (call < 8, call.min(7));
     for kind in [ErrorKind::Other, ErrorKind::WouldBlock] {
@@ -70,7 +70,7 @@ fn kind_of(error: Option<&io::Error>) -> Option<ErrorKind> {
     Some(error?.kind())
 }
 
-// A writer that takes one byte per call is called once per byte, and not for an empty piece.
+// A writer that accepts one byte per call is called once per byte, and not for an empty piece.
 #[test]
 fn a_byte_a_call(rt: HostRuntime) -> Result<(), Fail> {
     let text = "01234".repeat(rt.alloc(), 1000)?;

@@ -1,4 +1,4 @@
-//! The whole program, from its words to its exit status.
+//! The whole program, from its arguments to its exit status.
 
 ghost use Rattle.std.specs.Prelude.{◌≡◌, ◌≢◌, ◌≤◌, ◌⊎◌, List, ℕ, Ok, Err};
 ghost use Rattle.std.specs.Io.KnownBytes.{Appends, Keeps};
@@ -18,9 +18,9 @@ use std::env::Env;
 use std::io::{Eprint, Read, Write};
 use std::process::ExitCode;
 
-/// Does what the words behind the program's name ask for, and returns the exit status: 0 if that
-/// succeeds; 1 if the text is refused; 2 if the words name no mode; 3 if a read or a write fails or
-/// the input is too long; 4 if memory is refused. An error is one line on standard error.
+/// Does what the arguments behind the program's name ask for, and returns the exit status: 0 if that
+/// succeeds; 1 if the text is refused; 2 if the arguments name no mode; 3 if a read or a write fails
+/// or the input is too long; 4 if memory is refused. An error is one line on standard error.
 ///
 /// ```rust
 /// fn main(rt: HostRuntime) -> ExitCode {

@@ -41,7 +41,7 @@ pub fn run<R: Read, W: Write>(
     ensures ok { OnOk result ((bs : List ℕ)
         × Answers mode (R.remaining input.old) (R.remaining input.new) (Ok bs)
         × Appends (W.contents output.old) (W.contents output.new) bs) }
-    // The reader was read to its end, and the answer to all of it is this refusal.
+    // The reader was read to its end, and the answer to all of it is this error.
     ensures text { (e : FromHexError) → result ≡ Err (Text e)
         → Answers mode (R.remaining input.old) (R.remaining input.new) (Err (Text e)) }
     ensures too_long { result ≡ Err TooLong

@@ -1,14 +1,14 @@
-//! The words that the program is started with.
+//! The arguments that the program is started with.
 
 use std::alloc::AllocError;
 use std::env::{Env, FillError};
 
-/// How many bytes of a word are read. No mode has a longer word.
+/// How many bytes of an argument are read. No mode has a longer word.
 const LONGEST: usize = 32;
 
-/// The first two words behind the program's name. If a word is not UTF-8 or has more than 32 bytes,
-/// the empty word stands for it; neither names a mode. Two words name no mode either, so a third is
-/// not read.
+/// The first two arguments behind the program's name. If one is not UTF-8 or has more than 32 bytes,
+/// the empty text stands for it; neither names a mode. Two arguments name no mode either, so a third
+/// is not read.
 pub(crate) fn words(rt: &(impl Env + AllocGlobal)) -> Result<Vec<String>, AllocError> {
     let mut words = Vec::new(rt.alloc());
     for place in 1..3 {

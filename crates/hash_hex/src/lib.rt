@@ -1,6 +1,6 @@
 //! Hashes of 32 bytes and addresses of 20, read from hexadecimal text and written as it.
 //!
-//! Both are [`FixedBytes`], a value of a fixed number of bytes. The words of its contracts are
+//! Both are [`FixedBytes`], a value of a fixed number of bytes. The terms of its contracts are
 //! defined in `specs/Fixed.antt`. What a text spells is defined in `const_hex`.
 //!
 //! The letters of an address in mixed case may carry a checksum. The case does not matter here, and

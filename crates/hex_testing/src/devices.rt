@@ -57,7 +57,7 @@ pub enum Fault {
     Nothing,
     /// The writes from the first number to the second fail. Numbers begin at 1.
     Writes(usize, usize, ErrorKind),
-    /// The write of that number takes no bytes.
+    /// The write of that number accepts no bytes.
     Full(usize),
     /// The first flush fails.
     Flush(ErrorKind),

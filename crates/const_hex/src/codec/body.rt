@@ -21,7 +21,7 @@ pub(crate) fn strip_prefix(text: &[u8]) -> &[u8]
 }
 
 /// Whether two bytes are `0x` or `0X`.
-// Both are compared at once: byte by byte, a text that begins with `0` would take a path of its own.
+// Both are compared at once: byte by byte, a text that begins with `0` would run a path of its own.
 #[inline(always)]
 fn is_prefix(first: u8, second: u8) -> bool
     ensures { result ≡ ((first == 48) && (second == 120 || second == 88)) }

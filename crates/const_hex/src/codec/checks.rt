@@ -51,8 +51,8 @@ pub fn check_with<K: Kernel>(input: &[u8]) -> Result<(), FromHexError>
 /// As [`check`], with the same answer on every text. Does not allocate.
 ///
 /// ```rust
-/// let refusal = FromHexError::InvalidHexCharacter { c: 'z', index: 2 };
-/// assert_eq!(rt; const_hex::const_check(b"0xzz"), Err(refusal));
+/// let error = FromHexError::InvalidHexCharacter { c: 'z', index: 2 };
+/// assert_eq!(rt; const_hex::const_check(b"0xzz"), Err(error));
 /// ```
 #[inline]
 #[tactic(auto, using(crate::proofs::lemmas::Reading::one_check_answer))]

@@ -11,8 +11,8 @@ use std::fmt;
 /// so `?` hands it on, also to an `anyhow::Error`.
 ///
 /// ```rust
-/// let refusal = const_hex::deserialize::<[u8; 2]>(rt.alloc(), &Value::Null).unwrap_err();
-/// assert_eq!(rt; refusal, JsonError::NotText);
+/// let error = const_hex::deserialize::<[u8; 2]>(rt.alloc(), &Value::Null).unwrap_err();
+/// assert_eq!(rt; error, JsonError::NotText);
 /// ```
 #[derive(PartialEq, Eq, Debug, Drop)]
 pub enum JsonError<E> {

@@ -6,7 +6,7 @@ ghost use Rattle.const_hex.specs.declared.error.FromHexError.TheVariants.{NoMemo
 
 use crate::error::FromHexError;
 
-/// An error type that tells which of its errors are of memory.
+/// An error type that says which of its errors are of memory.
 ///
 /// Generic code may rely on this: [`is_memory`](HexFault::is_memory) is true of every error that
 /// [`of_memory`](HexFault::of_memory) returns.

@@ -376,7 +376,7 @@ fn decode_two_steps<const N: usize, V: Vectors<N>>(text: &[u8], output: &mut [u8
 }
 
 /// The bytes that the text of a step spells.
-// The values are computed again here. The compiler reuses those of the test.
+// The values are computed again here. The compiler reuses the test's values.
 #[inline(always)]
 #[tactic(auto, using(crate::proofs::lemmas::LaneBytes::in_two))]
 fn decoded<const N: usize, V: Vectors<N>>(text: &[u8]) -> Simd<u8, N>

@@ -7,7 +7,7 @@ use crate::output::Output;
 use crate::sink::{Sink, SinkError, refusal_of};
 use crate::text::ascii_text;
 
-/// Writes to a sink. After the first refusal it writes nothing more.
+/// Writes to a sink. After the first error it writes nothing more.
 ///
 /// ```rust
 /// let mut sink = PieceSink::new(rt.alloc(), 2);

@@ -6,7 +6,7 @@ use const_hex_uses::chunks::decoded_or;
 use std::io;
 use std::simd::prelude::*;
 
-/// Tells the answers of each call of a module of lanes.
+/// Prints the answers of each call of a module of lanes.
 macro_rules! tell_each {
     ($rt:expr, $lanes:ident, $vector:ident, $chunk:ident) => {{
         let (digits, bad) = ($vector::splat(b'a'), $vector::splat(b'g'));
