@@ -1,16 +1,16 @@
 -- Text that was written is read again.
 use Rattle.std.proofs.Common.{◌≡◌, ℕ, ◌*◌, ◌/◌, ◌%◌, ◌<◌, ◌==◌, ◌&&◌, ◌||◌, Bool, true, false, List, [], ◌∷◌, length, Result, Ok, Err, refl, arith}
-use Rattle.std.specs.Prelude.{MatchResult, IfOk, IfErr, ◌≢◌}
+use Rattle.std.specs.Prelude.{MatchResult, IfOk, IfErr, ◌≢◌, ◌↔◌}
 use Rattle.std.proofs.lemmas.Bool.Decides.{nat_tests}
 use Rattle.const_hex_arch.specs.Digits.{hex_digit}
 use Rattle.const_hex_arch.specs.Texts.{hex_text, full_text}
 use Rattle.const_hex_arch.proofs.lemmas.Texts.{Spells-hex_text, length-hex_text, length-full_text}
-use Rattle.const_hex.specs.Bodies.{body_of}
+use Rattle.const_hex.specs.Bodies.{body_of, lowered}
 use Rattle.const_hex.specs.Answers.{Reads, ReadsSized, IsEven, AreBytes}
 use Rattle.const_hex.specs.declared.error.FromHexError.{FromHexError}
 use Rattle.const_hex.specs.declared.error.FromHexError.TheVariants.{OddLength, InvalidStringLength, InvalidHexCharacter, NoMemory}
-use Rattle.const_hex.proofs.lemmas.Reading.{one_answer, one_sized_answer, Reads-not_both, sized_accepts}
-use Rattle.const_hex.proofs.lemmas.Lowering.{read_back}
+use Rattle.const_hex.proofs.lemmas.Reading.{one_answer, one_sized_answer, Reads-not_both}
+use Rattle.const_hex.proofs.lemmas.Lowering.{hex_text-lowered, Spells-agree}
 
 -- the second byte of a text is no `x`
 no_prefix : (up : Bool) (c v : ℕ) → v < 16 → ((c == 48) && (hex_digit up v == 120 || hex_digit up v == 88)) ≡ false
@@ -55,4 +55,21 @@ sized_round_trip n t r h prefix up bs bytes len e =
     let twice : length (body_of t) ≡ 2 * n = rw (e, body-full_text prefix up bs, length-hex_text up bs, len) refl in
     one_sized_answer t n r (Ok bs) h (twice, Reads-full_text t prefix up bs bytes e)
 
-pub ruleset sized = (sized_round_trip, sized_accepts, read_back)
+-- ---- what other texts give
+
+-- the text of the bytes that were read is the body in lower letters
+pub canonical : {V : Type 0} (items : V → List ℕ) (t : List ℕ) (r : Result V FromHexError) → IfOk r (λ v. Reads t (Ok (items v)))
+    → IfOk r (λ v. hex_text false (items v) ≡ lowered (body_of t))
+canonical items t (Ok v) h = hex_text-lowered (body_of t) (items v) h.1
+canonical items t (Err e) h = tt
+
+-- another text is read as the same bytes exactly if the bodies are the same in lower letters
+pub agree : {V : Type 0} (items : V → List ℕ) (t : List ℕ) (r : Result V FromHexError) → IfOk r (λ v. Reads t (Ok (items v)))
+    → (u bs : List ℕ) → Reads u (Ok bs) → IfOk r (λ v. (bs ≡ items v) ↔ (lowered (body_of u) ≡ lowered (body_of t)))
+agree items t (Ok v) h u bs k = Spells-agree (body_of u) (body_of t) bs (items v) k.1 h.1
+agree items t (Err e) h u bs k = tt
+
+pub sized_agree : (n : ℕ) (t : List ℕ) (r : Result (List ℕ) FromHexError) → ReadsSized t n r
+    → (u bs : List ℕ) → ReadsSized u n (Ok bs) → IfOk r (λ v. (bs ≡ v) ↔ (lowered (body_of u) ≡ lowered (body_of t)))
+sized_agree n t (Ok v) h u bs k = Spells-agree (body_of u) (body_of t) bs v k.1.1 h.1.1
+sized_agree n t (Err e) h u bs k = tt

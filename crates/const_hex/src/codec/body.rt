@@ -35,7 +35,6 @@ fn is_prefix(first: u8, second: u8) -> bool
 // If another process makes the text valid meanwhile, no byte is found. Then the error names the end
 // of the text. `rt check` proves that this line is not reached while the text stays the same.
 #[cold]
-#[tactic(auto, using(const_hex_arch::proofs::lemmas::Spelling::digits_more))]
 pub(crate) fn bad_character(text: &[u8]) -> FromHexError
     requires { AllDigits (body_of text.now) → ⊥ }
     ensures { NamesFirstBad text.now result }

@@ -55,7 +55,6 @@ pub fn check_with<K: Kernel>(input: &[u8]) -> Result<(), FromHexError>
 /// assert_eq!(rt; const_hex::const_check(b"0xzz"), Err(error));
 /// ```
 #[inline]
-#[tactic(auto, using(crate::proofs::lemmas::Reading::one_check_answer))]
 pub fn const_check(input: &[u8]) -> Result<(), FromHexError>
     ensures answer { Checks input.now result }
     ensures accepts { IsOk result ↔ ((bs : List ℕ) × Reads input.now (Ok bs)) }

@@ -51,7 +51,6 @@ pub fn decode(alloc: Global, input: &[u8]) -> Result<Vec<u8>, FromHexError>
 /// assert_eq!(rt; bytes.as_slice(), b"kiwi".as_slice());
 /// ```
 #[inline]
-#[tactic(auto, using(crate::proofs::lemmas::Lowering::read_back))]
 pub fn decode_with<K: Kernel>(alloc: Global, input: &[u8]) -> Result<Vec<u8>, FromHexError>
     ensures ok { IfOk result (λ v. Reads input.now (Ok v.items)) }
     ensures err { IfErr result (λ e. e ≢ NoMemory → Reads input.now (Err e)) }
@@ -194,7 +193,6 @@ pub fn decode_to_front(input: &[u8], output: &mut [u8]) -> Result<usize, FromHex
 /// assert_eq!(rt; &bytes, b"kiwi");
 /// ```
 #[inline]
-#[tactic(auto, using(crate::proofs::lemmas::RoundTrip::sized))]
 pub fn decode_to_array<const N: usize>(input: &[u8]) -> Result<[u8; N], FromHexError>
     ensures answer { ReadsSized input.now N result }
     // For a constant text this computes, so the check proves an `unwrap`.
@@ -228,7 +226,6 @@ fn read_array<const N: usize>(input: &[u8]) -> Result<[u8; N], FromHexError>
 /// assert_eq!(rt; &bytes, b"kiwi");
 /// ```
 #[inline]
-#[tactic(auto, using(crate::proofs::lemmas::Reading::one_sized_answer))]
 pub fn const_decode_to_array<const N: usize>(input: &[u8]) -> Result<[u8; N], FromHexError>
     ensures answer { ReadsSized input.now N result }
     // For a constant text this computes, so the check proves an `unwrap`.

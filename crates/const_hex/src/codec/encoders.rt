@@ -14,7 +14,6 @@ use std::alloc::{AllocError, Global};
 
 /// The text, as a `String`.
 #[inline(always)]
-#[tactic(auto, using(const_hex_arch::proofs::lemmas::Texts::texts))]
 fn owned<K: Kernel>(
     alloc: Global,
     input: &[u8],
@@ -96,7 +95,6 @@ pub fn encode_upper_prefixed(alloc: Global, input: &[u8]) -> Result<String, Allo
 /// assert_eq!(rt; text.as_str(), "6B697769");
 /// ```
 #[inline]
-#[tactic(auto, using(const_hex_arch::proofs::lemmas::Texts::texts))]
 pub fn encode_with<K: Kernel, const UPPER: bool>(
     alloc: Global,
     input: &[u8],

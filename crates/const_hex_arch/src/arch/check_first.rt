@@ -39,7 +39,6 @@ impl<K: Kernel> Kernel for CheckFirst<K> {
     // Not `always`: decoders name this call in a branch that most kernels never take. With its body
     // in that branch, they would be too large to be inlined.
     #[inline]
-    #[tactic(auto, using(crate::proofs::lemmas::Spelling::none_decoded))]
     fn decode_checked(input: &[u8], output: &mut [u8]) -> bool {
         if !K::check(input) {
             return false;

@@ -94,7 +94,6 @@ fn digit_values<const N: usize, V: Vectors<N>>(v: Simd<u8, N>) -> Simd<u8, N>
 
 /// Marks of a vector: there are none exactly if each lane is a digit.
 #[inline(always)]
-#[tactic(auto, using(crate::proofs::lemmas::LaneMarks::unmarked_are_digits))]
 fn digit_marks<const N: usize, V: Vectors<N>>(v: Simd<u8, N>) -> Simd<u8, N>
     ensures { AllUnmarked result ↔ AllDigits v.entry }
 {

@@ -30,7 +30,7 @@ impl Kernel for Plain {
     }
 
     #[inline(always)]
-    #[tactic(auto, using(crate::proofs::lemmas::Spelling::digits_more, std::proofs::lemmas::List::take_all))]
+    #[tactic(auto, using(std::proofs::lemmas::List::take_all))]
     fn check(input: &[u8]) -> bool {
         for b in input {
             if value_at(*b) == NIL {
@@ -41,7 +41,6 @@ impl Kernel for Plain {
     }
 
     #[inline(always)]
-    #[tactic(auto, using(std::proofs::lemmas::Grind::common_steps, crate::proofs::lemmas::Spelling::pair_more))]
     fn decode_checked(input: &[u8], output: &mut [u8]) -> bool {
         for i in 0..output.len() {
             let high = value_at(input[2 * i]);
@@ -55,7 +54,6 @@ impl Kernel for Plain {
     }
 
     #[inline(always)]
-    #[tactic(auto, using(std::proofs::lemmas::Grind::common_steps, crate::proofs::lemmas::Spelling::pair_more, crate::proofs::lemmas::Spelling::digit_values))]
     fn decode_unchecked(input: &[u8], output: &mut [u8]) {
         for i in 0..output.len() {
             output[i] = value_at(input[2 * i]) * 16 + value_at(input[2 * i + 1]);

@@ -1,6 +1,6 @@
 use Rattle.std.proofs.Common.{[], ◌∷◌, ◌++◌, rules}
 use Rattle.std.proofs.KnownBytes.{Appends-nil, Appends-trans}
-use Rattle.const_hex_replay.proofs.Counts.{Counted-none, Counted-more, Counted-all}
+use Rattle.const_hex_replay.proofs.lemmas.Counts.{Counted-none, Counted-more, Counted-all}
 use Rattle.const_hex_replay.proofs.lines.answer_lines.Goals as goal
 
 pub loop-init : goal.loop-init

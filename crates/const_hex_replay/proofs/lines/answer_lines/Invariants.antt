@@ -1,6 +1,6 @@
 use Rattle.std.proofs.Common.{ℕ, List}
 use Rattle.std.specs.Io.KnownBytes.{Appends}
-use Rattle.const_hex_replay.proofs.Counts.{Counted}
+use Rattle.const_hex_replay.proofs.lemmas.Counts.{Counted}
 use Rattle.const_hex_replay.proofs.lines.answer_lines.Given as goal
 
 abbrev pub invariant-loop : goal.invariant-loop

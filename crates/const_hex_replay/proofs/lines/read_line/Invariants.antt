@@ -1,6 +1,6 @@
 use Rattle.std.proofs.Common.{◌≡◌, false}
 use Rattle.std.specs.Io.KnownBytes.{Keeps}
-use Rattle.const_hex_replay.proofs.Counts.{InOneLine}
+use Rattle.const_hex_replay.proofs.lemmas.Counts.{InOneLine}
 use Rattle.const_hex_replay.proofs.lines.read_line.Given as goal
 
 abbrev pub invariant-loop : goal.invariant-loop

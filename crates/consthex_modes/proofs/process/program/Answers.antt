@@ -1,5 +1,5 @@
 use Rattle.std.proofs.Common.{Err, sym, ap, ◌∙◌}
-use Rattle.consthex_modes.proofs.Statuses.{text_of}
+use Rattle.consthex_modes.proofs.lemmas.Statuses.{text_of}
 use Rattle.consthex_modes.proofs.process.program.Goals as goal
 
 pub returns-in-Some-clause-refused : goal.returns-in-Some-clause-refused

@@ -1,6 +1,6 @@
 use Rattle.std.proofs.Common.{◌≤◌, length, arith}
 use Rattle.const_hex.proofs.lemmas.WriteSinks.{step_within}
-use Rattle.consthex_modes.proofs.Pieces.{read_step}
+use Rattle.consthex_modes.proofs.lemmas.Pieces.{read_step}
 use Rattle.consthex_modes.proofs.runs.read_all.Goals as goal
 
 pub reads-preserved : goal.reads-preserved

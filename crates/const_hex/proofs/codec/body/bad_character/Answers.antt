@@ -1,7 +1,7 @@
-use Rattle.std.proofs.Common.{get_or, sym, arith}
+use Rattle.std.proofs.Common.{get_or, sym, ◌∙◌, arith}
 use Rattle.std.proofs.lemmas.List.{take_all}
 use Rattle.const_hex_arch.specs.Texts.{FirstBad}
-use Rattle.const_hex_arch.proofs.lemmas.Spelling.{value_not_found}
+use Rattle.const_hex_arch.proofs.lemmas.Spelling.{value_not_found, digits_more}
 use Rattle.const_hex.proofs.codec.body.bad_character.Goals as goal
 
 pub returns-then-value_at : goal.returns-then-value_at
@@ -17,3 +17,7 @@ returns c =
     let u = c.strip_prefix-body.result.now in
     let whole = rw (take_all c.digits.place u (omega arith)) at c.digits.invariant in
     absurd (c.requires (rw c.strip_prefix-body.ensures.body at whole))
+
+pub digits-preserved : goal.digits-preserved
+digits-preserved c =
+    digits_more c.strip_prefix-body.result.now c.digits.place c.digits.invariant (omega arith) (λ e. c.if-value_at.false (c.value_at.ensures ∙ e))

@@ -1,5 +1,6 @@
 use Rattle.std.proofs.Common.{arith, ◌*◌, ◌+◌, get_or}
-use Rattle.const_hex_arch.proofs.lemmas.Spelling.{value_found, value_not_found, refused_high, refused_low}
+use Rattle.std.proofs.lemmas.Grind.{common_steps}
+use Rattle.const_hex_arch.proofs.lemmas.Spelling.{pair_more, value_found, value_not_found, refused_high, refused_low}
 use Rattle.const_hex_arch.proofs.arch.plain.PlainKernel.decode_checked.Goals as goal
 use Rattle.const_hex_arch.proofs.arch.plain.PlainKernel.decode_checked.Goals.{then-high-via-then-high, then-high-via-else-high+then-low}
 
@@ -18,3 +19,12 @@ returns-then-high-clause-refused c = λ _.
           (value_found (get_or u (2 * i) 0) c.value_at-high.result c.value_at-high.ensures w.if-high.false)
           (value_not_found (get_or u (2 * i + 1) 0) c.value_at-low.result c.value_at-low.ensures w.if-low.true)
     ]
+
+pub loop-i-preserved : goal.loop-i-preserved
+loop-i-preserved c =
+    let i = c.loop-i.i in record {
+      front =
+          pair_more c.args.input.now c.loop-i.output i c.value_at-high.result c.value_at-low.result c.loop-i.invariant.front (omega arith) (omega arith)
+          c.value_at-high.ensures c.value_at-low.ensures c.if-high.false c.if-low.false;
+      rest = grind (arith, common_steps);
+    }
