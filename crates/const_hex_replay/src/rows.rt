@@ -11,7 +11,10 @@ pub(crate) fn check<R: Debug, A: Debug + PartialEq>(
     answer: &A,
     want: &A,
 ) {
-    assert!(rt; answer == want, "{call} at {row:?}: {answer:?}, but wanted {want:?}");
+    assert!(rt;
+        answer == want,
+        "{call} at {row:?}: {answer:?}, but wanted {want:?}"
+    );
 }
 
 pub(crate) fn check_bytes<R: Debug>(
