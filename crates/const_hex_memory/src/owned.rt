@@ -3,15 +3,14 @@
 use crate::inputs::{BAD, BYTES, DATA, DIGITS, Inputs, KIWI, TEXT, bad_digits};
 use crate::kept::Kept;
 use crate::line::tell_each;
-use crate::without::by_each_kernel;
 use const_hex::serde::no_prefix;
 use const_hex::{
-    Buffer, BufferedHex, CheckFirst, FromHex, Kernel, Lanes16, Lanes32, PieceSink, Plain, ToHex,
-    ToHexExt, const_encode, decode, decode_with, deserialize, encode, encode_prefixed,
-    encode_upper, encode_upper_prefixed, encode_with, serialize, serialize_upper,
+    Buffer, BufferedHex, FromHex, Kernel, PieceSink, ToHex, ToHexExt, const_encode, decode,
+    decode_with, deserialize, encode, encode_prefixed, encode_upper, encode_upper_prefixed,
+    encode_with, serialize, serialize_upper,
 };
-use const_hex_uses::own_kernel::Backward;
 use hash_hex::{Address20, Hash32};
+use hex_testing::{KernelCase, by_each_kernel};
 use std::alloc::Global;
 use std::boxed::BoxedSlice;
 use std::io;
@@ -96,18 +95,18 @@ fn tell_read(rt: &impl Print, alloc: Global, text: &str) -> io::Result<()> {
     Ok(())
 }
 
-fn tell_by_kernel<K: Kernel>(rt: &impl Print, alloc: Global, by: &str) -> io::Result<()> {
+fn tell_by_kernel<K: Kernel>(rt: &impl Print, alloc: Global, kernel: KernelCase) -> io::Result<()> {
     let (mut sink, hex) = (
         PieceSink::new(alloc, 0),
         BufferedHex::<false, true>::new(&DATA),
     );
-    tell_each!(rt, by;
-        "encode_with" => encode_with::<K, false>(alloc, &BYTES),
-        "encode_with, upper," => encode_with::<K, true>(alloc, &BYTES),
-        "decode_with" => decode_with::<K>(alloc, &DIGITS),
-        "decode_with of a bad text" => decode_with::<K>(alloc, &bad_digits()),
-        "decode_with of zz" => decode_with::<K>(alloc, BAD.as_bytes()),
-        "write_with" => Kept(hex.write_with::<K, PieceSink>(&mut sink), &sink),
+    tell_each!(rt, kernel.name;
+        "encode_with by" => encode_with::<K, false>(alloc, &BYTES),
+        "encode_with, upper, by" => encode_with::<K, true>(alloc, &BYTES),
+        "decode_with by" => decode_with::<K>(alloc, &DIGITS),
+        "decode_with of a bad text by" => decode_with::<K>(alloc, &bad_digits()),
+        "decode_with of zz by" => decode_with::<K>(alloc, BAD.as_bytes()),
+        "write_with by" => Kept(hex.write_with::<K, PieceSink>(&mut sink), &sink),
     );
     Ok(())
 }

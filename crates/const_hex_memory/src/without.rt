@@ -8,25 +8,9 @@ mod texts;
 
 use self::kernels::tell_kernel;
 use crate::inputs::Inputs;
-use const_hex::{CheckFirst, Lanes16, Lanes32, Plain};
-use const_hex_uses::own_kernel::Backward;
+use hex_testing::by_each_kernel;
 use std::alloc::Global;
 use std::io;
-
-/// Calls a function once for each kernel, with the kernel's name.
-macro_rules! by_each_kernel {
-    ($tell:ident, $rt:expr, $alloc:expr) => {
-        $tell::<Plain>($rt, $alloc, "by Plain")?;
-        $tell::<Lanes16>($rt, $alloc, "by Lanes16")?;
-        $tell::<Lanes32>($rt, $alloc, "by Lanes32")?;
-        $tell::<Backward>($rt, $alloc, "by Backward")?;
-        $tell::<CheckFirst<Plain>>($rt, $alloc, "by CheckFirst<Plain>")?;
-        $tell::<CheckFirst<Lanes16>>($rt, $alloc, "by CheckFirst<Lanes16>")?;
-        $tell::<CheckFirst<Lanes32>>($rt, $alloc, "by CheckFirst<Lanes32>")?;
-    };
-}
-
-pub(crate) use by_each_kernel;
 
 /// Makes all these calls.
 pub(crate) fn tell_all(rt: &impl Print, alloc: Global, inputs: &Inputs) -> io::Result<()> {

@@ -1,90 +1,19 @@
-//! Every kernel: the one list of them, in which steps they work, and how they read a text.
+//! Every kernel: what is tried with each, and how they read a text.
 
 mod suite;
 
 use crate::decoding::checked;
 use crate::texts::{bad, behind};
 use const_hex::{
-    CheckFirst, FromHexError, Kernel, Lanes16, Lanes32, PieceSink, Plain, SinkOutput, check_with,
-    decode_to_slice_with, decode_with,
+    FromHexError, Kernel, PieceSink, SinkOutput, check_with, decode_to_slice_with, decode_with,
 };
-use const_hex_uses::own_kernel::Backward;
-use hex_testing::{Text, same, same_bytes};
+use hex_testing::{KernelCase, Text, by_each_kernel, same, same_bytes};
 use std::alloc::{AllocError, Global};
 use std::process::Abort;
 use std::test::Fail;
 
-/// A kernel's name, whether it is tried behind `CheckFirst`, and in which steps it works.
-#[derive(Clone, Copy, Debug)]
-pub(crate) struct KernelCase {
-    name: &'static str,
-    /// Its place in rows with a figure for each kernel.
-    number: usize,
-    checks_first: bool,
-    /// How many digits it decodes in a step: the first number as long as possible, then the next.
-    /// Empty if it decodes nothing of a text that it refuses.
-    reads: &'static [usize],
-    /// How many digits it writes in a piece. If fewer are left, they are one piece.
-    pub(crate) writes: usize,
-}
-
-impl KernelCase {
-    fn new(
-        name: &'static str,
-        number: usize,
-        reads: &'static [usize],
-        writes: usize,
-    ) -> KernelCase {
-        KernelCase {
-            name,
-            number,
-            checks_first: false,
-            reads,
-            writes,
-        }
-    }
-
-    /// The same kernel behind `CheckFirst`.
-    fn checking_first(self) -> KernelCase {
-        KernelCase {
-            checks_first: true,
-            reads: &[],
-            ..self
-        }
-    }
-
-    /// How many bytes it decodes of a body of that length with a bad byte at that place.
-    fn decoded(self, length: usize, place: usize) -> usize {
-        for step in self.reads {
-            if *step > 0 && place < length - length % *step {
-                return (place - place % *step) / 2;
-            }
-        }
-        0
-    }
-
-    /// The sizes of the pieces in which it writes a text of that length.
-    fn pieces(self, alloc: Global, length: usize) -> Result<Vec<usize>, AllocError> {
-        let size = self.writes.max(1);
-        let mut sizes = vec![in alloc; size; length / size]?;
-        if length % size > 0 {
-            sizes.push(length % size)?;
-        }
-        Ok(sizes)
-    }
-}
-
 /// A figure for each kernel.
 type Figures = [usize; 4];
-
-fn every_kernel() -> [KernelCase; 4] {
-    [
-        KernelCase::new("Plain", 0, &[2], 1),
-        KernelCase::new("Lanes16", 1, &[32, 2], 32),
-        KernelCase::new("Lanes32", 2, &[64, 32, 2], 64),
-        KernelCase::new("Backward", 3, &[], 2),
-    ]
-}
 
 /// What is tried with each kernel, by itself and behind `CheckFirst`.
 pub(crate) trait KernelTest {
@@ -95,17 +24,19 @@ pub(crate) trait KernelTest {
         kernel: KernelCase,
     ) -> Result<(), Fail>;
 
-    fn with_each_kernel(&self, rt: &impl Abort, alloc: Global) -> Result<(), Fail> {
-        let [plain, lanes16, lanes32, backward] = every_kernel();
-        self.run::<Plain>(rt, alloc, plain)?;
-        self.run::<CheckFirst<Plain>>(rt, alloc, plain.checking_first())?;
-        self.run::<Lanes16>(rt, alloc, lanes16)?;
-        self.run::<CheckFirst<Lanes16>>(rt, alloc, lanes16.checking_first())?;
-        self.run::<Lanes32>(rt, alloc, lanes32)?;
-        self.run::<CheckFirst<Lanes32>>(rt, alloc, lanes32.checking_first())?;
-        self.run::<Backward>(rt, alloc, backward)?;
-        self.run::<CheckFirst<Backward>>(rt, alloc, backward.checking_first())
+    final fn with_each_kernel(&self, rt: &impl Abort, alloc: Global) -> Result<(), Fail> {
+        by_each_kernel!(run_by, self, rt, alloc);
+        Ok(())
     }
+}
+
+fn run_by<K: Kernel>(
+    test: &impl KernelTest,
+    rt: &impl Abort,
+    alloc: Global,
+    kernel: KernelCase,
+) -> Result<(), Fail> {
+    test.run::<K>(rt, alloc, kernel)
 }
 
 /// Each call that reads a text by a kernel answers this, and an output of bytes 0xEE then holds `left`.

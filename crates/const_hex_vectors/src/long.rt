@@ -2,10 +2,10 @@
 
 use crate::decoding::each_call_answers;
 use crate::encoding::Written;
-use crate::kernels::{KernelCase, KernelTest, answers, refuses};
+use crate::kernels::{KernelTest, answers, refuses};
 use crate::texts::{bad, behind, bytes, printed};
 use const_hex::{Buffer, Kernel, ToHex, ToHexExt, const_encode, decode_to_slice, encode_with};
-use hex_testing::{Text, same, same_bytes};
+use hex_testing::{KernelCase, Text, same, same_bytes};
 use std::alloc::{AllocError, Global};
 use std::process::Abort;
 use std::test::Fail;

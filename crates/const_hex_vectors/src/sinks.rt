@@ -2,12 +2,12 @@
 
 ghost use Rattle.std.specs.Prelude.{◌<◌};
 
-use crate::kernels::{KernelCase, KernelTest};
+use crate::kernels::KernelTest;
 use crate::texts::{bytes, printed};
 use const_hex::{
     BufferedHex, BufferedOutput, Kernel, Output, PieceSink, Sink, SinkOutput, SliceOutput,
 };
-use hex_testing::{same, same_bytes};
+use hex_testing::{KernelCase, same, same_bytes};
 use std::alloc::Global;
 use std::fmt::Debug;
 use std::process::Abort;

@@ -2,12 +2,12 @@
 
 ghost use Rattle.std.specs.Prelude.{◌≡◌, false, None, refl};
 
-use crate::kernels::{KernelCase, KernelTest};
+use crate::kernels::KernelTest;
 use crate::sinks::has_pieces;
 use crate::texts::{bytes, cut, printed};
 use const_hex::serde::serialize_inner;
 use const_hex::{BufferedHex, Kernel, Output, PieceSink, Plain, Sink, SinkError, SinkOutput};
-use hex_testing::same;
+use hex_testing::{KernelCase, same};
 use std::alloc::{AllocError, Global};
 use std::process::Abort;
 use std::test::Fail;

@@ -1,13 +1,16 @@
 //! What the crates of tests share: a row that prints what was called, what was wanted and what came;
-//! and readers, writers and sinks that count their calls and fail at one of them.
+//! readers, writers and sinks that count their calls and fail at one of them; and the list of the
+//! kernels.
 #![tactic(auto)]
 
 mod counting;
 mod devices;
 mod formatted;
+mod kernels;
 mod rows;
 
 pub use crate::counting::Counting;
 pub use crate::devices::{Endless, Fault, Source, Target};
 pub use crate::formatted::InHex;
+pub use crate::kernels::KernelCase;
 pub use crate::rows::{Text, difference};

@@ -1,9 +1,9 @@
 //! What is tried with each kernel on short texts.
 
-use crate::kernels::{KernelCase, KernelTest, answers, refuses};
+use crate::kernels::{KernelTest, answers, refuses};
 use crate::texts::{PREFIXES, behind, bytes, cut, digits, printed, read};
 use const_hex::{FromHexError, Kernel, PieceSink, SinkOutput, SliceOutput, check_raw, encode_with};
-use hex_testing::{Text, same, same_bytes};
+use hex_testing::{KernelCase, Text, same, same_bytes};
 use std::alloc::{AllocError, Global};
 use std::process::Abort;
 use std::test::Fail;
