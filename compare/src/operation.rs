@@ -112,25 +112,25 @@ pub enum Numbers {
     Allowed,
 }
 
-/// Lower letters.
+/// Lowercase letters.
 const PLAIN: Form = Form {
     prefix: Prefix::Absent,
     case: Case::Lower,
 };
 
-/// Upper letters.
+/// Uppercase letters.
 const UPPER: Form = Form {
     prefix: Prefix::Absent,
     case: Case::Upper,
 };
 
-/// `0x`, and lower letters.
+/// `0x`, and lowercase letters.
 const PREFIXED: Form = Form {
     prefix: Prefix::Present,
     case: Case::Lower,
 };
 
-/// `0x`, and upper letters.
+/// `0x`, and uppercase letters.
 const UPPER_PREFIXED: Form = Form {
     prefix: Prefix::Present,
     case: Case::Upper,

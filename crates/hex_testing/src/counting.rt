@@ -16,6 +16,7 @@ pub struct Counting {
 }
 
 impl Counting {
+    /// Refuses the call of that number, counted from 1. It refuses none if the number is 0.
     pub fn new(refuse_at: usize) -> Counting
         ensures { result.refused ≡ false }
     {

@@ -14,6 +14,7 @@ pub struct Source<'a> {
 }
 
 impl<'a> Source<'a> {
+    /// Hands out these bytes. The read of that number, counted from 1, fails.
     pub fn new(rest: &'a [u8], fail_at: usize, kind: ErrorKind) -> Source<'a> {
         Source {
             rest,
@@ -74,6 +75,7 @@ pub struct Target {
 }
 
 impl Target {
+    /// Keeps at most `most` bytes per call. The fault says which calls fail.
     pub fn new(alloc: Global, most: usize, fault: Fault) -> Target {
         Target {
             taken: Vec::new(alloc),

@@ -17,6 +17,7 @@ pub struct KernelCase {
 }
 
 impl KernelCase {
+    /// A kernel by itself, by its name, its place in rows, what it reads and what it writes.
     pub fn new(
         name: &'static str,
         number: usize,
