@@ -75,9 +75,9 @@ fn two_texts(rt: HostRuntime) -> Result<(), Fail> {
     let (one, two) = read_both::<Rc<Vec<u8>>>(rt.alloc(), LOWER, b"ff81")?;
     assert!(rt; *one != *two);
     let (list, array) = read_twice::<2>(rt.alloc(), UPPER)?;
-    assert_eq!(rt; list.as_slice(), array.as_slice());
+    same!(&rt; list.as_slice(), array.as_slice());
     let refusal = FromHexError::InvalidStringLength;
-    assert_eq!(rt; read_twice::<3>(rt.alloc(), UPPER).err(), Some(refusal));
+    same!(&rt; read_twice::<3>(rt.alloc(), UPPER).err(), Some(refusal));
     Ok(())
 }
 
@@ -93,7 +93,7 @@ fn store(rt: HostRuntime) -> Result<(), Fail> {
     let alloc = rt.alloc();
     let mut store = HashMap::new(alloc);
     put(alloc, &mut store, b"0x6B69", 7)?;
-    assert_eq!(rt; find(alloc, &store, b"6b69")?, Some(7));
+    same!(&rt; find(alloc, &store, b"6b69")?, Some(7));
     assert!(rt; find(alloc, &store, b"6b6a")?.is_none());
     Ok(())
 }
@@ -102,11 +102,11 @@ fn store(rt: HostRuntime) -> Result<(), Fail> {
 fn files_and_sinks(rt: HostRuntime) -> Result<(), Fail> {
     let mut file = Vec::new(rt.alloc());
     write_text(b"kiwi", &mut file)?;
-    assert_eq!(rt; Text(&file), Text(b"0x6b697769"));
+    same!(&rt; Text(&file), Text(b"0x6b697769"));
     let mut sink = PieceSink::new(rt.alloc(), 0);
     send(b"kiwi", &mut sink)?;
-    assert_eq!(rt; sink.pieces().len(), 1);
-    assert_eq!(rt; sink.pieces()[0].as_str(), "0x6b697769");
+    same!(&rt; sink.pieces().len(), 1);
+    same!(&rt; sink.pieces()[0].as_str(), "0x6b697769");
     Ok(())
 }
 
@@ -134,10 +134,10 @@ fn lines_of_a_reader(rt: HostRuntime) -> Result<(), Fail> {
     let mut file = Vec::new(rt.alloc());
     dump(&mut b"0123456789abcdefgh".as_slice(), &mut file)?;
     let lines = b"30313233343536373839616263646566\n6768\n".as_slice();
-    assert_eq!(rt; Text(&file), Text(lines));
+    same!(&rt; Text(&file), Text(lines));
     let mut room = [0u8; 5];
     assert!(rt; dump(&mut b"kiwi".as_slice(), &mut room.as_mut_slice()).is_err());
-    assert_eq!(rt; Text(&room), Text(b"6b697"));
+    same!(&rt; Text(&room), Text(b"6b697"));
     Ok(())
 }
 
@@ -170,9 +170,9 @@ fn constants(rt: HostRuntime) {
         0xAA, 0x95, 0x2B, 0xA7, 0xF1, 0x63, 0xC4, 0xA1, 0x16, 0x28, 0xF5, 0x5A, 0x4D, 0xF5, 0x23,
         0xB3, 0xEF,
     ];
-    assert_eq!(rt; wrapped_ether(), ether);
-    assert_eq!(rt; transfer(), topic);
-    assert_eq!(rt; bytes_of::<4>(b"0X6B697769"), *b"kiwi");
+    same!(&rt; wrapped_ether(), ether);
+    same!(&rt; transfer(), topic);
+    same!(&rt; bytes_of::<4>(b"0X6B697769"), *b"kiwi");
     assert!(rt; bytes_of::<0>(b"").is_empty());
 }
 
@@ -187,7 +187,7 @@ fn settings(rt: HostRuntime) {
         let found = first_fault(rt.alloc(), text).map(|f| (f.0, f.1.column()));
         same!(&rt, "first_fault", text; found, fault);
     }
-    assert_eq!(rt; first_fault(rt.alloc(), "a"), Some((1, LineFault::NoSign)));
+    same!(&rt; first_fault(rt.alloc(), "a"), Some((1, LineFault::NoSign)));
 }
 
 #[test]
@@ -195,23 +195,17 @@ fn requests(rt: HostRuntime) -> Result<(), Fail> {
     let request = code_request(rt.alloc(), &[0xab; 20])?.to_string(rt.alloc())?;
     let text =
         "{\"id\":1,\"jsonrpc\":\"2.0\",\"method\":\"eth_getCode\",\"params\":[\"0xabababababababababababababababababababab\",\"latest\"]}";
-    assert_eq!(rt; request.as_str(), text);
+    same!(&rt; request.as_str(), text);
     let shown = explained(rt.alloc(), "0xzz", const_hex::check(b"0xzz").unwrap_err())?;
-    assert_eq!(rt; shown.as_str(), "0xzz\n  ^");
+    same!(&rt; shown.as_str(), "0xzz\n  ^");
     Ok(())
 }
 
 #[test]
 fn answers(rt: HostRuntime) -> Result<(), Fail> {
     let answer = json!(in rt.alloc(); {"id": 1, "result": "0x6001"})?;
-    assert_eq!(rt;
-        code_of(rt.alloc(), &answer)?.as_slice(),
-        [0x60, 1].as_slice()
-    );
+    same!(&rt; code_of(rt.alloc(), &answer)?.as_slice(), [0x60, 1].as_slice());
     let answer = json!(in rt.alloc(); {"id": 1})?;
-    assert_eq!(rt;
-        code_of(rt.alloc(), &answer).err(),
-        Some(JsonError::NotText)
-    );
+    same!(&rt; code_of(rt.alloc(), &answer).err(), Some(JsonError::NotText));
     Ok(())
 }

@@ -45,10 +45,10 @@ fn texts_of_hashes(rt: HostRuntime) -> Result<(), Fail> {
     let alloc = rt.alloc();
     let hash = Hash32::from(counted());
     prints(&rt, alloc, &hash, COUNTED)?;
-    assert_eq!(rt; hash.to_buffer().as_str(), COUNTED);
-    assert_eq!(rt; Hash32::from_hex(alloc, COUNTED.as_bytes()), Ok(hash));
+    same!(&rt; hash.to_buffer().as_str(), COUNTED);
+    same!(&rt; Hash32::from_hex(alloc, COUNTED.as_bytes()), Ok(hash));
     let letters = Hash32::from_bytes([255; 32]);
-    assert_eq!(rt; Hash32::from_hex(alloc, &[b'F'; 64]), Ok(letters));
+    same!(&rt; Hash32::from_hex(alloc, &[b'F'; 64]), Ok(letters));
     let lower = "0xffffffffffffffffffffffffffffffffffffffffffffffffffffffffffffffff";
     prints(&rt, alloc, &letters, lower)?;
     Ok(())
@@ -81,7 +81,7 @@ fn texts_of_addresses(rt: HostRuntime) -> Result<(), Fail> {
     let address = Address20::from_hex(alloc, b"0x5aAeb6053F3E94C9b9A09f33669435E7Ef1BeAed")?;
     let lower = "0x5aaeb6053f3e94c9b9a09f33669435e7ef1beaed";
     prints(&rt, alloc, &address, lower)?;
-    assert_eq!(rt; address.to_buffer().as_str(), lower);
+    same!(&rt; address.to_buffer().as_str(), lower);
     for text in [lower, "5AAEB6053F3E94C9B9A09F33669435E7EF1BEAED"] {
         let read = Address20::from_hex(alloc, text.as_bytes());
         same!(&rt, "from_hex", text; read, Ok(address));
@@ -104,7 +104,7 @@ fn debug_forms(rt: HostRuntime) -> Result<(), Fail> {
 #[test]
 fn order_of_values(rt: HostRuntime) {
     let address = Address20::from([0xAB; 20]);
-    assert_eq!(rt; address.partial_cmp(&address), Some(Ordering::Equal));
+    same!(&rt; address.partial_cmp(&address), Some(Ordering::Equal));
     ordered(&rt, address, Address20::from([0xAC; 20]));
     let (mut low, mut high) = ([9; 20], [9; 20]);
     (low[0], low[19], high[0], high[19]) = (1, 2, 2, 1);
@@ -135,26 +135,20 @@ fn json_values(rt: HostRuntime) -> Result<(), Fail> {
     let alloc = rt.alloc();
     let hash = Hash32::from(counted());
     let value = hash.to_value(alloc)?;
-    assert_eq!(rt; value.as_str(), Some(COUNTED));
-    assert_eq!(rt; Hash32::from_value(alloc, &value), Ok(hash));
+    same!(&rt; value.as_str(), Some(COUNTED));
+    same!(&rt; Hash32::from_value(alloc, &value), Ok(hash));
     let address = Address20::from([7; 20]);
     let value = address.to_value(alloc)?;
-    assert_eq!(rt; Address20::from_value(alloc, &value), Ok(address));
+    same!(&rt; Address20::from_value(alloc, &value), Ok(address));
     let other_length = JsonError::Hex(FromHexError::InvalidStringLength);
-    assert_eq!(rt; Hash32::from_value(alloc, &value), Err(other_length));
+    same!(&rt; Hash32::from_value(alloc, &value), Err(other_length));
     Ok(())
 }
 
 #[test]
 fn json_values_that_are_no_text(rt: HostRuntime) -> Result<(), Fail> {
     let number = json!(in rt.alloc(); 5)?;
-    assert_eq!(rt;
-        Hash32::from_value(rt.alloc(), &number),
-        Err(JsonError::NotText)
-    );
-    assert_eq!(rt;
-        Address20::from_value(rt.alloc(), &Value::Null),
-        Err(JsonError::NotText)
-    );
+    same!(&rt; Hash32::from_value(rt.alloc(), &number), Err(JsonError::NotText));
+    same!(&rt; Address20::from_value(rt.alloc(), &Value::Null), Err(JsonError::NotText));
     Ok(())
 }

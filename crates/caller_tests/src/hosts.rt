@@ -191,7 +191,7 @@ fn statuses_and_lines(rt: HostRuntime) {
     ends(&rt, alloc, host, &mut failing, &mut output, line);
     let (host, line) = (Host::new(ENCODE, true), (3, "input too long"));
     ends(&rt, alloc, host, &mut Endless, &mut output, line);
-    assert_eq!(rt; (output.writes, output.flushes), (0, 0));
+    same!(&rt; (output.writes, output.flushes), (0, 0));
 }
 
 // The reader of the output goes away: at a write, or only at the flush.
@@ -258,5 +258,5 @@ fn name(
 fn usage(rt: HostRuntime) {
     let line =
         "usage: consthex encode|encode-upper|encode-prefixed|encode-upper-prefixed|decode|check";
-    assert_eq!(rt; USAGE, line);
+    same!(&rt; USAGE, line);
 }

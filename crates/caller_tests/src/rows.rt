@@ -4,12 +4,12 @@ use hex_testing::difference;
 use std::fmt::Debug;
 use std::process::Abort;
 
-pub(crate) fn check<R: Debug, A: Debug + PartialEq>(
+pub(crate) fn check<R: Debug + Drop, A: Debug + PartialEq + Drop>(
     rt: &impl Abort,
     call: &str,
-    row: &R,
-    answer: &A,
-    want: &A,
+    row: R,
+    answer: A,
+    want: A,
 ) {
     assert!(rt;
         answer == want,
@@ -17,10 +17,10 @@ pub(crate) fn check<R: Debug, A: Debug + PartialEq>(
     );
 }
 
-pub(crate) fn check_bytes<R: Debug>(
+pub(crate) fn check_bytes<R: Debug + Drop>(
     rt: &impl Abort,
     call: &str,
-    row: &R,
+    row: R,
     bytes: &[u8],
     want: &[u8],
 ) {

@@ -164,13 +164,13 @@ fn accepts_1048576_bytes_and_no_more(rt: HostRuntime) -> Result<(), Fail> {
     let mut text = Vec::new(rt.alloc());
     let mut zeros = io::repeat(0).take(1_048_576);
     run(rt.alloc(), Mode::Encode, &mut zeros, &mut text)?;
-    assert_eq!(rt; text.pop(), Some(b'\n'));
-    assert_eq!(rt; Text(&text), Text(&vec![in rt.alloc(); b'0'; 2_097_152]?));
+    same!(&rt; text.pop(), Some(b'\n'));
+    same!(&rt; Text(&text), Text(&vec![in rt.alloc(); b'0'; 2_097_152]?));
 
     let mut nothing = Vec::new(rt.alloc());
     let mut zeros = io::repeat(0).take(1_048_577);
     let outcome = run(rt.alloc(), Mode::Encode, &mut zeros, &mut nothing);
-    assert_eq!(rt; outcome, Err(RunError::TooLong));
+    same!(&rt; outcome, Err(RunError::TooLong));
     assert!(rt; nothing.is_empty());
     Ok(())
 }
@@ -207,8 +207,8 @@ fn reads(rt: &impl Abort, alloc: Global, kind: ErrorKind, call: usize) {
 fn stops_an_endless_reader(rt: HostRuntime) {
     let mut output = Target::new(rt.alloc(), 1, Fault::Nothing);
     let outcome = run(rt.alloc(), Mode::Encode, &mut Endless, &mut output);
-    assert_eq!(rt; outcome, Err(RunError::TooLong));
-    assert_eq!(rt; (output.writes, output.flushes), (0, 0));
+    same!(&rt; outcome, Err(RunError::TooLong));
+    same!(&rt; (output.writes, output.flushes), (0, 0));
 }
 
 // A write that fails or accepts nothing, at each call, and a flush that fails.

@@ -87,7 +87,7 @@ fn formats_over_what_stood_there(rt: HostRuntime) {
     buffer.formats(&rt, b"1234", "31323334", "31323334");
     buffer.formats(&rt, &[0xAB, 0x0C, 0xDE, 0xF0], "ab0cdef0", "AB0CDEF0");
     let mut short = Buffer::<2, true, 6>::new();
-    assert_eq!(rt; short.format_slice_upper(&[0xAB, 0x0C]), "0xAB0C");
+    same!(&rt; short.format_slice_upper(&[0xAB, 0x0C]), "0xAB0C");
 }
 
 #[test]
@@ -109,19 +109,10 @@ fn made_at_once(rt: HostRuntime) {
 #[test]
 fn debug_form(rt: HostRuntime) -> Result<(), Fail> {
     let mut buffer = Buffer::<1, false, 2>::new();
-    assert_eq!(rt;
-        format!(in rt.alloc(); "{buffer:?}")?.as_str(),
-        "Buffer(\"\\0\\0\")"
-    );
+    same!(&rt; format!(in rt.alloc(); "{buffer:?}")?.as_str(), "Buffer(\"\\0\\0\")");
     buffer.format(&[0xAB]);
-    assert_eq!(rt;
-        format!(in rt.alloc(); "{buffer:?}")?.as_str(),
-        "Buffer(\"ab\")"
-    );
-    assert_eq!(rt;
-        format!(in rt.alloc(); "{buffer:#?}")?.as_str(),
-        "Buffer(\n    \"ab\",\n)"
-    );
+    same!(&rt; format!(in rt.alloc(); "{buffer:?}")?.as_str(), "Buffer(\"ab\")");
+    same!(&rt; format!(in rt.alloc(); "{buffer:#?}")?.as_str(), "Buffer(\n    \"ab\",\n)");
     Ok(())
 }
 

@@ -180,7 +180,7 @@ fn one_byte(rt: HostRuntime) {
         sized(&rt, rt.alloc(), text, answer, [byte]);
     }
     let shared = <Rc<[u8; 1]>>::from_hex(rt.alloc(), b"0x0");
-    assert_eq!(rt; shared.err(), Some(ODD));
+    same!(&rt; shared.err(), Some(ODD));
 }
 
 #[test]
@@ -305,11 +305,10 @@ fn json_values_that_are_no_text(rt: HostRuntime) -> Result<(), Fail> {
     let list = Value::from_str(rt.alloc(), "[null, true, 5, -1, [], {}, [\"0xff\"]]")?;
     for place in 0..7usize {
         let value = list.get(place).ok_or("a value is missing")?;
-        let want = Some(JsonError::NotText);
         let error = deserialize::<Vec<u8>>(rt.alloc(), value).err();
-        same!(&rt, "deserialize", *value; error, want);
+        same!(&rt, "deserialize", value; error, Some(JsonError::NotText));
         let error = no_prefix::deserialize::<Vec<u8>>(rt.alloc(), value).err();
-        same!(&rt, "no_prefix::deserialize", *value; error, want);
+        same!(&rt, "no_prefix::deserialize", value; error, Some(JsonError::NotText));
     }
     Ok(())
 }
@@ -320,16 +319,14 @@ fn json_there_and_back(rt: HostRuntime) -> Result<(), Fail> {
     let alloc = rt.alloc();
     let message = json!(in alloc; {"id": 1, "result": (serialize(alloc, b"Hello world!")?)})?;
     let printed = message.to_string(alloc)?;
-    assert_eq!(rt;
-        printed.as_str(),
-        "{\"id\":1,\"result\":\"0x48656c6c6f20776f726c6421\"}"
-    );
+    same!(&rt; printed.as_str(), "{\"id\":1,\"result\":\"0x48656c6c6f20776f726c6421\"}");
     let read = Value::from_str(alloc, &printed)?;
     let text = read.get("result").unwrap_or(&Value::Null);
-    assert_eq!(rt; deserialize::<[u8; 12]>(alloc, text), Ok(*b"Hello world!"));
-    let other_length = Some(JsonError::Hex(OTHER_LENGTH));
-    assert_eq!(rt; deserialize::<[u8; 2]>(alloc, text).err(), other_length);
+    same!(&rt; deserialize::<[u8; 12]>(alloc, text), Ok(*b"Hello world!"));
+    let error = deserialize::<[u8; 2]>(alloc, text).err();
+    same!(&rt; error, Some(JsonError::Hex(OTHER_LENGTH)));
     let short = Value::String("0xff".to_string(alloc)?);
-    assert_eq!(rt; deserialize::<[u8; 2]>(alloc, &short).err(), other_length);
+    let error = deserialize::<[u8; 2]>(alloc, &short).err();
+    same!(&rt; error, Some(JsonError::Hex(OTHER_LENGTH)));
     Ok(())
 }

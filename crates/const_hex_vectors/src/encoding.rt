@@ -210,11 +210,11 @@ fn fills(rt: &impl Abort, bytes: &[u8], text: &str, (prefix, upper): (bool, bool
 
 #[test]
 fn full_texts(rt: HostRuntime) {
-    assert_eq!(rt; text_length(true, 20), 42);
-    assert_eq!(rt; text_length(false, usize::MAX), usize::MAX);
+    same!(&rt; text_length(true, 20), 42);
+    same!(&rt; text_length(false, usize::MAX), usize::MAX);
     let mut text = [0; 10];
     fill_text::<Plain>(b"kiwi", true, false, &mut text);
-    assert_eq!(rt; Text(&text), Text(b"0x6b697769"));
+    same!(&rt; Text(&text), Text(b"0x6b697769"));
 }
 
 #[test]
@@ -230,6 +230,6 @@ fn characters(rt: HostRuntime) -> Result<(), AllocError> {
         same!(&rt, "next of none", row; none.next(), None);
     }
     let text: String = BytesToHexChars::<false>::new(b"kiwi").collect(rt.alloc())?;
-    assert_eq!(rt; text.as_str(), "6b697769");
+    same!(&rt; text.as_str(), "6b697769");
     Ok(())
 }

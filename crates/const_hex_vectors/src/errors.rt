@@ -33,11 +33,8 @@ fn printed(rt: HostRuntime) -> Result<(), Fail> {
     prints(&rt, alloc, OddLength, "odd number of digits")?;
     prints(&rt, alloc, InvalidStringLength, "invalid string length")?;
     prints(&rt, alloc, NoMemory, "out of memory")?;
-    assert_eq!(rt;
-        NOT_TEXT.to_string(alloc)?.as_str(),
-        "expected a hex encoded string"
-    );
-    assert_eq!(rt; SinkError.to_string(alloc)?.as_str(), "sink refused");
+    same!(&rt; NOT_TEXT.to_string(alloc)?.as_str(), "expected a hex encoded string");
+    same!(&rt; SinkError.to_string(alloc)?.as_str(), "sink refused");
     Ok(())
 }
 
@@ -45,13 +42,10 @@ fn printed(rt: HostRuntime) -> Result<(), Fail> {
 fn debug_forms(rt: HostRuntime) -> Result<(), Fail> {
     let errors = (OddLength, bad(b'z', 5));
     let text = format!(in rt.alloc(); "{errors:?}")?;
-    assert_eq!(rt;
-        text.as_str(),
-        "(OddLength, InvalidHexCharacter { c: 'z', index: 5 })"
-    );
+    same!(&rt; text.as_str(), "(OddLength, InvalidHexCharacter { c: 'z', index: 5 })");
     let others = (JsonError::Hex(OddLength), NOT_TEXT, SinkError);
     let text = format!(in rt.alloc(); "{others:?}")?;
-    assert_eq!(rt; text.as_str(), "(Hex(OddLength), NotText, SinkError)");
+    same!(&rt; text.as_str(), "(Hex(OddLength), NotText, SinkError)");
     Ok(())
 }
 
@@ -123,7 +117,7 @@ fn compared(rt: HostRuntime) {
             same!(&rt, "==", (one, other); are_equal, [i == j; 2]);
         }
     }
-    assert_eq!(rt; NOT_TEXT, JsonError::NotText);
+    same!(&rt; NOT_TEXT, JsonError::NotText);
     assert!(rt; are_equal(SinkError, SinkError));
 }
 
@@ -143,5 +137,5 @@ fn no_memory_alone_is_of_memory(rt: HostRuntime) {
     for (fault, is_of_memory) in rows {
         same!(&rt, "is_memory", fault; faults(&fault), (is_of_memory, true));
     }
-    assert_eq!(rt; FromHexError::from(AllocError), NoMemory);
+    same!(&rt; FromHexError::from(AllocError), NoMemory);
 }

@@ -1,6 +1,7 @@
 //! What calls answer if no memory is left at all.
 
 use const_hex::{FromHexError, decode, encode};
+use hex_testing::same;
 use std::alloc::{AllocError, Global};
 use std::fs;
 use std::rt::Files;
@@ -51,9 +52,9 @@ fn names_refused_memory(rt: HostRuntime) -> Result<(), Fail> {
     let bad = decode(alloc, b"zz").err();
     drop(blocks);
     if is_refused {
-        assert_eq!(rt; encoded, Some(AllocError));
-        assert_eq!(rt; [decoded, bad], [Some(FromHexError::NoMemory); 2]);
-        assert_eq!(rt; odd, Some(FromHexError::OddLength));
+        same!(&rt; encoded, Some(AllocError));
+        same!(&rt; [decoded, bad], [Some(FromHexError::NoMemory); 2]);
+        same!(&rt; odd, Some(FromHexError::OddLength));
     }
     Ok(())
 }

@@ -36,34 +36,28 @@ fn worked_values(rt: HostRuntime) {
     worked!(rt, u8x32, lanes32);
     // The first 16 bytes side by side, once and twice.
     let values = lanes16::nibbles(u8x16::from_slice(&BYTES)).to_array();
-    assert_eq!(rt; values.as_slice(), &VALUES[..16]);
+    same!(&rt; values.as_slice(), &VALUES[..16]);
     let mut bytes = [0; 32];
     bytes[..16].copy_from_slice(&BYTES[..16]);
     bytes[16..].copy_from_slice(&BYTES[..16]);
     let values = lanes32::nibbles(u8x32::from_array(bytes)).to_array();
-    assert_eq!(rt; [&values[..16], &values[16..]], [&VALUES[..16]; 2]);
+    same!(&rt; [&values[..16], &values[16..]], [&VALUES[..16]; 2]);
 }
 
 #[test]
 fn text_of_a_step(rt: HostRuntime) {
     let lanes = u8x16::from_array([0, 1, 2, 3, 4, 5, 6, 7, 8, 9, 10, 11, 12, 13, 14, 15]);
     let [first, second] = lanes16::encode_chunk::<false>(lanes);
-    assert_eq!(rt; Text(&first.to_array()), Text(b"0001020304050607"));
-    assert_eq!(rt; Text(&second.to_array()), Text(b"08090a0b0c0d0e0f"));
+    same!(&rt; Text(&first.to_array()), Text(b"0001020304050607"));
+    same!(&rt; Text(&second.to_array()), Text(b"08090a0b0c0d0e0f"));
     let lanes = u8x32::from_array([
         0xA0, 0xA1, 0xA2, 0xA3, 0xA4, 0xA5, 0xA6, 0xA7, 0xA8, 0xA9, 0xAA, 0xAB, 0xAC, 0xAD, 0xAE,
         0xAF, 0xB0, 0xB1, 0xB2, 0xB3, 0xB4, 0xB5, 0xB6, 0xB7, 0xB8, 0xB9, 0xBA, 0xBB, 0xBC, 0xBD,
         0xBE, 0xBF,
     ]);
     let [first, second] = lanes32::encode_chunk::<true>(lanes);
-    assert_eq!(rt;
-        Text(&first.to_array()),
-        Text(b"A0A1A2A3A4A5A6A7A8A9AAABACADAEAF")
-    );
-    assert_eq!(rt;
-        Text(&second.to_array()),
-        Text(b"B0B1B2B3B4B5B6B7B8B9BABBBCBDBEBF")
-    );
+    same!(&rt; Text(&first.to_array()), Text(b"A0A1A2A3A4A5A6A7A8A9AAABACADAEAF"));
+    same!(&rt; Text(&second.to_array()), Text(b"B0B1B2B3B4B5B6B7B8B9BABBBCBDBEBF"));
 }
 
 #[test]
@@ -73,10 +67,10 @@ fn bytes_of_a_step(rt: HostRuntime) {
     let second = u8x16::from_array(*b"8899aAbBcCdDeEfF");
     let bytes = decoded_or::<u8x16, Lanes16>([first, second], other);
     let spelled = *b"\x00\x11\x22\x33\x44\x55\x66\x77\x88\x99\xAA\xBB\xCC\xDD\xEE\xFF";
-    assert_eq!(rt; bytes.to_array(), spelled);
+    same!(&rt; bytes.to_array(), spelled);
     let bad = u8x16::from_array(*b"001\x10223344556677");
     let refused = decoded_or::<u8x16, Lanes16>([bad, second], other);
-    assert_eq!(rt; refused.to_array(), [0xEE; 16]);
+    same!(&rt; refused.to_array(), [0xEE; 16]);
 }
 
 #[test]
@@ -85,8 +79,8 @@ fn bytes_of_a_wide_step(rt: HostRuntime) {
     let text = u8x32::from_array(*b"0123456789abcdef0123456789ABCDEF");
     let bytes = decoded_or::<u8x32, Lanes32>([text, text], other).to_array();
     let half = [0x01, 0x23, 0x45, 0x67, 0x89, 0xAB, 0xCD, 0xEF];
-    assert_eq!(rt; bytes.as_chunks::<8>().0, [half; 4].as_slice());
+    same!(&rt; bytes.as_chunks::<8>().0, [half; 4].as_slice());
     let bad = u8x32::from_array(*b"0123456789abcdef0123456789ABCDEG");
     let refused = decoded_or::<u8x32, Lanes32>([text, bad], other);
-    assert_eq!(rt; refused.to_array(), [0xEE; 32]);
+    same!(&rt; refused.to_array(), [0xEE; 32]);
 }

@@ -128,33 +128,18 @@ fn large_arrays(rt: HostRuntime) -> Result<(), Fail> {
     let lower = "ab".repeat(alloc, 50_000)?;
     let prefixed = ["0x", &lower].concat(alloc)?;
     let buffer = const_encode::<50_000, true, 100_002>(&bytes);
-    assert_eq!(rt;
-        Text(buffer.to_string(alloc)?.as_bytes()),
-        Text(prefixed.as_bytes())
-    );
-    assert_eq!(rt; Text(&buffer.to_vec(alloc)?), Text(prefixed.as_bytes()));
+    same!(&rt; Text(buffer.to_string(alloc)?.as_bytes()), Text(prefixed.as_bytes()));
+    same!(&rt; Text(&buffer.to_vec(alloc)?), Text(prefixed.as_bytes()));
     let mut buffer = Buffer::<50_000, false, 100_000>::new();
-    assert_eq!(rt;
-        Text(buffer.format(&bytes).as_bytes()),
-        Text(lower.as_bytes())
-    );
-    assert_eq!(rt;
-        Text(buffer.to_string(alloc)?.as_bytes()),
-        Text(lower.as_bytes())
-    );
-    assert_eq!(rt; Text(&buffer.to_vec(alloc)?), Text(lower.as_bytes()));
-    assert_eq!(rt;
-        Text(ToHex::encode_hex(&bytes, alloc)?.as_bytes()),
-        Text(lower.as_bytes())
-    );
-    assert_eq!(rt;
-        Text(bytes.encode_hex_with_prefix(alloc)?.as_bytes()),
-        Text(prefixed.as_bytes())
-    );
+    same!(&rt; Text(buffer.format(&bytes).as_bytes()), Text(lower.as_bytes()));
+    same!(&rt; Text(buffer.to_string(alloc)?.as_bytes()), Text(lower.as_bytes()));
+    same!(&rt; Text(&buffer.to_vec(alloc)?), Text(lower.as_bytes()));
+    same!(&rt; Text(ToHex::encode_hex(&bytes, alloc)?.as_bytes()), Text(lower.as_bytes()));
+    same!(&rt; Text(bytes.encode_hex_with_prefix(alloc)?.as_bytes()), Text(prefixed.as_bytes()));
     let (answer, want) = (
         ToHex::encode_hex(&lower, alloc)?,
         "6162".repeat(alloc, 50_000)?,
     );
-    assert_eq!(rt; Text(answer.as_bytes()), Text(want.as_bytes()));
+    same!(&rt; Text(answer.as_bytes()), Text(want.as_bytes()));
     Ok(())
 }

@@ -49,14 +49,11 @@ fn printed_forms(rt: HostRuntime) -> Result<(), Fail> {
     let bytes = [0xDE, 0xAD, 0xBE, 0xEF];
     let lower = "deadbeef 0xdeadbeef deadbeef 0xdeadbeef deadbeef deadbeef deadbeef";
     let upper = "DEADBEEF 0xDEADBEEF DEADBEEF 0xDEADBEEF DEADBEEF DEADBEEF DEADBEEF";
-    assert_eq!(rt; forms(alloc, &display(&bytes))?.as_str(), lower);
-    assert_eq!(rt; forms(alloc, &InHex::<false>(&bytes))?.as_str(), lower);
-    assert_eq!(rt; forms(alloc, &InHex::<true>(&bytes))?.as_str(), upper);
-    assert_eq!(rt;
-        ByLanes { bytes: &bytes }.to_string(alloc)?.as_str(),
-        "DEADBEEF"
-    );
-    assert_eq!(rt; EmptyPiece.to_string(alloc)?.as_str(), "true");
+    same!(&rt; forms(alloc, &display(&bytes))?.as_str(), lower);
+    same!(&rt; forms(alloc, &InHex::<false>(&bytes))?.as_str(), lower);
+    same!(&rt; forms(alloc, &InHex::<true>(&bytes))?.as_str(), upper);
+    same!(&rt; ByLanes { bytes: &bytes }.to_string(alloc)?.as_str(), "DEADBEEF");
+    same!(&rt; EmptyPiece.to_string(alloc)?.as_str(), "true");
     Ok(())
 }
 
@@ -65,16 +62,13 @@ fn printed_forms(rt: HostRuntime) -> Result<(), Fail> {
 fn printed_bytes(rt: HostRuntime) -> Result<(), Fail> {
     let alloc = rt.alloc();
     let data = bytes(alloc, 100_000)?;
-    assert_eq!(rt; data.len(), 100_000);
+    same!(&rt; data.len(), 100_000);
     let lower = printed(alloc, &data, false, false)?;
     let upper = printed(alloc, &data, true, true)?;
     let v = InHex::<true>(&data);
-    assert_eq!(rt;
-        Text(format!(in alloc; "{v:#}")?.as_bytes()),
-        Text(upper.as_bytes())
-    );
+    same!(&rt; Text(format!(in alloc; "{v:#}")?.as_bytes()), Text(upper.as_bytes()));
     let body = upper.strip_prefix("0x").unwrap_or("no prefix");
-    assert_eq!(rt; Text(v.to_string(alloc)?.as_bytes()), Text(body.as_bytes()));
+    same!(&rt; Text(v.to_string(alloc)?.as_bytes()), Text(body.as_bytes()));
     for count in (0..=2048usize).chain([100_000]) {
         let v = display(data.get(..count).unwrap_or(&[]));
         let want = lower

@@ -1,15 +1,16 @@
 //! What a row that fails prints. [`hex_testing::same`] and [`hex_testing::same_bytes`] call these.
 
-use hex_testing::difference;
+use hex_testing::{Text, difference};
 use std::fmt::Debug;
 use std::process::Abort;
+use std::test::Fail;
 
-pub(crate) fn check<R: Debug, A: Debug + PartialEq>(
+pub(crate) fn check<R: Debug + Drop, A: Debug + PartialEq + Drop>(
     rt: &impl Abort,
     call: &str,
-    row: &R,
-    answer: &A,
-    want: &A,
+    row: R,
+    answer: A,
+    want: A,
 ) {
     assert!(rt;
         answer == want,
@@ -17,14 +18,31 @@ pub(crate) fn check<R: Debug, A: Debug + PartialEq>(
     );
 }
 
-pub(crate) fn check_bytes<R: Debug>(
+pub(crate) fn check_bytes<R: Debug + Drop>(
     rt: &impl Abort,
     call: &str,
-    row: &R,
+    row: R,
     bytes: &[u8],
     want: &[u8],
 ) {
     if let Some((from, bytes, want)) = difference(bytes, want) {
         panic!(rt; "{call} at {row:?}, from byte {from} on: {bytes:?}, but wanted {want:?}");
     }
+}
+
+#[test]
+fn printed_texts(rt: HostRuntime) -> Result<(), Fail> {
+    let short = format!(in rt.alloc(); "{:?}", Text(b"0x\"\xff\n"))?;
+    assert!(rt; short.as_str() == "\"0x\\\"\\xff\\n\"");
+    let long = format!(in rt.alloc(); "{:?}", Text(&[b'a'; 65]))?;
+    assert!(rt; long.ends_with("aaa..\" of 65 bytes"));
+    Ok(())
+}
+
+#[test]
+fn differences(rt: HostRuntime) {
+    assert!(rt; difference(b"6b69", b"6b69") == None);
+    let (bytes, want) = (Text(b"12345678!"), Text(b"12345678a"));
+    assert!(rt; difference(b"0012345678!", b"0012345678a") == Some((2, bytes, want)));
+    assert!(rt; difference(b"6b", b"6b69") == Some((0, Text(b"6b"), Text(b"6b69"))));
 }

@@ -23,14 +23,14 @@ fn pieces_of_each_size(rt: HostRuntime) -> Result<(), Fail> {
     let alloc = rt.alloc();
     let text = printed(alloc, &bytes(alloc, 2048)?, false, false)?;
     let mut sink = PieceSink::new(alloc, 0);
-    assert_eq!(rt; text.len(), 4096);
+    same!(&rt; text.len(), 4096);
     for size in 1..=4096usize {
         assert!(rt; !sink.refused());
         let piece = text.get(..size).unwrap_or("");
         assert!(rt; sink.write_str(piece).is_ok());
     }
-    assert_eq!(rt; sink.calls(), 4096);
-    assert_eq!(rt; sink.pieces().len(), 4096);
+    same!(&rt; sink.calls(), 4096);
+    same!(&rt; sink.pieces().len(), 4096);
     for (place, piece) in sink.pieces().iter().enumerate() {
         let want = text.get(..place + 1).unwrap_or("");
         same_bytes!(&rt, "write_str", place; piece.as_bytes(), want.as_bytes());
@@ -97,9 +97,9 @@ fn pieces_of_just_the_size(rt: HostRuntime) {
 
 /// A sink has accepted these pieces.
 pub(crate) fn has_pieces<R: Debug>(rt: &impl Abort, row: &R, sink: &PieceSink, want: &[&str]) {
-    same!(rt, "pieces", *row; sink.pieces().len(), want.len());
+    same!(rt, "pieces", row; sink.pieces().len(), want.len());
     for (piece, want) in sink.pieces().iter().zip(want) {
-        same!(rt, "pieces", *row; piece.as_str(), *want);
+        same!(rt, "pieces", row; piece.as_str(), *want);
     }
 }
 
@@ -148,12 +148,12 @@ fn hands_on<const N: usize>(rt: &impl Abort, alloc: Global, pieces: &[&str])
 fn room_that_remains(rt: HostRuntime) {
     let mut text = [0u8; 12];
     let slice = SliceOutput::new(&mut text);
-    assert_eq!(rt; slice.remaining(), Some(12));
+    same!(&rt; slice.remaining(), Some(12));
     let mut output = ToSlice::<4>::new(slice);
     put(&rt, &mut output, b"a");
-    assert_eq!(rt; output.remaining(), Some(11));
+    same!(&rt; output.remaining(), Some(11));
     put(&rt, &mut output, b"bc");
-    assert_eq!(rt; output.remaining(), Some(9));
+    same!(&rt; output.remaining(), Some(9));
     let mut sink = PieceSink::new(rt.alloc(), 0);
     let output = ToSink::<4>::new(SinkOutput::new(&mut sink));
     assert!(rt; output.remaining().is_none());

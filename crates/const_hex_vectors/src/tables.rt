@@ -6,8 +6,8 @@ use std::test::Fail;
 
 #[test]
 fn digits_of_values(rt: HostRuntime) -> Result<(), Fail> {
-    assert_eq!(rt; HEX_CHARS_LOWER, b"0123456789abcdef");
-    assert_eq!(rt; HEX_CHARS_UPPER, b"0123456789ABCDEF");
+    same!(&rt; HEX_CHARS_LOWER, b"0123456789abcdef");
+    same!(&rt; HEX_CHARS_UPPER, b"0123456789ABCDEF");
     for v in 0..16u8 {
         let texts = format!(in rt.alloc(); "{v:x}{v:X}")?;
         let digits = [digit_at(false, v), digit_at(true, v)];
@@ -18,7 +18,7 @@ fn digits_of_values(rt: HostRuntime) -> Result<(), Fail> {
 
 #[test]
 fn values_of_digits(rt: HostRuntime) {
-    assert_eq!(rt; NIL, 255);
+    same!(&rt; NIL, 255);
     let mut digits = 0u32;
     for b in 0..=255u8 {
         let want = char::from(b).to_digit(16).unwrap_or(255);
@@ -28,5 +28,5 @@ fn values_of_digits(rt: HostRuntime) {
             digits = digits.wrapping_add(1);
         }
     }
-    assert_eq!(rt; digits, 22);
+    same!(&rt; digits, 22);
 }

@@ -80,8 +80,8 @@ fn a_byte_a_call(rt: HostRuntime) -> Result<(), Fail> {
     assert!(rt; !sink.refused());
     assert!(rt; sink.write_str(&text).is_ok());
     sink.finish()?;
-    assert_eq!(rt; Text(&target.taken), Text(text.as_bytes()));
-    assert_eq!(rt; (target.writes, target.flushes), (5000, 0));
+    same!(&rt; Text(&target.taken), Text(text.as_bytes()));
+    same!(&rt; (target.writes, target.flushes), (5000, 0));
     Ok(())
 }
 
@@ -93,23 +93,23 @@ fn writing_goes_on_after_an_error(rt: HostRuntime) {
     let mut sink = WriteSink::new(&mut target);
     for _ in 0..3 {
         assert!(rt; sink.write_hex::<false, false>(b"kiwi").is_err());
-        assert_eq!(rt; kind_of(sink.error()), Some(ErrorKind::Other));
+        same!(&rt; kind_of(sink.error()), Some(ErrorKind::Other));
     }
     assert!(rt; sink.finish().is_err());
-    assert_eq!(rt; (Text(&target.taken), target.writes), (Text(b"6b69"), 2));
+    same!(&rt; (Text(&target.taken), target.writes), (Text(b"6b69"), 2));
 }
 
 #[test]
 fn no_call_flushes(rt: HostRuntime) -> Result<(), Fail> {
     let mut target = Target::new(rt.alloc(), 4, Fault::Nothing);
     let mut sink = WriteSink::new(&mut target);
-    assert_eq!(rt; sink.write_hex::<false, false>(&[0xab]), Ok(()));
-    assert_eq!(rt; sink.write_hex::<true, false>(&[0xab]), Ok(()));
-    assert_eq!(rt; sink.write_hex::<false, true>(&[0xab]), Ok(()));
-    assert_eq!(rt; sink.write_hex::<true, true>(&[0xab]), Ok(()));
+    same!(&rt; sink.write_hex::<false, false>(&[0xab]), Ok(()));
+    same!(&rt; sink.write_hex::<true, false>(&[0xab]), Ok(()));
+    same!(&rt; sink.write_hex::<false, true>(&[0xab]), Ok(()));
+    same!(&rt; sink.write_hex::<true, true>(&[0xab]), Ok(()));
     sink.finish()?;
-    assert_eq!(rt; Text(&target.taken), Text(b"abAB0xab0xAB"));
-    assert_eq!(rt; target.flushes, 0);
+    same!(&rt; Text(&target.taken), Text(b"abAB0xab0xAB"));
+    same!(&rt; target.flushes, 0);
     Ok(())
 }
 
@@ -117,15 +117,15 @@ fn no_call_flushes(rt: HostRuntime) -> Result<(), Fail> {
 fn a_writer_comes_back(rt: HostRuntime) -> Result<(), Fail> {
     let mut file = Vec::new(rt.alloc());
     let mut sink = WriteSink::new(&mut file);
-    assert_eq!(rt; sink.write_hex::<true, false>(&[0xab]), Ok(()));
+    same!(&rt; sink.write_hex::<true, false>(&[0xab]), Ok(()));
     let (writer, error) = sink.into_parts();
     assert!(rt; error.is_none());
     writer.push(b'!')?;
-    assert_eq!(rt; Text(&file), Text(b"AB!"));
+    same!(&rt; Text(&file), Text(b"AB!"));
     let mut sink = WriteSink::new(&mut file);
-    assert_eq!(rt; sink.write_hex::<false, true>(b"kiwi"), Ok(()));
+    same!(&rt; sink.write_hex::<false, true>(b"kiwi"), Ok(()));
     assert!(rt; sink.error().is_none());
     sink.finish()?;
-    assert_eq!(rt; Text(&file), Text(b"AB!0x6b697769"));
+    same!(&rt; Text(&file), Text(b"AB!0x6b697769"));
     Ok(())
 }

@@ -34,11 +34,15 @@ pub fn difference<'a>(bytes: &'a [u8], want: &'a [u8]) -> Option<(usize, Text<'a
 }
 
 /// Ends the test if a call did not answer what is wanted. Prints the call, its row and both answers.
+/// With no call and no row, it prints the expression that has the answer.
 // No library may end the process. So each crate of tests has the module `rows` with what ends it.
 #[macro_export]
 macro_rules! same {
+    ($rt:expr; $answer:expr, $want:expr) => {
+        crate::rows::check($rt, stringify!($answer), (), $answer, $want)
+    };
     ($rt:expr, $call:expr, $row:expr; $answer:expr, $want:expr) => {
-        crate::rows::check($rt, $call, &$row, &$answer, &$want)
+        crate::rows::check($rt, $call, $row, $answer, $want)
     };
 }
 
@@ -46,30 +50,6 @@ macro_rules! same {
 #[macro_export]
 macro_rules! same_bytes {
     ($rt:expr, $call:expr, $row:expr; $bytes:expr, $want:expr) => {
-        crate::rows::check_bytes($rt, $call, &$row, $bytes, $want)
+        crate::rows::check_bytes($rt, $call, $row, $bytes, $want)
     };
-}
-
-#[cfg(test)]
-mod tests {
-    use super::*;
-    use std::test::Fail;
-
-    #[test]
-    fn printed_texts(rt: HostRuntime) -> Result<(), Fail> {
-        let short = format!(in rt.alloc(); "{:?}", Text(b"0x\"\xff\n"))?;
-        assert!(rt; short.as_str() == "\"0x\\\"\\xff\\n\"");
-        let long = format!(in rt.alloc(); "{:?}", Text(&[b'a'; 65]))?;
-        assert!(rt; long.ends_with("aaa..\" of 65 bytes"));
-        Ok(())
-    }
-
-    #[test]
-    fn differences(rt: HostRuntime) -> Result<(), Fail> {
-        assert!(rt; difference(b"6b69", b"6b69") == None);
-        let (bytes, want) = (Text(b"12345678!"), Text(b"12345678a"));
-        assert!(rt; difference(b"0012345678!", b"0012345678a") == Some((2, bytes, want)));
-        assert!(rt; difference(b"6b", b"6b69") == Some((0, Text(b"6b"), Text(b"6b69"))));
-        Ok(())
-    }
 }

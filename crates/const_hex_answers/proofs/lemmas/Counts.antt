@@ -3,7 +3,7 @@ use Rattle.std.proofs.Common.{◌≡◌, ℕ, suc, ◌+◌, ◌≤◌, Bool, tru
 use Rattle.std.specs.Bool.{⊤}
 use Rattle.std.specs.Io.BufRead.{drop_through, DropsThrough}
 use Rattle.std.specs.Io.KnownBytes.{IsAtEnd}
-use Rattle.const_hex_replay.specs.Lines.{line_count}
+use Rattle.const_hex_answers.specs.Lines.{line_count}
 
 -- how many line breaks bytes have
 abbrev pub breaks : List ℕ → ℕ

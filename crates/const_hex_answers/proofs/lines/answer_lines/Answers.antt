@@ -1,7 +1,7 @@
 use Rattle.std.proofs.Common.{[], ◌∷◌, ◌++◌, rules}
 use Rattle.std.proofs.KnownBytes.{Appends-nil, Appends-trans}
-use Rattle.const_hex_replay.proofs.lemmas.Counts.{Counted-none, Counted-more, Counted-all}
-use Rattle.const_hex_replay.proofs.lines.answer_lines.Goals as goal
+use Rattle.const_hex_answers.proofs.lemmas.Counts.{Counted-none, Counted-more, Counted-all}
+use Rattle.const_hex_answers.proofs.lines.answer_lines.Goals as goal
 
 pub loop-init : goal.loop-init
 loop-init g c = ([], Appends-nil _, Counted-none _)

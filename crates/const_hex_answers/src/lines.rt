@@ -3,7 +3,7 @@
 ghost use Rattle.std.specs.Prelude.{◌≡◌, ◌≤◌, ℕ, List, [], ◌∷◌, ◌++◌, false, IfOk, OnOk, IfSome, OnSome};
 ghost use Rattle.std.specs.Io.BufRead.{DropsThrough};
 ghost use Rattle.std.specs.Io.KnownBytes.{Appends, IsAtEnd};
-ghost use Rattle.const_hex_replay.specs.Lines.{line_count};
+ghost use Rattle.const_hex_answers.specs.Lines.{line_count};
 
 use crate::question::{Fault, answer_of};
 use std::alloc::{AllocError, Global};
@@ -17,7 +17,7 @@ const LONGEST: usize = 65_536;
 /// A line of more than 65,536 bytes is none. One line and its answer are kept at a time, and of a
 /// longer line only the beginning. A failed read or write, or a refused request for memory, ends
 /// the run.
-pub(crate) fn answer_lines<R: BufRead, W: Write>(
+pub fn answer_lines<R: BufRead, W: Write>(
     alloc: Global,
     input: &mut R,
     output: &mut W,

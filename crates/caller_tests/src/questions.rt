@@ -1,6 +1,6 @@
 //! Lines of questions: what is no question, long lines, and readers and writers that fail.
 
-use crate::lines::answer_lines;
+use const_hex_answers::answer_lines;
 use hex_testing::{Fault, Source, Target, Text, same, same_bytes};
 use std::alloc::Global;
 use std::fmt::Debug;
@@ -67,8 +67,8 @@ fn are_answered<R: BufRead, D: Debug>(
 ) -> Result<(), Fail> {
     let mut output = Vec::new(alloc);
     let answer = answer_lines(alloc, input, &mut output)?;
-    same!(rt, "answer_lines", *row; answer, are_questions);
-    same_bytes!(rt, "answers", *row; &output, answers.as_bytes());
+    same!(rt, "answer_lines", row; answer, are_questions);
+    same_bytes!(rt, "answers", row; &output, answers.as_bytes());
     Ok(())
 }
 
