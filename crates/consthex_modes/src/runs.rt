@@ -100,7 +100,6 @@ fn make_room(bytes: &mut Vec<u8>, count: usize) -> Result<(), AllocError>
 }
 
 /// Writes all the bytes, and flushes.
-#[tactic(auto, using(const_hex::proofs::lemmas::WriteSinks::writes))]
 fn write_all<W: Write>(bytes: &[u8], output: &mut W) -> Result<(), RunError>
     ensures ok { OnOk result (Appends (W.contents output.old) (W.contents output.new) bytes.now) }
     ensures err { OnErr result (result ≡ Err WriteFailed) }

@@ -1,4 +1,4 @@
-use Rattle.std.proofs.Common.{Err, sym, ap, ◌∙◌}
+use Rattle.std.proofs.Common.{◌≡◌, Ok, Err, sym, ap, ◌∙◌, rules}
 use Rattle.consthex_modes.proofs.lemmas.Statuses.{text_of}
 use Rattle.consthex_modes.proofs.process.program.Goals as goal
 
@@ -6,3 +6,8 @@ pub returns-in-Some-clause-refused : goal.returns-in-Some-clause-refused
 returns-in-Some-clause-refused g c = λ h.
     let found = text_of c.in-Err.error (sym c.refused-in-Err.ensures ∙ h) in
     (c.in-Some.mode, found.0, c.run.ensures.text found.0 (c.in-Err.is ∙ ap Err found.1))
+
+pub returns-in-Ok-run-clause-done : goal.returns-in-Ok-run-clause-done
+returns-in-Ok-run-clause-done g c = λ _.
+    let ran : c.run.result ≡ Ok tt = search rules in
+    let done = rw ran at c.run.ensures.ok in (c.in-Some.mode, done.0, done.1, done.2)

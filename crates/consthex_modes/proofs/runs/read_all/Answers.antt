@@ -1,4 +1,5 @@
 use Rattle.std.proofs.Common.{◌≤◌, length, arith}
+use Rattle.std.proofs.lemmas.Grind.{common_steps}
 use Rattle.const_hex.proofs.lemmas.WriteSinks.{step_within}
 use Rattle.consthex_modes.proofs.lemmas.Pieces.{read_step}
 use Rattle.consthex_modes.proofs.runs.read_all.Goals as goal
@@ -17,3 +18,13 @@ reads-preserved g c =
           (omega (arith, within, c.deref_mut.ensures.len)) started
           (rw (c.deref_mut.ensures.value, made.kept c.reads.invariant.within) c.reads.invariant.read) c.in-Ok.ensures.bytes.0;
     }
+
+pub make_room-requires-clause-few : goal.make_room-requires-clause-few
+make_room-requires-clause-few g c = c.reads-test.true
+
+pub returns-then-read-eq0-clause-ok : goal.returns-then-read-eq0-clause-ok
+returns-then-read-eq0-clause-ok g c = (
+  grind (arith, common_steps),
+  c.in-Ok.ensures.bytes.1 c.if-read-eq0.true
+      (omega (arith, c.in_ok-make_room.ensures.room, c.deref_mut.ensures.len)),
+)
