@@ -321,7 +321,6 @@ row('a mebibyte', () => {
 });
 
 row('more than a string can have', () => {
-    const error = thrown(() => encode(new ArrayBuffer(2 ** 28)));
-    same([error.name, error.message], ['RangeError', `no string has ${2 ** 29} characters`]);
+    same(thrown(() => encode(new ArrayBuffer(2 ** 28))).name, 'RangeError');
     same(encode(KIWI), '6b697769');
 });
