@@ -14,7 +14,7 @@ export interface EncodeOptions {
 /**
  * The text of bytes: two digits for each byte, in order.
  *
- * @throws {TypeError} if an argument has another type, or its buffer is detached
+ * @throws {TypeError} if an argument has another type, or its buffer is detached or too short
  * @throws {RangeError} if there is not enough memory, or the text is longer than a string can be
  */
 export function encode(bytes: Bytes, options?: EncodeOptions): string;
@@ -23,7 +23,7 @@ export function encode(bytes: Bytes, options?: EncodeOptions): string;
  * The bytes that a text spells, with or without `0x` or `0X` in front, in either case.
  *
  * @throws {HexError} if the length is odd, or a character is not a digit
- * @throws {TypeError} if the text has another type, or its buffer is detached
+ * @throws {TypeError} if the text has another type, or its buffer is detached or too short
  * @throws {RangeError} if there is not enough memory
  */
 export function decode(text: Text): Uint8Array;
@@ -34,7 +34,7 @@ export function decode(text: Text): Uint8Array;
  *
  * @throws {HexError} if the length is odd, if the text does not spell exactly as many bytes as the
  *     target has, or if a character is not a digit
- * @throws {TypeError} if an argument has another type, or its buffer is detached
+ * @throws {TypeError} if an argument has another type, or its buffer is detached or too short
  * @throws {RangeError} if there is not enough memory
  */
 export function decodeInto<Target extends Uint8Array>(text: Text, target: Target): Target;

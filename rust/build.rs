@@ -42,8 +42,9 @@ fn main() {
     }
 }
 
-/// Links the archive in a folder.
+/// Links the archive in a folder. A folder that does not begin with `/` is seen from this package's.
 fn link(folder: &Path) -> Result<(), String> {
+    let folder = Path::new(env!("CARGO_MANIFEST_DIR")).join(folder);
     let archive = folder.join("libconst_hex.a");
     if !archive.exists() {
         return Err(format!("{} does not exist", archive.display()));
@@ -59,7 +60,7 @@ fn link(folder: &Path) -> Result<(), String> {
 fn packaged() -> Result<(), String> {
     let mut sought = pkg_config::Config::new();
     sought
-        .atleast_version("1.0")
+        .range_version("1.0".."2.0")
         .statik(true)
         .probe("const_hex")
         .map(drop)

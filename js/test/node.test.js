@@ -105,11 +105,10 @@ test('256 MiB', () => {
     assert.equal(Buffer.compare(Buffer.from(text, 'hex'), bytes), 0);
 });
 
-test('more than the memory can have, and more than a string can have', () => {
+test('more than the memory can have', () => {
     for (const call of [
         () => encode(new ArrayBuffer(600 * 2 ** 20)),
         () => decode(new ArrayBuffer(2 ** 31)),
-        () => encode(new ArrayBuffer(2 ** 28)),
     ]) {
         assert.equal(thrown(call).name, 'RangeError');
         assert.equal(encode(Buffer.from('kiwi')), '6b697769');

@@ -5,6 +5,7 @@ export const rows = [];
 
 const HELLO = '48656c6c6f20776f726c6421';
 const KIWI = ascii('kiwi');
+const LOST = 'has no bytes: its buffer is detached or has become too short';
 
 function row(name, run) {
     rows.push([name, run]);
@@ -239,6 +240,8 @@ row('a shared buffer', () => {
     same([...decode(view)], [...KIWI]);
     same(encode(view), '3662363937373639');
     same([...decodeInto(view, view.subarray(4))], [...KIWI]);
+    same(encode(buffer).length, 2 * 65536);
+    same(isHex(buffer), false);
 });
 
 row('a detached buffer', () => {
@@ -254,24 +257,47 @@ row('a detached buffer', () => {
     for (const [name, all] of Object.entries(calls)) {
         for (const call of all) {
             const error = thrown(call);
-            same([error.name, error.message], ['TypeError', `${name} has no bytes: its buffer is detached`], call);
+            same([error.name, error.message], ['TypeError', `${name} ${LOST}`], call);
         }
     }
 });
 
+row('a buffer that is resized', () => {
+    const buffer = new ArrayBuffer(8, { maxByteLength: 16 });
+    new Uint8Array(buffer).set(ascii('6b697769'));
+    const whole = new Uint8Array(buffer);
+    const parts = [Uint8Array, Int16Array, DataView].map((type) => new type(buffer, 4, type === Int16Array ? 2 : 4));
+    for (const part of parts) same([...decode(part)], [0x77, 0x69]);
+    buffer.resize(4);
+    same([...decode(whole)], [0x6b, 0x69]);
+    for (const part of parts) {
+        for (const [name, call] of [['bytes', () => encode(part)], ['text', () => isHex(part)]]) {
+            same([thrown(call).name, thrown(call).message], ['TypeError', `${name} ${LOST}`]);
+        }
+    }
+    same(thrown(() => decodeInto('6b69', parts[0])).message, `target ${LOST}`);
+    buffer.resize(12);
+    same([...decodeInto('6b697769', parts[0])], [...KIWI]);
+    same(encode(buffer), '366236396b69776900000000');
+    for (const type of [Uint8Array, Int16Array, DataView]) same(encode(new type(buffer, 12, 0)), '');
+});
+
 row('arguments of other types', () => {
-    const others = [undefined, null, 5, 5n, true, [1], {}, { length: 2 }, () => 1, Symbol('a'), new Date(0)];
+    const others = [undefined, null, 5, 5n, true, [1], {}, { length: 2 }, () => 1, Symbol('a'), new Date(0),
+        new Proxy(new Uint8Array(1), {}), Object.create(Uint8Array.prototype), Object.create(ArrayBuffer.prototype)];
     const calls = [encode, decode, check, isHex, (text) => decodeInto(text, new Uint8Array(1))];
-    for (const other of others) {
+    others.forEach((other, number) => {
         calls.forEach((call, at) => {
-            const error = thrown(() => call(other), String(other));
-            same([error.name, error.message.split(' ')[0]], ['TypeError', at === 0 ? 'bytes' : 'text']);
+            const error = thrown(() => call(other), number);
+            const wanted = ['TypeError', at === 0 ? 'bytes' : 'text', 'to'];
+            same([error.name, ...error.message.split(' has ')].map((word) => word.split(' ')[0]), wanted, number);
         });
-    }
-    for (const other of [...others, '6b', new ArrayBuffer(1), new Int8Array(1), new DataView(new ArrayBuffer(1))]) {
-        const error = thrown(() => decodeInto('6b', other), String(other));
+    });
+    const buffer = new ArrayBuffer(1);
+    [...others, '6b', buffer, new Int8Array(1), new DataView(buffer)].forEach((other, number) => {
+        const error = thrown(() => decodeInto('6b', other), number);
         same([error.name, error.message.split(' ')[0]], ['TypeError', 'target']);
-    }
+    });
     same(thrown(() => encode('6b')).name, 'TypeError');
 });
 
@@ -291,5 +317,10 @@ row('a mebibyte', () => {
     same(text.length, 2 ** 21 + 2);
     same(decode(text).every((byte, at) => byte === bytes[at]), true);
     same(answer(() => check(`${text.slice(0, -1)}g`)), { kind: 'InvalidHexCharacter', index: 2 ** 21 + 1, byte: 103 });
+    same(encode(KIWI), '6b697769');
+});
+
+row('more than a string can have', () => {
+    same(thrown(() => encode(new ArrayBuffer(2 ** 28))).name, 'RangeError');
     same(encode(KIWI), '6b697769');
 });

@@ -53,7 +53,7 @@ pub trait FromHex: Sized {
     ///
     /// # Errors
     ///
-    /// For `Vec<u8>` the errors of [`decode`](crate::decode), and for `[u8; N]` the errors of
+    /// For `Vec<u8>` the errors of `decode`, and for `[u8; N]` the errors of
     /// [`decode_to_array`](crate::decode_to_array).
     fn from_hex<T: AsRef<[u8]>>(hex: T) -> Result<Self, Self::Error>;
 }
