@@ -39,10 +39,7 @@ pub(crate) fn bad_digits() -> [u8; 114] {
 pub(crate) struct Inputs {
     pub(crate) vector: Vec<u8>,
     pub(crate) string: String,
-    pub(crate) text: Value,
-    pub(crate) odd: Value,
-    pub(crate) bad: Value,
-    pub(crate) hash: Value,
+    pub(crate) texts: Texts,
     pub(crate) list: Value,
     pub(crate) object: Value,
 }
@@ -52,12 +49,41 @@ impl Inputs {
         Ok(Inputs {
             vector: KIWI.to_vec(alloc)?,
             string: String::from_str(alloc, "kiwi")?,
-            text: json!(in alloc; TEXT)?,
-            odd: json!(in alloc; ODD)?,
-            bad: json!(in alloc; BAD)?,
-            hash: json!(in alloc; HASH)?,
-            list: json!(in alloc; ["0x6b"])?,
-            object: json!(in alloc; {"text": "0x6b"})?,
+            texts: Texts::new(alloc)?,
+            list: list(alloc)?,
+            object: object(alloc)?,
         })
     }
+}
+
+fn list(alloc: Global) -> Result<Value, AllocError> {
+    json!(in alloc; ["0x6b"])
+}
+
+fn object(alloc: Global) -> Result<Value, AllocError> {
+    json!(in alloc; {"text": "0x6b"})
+}
+
+/// Texts as JSON strings.
+#[derive(Drop)]
+pub(crate) struct Texts {
+    pub(crate) text: Value,
+    pub(crate) odd: Value,
+    pub(crate) bad: Value,
+    pub(crate) hash: Value,
+}
+
+impl Texts {
+    fn new(alloc: Global) -> Result<Texts, AllocError> {
+        Ok(Texts {
+            text: json(alloc, TEXT)?,
+            odd: json(alloc, ODD)?,
+            bad: json(alloc, BAD)?,
+            hash: json(alloc, HASH)?,
+        })
+    }
+}
+
+fn json(alloc: Global, text: &str) -> Result<Value, AllocError> {
+    json!(in alloc; text)
 }

@@ -14,18 +14,20 @@ mod owned;
 mod without;
 
 use crate::inputs::Inputs;
-use crate::line::tell;
-use std::alloc::AllocError;
-use std::io;
+use std::alloc::{AllocError, Global};
 
-fn main(rt: HostRuntime) -> io::Result<()> {
-    let alloc = rt.alloc();
-    let inputs = match Inputs::new(alloc) {
-        Ok(inputs) => inputs,
-        Err(AllocError) => return println!(rt; "the program's inputs = no memory"),
-    };
-    println!(rt; "the program's inputs = made")?;
-    without::tell_all(&rt, alloc, &inputs)?;
-    owned::tell_all(&rt, alloc, &inputs)?;
-    modes::tell_all(&rt, alloc)
+fn main(rt: HostRuntime) {
+    match Inputs::new(rt.alloc()) {
+        Ok(inputs) => tell_all(&rt, rt.alloc(), &inputs),
+        Err(AllocError) => {
+            let _ = println!(rt; "the program's inputs = no memory");
+        }
+    }
+}
+
+fn tell_all(rt: &impl Print, alloc: Global, inputs: &Inputs) {
+    let _ = println!(rt; "the program's inputs = made");
+    without::tell_all(rt, alloc, inputs);
+    owned::tell_all(rt, alloc, inputs);
+    modes::tell_all(rt, alloc);
 }

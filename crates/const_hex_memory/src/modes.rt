@@ -4,7 +4,6 @@ use crate::inputs::{BAD_LINE, DATA, KIWI, LINE, LONG, NOTHING, ODD};
 use consthex_modes::{Mode, answer, run};
 use hex_testing::Counting;
 use std::alloc::Global;
-use std::io;
 
 const ENCODERS: [Mode; 4] = [
     Mode::Encode,
@@ -16,78 +15,70 @@ const ENCODERS: [Mode; 4] = [
 const READERS: [Mode; 2] = [Mode::Decode, Mode::Check];
 
 /// Makes the calls of `answer` that ask for no memory: a text is refused, or has no bytes.
-pub(crate) fn tell_refused(rt: &impl Print, alloc: Global) -> io::Result<()> {
-    tell_answer(rt, alloc, Mode::Decode, "an odd text", ODD.as_bytes())?;
-    tell_answer(rt, alloc, Mode::Decode, "nothing", NOTHING)?;
-    tell_answer(rt, alloc, Mode::Check, "an odd text", ODD.as_bytes())?;
-    tell_answer(rt, alloc, Mode::Check, "a bad text", BAD_LINE)
+pub(crate) fn tell_refused(rt: &impl Print, alloc: Global) {
+    tell_answer(rt, alloc, Mode::Decode, "an odd text", ODD.as_bytes());
+    tell_answer(rt, alloc, Mode::Decode, "nothing", NOTHING);
+    tell_answer(rt, alloc, Mode::Check, "an odd text", ODD.as_bytes());
+    tell_answer(rt, alloc, Mode::Check, "a bad text", BAD_LINE);
 }
 
 /// Makes all calls that ask for memory.
-pub(crate) fn tell_all(rt: &impl Print, alloc: Global) -> io::Result<()> {
-    tell_answers(rt, alloc)?;
-    tell_runs(rt, alloc)?;
-    tell_long_runs(rt, alloc)?;
+pub(crate) fn tell_all(rt: &impl Print, alloc: Global) {
+    tell_answers(rt, alloc);
+    tell_runs(rt, alloc);
+    tell_long_runs(rt, alloc);
     // The vector asks for memory of its own. If that is refused, a write fails.
     let (mut input, mut output) = (KIWI, Vec::new(alloc));
     let done = run(alloc, Mode::EncodeUpper, &mut input, &mut output);
-    println!(rt; "run into a vector = {done:?} {output:?}")
+    let _ = println!(rt; "run into a vector = {done:?} {output:?}");
 }
 
-fn tell_answers(rt: &impl Print, alloc: Global) -> io::Result<()> {
+fn tell_answers(rt: &impl Print, alloc: Global) {
     for mode in ENCODERS {
-        tell_answer(rt, alloc, mode, "kiwi", KIWI)?;
-        tell_answer(rt, alloc, mode, "nothing", NOTHING)?;
+        tell_answer(rt, alloc, mode, "kiwi", KIWI);
+        tell_answer(rt, alloc, mode, "nothing", NOTHING);
     }
-    tell_answer(rt, alloc, Mode::Decode, "a text", LINE)?;
-    tell_answer(rt, alloc, Mode::Decode, "a bad text", BAD_LINE)?;
-    tell_answer(rt, alloc, Mode::Check, "a text", LINE)?;
-    tell_answer(rt, alloc, Mode::Check, "nothing", NOTHING)
+    tell_answer(rt, alloc, Mode::Decode, "a text", LINE);
+    tell_answer(rt, alloc, Mode::Decode, "a bad text", BAD_LINE);
+    tell_answer(rt, alloc, Mode::Check, "a text", LINE);
+    tell_answer(rt, alloc, Mode::Check, "nothing", NOTHING);
 }
 
 /// Prints what the mode answers to the input.
-fn tell_answer(
-    rt: &impl Print,
-    alloc: Global,
-    mode: Mode,
-    of: &str,
-    input: &[u8],
-) -> io::Result<()> {
+fn tell_answer(rt: &impl Print, alloc: Global, mode: Mode, of: &str, input: &[u8]) {
     let answered = answer(alloc, mode, input);
-    println!(rt; "answer {mode:?} of {of} = {answered:?}")
+    let _ = println!(rt; "answer {mode:?} of {of} = {answered:?}");
 }
 
-fn tell_runs(rt: &impl Print, alloc: Global) -> io::Result<()> {
+fn tell_runs(rt: &impl Print, alloc: Global) {
     for mode in ENCODERS {
-        tell_run(rt, alloc, mode, "kiwi", KIWI)?;
+        tell_run(rt, alloc, mode, "kiwi", KIWI);
     }
     for mode in READERS {
-        tell_run(rt, alloc, mode, "a text", LINE)?;
-        tell_run(rt, alloc, mode, "an odd text", ODD.as_bytes())?;
-        tell_run(rt, alloc, mode, "a bad text", BAD_LINE)?;
+        tell_run(rt, alloc, mode, "a text", LINE);
+        tell_run(rt, alloc, mode, "an odd text", ODD.as_bytes());
+        tell_run(rt, alloc, mode, "a bad text", BAD_LINE);
     }
-    Ok(())
 }
 
 /// Inputs that do not fit into the first room of 4096 bytes.
-fn tell_long_runs(rt: &impl Print, alloc: Global) -> io::Result<()> {
+fn tell_long_runs(rt: &impl Print, alloc: Global) {
     for mode in ENCODERS {
-        tell_run(rt, alloc, mode, "4097 bytes", &DATA)?;
+        tell_run(rt, alloc, mode, "4097 bytes", &DATA);
     }
     let mut bad = LONG;
     bad[4097] = b'z';
     for mode in READERS {
-        tell_run(rt, alloc, mode, "4098 digits", &LONG)?;
-        tell_run(rt, alloc, mode, "4097 digits", &LONG[..4097])?;
-        tell_run(rt, alloc, mode, "a long bad text", &bad)?;
+        tell_run(rt, alloc, mode, "4098 digits", &LONG);
+        tell_run(rt, alloc, mode, "4097 digits", &LONG[..4097]);
+        tell_run(rt, alloc, mode, "a long bad text", &bad);
     }
-    Ok(())
 }
 
 /// Prints how a run ends, how often it writes, and how many bytes. The writer asks for no memory.
-fn tell_run(rt: &impl Print, alloc: Global, mode: Mode, of: &str, input: &[u8]) -> io::Result<()> {
+fn tell_run(rt: &impl Print, alloc: Global, mode: Mode, of: &str, input: &[u8]) {
     let (mut input, mut output) = (input, Counting::new(0));
     let done = run(alloc, mode, &mut input, &mut output);
     let Counting { calls, bytes, .. } = output;
-    println!(rt; "run {mode:?} of {of} = {done:?} {calls} {bytes}")
+    let _ = println!(rt; "run {mode:?} of {of} = {done:?} {calls} {bytes}");
 }

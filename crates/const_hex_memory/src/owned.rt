@@ -13,36 +13,40 @@ use hash_hex::{Address20, Hash32};
 use hex_testing::{KernelCase, by_each_kernel};
 use std::alloc::Global;
 use std::boxed::BoxedSlice;
-use std::io;
 use std::rc::Rc;
 
 /// Makes all these calls.
-pub(crate) fn tell_all(rt: &impl Print, alloc: Global, inputs: &Inputs) -> io::Result<()> {
+pub(crate) fn tell_all(rt: &impl Print, alloc: Global, inputs: &Inputs) {
+    tell_encoded(rt, alloc);
+    tell_written(rt, alloc, "of an array", b"kiwi");
+    tell_written(rt, alloc, "of a vector", &inputs.vector);
+    tell_written(rt, alloc, "of a string", &inputs.string);
+    tell_copies(rt, alloc);
+    tell_json(rt, alloc, inputs);
+    tell_read(rt, alloc, TEXT);
+    tell_read(rt, alloc, BAD);
+    tell_by_each_kernel(rt, alloc);
+    tell_stream(rt, alloc);
+}
+
+fn tell_encoded(rt: &impl Print, alloc: Global) {
     tell_each!(rt;
         "encode" => encode(alloc, KIWI),
         "encode_upper" => encode_upper(alloc, KIWI),
         "encode_prefixed" => encode_prefixed(alloc, KIWI),
         "encode_upper_prefixed" => encode_upper_prefixed(alloc, KIWI),
     );
-    tell_written(rt, alloc, "of an array", b"kiwi")?;
-    tell_written(rt, alloc, "of a vector", &inputs.vector)?;
-    tell_written(rt, alloc, "of a string", &inputs.string)?;
+}
+
+fn tell_copies(rt: &impl Print, alloc: Global) {
     let buffer: Buffer<4, true, 10> = const_encode(b"kiwi");
     tell_each!(rt;
         "Buffer::to_string" => buffer.to_string(alloc),
         "Buffer::to_vec" => buffer.to_vec(alloc),
     );
-    tell_json(rt, alloc, inputs)?;
-    tell_read(rt, alloc, TEXT)?;
-    tell_read(rt, alloc, BAD)?;
-    by_each_kernel!(tell_by_kernel, rt, alloc);
-    let mut sink = PieceSink::new(alloc, 0);
-    let answer = BufferedHex::<false, true>::new(&DATA).write_to(&mut sink);
-    tell_each!(rt; "write_to" => Kept(answer, &sink),);
-    Ok(())
 }
 
-fn tell_written<T>(rt: &impl Print, alloc: Global, of: &str, value: &T) -> io::Result<()>
+fn tell_written<T>(rt: &impl Print, alloc: Global, of: &str, value: &T)
 where
     T: ToHex + ToHexExt,
 {
@@ -54,10 +58,9 @@ where
         "encode_hex_with_prefix" => value.encode_hex_with_prefix(alloc),
         "encode_hex_upper_with_prefix" => value.encode_hex_upper_with_prefix(alloc),
     );
-    Ok(())
 }
 
-fn tell_json(rt: &impl Print, alloc: Global, inputs: &Inputs) -> io::Result<()> {
+fn tell_json(rt: &impl Print, alloc: Global, inputs: &Inputs) {
     tell_each!(rt;
         "serialize" => serialize(alloc, KIWI),
         "serialize_upper" => serialize_upper(alloc, KIWI),
@@ -65,22 +68,21 @@ fn tell_json(rt: &impl Print, alloc: Global, inputs: &Inputs) -> io::Result<()> 
         "no_prefix::serialize_upper" => no_prefix::serialize_upper(alloc, KIWI),
     );
     tell_each!(rt, TEXT;
-        "deserialize of" => deserialize::<Vec<u8>>(alloc, &inputs.text),
+        "deserialize of" => deserialize::<Vec<u8>>(alloc, &inputs.texts.text),
     );
     tell_each!(rt, BAD;
-        "deserialize of" => deserialize::<Vec<u8>>(alloc, &inputs.bad),
+        "deserialize of" => deserialize::<Vec<u8>>(alloc, &inputs.texts.bad),
     );
     tell_each!(rt, TEXT;
-        "no_prefix::deserialize of" => no_prefix::deserialize::<Vec<u8>>(alloc, &inputs.text),
+        "no_prefix::deserialize of" => no_prefix::deserialize::<Vec<u8>>(alloc, &inputs.texts.text),
     );
     tell_each!(rt;
         "Hash32::to_value" => Hash32::from_bytes([0xAB; 32]).to_value(alloc),
         "Address20::to_value" => Address20::from_bytes([0xAB; 20]).to_value(alloc),
     );
-    Ok(())
 }
 
-fn tell_read(rt: &impl Print, alloc: Global, text: &str) -> io::Result<()> {
+fn tell_read(rt: &impl Print, alloc: Global, text: &str) {
     let bytes = text.as_bytes();
     tell_each!(rt, text;
         "decode of" => decode(alloc, bytes),
@@ -92,10 +94,13 @@ fn tell_read(rt: &impl Print, alloc: Global, text: &str) -> io::Result<()> {
         "Box<[u8; 4]>::from_hex of" => <Box<[u8; 4]>>::from_hex(alloc, bytes),
         "Rc<[i8; 4]>::from_hex of" => <Rc<[i8; 4]>>::from_hex(alloc, bytes),
     );
-    Ok(())
 }
 
-fn tell_by_kernel<K: Kernel>(rt: &impl Print, alloc: Global, kernel: KernelCase) -> io::Result<()> {
+fn tell_by_each_kernel(rt: &impl Print, alloc: Global) {
+    by_each_kernel!(tell_by_kernel(rt, alloc));
+}
+
+fn tell_by_kernel<K: Kernel>(rt: &impl Print, alloc: Global, kernel: KernelCase) {
     let (mut sink, hex) = (
         PieceSink::new(alloc, 0),
         BufferedHex::<false, true>::new(&DATA),
@@ -108,5 +113,10 @@ fn tell_by_kernel<K: Kernel>(rt: &impl Print, alloc: Global, kernel: KernelCase)
         "decode_with of zz by" => decode_with::<K>(alloc, BAD.as_bytes()),
         "write_with by" => Kept(hex.write_with::<K, PieceSink>(&mut sink), &sink),
     );
-    Ok(())
+}
+
+fn tell_stream(rt: &impl Print, alloc: Global) {
+    let mut sink = PieceSink::new(alloc, 0);
+    let answer = BufferedHex::<false, true>::new(&DATA).write_to(&mut sink);
+    tell_each!(rt; "write_to" => Kept(answer, &sink),);
 }

@@ -25,7 +25,7 @@ pub(crate) trait KernelTest {
     ) -> Result<(), Fail>;
 
     final fn with_each_kernel(&self, rt: &impl Abort, alloc: Global) -> Result<(), Fail> {
-        by_each_kernel!(run_by, self, rt, alloc);
+        by_each_kernel!(run_by(self, rt, alloc)?);
         Ok(())
     }
 }

@@ -33,13 +33,14 @@ impl KernelCase {
         }
     }
 
-    /// The same kernel behind `CheckFirst`, and its name there.
-    pub fn checking_first(self, name: &'static str) -> KernelCase {
+    /// A kernel behind `CheckFirst`, by its name there, its place in rows and what it writes.
+    pub fn checking_first(name: &'static str, number: usize, writes: usize) -> KernelCase {
         KernelCase {
             name,
+            number,
             checks_first: true,
             reads: &[],
-            ..self
+            writes,
         }
     }
 
@@ -64,26 +65,27 @@ impl KernelCase {
     }
 }
 
-/// Calls a function with each kernel, by itself and behind `CheckFirst`, and returns its first error.
-/// The kernel's case is its last argument. The last kernel is `Backward` of `const_hex_uses`.
+/// Calls a function with each kernel, by itself and behind `CheckFirst`. The kernel's case is its last
+/// argument. With a `?`, the first error is returned. The last kernel is `Backward` of
+/// `const_hex_uses`.
 #[macro_export]
 macro_rules! by_each_kernel {
-    ($call:ident, $($argument:expr),*) => {
-        let case = $crate::KernelCase::new("Plain", 0, &[2], 1);
-        $call::<const_hex::Plain>($($argument,)* case)?;
-        let case = case.checking_first("CheckFirst<Plain>");
-        $call::<const_hex::CheckFirst<const_hex::Plain>>($($argument,)* case)?;
-        let case = $crate::KernelCase::new("Lanes16", 1, &[32, 2], 32);
-        $call::<const_hex::Lanes16>($($argument,)* case)?;
-        let case = case.checking_first("CheckFirst<Lanes16>");
-        $call::<const_hex::CheckFirst<const_hex::Lanes16>>($($argument,)* case)?;
-        let case = $crate::KernelCase::new("Lanes32", 2, &[64, 32, 2], 64);
-        $call::<const_hex::Lanes32>($($argument,)* case)?;
-        let case = case.checking_first("CheckFirst<Lanes32>");
-        $call::<const_hex::CheckFirst<const_hex::Lanes32>>($($argument,)* case)?;
-        let case = $crate::KernelCase::new("Backward", 3, &[], 2);
-        $call::<const_hex_uses::own_kernel::Backward>($($argument,)* case)?;
-        let case = case.checking_first("CheckFirst<Backward>");
-        $call::<const_hex::CheckFirst<const_hex_uses::own_kernel::Backward>>($($argument,)* case)?;
+    ($call:ident($($argument:expr),*) $($try:tt)?) => {
+        $call::<const_hex::Plain>(
+            $($argument,)* $crate::KernelCase::new("Plain", 0, &[2], 1))$($try)?;
+        $call::<const_hex::CheckFirst<const_hex::Plain>>(
+            $($argument,)* $crate::KernelCase::checking_first("CheckFirst<Plain>", 0, 1))$($try)?;
+        $call::<const_hex::Lanes16>(
+            $($argument,)* $crate::KernelCase::new("Lanes16", 1, &[32, 2], 32))$($try)?;
+        $call::<const_hex::CheckFirst<const_hex::Lanes16>>(
+            $($argument,)* $crate::KernelCase::checking_first("CheckFirst<Lanes16>", 1, 32))$($try)?;
+        $call::<const_hex::Lanes32>(
+            $($argument,)* $crate::KernelCase::new("Lanes32", 2, &[64, 32, 2], 64))$($try)?;
+        $call::<const_hex::CheckFirst<const_hex::Lanes32>>(
+            $($argument,)* $crate::KernelCase::checking_first("CheckFirst<Lanes32>", 2, 64))$($try)?;
+        $call::<const_hex_uses::own_kernel::Backward>(
+            $($argument,)* $crate::KernelCase::new("Backward", 3, &[], 2))$($try)?;
+        $call::<const_hex::CheckFirst<const_hex_uses::own_kernel::Backward>>(
+            $($argument,)* $crate::KernelCase::checking_first("CheckFirst<Backward>", 3, 2))$($try)?;
     };
 }

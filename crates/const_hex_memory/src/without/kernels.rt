@@ -3,15 +3,14 @@
 use crate::inputs::{BYTES, DATA, DIGITS, ODD, TEXT, bad_digits};
 use crate::line::tell_each;
 use const_hex::{BufferedHex, Kernel, SliceOutput, check_with, decode_to_slice_with, decode_with};
-use hex_testing::{Counting, KernelCase};
+use hex_testing::{Counting, KernelCase, by_each_kernel};
 use std::alloc::Global;
-use std::io;
 
-pub(crate) fn tell_kernel<K: Kernel>(
-    rt: &impl Print,
-    alloc: Global,
-    kernel: KernelCase,
-) -> io::Result<()> {
+pub(crate) fn tell_all(rt: &impl Print, alloc: Global) {
+    by_each_kernel!(tell_kernel(rt, alloc));
+}
+
+fn tell_kernel<K: Kernel>(rt: &impl Print, alloc: Global, kernel: KernelCase) {
     let (odd, bad, mut bytes) = (ODD.as_bytes(), bad_digits(), [0; 57]);
     tell_each!(rt, kernel.name;
         "check_with by" => check_with::<K>(&DIGITS),
@@ -24,12 +23,12 @@ pub(crate) fn tell_kernel<K: Kernel>(
         "decode_to_slice_with of a bad text by" =>
             decode_to_slice_with::<K>(&bad, &mut bytes),
     );
-    tell_own::<K>(rt, kernel.name)?;
-    tell_streams::<K>(rt, kernel.name)
+    tell_own::<K>(rt, kernel.name);
+    tell_streams::<K>(rt, kernel.name);
 }
 
 /// The calls of the kernel itself.
-fn tell_own<K: Kernel>(rt: &impl Print, kernel: &str) -> io::Result<()> {
+fn tell_own<K: Kernel>(rt: &impl Print, kernel: &str) {
     let (bad, mut text, mut upper, mut bytes) = (bad_digits(), [0; 114], [0; 114], [0; 57]);
     K::encode(&BYTES, false, &mut SliceOutput::new(&mut text));
     K::encode(&BYTES, true, &mut SliceOutput::new(&mut upper));
@@ -48,10 +47,9 @@ fn tell_own<K: Kernel>(rt: &impl Print, kernel: &str) -> io::Result<()> {
         "Kernel::check of a bad text by" => K::check(&bad),
         "Kernel::decode_checked of a bad text by" => K::decode_checked(&bad, &mut bytes),
     );
-    Ok(())
 }
 
-fn tell_streams<K: Kernel>(rt: &impl Print, kernel: &str) -> io::Result<()> {
+fn tell_streams<K: Kernel>(rt: &impl Print, kernel: &str) {
     let hex = BufferedHex::<false, true>::new(&DATA);
     let (mut counts, mut refuses) = (Counting::new(0), Counting::new(2));
     tell_each!(rt, kernel;
@@ -60,5 +58,4 @@ fn tell_streams<K: Kernel>(rt: &impl Print, kernel: &str) -> io::Result<()> {
         "write_with a sink that refuses, by" =>
             (hex.write_with::<K, Counting>(&mut refuses), refuses.calls),
     );
-    Ok(())
 }

@@ -7,10 +7,18 @@ use const_hex::traits::{BytesToHexChars, HexFault};
 use const_hex::{Buffer, FromHexError, SinkError, const_encode, display};
 use hex_testing::{Counting, InHex};
 use std::alloc::AllocError;
+use std::fmt;
 use std::fmt::Write;
-use std::{fmt, io};
 
-pub(crate) fn tell_buffers(rt: &impl Print) -> io::Result<()> {
+pub(crate) fn tell_all(rt: &impl Print) {
+    tell_buffers(rt);
+    tell_copies(rt);
+    tell_errors(rt);
+    tell_chars(rt);
+    tell_displays(rt);
+}
+
+fn tell_buffers(rt: &impl Print) {
     let mut buffer = Buffer::<4, true, 10>::new();
     tell_each!(rt;
         "Buffer::LEN" => Buffer::<4, true, 10>::LEN,
@@ -24,6 +32,11 @@ pub(crate) fn tell_buffers(rt: &impl Print) -> io::Result<()> {
         "Buffer::as_bytes" => buffer.as_bytes(),
         "Buffer::as_byte_array" => buffer.as_byte_array(),
     );
+}
+
+fn tell_copies(rt: &impl Print) {
+    let mut buffer = Buffer::<4, true, 10>::new();
+    buffer.format_upper(b"kiwi");
     let copy: Result<Buffer<4, true, 10>, AllocError> = buffer.clone();
     tell_each!(rt;
         "Buffer::clone" => copy,
@@ -31,32 +44,30 @@ pub(crate) fn tell_buffers(rt: &impl Print) -> io::Result<()> {
         "Buffer::const_format_upper" => Buffer::<4, false, 8>::new().const_format_upper(b"kiwi"),
         "const_encode" => const_encode::<4, false, 8>(b"kiwi"),
     );
-    Ok(())
 }
 
-pub(crate) fn tell_errors(rt: &impl Print) -> io::Result<()> {
+fn tell_errors(rt: &impl Print) {
     for error in [
         FromHexError::OddLength,
         FromHexError::InvalidStringLength,
         FromHexError::InvalidHexCharacter { c: '\n', index: 5 },
         FromHexError::NoMemory,
     ] {
-        println!(rt; "Display of {error:?} = {error}")?;
-        println!(rt; "is_memory of {error:?} = {}", error.is_memory())?;
+        let _ = println!(rt; "Display of {error:?} = {error}");
+        let _ = println!(rt; "is_memory of {error:?} = {}", error.is_memory());
         let inside = JsonError::Hex(error);
-        println!(rt; "Display of {inside:?} = {inside}")?;
+        let _ = println!(rt; "Display of {inside:?} = {inside}");
     }
     let no_text: JsonError<FromHexError> = JsonError::NotText;
-    println!(rt; "Display of {no_text:?} = {no_text}")?;
-    println!(rt; "Display of {:?} = {}", SinkError, SinkError)?;
+    let _ = println!(rt; "Display of {no_text:?} = {no_text}");
+    let _ = println!(rt; "Display of {:?} = {}", SinkError, SinkError);
     tell_each!(rt;
         "of_memory" => FromHexError::of_memory(),
         "FromHexError::from" => FromHexError::from(AllocError),
     );
-    Ok(())
 }
 
-pub(crate) fn tell_chars(rt: &impl Print) -> io::Result<()> {
+fn tell_chars(rt: &impl Print) {
     let mut lower = BytesToHexChars::<false>::new(&[0x0F]);
     tell_each!(rt;
         "BytesToHexChars::size_hint" => lower.size_hint(),
@@ -65,21 +76,20 @@ pub(crate) fn tell_chars(rt: &impl Print) -> io::Result<()> {
         "BytesToHexChars::next, 2" => lower.next(),
         "BytesToHexChars, upper" => BytesToHexChars::<true>::new(KIWI).eq("6B697769".chars()),
     );
-    Ok(())
 }
 
 /// The six forms of a few bytes, and the sizes of the six forms of many bytes.
-pub(crate) fn tell_displays(rt: &impl Print) -> io::Result<()> {
+fn tell_displays(rt: &impl Print) {
     let (plain, lower, upper) = (display(KIWI), InHex::<false>(KIWI), InHex::<true>(KIWI));
-    println!(rt; "display = {plain} {plain:#} {plain:*>20}")?;
-    println!(rt; "LowerHex = {lower} {lower:#}")?;
-    println!(rt; "UpperHex = {upper} {upper:#}")?;
-    tell_sizes(rt, "display", display(&DATA))?;
-    tell_sizes(rt, "LowerHex", InHex::<false>(&DATA))?;
-    tell_sizes(rt, "UpperHex", InHex::<true>(&DATA))
+    let _ = println!(rt; "display = {plain} {plain:#} {plain:*>20}");
+    let _ = println!(rt; "LowerHex = {lower} {lower:#}");
+    let _ = println!(rt; "UpperHex = {upper} {upper:#}");
+    tell_sizes(rt, "display", display(&DATA));
+    tell_sizes(rt, "LowerHex", InHex::<false>(&DATA));
+    tell_sizes(rt, "UpperHex", InHex::<true>(&DATA));
 }
 
-fn tell_sizes(rt: &impl Print, call: &str, shown: impl fmt::Display + Drop) -> io::Result<()> {
+fn tell_sizes(rt: &impl Print, call: &str, shown: impl fmt::Display + Drop) {
     let mut writer = Counting::new(0);
     let done = write!(writer, "{shown}{shown:#}");
     tell_of(
@@ -87,5 +97,5 @@ fn tell_sizes(rt: &impl Print, call: &str, shown: impl fmt::Display + Drop) -> i
         call,
         "of 4097 bytes",
         (done, writer.calls, writer.bytes),
-    )
+    );
 }

@@ -13,10 +13,21 @@ use hash_hex::{Address20, Hash32};
 use serde_json::{Number, Value};
 use std::alloc::Global;
 use std::boxed::BoxedSlice;
-use std::io;
 use std::rc::Rc;
 
-pub(crate) fn tell_digits(rt: &impl Print) -> io::Result<()> {
+pub(crate) fn tell_all(rt: &impl Print, alloc: Global, inputs: &Inputs) {
+    tell_digits(rt);
+    tell_texts_in_slices(rt);
+    tell_other_lengths(rt);
+    tell_full_texts(rt);
+    tell_read(rt, alloc);
+    tell_odd(rt, alloc);
+    tell_no_texts(rt, alloc, inputs);
+    tell_hashes(rt, alloc, inputs);
+    tell_values(rt, alloc, inputs);
+}
+
+fn tell_digits(rt: &impl Print) {
     tell_each!(rt; "digit_at of 11, upper" => digit_at(true, 11), "value_at of B" => value_at(b'B'),);
     for text in [TEXT, ODD, BAD, "6B697769"] {
         let bytes = text.as_bytes();
@@ -27,11 +38,10 @@ pub(crate) fn tell_digits(rt: &impl Print) -> io::Result<()> {
             "const_check_raw of" => const_check_raw(bytes),
         );
     }
-    Ok(())
 }
 
-pub(crate) fn tell_texts_in_slices(rt: &impl Print) -> io::Result<()> {
-    let (mut text, mut full, mut short) = ([0; 8], [0; 10], [0; 7]);
+fn tell_texts_in_slices(rt: &impl Print) {
+    let (mut text, mut full) = ([0; 8], [0; 10]);
     tell_each!(rt;
         "encode_to_slice" => (encode_to_slice(KIWI, &mut text), text),
         "encode_to_slice_upper" => (encode_to_slice_upper(KIWI, &mut text), text),
@@ -39,6 +49,11 @@ pub(crate) fn tell_texts_in_slices(rt: &impl Print) -> io::Result<()> {
         "encode_to_str_upper" => encode_to_str_upper(KIWI, &mut text),
         "encode_full_to_slice" => (encode_full_to_slice(KIWI, true, false, &mut full), full),
     );
+}
+
+/// The output is a digit too short.
+fn tell_other_lengths(rt: &impl Print) {
+    let mut short = [0; 7];
     tell_each!(rt;
         "encode_full_to_slice, too short" => (encode_full_to_slice(KIWI, true, false, &mut short), short),
         "encode_to_slice, too short" => (encode_to_slice(KIWI, &mut short), short),
@@ -46,6 +61,10 @@ pub(crate) fn tell_texts_in_slices(rt: &impl Print) -> io::Result<()> {
         "encode_to_str, too short" => encode_to_str(KIWI, &mut short),
         "encode_to_str_upper, too short" => encode_to_str_upper(KIWI, &mut short),
     );
+}
+
+fn tell_full_texts(rt: &impl Print) {
+    let mut full = [0; 10];
     fill_text::<FixedKernel>(KIWI, true, true, &mut full);
     tell_each!(rt;
         "fill_text" => full,
@@ -53,10 +72,9 @@ pub(crate) fn tell_texts_in_slices(rt: &impl Print) -> io::Result<()> {
         "ascii_text" => ascii_text(b"0x6b"),
         "bytes_of" => bytes_of::<4>(b"0x6b697769"),
     );
-    Ok(())
 }
 
-pub(crate) fn tell_read(rt: &impl Print, alloc: Global) -> io::Result<()> {
+fn tell_read(rt: &impl Print, alloc: Global) {
     for text in [TEXT, ODD, BAD, "gg697769"] {
         let (bytes, mut output, mut room) = (text.as_bytes(), [0; 4], [0; 6]);
         tell_each!(rt, text;
@@ -68,11 +86,10 @@ pub(crate) fn tell_read(rt: &impl Print, alloc: Global) -> io::Result<()> {
             "[i8; 4]::from_hex of" => <[i8; 4]>::from_hex(alloc, bytes),
         );
     }
-    Ok(())
 }
 
 /// An odd text is refused before a call asks for memory.
-pub(crate) fn tell_odd(rt: &impl Print, alloc: Global) -> io::Result<()> {
+fn tell_odd(rt: &impl Print, alloc: Global) {
     let odd = ODD.as_bytes();
     tell_each!(rt, "of an odd text";
         "decode" => decode(alloc, odd),
@@ -82,45 +99,48 @@ pub(crate) fn tell_odd(rt: &impl Print, alloc: Global) -> io::Result<()> {
         "BoxedSlice<i8>::from_hex" => <BoxedSlice<i8>>::from_hex(alloc, odd),
         "Box<Rc<Vec<u8>>>::from_hex" => <Box<Rc<Vec<u8>>>>::from_hex(alloc, odd),
     );
-    Ok(())
 }
 
 /// A JSON value that is not a text, or has an odd text, is refused before a call asks for memory.
-pub(crate) fn tell_no_texts(rt: &impl Print, alloc: Global, inputs: &Inputs) -> io::Result<()> {
+fn tell_no_texts(rt: &impl Print, alloc: Global, inputs: &Inputs) {
     let number = Value::Number(Number::from(5u8));
-    tell_no_text(rt, alloc, "of null", &Value::Null)?;
-    tell_no_text(rt, alloc, "of a truth value", &Value::Bool(true))?;
-    tell_no_text(rt, alloc, "of a number", &number)?;
-    tell_no_text(rt, alloc, "of a list", &inputs.list)?;
-    tell_no_text(rt, alloc, "of an object", &inputs.object)?;
-    let read = deserialize::<Vec<u8>>(alloc, &inputs.odd);
-    tell_of(rt, "deserialize", "of an odd text", read)
+    tell_no_text(rt, alloc, "of null", &Value::Null);
+    tell_no_text(rt, alloc, "of a truth value", &Value::Bool(true));
+    tell_no_text(rt, alloc, "of a number", &number);
+    tell_no_text(rt, alloc, "of a list", &inputs.list);
+    tell_no_text(rt, alloc, "of an object", &inputs.object);
+    let read = deserialize::<Vec<u8>>(alloc, &inputs.texts.odd);
+    tell_of(rt, "deserialize", "of an odd text", read);
 }
 
-fn tell_no_text(rt: &impl Print, alloc: Global, of: &str, value: &Value) -> io::Result<()> {
+fn tell_no_text(rt: &impl Print, alloc: Global, of: &str, value: &Value) {
     tell_each!(rt, of;
         "deserialize" => deserialize::<Vec<u8>>(alloc, value),
         "no_prefix::deserialize" => no_prefix::deserialize::<Vec<u8>>(alloc, value),
     );
-    Ok(())
 }
 
 /// A text of a hash with bad bytes.
 const BAD_HASH: &str = "0xzz00000000000000000000000000000000000000000000000000000000000000";
 
-pub(crate) fn tell_hashes(rt: &impl Print, alloc: Global, inputs: &Inputs) -> io::Result<()> {
+fn tell_hashes(rt: &impl Print, alloc: Global, inputs: &Inputs) {
     for text in [HASH, ODD, BAD, BAD_HASH] {
         let read = Hash32::from_hex(alloc, text.as_bytes());
-        tell_of(rt, "Hash32::from_hex of", text, read)?;
+        tell_of(rt, "Hash32::from_hex of", text, read);
     }
+}
+
+fn tell_values(rt: &impl Print, alloc: Global, inputs: &Inputs) {
+    tell_each!(rt;
+        "Hash32::from_value of a text" => Hash32::from_value(alloc, &inputs.texts.hash),
+        "Hash32::from_value of an odd text" => Hash32::from_value(alloc, &inputs.texts.odd),
+        "Hash32::from_value of null" => Hash32::from_value(alloc, &Value::Null),
+    );
     let address = Address20::from([0xAB; 20]);
     tell_each!(rt;
-        "Hash32::from_value of a text" => Hash32::from_value(alloc, &inputs.hash),
-        "Hash32::from_value of an odd text" => Hash32::from_value(alloc, &inputs.odd),
-        "Hash32::from_value of null" => Hash32::from_value(alloc, &Value::Null),
         "Hash32::to_buffer" => Hash32::from_bytes([0xAB; 32]).to_buffer(),
         "Address20::as_bytes" => address.as_bytes(),
         "Address20::to_buffer" => address.to_buffer(),
     );
-    println!(rt; "Display of an address = {address}")
+    let _ = println!(rt; "Display of an address = {address}");
 }
