@@ -21,15 +21,15 @@ use std::fmt::Write;
 
 pub(crate) fn owned(alloc: Global, name: &str, bytes: &[u8]) -> Result<String, Fault> {
     match name {
-        "encode" => ok(alloc, encode(alloc, bytes)?),
-        "encode_upper" => ok(alloc, encode_upper(alloc, bytes)?),
-        "encode_prefixed" => ok(alloc, encode_prefixed(alloc, bytes)?),
-        "encode_upper_prefixed" => ok(alloc, encode_upper_prefixed(alloc, bytes)?),
+        "encode" => encoded(alloc, encode(alloc, bytes)),
+        "encode_upper" => encoded(alloc, encode_upper(alloc, bytes)),
+        "encode_prefixed" => encoded(alloc, encode_prefixed(alloc, bytes)),
+        "encode_upper_prefixed" => encoded(alloc, encode_upper_prefixed(alloc, bytes)),
         "decode" => decoded(alloc, decode(alloc, bytes)),
         "check" => checked(alloc, check(bytes)),
         "const_check" => checked(alloc, const_check(bytes)),
-        "check_raw" => Ok(format!(in alloc; "OK {}", check_raw(bytes))?),
-        "const_check_raw" => Ok(format!(in alloc; "OK {}", const_check_raw(bytes))?),
+        "check_raw" => decided(alloc, check_raw(bytes)),
+        "const_check_raw" => decided(alloc, const_check_raw(bytes)),
         "msg_decode" => message(alloc, decode(alloc, bytes).err()),
         "msg_check" => message(alloc, check(bytes).err()),
         "msg_const_check" => message(alloc, const_check(bytes).err()),
@@ -46,6 +46,14 @@ pub(crate) fn owned(alloc: Global, name: &str, bytes: &[u8]) -> Result<String, F
 
 fn ok<B: AsSlice<u8> + Drop>(alloc: Global, bytes: B) -> Result<String, Fault> {
     Ok(format!(in alloc; "OK {}", Hex(bytes.as_slice()))?)
+}
+
+fn encoded(alloc: Global, text: Result<String, AllocError>) -> Result<String, Fault> {
+    ok(alloc, text?)
+}
+
+fn decided(alloc: Global, answer: bool) -> Result<String, Fault> {
+    Ok(format!(in alloc; "OK {answer}")?)
 }
 
 fn decoded<B>(alloc: Global, answer: Result<B, FromHexError>) -> Result<String, Fault>
@@ -186,7 +194,7 @@ fn sized<const N: usize, const DIGITS: usize, const FULL: usize>(
         "const_encode_prefixed" => ok(alloc, const_encode::<N, true, FULL>(array).as_str()),
         "buffer_debug" => {
             let formatted = full.clone()?.const_format(array);
-            ok(alloc, format!(in alloc; "{full:?} {formatted:?}")?)
+            encoded(alloc, format!(in alloc; "{full:?} {formatted:?}"))
         }
         _ => Err(UNKNOWN),
     }
@@ -271,14 +279,19 @@ pub(crate) fn in_pieces(
         "buffered_hex_upper_prefixed" => BufferedHex::<true, true>::new(bytes).write_to(&mut sink),
         _ => return Err(UNKNOWN),
     };
-    if sink.no_memory() {
-        return Err(Fault::NoMemory);
+    match sink.no_memory() {
+        true => Err(Fault::NoMemory),
+        false => sizes(alloc, &sink, written.is_err()),
     }
+}
+
+/// The sizes of the pieces that a sink has, and if it refused, the number of that call.
+fn sizes(alloc: Global, sink: &PieceSink, is_refused: bool) -> Result<String, Fault> {
     let mut shown = "OK".to_string(alloc)?;
     for piece in sink.pieces() {
         write!(shown, " {}", piece.len())?;
     }
-    if written.is_err() {
+    if is_refused {
         write!(shown, " refused {}", sink.calls())?;
     }
     Ok(shown)

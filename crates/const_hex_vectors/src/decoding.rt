@@ -85,15 +85,42 @@ pub(crate) fn each_call_answers(
 ) -> Result<(), AllocError> {
     same!(rt, "check", Text(text); check(text), checked(want));
     same!(rt, "const_check", Text(text); const_check(text), checked(want));
+    each_vector_answers(rt, alloc, text, want);
+    each_signed_vector_answers(rt, alloc, text, want);
+    each_json_answers(rt, alloc, text, want)
+}
+
+fn each_vector_answers(
+    rt: &impl Abort,
+    alloc: Global,
+    text: &[u8],
+    want: Result<&[u8], FromHexError>,
+) {
     each_answers!(reads, rt, text, want;
         decode(alloc, text),
         <Vec<u8>>::from_hex(alloc, text),
         <BoxedSlice<u8>>::from_hex(alloc, text),
         <Box<Rc<Vec<u8>>>>::from_hex(alloc, text));
+}
+
+fn each_signed_vector_answers(
+    rt: &impl Abort,
+    alloc: Global,
+    text: &[u8],
+    want: Result<&[u8], FromHexError>,
+) {
     each_answers!(reads_numbers, rt, text, want;
         <Vec<i8>>::from_hex(alloc, text),
         <BoxedSlice<i8>>::from_hex(alloc, text),
         <Rc<Box<Vec<i8>>>>::from_hex(alloc, text));
+}
+
+fn each_json_answers(
+    rt: &impl Abort,
+    alloc: Global,
+    text: &[u8],
+    want: Result<&[u8], FromHexError>,
+) -> Result<(), AllocError> {
     let Ok(string) = str::from_utf8(text) else {
         return Ok(());
     };

@@ -10,6 +10,7 @@ use const_hex::{
     encode_upper_prefixed, fill_text, serialize, serialize_upper, text_length,
 };
 use hex_testing::{Text, same, same_bytes};
+use serde_json::Value;
 use std::alloc::{AllocError, Global};
 use std::process::Abort;
 use std::test::Fail;
@@ -37,80 +38,64 @@ impl Written {
     }
 
     /// Each call that makes a text of the bytes makes these.
-    pub(crate) fn each_call_writes(
-        &self,
-        rt: &impl Abort,
-        alloc: Global,
-    ) -> Result<(), AllocError> {
-        let bytes = self.bytes.as_slice();
-        let texts = [
-            ("encode", encode(alloc, bytes)?),
-            ("encode_upper", encode_upper(alloc, bytes)?),
-            ("encode_prefixed", encode_prefixed(alloc, bytes)?),
-            (
-                "encode_upper_prefixed",
-                encode_upper_prefixed(alloc, bytes)?,
-            ),
-        ];
-        let values = [
-            ("no_prefix::serialize", no_prefix::serialize(alloc, bytes)?),
-            (
-                "no_prefix::serialize_upper",
-                no_prefix::serialize_upper(alloc, bytes)?,
-            ),
-            ("serialize", serialize(alloc, bytes)?),
-            ("serialize_upper", serialize_upper(alloc, bytes)?),
-        ];
-        for (place, want) in self.texts.iter().enumerate() {
-            let (call, text) = &texts[place];
-            same_bytes!(rt, call, Text(bytes); text.as_bytes(), want.as_bytes());
-            let (call, value) = &values[place];
-            let text = value.as_str().unwrap_or("no text");
-            same_bytes!(rt, call, Text(bytes); text.as_bytes(), want.as_bytes());
-        }
-        self.traits_write(rt, alloc, &self.bytes)
+    pub(crate) fn each_call_writes(&self, rt: &impl Abort, alloc: Global) {
+        let (bytes, [lower, upper, prefixed_lower, prefixed_upper]) = (&self.bytes, &self.texts);
+        self.wrote(rt, "encode", encode(alloc, bytes), lower);
+        self.wrote(rt, "encode_upper", encode_upper(alloc, bytes), upper);
+        let text = encode_prefixed(alloc, bytes);
+        self.wrote(rt, "encode_prefixed", text, prefixed_lower);
+        let text = encode_upper_prefixed(alloc, bytes);
+        self.wrote(rt, "encode_upper_prefixed", text, prefixed_upper);
+        self.each_call_serializes(rt, alloc);
+        self.traits_write(rt, alloc, bytes);
+    }
+
+    /// Each call that makes a JSON string of the bytes makes these.
+    fn each_call_serializes(&self, rt: &impl Abort, alloc: Global) {
+        let (bytes, [lower, upper, prefixed_lower, prefixed_upper]) = (&self.bytes, &self.texts);
+        self.serialized(rt, serialize(alloc, bytes), prefixed_lower);
+        self.serialized(rt, serialize_upper(alloc, bytes), prefixed_upper);
+        self.serialized(rt, no_prefix::serialize(alloc, bytes), lower);
+        self.serialized(rt, no_prefix::serialize_upper(alloc, bytes), upper);
     }
 
     /// The calls of the traits write these texts of a value.
-    fn traits_write<T: ToHex + ToHexExt>(
-        &self,
-        rt: &impl Abort,
-        alloc: Global,
-        value: &T,
-    ) -> Result<(), AllocError> {
+    fn traits_write<T: ToHex + ToHexExt>(&self, rt: &impl Abort, alloc: Global, value: &T) {
         let [lower, upper, prefixed_lower, prefixed_upper] = &self.texts;
-        let rows = [
-            ("ToHex::encode_hex", ToHex::encode_hex(value, alloc)?, lower),
-            (
-                "ToHex::encode_hex_upper",
-                ToHex::encode_hex_upper(value, alloc)?,
-                upper,
-            ),
-            (
-                "ToHexExt::encode_hex",
-                ToHexExt::encode_hex(value, alloc)?,
-                lower,
-            ),
-            (
-                "ToHexExt::encode_hex_upper",
-                ToHexExt::encode_hex_upper(value, alloc)?,
-                upper,
-            ),
-            (
-                "encode_hex_with_prefix",
-                value.encode_hex_with_prefix(alloc)?,
-                prefixed_lower,
-            ),
-            (
-                "encode_hex_upper_with_prefix",
-                value.encode_hex_upper_with_prefix(alloc)?,
-                prefixed_upper,
-            ),
-        ];
-        for (call, text, want) in &rows {
-            same_bytes!(rt, call, Text(&self.bytes); text.as_bytes(), want.as_bytes());
+        self.wrote(
+            rt,
+            "ToHex::encode_hex",
+            ToHex::encode_hex(value, alloc),
+            lower,
+        );
+        let text = ToHex::encode_hex_upper(value, alloc);
+        self.wrote(rt, "ToHex::encode_hex_upper", text, upper);
+        self.wrote(
+            rt,
+            "ToHexExt::encode_hex",
+            ToHexExt::encode_hex(value, alloc),
+            lower,
+        );
+        let text = ToHexExt::encode_hex_upper(value, alloc);
+        self.wrote(rt, "ToHexExt::encode_hex_upper", text, upper);
+        let text = value.encode_hex_with_prefix(alloc);
+        self.wrote(rt, "encode_hex_with_prefix", text, prefixed_lower);
+        let text = value.encode_hex_upper_with_prefix(alloc);
+        self.wrote(rt, "encode_hex_upper_with_prefix", text, prefixed_upper);
+    }
+
+    fn wrote(&self, rt: &impl Abort, call: &str, answer: Result<String, AllocError>, want: &str) {
+        match answer {
+            Ok(text) => {
+                same_bytes!(rt, call, Text(&self.bytes); text.as_bytes(), want.as_bytes());
+            }
+            Err(error) => same!(rt, call, Text(&self.bytes); Some(error), None),
         }
-        Ok(())
+    }
+
+    fn serialized(&self, rt: &impl Abort, answer: Result<Value, AllocError>, want: &str) {
+        let text = answer.as_ref().ok().and_then(|value| value.as_str());
+        same!(rt, "serialize", (Text(&self.bytes), want); text, Some(want));
     }
 }
 
@@ -132,11 +117,11 @@ const ROWS: [Row<'_>; 5] = [
 fn owned_texts(rt: HostRuntime) -> Result<(), Fail> {
     let alloc = rt.alloc();
     for row in ROWS {
-        Written::new(alloc, row)?.each_call_writes(&rt, alloc)?;
+        Written::new(alloc, row)?.each_call_writes(&rt, alloc);
     }
     let want = Written::new(alloc, HELLO)?;
-    want.traits_write(&rt, alloc, b"Hello world!")?;
-    want.traits_write(&rt, alloc, &"Hello world!".to_string(alloc)?)?;
+    want.traits_write(&rt, alloc, b"Hello world!");
+    want.traits_write(&rt, alloc, &"Hello world!".to_string(alloc)?);
     Ok(())
 }
 
@@ -149,7 +134,7 @@ fn there_and_back(rt: HostRuntime) -> Result<(), Fail> {
         let lower = printed(alloc, &bytes, false, false)?;
         let upper = printed(alloc, &bytes, false, true)?;
         let want = Written::new(alloc, (&bytes, &lower, &upper))?;
-        want.each_call_writes(&rt, alloc)?;
+        want.each_call_writes(&rt, alloc);
         each_call_answers(&rt, alloc, lower.as_bytes(), Ok(&bytes))?;
     }
     Ok(())

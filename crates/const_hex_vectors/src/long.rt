@@ -28,7 +28,7 @@ fn long_text(alloc: Global, blocks: usize) -> Result<Written, AllocError> {
 #[test]
 fn owned_texts(rt: HostRuntime) -> Result<(), Fail> {
     for blocks in [SHORT, LONG, LONGEST] {
-        long_text(rt.alloc(), blocks)?.each_call_writes(&rt, rt.alloc())?;
+        long_text(rt.alloc(), blocks)?.each_call_writes(&rt, rt.alloc());
     }
     Ok(())
 }
