@@ -2,7 +2,7 @@
 
 use const_hex::{Lanes16, Lanes32, lanes16, lanes32};
 use const_hex_uses::chunks::decoded_or;
-use hex_testing::{Text, same};
+use hex_testing::{Text, same, same_bytes};
 use std::simd::prelude::*;
 
 // Bytes at the edges of the ranges of digits, and what the lane arithmetic makes of them.
@@ -41,7 +41,8 @@ fn worked_values(rt: HostRuntime) {
     bytes[..16].copy_from_slice(&BYTES[..16]);
     bytes[16..].copy_from_slice(&BYTES[..16]);
     let values = lanes32::nibbles(u8x32::from_array(bytes)).to_array();
-    same!(&rt; [&values[..16], &values[16..]], [&VALUES[..16]; 2]);
+    same_bytes!(&rt, "lanes32::nibbles, first half", 16; &values[..16], &VALUES[..16]);
+    same_bytes!(&rt, "lanes32::nibbles, second half", 16; &values[16..], &VALUES[..16]);
 }
 
 #[test]

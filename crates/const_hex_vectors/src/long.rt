@@ -58,19 +58,28 @@ fn late_bad_bytes_of_the_longest(rt: HostRuntime) -> Result<(), Fail> {
 
 /// Each decoder names a bad byte in the middle and at the end of a body, with a prefix and without.
 fn late_bad_bytes_of(rt: &impl Abort, alloc: Global, blocks: usize) -> Result<(), Fail> {
-    let Written { bytes, texts } = long_text(alloc, blocks)?;
-    let [lower, _, _, _] = texts;
-    for prefix in ["", "0X"] {
-        for place in [lower.len() / 2, lower.len().saturating_sub(1)] {
-            let text = behind(alloc, prefix, &with_g(alloc, lower.as_bytes(), place)?)?;
-            let error = bad(b'g', prefix.len().saturating_add(place));
-            let mut output = vec![in alloc; 0u8; bytes.len()]?;
-            let answer = decode_to_slice(&text, &mut output);
-            same!(rt, "decode_to_slice", Text(&text); answer, Err(error));
-            each_call_answers(rt, alloc, &text, Err(error))?;
-        }
+    let written = long_text(alloc, blocks)?;
+    let lower = written.texts[0].as_bytes();
+    for place in [lower.len() / 2, lower.len().saturating_sub(1)] {
+        late_bad_byte(rt, alloc, "", lower, place)?;
+        late_bad_byte(rt, alloc, "0X", lower, place)?;
     }
     Ok(())
+}
+
+fn late_bad_byte(
+    rt: &impl Abort,
+    alloc: Global,
+    prefix: &str,
+    lower: &[u8],
+    place: usize,
+) -> Result<(), AllocError> {
+    let text = behind(alloc, prefix, &with_g(alloc, lower, place)?)?;
+    let error = bad(b'g', prefix.len().saturating_add(place));
+    let mut output = vec![in alloc; 0u8; lower.len() / 2]?;
+    let answer = decode_to_slice(&text, &mut output);
+    same!(rt, "decode_to_slice", Text(&text); answer, Err(error));
+    each_call_answers(rt, alloc, &text, Err(error))
 }
 
 /// A body with `g` at a place.

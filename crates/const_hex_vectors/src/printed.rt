@@ -64,21 +64,32 @@ fn printed_bytes(rt: HostRuntime) -> Result<(), Fail> {
     let data = bytes(alloc, 100_000)?;
     same!(&rt; data.len(), 100_000);
     let lower = printed(alloc, &data, false, false)?;
-    let upper = printed(alloc, &data, true, true)?;
-    let v = InHex::<true>(&data);
-    same!(&rt; Text(format!(in alloc; "{v:#}")?.as_bytes()), Text(upper.as_bytes()));
-    let body = upper.strip_prefix("0x").unwrap_or("no prefix");
-    same!(&rt; Text(v.to_string(alloc)?.as_bytes()), Text(body.as_bytes()));
     for count in (0..=2048usize).chain([100_000]) {
-        let v = display(data.get(..count).unwrap_or(&[]));
-        let want = lower
-            .get(..count.saturating_mul(2))
-            .unwrap_or("another text");
-        let (plain, prefixed) = (v.to_string(alloc)?, format!(in alloc; "{v:#}")?);
-        same_bytes!(&rt, "{}", count; plain.as_bytes(), want.as_bytes());
-        let body = prefixed.strip_prefix("0x").unwrap_or("no prefix");
-        same_bytes!(&rt, "{:#}", count; body.as_bytes(), want.as_bytes());
+        let bytes = data.get(..count).unwrap_or(&[]);
+        let want = lower.get(..count.saturating_mul(2));
+        prints(&rt, alloc, bytes, want.unwrap_or("another text"))?;
     }
+    Ok(())
+}
+
+fn prints(rt: &impl Abort, alloc: Global, bytes: &[u8], want: &str) -> Result<(), AllocError> {
+    let v = display(bytes);
+    let (plain, prefixed) = (v.to_string(alloc)?, format!(in alloc; "{v:#}")?);
+    same_bytes!(rt, "{}", bytes.len(); plain.as_bytes(), want.as_bytes());
+    let body = prefixed.strip_prefix("0x").unwrap_or("no prefix");
+    same_bytes!(rt, "{:#}", bytes.len(); body.as_bytes(), want.as_bytes());
+    Ok(())
+}
+
+#[test]
+fn printed_in_uppercase(rt: HostRuntime) -> Result<(), Fail> {
+    let data = bytes(rt.alloc(), 100_000)?;
+    let upper = printed(rt.alloc(), &data, true, true)?;
+    let v = InHex::<true>(&data);
+    let prefixed = format!(in rt.alloc(); "{v:#}")?;
+    same!(&rt; Text(prefixed.as_bytes()), Text(upper.as_bytes()));
+    let (plain, body) = (v.to_string(rt.alloc())?, upper.strip_prefix("0x"));
+    same!(&rt; Text(plain.as_bytes()), Text(body.unwrap_or("no prefix").as_bytes()));
     Ok(())
 }
 

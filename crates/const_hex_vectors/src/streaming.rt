@@ -102,15 +102,22 @@ const ROWS: [Row; 17] = [
 fn calls_in_each_way(rt: HostRuntime) -> Result<(), Fail> {
     for (count, prefix, sizes) in ROWS {
         let data = &bytes(rt.alloc(), count)?;
-        if prefix {
-            Stream::<false, true> { data, sizes }.in_each_way(&rt, rt.alloc())?;
-            Stream::<true, true> { data, sizes }.in_each_way(&rt, rt.alloc())?;
-        } else {
-            Stream::<false, false> { data, sizes }.in_each_way(&rt, rt.alloc())?;
-            Stream::<true, false> { data, sizes }.in_each_way(&rt, rt.alloc())?;
+        match prefix {
+            true => in_both_cases::<true>(&rt, rt.alloc(), data, sizes)?,
+            false => in_both_cases::<false>(&rt, rt.alloc(), data, sizes)?,
         }
     }
     Ok(())
+}
+
+fn in_both_cases<const PREFIX: bool>(
+    rt: &impl Abort,
+    alloc: Global,
+    data: &[u8],
+    sizes: [&'static [usize]; 3],
+) -> Result<(), Fail> {
+    Stream::<false, PREFIX> { data, sizes }.in_each_way(rt, alloc)?;
+    Stream::<true, PREFIX> { data, sizes }.in_each_way(rt, alloc)
 }
 
 /// Bytes, and the sizes of the calls that bring their text, as in a row.
@@ -162,23 +169,47 @@ impl<const UPPER: bool, const PREFIX: bool> Stream<'_, UPPER, PREFIX> {
         let row = (way, self.data.len(), sizes);
         same!(rt, "the row's sizes", row; pieces.len(), sizes.len());
         for refuse_at in 0..pieces.len() + 2 {
-            let (noted, accepted) = until(&pieces, refuse_at);
-            let is_refused = accepted.len() < noted.len();
-            let mut sink = NotingSink::new(alloc, refuse_at);
-            let answer = self.hand_over::<K, NotingSink>(way, &mut sink);
-            let row = (row, refuse_at);
-            same!(rt, "the noting sink's error", row; answer.is_err(), is_refused);
-            same!(rt, "its refused", row; sink.refused(), is_refused);
-            same!(rt, "the noting sink's calls", row; sink.noted.as_slice(), noted);
-            same!(rt, "its accepted pieces", row; sink.accepted.as_slice(), accepted);
-            let mut sink = PieceSink::new(alloc, refuse_at);
-            let answer = self.hand_over::<K, PieceSink>(way, &mut sink);
-            same!(rt, "PieceSink's error", row; answer.is_err(), is_refused);
-            same!(rt, "pieces", row; sink.pieces(), accepted);
-            let counts = (sink.no_memory(), sink.calls());
-            same!(rt, "no_memory, calls", row; counts, (false, noted.len()));
+            let calls = until(&pieces, refuse_at);
+            self.noted::<K>(rt, alloc, (way, self.data.len(), refuse_at), calls);
+            self.kept::<K>(rt, alloc, (way, self.data.len(), refuse_at), calls);
         }
         Ok(())
+    }
+
+    /// A noting sink that refuses the call of that number has these calls and accepted pieces.
+    fn noted<K: Kernel>(
+        &self,
+        rt: &impl Abort,
+        alloc: Global,
+        row: (Way, usize, usize),
+        (noted, accepted): (&[String], &[String]),
+    ) {
+        let (way, _, refuse_at) = row;
+        let is_refused = accepted.len() < noted.len();
+        let mut sink = NotingSink::new(alloc, refuse_at);
+        let answer = self.hand_over::<K, NotingSink>(way, &mut sink);
+        same!(rt, "the noting sink's error", row; answer.is_err(), is_refused);
+        same!(rt, "its refused", row; sink.refused(), is_refused);
+        same!(rt, "the noting sink's calls", row; sink.noted.as_slice(), noted);
+        same!(rt, "its accepted pieces", row; sink.accepted.as_slice(), accepted);
+    }
+
+    /// So does a `PieceSink`, which keeps only the accepted pieces.
+    fn kept<K: Kernel>(
+        &self,
+        rt: &impl Abort,
+        alloc: Global,
+        row: (Way, usize, usize),
+        (noted, accepted): (&[String], &[String]),
+    ) {
+        let (way, _, refuse_at) = row;
+        let is_refused = accepted.len() < noted.len();
+        let mut sink = PieceSink::new(alloc, refuse_at);
+        let answer = self.hand_over::<K, PieceSink>(way, &mut sink);
+        same!(rt, "PieceSink's error", row; answer.is_err(), is_refused);
+        same!(rt, "pieces", row; sink.pieces(), accepted);
+        let counts = (sink.no_memory(), sink.calls());
+        same!(rt, "no_memory, calls", row; counts, (false, noted.len()));
     }
 
     fn hand_over<K: Kernel, S: Sink>(&self, way: Way, sink: &mut S) -> Result<(), SinkError>

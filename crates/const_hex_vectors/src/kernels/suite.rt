@@ -99,21 +99,31 @@ fn there_and_back<K: Kernel>(
     let lower = encode_with::<K, false>(alloc, bytes)?;
     let upper = encode_with::<K, true>(alloc, bytes)?;
     for (is_upper, owned) in [(false, &lower), (true, &upper)] {
-        let (text, row) = (
-            printed(alloc, bytes, false, is_upper)?,
-            (kernel, Text(bytes)),
-        );
-        same_bytes!(rt, "encode_with", row; owned.as_bytes(), text.as_bytes());
-        let sizes = kernel.pieces(alloc, text.len())?;
-        let mut sink = PieceSink::new(alloc, 0);
-        K::encode(bytes, is_upper, &mut SinkOutput::new(&mut sink));
-        same!(rt, "calls of encode", row; sink.calls(), sizes.len());
-        same!(rt, "encode", row; sink.pieces(), cut(alloc, &text, &sizes)?.as_slice());
+        let text = printed(alloc, bytes, false, is_upper)?;
+        same_bytes!(rt, "encode_with", (kernel, Text(bytes)); owned.as_bytes(), text.as_bytes());
+        in_pieces::<K>(rt, alloc, kernel, bytes, (is_upper, &text))?;
         for prefix in ["", "0x"] {
             let text = behind(alloc, prefix, text.as_bytes())?;
             answers::<K>(rt, alloc, kernel, &text, Ok(bytes), bytes)?;
         }
     }
+    Ok(())
+}
+
+/// A kernel writes this text in its pieces.
+fn in_pieces<K: Kernel>(
+    rt: &impl Abort,
+    alloc: Global,
+    kernel: KernelCase,
+    bytes: &[u8],
+    (is_upper, text): (bool, &str),
+) -> Result<(), AllocError> {
+    let sizes = kernel.pieces(alloc, text.len())?;
+    let mut sink = PieceSink::new(alloc, 0);
+    K::encode(bytes, is_upper, &mut SinkOutput::new(&mut sink));
+    let row = (kernel, Text(bytes));
+    same!(rt, "calls of encode", row; sink.calls(), sizes.len());
+    same!(rt, "encode", row; sink.pieces(), cut(alloc, text, &sizes)?.as_slice());
     Ok(())
 }
 
