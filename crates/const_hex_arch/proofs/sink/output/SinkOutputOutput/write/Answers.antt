@@ -5,4 +5,8 @@ pub write_str-requires : goal.write_str-requires
 write_str-requires g c = search rules
 
 pub returns : goal.returns
-returns g c = search rules
+returns g c = record {
+  same_sink = search rules;
+  accepting = λ _. rw c.ascii_text.ensures at c.write_str.ensures.step;
+  after_refusal = λ e. search rules;
+}
