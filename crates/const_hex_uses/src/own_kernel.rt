@@ -50,7 +50,6 @@ impl Kernel for Backward {
         true
     }
 
-    #[tactic(auto, using(const_hex_arch::proofs::lemmas::Spelling::none_decoded))]
     fn decode_checked(input: &[u8], output: &mut [u8]) -> bool {
         if !Backward::check(input) {
             return false;
