@@ -106,7 +106,8 @@ fn files_and_sinks(rt: HostRuntime) -> Result<(), Fail> {
     let mut sink = PieceSink::new(rt.alloc(), 0);
     send(b"kiwi", &mut sink)?;
     same!(&rt; sink.pieces().len(), 1);
-    same!(&rt; sink.pieces()[0].as_str(), "0x6b697769");
+    let piece = sink.pieces().first().map(|piece| piece.as_str());
+    same!(&rt; piece, Some("0x6b697769"));
     Ok(())
 }
 
