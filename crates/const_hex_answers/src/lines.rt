@@ -17,6 +17,12 @@ const LONGEST: usize = 65_536;
 /// A line of more than 65,536 bytes is none. One line and its answer are kept at a time, and of a
 /// longer line only the beginning. A failed read or write, or a refused request for memory, ends
 /// the run.
+///
+/// ```rust
+/// let mut answers = Vec::new(rt.alloc());
+/// assert!(rt; answer_lines(rt.alloc(), &mut b"encode 6b".as_slice(), &mut answers)?);
+/// assert!(rt; answers.as_slice() == b"OK 3662\n".as_slice());
+/// ```
 pub fn answer_lines<R: BufRead, W: Write>(
     alloc: Global,
     input: &mut R,
