@@ -86,6 +86,12 @@ folder_for_link() {
     copy_scripts && rm -rf "$room/other/usr" &&
         mkdir -p "$room/other/usr/lib/libconst_hex.so" && fails "$room/other"
 }
+# The archive cannot be read.
+without_archive() {
+    copy_scripts && mkdir -p "$room/other/built/libconst_hex.a" && rm -rf "$room/other/usr" &&
+        ! "$room/other/c/install" --prefix "$room/other/usr" "$room/other/built" > "$room/said" \
+            2> "$room/complaint" && [ ! -e "$room/other/usr/lib/libconst_hex.a" ]
+}
 full_disk() {
     copy_scripts && rm -rf "$room/other/usr" && (ulimit -f 64; fails "$room/other")
 }
@@ -95,11 +101,32 @@ without_awk() {
         PATH=$room/other/bin:$PATH fails "$room/other"
 }
 
+# Whether c/install refuses the folder $1, and builds and changes nothing there.
+refuses() {
+    local before=$room/before
+    listed "$1" > "$before"
+    ! PATH=$room/no_rt:$PATH c/install --prefix "$room/refused" "$1" > "$room/said" 2> "$room/complaint" &&
+        grep -q '^c/install: ' "$room/complaint" && listed "$1" | diff "$before" - &&
+        [ ! -e "$room/refused" ] && [ ! -e "$room/no_rt/started" ]
+}
+
+# Each folder that a build has filled, and that has no library to install.
+test_refused_folders() {
+    mkdir -p "$room/no_rt" "$room/half" "$room/several/both" && touch "$room/half/libconst_hex.so.1" &&
+        printf '#!/bin/sh\ntouch "%s"\n' "$room/no_rt/started" > "$room/no_rt/rt" &&
+        chmod +x "$room/no_rt/rt"
+    does "c/install of the build for WebAssembly" refuses "$room/wasm64"
+    does "c/install of the archive for tests" refuses "$room/second"
+    does "c/install of a shared object alone" refuses "$room/half"
+    does "c/install of several builds" refuses "$room/several"
+}
+
 test_failed_installs() {
     does "c/install of version 1.2.3" is_other_version
     does "c/install without the page's script" without_page
     does "c/install without the header" without_header
     does "c/install without awk" without_awk
+    does "c/install of an archive that cannot be read" without_archive
     does "c/install where a folder stands for a file" folder_for_file
     does "c/install where a folder stands for a link" folder_for_link
     does "c/install on a full disk" full_disk
@@ -167,6 +194,7 @@ test_install() {
     does "c/install of the build for ARM" alone aarch64
     does "c/install by a link" by_link
     test_failed_installs
+    test_refused_folders
     does "the manual page" is_page
     does "c/install for a package" staged
     if has 18 "pkg-config" pkg-config; then

@@ -69,7 +69,7 @@ test_scripts() {
     does "a copy of the repository" plant
     does "c/build proves without what stands in out/" finds_out no --single
     does "c/build --again says that it trusts out/" trusts
-    for signal in HUP TERM; do
+    for signal in HUP INT TERM; do
         does "c/build that $signal ends leaves nothing running" ends "$signal"
     done
     does "c/build uses the plain kernel for wasm64" uses_plain
