@@ -139,6 +139,9 @@ test_linking() {
         -static-pie "$archive"
     does "fingerprint, static and anywhere" writes 0 "$room/foobar.stdout" "$room/anywhere" \
         "$room/foobar"
+    does "fingerprint.c with -mcmodel=large, the default build alone" compiled large \
+        c/examples/fingerprint.c -mcmodel=large "$single"
+    does "fingerprint with -mcmodel=large" writes 0 "$room/foobar.stdout" "$room/large" "$room/foobar"
     does "loaded.c" compiled loaded c/tests/loaded.c -ldl
     does "loaded again and again" "$room/loaded" "$shared"
     does "between.c, the library" compiled libbetween.so c/tests/between.c -DLIBRARY -shared -fPIC
@@ -159,6 +162,7 @@ test_words_of_build() {
         # shellcheck disable=SC2086
         does "c/build $words" misused c/build $words
     done
+    does "c/build --help says what needs --single" grep -q 'mcmodel=large need --single' "$room/complaint"
     does "c/install --bogus" misused c/install --bogus
     does "c/install --prefix with no folder" misused c/install --prefix
     does "c/install --prefix with a folder of the caller's" misused c/install --prefix here
