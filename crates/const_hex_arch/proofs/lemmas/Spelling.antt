@@ -1,5 +1,5 @@
 -- What texts spell.
-use Rattle.std.proofs.Common.{◌≡◌, ℕ, zero, suc, ◌+◌, ◌-◌, ◌*◌, ◌/◌, ◌%◌, ◌<◌, ◌≤◌, ◌≢◌, ◌↔◌, eqb, eqb→eq, List, [], ◌∷◌, ◌++◌, length, take, drop, get_or, set, slice_index, false, ◌⊎◌, Option, Some, None, IsSome, IsNone, inl, inr, refl, sym, ap, subst, ◌∙◌, arith, take-add, drop-drop, length-take}
+use Rattle.std.proofs.Common.{◌≡◌, ℕ, zero, suc, ◌+◌, ◌-◌, ◌*◌, ◌%◌, ◌<◌, ◌≤◌, ◌≢◌, ◌↔◌, eqb, eqb→eq, List, [], ◌∷◌, ◌++◌, length, take, drop, get_or, set, slice_index, false, ◌⊎◌, Option, Some, None, IsSome, IsNone, inl, inr, refl, sym, ap, ◌∙◌, arith, take-add, drop-drop, length-take}
 use Rattle.std.specs.Prelude.{unwrap_or}
 use Rattle.std.proofs.lemmas.Bool.{cases_lt}
 use Rattle.std.proofs.lemmas.Bool.Decides.{nat_tests}
@@ -99,29 +99,17 @@ Spells-length (x ∷ []) bs s = absurd s
 Spells-length (x ∷ y ∷ u) [] s = absurd s
 Spells-length (x ∷ y ∷ u) (z ∷ bs) s = let e = Spells-length u bs s.1 in omega (arith, e)
 
--- the first pairs of a text spell the first bytes
-pub Spells-take : (u bs : List ℕ) (k m : ℕ) → m ≡ 2 * k → Spells u bs → Spells (take m u) (take k bs)
-Spells-take u bs zero zero e s = tt
-Spells-take u bs zero (suc m) e s = absurd (omega (arith, e))
-Spells-take u bs (suc k) zero e s = absurd (omega (arith, e))
-Spells-take u bs (suc k) (suc zero) e s = absurd (omega (arith, e))
-Spells-take [] [] (suc k) (suc (suc m)) e s = tt
-Spells-take [] (b ∷ bs) (suc k) (suc (suc m)) e s = absurd s
-Spells-take (x ∷ []) bs (suc k) (suc (suc m)) e s = absurd s
-Spells-take (x ∷ y ∷ u) [] (suc k) (suc (suc m)) e s = absurd s
-Spells-take (x ∷ y ∷ u) (b ∷ bs) (suc k) (suc (suc m)) e s = (s.0, Spells-take u bs k m (omega (arith, e)) s.1)
-
--- the other pairs spell the other bytes
-pub Spells-drop : (u bs : List ℕ) (k m : ℕ) → m ≡ 2 * k → Spells u bs → Spells (drop m u) (drop k bs)
-Spells-drop u bs zero zero e s = s
-Spells-drop u bs zero (suc m) e s = absurd (omega (arith, e))
-Spells-drop u bs (suc k) zero e s = absurd (omega (arith, e))
-Spells-drop u bs (suc k) (suc zero) e s = absurd (omega (arith, e))
-Spells-drop [] [] (suc k) (suc (suc m)) e s = tt
-Spells-drop [] (b ∷ bs) (suc k) (suc (suc m)) e s = absurd s
-Spells-drop (x ∷ []) bs (suc k) (suc (suc m)) e s = absurd s
-Spells-drop (x ∷ y ∷ u) [] (suc k) (suc (suc m)) e s = absurd s
-Spells-drop (x ∷ y ∷ u) (b ∷ bs) (suc k) (suc (suc m)) e s = Spells-drop u bs k m (omega (arith, e)) s.1
+-- the first pairs of a text spell the first bytes, and the other pairs the other bytes
+pub Spells-parts : (u bs : List ℕ) (k m : ℕ) → m ≡ 2 * k → Spells u bs → Spells (take m u) (take k bs) × Spells (drop m u) (drop k bs)
+Spells-parts u bs zero zero e s = (tt, s)
+Spells-parts u bs zero (suc m) e s = absurd (omega (arith, e))
+Spells-parts u bs (suc k) zero e s = absurd (omega (arith, e))
+Spells-parts u bs (suc k) (suc zero) e s = absurd (omega (arith, e))
+Spells-parts [] [] (suc k) (suc (suc m)) e s = (tt, tt)
+Spells-parts [] (b ∷ bs) (suc k) (suc (suc m)) e s = absurd s
+Spells-parts (x ∷ []) bs (suc k) (suc (suc m)) e s = absurd s
+Spells-parts (x ∷ y ∷ u) [] (suc k) (suc (suc m)) e s = absurd s
+Spells-parts (x ∷ y ∷ u) (b ∷ bs) (suc k) (suc (suc m)) e s = let more = Spells-parts u bs k m (omega (arith, e)) s.1 in ((s.0, more.0), more.1)
 
 -- a text that spells bytes has only digits
 pub Spells-digits : (u bs : List ℕ) → Spells u bs → AllDigits u
