@@ -100,6 +100,7 @@ fn decode_ends<const H: usize, const D: usize>(text: &[u8], output: &mut [u8]) -
 
 /// Fills the output with the first bytes and the last ones. Where both overlap, the last ones count.
 #[inline(always)]
+#[tactic(auto, using(crate::proofs::lemmas::Ends::put_ends))]
 fn put<const H: usize>(first: Simd<u8, H>, last: Simd<u8, H>, output: &mut [u8])
     requires least { H ≤ length output.old }
     requires most { length output.old ≤ 2 * H }
