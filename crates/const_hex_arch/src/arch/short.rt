@@ -27,6 +27,7 @@ pub(crate) fn check(text: &[u8]) -> bool
 
 /// As `check`, for `H` to `2 * H` bytes.
 #[inline(always)]
+#[tactic(auto, using(crate::proofs::lemmas::LaneMarks::through, crate::proofs::lemmas::Ends::digits_ends))]
 fn check_ends<const H: usize>(text: &[u8]) -> bool
     requires half { H ≤ 8 }
     requires least { H ≤ length text.now }
