@@ -8,11 +8,9 @@ use Rattle.const_hex.specs.Bodies.{body_of, NamesFirstBad}
 use Rattle.const_hex.specs.declared.error.FromHexError.{FromHexError}
 use Rattle.const_hex.specs.declared.error.FromHexError.TheVariants.{OddLength, InvalidStringLength, InvalidHexCharacter, NoMemory}
 
--- an odd number
 abbrev pub IsOdd : ℕ → Type 0
 IsOdd n = n % 2 ≡ 1
 
--- an even number
 abbrev pub IsEven : ℕ → Type 0
 IsEven n = n % 2 ≡ 0
 

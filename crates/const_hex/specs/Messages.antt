@@ -3,7 +3,7 @@ use Rattle.std.specs.Prelude.{ℕ, List, Option, Some, None, codes}
 use Rattle.const_hex.specs.declared.error.FromHexError.{FromHexError}
 use Rattle.const_hex.specs.declared.error.FromHexError.TheVariants.{OddLength, InvalidStringLength, InvalidHexCharacter, NoMemory}
 
--- the words of a refusal; the words of a bad character are only tested
+-- the message of a refusal; that of a bad character is only tested
 abbrev pub message_of : FromHexError → Option (List ℕ)
 message_of OddLength = Some (codes "odd number of digits")
 message_of InvalidStringLength = Some (codes "invalid string length")

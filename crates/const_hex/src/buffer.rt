@@ -135,7 +135,7 @@ impl<const N: usize, const PREFIX: bool, const LEN: usize> Buffer<N, PREFIX, LEN
     #[inline]
     fn formatted(&mut self, input: &[u8], upper: bool) -> &Self
         requires fits { LEN ≡ text_length PREFIX N }
-        requires exact { length input.now ≡ N }
+        requires size { length input.now ≡ N }
         ensures lends { buffer_text result.now ≡ full_text PREFIX upper input.now }
         ensures* after { sem 𝓛 (EndsHolding N.row PREFIX.row LEN.row self.entry
             (full_text PREFIX upper input.now)) }

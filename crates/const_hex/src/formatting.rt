@@ -17,5 +17,5 @@ use crate::formatting::text::Display;
 pub fn display(input: &[u8]) -> Display<'_>
     ensures { display_bytes result ≡ input.now }
 {
-    Display::new(input)
+    Display { input }
 }

@@ -1,23 +1,8 @@
 //! Hexadecimal text: encoding, checking and decoding, after the Rust crate `const-hex`.
 //!
-//! The terms of the contracts are defined in `specs/`:
-//!
-//! - `Bodies.antt`: a text without its prefix, and its first byte that is not a digit;
-//! - `Answers.antt`: the answers when a text is read or checked;
-//! - `Types.antt`: the answers when a text is read into a type, and their law for generic code;
-//! - `TypeLaws.antt`: lemmas for this law, at each type;
-//! - `Elements.antt`: signed elements with the bits of bytes;
-//! - `Chars.antt`: the characters that an iterator has left;
-//! - `Buffers.antt`: what a buffer holds;
-//! - `Loans.antt`: what a buffer or a slice holds after a loan of it has ended;
-//! - `Formatting.antt`: printing through a formatter;
-//! - `Json.antt`: reading a JSON value, and the text that a sink is handed;
-//! - `Messages.antt`: what an error prints;
-//! - `Reserved.antt`: a write to a vector that has room;
-//! - `WriteSinks.antt`: a sink over a writer.
-//!
-//! `specs/Lib.antt` passes on the terms of `const_hex_arch` for digits, texts and what they spell.
-//! `proofs/lemmas/Reading.antt` proves that each text has one answer.
+//! The terms of the contracts are defined in `specs/`. `specs/Lib.antt` passes on the terms of
+//! `const_hex_arch` for digits, texts and what they spell. `proofs/lemmas/Reading.antt` proves that
+//! each text has one answer.
 #![tactic(auto)]
 
 mod buffer;

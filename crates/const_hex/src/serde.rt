@@ -52,9 +52,9 @@ pub fn serialize_upper(alloc: Global, bytes: &[u8]) -> Result<Value, AllocError>
 
 /// The value that a JSON string spells, with or without a prefix, in either case.
 ///
-/// Returns [`JsonError::NotText`] if the JSON value is not a string. This does not allocate. If the
-/// type refuses the text, returns that error inside [`JsonError::Hex`]. The type may also refuse
-/// because memory could not be allocated.
+/// Returns [`JsonError::NotText`] if the JSON value is not a string. This does not allocate. An error
+/// of [`from_hex`](FromHex::from_hex) is returned inside [`JsonError::Hex`]. It may mean that memory
+/// could not be allocated.
 ///
 /// ```rust
 /// let value = const_hex::serialize(rt.alloc(), b"kiwi")?;

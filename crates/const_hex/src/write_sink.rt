@@ -8,8 +8,7 @@ ghost use Rattle.const_hex_arch.specs.Texts.{full_text};
 ghost use Rattle.const_hex.specs.WriteSinks.{WriteStep, WritesBeginning, sink_writer, writer_name, first_error, has_failed};
 
 use const_hex_arch::{BufferedHex, Sink, SinkError};
-use std::io;
-use std::io::{ErrorKind, Write};
+use std::io::{self, ErrorKind, Write};
 
 /// Hands pieces on to a writer until a write fails, and keeps that error.
 ///
@@ -32,7 +31,7 @@ pub struct WriteSink<'a, W> {
 }
 
 impl<'a, W: Write> WriteSink<'a, W> {
-    /// A sink over that writer, with no error.
+    /// A sink over the given writer, with no error.
     ///
     /// ```rust
     /// let mut file = Vec::new(rt.alloc());

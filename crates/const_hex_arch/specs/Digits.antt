@@ -17,6 +17,6 @@ value_or_nil v = unwrap_or v 255
 abbrev pub IsDigit : ℕ → Type 0
 IsDigit b = IsSome (hex_value b)
 
--- the digit of a value below 16, with upper or lower letters
+-- the digit of a value below 16, in uppercase or lowercase
 abbrev pub hex_digit : Bool → ℕ → ℕ
 hex_digit up v = if nat_lt v 10 then v + 48 else if up then v + 55 else v + 87

@@ -1,6 +1,6 @@
 //! Kernels, which turn bytes into digits, and digits into bytes.
 
-ghost use Rattle.std.specs.Prelude.{◌≡◌, ℕ, Bool, ◌+◌, ◌*◌, ◌<◌, ◌≤◌, ◌↔◌, IsTrue, true, false, length, Option};
+ghost use Rattle.std.specs.Prelude.{◌≡◌, Bool, ◌*◌, ◌<◌, ◌↔◌, IsTrue, true, false, length};
 ghost use Rattle.const_hex_arch.specs.Runs.{HasRoom, Writes};
 ghost use Rattle.const_hex_arch.specs.Texts.{hex_text, prefix_of, full_text, AllDigits, Spells, Partial};
 

@@ -1,19 +1,7 @@
 //! The lower half of a hexadecimal codec: tables, outputs and kernels.
 //!
 //! A kernel turns bytes into digits and digits into bytes, and an output receives the digits. The
-//! terms of their contracts are defined in `specs/`:
-//!
-//! - `Digits.antt`: digits and their values;
-//! - `Texts.antt`: the text of bytes, and the bytes that a text spells;
-//! - `Lanes.antt`: what the parts of a step make of lanes;
-//! - `Nibbles.antt`: values of digits, in lanes;
-//! - `Runs.antt`: pieces that are written one after another, and the room that they leave;
-//! - `SliceOutputs.antt`: a write into a slice;
-//! - `Gathering.antt`: a write to an output that gathers;
-//! - `Sinks.antt`: the pieces that a sink accepted, and what an output over a sink does;
-//! - `Pieces.antt`: a sink that keeps its pieces;
-//! - `Streams.antt`: a text that is handed to a sink in large pieces;
-//! - `Laws.antt`: lemmas that the laws of outputs and sinks follow from.
+//! terms of their contracts are defined in `specs/`.
 #![tactic(auto)]
 
 pub mod arch;

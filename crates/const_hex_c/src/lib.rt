@@ -5,9 +5,7 @@
 //! call allocates, and none requires anything of its arguments. A slice is a pointer and a length;
 //! the pointer may be null if the length is 0. The header `c/const_hex.h` says the same for C.
 //!
-//! The contracts use the terms of `const_hex`, and of one file of `specs/`:
-//!
-//! - `Crossing.antt`: a refusal as C has it, and its message.
+//! The contracts use the terms of `const_hex`, and those defined in `specs/`.
 #![tactic(auto)]
 
 ghost use Rattle.std.specs.Prelude.{◌≡◌, ◌↔◌, ◌*◌, ◌+◌, ◌-◌, ◌<◌, ℕ, List, true, false, length, take, drop, min, slice_index, IsTrue, Ok, Err};

@@ -48,8 +48,8 @@ Answer m x (Err ReadFailed) = ⊥
 Answer m x (Err WriteFailed) = ⊥
 Answer m x (Err NoMemory) = ⊥
 
--- the mode takes memory to answer the input x: to decode, only if the length is even, and to check,
--- only if the text is accepted
+-- the mode allocates to answer the input x: to decode, only if the length is even, and to check, only
+-- if the text is accepted
 abbrev pub TakesMemory : Mode → List ℕ → Type 0
 TakesMemory Encode x = ⊤
 TakesMemory EncodeUpper x = ⊤

@@ -1,6 +1,6 @@
 //! What a mode answers to given bytes.
 
-ghost use Rattle.std.specs.Prelude.{◌≡◌, ◌≢◌, ◌≤◌, ◌<◌, ◌++◌, ◌*◌, ◌+◌, ◌↔◌, length, IfOk, IfErr, Ok, Err};
+ghost use Rattle.std.specs.Prelude.{◌≡◌, ◌≢◌, ◌≤◌, ◌<◌, ◌++◌, ◌+◌, ◌↔◌, length, IfOk, IfErr, Ok, Err};
 ghost use Rattle.const_hex.specs.Texts.{full_text, text_length};
 ghost use Rattle.consthex_modes.specs.Answer.{Answer, TakesMemory, without_newline, newline, limit};
 ghost use Rattle.consthex_modes.specs.declared.error.RunError.TheVariants.{TooLong, NoMemory};

@@ -17,7 +17,7 @@ use std::fmt;
 /// ```
 #[derive(Clone, Copy, PartialEq, Eq, Debug)]
 pub enum RunError {
-    /// The text is refused. Inside, there is never [`FromHexError::NoMemory`].
+    /// An error of the text. It is never [`FromHexError::NoMemory`].
     Text(FromHexError),
     /// A read failed.
     ReadFailed,
@@ -30,8 +30,7 @@ pub enum RunError {
 }
 
 impl RunError {
-    /// The exit status of the program: 1 if the text is refused, 3 for input and output, 4 for
-    /// memory.
+    /// The exit status of the program: 1 for the text, 3 for input and output, 4 for memory.
     ///
     /// ```rust
     /// assert_eq!(rt; RunError::TooLong.status(), 3);

@@ -1,10 +1,7 @@
 //! The program `consthex` as a library: each mode's answer to an input, a run over any reader and
 //! writer, and the whole program on any host.
 //!
-//! The terms of the contracts are defined in `specs/`. `Answer.antt` has each mode's answer,
-//! `Outcome.antt` what a run reads and writes, `Words.antt` the word of each mode, and
-//! `Errors.antt` the line and the exit status of each error. What a text spells is defined in
-//! `const_hex`.
+//! The terms of the contracts are defined in `specs/`. What a text spells is defined in `const_hex`.
 #![tactic(auto)]
 
 mod answers;

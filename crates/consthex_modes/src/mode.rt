@@ -13,13 +13,13 @@ ghost use Rattle.consthex_modes.specs.Words.{word_of};
 /// ```
 #[derive(Clone, Copy, PartialEq, Eq, Debug)]
 pub enum Mode {
-    /// Two lower digits for each byte, and a newline.
+    /// Two lowercase digits for each byte, and a newline.
     Encode,
-    /// Two upper digits for each byte, and a newline.
+    /// Two uppercase digits for each byte, and a newline.
     EncodeUpper,
     /// `0x`, two lowercase digits for each byte, and a newline.
     EncodePrefixed,
-    /// `0x`, two upper digits for each byte, and a newline.
+    /// `0x`, two uppercase digits for each byte, and a newline.
     EncodeUpperPrefixed,
     /// Only the bytes that the text spells.
     Decode,

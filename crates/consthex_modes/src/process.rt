@@ -19,8 +19,8 @@ use std::io::{Eprint, Read, Write};
 use std::process::ExitCode;
 
 /// Does what the arguments behind the program's name ask for, and returns the exit status: 0 if that
-/// succeeds; 1 if the text is refused; 2 if the arguments name no mode; 3 if a read or a write fails
-/// or the input is too long; 4 if memory is refused. An error is one line on standard error.
+/// succeeds; 1 if the text has an error; 2 if the arguments name no mode; 3 if a read or a write fails
+/// or the input is too long; 4 if memory cannot be allocated. An error is one line on standard error.
 ///
 /// ```rust
 /// fn main(rt: HostRuntime) -> ExitCode {

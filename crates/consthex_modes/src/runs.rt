@@ -21,7 +21,7 @@ use std::io::{Read, Write};
 /// - [`RunError::ReadFailed`], if a read fails with any error;
 /// - [`RunError::TooLong`], as soon as more than 1,048,576 bytes have come;
 /// - [`RunError::NoMemory`], if memory cannot be allocated;
-/// - [`RunError::Text`], if the text is refused.
+/// - [`RunError::Text`], if the text has an error.
 ///
 /// [`RunError::WriteFailed`] means that a write or the flush failed with any error, or that a write
 /// took no bytes. A beginning of the answer may then have been written.

@@ -14,8 +14,7 @@ ghost use Rattle.const_hex.specs.declared.serde.error.JsonError.TheVariants.{Not
 ghost use Rattle.hash_hex.specs.Fixed.{fixed_bytes, ReadsFixed};
 ghost use Rattle.hash_hex.specs.declared.fixed.FixedBytes.{FixedBytes};
 
-use const_hex::serde::JsonError;
-use const_hex::{FromHex, FromHexError, deserialize, display, serialize};
+use const_hex::{FromHex, FromHexError, JsonError, deserialize, display, serialize};
 use serde_json::Value;
 use std::alloc::{AllocError, Global};
 use std::fmt;

@@ -8,10 +8,8 @@
 //! odd, so it is refused.
 #![tactic(auto)]
 
-mod address;
 mod fixed;
-mod hash;
+mod sizes;
 
-pub use crate::address::Address20;
 pub use crate::fixed::FixedBytes;
-pub use crate::hash::Hash32;
+pub use crate::sizes::{Address20, Hash32};

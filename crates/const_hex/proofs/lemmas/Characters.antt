@@ -2,7 +2,6 @@
 use mir.Val.{bool_byte}
 use Rattle.std.proofs.Common.{◌≡◌, ℕ, ◌+◌, ◌*◌, ◌/◌, ◌%◌, Bool, List, [], ◌∷◌, length, Option, Some, None, refl, arith}
 use Rattle.std.specs.Prelude.{is_some}
-use Rattle.std.specs.Iterator.{MakesProgress, item_count}
 use Rattle.const_hex_arch.specs.Digits.{hex_digit}
 use Rattle.const_hex_arch.specs.Texts.{hex_text}
 use Rattle.const_hex_arch.proofs.lemmas.Texts.{length-hex_text}
@@ -25,14 +24,5 @@ left-more up low t u b x y h e ex ey = rw (h, e, ex, ey) refl
 pub length-left : (up : Bool) (low : Option ℕ) (u : List ℕ) → length (with_low low (hex_text up u)) ≡ 2 * length u + bool_byte (is_some low)
 length-left up None u = let two = length-hex_text up u in omega (arith, two)
 length-left up (Some c) u = let two = length-hex_text up u in omega (arith, two)
-
--- an item that was the first of those left
-pub goes : {S A : Type 0} (can : S → Type 0) (rest : S → List A) (s t : S) (x : A) → can t → rest s ≡ x ∷ rest t
-    → MakesProgress can (item_count rest) s (Some x) t
-goes can rest s t x ok e = record {
-  on = λ _. (ok, tt, rw e (omega arith));
-  keeps = ok;
-  rests = λ _. tt;
-}
 
 pub ruleset lefts = (left-none, left-more, length-left)

@@ -13,7 +13,7 @@ use Rattle.const_hex.specs.Answers.{AreBytes}
 lowered_digit : (c v : ℕ) → hex_value c ≡ Some v → hex_digit false v ≡ (if nat_le 65 c && nat_le c 70 then c + 32 else c)
 lowered_digit c v h = grind (arith, nat_tests)
 
--- the text of the bytes that a text spells is that text with lower letters
+-- the text of the bytes that a text spells is that text in lowercase
 pub hex_text-lowered : (u bs : List ℕ) → Spells u bs → hex_text false bs ≡ lowered u
 unfolding hex_text
 hex_text-lowered [] [] s = refl
@@ -31,7 +31,7 @@ hex_text-lowered (c ∷ d ∷ u) (b ∷ bs) s =
 hex_text-same : (xs ys : List ℕ) → AreBytes xs → AreBytes ys → hex_text false xs ≡ hex_text false ys → xs ≡ ys
 hex_text-same xs ys hx hy e = Spells-same (hex_text false ys) xs ys (rw (sym e) (Spells-hex_text false xs hx)) (Spells-hex_text false ys hy)
 
--- two texts spell the same bytes exactly if they are the same in lower letters
+-- two texts spell the same bytes exactly if they are the same in lowercase
 pub Spells-agree : (u v xs ys : List ℕ) → Spells u xs → Spells v ys → (xs ≡ ys) ↔ (lowered u ≡ lowered v)
 Spells-agree u v xs ys s t =
     let a = hex_text-lowered u xs s in

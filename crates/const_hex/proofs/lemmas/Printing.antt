@@ -1,5 +1,5 @@
 -- Texts that are handed to a formatter in pieces.
-use Rattle.std.proofs.Common.{◌≡◌, ℕ, Bool, true, false, not, List, [], ◌∷◌, refl, sym, subst, ◌∙◌}
+use Rattle.std.proofs.Common.{◌≡◌, ℕ, Bool, false, List, [], ◌∷◌, refl, subst, ◌∙◌}
 use Rattle.std.specs.List.{concat}
 use Rattle.std.specs.Prelude.{Result}
 use Rattle.std.specs.Fmt.{IsFlush, HasWrittenStyled, WritesOnOk, WritesStyledOnOk, formatter_spec, spec_alternate}
@@ -8,14 +8,9 @@ use Rattle.std.specs.declared.fmt.Formatter.{Formatter}
 use Rattle.std.proofs.Output.{has_written_styled_nil, has_written_styled_append}
 use Rattle.const_hex_arch.specs.Streams.{Offers, Streams}
 use Rattle.const_hex_arch.specs.Texts.{hex_text, full_text}
-use Rattle.const_hex_arch.proofs.lemmas.Spelling.{false_is_true}
 use Rattle.const_hex_arch.proofs.lemmas.Streams.{Offers-accepting, Streams-all}
 use Rattle.const_hex.specs.declared.formatting.sink.FormatterSink.{FormatterSink}
 use Rattle.const_hex.specs.Formatting.{FormatterStep, sink_formatter}
-
-pub false_from_not : (b : Bool) → true ≡ not b → b ≡ false
-false_from_not true e = absurd (false_is_true (sym e))
-false_from_not false e = refl
 
 module _ {W : Type 0} (took : W → List ℕ → W → Type 0) where
   -- if nothing failed, pieces are written as one

@@ -57,13 +57,13 @@ sized_round_trip n t r h prefix up bs bytes len e =
 
 -- ---- what other texts give
 
--- the text of the bytes that were read is the body in lower letters
+-- the text of the bytes that were read is the body in lowercase
 pub canonical : {V : Type 0} (items : V → List ℕ) (t : List ℕ) (r : Result V FromHexError) → IfOk r (λ v. Reads t (Ok (items v)))
     → IfOk r (λ v. hex_text false (items v) ≡ lowered (body_of t))
 canonical items t (Ok v) h = hex_text-lowered (body_of t) (items v) h.1
 canonical items t (Err e) h = tt
 
--- another text is read as the same bytes exactly if the bodies are the same in lower letters
+-- another text is read as the same bytes exactly if the bodies are the same in lowercase
 pub agree : {V : Type 0} (items : V → List ℕ) (t : List ℕ) (r : Result V FromHexError) → IfOk r (λ v. Reads t (Ok (items v)))
     → (u bs : List ℕ) → Reads u (Ok bs) → IfOk r (λ v. (bs ≡ items v) ↔ (lowered (body_of u) ≡ lowered (body_of t)))
 agree items t (Ok v) h u bs k = Spells-agree (body_of u) (body_of t) bs (items v) k.1 h.1

@@ -13,10 +13,8 @@
 -- order. So a new local, a new call or another order in one of these functions breaks it. Other
 -- code does not.
 --
--- How to mend one: after the edit `rt check --generated FOLDER --start F`, for the function F,
--- writes its steps and locals to `Code/Mir.antt` in that folder. Replace the old numbers by the new
--- ones, from the top down, and check after each. The check names the first step that no longer
--- fits. The toolchain's guide is its `docs/WALKS.md`.
+-- How to mend one: as `proofs/lemmas/Walks.antt` of `const_hex_arch` says, with `--start F` for the
+-- function F.
 pub mod EncodedStr
 pub mod Flags
 pub mod LentSlice

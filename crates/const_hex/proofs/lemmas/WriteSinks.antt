@@ -1,12 +1,13 @@
 -- Texts that a writer is handed in pieces.
-use Rattle.std.proofs.Common.{◌≡◌, ℕ, suc, zero, ◌+◌, ◌-◌, ◌≤◌, Bool, true, false, List, [], ◌∷◌, ◌++◌, length, take, drop, Option, refl, sym, ap, subst, ◌∙◌, append_assoc, arith}
+use Rattle.std.proofs.Common.{◌≡◌, ℕ, suc, zero, ◌+◌, ◌-◌, ◌≤◌, Bool, true, false, List, [], ◌∷◌, ◌++◌, length, take, drop, Option, refl, sym, ap, subst, ◌∙◌, arith}
 use Rattle.std.proofs.KnownBytes.{Appends-kept, Appends-nil, Appends-trans}
-use Rattle.std.proofs.Math.Seq.{take-add, take-nil}
-use Rattle.std.proofs.lemmas.List.{append-nil, take_at, take_all, take-append-drop, length-drop, length-take}
+use Rattle.std.proofs.Math.Seq.{take-add, take-append-add, take-nil}
+use Rattle.std.proofs.lemmas.List.{append-nil, take_all, take_min, take-append-drop, take-append-le, length-drop, length-take}
 use Rattle.std.proofs.lemmas.List.Elements.{All-head}
 use Rattle.std.proofs.lemmas.List.Folds.{concat-append}
 use Rattle.std.specs.Io.KnownBytes.{Appends}
 use Rattle.std.specs.List.{All, concat}
+use Rattle.std.specs.Prelude.{min}
 use Rattle.const_hex_arch.specs.Streams.{IsCallPiece, Offers, Streams}
 use Rattle.const_hex.specs.WriteSinks.{WriteStep, WritesBeginning, sink_writer, writer_name, has_failed}
 use Rattle.const_hex.specs.declared.write_sink.WriteSink.{WriteSink}
@@ -34,61 +35,37 @@ no_pieces [] a e = refl
 no_pieces ([] ∷ ps) a e = absurd (let h = (All-head IsCallPiece [] ps a).0 in omega arith)
 no_pieces ((b ∷ bs) ∷ ps) a e = absurd (let q : suc (length (bs ++ concat ps)) ≡ zero = ap length e in omega arith)
 
--- some of the bytes were written, and then others
-record Begins (held holds : Option (List ℕ)) (bs : List ℕ) : Type 0 where
-  written : List ℕ
-  rest : List ℕ
-  whole : written ++ rest ≡ bs
-  appended : Appends held holds written
+-- a beginning of the bytes was written: so it is with more behind them, and with others before them
+longer : (held holds : Option (List ℕ)) (bs more : List ℕ) → WritesBeginning held holds bs → WritesBeginning held holds (bs ++ more)
+longer held holds bs more (n, h) = (min n (length bs), rw (take-append-le (min n (length bs)) bs more (omega arith), take_min n bs) h)
 
-Begins-of : (held holds : Option (List ℕ)) (bs : List ℕ) → WritesBeginning held holds bs → Begins held holds bs
-Begins-of held holds bs (n, h) = record { written = take n bs; rest = drop n bs; whole = take-append-drop n bs; appended = h }
-
-Begins-shown : (held holds : Option (List ℕ)) (bs : List ℕ) → Begins held holds bs → WritesBeginning held holds bs
-Begins-shown held holds bs h =
-    let whole = sym (take_at h.written h.rest (length h.written) refl) ∙ ap (λ x. take (length h.written) x) h.whole in
-    (length h.written, subst (λ x. Appends held holds x) whole h.appended)
-
-Begins-longer : (held holds : Option (List ℕ)) (bs more : List ℕ) → Begins held holds bs → Begins held holds (bs ++ more)
-Begins-longer held holds bs more h = record {
-  written = h.written;
-  rest = h.rest ++ more;
-  whole = sym (append_assoc h.written h.rest more) ∙ ap (λ x. x ++ more) h.whole;
-  appended = h.appended;
-}
-
-Begins-after : (a b c : Option (List ℕ)) (front bs : List ℕ) → Appends a b front → Begins b c bs → Begins a c (front ++ bs)
-Begins-after a b c front bs p h = record {
-  written = front ++ h.written;
-  rest = h.rest;
-  whole = append_assoc front h.written h.rest ∙ ap (λ x. front ++ x) h.whole;
-  appended = Appends-trans a b c front h.written p h.appended;
-}
+behind : (a b c : Option (List ℕ)) (front bs : List ℕ) → Appends a b front → WritesBeginning b c bs → WritesBeginning a c (front ++ bs)
+behind a b c front bs p (n, h) = (length front + n, rw (take-append-add front bs n) (Appends-trans a b c front (take n bs) p h))
 
 module _ {W : Type 0} (contents : W → Option (List ℕ)) where
   -- the same writer has written the text if it did not fail, and a beginning of it in any case
   record Wrote (s : WriteSink W) (text : List ℕ) (t : WriteSink W) : Type 0 where
     same_writer : writer_name t ≡ writer_name s
     all : has_failed t ≡ false → Appends (contents (sink_writer s)) (contents (sink_writer t)) text
-    begun : Begins (contents (sink_writer s)) (contents (sink_writer t)) text
+    begun : WritesBeginning (contents (sink_writer s)) (contents (sink_writer t)) text
 
   Wrote-none : (s : WriteSink W) → Wrote s [] s
   Wrote-none s = record {
     same_writer = refl;
     all = λ _. Appends-nil (contents (sink_writer s));
-    begun = record { written = []; rest = []; whole = refl; appended = Appends-nil (contents (sink_writer s)) };
+    begun = (0, Appends-nil (contents (sink_writer s)));
   }
 
   Wrote-some : (s : WriteSink W) (text : List ℕ) (t : WriteSink W) → WriteStep contents s text t → (b : Bool) → has_failed t ≡ b → Wrote s text t
   Wrote-some s text t h false e = record {
     same_writer = h.same_writer;
     all = h.accepted;
-    begun = record { written = text; rest = []; whole = append-nil text; appended = h.accepted e };
+    begun = (length text, rw (take_all (length text) text (omega arith)) (h.accepted e));
   }
   Wrote-some s text t h true e = record {
     same_writer = h.same_writer;
     all = h.accepted;
-    begun = Begins-of _ _ text (h.refused e);
+    begun = h.refused e;
   }
 
   Wrote-more : (s : WriteSink W) (a : List ℕ) (m : WriteSink W) (b : List ℕ) (t : WriteSink W) → has_failed m ≡ false → Wrote s a m → Wrote m b t
@@ -96,7 +73,7 @@ module _ {W : Type 0} (contents : W → Option (List ℕ)) where
   Wrote-more s a m b t e h k = record {
     same_writer = k.same_writer ∙ h.same_writer;
     all = λ u. Appends-trans _ _ _ a b (h.all e) (k.all u);
-    begun = Begins-after _ _ _ a b (h.all e) k.begun;
+    begun = behind _ _ _ a b (h.all e) k.begun;
   }
 
   Wrote-offered : (s : WriteSink W) (ps : List (List ℕ)) (t : WriteSink W) → Offers (WriteStep contents) has_failed s ps t → Wrote s (concat ps) t
@@ -127,7 +104,6 @@ module _ {W : Type 0} (contents : W → Option (List ℕ)) where
       record {
         same_writer = wrote.same_writer;
         accepted = λ u. subst (λ x. Appends held holds x) (all (h.complete u)) (wrote.all u);
-        refused = λ _. Begins-shown held holds text (subst (λ x. Begins held holds x) whole
-            (Begins-longer held holds (concat offered) (concat left) wrote.begun));
+        refused = λ _. subst (λ x. WritesBeginning held holds x) whole (longer held holds (concat offered) (concat left) wrote.begun);
         nothing = λ e. offered_none s h.offered h.pieces t (no_pieces h.pieces h.cut.sizes (h.cut.whole ∙ e)) h.run;
       }

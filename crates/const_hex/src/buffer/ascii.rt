@@ -44,7 +44,6 @@ impl<const LEN: usize> AsciiArray<LEN> {
         fill_text::<FixedKernel>(input, prefix, upper, &mut self.bytes);
     }
 
-    /// The bytes.
     #[inline]
     pub(crate) fn as_array(&self) -> &[u8; LEN]
         ensures { result.now ≡ self.now.bytes }

@@ -1,6 +1,6 @@
 //! The type that `display` returns.
 
-ghost use Rattle.std.specs.Prelude.{◌≡◌, Some, true, false};
+ghost use Rattle.std.specs.Prelude.{Some, true, false};
 ghost use Rattle.std.specs.Fmt.{WritesStyledOnOk, formatter_spec, spec_alternate};
 ghost use Rattle.const_hex_arch.specs.Texts.{hex_text};
 ghost use Rattle.const_hex.specs.Formatting.{display_bytes, printed_text};
@@ -24,17 +24,10 @@ use std::fmt;
 /// ```
 #[derive(Drop)]
 pub struct Display<'a> {
-    input: &'a [u8],
+    pub(crate) input: &'a [u8],
 }
 
-impl<'a> Display<'a> {
-    #[inline]
-    pub(crate) fn new(input: &'a [u8]) -> Display<'a>
-        ensures { display_bytes result ≡ input.now }
-    {
-        Display { input }
-    }
-
+impl Display<'_> {
     /// Writes the text, with `0x` in front if the formatter has `#`.
     fn write<const UPPER: bool, W: fmt::Write>(&self, f: &mut fmt::Formatter<W>) -> fmt::Result
         ensures { WritesStyledOnOk W.write_str_gives f.old result

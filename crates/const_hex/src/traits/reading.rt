@@ -10,8 +10,8 @@ use std::alloc::Global;
 ///
 /// A type defines the bytes of each value, the numbers of bytes that a value may have, and its
 /// answers for each text. Generic code may rely on one law, `faithful`: a value has the bytes that
-/// the text spells, and a fitting number of them. An error is of memory, or the text is refused, or
-/// its number of bytes does not fit.
+/// the text spells, and a fitting number of them. An error is of memory, or the text cannot be
+/// decoded, or its number of bytes does not fit.
 ///
 /// ```rust
 /// fn read<T: FromHex>(alloc: Global, text: &[u8]) -> Result<T, T::Error> {
@@ -44,7 +44,7 @@ pub trait FromHex: Sized {
         ensures { answers hex.now result };
 
     /// A value has the bytes that the text spells, and a fitting number of them. An error is of
-    /// memory, or the text is refused, or its number of bytes does not fit.
+    /// memory, or the text cannot be decoded, or its number of bytes does not fit.
     ghost faithful: { (t : List ℕ) (r : Result Self Self.Error) → answers t r
         → IsFaithful bytes fits Self.Error.is_of_memory t r };
 }

@@ -8,7 +8,6 @@ use std::alloc::{AllocError, Global};
 
 /// A type that holds bytes.
 trait HoldsBytes {
-    /// The bytes.
     ghost held_bytes: { Self → List ℕ };
 
     fn held_bytes(&self) -> &[u8]

@@ -10,7 +10,7 @@ use Rattle.const_hex_arch.specs.Digits.{IsDigit}
 use Rattle.const_hex_arch.specs.SliceOutputs.{Placed}
 use Rattle.const_hex_arch.specs.Texts.{hex_text, AllDigits, Spells}
 use Rattle.const_hex_arch.proofs.lemmas.SliceRuns.{Placed-more}
-use Rattle.const_hex_arch.proofs.lemmas.Spelling.{digits_append, Spells-append, Spells-take, Spells-drop}
+use Rattle.const_hex_arch.proofs.lemmas.Spelling.{digits_append, Spells-append, Spells-parts}
 use Rattle.const_hex_arch.proofs.lemmas.Steps.{digits_last}
 use Rattle.const_hex_arch.proofs.lemmas.Texts.{hex_text-append, length-hex_text}
 
@@ -83,9 +83,9 @@ spells_ends h d n u step bytes two long least most e s =
     let back : drop d both ≡ drop start u = grind (arith, common_steps) in
     let first : take (n - h) (take d bytes) ≡ take (n - h) (take h bytes) = grind (arith, common_steps) in
     let last : drop h (take d bytes) ≡ take h (drop h bytes) = let twice : h + h ≡ d = omega arith in rw twice at (drop-take h h bytes) in
-    let spelled : Spells both (take d bytes) = rw e at (Spells-take step bytes d (2 * d) refl s) in
-    rw take-append-drop at (Spells-append _ _ _ _ (rw (front, first) at (Spells-take both (take d bytes) (n - h) start (omega arith) spelled))
-    (rw (back, last) at (Spells-drop both (take d bytes) h d two spelled)))
+    let spelled : Spells both (take d bytes) = rw e at (Spells-parts step bytes d (2 * d) refl s).0 in
+    rw take-append-drop at (Spells-append _ _ _ _ (rw (front, first) at (Spells-parts both (take d bytes) (n - h) start (omega arith) spelled).0)
+    (rw (back, last) at (Spells-parts both (take d bytes) h d two spelled).1))
 
 -- ---- pieces of an output
 

@@ -1,9 +1,10 @@
 -- Digits in a vector: their values and the test of each lane by one look-up, and the test of all
 -- lanes.
-use Rattle.std.proofs.Common.{◌≡◌, ℕ, zero, suc, ◌+◌, ◌-◌, ◌*◌, ◌/◌, ◌%◌, ◌<◌, ◌≤◌, ◌↔◌, Bool, true, false, not, eqb, cond, ltb, ◌||◌, T, List, [], ◌∷◌, ◌++◌, length, replicate, get_or, bit_and, bit_or, refl, subst, arith, w8, Fits, eqb-true, eq-eqb, IsTrue, Some}
+use Rattle.std.proofs.Common.{◌≡◌, ℕ, zero, suc, ◌+◌, ◌-◌, ◌*◌, ◌/◌, ◌%◌, ◌<◌, ◌≤◌, ◌↔◌, Bool, true, false, eqb, cond, ltb, ◌||◌, T, List, [], ◌∷◌, ◌++◌, length, replicate, get_or, bit_and, bit_or, refl, sym, subst, ◌∙◌, arith, w8, Fits, eqb-true, eq-eqb, IsTrue, Some}
 use Rattle.std.specs.List.{AllZip}
 use Rattle.std.specs.Int.{bit_at}
 use Rattle.std.specs.Option.{is_some}
+use Rattle.std.proofs.lemmas.Bool.{agree_below, agree_below_at}
 use Rattle.std.proofs.lemmas.List.Elements.{All-nil, All-head, All-tail, All-cons}
 use Rattle.std.proofs.lemmas.Nat.{le_or_l, le_or_r}
 use Rattle.std.proofs.lemmas.Nat.Bits.{bit_at_or}
@@ -19,20 +20,6 @@ use Rattle.const_hex_arch.proofs.lemmas.LaneValues.{same_value, is_none, same_if
 use Rattle.const_hex_arch.proofs.lemmas.Spelling.{digits_append}
 
 -- ---- tests that compute
-
-abbrev same_truth : Bool → Bool → Bool
-same_truth true b = b
-same_truth false b = not b
-
-same_truth-cases : (a b : Bool) → T (same_truth a b) → (a ≡ true) ↔ (b ≡ true)
-same_truth-cases true true t = (λ _. refl, λ _. refl)
-same_truth-cases true false t = absurd t
-same_truth-cases false true t = absurd t
-same_truth-cases false false t = (λ h. h, λ h. h)
-
--- two tests that agree below 256
-agreed : (p q : ℕ → Bool) → T (all_below (λ x. same_truth (p x) (q x)) 256) → (x : ℕ) → x < 256 → (p x ≡ true) ↔ (q x ≡ true)
-agreed p q t x h = same_truth-cases (p x) (q x) (every_below (λ x. same_truth (p x) (q x)) 256 t x h)
 
 -- the bits that mark a lane
 abbrev mark_bits : ℕ → ℕ
@@ -57,19 +44,19 @@ module _ (table : List ℕ) where
   mark_of b = (less b + (256 - value_of b)) % 256
 
   -- each of the 256 bytes
-  abbrev pub marks_are_right : Bool
-  marks_are_right = all_below (λ b. same_truth (eqb (mark_bits (mark_of b)) 0) (is_some (hex_value b))) 256
+  abbrev pub marks_are_right : Type 0
+  marks_are_right = agree_below (λ b. eqb (mark_bits (mark_of b)) 0) (λ b. is_some (hex_value b)) 256 ≡ true
 
   abbrev pub values_are_right : Bool
   values_are_right = all_below (λ b. is_none (hex_value b) || same_value (hex_value b) (Some (value_of b))) 256
 
-  module _ (t : T marks_are_right) (u : T values_are_right) where
+  module _ (t : marks_are_right) (u : T values_are_right) where
     limit_at : (b : ℕ) → b < 256 → IsLimitOf b (limit b)
     limit_at b h =
-        let same = agreed (λ b. eqb (mark_bits (mark_of b)) 0) (λ b. is_some (hex_value b)) t b h in
+        let same = agree_below_at (λ b. eqb (mark_bits (mark_of b)) 0) (λ b. is_some (hex_value b)) 256 b t h in
         let right = every_below (λ b. is_none (hex_value b) || same_value (hex_value b) (Some (value_of b))) 256 u b h in (
           λ d. same_if_some (hex_value b) (Some (value_of b)) right d,
-          (λ p. same.0 (eq-eqb (mark_bits (mark_of b)) 0 p), λ d. eqb-true (mark_bits (mark_of b)) 0 (same.1 d)),
+          (λ p. sym same ∙ eq-eqb (mark_bits (mark_of b)) 0 p, λ d. eqb-true (mark_bits (mark_of b)) 0 (same ∙ d)),
         )
 
     -- from lane i on
@@ -165,8 +152,8 @@ marked x = bit_and x 216
 
 unmarked_at : (x : ℕ) → x < 256 → (marked x ≡ 0) ↔ IsUnmarked x
 unmarked_at x h =
-    let same = agreed (λ x. eqb (marked x) 0) (λ x. eqb (mark_bits x) 0) tt x h in
-    (λ e. eqb-true (mark_bits x) 0 (same.0 (eq-eqb (marked x) 0 e)), λ p. eqb-true (marked x) 0 (same.1 (eq-eqb (mark_bits x) 0 p)))
+    let same = agree_below_at (λ x. eqb (marked x) 0) (λ x. eqb (mark_bits x) 0) 256 x refl h in
+    (λ e. eqb-true (mark_bits x) 0 (sym same ∙ eq-eqb (marked x) 0 e), λ p. eqb-true (marked x) 0 (same ∙ eq-eqb (mark_bits x) 0 p))
 
 unmarked_fold : (a : ℕ) (xs : List ℕ) → Each1 (Fits w8) xs → (fold_l bit_or a (zip2 bit_and xs (replicate (length xs) 216)) ≡ 0) ↔ ((a ≡ 0) × AllUnmarked xs)
 unmarked_fold a [] f = (λ e. (e, tt), λ h. h.0)

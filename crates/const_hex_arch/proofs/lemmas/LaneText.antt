@@ -2,10 +2,10 @@
 -- each lane in turn.
 use Rattle.std.proofs.Common.{◌≡◌, ℕ, zero, suc, ◌+◌, ◌*◌, ◌/◌, ◌%◌, ◌^◌, ◌<◌, ◌≤◌, Bool, eqb, T, List, [], ◌∷◌, ◌++◌, map, length, replicate, take, get_or, bit_and, refl, sym, ap, subst, ◌∙◌, arith, w8, Fits, eqb→eq, length-append}
 use Rattle.std.specs.List.{range_with_len, concat}
-use Rattle.std.proofs.lemmas.List.{append-nil, ext_get_or, get_or-map, length-map}
+use Rattle.std.proofs.lemmas.List.{append-nil, drop_at, ext_get_or, get_or-map, length-map, take_all, take_at}
 use Rattle.std.proofs.lemmas.Nat.{and_mask}
 use Rattle.std.proofs.lemmas.Simd.{length-zip2, length-replicate, length-put_chunk, take_more_put_chunk, swz_l, length-swz_l, get_or-swz_l_below, zip2_splat, pick_l-range_with_len}
-use lib.Lanes.{zip2, Each1, pick_l, chunk, put_chunk}
+use lib.Lanes.{zip2, Each1, pick_l, put_chunk}
 use Rattle.const_hex_arch.specs.Digits.{hex_digit}
 use Rattle.const_hex_arch.specs.Lanes.{low_digit}
 use Rattle.const_hex_arch.specs.Texts.{hex_text}
@@ -44,27 +44,12 @@ weave-map f [] ys = refl
 weave-map f (x ∷ xs) [] = refl
 weave-map f (x ∷ xs) (y ∷ ys) = ap (λ t. f x ∷ f y ∷ t) (weave-map f xs ys)
 
-chunk_first : (a b : List ℕ) → chunk 0 (length a) (a ++ b) ≡ a
-chunk_first [] b = refl
-chunk_first (x ∷ a) b = ap (λ t. x ∷ t) (chunk_first a b)
-
-chunk_second : (a b : List ℕ) → chunk (length a) (length b) (a ++ b) ≡ b
-chunk_second [] [] = refl
-chunk_second [] (x ∷ b) = ap (λ t. x ∷ t) (chunk_second [] b)
-chunk_second (x ∷ a) b = chunk_second a b
-
 interleaved : (n : ℕ) (a b : List ℕ) → length a ≡ n → length b ≡ n → pick_l 0 (a ++ b) (weave (range_with_len 0 n) (range_with_len n n)) ≡ weave a b
 interleaved n a b p q =
     let whole : length (a ++ b) ≡ n + n = omega (arith, length-append a b) in
     weave-map (λ k. get_or (a ++ b) k 0) (range_with_len 0 n) (range_with_len n n)
     ∙ rw (pick_l-range_with_len 0 (a ++ b) 0 n (omega arith), pick_l-range_with_len 0 (a ++ b) n n (omega arith))
-    (rw (chunk_at p (chunk_first a b), chunk_both p q (chunk_second a b)) refl)
-  where
-    chunk_at : length a ≡ n → chunk 0 (length a) (a ++ b) ≡ a → chunk 0 n (a ++ b) ≡ a
-    chunk_at e h = subst (λ n. chunk 0 n (a ++ b) ≡ a) e h
-
-    chunk_both : length a ≡ n → length b ≡ n → chunk (length a) (length b) (a ++ b) ≡ b → chunk n n (a ++ b) ≡ b
-    chunk_both e f h = subst (λ m. chunk n m (a ++ b) ≡ b) f (subst (λ m. chunk m (length b) (a ++ b) ≡ b) e h)
+    (rw (take_at a b n p, drop_at a b n p, take_all n b (omega arith)) refl)
 
 -- ---- the text
 

@@ -65,19 +65,11 @@ unhex_l n v = zip2 add8 (zip2 bit_and v (replicate n 15)) (sel_l (map (top 7) (z
 
 -- ---- one lane: each of the 256 values is computed
 
-abbrev value_in : List ℕ → Option ℕ
-value_in [] = None
-value_in (x ∷ xs) = as_value x
+nibble_at : (b : ℕ) → b < 256 → as_value (get_or (nibbles_l 1 (b ∷ [])) 0 0) ≡ hex_value b
+nibble_at b h = same_value-true _ _ (every_below (λ b. same_value (as_value (get_or (nibbles_l 1 (b ∷ [])) 0 0)) (hex_value b)) 256 tt b h)
 
-nibble_at : (b : ℕ) → b < 256 → value_in (nibbles_l 1 (b ∷ [])) ≡ hex_value b
-nibble_at b h = same_value-true _ _ (every_below (λ b. same_value (value_in (nibbles_l 1 (b ∷ []))) (hex_value b)) 256 tt b h)
-
-abbrev first_in : List ℕ → Option ℕ
-first_in [] = None
-first_in (x ∷ xs) = Some x
-
-unhex_at : (b : ℕ) → b < 256 → IsDigit b → hex_value b ≡ first_in (unhex_l 1 (b ∷ []))
-unhex_at b h s = same_if_some _ _ (every_below (λ b. is_none (hex_value b) || same_value (hex_value b) (first_in (unhex_l 1 (b ∷ [])))) 256 tt b h) s
+unhex_at : (b : ℕ) → b < 256 → IsDigit b → hex_value b ≡ Some (get_or (unhex_l 1 (b ∷ [])) 0 0)
+unhex_at b h s = same_if_some _ _ (every_below (λ b. is_none (hex_value b) || same_value (hex_value b) (Some (get_or (unhex_l 1 (b ∷ [])) 0 0))) 256 tt b h) s
 
 -- ---- all lanes
 

@@ -1,5 +1,5 @@
 -- What texts spell.
-use Rattle.std.proofs.Common.{◌≡◌, ℕ, zero, suc, ◌+◌, ◌-◌, ◌*◌, ◌/◌, ◌%◌, ◌<◌, ◌≤◌, ◌≢◌, ◌↔◌, eqb, eqb→eq, List, [], ◌∷◌, ◌++◌, length, take, drop, get_or, set, slice_index, false, ◌⊎◌, Option, Some, None, IsSome, IsNone, inl, inr, refl, sym, ap, subst, ◌∙◌, arith, take-add, drop-drop, length-take}
+use Rattle.std.proofs.Common.{◌≡◌, ℕ, zero, suc, ◌+◌, ◌-◌, ◌*◌, ◌/◌, ◌%◌, ◌<◌, ◌≤◌, ◌≢◌, ◌↔◌, eqb, eqb→eq, List, [], ◌∷◌, ◌++◌, length, take, drop, get_or, set, slice_index, false, ◌⊎◌, Option, Some, None, IsSome, IsNone, inl, inr, refl, sym, ap, ◌∙◌, arith, take-add, drop-drop, length-take}
 use Rattle.std.specs.Prelude.{unwrap_or}
 use Rattle.std.proofs.lemmas.Bool.{cases_lt}
 use Rattle.std.proofs.lemmas.Bool.Decides.{nat_tests}
@@ -99,29 +99,17 @@ Spells-length (x ∷ []) bs s = absurd s
 Spells-length (x ∷ y ∷ u) [] s = absurd s
 Spells-length (x ∷ y ∷ u) (z ∷ bs) s = let e = Spells-length u bs s.1 in omega (arith, e)
 
--- the first pairs of a text spell the first bytes
-pub Spells-take : (u bs : List ℕ) (k m : ℕ) → m ≡ 2 * k → Spells u bs → Spells (take m u) (take k bs)
-Spells-take u bs zero zero e s = tt
-Spells-take u bs zero (suc m) e s = absurd (omega (arith, e))
-Spells-take u bs (suc k) zero e s = absurd (omega (arith, e))
-Spells-take u bs (suc k) (suc zero) e s = absurd (omega (arith, e))
-Spells-take [] [] (suc k) (suc (suc m)) e s = tt
-Spells-take [] (b ∷ bs) (suc k) (suc (suc m)) e s = absurd s
-Spells-take (x ∷ []) bs (suc k) (suc (suc m)) e s = absurd s
-Spells-take (x ∷ y ∷ u) [] (suc k) (suc (suc m)) e s = absurd s
-Spells-take (x ∷ y ∷ u) (b ∷ bs) (suc k) (suc (suc m)) e s = (s.0, Spells-take u bs k m (omega (arith, e)) s.1)
-
--- the other pairs spell the other bytes
-pub Spells-drop : (u bs : List ℕ) (k m : ℕ) → m ≡ 2 * k → Spells u bs → Spells (drop m u) (drop k bs)
-Spells-drop u bs zero zero e s = s
-Spells-drop u bs zero (suc m) e s = absurd (omega (arith, e))
-Spells-drop u bs (suc k) zero e s = absurd (omega (arith, e))
-Spells-drop u bs (suc k) (suc zero) e s = absurd (omega (arith, e))
-Spells-drop [] [] (suc k) (suc (suc m)) e s = tt
-Spells-drop [] (b ∷ bs) (suc k) (suc (suc m)) e s = absurd s
-Spells-drop (x ∷ []) bs (suc k) (suc (suc m)) e s = absurd s
-Spells-drop (x ∷ y ∷ u) [] (suc k) (suc (suc m)) e s = absurd s
-Spells-drop (x ∷ y ∷ u) (b ∷ bs) (suc k) (suc (suc m)) e s = Spells-drop u bs k m (omega (arith, e)) s.1
+-- the first pairs of a text spell the first bytes, and the other pairs the other bytes
+pub Spells-parts : (u bs : List ℕ) (k m : ℕ) → m ≡ 2 * k → Spells u bs → Spells (take m u) (take k bs) × Spells (drop m u) (drop k bs)
+Spells-parts u bs zero zero e s = (tt, s)
+Spells-parts u bs zero (suc m) e s = absurd (omega (arith, e))
+Spells-parts u bs (suc k) zero e s = absurd (omega (arith, e))
+Spells-parts u bs (suc k) (suc zero) e s = absurd (omega (arith, e))
+Spells-parts [] [] (suc k) (suc (suc m)) e s = (tt, tt)
+Spells-parts [] (b ∷ bs) (suc k) (suc (suc m)) e s = absurd s
+Spells-parts (x ∷ []) bs (suc k) (suc (suc m)) e s = absurd s
+Spells-parts (x ∷ y ∷ u) [] (suc k) (suc (suc m)) e s = absurd s
+Spells-parts (x ∷ y ∷ u) (b ∷ bs) (suc k) (suc (suc m)) e s = let more = Spells-parts u bs k m (omega (arith, e)) s.1 in ((s.0, more.0), more.1)
 
 -- a text that spells bytes has only digits
 pub Spells-digits : (u bs : List ℕ) → Spells u bs → AllDigits u
@@ -262,34 +250,21 @@ none_decoded old u n =
     record { bad = r.0; done = 0; first_bad = r.1; not_past = omega arith; same_length = refl; front = tt; rest = refl }
 
 -- a bad byte after i pairs: the first byte of its pair, or the second
+refused_pair : (old u new : List ℕ) (i bad : ℕ) → FirstBad u bad → i ≤ bad / 2 → Spells (take (2 * i) u) (take i new) → drop i new ≡ drop i old
+    → length new ≡ length old → Partial old u new
+refused_pair old u new i bad f n s d l = record { bad = bad; done = i; first_bad = f; not_past = n; same_length = l; front = s; rest = d }
+
 pub refused_high : (old u new : List ℕ) (i : ℕ) → Spells (take (2 * i) u) (take i new) → drop i new ≡ drop i old → 2 * i + 1 < length u
     → length new ≡ length old → IsNone (hex_value (get_or u (2 * i) 0)) → Partial old u new
-refused_high old u new i s d h l n = record {
-  bad = 2 * i;
-  done = i;
-  first_bad = record { within = omega arith; before = Spells-digits _ _ s; here = n };
-  not_past = omega arith;
-  same_length = l;
-  front = s;
-  rest = d;
-}
+refused_high old u new i s d h l n =
+    refused_pair old u new i (2 * i) (record { within = omega arith; before = Spells-digits _ _ s; here = n }) (omega arith) s d l
 
 pub refused_low : (old u new : List ℕ) (i v : ℕ) → Spells (take (2 * i) u) (take i new) → drop i new ≡ drop i old → 2 * i + 1 < length u
     → length new ≡ length old
     → hex_value (get_or u (2 * i) 0) ≡ Some v → IsNone (hex_value (get_or u (2 * i + 1) 0)) → Partial old u new
-refused_low old u new i v s d h l e n = record {
-  bad = 2 * i + 1;
-  done = i;
-  first_bad = record {
-    within = h;
-    before = All-more IsDigit u (2 * i) 0 (omega arith) (Spells-digits _ _ s) (IsDigit-from_value (get_or u (2 * i) 0) v e);
-    here = n;
-  };
-  not_past = omega arith;
-  same_length = l;
-  front = s;
-  rest = d;
-}
+refused_low old u new i v s d h l e n =
+    let before = All-more IsDigit u (2 * i) 0 (omega arith) (Spells-digits _ _ s) (IsDigit-from_value (get_or u (2 * i) 0) v e) in
+    refused_pair old u new i (2 * i + 1) (record { within = h; before = before; here = n }) (omega arith) s d l
 
 -- a text that is refused after k bytes were decoded
 pub Partial-after : (old u new : List ℕ) (k m : ℕ) → m ≡ 2 * k → m ≤ length u → length new ≡ length old → k ≤ length new

@@ -1,4 +1,4 @@
--- Texts that are worked through in steps, and the rest by another kernel.
+-- Texts that are worked through in steps, and the remainder by another call.
 use Rattle.std.proofs.Common.{◌≡◌, ℕ, ◌+◌, ◌-◌, ◌*◌, ◌≤◌, ◌↔◌, Bool, List, [], ◌++◌, length, take, drop, refl, sym, ap, subst, ◌∙◌, arith, take-add, take-append-drop, drop-drop, length-take, length-drop, Option}
 use Rattle.std.proofs.lemmas.Grind.{common_steps}
 use Rattle.std.proofs.lemmas.List.{append-nil, drop_at, take_rest}
@@ -9,7 +9,7 @@ use Rattle.const_hex_arch.specs.Digits.{IsDigit}
 use Rattle.const_hex_arch.specs.Runs.{HasRoom, less_room, Writes}
 use Rattle.const_hex_arch.specs.Texts.{hex_text, AllDigits, Spells, Partial}
 use Rattle.const_hex_arch.proofs.lemmas.Runs.{HasRoom-less, Writes-none, Writes-more, Writes-append}
-use Rattle.const_hex_arch.proofs.lemmas.Spelling.{Spells-append, Spells-take, digits_append, none_decoded, Partial-after}
+use Rattle.const_hex_arch.proofs.lemmas.Spelling.{Spells-append, Spells-parts, digits_append, none_decoded, Partial-after}
 use Rattle.const_hex_arch.proofs.lemmas.Texts.{hex_text-nil, hex_text-append, length-hex_text}
 
 -- two parts of a list
@@ -112,7 +112,7 @@ decoded_less u new i e h within front = record {
   front =
       let text : take (2 * e) (take (2 * i) u) ≡ take (2 * e) u = grind (arith, common_steps) in
       let bytes : take e (take i new) ≡ take e new = grind (arith, common_steps) in
-      rw (text, bytes) at (Spells-take (take (2 * i) u) (take i new) e (2 * e) refl front);
+      rw (text, bytes) at (Spells-parts (take (2 * i) u) (take i new) e (2 * e) refl front).0;
   rest = refl;
 }
 
@@ -129,7 +129,7 @@ refused_step {u} {old} {new} {r} {i} n m d size e none =
     let rest = none_decoded (drop i new) (drop (2 * i) u) (λ a. none (All-take IsDigit m (drop (2 * i) u) a)) in
     rw (kept_step new r i n e) (Partial-after old u new i (2 * i) (omega arith) (omega arith) same within d.front (rw (← d.rest) rest))
 
--- the rest by another kernel
+-- the remainder by another call
 module _ {u old new : List ℕ} {i : ℕ} (r : List ℕ) (d : IsDecoded u old new i) (size : length u ≡ 2 * length old) (long : length r ≡ length new - i) where
   whole : put_mid i (length new - i) new r ≡ take i new ++ r
   whole =

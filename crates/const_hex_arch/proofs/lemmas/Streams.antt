@@ -2,6 +2,7 @@
 use Rattle.std.proofs.Common.{◌≡◌, ℕ, suc, ◌+◌, ◌*◌, ◌/◌, ◌<◌, ◌≤◌, Bool, true, false, not, List, [], ◌∷◌, ◌++◌, length, take, refl, sym, ap, subst, ◌∙◌, arith, inl, inr, length-append}
 use Rattle.std.specs.Prelude.{Option, Some, None, ◌-◌, if◌then◌else◌}
 use Rattle.std.specs.List.{FoldsTo, concat, All}
+use Rattle.std.proofs.lemmas.Bool.{true≢false}
 use Rattle.std.proofs.Math.Nat.{le-div_iff_mul-le}
 use Rattle.std.proofs.lemmas.List.{append-nil, append_assoc, take_all, take_at}
 use Rattle.std.proofs.lemmas.List.Elements.{All-nil, All-cons, All-head, All-tail, All-append, All-take, All-weaker, All-same}
@@ -89,27 +90,22 @@ many_bytes (p ∷ ps) a =
     let h = (All-head IsHandedOn p ps a).0 in
     omega (arith, h, many_bytes ps (All-tail IsHandedOn p ps a), length-append p (concat ps))
 
+small_piece : (rest : List ℕ) → length (piece_of rest) ≤ 1 × length (piece_of rest) ≤ length rest
+small_piece [] = (omega arith, omega arith)
+small_piece (x ∷ rest) = (omega arith, omega arith)
+
 few_pieces : (text : List ℕ) (ps : List (List ℕ)) (rest : List ℕ) → concat ps ++ rest ≡ text → All IsHandedOn ps
     → length (ps ++ piece_of rest) ≤ (length text + 4032) / 4033
-few_pieces text ps [] w a =
+few_pieces text ps rest w a =
     let m = many_bytes ps a in
     let e = ap length w in
-    let n = length-append ps [] in
-    let b = length-append (concat ps) [] in
-    let l : length (ps ++ []) * 4033 ≤ length text + 4032 = omega (arith, m, e, n, b) in
-    (le-div_iff_mul-le {k = 4033} (omega arith)).1 l
-few_pieces text ps (x ∷ rest) w a =
-    let m = many_bytes ps a in
-    let e = ap length w in
-    let n = length-append ps ((x ∷ rest) ∷ []) in
-    let b = length-append (concat ps) (x ∷ rest) in
-    let l : length (ps ++ (x ∷ rest) ∷ []) * 4033 ≤ length text + 4032 = omega (arith, m, e, n, b) in
+    let n = length-append ps (piece_of rest) in
+    let b = length-append (concat ps) rest in
+    let few = small_piece rest in
+    let l : length (ps ++ piece_of rest) * 4033 ≤ length text + 4032 = omega (arith, m, e, n, b, few) in
     (le-div_iff_mul-le {k = 4033} (omega arith)).1 l
 
 -- ---- what is offered to a sink
-
-true_is_false : true ≡ false → ⊥
-true_is_false e = cc
 
 module _ {S : Type 0} (step : S → List ℕ → S → Type 0) (is_refused : S → Bool) where
   sink_name-run : (s : SinkOutput S) (ps : List (List ℕ)) (t : SinkOutput S) → FoldsTo (SinkStep step is_refused) s ps t → sink_name t ≡ sink_name s
@@ -144,7 +140,7 @@ module _ {S : Type 0} (step : S → List ℕ → S → Type 0) (is_refused : S �
     count = 1;
     within = omega arith;
     run = (e, (output_sink m, h.accepting e, sym c));
-    complete = λ v. absurd (true_is_false (sym u ∙ ap is_refused (sym c) ∙ v));
+    complete = λ v. absurd (true≢false (sym u ∙ ap is_refused (sym c) ∙ v));
   }
 
   offered_run : (s : SinkOutput S) (ps : List (List ℕ)) (t : SinkOutput S) → is_refused (output_sink s) ≡ false

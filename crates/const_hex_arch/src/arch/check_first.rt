@@ -1,6 +1,6 @@
 //! A kernel that checks a text before it decodes.
 
-ghost use Rattle.std.specs.Prelude.{◌≡◌, ◌*◌, length, true, false};
+ghost use Rattle.std.specs.Prelude.{true, false};
 
 use crate::arch::Kernel;
 use crate::output::Output;

@@ -1,6 +1,6 @@
 //! The kernel that goes byte by byte.
 
-ghost use Rattle.std.specs.Prelude.{◌≡◌, ℕ, ◌<◌, ◌≤◌, List, [], ◌∷◌, length, false};
+ghost use Rattle.std.specs.Prelude.{◌<◌, List, false};
 
 use crate::arch::Kernel;
 use crate::output::Output;

@@ -27,6 +27,7 @@ pub(crate) fn check(text: &[u8]) -> bool
 
 /// As `check`, for `H` to `2 * H` bytes.
 #[inline(always)]
+#[tactic(auto, using(crate::proofs::lemmas::LaneMarks::through, crate::proofs::lemmas::Ends::digits_ends))]
 fn check_ends<const H: usize>(text: &[u8]) -> bool
     requires half { H ≤ 8 }
     requires least { H ≤ length text.now }
@@ -100,6 +101,7 @@ fn decode_ends<const H: usize, const D: usize>(text: &[u8], output: &mut [u8]) -
 
 /// Fills the output with the first bytes and the last ones. Where both overlap, the last ones count.
 #[inline(always)]
+#[tactic(auto, using(crate::proofs::lemmas::Ends::put_ends))]
 fn put<const H: usize>(first: Simd<u8, H>, last: Simd<u8, H>, output: &mut [u8])
     requires least { H ≤ length output.old }
     requires most { length output.old ≤ 2 * H }

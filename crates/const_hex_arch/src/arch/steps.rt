@@ -1,4 +1,4 @@
-//! Kernels that work in steps of lanes, and then do the rest.
+//! Kernels that work in steps of lanes, and then do the remainder.
 
 ghost use Rattle.std.specs.Prelude.{◌≡◌, ◌+◌, ◌*◌, ◌<◌, ◌≤◌, ◌++◌, ◌↔◌, IsTrue, false, length, take, drop};
 ghost use Rattle.std.specs.Str.{IsAscii};
@@ -14,7 +14,7 @@ use crate::output::Output;
 use std::simd::prelude::*;
 
 /// Encodes two steps in each turn of the loop, then one more step if the input has one, and then the
-/// rest, as one piece.
+/// remainder, as one piece.
 #[inline(always)]
 pub(crate) fn encode<const N: usize, V: Vectors<N>, O: Output>(
     input: &[u8],
@@ -35,7 +35,7 @@ pub(crate) fn encode<const N: usize, V: Vectors<N>, O: Output>(
     encode_last::<N, V, O>(&input[at..], upper, output);
 }
 
-/// Encodes one step if the input has one, and then the rest, as one piece.
+/// Encodes one step if the input has one, and then the remainder, as one piece.
 #[inline(always)]
 fn encode_last<const N: usize, V: Vectors<N>, O: Output>(input: &[u8], upper: bool, output: &mut O)
     requires fewer { length input.now < 2 * N }
@@ -136,7 +136,7 @@ fn text_of<const N: usize, V: Vectors<N>>(bytes: &[u8], upper: bool) -> [u8; 64]
 }
 
 /// Checks an input of at least one step: four steps by one test while more than four are left, two if
-/// more than two are left, and then the rest by one test. The last step may begin before the rest.
+/// more than two are left, and then the remainder by one test. The last step may begin before it.
 #[inline(always)]
 pub(crate) fn check<const N: usize, V: Vectors<N>>(input: &[u8]) -> bool
     requires { N ≤ length input.now }

@@ -42,7 +42,7 @@ impl<O: Output, const N: usize> Model for BufferedOutput<O, N> {
 }
 
 impl<O: Output, const N: usize> BufferedOutput<O, N> {
-    /// Gathers for that output, with nothing pending. N must not be 0.
+    /// Gathers for the given output, with nothing pending. N must not be 0.
     ///
     /// ```rust
     /// let mut text = [0; 6];

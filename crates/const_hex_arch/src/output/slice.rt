@@ -1,7 +1,6 @@
 //! An output into a slice.
 
-ghost use Rattle.std.specs.Prelude.{◌≡◌, ℕ, ◌+◌, ◌-◌, ◌<◌, ◌≤◌, List, [], ◌∷◌, ◌++◌, length, take, drop, Some};
-ghost use Rattle.std.specs.Str.{IsAscii};
+ghost use Rattle.std.specs.Prelude.{◌≡◌, ◌+◌, ◌-◌, ◌<◌, length, Some};
 ghost use Rattle.const_hex_arch.specs.SliceOutputs.{SliceStep, slice_bytes, slice_written, slice_name};
 
 use crate::output::Output;

@@ -10,7 +10,7 @@ use std::marker::Model;
 /// Keeps a copy of each piece. Refuses the call with a given number, or a piece that it cannot
 /// allocate.
 ///
-/// Contracts see it as the pieces that it accepted, that number, and whether it has refused.
+/// Contracts see it as the pieces that it accepted, the number, and whether it has refused.
 ///
 /// ```rust
 /// let mut sink = PieceSink::new(rt.alloc(), 0);

@@ -1,17 +1,12 @@
--- The words of the refusal that a struct stands for.
-use Rattle.std.proofs.Common.{◌≡◌, subst, ap, ℕ, List, Option, Some, None, IfSome}
+-- The message of the refusal that a struct stands for.
+use Rattle.std.proofs.Common.{◌≡◌, subst, ap, ℕ, List, Option, Some, IfSome}
 use Rattle.const_hex.specs.Messages.{message_of}
 use Rattle.const_hex.specs.declared.error.FromHexError.{FromHexError}
 use Rattle.const_hex.specs.declared.error.FromHexError.TheVariants.{OddLength, InvalidStringLength, InvalidHexCharacter, NoMemory}
 use Rattle.const_hex_c.specs.Crossing.{Says}
 use Rattle.const_hex_c.specs.declared.refusal.Refusal.{Refusal}
 
--- if P implies Q, and P is true of the value in o, then Q is
-pub some_weaker : {X : Type 0} (o : Option X) (P Q : X → Type 0) → ((x : X) → P x → Q x) → IfSome o P → IfSome o Q
-some_weaker None P Q leads holds = tt
-some_weaker (Some x) P Q leads holds = leads x holds
-
--- the struct's kind says which refusal it is, if that has words
+-- the struct's kind says which refusal it is, if that has a message
 pub says_by_kind : (r : Refusal) (o : Option FromHexError) (P : List ℕ → Type 0)
     → (r.kind ≡ 1 → o ≡ Some OddLength) → (r.kind ≡ 2 → o ≡ Some InvalidStringLength)
     → (r.kind ≡ 4 → o ≡ Some NoMemory) → IfSome o (λ e. IfSome (message_of e) P) → Says r P

@@ -1,44 +1,15 @@
 -- A function that lends the text in a slice of exactly its length, and else leaves the slice
--- unchanged. One walk serves upper and lower letters.
-use Rattle.std.proofs.Common.{◌≡◌, ℕ, ◌*◌, Bool, true, false, not, ◌&&◌, T, List, [], ◌∷◌, length, refl, ap, ◌∙◌, Bor, MutBor, lit<}
-use Rattle.std.specs.Prelude.{◌↔◌, IsTrue, IsOk, IfOk, Ok, Err, IfErr, MatchResult, Result}
+-- unchanged. One walk serves uppercase and lowercase.
 use Rattle.std.specs.Str.{IsAscii}
-use Rattle.std.proofs.raw_atomic.Walks.{proved}
 use Rattle.std.proofs.result.Made.{Ok-of, Err-of}
-use base.Logic.{sep, id⊢, emp}
-use base.Fml.{GName, ftrue, flft, fres}
 use base.Stored.{coded_list}
-use mir.Syntax.{Fn, Body, Callee, local, value_local, ty_bool, ty_ref, ty_int, imm, mut, erased, field, deref, place, copy, int, rv_opd, op1, bit_not, addr_of, aggregate, assign, call, cond, skip, return as end, seq, named, w8, w64}
-use mir.Val.{Val, of_list}
-use contract.Monad.{fact, fact_i}
-use contract.Running.{Running, tables}
-use prog.Model.{Model}
-use prog.Wp.{Closed}
-use seplogic.Ra.Ura.{Ura}
-use types.Logic.{Logic, sem}
+use Rattle.const_hex_arch.proofs.lemmas.Walks.LaneOptions.{◌≡◌, ℕ, ◌*◌, Bool, true, false, not, T, List, [], ◌∷◌, length, refl, ap, ◌∙◌, Bor, MutBor, lit<, ◌↔◌, IsTrue, IsOk, IfOk, Ok, Err, IfErr, MatchResult, Result, proved, and_true, sep, id⊢, emp, GName, ftrue, flft, fres, Fn, Body, Callee, local, value_local, ty_bool, ty_ref, ty_int, imm, mut, erased, field, deref, place, copy, int, rv_opd, op1, bit_not, addr_of, aggregate, assign, call, cond, skip, seq, named, w8, w64, Val, of_list, fact, fact_i, Running, tables, Meets, ‵, raw, ◌⊛◌, some, later, at_ret, ◌$◌, ◌∵◌, !, qed, done, move, keep, drop, use0, use1, use2, split, join, feq_l, pick, await, rewrite, suffices, frame, group, enter, of_opd, addr, lit, un, stop, fld, hop, from, no_more, and_then, first, branches, skips, exec, returns, returns_within, agg, whole, sub, live, alloc_all, pass_all, free_all, look_at, look_in_at, get, get_in, sets, lands_as, env, u8, usize, bool, SliceRefOf, SliceRefMutOf, yes, no, Is, shows, uint_vals, uint_Makes, bool_vals, bool_Makes, nothing, owned, heard, peeks, only, calls_at, Clauses, Ended, closing, lasts, Lasts, triple_of, Stays, stay_dropped, walk_of, Goes-dropped, Goes-spent_slice, ends_at, framed, Model, Closed, Ura, Logic, sem, RattleType, Slot, plain}
+use mir.Syntax.{return as end}
 use denote.Param.{layout}
-use denote.Triple.Spec.{Meets}
-use types.Kit.{‵, raw, ◌⊛◌, some, later, at_ret, ◌$◌, ◌∵◌, !, qed, done, move, keep, drop, use0, use1, use2, split, join, feq_l, pick, await, rewrite, suffices, frame, group}
-use types.Run.{enter, of_opd, addr, lit, un, stop, fld, hop, from, no_more, and_then, first, branches, skips, exec, returns, returns_within}
-use types.Part.{agg, whole, sub}
-use types.Match.{live}
-use types.ByLocal.{alloc_all, pass_all, free_all, look_at, look_in_at, get, get_in, sets, lands_as, env}
-use denote.Builtin.{u8, usize, bool, SliceRefOf, SliceRefMutOf}
-use denote.Exit.{yes, no}
-use denote.Laws.{Is, shows}
-use denote.Plain.{uint_vals, uint_Makes, bool_vals, bool_Makes}
-use denote.RattleType.{RattleType}
 use denote.Ref.{as_bor}
-use denote.Signature.{Slot, plain}
 use denote.Slice.{slice_ty, MutSlice, ShrSlice, mut_slice_vals, mut_slice_Tells, shr_slice_vals, shr_slice_Tells, shr_slice_Lawful}
 use denote.Such.{such_Lawful}
 use denote.Text.{StrRefOf, Utf8}
-use denote.Steps.{nothing, owned, heard, peeks, only}
-use denote.Triple.Call.{calls_at}
-use denote.Triple.Clauses.{Clauses, Ended, closing, lasts, Lasts}
-use denote.Triple.Spec.{triple_of}
-use denote.Triple.Walked.{Stays, stay_dropped, walk_of, Goes-dropped, Goes-spent_slice, ends_at}
-use denote.Triple.Table.{framed}
 use Rattle.const_hex_arch.specs.Texts.{hex_text}
 use Rattle.const_hex.specs.Loans.{EndsEncoded}
 use Rattle.std.specs.contracts.result.Result as Answer
@@ -57,10 +28,6 @@ refused_length res e F false s h f = rw s f
 fitting : (F : Type 0) (r : Bool) → T (not (not r)) → IsTrue r ↔ F → F
 fitting F true h f = f.0 refl
 fitting F false h f = absurd h
-
-and_tt : (b : Bool) → T b → T (b && true)
-and_tt true h = tt
-and_tt false h = absurd h
 
 -- the parameters and the result
 abbrev input : Slot 2
@@ -249,7 +216,7 @@ module _ {M : Type 1} (𝓤 : Ura M) (𝓛 : Logic 𝓤) (𝓜 : Model 𝓤 𝓛
       move ! (1 ∷ []) $ peeks ! Text (Is Text) (shows 𝓛 Text) w (v' ∷ []) (λ is'.
       let typed = ((such_Lawful Bytes (λ x. Utf8 x.now) (λ x cs. (tt, tt)) 𝓛 (shr_slice_Lawful 𝓛 (named 1) κ u8)).typed w _ is').0 in
       lands_as ! refl refl typed $
-      sets ! (agg ! (and_then ! (lit ! tt) (and_then ! (get ! refl) (no_more !)))) refl (and_tt _ typed.0, (record { fits = lit< tt }, (typed.1, tt))) $
+      sets ! (agg ! (and_then ! (lit ! tt) (and_then ! (get ! refl) (no_more !)))) refl (and_true _ typed.0, (record { fits = lit< tt }, (typed.1, tt))) $
       returns ! (look_at ! 0 refl) $ free_all ! refl $
       let accepted : Result (Bor (List ℕ)) refusal.the_row.Denot = Ok w in
       suffices ! _ (ends_at 𝓛 Lends hs c y (live 0 (of_list (v' ∷ []))) accepted (tt, (tt, tt)) (tt, (tt, tt))) $

@@ -1,41 +1,16 @@
 -- A function that writes a buffer's text by one call, and lends it as text by another. One walk
 -- serves every such function.
-use Rattle.std.proofs.Common.{◌≡◌, ℕ, length, ◌<◌, ◌^◌, Bool, List, [], ◌∷◌, refl, ◌∙◌, Bor, T}
-use Rattle.std.proofs.raw_atomic.Walks.{proved}
-use base.Logic.{SProp, sep, id⊢, emp}
-use base.Fml.{ftrue, flft}
-use seplogic.Ra.Ura.{Ura}
-use mir.Syntax.{Ty, Lifetime, Fn, Callee, Args, local, value_local, ty_ref, ty_int, ty_struct, tcons, tnil, imm, mut, erased, deref, place, copy, addr_of, assign, call, return as end, seq, a_number, named, w8, w64}
-use mir.Val.{Val, vptr, WT, has_ty}
+use Rattle.const_hex_arch.proofs.lemmas.Walks.LaneOptions.{◌≡◌, ℕ, length, ◌<◌, ◌^◌, Bool, List, [], ◌∷◌, refl, ◌∙◌, Bor, T, proved, SProp, sep, id⊢, emp, ftrue, flft, Ura, Ty, Lifetime, Fn, Callee, Args, local, value_local, ty_ref, ty_int, ty_struct, tcons, tnil, imm, mut, erased, deref, place, copy, addr_of, assign, call, seq, a_number, named, w8, w64, Val, vptr, WT, has_ty, fact, fact_i, Running, tables, Model, Closed, Logic, sem, ‵, raw, ◌⊛◌, some, later, ◌$◌, ◌∵◌, !, qed, done, move, drop, use0, use1, use2, split, join, pick, await, suffices, frame, group, enter, addr, stop, no_more, and_then, returns, alloc_all, pass_all, free_all, look_at, get, through, sets, lands_as, env, u8, bool, RefOf, SliceRefOf, RefMutOf, yes, no, Last, left, Is, Tells, shows, bool_vals, bool_Makes, RattleType, Slot, plain, nothing, owned, heard, peeks, calls_at, Clauses, Ended, closing, lasts, Lasts, Meets, triple_of, Stays, stay_dropped, walk_of, Goes-dropped, Goes-spent_ref, ends_at, framed}
+use mir.Syntax.{return as end}
 use contract.BorrowLft.{◌⊑◌}
 use contract.Lifetimes.{Lfts, lft_at}
-use contract.Monad.{fact, fact_i}
-use contract.Running.{Running, tables}
 use prog.Memory.{size}
-use prog.Model.{Model}
-use prog.Wp.{Closed}
-use types.Logic.{Logic, sem}
-use types.Kit.{‵, raw, ◌⊛◌, some, later, ◌$◌, ◌∵◌, !, qed, done, move, drop, use0, use1, use2, split, join, pick, await, suffices, frame, group}
-use types.Run.{enter, addr, stop, no_more, and_then, returns}
-use types.ByLocal.{alloc_all, pass_all, free_all, look_at, get, through, sets, lands_as, env}
-use denote.Builtin.{u8, bool, RefOf, SliceRefOf, RefMutOf}
-use denote.Exit.{yes, no, Last, left}
 use denote.Memory.{pointee}
-use denote.Laws.{Is, Tells, shows}
 use denote.Param.{number, layout, layouts, Types, param, ArrayAt}
-use denote.Plain.{bool_vals, bool_Makes}
-use denote.RattleType.{RattleType}
 use denote.Ref.{ShrRef, MutRef, mut_vals, mut_Tells, shr_Tells, shr_Lawful}
-use denote.Signature.{Slot, plain}
 use denote.Slice.{ShrSlice, slice_val, shr_slice_Tells, shr_slice_Lawful}
 use denote.Such.{such_Lawful}
 use denote.Text.{StrRefOf, Utf8}
-use denote.Steps.{nothing, owned, heard, peeks}
-use denote.Triple.Call.{calls_at}
-use denote.Triple.Clauses.{Clauses, Ended, closing, lasts, Lasts}
-use denote.Triple.Spec.{Meets, triple_of}
-use denote.Triple.Walked.{Stays, stay_dropped, walk_of, Goes-dropped, Goes-spent_ref, ends_at}
-use denote.Triple.Table.{framed}
 use Rattle.const_hex_arch.specs.Texts.{full_text, text_length}
 use Rattle.const_hex.specs.Buffers.{buffer_text}
 use Rattle.const_hex.specs.Loans.{EndsHolding}

@@ -1,54 +1,56 @@
--- What the walks of `decode_chunk` cite: steps that are passed on, and what is known of vectors of
+-- What walks cite: steps that are passed on, and for `decode_chunk` what is known of vectors of
 -- n lanes and of a vector beside a flag.
-pub use Rattle.std.proofs.Common.{ℕ, List, [], ◌∷◌, Bool, refl, lit<, w8, IsTrue, ◌↔◌}
+pub use Rattle.std.proofs.Common.{ℕ, List, [], ◌∷◌, Bool, refl, lit<, w8, IsTrue, ◌↔◌, ◌≡◌, ◌*◌, true, false, not, T, length, ap, ◌∙◌, Bor, MutBor, ◌<◌, ◌^◌}
 pub use Rattle.std.proofs.option.Made.{Some-of, none_of}
 pub use Rattle.std.proofs.raw_atomic.Walks.{proved}
 pub use Rattle.std.specs.List.{concat}
-pub use Rattle.std.specs.Prelude.{Option, Some, None}
-pub use base.Fml.{ftrue}
-pub use base.Logic.{id⊢, emp}
+pub use Rattle.std.specs.Prelude.{Option, Some, None, IsOk, IfOk, Ok, Err, IfErr, MatchResult, Result}
+pub use base.Fml.{ftrue, GName, flft, fres}
+pub use base.Logic.{id⊢, emp, sep, SProp}
 pub use contract.Monad.{fact, fact_i}
-pub use contract.Running.{tables}
+pub use contract.Running.{tables, Running}
 pub use denote.Array.{Array-Tells, Array-Lawful}
-pub use denote.Builtin.{u8}
-pub use denote.Exit.{yes}
-pub use denote.Laws.{shows}
-pub use denote.Plain.{uint_Makes, uint_Lawful}
+pub use denote.Builtin.{u8, usize, bool, SliceRefOf, SliceRefMutOf, RefOf, RefMutOf}
+pub use denote.Exit.{yes, no, Last, left}
+pub use denote.Laws.{shows, Is, Tells}
+pub use denote.Plain.{uint_Makes, uint_Lawful, uint_vals, bool_vals, bool_Makes}
+pub use denote.RattleType.{RattleType}
+pub use denote.Signature.{Slot, plain}
 pub use denote.Simd.{Simd-Lawful, Simd-Makes}
 pub use denote.Steps.{nothing, owned, facts, peeks, heard, only}
 pub use denote.Struct.Struct.{as_fields}
 pub use denote.Triple.Call.{calls_at}
-pub use denote.Triple.Clauses.{lasts}
-pub use denote.Triple.Spec.{triple_of}
+pub use denote.Triple.Clauses.{lasts, Clauses, Ended, closing, Lasts}
+pub use denote.Triple.Spec.{triple_of, Meets}
 pub use denote.Triple.Table.{framed}
-pub use denote.Triple.Walked.{Stays, walk_of, stay_dropped, Goes-dropped, ends_at}
-pub use mir.Syntax.{ty_array, ty_int, ty_bool}
-pub use mir.Val.{vbool, of_list}
-pub use types.ByLocal.{alloc_all, pass_all, free_all, look_at, get, get_in, sets, sets_last, lands_as, env}
-pub use types.Kit.{‵, raw, ◌⊛◌, some, later, at_ret, ◌$◌, ◌∵◌, !, qed, done, move, keep, drop, use0, use1, split, join, pick, await, suffices, group}
+pub use denote.Triple.Walked.{Stays, walk_of, stay_dropped, Goes-dropped, ends_at, Goes-spent_slice, Goes-spent_ref}
+pub use mir.Syntax.{ty_array, ty_int, ty_bool, Fn, Body, Callee, local, value_local, ty_ref, imm, mut, erased, field, deref, place, copy, int, rv_opd, op1, bit_not, addr_of, aggregate, assign, call, cond, skip, seq, named, w64, Ty, Lifetime, Args, ty_struct, tcons, tnil, a_number}
+pub use mir.Val.{vbool, of_list, Val, vptr, WT, has_ty}
+pub use prog.Model.{Model}
+pub use prog.Wp.{Closed}
+pub use seplogic.Ra.Ura.{Ura}
+pub use types.ByLocal.{alloc_all, pass_all, free_all, look_at, get, get_in, sets, sets_last, lands_as, env, look_in_at, through}
+pub use types.Kit.{‵, raw, ◌⊛◌, some, later, at_ret, ◌$◌, ◌∵◌, !, qed, done, move, keep, drop, use0, use1, split, join, pick, await, suffices, group, use2, feq_l, rewrite, frame}
+pub use types.Logic.{Logic, sem}
 pub use types.Match.{live}
 pub use types.Part.{agg, whole, sub}
-pub use types.Run.{enter, of_opd, lit, fld, stop, no_more, and_then, first, branches, exec, returns}
+pub use types.Run.{enter, of_opd, lit, fld, stop, no_more, and_then, first, branches, exec, returns, addr, un, hop, from, skips, returns_within}
 use Rattle.const_hex_arch.specs.Texts.{AllDigits, Spells}
-use Rattle.std.proofs.Common.{◌≡◌, ◌++◌, true, false, T, ◌&&◌, not, ap, subst, ◌∙◌}
+use Rattle.std.proofs.Common.{◌++◌, ◌&&◌, subst}
 use Rattle.std.proofs.option.Option.TheLaws.{the_loose}
 use Rattle.std.specs.Prelude.{IsNone, IfSome}
 use denote.Array.{array_vals}
-use denote.Builtin.{bool, Simd, SimdOf, ArrayOf}
+use denote.Builtin.{Simd, SimdOf, ArrayOf}
 use denote.Enum.Loose.{loose_lawful}
-use denote.Laws.{Is, Tells, Lawful}
+use denote.Laws.{Lawful}
 use denote.Param.Laws.{simd_laws, of_field}
 use denote.Param.Shared.{copy_shared}
-use denote.Plain.{uint_vals, uint_Tells}
-use denote.RattleType.{RattleType}
-use denote.Signature.{Slot, plain}
+use denote.Plain.{uint_Tells}
 use denote.Simd.{Simd-Tells}
 use denote.Struct.Field.{u8-field}
 use denote.Struct.Laws.{u8-laws, u8-copy}
 use denote.Struct.Tuple.{Tuple}
-use mir.Val.{Val, vstruct}
-use seplogic.Ra.Ura.{Ura}
-use types.Logic.{Logic}
+use mir.Val.{vstruct}
 use Rattle.std.specs.contracts.option.Option as OP
 
 -- ---- what is known of a flag

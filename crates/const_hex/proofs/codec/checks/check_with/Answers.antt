@@ -3,12 +3,10 @@ use Rattle.const_hex_arch.proofs.lemmas.Spelling.{false_is_true}
 use Rattle.const_hex.proofs.lemmas.Reading.{Reads-digits}
 use Rattle.const_hex.proofs.codec.checks.check_with.Goals as goal
 
-pub returns-then-check-clause-answer : goal.returns-then-check-clause-answer
-returns-then-check-clause-answer g c =
-    Reads-digits c.args.input.now c.if-input-ne0.false (rw (← c.strip_prefix.ensures.body) (c.check.ensures.0 c.if-check.true))
-
-pub returns-then-check-clause-accepts : goal.returns-then-check-clause-accepts
-returns-then-check-clause-accepts g c = (λ _. returns-then-check-clause-answer g c, λ _. refl)
+pub returns-then-check : goal.returns-then-check
+returns-then-check g c =
+    let reads = Reads-digits c.args.input.now c.if-input-ne0.false (rw (← c.strip_prefix.ensures.body) (c.check.ensures.0 c.if-check.true)) in
+    record { answer = reads; accepts = (λ _. reads, λ _. refl) }
 
 pub bad_character-requires : goal.bad_character-requires
 bad_character-requires g c = λ a. false_is_true (sym c.if-check.false ∙ c.check.ensures.1 (rw c.strip_prefix.ensures.body a))

@@ -1,14 +1,12 @@
-use Rattle.std.proofs.Common.{◌≡◌, take, arith}
+use Rattle.std.proofs.Common.{arith}
 use Rattle.std.proofs.lemmas.List.{take_all}
 use Rattle.std.proofs.lemmas.Simd.{put_chunk_whole}
 use Rattle.const_hex_arch.proofs.output.slice.copy_over.Goals as goal
 
 pub returns-then-bytes-eq64 : goal.returns-then-bytes-eq64
 returns-then-bytes-eq64 c =
-    let all : take 64 c.args.bytes.now ≡ c.args.bytes.now = take_all 64 c.args.bytes.now (omega arith) in
-    rw all (put_chunk_whole c.args.place.now c.args.bytes.now c.requires)
+    rw (take_all 64 c.args.bytes.now (omega arith)) (put_chunk_whole c.args.place.now c.args.bytes.now c.requires)
 
 pub returns-then-bytes-eq32 : goal.returns-then-bytes-eq32
 returns-then-bytes-eq32 c =
-    let all : take 32 c.args.bytes.now ≡ c.args.bytes.now = take_all 32 c.args.bytes.now (omega arith) in
-    rw all (put_chunk_whole c.args.place.now c.args.bytes.now c.requires)
+    rw (take_all 32 c.args.bytes.now (omega arith)) (put_chunk_whole c.args.place.now c.args.bytes.now c.requires)

@@ -1,8 +1,5 @@
 use Rattle.std.proofs.Common.{rules}
 use Rattle.const_hex.proofs.formatting.sink.FormatterSinkSink.write_str.Goals as goal
 
-pub returns-then-is_err-clause-step : goal.returns-then-is_err-clause-step
-returns-then-is_err-clause-step g c = search rules
-
-pub returns-then-is_err-clause-flag : goal.returns-then-is_err-clause-flag
-returns-then-is_err-clause-flag g c = search rules
+pub returns-then-is_err : goal.returns-then-is_err
+returns-then-is_err g c = record { step = search rules; flag = search rules }

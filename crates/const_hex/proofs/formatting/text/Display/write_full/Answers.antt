@@ -1,11 +1,12 @@
-use Rattle.std.proofs.Common.{rules}
-use Rattle.const_hex.proofs.lemmas.Printing.{printed_stream, written_at, false_from_not}
+use Rattle.std.proofs.Common.{rules, sym}
+use Rattle.std.proofs.lemmas.Bool.{not-true}
+use Rattle.const_hex.proofs.lemmas.Printing.{printed_stream, written_at}
 use Rattle.const_hex.proofs.formatting.text.Display.write_full.Goals as goal
 
 pub returns-in-Ok : goal.returns-in-Ok
 returns-in-Ok g c =
     let took = g.W.Write.write_str_gives in
-    let ok = false_from_not _ c.in-Ok.ensures.flag in
+    let ok = not-true _ (sym c.in-Ok.ensures.flag) in
     let p = printed_stream took _ _ _ ok (rw c.new.ensures at c.write_to.ensures.streams) in
     let name = p.same_formatter in
     λ flush _. search (rules, written_at took _ _ _ ok p _ c.new-sink.ensures.formatter flush)

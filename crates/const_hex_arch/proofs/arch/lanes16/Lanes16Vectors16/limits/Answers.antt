@@ -8,4 +8,4 @@ pub swizzle : goal.swizzle
 swizzle c = masked_ok 143 tt 1 16 c.args.v refl c.fits-v
 
 pub returns : goal.returns
-returns c = limits_are LIMITS tt tt c.args.v c.fits-v
+returns c = limits_are LIMITS refl tt c.args.v c.fits-v

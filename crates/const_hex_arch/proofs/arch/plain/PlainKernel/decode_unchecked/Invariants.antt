@@ -1,9 +1,6 @@
-use Rattle.std.proofs.Common.{◌≡◌, ◌*◌, take, drop}
+use Rattle.std.proofs.Common.{◌*◌, take}
 use Rattle.const_hex_arch.specs.Texts.{Spells}
 use Rattle.const_hex_arch.proofs.arch.plain.PlainKernel.decode_unchecked.Given as goal
 
 abbrev pub invariant-loop-i : goal.invariant-loop-i
-invariant-loop-i l = record {
-  front : Spells (take (2 * l.i) l.input) (take l.i l.output);
-  rest : drop l.i l.output ≡ drop l.i l.initial.output;
-}
+invariant-loop-i l = Spells (take (2 * l.i) l.input) (take l.i l.output)

@@ -1,4 +1,4 @@
-//! Hashes of 32 bytes.
+//! Hashes of 32 bytes and addresses of 20 bytes.
 
 ghost use Rattle.std.specs.Prelude.{◌≡◌, true, false};
 ghost use Rattle.const_hex.specs.Buffers.{buffer_text};
@@ -24,6 +24,28 @@ impl Hash32 {
     /// ```
     #[inline]
     pub fn to_buffer(&self) -> Buffer<32, true, 66>
+        ensures { buffer_text result ≡ full_text true false (fixed_bytes self.now) }
+    {
+        const_encode(&self.bytes)
+    }
+}
+
+/// An address of 20 bytes. A checksum in the case of its letters is not checked.
+///
+/// ```rust
+/// assert_eq!(rt; Address20::from_bytes([7; 20]).as_bytes(), &[7; 20]);
+/// ```
+pub type Address20 = FixedBytes<20>;
+
+impl Address20 {
+    /// The text that the address prints, in a buffer. Does not allocate.
+    ///
+    /// ```rust
+    /// let text = Address20::from_bytes([0xAB; 20]).to_buffer();
+    /// assert!(rt; text.as_str().starts_with("0xabab"));
+    /// ```
+    #[inline]
+    pub fn to_buffer(&self) -> Buffer<20, true, 42>
         ensures { buffer_text result ≡ full_text true false (fixed_bytes self.now) }
     {
         const_encode(&self.bytes)
