@@ -5,19 +5,19 @@ ghost use Rattle.const_hex.specs.Texts.{text_length};
 
 use crate::hex::Hex;
 use crate::question::{Fault, UNKNOWN};
-use const_hex::serde::{JsonError, no_prefix, serialize_inner};
+use const_hex::serde::no_prefix;
 use const_hex::{
-    Buffer, BufferedHex, FromHex, FromHexError, PieceSink, check, check_raw, const_check,
-    const_check_raw, const_decode_to_array, const_encode, decode, decode_to_array, decode_to_slice,
-    encode, encode_prefixed, encode_to_slice, encode_to_slice_upper, encode_to_str,
-    encode_to_str_upper, encode_upper, encode_upper_prefixed, serialize, serialize_upper,
+    Buffer, BufferedHex, FromHex, FromHexError, JsonError, PieceSink, check, check_raw,
+    const_check, const_check_raw, const_decode_to_array, const_encode, decode, decode_to_array,
+    decode_to_slice, encode, encode_prefixed, encode_to_slice, encode_to_slice_upper,
+    encode_to_str, encode_to_str_upper, encode_upper, encode_upper_prefixed, serialize,
+    serialize_inner, serialize_upper,
 };
 use hex_testing::InHex;
 use serde_json::Value;
 use std::alloc::{AllocError, Global};
 use std::convert::AsSlice;
-use std::fmt;
-use std::fmt::Write;
+use std::fmt::{self, Write};
 
 pub(crate) fn owned(alloc: Global, name: &str, bytes: &[u8]) -> Result<String, Fault> {
     match name {

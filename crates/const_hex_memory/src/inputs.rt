@@ -18,7 +18,7 @@ pub(crate) const BAD: &str = "zz";
 pub(crate) const BAD_LINE: &[u8] = b"0xzz\n";
 /// The text of a hash of bytes 0xAB.
 pub(crate) const HASH: &str = "0xabababababababababababababababababababababababababababababababab";
-/// A step of 32 lanes, one of 16, and a rest of 9.
+/// A step of 32 lanes, one of 16, and a remainder of 9.
 pub(crate) const BYTES: [u8; 57] = [0xAB; 57];
 /// The digits of 57 bytes 0xAA.
 pub(crate) const DIGITS: [u8; 114] = [b'a'; 114];
@@ -27,7 +27,7 @@ pub(crate) const DATA: [u8; 4097] = [0xAB; 4097];
 /// Digits of 2049 bytes.
 pub(crate) const LONG: [u8; 4098] = [b'a'; 4098];
 
-/// [`DIGITS`] with a bad byte in the rest.
+/// [`DIGITS`] with a bad byte in the remainder.
 pub(crate) fn bad_digits() -> [u8; 114] {
     let mut text = DIGITS;
     text[100] = b'g';

@@ -1,4 +1,4 @@
-//! The lines that are printed. Printing asks for no memory. A line that cannot be printed is lacking
+//! The lines that are printed. Printing does not allocate. A line that cannot be printed is lacking
 //! in what `memory/run` compares.
 
 use std::fmt::Debug;

@@ -2,8 +2,8 @@
 //!
 //! With ample memory it prints what the file `stdout` has. `memory/run`, at the top of the
 //! repository, runs it with requests for memory refused, and compares line by line. So the program
-//! itself asks for memory only at its start, for the values in [`inputs`]. The calls that ask for
-//! none come first.
+//! itself allocates only at its start, for the values in [`inputs`]. The calls that do not allocate
+//! come first.
 #![tactic(auto)]
 
 mod inputs;

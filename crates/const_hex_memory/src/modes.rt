@@ -14,7 +14,7 @@ const ENCODERS: [Mode; 4] = [
 
 const READERS: [Mode; 2] = [Mode::Decode, Mode::Check];
 
-/// Makes the calls of `answer` that ask for no memory: a text is refused, or has no bytes.
+/// Makes the calls of `answer` that do not allocate: a text is refused, or has no bytes.
 pub(crate) fn tell_refused(rt: &impl Print, alloc: Global) {
     tell_answer(rt, alloc, Mode::Decode, "an odd text", ODD.as_bytes());
     tell_answer(rt, alloc, Mode::Decode, "nothing", NOTHING);
@@ -22,12 +22,12 @@ pub(crate) fn tell_refused(rt: &impl Print, alloc: Global) {
     tell_answer(rt, alloc, Mode::Check, "a bad text", BAD_LINE);
 }
 
-/// Makes all calls that ask for memory.
+/// Makes all calls that allocate.
 pub(crate) fn tell_all(rt: &impl Print, alloc: Global) {
     tell_answers(rt, alloc);
     tell_runs(rt, alloc);
     tell_long_runs(rt, alloc);
-    // The vector asks for memory of its own. If that is refused, a write fails.
+    // The vector itself allocates. If that is refused, a write fails.
     let (mut input, mut output) = (KIWI, Vec::new(alloc));
     let done = run(alloc, Mode::EncodeUpper, &mut input, &mut output);
     let _ = println!(rt; "run into a vector = {done:?} {output:?}");
@@ -75,7 +75,7 @@ fn tell_long_runs(rt: &impl Print, alloc: Global) {
     }
 }
 
-/// Prints how a run ends, how often it writes, and how many bytes. The writer asks for no memory.
+/// Prints how a run ends, how often it writes, and how many bytes. The writer does not allocate.
 fn tell_run(rt: &impl Print, alloc: Global, mode: Mode, of: &str, input: &[u8]) {
     let (mut input, mut output) = (input, Counting::new(0));
     let done = run(alloc, mode, &mut input, &mut output);

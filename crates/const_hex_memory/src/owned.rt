@@ -1,4 +1,4 @@
-//! Calls that ask for memory.
+//! Calls that allocate.
 
 use crate::inputs::{BAD, BYTES, DATA, DIGITS, Inputs, KIWI, TEXT, bad_digits};
 use crate::kept::Kept;
@@ -101,10 +101,8 @@ fn tell_by_each_kernel(rt: &impl Print, alloc: Global) {
 }
 
 fn tell_by_kernel<K: Kernel>(rt: &impl Print, alloc: Global, kernel: KernelCase) {
-    let (mut sink, hex) = (
-        PieceSink::new(alloc, 0),
-        BufferedHex::<false, true>::new(&DATA),
-    );
+    let mut sink = PieceSink::new(alloc, 0);
+    let hex = BufferedHex::<false, true>::new(&DATA);
     tell_each!(rt, kernel.name;
         "encode_with by" => encode_with::<K, false>(alloc, &BYTES),
         "encode_with, upper, by" => encode_with::<K, true>(alloc, &BYTES),

@@ -1,4 +1,4 @@
-//! Calls that ask for no memory.
+//! Calls that do not allocate.
 
 mod chunks;
 mod kernels;

@@ -22,7 +22,7 @@ pub fn wrapped_ether() -> [u8; 20]
     bytes_of(WRAPPED_ETHER)
 }
 
-/// The hash as bytes, by a call that could refuse another text.
+/// The hash as bytes, by a call that returns an error for another text.
 ///
 /// ```rust
 /// assert_eq!(rt; transfer()[0], 0xDD);

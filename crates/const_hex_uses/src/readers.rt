@@ -1,16 +1,16 @@
-//! Callers over any type that is read from text. They rely only on the law of such types.
+//! Callers that read a text: as any type, by the law of such types alone; and into a key.
 
-ghost use Rattle.std.specs.Prelude.{◌≡◌, ◌≢◌, ◌↔◌, ◌⊎◌, false, length, IfOk, IfErr, Ok};
-ghost use Rattle.const_hex.specs.Answers.{Reads};
+ghost use Rattle.std.specs.Prelude.{◌≡◌, ◌≢◌, ◌↔◌, ◌⊎◌, false, length, IfOk, IfErr, Ok, Err};
+ghost use Rattle.const_hex.specs.Answers.{Reads, ReadsSized};
 ghost use Rattle.const_hex.specs.Bodies.{body_of, lowered};
 ghost use Rattle.const_hex.specs.Types.{IsCount, RefusesOrMisfits};
-ghost use Rattle.const_hex.specs.declared.error.FromHexError.TheVariants.{NoMemory};
+ghost use Rattle.const_hex.specs.declared.error.FromHexError.TheVariants.{InvalidStringLength, NoMemory, OddLength};
 
-use const_hex::{FromHex, FromHexError};
+use const_hex::{FromHex, FromHexError, decode_to_slice};
 use std::alloc::Global;
 
 /// Reads a text. A value has the bytes that the text spells. If the error is not of memory, the
-/// text is refused, or its number of bytes does not fit.
+/// text is no hex, or its number of bytes does not fit.
 ///
 /// ```rust
 /// assert_eq!(rt; read::<[u8; 2]>(rt.alloc(), b"0xff80")?, [0xff, 0x80]);
@@ -26,7 +26,7 @@ pub fn read<T: FromHex>(alloc: Global, text: &[u8]) -> Result<T, T::Error>
 
 /// Reads two texts. Each value has the bytes that its text spells. The values have the same bytes
 /// exactly if the texts differ only in prefix and case. If the error is not of memory, one of the
-/// texts is refused, or its number of bytes does not fit.
+/// texts is no hex, or its number of bytes does not fit.
 ///
 /// ```rust
 /// let (one, two) = read_both::<[u8; 2]>(rt.alloc(), b"0xff80", b"FF80")?;
@@ -57,7 +57,7 @@ pub fn read_both<T: FromHex + Drop>(
 }
 
 /// Reads a text as a vector and as an array. Both have the N bytes that the text spells. If the
-/// error is not of memory, the text is refused, or spells another number of bytes.
+/// error is not of memory, the text is no hex, or spells another number of bytes.
 ///
 /// ```rust
 /// let (list, array) = read_twice::<2>(rt.alloc(), b"ff80")?;
@@ -77,4 +77,21 @@ pub fn read_twice<const N: usize>(
     let list = read::<Vec<u8>>(alloc, text)?;
     let array = read::<[u8; N]>(alloc, text)?;
     Ok((list, array))
+}
+
+/// Replaces a key by the 32 bytes that a text spells. If the text is odd, or has another length, the
+/// key is unchanged.
+///
+/// ```rust
+/// let mut key = [0; 32];
+/// replace_key(&mut key, &[b'a'; 64])?;
+/// assert_eq!(rt; key, [0xAA; 32]);
+/// ```
+pub fn replace_key(key: &mut [u8; 32], text: &[u8]) -> Result<(), FromHexError>
+    ensures replaced { IfOk result (λ _. ReadsSized text.now 32 (Ok key.new)) }
+    ensures refused { IfErr result (λ e. ReadsSized text.now 32 (Err e)) }
+    ensures kept { IfErr result (λ e. (e ≡ OddLength) ⊎ (e ≡ InvalidStringLength)
+        → key.new ≡ key.old) }
+{
+    decode_to_slice(text, key)
 }

@@ -16,7 +16,7 @@ use std::alloc::Global;
 pub enum LineFault {
     /// There is no `=` in the line.
     NoSign,
-    /// The value begins at this place of the line, counted from 0, and is refused.
+    /// The value begins at this place of the line, counted from 0, and its error is this one.
     Refused(usize, FromHexError),
 }
 

@@ -1,10 +1,10 @@
 //! A text for any sink, and its pieces.
 
 ghost use Rattle.std.specs.Prelude.{◌≡◌, true, false, not, is_ok, IfOk};
-ghost use Rattle.const_hex_arch.specs.Streams.{Cut, Streams};
-ghost use Rattle.const_hex_arch.specs.Texts.{full_text};
+ghost use Rattle.const_hex.specs.Streams.{Cut, Streams};
+ghost use Rattle.const_hex.specs.Texts.{full_text};
 
-use const_hex_arch::{BufferedHex, PieceSink, Sink, SinkError};
+use const_hex::{BufferedHex, PieceSink, Sink, SinkError};
 use std::alloc::Global;
 
 /// Sends the text of some bytes, behind `0x`, to a sink that has refused nothing so far.
@@ -25,7 +25,7 @@ pub fn send<S: Sink>(bytes: &[u8], sink: &mut S) -> Result<(), SinkError>
 
 /// The text of some bytes, behind `0x`, in pieces of at most 4096 bytes, as for a network.
 ///
-/// Returns an error if memory is refused.
+/// Returns an error if there is too little memory.
 ///
 /// ```rust
 /// assert_eq!(rt; packets(rt.alloc(), &[0xAB; 5000])?.pieces().len(), 3);

@@ -1,8 +1,7 @@
 //! Readers and writers that count their calls, and fail at some.
 
 use std::alloc::Global;
-use std::io;
-use std::io::{ErrorKind, Read, Write};
+use std::io::{self, ErrorKind, Read, Write};
 
 /// Hands out one byte per call. One call fails, and later calls succeed.
 #[derive(Drop)]

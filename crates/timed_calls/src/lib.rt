@@ -9,11 +9,8 @@ ghost use Rattle.std.specs.Prelude.{◌≡◌, ◌≢◌, ℕ, List, false, leng
 ghost use Rattle.const_hex.specs.Texts.{hex_text};
 ghost use Rattle.const_hex.specs.Answers.{Reads};
 
-mod counter;
-
-use crate::counter::Counter;
 use std::alloc::Global;
-use std::fmt::Write;
+use std::fmt::{self, Write};
 
 /// Makes the text of the bytes, writes its last byte to `last`, and returns its length. If there is
 /// no byte, or memory is refused, it returns 0 and leaves `last` unchanged.
@@ -54,9 +51,24 @@ pub extern "C" fn timed_calls_decode(alloc: Global, text: &[u8], last: &mut u8) 
 /// last byte of each piece. Does not allocate.
 #[unsafe(no_mangle)]
 pub extern "C" fn timed_calls_display(bytes: &[u8]) -> usize {
-    let mut counter = Counter::new();
+    let mut counter = Counter(0);
     let text = const_hex::display(bytes);
     // The sink refuses nothing.
     let _ = write!(counter, "{text}");
-    counter.count()
+    counter.0
+}
+
+/// Counts the bytes that are printed into it. It also adds the last byte of each piece: the compiler
+/// may leave out a text if nobody reads a byte of it.
+#[derive(Drop)]
+struct Counter(usize);
+
+impl fmt::Write for Counter {
+    #[inline]
+    fn write_str(&mut self, piece: &str) -> fmt::Result {
+        let last = piece.as_bytes().last().copied().unwrap_or(0);
+        let added = piece.len().wrapping_add(usize::from(last));
+        self.0 = self.0.wrapping_add(added);
+        Ok(())
+    }
 }

@@ -2,13 +2,12 @@
 
 use crate::inputs::{DATA, KIWI};
 use crate::line::{tell_each, tell_of};
-use const_hex::serde::JsonError;
-use const_hex::traits::{BytesToHexChars, HexFault};
-use const_hex::{Buffer, FromHexError, SinkError, const_encode, display};
+use const_hex::{
+    Buffer, BytesToHexChars, FromHexError, HexFault, JsonError, SinkError, const_encode, display,
+};
 use hex_testing::{Counting, InHex};
 use std::alloc::AllocError;
-use std::fmt;
-use std::fmt::Write;
+use std::fmt::{self, Write};
 
 pub(crate) fn tell_all(rt: &impl Print) {
     tell_buffers(rt);
@@ -92,10 +91,6 @@ fn tell_displays(rt: &impl Print) {
 fn tell_sizes(rt: &impl Print, call: &str, shown: impl fmt::Display + Drop) {
     let mut writer = Counting::new(0);
     let done = write!(writer, "{shown}{shown:#}");
-    tell_of(
-        rt,
-        call,
-        "of 4097 bytes",
-        (done, writer.calls, writer.bytes),
-    );
+    let answer = (done, writer.calls, writer.bytes);
+    tell_of(rt, call, "of 4097 bytes", answer);
 }

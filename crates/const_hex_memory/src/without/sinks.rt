@@ -2,8 +2,9 @@
 
 use crate::inputs::DATA;
 use crate::line::tell_each;
-use const_hex::serde::serialize_inner;
-use const_hex::{BufferedHex, BufferedOutput, Output, PieceSink, Sink, SinkOutput, SliceOutput};
+use const_hex::{
+    BufferedHex, BufferedOutput, Output, PieceSink, Sink, SinkOutput, SliceOutput, serialize_inner,
+};
 use hex_testing::Counting;
 use std::alloc::Global;
 

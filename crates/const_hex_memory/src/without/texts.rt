@@ -88,7 +88,7 @@ fn tell_read(rt: &impl Print, alloc: Global) {
     }
 }
 
-/// An odd text is refused before a call asks for memory.
+/// An odd text is refused before a call allocates.
 fn tell_odd(rt: &impl Print, alloc: Global) {
     let odd = ODD.as_bytes();
     tell_each!(rt, "of an odd text";
@@ -101,7 +101,7 @@ fn tell_odd(rt: &impl Print, alloc: Global) {
     );
 }
 
-/// A JSON value that is not a text, or has an odd text, is refused before a call asks for memory.
+/// A JSON value that is not a text, or has an odd text, is refused before a call allocates.
 fn tell_no_texts(rt: &impl Print, alloc: Global, inputs: &Inputs) {
     let number = Value::Number(Number::from(5u8));
     tell_no_text(rt, alloc, "of null", &Value::Null);
