@@ -6,7 +6,7 @@ use const_hex_uses::addresses::{address_text, digest_text, empty_text, prefixed_
 use const_hex_uses::constants::{transfer, wrapped_ether};
 use const_hex_uses::files::{dump, write_text};
 use const_hex_uses::json_rpc::{code_of, code_request, explained};
-use const_hex_uses::readers::{read_both, read_twice};
+use const_hex_uses::readers::{read_both, read_twice, replace_key};
 use const_hex_uses::settings::{LineFault, first_fault};
 use const_hex_uses::sinks::{packets, send};
 use const_hex_uses::store::{find, put};
@@ -75,10 +75,25 @@ fn two_texts(rt: HostRuntime) -> Result<(), Fail> {
     let (one, two) = read_both::<Rc<Vec<u8>>>(rt.alloc(), LOWER, b"ff81")?;
     assert!(rt; *one != *two);
     let (list, array) = read_twice::<2>(rt.alloc(), UPPER)?;
-    same!(&rt; list.as_slice(), array.as_slice());
+    same_bytes!(&rt, "read_twice", Text(UPPER); &list, &array);
     let refusal = FromHexError::InvalidStringLength;
     same!(&rt; read_twice::<3>(rt.alloc(), UPPER).err(), Some(refusal));
     Ok(())
+}
+
+#[test]
+fn replaced_keys(rt: HostRuntime) {
+    let rows: [(&[u8], Result<(), FromHexError>, u8); 4] = [
+        (&[b'a'; 64], Ok(()), 0xAA),
+        (b"6b6", Err(FromHexError::OddLength), 0xEE),
+        (&[b'a'; 62], Err(FromHexError::InvalidStringLength), 0xEE),
+        (&[b'a'; 66], Err(FromHexError::InvalidStringLength), 0xEE),
+    ];
+    for (text, want, byte) in rows {
+        let mut key = [0xEE; 32];
+        same!(&rt, "replace_key", Text(text); replace_key(&mut key, text), want);
+        same_bytes!(&rt, "the key", Text(text); &key, &[byte; 32]);
+    }
 }
 
 #[test]
@@ -102,12 +117,12 @@ fn store(rt: HostRuntime) -> Result<(), Fail> {
 fn files_and_sinks(rt: HostRuntime) -> Result<(), Fail> {
     let mut file = Vec::new(rt.alloc());
     write_text(b"kiwi", &mut file)?;
-    same!(&rt; Text(&file), Text(b"0x6b697769"));
+    same_bytes!(&rt, "write_text", "kiwi"; &file, b"0x6b697769");
     let mut sink = PieceSink::new(rt.alloc(), 0);
     send(b"kiwi", &mut sink)?;
     same!(&rt; sink.pieces().len(), 1);
     let piece = sink.pieces().first().map(|piece| piece.as_str());
-    same!(&rt; piece, Some("0x6b697769"));
+    same!(&rt, "send", "kiwi"; piece, Some("0x6b697769"));
     Ok(())
 }
 
@@ -135,10 +150,10 @@ fn lines_of_a_reader(rt: HostRuntime) -> Result<(), Fail> {
     let mut file = Vec::new(rt.alloc());
     dump(&mut b"0123456789abcdefgh".as_slice(), &mut file)?;
     let lines = b"30313233343536373839616263646566\n6768\n".as_slice();
-    same!(&rt; Text(&file), Text(lines));
+    same_bytes!(&rt, "dump", "18 bytes"; &file, lines);
     let mut room = [0u8; 5];
     assert!(rt; dump(&mut b"kiwi".as_slice(), &mut room.as_mut_slice()).is_err());
-    same!(&rt; Text(&room), Text(b"6b697"));
+    same_bytes!(&rt, "dump", "a full room"; &room, b"6b697");
     Ok(())
 }
 

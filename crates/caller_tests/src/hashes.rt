@@ -1,7 +1,6 @@
 //! Hashes and addresses, on examples.
 
-use const_hex::serde::JsonError;
-use const_hex::{FromHex, FromHexError};
+use const_hex::{FromHex, FromHexError, JsonError};
 use hash_hex::{Address20, FixedBytes, Hash32};
 use hex_testing::{Text, same};
 use serde_json::{Value, json};

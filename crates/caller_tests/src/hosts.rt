@@ -6,8 +6,7 @@ use std::alloc::{AllocError, Global};
 use std::cell::Cell;
 use std::env::{Env, FillError};
 use std::fmt::{self, Debug, Display};
-use std::io;
-use std::io::{Eprint, ErrorKind, Read, Write};
+use std::io::{self, Eprint, ErrorKind, Read, Write};
 use std::process::{Abort, ExitCode};
 use std::test::Fail;
 

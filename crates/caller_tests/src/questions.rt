@@ -4,8 +4,7 @@ use const_hex_answers::answer_lines;
 use hex_testing::{Fault, Source, Target, Text, same, same_bytes};
 use std::alloc::Global;
 use std::fmt::Debug;
-use std::io;
-use std::io::{BufRead, BufReader, ErrorKind, Read};
+use std::io::{self, BufRead, BufReader, ErrorKind, Read};
 use std::process::Abort;
 use std::test::Fail;
 

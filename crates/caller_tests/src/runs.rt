@@ -4,8 +4,7 @@ use const_hex::FromHexError;
 use consthex_modes::{Mode, RunError, answer, run};
 use hex_testing::{Endless, Fault, Source, Target, Text, same, same_bytes};
 use std::alloc::Global;
-use std::io;
-use std::io::{ErrorKind, Read};
+use std::io::{self, ErrorKind, Read};
 use std::process::Abort;
 use std::test::Fail;
 
@@ -165,12 +164,12 @@ fn accepts_1048576_bytes_and_no_more(rt: HostRuntime) -> Result<(), Fail> {
     let mut zeros = io::repeat(0).take(1_048_576);
     run(rt.alloc(), Mode::Encode, &mut zeros, &mut text)?;
     same!(&rt; text.pop(), Some(b'\n'));
-    same!(&rt; Text(&text), Text(&vec![in rt.alloc(); b'0'; 2_097_152]?));
+    same_bytes!(&rt, "run", 1_048_576; &text, &vec![in rt.alloc(); b'0'; 2_097_152]?);
 
     let mut nothing = Vec::new(rt.alloc());
     let mut zeros = io::repeat(0).take(1_048_577);
     let outcome = run(rt.alloc(), Mode::Encode, &mut zeros, &mut nothing);
-    same!(&rt; outcome, Err(RunError::TooLong));
+    same!(&rt, "run", 1_048_577; outcome, Err(RunError::TooLong));
     assert!(rt; nothing.is_empty());
     Ok(())
 }
@@ -207,7 +206,7 @@ fn reads(rt: &impl Abort, alloc: Global, kind: ErrorKind, call: usize) {
 fn stops_an_endless_reader(rt: HostRuntime) {
     let mut output = Target::new(rt.alloc(), 1, Fault::Nothing);
     let outcome = run(rt.alloc(), Mode::Encode, &mut Endless, &mut output);
-    same!(&rt; outcome, Err(RunError::TooLong));
+    same!(&rt, "run", "an endless reader"; outcome, Err(RunError::TooLong));
     same!(&rt; (output.writes, output.flushes), (0, 0));
 }
 

@@ -207,7 +207,7 @@ fn one_byte(rt: HostRuntime) {
         sized(&rt, rt.alloc(), text, answer, [byte]);
     }
     let shared = <Rc<[u8; 1]>>::from_hex(rt.alloc(), b"0x0");
-    same!(&rt; shared.err(), Some(ODD));
+    same!(&rt, "<Rc<[u8; 1]>>::from_hex", "0x0"; shared.err(), Some(ODD));
 }
 
 #[test]
@@ -357,7 +357,7 @@ fn json_there_and_back(rt: HostRuntime) -> Result<(), Fail> {
 
 fn has_another_length(rt: &impl Abort, alloc: Global, text: &Value) {
     let error = deserialize::<[u8; 2]>(alloc, text).err();
-    same!(rt; error, Some(JsonError::Hex(OTHER_LENGTH)));
+    same!(rt, "deserialize::<[u8; 2]>", text; error, Some(JsonError::Hex(OTHER_LENGTH)));
 }
 
 #[test]

@@ -3,11 +3,10 @@
 use crate::decoding::each_call_answers;
 use crate::texts::{bytes, printed};
 use const_hex::serde::no_prefix;
-use const_hex::traits::BytesToHexChars;
 use const_hex::{
-    FromHexError, Plain, ToHex, ToHexExt, encode, encode_full_to_slice, encode_prefixed,
-    encode_to_slice, encode_to_slice_upper, encode_to_str, encode_to_str_upper, encode_upper,
-    encode_upper_prefixed, fill_text, serialize, serialize_upper, text_length,
+    BytesToHexChars, FromHexError, Plain, ToHex, ToHexExt, encode, encode_full_to_slice,
+    encode_prefixed, encode_to_slice, encode_to_slice_upper, encode_to_str, encode_to_str_upper,
+    encode_upper, encode_upper_prefixed, fill_text, serialize, serialize_upper, text_length,
 };
 use hex_testing::{Text, same, same_bytes};
 use serde_json::Value;
@@ -53,29 +52,28 @@ impl Written {
     /// Each call that makes a JSON string of the bytes makes these.
     fn each_call_serializes(&self, rt: &impl Abort, alloc: Global) {
         let (bytes, [lower, upper, prefixed_lower, prefixed_upper]) = (&self.bytes, &self.texts);
-        self.serialized(rt, serialize(alloc, bytes), prefixed_lower);
-        self.serialized(rt, serialize_upper(alloc, bytes), prefixed_upper);
-        self.serialized(rt, no_prefix::serialize(alloc, bytes), lower);
-        self.serialized(rt, no_prefix::serialize_upper(alloc, bytes), upper);
+        self.serialized(rt, "serialize", serialize(alloc, bytes), prefixed_lower);
+        self.serialized(
+            rt,
+            "serialize_upper",
+            serialize_upper(alloc, bytes),
+            prefixed_upper,
+        );
+        let value = no_prefix::serialize(alloc, bytes);
+        self.serialized(rt, "no_prefix::serialize", value, lower);
+        let value = no_prefix::serialize_upper(alloc, bytes);
+        self.serialized(rt, "no_prefix::serialize_upper", value, upper);
     }
 
     /// The calls of the traits write these texts of a value.
     fn traits_write<T: ToHex + ToHexExt>(&self, rt: &impl Abort, alloc: Global, value: &T) {
         let [lower, upper, prefixed_lower, prefixed_upper] = &self.texts;
-        self.wrote(
-            rt,
-            "ToHex::encode_hex",
-            ToHex::encode_hex(value, alloc),
-            lower,
-        );
+        let text = ToHex::encode_hex(value, alloc);
+        self.wrote(rt, "ToHex::encode_hex", text, lower);
         let text = ToHex::encode_hex_upper(value, alloc);
         self.wrote(rt, "ToHex::encode_hex_upper", text, upper);
-        self.wrote(
-            rt,
-            "ToHexExt::encode_hex",
-            ToHexExt::encode_hex(value, alloc),
-            lower,
-        );
+        let text = ToHexExt::encode_hex(value, alloc);
+        self.wrote(rt, "ToHexExt::encode_hex", text, lower);
         let text = ToHexExt::encode_hex_upper(value, alloc);
         self.wrote(rt, "ToHexExt::encode_hex_upper", text, upper);
         let text = value.encode_hex_with_prefix(alloc);
@@ -93,9 +91,15 @@ impl Written {
         }
     }
 
-    fn serialized(&self, rt: &impl Abort, answer: Result<Value, AllocError>, want: &str) {
+    fn serialized(
+        &self,
+        rt: &impl Abort,
+        call: &str,
+        answer: Result<Value, AllocError>,
+        want: &str,
+    ) {
         let text = answer.as_ref().ok().and_then(|value| value.as_str());
-        same!(rt, "serialize", (Text(&self.bytes), want); text, Some(want));
+        same!(rt, call, Text(&self.bytes); text, Some(want));
     }
 }
 
@@ -204,17 +208,22 @@ fn full_texts(rt: HostRuntime) {
 
 #[test]
 fn characters(rt: HostRuntime) -> Result<(), AllocError> {
-    let mut upper = BytesToHexChars::<true>::new(&[0x0f]);
-    for (left, want) in [(2, Some('0')), (1, Some('F')), (0, None), (0, None)] {
-        same!(&rt, "size_hint", left; upper.size_hint(), (left, Some(left)));
-        same!(&rt, "next", left; upper.next(), want);
-    }
-    let mut none = BytesToHexChars::<false>::new(&[]);
-    for row in 0..2usize {
-        same!(&rt, "size_hint of none", row; none.size_hint(), (0, Some(0)));
-        same!(&rt, "next of none", row; none.next(), None);
-    }
+    let rows = [(2, Some('0')), (1, Some('F')), (0, None), (0, None)];
+    has_next(&rt, BytesToHexChars::<true>::new(&[0x0f]), &rows);
+    has_next(&rt, BytesToHexChars::<false>::new(&[]), &[(0, None); 2]);
     let text: String = BytesToHexChars::<false>::new(b"kiwi").collect(rt.alloc())?;
     same!(&rt; text.as_str(), "6b697769");
     Ok(())
+}
+
+/// How many characters are left, and the next one, in turn.
+fn has_next<const UPPER: bool>(
+    rt: &impl Abort,
+    mut chars: BytesToHexChars<'_, UPPER>,
+    rows: &[(usize, Option<char>)],
+) {
+    for (left, want) in rows {
+        same!(rt, "size_hint", (UPPER, *left); chars.size_hint(), (*left, Some(*left)));
+        same!(rt, "next", (UPPER, *left); chars.next(), *want);
+    }
 }

@@ -52,9 +52,10 @@ fn names_refused_memory(rt: HostRuntime) -> Result<(), Fail> {
     let bad = decode(alloc, b"zz").err();
     drop(blocks);
     if is_refused {
-        same!(&rt; encoded, Some(AllocError));
-        same!(&rt; [decoded, bad], [Some(FromHexError::NoMemory); 2]);
-        same!(&rt; odd, Some(FromHexError::OddLength));
+        same!(&rt, "encode", "kiwi"; encoded, Some(AllocError));
+        let refused = Some(FromHexError::NoMemory);
+        same!(&rt, "decode", ("6b697769", "zz"); [decoded, bad], [refused; 2]);
+        same!(&rt, "decode", "0x1"; odd, Some(FromHexError::OddLength));
     }
     Ok(())
 }

@@ -137,18 +137,20 @@ fn large_arrays(rt: HostRuntime) -> Result<(), Fail> {
     let lower = "ab".repeat(alloc, 50_000)?;
     let prefixed = ["0x", &lower].concat(alloc)?;
     let buffer = const_encode::<50_000, true, 100_002>(&bytes);
-    same!(&rt; Text(buffer.to_string(alloc)?.as_bytes()), Text(prefixed.as_bytes()));
-    same!(&rt; Text(&buffer.to_vec(alloc)?), Text(prefixed.as_bytes()));
+    same_bytes!(&rt, "to_string", "0x"; buffer.to_string(alloc)?.as_bytes(), prefixed.as_bytes());
+    same_bytes!(&rt, "to_vec", "0x"; &buffer.to_vec(alloc)?, prefixed.as_bytes());
     let mut buffer = Buffer::<50_000, false, 100_000>::new();
-    same!(&rt; Text(buffer.format(&bytes).as_bytes()), Text(lower.as_bytes()));
-    same!(&rt; Text(buffer.to_string(alloc)?.as_bytes()), Text(lower.as_bytes()));
-    same!(&rt; Text(&buffer.to_vec(alloc)?), Text(lower.as_bytes()));
-    same!(&rt; Text(ToHex::encode_hex(&bytes, alloc)?.as_bytes()), Text(lower.as_bytes()));
-    same!(&rt; Text(bytes.encode_hex_with_prefix(alloc)?.as_bytes()), Text(prefixed.as_bytes()));
-    let (answer, want) = (
+    same_bytes!(&rt, "format", (); buffer.format(&bytes).as_bytes(), lower.as_bytes());
+    same_bytes!(&rt, "to_string", (); buffer.to_string(alloc)?.as_bytes(), lower.as_bytes());
+    same_bytes!(&rt, "to_vec", (); &buffer.to_vec(alloc)?, lower.as_bytes());
+    let text = ToHex::encode_hex(&bytes, alloc)?;
+    same_bytes!(&rt, "encode_hex", (); text.as_bytes(), lower.as_bytes());
+    let text = bytes.encode_hex_with_prefix(alloc)?;
+    same_bytes!(&rt, "encode_hex_with_prefix", (); text.as_bytes(), prefixed.as_bytes());
+    let (text, want) = (
         ToHex::encode_hex(&lower, alloc)?,
         "6162".repeat(alloc, 50_000)?,
     );
-    same!(&rt; Text(answer.as_bytes()), Text(want.as_bytes()));
+    same_bytes!(&rt, "encode_hex of a string", (); text.as_bytes(), want.as_bytes());
     Ok(())
 }

@@ -31,6 +31,24 @@ pub(crate) fn check_bytes<R: Debug + Drop>(
 }
 
 #[test]
+#[should_panic(expected = "check of a text at 5: true, but wanted false")]
+fn a_row_that_fails(rt: HostRuntime) {
+    check(&rt, "check of a text", 5, true, false);
+}
+
+#[test]
+#[should_panic(expected = "1 < 2 at (): true, but wanted false")]
+fn an_expression_that_fails(rt: HostRuntime) {
+    hex_testing::same!(&rt; 1 < 2, false);
+}
+
+#[test]
+#[should_panic(expected = "encode at 5, from byte 1 on: \"12345678!\", but wanted \"12345678a\"")]
+fn bytes_that_differ(rt: HostRuntime) {
+    check_bytes(&rt, "encode", 5, b"012345678!", b"012345678a");
+}
+
+#[test]
 fn printed_texts(rt: HostRuntime) -> Result<(), Fail> {
     let short = format!(in rt.alloc(); "{:?}", Text(b"0x\"\xff\n"))?;
     assert!(rt; short.as_str() == "\"0x\\\"\\xff\\n\"");

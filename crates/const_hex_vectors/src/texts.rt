@@ -2,6 +2,7 @@
 
 use const_hex::FromHexError;
 use std::alloc::{AllocError, Global};
+use std::fmt::Write;
 
 const DIGITS: &[u8; 22] = b"0123456789abcdefABCDEF";
 
@@ -39,8 +40,8 @@ pub(crate) fn printed(
     let mut text = if prefix { "0x" } else { "" }.to_string(alloc)?;
     for byte in bytes {
         match upper {
-            true => text.push_str(&format!(in alloc; "{byte:02X}")?)?,
-            false => text.push_str(&format!(in alloc; "{byte:02x}")?)?,
+            true => write!(text, "{byte:02X}")?,
+            false => write!(text, "{byte:02x}")?,
         }
     }
     Ok(text)
