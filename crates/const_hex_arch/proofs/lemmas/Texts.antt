@@ -1,4 +1,4 @@
--- The text of bytes: its length, that it is ASCII, and that it spells the bytes.
+-- The text of bytes.
 use Rattle.std.proofs.Common.{◌≡◌, ℕ, suc, ◌+◌, ◌*◌, ◌/◌, ◌%◌, ◌<◌, Bool, true, false, List, [], ◌∷◌, ◌++◌, length, take, get_or, slice_index, Some, refl, ap, ◌∙◌, sym, arith, length-append}
 use Rattle.std.specs.Str.{IsAscii}
 use Rattle.std.proofs.lemmas.Bool.Decides.{nat_tests}
