@@ -70,9 +70,10 @@ by_link() {
         cmp c/const_hex.h "$room/linked/include/const_hex.h"
 }
 
-# Whether c/install says that it failed, and leaves no file that is half made. $1 is its folder.
+# Whether c/install of the libraries in $2 says that it failed, and leaves no file that is half made. $1 is
+# its folder.
 fails() {
-    ! "$1/c/install" --prefix "$1/usr" "$room/both" > "$room/said" 2> "$room/complaint" &&
+    ! "$1/c/install" --prefix "$1/usr" "${2-$room/both}" > "$room/said" 2> "$room/complaint" &&
         grep -q '^c/install: ' "$room/complaint" && [ -z "$(find "$1/usr" -type f -name '*.new')" ]
 }
 
@@ -89,8 +90,7 @@ folder_for_link() {
 # The archive cannot be read.
 without_archive() {
     copy_scripts && mkdir -p "$room/other/built/libconst_hex.a" && rm -rf "$room/other/usr" &&
-        ! "$room/other/c/install" --prefix "$room/other/usr" "$room/other/built" > "$room/said" \
-            2> "$room/complaint" && [ ! -e "$room/other/usr/lib/libconst_hex.a" ]
+        fails "$room/other" "$room/other/built" && [ ! -e "$room/other/usr/lib/libconst_hex.a" ]
 }
 full_disk() {
     copy_scripts && rm -rf "$room/other/usr" && (ulimit -f 64; fails "$room/other")

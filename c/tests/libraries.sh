@@ -11,16 +11,16 @@ uses_newer() { grep -Eq "^ *[0-9a-f]+:[[:space:]]+($newer)[wlq]?[[:space:]]" "$r
 wide() { code v3 && uses_newer && grep -q '%ymm' "$room/code"; }
 narrow() { code default && grep -q '<const_hex_decode' "$room/code" && ! uses_newer; }
 
-# Whether each call that encodes, decodes or checks looks up in lanes: a call by the plain kernel alone
-# would be right, and ten times as slow. $1 is the disassembler, $2 the object, $3 what the calls' names
-# end in, and $4 the instruction.
-looks_up() {
-    local call
-    for call in encode decode decode_front check check_raw; do
-        "$1" -dr --no-show-raw-insn "$2" |
-            awk -v head="<const_hex_$call$3>:" '$2 == head { is_in = 1 } !NF { is_in = 0 } is_in' |
-            grep -Eq "[[:space:]]$4" && continue
-        echo "const_hex_$call$3 has no look-up in lanes"
+# Whether the instruction $3 stands in each named function of the object $2. $1 is the disassembler. With
+# no look-up in lanes a call would be right, and ten times as slow.
+has_instruction() {
+    local tool=$1 object=$2 instruction=$3 name
+    shift 3
+    for name in "$@"; do
+        "$tool" -dr --no-show-raw-insn "$object" |
+            awk -v head="<$name>:" '$2 == head { is_in = 1 } !NF { is_in = 0 } is_in' |
+            grep -Eq "[[:space:]]$instruction" && continue
+        echo "$name does not have '$instruction'"
         return 1
     done
 }
@@ -29,10 +29,10 @@ test_code() {
     (cd "$room" && ar x both/libconst_hex.a const_hex_default.o const_hex_v3.o)
     does "the build for x86-64-v3 has its lanes" wide
     does "the default build goes without them" narrow
-    does "the default build looks up in 16 lanes" looks_up objdump "$room/const_hex_default.o" \
-        _default 'pshufb '
-    does "the build for x86-64-v3 looks up in 32 lanes" looks_up objdump "$room/const_hex_v3.o" _v3 \
-        'vpshufb .*%ymm'
+    does "the default build looks up in 16 lanes" has_instruction objdump "$room/const_hex_default.o" \
+        'pshufb ' const_hex_{encode,decode,decode_front,check,check_raw}_default
+    does "the build for x86-64-v3 looks up in 32 lanes" has_instruction objdump "$room/const_hex_v3.o" \
+        'vpshufb .*%ymm' const_hex_{encode,decode,decode_front,check,check_raw}_v3
 }
 
 # Whether the shared object exports the calls of the header, and nothing else.

@@ -52,11 +52,14 @@ compiled_for_arm() {
 }
 
 test_arm() {
-    local name
-    has 19 ARM qemu-aarch64 aarch64-linux-gnu-gcc aarch64-linux-gnu-objdump || return
-    # There the checks call the kernel of 32 lanes, and hold none of its code.
-    does "the build for ARM looks up in lanes" looks_up aarch64-linux-gnu-objdump \
-        "$room/aarch64/libconst_hex.a" "" '(tbl[[:space:]]|R_AARCH64_CALL26.*::Lanes32)'
+    local name kernel=const_hex_arch::arch::lanes32::Lanes32Kernel
+    local code=(aarch64-linux-gnu-objdump "$room/aarch64/libconst_hex.a")
+    has 20 ARM qemu-aarch64 aarch64-linux-gnu-gcc aarch64-linux-gnu-objdump || return
+    does "the build for ARM looks up in lanes" has_instruction "${code[@]}" 'tbl[[:space:]]' \
+        const_hex_{encode,decode,decode_front} "$kernel::check"
+    # There the checks hold none of the kernel's code.
+    does "the checks for ARM call that kernel" has_instruction "${code[@]}" \
+        "R_AARCH64_CALL26.*$kernel::check" const_hex_check{,_raw}
     for name in check lengths; do
         does "$name.c for ARM" compiled_for_arm "arm-$name" "c/tests/$name.c"
     done

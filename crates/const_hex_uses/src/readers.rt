@@ -80,7 +80,7 @@ pub fn read_twice<const N: usize>(
 }
 
 /// Replaces a key by the 32 bytes that a text spells. If the text is odd, or has another length, the
-/// key is unchanged.
+/// key is unchanged. After a bad byte it may hold decoded bytes.
 ///
 /// ```rust
 /// let mut key = [0; 32];
