@@ -14,8 +14,7 @@ use Rattle.const_hex.proofs.lemmas.Lowering.{hex_text-lowered, Spells-agree}
 
 -- the second byte of a text is no `x`
 no_prefix : (up : Bool) (c v : ℕ) → v < 16 → ((c == 48) && (hex_digit up v == 120 || hex_digit up v == 88)) ≡ false
-no_prefix true c v h = grind (arith, nat_tests)
-no_prefix false c v h = grind (arith, nat_tests)
+no_prefix up c v h = grind (arith, nat_tests)
 
 -- the body of a full text is its text
 pub body-full_text : (prefix up : Bool) (bs : List ℕ) → body_of (full_text prefix up bs) ≡ hex_text up bs
@@ -25,8 +24,7 @@ body-full_text false up [] = refl
 body-full_text false up (b ∷ bs) = rw (no_prefix up (hex_digit up (b / 16)) (b % 16) (omega arith)) refl
 
 even-full_text : (prefix up : Bool) (bs : List ℕ) → IsEven (length (full_text prefix up bs))
-even-full_text true up bs = let l = length-full_text true up bs in omega (arith, l)
-even-full_text false up bs = let l = length-full_text false up bs in omega (arith, l)
+even-full_text prefix up bs = grind (arith, length-full_text)
 
 -- what was written is read as its bytes
 pub Reads-full_text : (t : List ℕ) (prefix up : Bool) (bs : List ℕ) → AreBytes bs → t ≡ full_text prefix up bs → Reads t (Ok bs)
