@@ -1,7 +1,8 @@
 -- Lemmas for the laws of types that are read from text.
-use Rattle.std.specs.Prelude.{◌≡◌, ℕ, suc, ◌+◌, ◌-◌, ◌*◌, ◌%◌, ◌<◌, ◌≢◌, nat_lt, if◌then◌else◌, Bool, true, false, List, [], ◌∷◌, length, map, ℤ, pos, negsuc, slice_index, Result, Ok, Err, refl}
+use Rattle.std.specs.Prelude.{◌≡◌, ℕ, suc, ◌+◌, ◌-◌, ◌*◌, ◌%◌, ◌<◌, ◌≢◌, Bool, List, [], ◌∷◌, length, map, ℤ, slice_index, Result, Ok, Err, refl}
 use Rattle.std.proofs.Common.{inl, inr, sym, ap, subst, ◌∙◌, arith}
 use Rattle.std.proofs.lemmas.Bool.{cases_eq}
+use Rattle.std.proofs.lemmas.Bool.Decides.{nat_tests}
 use Rattle.const_hex_arch.proofs.lemmas.Spelling.{Spells-length, Spells-bytes, Spells-some, digits_or_bad}
 use Rattle.const_hex.specs.Bodies.{body_of}
 use Rattle.const_hex.specs.Answers.{Reads, ReadsSized, AreBytes, IsEven}
@@ -35,10 +36,7 @@ Reads-some t =
 pub ReadsOwned-faithful : {V : Type 0} (bytes : V → List ℕ) (t : List ℕ) (r : Result V FromHexError)
     → ReadsOwned bytes t r → IsFaithful bytes AnyCount is_no_memory t r
 ReadsOwned-faithful bytes t (Ok v) h = (h, tt)
-ReadsOwned-faithful bytes t (Err OddLength) h = λ _. inl (OddLength, h)
-ReadsOwned-faithful bytes t (Err InvalidStringLength) h = absurd h
-ReadsOwned-faithful bytes t (Err (InvalidHexCharacter c i)) h = λ _. inl (InvalidHexCharacter c i, h)
-ReadsOwned-faithful bytes t (Err NoMemory) h = λ no. cc no
+ReadsOwned-faithful bytes t (Err e) h = λ known. inl (e, grind (arith, known))
 
 -- ---- arrays
 
@@ -61,18 +59,11 @@ ReadsSized-faithful n t (Err NoMemory) h = absurd h
 
 -- a byte comes back from its signed number
 byte_of-signed_of : (b : ℕ) → b < 256 → byte_of (signed_of b) ≡ b
-byte_of-signed_of b h = go (nat_lt b 128) refl
-  where
-    go : (low : Bool) → low ≡ nat_lt b 128 → byte_of (if low then pos b else negsuc (255 - b)) ≡ b
-    go true e = refl
-    go false e = omega arith
+byte_of-signed_of b h = grind (arith, nat_tests)
 
 bytes_back : (bs : List ℕ) → AreBytes bs → map byte_of (map signed_of bs) ≡ bs
 bytes_back [] h = refl
-bytes_back (b ∷ bs) h =
-    let first = byte_of-signed_of b (h 0) in
-    let others = bytes_back bs (λ k. h (suc k)) in
-    rw (first, others) refl
+bytes_back (b ∷ bs) h = rw (byte_of-signed_of b (h 0), bytes_back bs (λ k. h (suc k))) refl
 
 module _ {V : Type 0} (items : V → List ℤ) (fits : ℕ → Type 0) (answers : List ℕ → Result (List ℕ) FromHexError → Type 0) where
   -- the law for signed elements is the law for the bytes

@@ -9,6 +9,7 @@ ghost use Rattle.const_hex.specs.Loans.{EndsHolding};
 mod ascii;
 
 use crate::buffer::ascii::AsciiArray;
+use const_hex_arch::ascii_text;
 use std::alloc::{AllocError, Global};
 use std::fmt;
 
@@ -89,16 +90,6 @@ impl<const N: usize, const PREFIX: bool, const LEN: usize> Buffer<N, PREFIX, LEN
         Self::new()
     }
 
-    /// Writes the whole text over what the buffer holds.
-    #[inline]
-    fn write(&mut self, input: &[u8], upper: bool)
-        requires fits { LEN ≡ text_length PREFIX N }
-        requires size { length input.now ≡ N }
-        ensures { buffer_text self.new ≡ full_text PREFIX upper input.now }
-    {
-        self.text.fill(input, PREFIX, upper);
-    }
-
     /// The buffer with the text of the input, in lowercase.
     ///
     /// LEN must be `2 * N`, plus 2 if PREFIX is true.
@@ -112,7 +103,7 @@ impl<const N: usize, const PREFIX: bool, const LEN: usize> Buffer<N, PREFIX, LEN
         requires { LEN ≡ text_length PREFIX N }
         ensures { buffer_text result ≡ full_text PREFIX false input.now }
     {
-        self.write(input, false);
+        self.formatted_array(input, false);
         self
     }
 
@@ -127,7 +118,7 @@ impl<const N: usize, const PREFIX: bool, const LEN: usize> Buffer<N, PREFIX, LEN
         requires { LEN ≡ text_length PREFIX N }
         ensures { buffer_text result ≡ full_text PREFIX true input.now }
     {
-        self.write(input, true);
+        self.formatted_array(input, true);
         self
     }
 
@@ -140,7 +131,7 @@ impl<const N: usize, const PREFIX: bool, const LEN: usize> Buffer<N, PREFIX, LEN
         ensures* after { sem 𝓛 (EndsHolding N.row PREFIX.row LEN.row self.entry
             (full_text PREFIX upper input.now)) }
     {
-        self.write(input, upper);
+        self.text.fill(input, PREFIX, upper);
         self
     }
 
@@ -232,7 +223,7 @@ impl<const N: usize, const PREFIX: bool, const LEN: usize> Buffer<N, PREFIX, LEN
     pub fn as_str(&self) -> &str
         ensures { result.now ≡ buffer_text self.now }
     {
-        self.text.as_str()
+        ascii_text(&self.text.bytes)
     }
 
     /// The contents, as bytes.
@@ -256,7 +247,7 @@ impl<const N: usize, const PREFIX: bool, const LEN: usize> Buffer<N, PREFIX, LEN
     pub fn as_byte_array(&self) -> &[u8; LEN]
         ensures { result.now ≡ buffer_text self.now }
     {
-        self.text.as_array()
+        &self.text.bytes
     }
 
     /// A copy of the contents, as text.

@@ -66,9 +66,6 @@ pub fn deserialize<T: FromHex>(alloc: Global, value: &Value) -> Result<T, JsonEr
 {
     match value.as_str() {
         None => Err(JsonError::NotText),
-        Some(text) => match T::from_hex(alloc, text.as_bytes()) {
-            Ok(read) => Ok(read),
-            Err(refusal) => Err(JsonError::Hex(refusal)),
-        },
+        Some(text) => T::from_hex(alloc, text.as_bytes()).map_err(JsonError::Hex),
     }
 }

@@ -117,10 +117,8 @@ impl<const N: usize> FromHex for FixedBytes<N> {
         ensures agree { (t : List ℕ) (w : FixedBytes N) → ReadsFixed N t (Ok w)
             → IfOk result (λ v. (w ≡ v) ↔ (lowered (body_of t) ≡ lowered (body_of hex.now))) }
     {
-        match <[u8; N] as FromHex>::from_hex(alloc, hex) {
-            Ok(bytes) => Ok(FixedBytes { bytes }),
-            Err(refusal) => Err(refusal),
-        }
+        let bytes = <[u8; N] as FromHex>::from_hex(alloc, hex)?;
+        Ok(FixedBytes { bytes })
     }
 }
 

@@ -15,45 +15,26 @@ use Rattle.const_hex.specs.declared.error.FromHexError.TheVariants.{OddLength, I
 pub Spells-no_bad : (u bs : List ℕ) (p : ℕ) → Spells u bs → FirstBad u p → ⊥
 Spells-no_bad u bs p s f = digits_no_bad u p (Spells-digits u bs s) f
 
--- no text is both read as bytes and refused
-pub Reads-not_both : (t bs : List ℕ) (e : FromHexError) → Reads t (Ok bs) → Reads t (Err e) → ⊥
-Reads-not_both t bs OddLength h k = omega (arith, h.0, k)
-Reads-not_both t bs InvalidStringLength h k = k
-Reads-not_both t bs (InvalidHexCharacter c i) h k = Spells-no_bad (body_of t) bs k.1.0 h.1 k.1.1
-Reads-not_both t bs NoMemory h k = k
-
-one_refusal : (t : List ℕ) (e f : FromHexError) → Reads t (Err e) → Reads t (Err f) → e ≡ f
-one_refusal t e f h k = grind (arith, FirstBad-same)
-
 -- a text that is read has one answer
 pub one_answer : (t : List ℕ) (r s : Result (List ℕ) FromHexError) → Reads t r → Reads t s → r ≡ s
 one_answer t (Ok a) (Ok b) h k = ap Ok (Spells-same (body_of t) a b h.1 k.1)
-one_answer t (Ok a) (Err f) h k = absurd (Reads-not_both t a f h k)
-one_answer t (Err e) (Ok b) h k = absurd (Reads-not_both t b e k h)
-one_answer t (Err e) (Err f) h k = ap Err (one_refusal t e f h k)
-
-sized_not_both : (t : List ℕ) (n : ℕ) (bs : List ℕ) (e : FromHexError) → ReadsSized t n (Ok bs) → ReadsSized t n (Err e) → ⊥
-sized_not_both t n bs OddLength h k = Reads-not_both t bs OddLength h.1 k
-sized_not_both t n bs InvalidStringLength h k = k.1 h.0
-sized_not_both t n bs (InvalidHexCharacter c i) h k = Reads-not_both t bs (InvalidHexCharacter c i) h.1 k.1
-sized_not_both t n bs NoMemory h k = k
-
-one_sized_refusal : (t : List ℕ) (n : ℕ) (e f : FromHexError) → ReadsSized t n (Err e) → ReadsSized t n (Err f) → e ≡ f
-one_sized_refusal t n e f h k = grind (arith, FirstBad-same)
+one_answer t (Ok a) (Err f) h k = absurd (grind (arith, Spells-no_bad))
+one_answer t (Err e) (Ok b) h k = absurd (grind (arith, Spells-no_bad))
+one_answer t (Err e) (Err f) h k = ap Err (grind (arith, FirstBad-same))
 
 -- a text that is read as n bytes has one answer
 pub one_sized_answer : (t : List ℕ) (n : ℕ) (r s : Result (List ℕ) FromHexError) → ReadsSized t n r → ReadsSized t n s → r ≡ s
 one_sized_answer t n (Ok a) (Ok b) h k = one_answer t (Ok a) (Ok b) h.1 k.1
-one_sized_answer t n (Ok a) (Err f) h k = absurd (sized_not_both t n a f h k)
-one_sized_answer t n (Err e) (Ok b) h k = absurd (sized_not_both t n b e k h)
-one_sized_answer t n (Err e) (Err f) h k = ap Err (one_sized_refusal t n e f h k)
+one_sized_answer t n (Ok a) (Err f) h k = absurd (grind (arith, Spells-no_bad))
+one_sized_answer t n (Err e) (Ok b) h k = absurd (grind (arith, Spells-no_bad))
+one_sized_answer t n (Err e) (Err f) h k = ap Err (grind (arith, FirstBad-same))
 
 -- a text that is checked has one answer
 pub one_check_answer : (t : List ℕ) (r s : Result Unit FromHexError) → Checks t r → Checks t s → r ≡ s
 one_check_answer t (Ok u) (Ok v) h k = refl
-one_check_answer t (Ok u) (Err f) h k = absurd (Reads-not_both t h.0 f h.1 k)
-one_check_answer t (Err e) (Ok v) h k = absurd (Reads-not_both t k.0 e k.1 h)
-one_check_answer t (Err e) (Err f) h k = ap Err (one_refusal t e f h k)
+one_check_answer t (Ok u) (Err f) h k = cc (one_answer t (Ok h.0) (Err f) h.1 k)
+one_check_answer t (Err e) (Ok v) h k = cc (one_answer t (Err e) (Ok k.0) h k.1)
+one_check_answer t (Err e) (Err f) h k = cc (one_answer t (Err e) (Err f) h k)
 
 -- ---- what the calls answer
 

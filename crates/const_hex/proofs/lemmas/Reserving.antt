@@ -9,9 +9,6 @@ use Rattle.const_hex.specs.declared.reserved.ReservedOutput.{ReservedOutput}
 
 -- ---- the first bytes of a piece are put
 
-pub none_reserved : (s : ReservedOutput) → ReservedStep s [] s
-none_reserved s = record { room = refl; count = omega arith; text = sym (append-nil s.bytes.items) }
-
 pub room_for_one : (s t : ReservedOutput) (piece : List ℕ) (i : ℕ) → ReservedStep s (take i piece) t → length piece ≤ spare_room s → i < length piece
     → vec_len t.bytes < vec_capacity t.bytes
 room_for_one s t piece i h fits lt = omega (arith, h.room, h.count, length-take i piece)
@@ -25,7 +22,7 @@ one_reserved s t u piece i h lt room count text = record {
   text = text ∙ rw (h.text, take_more piece i 0 lt) (append_assoc s.bytes.items (take i piece) (get_or piece i 0 ∷ []));
 }
 
-pub ruleset pieces = (none_reserved, room_for_one, one_reserved, take_all)
+pub ruleset pieces = (room_for_one, one_reserved, take_all)
 
 -- ---- whole pieces
 

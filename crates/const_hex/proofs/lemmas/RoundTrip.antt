@@ -8,14 +8,13 @@ use Rattle.const_hex_arch.proofs.lemmas.Texts.{Spells-hex_text, length-hex_text,
 use Rattle.const_hex.specs.Bodies.{body_of, lowered}
 use Rattle.const_hex.specs.Answers.{Reads, ReadsSized, IsEven, AreBytes}
 use Rattle.const_hex.specs.declared.error.FromHexError.{FromHexError}
-use Rattle.const_hex.specs.declared.error.FromHexError.TheVariants.{OddLength, InvalidStringLength, InvalidHexCharacter, NoMemory}
-use Rattle.const_hex.proofs.lemmas.Reading.{one_answer, one_sized_answer, Reads-not_both}
+use Rattle.const_hex.specs.declared.error.FromHexError.TheVariants.{NoMemory}
+use Rattle.const_hex.proofs.lemmas.Reading.{one_answer, one_sized_answer}
 use Rattle.const_hex.proofs.lemmas.Lowering.{hex_text-lowered, Spells-agree}
 
 -- the second byte of a text is no `x`
 no_prefix : (up : Bool) (c v : ℕ) → v < 16 → ((c == 48) && (hex_digit up v == 120 || hex_digit up v == 88)) ≡ false
-no_prefix true c v h = grind (arith, nat_tests)
-no_prefix false c v h = grind (arith, nat_tests)
+no_prefix up c v h = grind (arith, nat_tests)
 
 -- the body of a full text is its text
 pub body-full_text : (prefix up : Bool) (bs : List ℕ) → body_of (full_text prefix up bs) ≡ hex_text up bs
@@ -25,8 +24,7 @@ body-full_text false up [] = refl
 body-full_text false up (b ∷ bs) = rw (no_prefix up (hex_digit up (b / 16)) (b % 16) (omega arith)) refl
 
 even-full_text : (prefix up : Bool) (bs : List ℕ) → IsEven (length (full_text prefix up bs))
-even-full_text true up bs = let l = length-full_text true up bs in omega (arith, l)
-even-full_text false up bs = let l = length-full_text false up bs in omega (arith, l)
+even-full_text prefix up bs = grind (arith, length-full_text)
 
 -- what was written is read as its bytes
 pub Reads-full_text : (t : List ℕ) (prefix up : Bool) (bs : List ℕ) → AreBytes bs → t ≡ full_text prefix up bs → Reads t (Ok bs)
@@ -37,15 +35,9 @@ pub round_trip : {V : Type 0} (items : V → List ℕ) (t : List ℕ) (r : Resul
     → IfOk r (λ v. Reads t (Ok (items v))) → IfErr r (λ e. e ≢ NoMemory → Reads t (Err e))
     → (prefix up : Bool) (bs : List ℕ) → AreBytes bs → t ≡ full_text prefix up bs
     → MatchResult r (λ v. items v ≡ bs) (λ e. e ≡ NoMemory)
-round_trip items t r ok err prefix up bs h e = go r ok err (Reads-full_text t prefix up bs h e)
-  where
-    go : (r' : Result _ FromHexError) → IfOk r' (λ v. Reads t (Ok (items v))) → IfErr r' (λ e. e ≢ NoMemory → Reads t (Err e)) → Reads t (Ok bs)
-        → MatchResult r' (λ v. items v ≡ bs) (λ f. f ≡ NoMemory)
-    go (Ok v) ok err read = let same = one_answer t (Ok (items v)) (Ok bs) ok read in cc same
-    go (Err OddLength) ok err read = absurd (Reads-not_both t bs OddLength read (err (λ e. cc e)))
-    go (Err InvalidStringLength) ok err read = absurd (err (λ e. cc e))
-    go (Err (InvalidHexCharacter c i)) ok err read = absurd (Reads-not_both t bs (InvalidHexCharacter c i) read (err (λ e. cc e)))
-    go (Err NoMemory) ok err read = refl
+round_trip items t (Ok v) ok err prefix up bs h e = cc (one_answer t (Ok (items v)) (Ok bs) ok (Reads-full_text t prefix up bs h e))
+round_trip items t (Err f) ok err prefix up bs h e =
+    let other = λ (is : f ≢ NoMemory). one_answer t (Err f) (Ok bs) (err is) (Reads-full_text t prefix up bs h e) in grind (arith, other)
 
 -- the text of n bytes is read as these bytes, and has no other answer
 pub sized_round_trip : (n : ℕ) (t : List ℕ) (r : Result (List ℕ) FromHexError) → ReadsSized t n r

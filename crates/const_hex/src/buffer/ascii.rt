@@ -4,12 +4,12 @@ ghost use Rattle.std.specs.Prelude.{◌≡◌, ◌<◌, length, replicate, slice
 ghost use Rattle.std.specs.Str.{IsAscii};
 ghost use Rattle.const_hex_arch.specs.Texts.{full_text, text_length};
 
-use const_hex_arch::{FixedKernel, ascii_text, fill_text};
+use const_hex_arch::{FixedKernel, fill_text};
 
 /// An array of LEN bytes, all of them ASCII.
 #[derive(Clone, Copy)]
 pub(crate) struct AsciiArray<const LEN: usize> {
-    bytes: [u8; LEN],
+    pub(crate) bytes: [u8; LEN],
     ghost sized: { length bytes ≡ LEN },
     ghost ascii: { IsAscii bytes },
 }
@@ -42,20 +42,5 @@ impl<const LEN: usize> AsciiArray<LEN> {
         ensures { self.new.bytes ≡ full_text prefix upper input.now }
     {
         fill_text::<FixedKernel>(input, prefix, upper, &mut self.bytes);
-    }
-
-    #[inline]
-    pub(crate) fn as_array(&self) -> &[u8; LEN]
-        ensures { result.now ≡ self.now.bytes }
-    {
-        &self.bytes
-    }
-
-    /// The text, without a copy or a test.
-    #[inline]
-    pub(crate) fn as_str(&self) -> &str
-        ensures { result.now ≡ self.now.bytes }
-    {
-        ascii_text(&self.bytes)
     }
 }

@@ -212,11 +212,9 @@ pub fn decode_to_array<const N: usize>(input: &[u8]) -> Result<[u8; N], FromHexE
 fn read_array<const N: usize>(input: &[u8]) -> Result<[u8; N], FromHexError>
     ensures { ReadsSized input.now N result }
 {
-    let mut bytes = [0; N];
-    match decode_to_slice(input, &mut bytes) {
-        Ok(()) => Ok(bytes),
-        Err(refusal) => Err(refusal),
-    }
+    let mut array = [0; N];
+    decode_to_slice(input, &mut array)?;
+    Ok(array)
 }
 
 /// As [`decode_to_array`], with the same answer on every text. Does not allocate.

@@ -25,13 +25,8 @@ impl<T: FromHex + Drop> FromHex for Box<T> {
         T.bytes T.fits T.Error.is_of_memory T.answers T.faithful };
 
     fn from_hex(alloc: Global, hex: &[u8]) -> Result<Box<T>, T::Error> {
-        match T::from_hex(alloc, hex) {
-            Ok(value) => match Box::new(alloc, value) {
-                Ok(boxed) => Ok(boxed),
-                Err(_refused) => Err(T::Error::of_memory()),
-            },
-            Err(fault) => Err(fault),
-        }
+        let value = T::from_hex(alloc, hex)?;
+        Box::new(alloc, value).map_err(|_| T::Error::of_memory())
     }
 }
 
@@ -52,12 +47,7 @@ impl<T: FromHex + Drop> FromHex for Rc<T> {
         T.bytes T.fits T.Error.is_of_memory T.answers T.faithful };
 
     fn from_hex(alloc: Global, hex: &[u8]) -> Result<Rc<T>, T::Error> {
-        match T::from_hex(alloc, hex) {
-            Ok(value) => match Rc::new(alloc, value) {
-                Ok(shared) => Ok(shared),
-                Err(_refused) => Err(T::Error::of_memory()),
-            },
-            Err(fault) => Err(fault),
-        }
+        let value = T::from_hex(alloc, hex)?;
+        Rc::new(alloc, value).map_err(|_| T::Error::of_memory())
     }
 }

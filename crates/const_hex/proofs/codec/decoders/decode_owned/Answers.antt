@@ -1,4 +1,4 @@
-use Rattle.std.proofs.Common.{◌≡◌, ◌++◌, length, take, drop, arith, rules}
+use Rattle.std.proofs.Common.{◌≡◌, ◌++◌, length, take, drop, arith}
 use Rattle.std.proofs.lemmas.Grind.{common_steps}
 use Rattle.const_hex.proofs.codec.decoders.decode_owned.Goals as goal
 
@@ -7,9 +7,3 @@ returns-clause-ok g c =
     let n = length c.decode_body.new.output in
     let whole : take c.in_ok-bytes.bytes.len (c.decode_body.new.output ++ drop n c.in_ok-bytes.bytes.items) ≡ c.decode_body.new.output = grind (arith, common_steps) in
     rw (← c.strip_prefix-body.ensures.body, whole) (c.if-input-ne0.false, c.decode_body.ensures.spells c.if-not-decode_body.false)
-
-pub returns-clause-err : goal.returns-clause-err
-returns-clause-err g c = search rules
-
-pub returns-clause-odd : goal.returns-clause-odd
-returns-clause-odd g c = search rules

@@ -3,6 +3,3 @@ use Rattle.const_hex.proofs.codec.encoders.filled.Goals as goal
 
 pub returns-clause-text : goal.returns-clause-text
 returns-clause-text c = search rules
-
-pub returns-clause-ascii : goal.returns-clause-ascii
-returns-clause-ascii c = search rules
