@@ -34,9 +34,6 @@ merge_all (suc k) (h ∷ l ∷ ns) e a =
     let rest = merge_all k ns (omega arith) a.1.1 in
     rw (low, high, here, rest) refl
 
-pub join_are : (n : ℕ) (a b : List ℕ) → length a ≡ n → length b ≡ n → pick_l 0 (a ++ b) (range_with_len 0 (n + n)) ≡ a ++ b
-join_are n a b p q = pick_l_whole 0 (a ++ b) (n + n) (omega (arith, length-append a b))
-
 -- ---- the bytes that values spell
 
 value_is : (n b : ℕ) → as_value n ≡ hex_value b → n ≤ 15 → hex_value b ≡ Some n

@@ -13,7 +13,7 @@ use lib.Lanes.{zip2, sel_l, top, fold_l, Each1}
 use mir.Val.{zeroes}
 use Rattle.const_hex_arch.specs.Digits.{hex_value, IsDigit}
 use Rattle.const_hex_arch.specs.Lanes.{IsUnmarked, AllUnmarked}
-use Rattle.const_hex_arch.specs.Nibbles.{IsMarkOf, IsValueOf, IsPartOf, IsLimitOf}
+use Rattle.const_hex_arch.specs.Nibbles.{IsValueOf, IsPartOf, IsLimitOf}
 use Rattle.const_hex_arch.specs.Texts.{AllDigits}
 use Rattle.const_hex_arch.proofs.lemmas.Tables.{all_below, every_below}
 use Rattle.const_hex_arch.proofs.lemmas.LaneValues.{same_value, is_none, same_if_some, sub8, min_l}
@@ -85,14 +85,11 @@ within_is x y = within_by x y (ltb x y)
 abbrev less_l : ℕ → List ℕ → List ℕ
 less_l n v = zip2 sub8 v (replicate n 48)
 
-parts_all : (v t : List ℕ) → AllZip IsLimitOf v t → AllZip IsPartOf v (min_l (less_l (length v) v) t)
-parts_all [] [] z = tt
-parts_all [] (y ∷ t) z = absurd z
-parts_all (x ∷ v) [] z = absurd z
-parts_all (x ∷ v) (y ∷ t) z = (subst (IsPartOf x) (within_is (less x) y) z.0, parts_all v t z.1)
-
-pub parts_are : (n : ℕ) (v t : List ℕ) → length v ≡ n → AllZip IsLimitOf v t → AllZip IsPartOf v (min_l (less_l n v) t)
-parts_are n v t e z = subst (λ n. AllZip IsPartOf v (min_l (less_l n v) t)) e (parts_all v t z)
+pub parts_are : (v t : List ℕ) → AllZip IsLimitOf v t → AllZip IsPartOf v (min_l (less_l (length v) v) t)
+parts_are [] [] z = tt
+parts_are [] (y ∷ t) z = absurd z
+parts_are (x ∷ v) [] z = absurd z
+parts_are (x ∷ v) (y ∷ t) z = (subst (IsPartOf x) (within_is (less x) y) z.0, parts_are v t z.1)
 
 pub values_of_parts : (v ns : List ℕ) → AllZip IsPartOf v ns → AllZip IsValueOf v ns
 values_of_parts [] [] z = tt
@@ -100,24 +97,14 @@ values_of_parts [] (n ∷ ns) z = absurd z
 values_of_parts (x ∷ v) [] z = absurd z
 values_of_parts (x ∷ v) (n ∷ ns) z = (z.0.0, values_of_parts v ns z.1)
 
-marks_all : (v ns : List ℕ) → AllZip IsPartOf v ns → AllZip IsMarkOf v (zip2 sub8 (less_l (length v) v) ns)
-marks_all [] [] z = tt
-marks_all [] (n ∷ ns) z = absurd z
-marks_all (x ∷ v) [] z = absurd z
-marks_all (x ∷ v) (n ∷ ns) z = (z.0.1, marks_all v ns z.1)
-
-pub marks_are : (n : ℕ) (v ns : List ℕ) → length v ≡ n → AllZip IsPartOf v ns → AllZip IsMarkOf v (zip2 sub8 (less_l n v) ns)
-marks_are n v ns e z = subst (λ n. AllZip IsMarkOf v (zip2 sub8 (less_l n v) ns)) e (marks_all v ns z)
-
--- ---- lanes have no mark if they stand for digits
-
-pub unmarked_are_digits : (v zs : List ℕ) → AllZip IsMarkOf v zs → AllUnmarked zs ↔ AllDigits v
+-- the marks of lanes: there are none exactly if all lanes are digits
+pub unmarked_are_digits : (v ns : List ℕ) → AllZip IsPartOf v ns → AllUnmarked (zip2 sub8 (less_l (length v) v) ns) ↔ AllDigits v
 unmarked_are_digits [] [] z = (λ _. All-nil IsDigit, λ _. tt)
 unmarked_are_digits [] (n ∷ ns) z = absurd z
 unmarked_are_digits (b ∷ v) [] z = absurd z
 unmarked_are_digits (b ∷ v) (n ∷ ns) z =
     let more = unmarked_are_digits v ns z.1 in
-    (λ a. All-cons IsDigit b v (z.0.0 a.0) (more.0 a.1), λ a. (z.0.1 (All-head IsDigit b v a), more.1 (All-tail IsDigit b v a)))
+    (λ a. All-cons IsDigit b v (z.0.1.0 a.0) (more.0 a.1), λ a. (z.0.1.1 (All-head IsDigit b v a), more.1 (All-tail IsDigit b v a)))
 
 -- a lane of two together
 both_unmarked : (y z : ℕ) → IsUnmarked (bit_or y z) ↔ (IsUnmarked y × IsUnmarked z)
@@ -170,10 +157,8 @@ pub are_unmarked : (n : ℕ) (xs : List ℕ) → (length xs ≡ n) × Each1 (Fit
     → IsTrue (eqb (fold_l bit_or 0 (zip2 bit_and xs (replicate n 216))) 0) ↔ AllUnmarked xs
 are_unmarked n xs f =
     let all = unmarked_fold 0 xs f.1 in
-    let joined = λ (n : ℕ). fold_l bit_or 0 (zip2 bit_and xs (replicate n 216)) in
     let none : zero ≡ 0 = refl in
-    subst (λ n. IsTrue (eqb (joined n) 0) ↔ AllUnmarked xs) f.0
-    (λ t. (all.0 (eqb-true (joined (length xs)) 0 t)).1, λ a. eq-eqb (joined (length xs)) 0 (all.1 (none, a)))
+    rw (← f.0) (λ t. (all.0 (eqb-true _ 0 t)).1, λ a. eq-eqb _ 0 (all.1 (none, a)))
 
 -- ---- one condition through another
 

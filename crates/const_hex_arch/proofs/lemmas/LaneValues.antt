@@ -73,19 +73,13 @@ unhex_at b h s = same_if_some _ _ (every_below (λ b. is_none (hex_value b) || s
 
 -- ---- all lanes
 
-nibbles_all : (v : List ℕ) → Each1 (Fits w8) v → map as_value (nibbles_l (length v) v) ≡ map hex_value v
-nibbles_all [] f = refl
-nibbles_all (x ∷ xs) f = cons_same (nibble_at x f.0.fits) (nibbles_all xs f.1)
+pub nibbles_are : (v : List ℕ) → Each1 (Fits w8) v → map as_value (nibbles_l (length v) v) ≡ map hex_value v
+nibbles_are [] f = refl
+nibbles_are (x ∷ xs) f = cons_same (nibble_at x f.0.fits) (nibbles_are xs f.1)
 
-unhex_all : (v : List ℕ) → Each1 (Fits w8) v → AllZip IsValueOf v (unhex_l (length v) v)
-unhex_all [] f = tt
-unhex_all (x ∷ xs) f = (unhex_at x f.0.fits, unhex_all xs f.1)
-
-pub nibbles_are : (n : ℕ) (v : List ℕ) → (length v ≡ n) × Each1 (Fits w8) v → map as_value (nibbles_l n v) ≡ map hex_value v
-nibbles_are n v f = subst (λ n. map as_value (nibbles_l n v) ≡ map hex_value v) f.0 (nibbles_all v f.1)
-
-pub unhex_are : (n : ℕ) (v : List ℕ) → (length v ≡ n) × Each1 (Fits w8) v → AllZip IsValueOf v (unhex_l n v)
-unhex_are n v f = subst (λ n. AllZip IsValueOf v (unhex_l n v)) f.0 (unhex_all v f.1)
+pub unhex_are : (v : List ℕ) → Each1 (Fits w8) v → AllZip IsValueOf v (unhex_l (length v) v)
+unhex_are [] f = tt
+unhex_are (x ∷ xs) f = (unhex_at x f.0.fits, unhex_are xs f.1)
 
 -- the values of digits
 one_value : (b n : ℕ) → hex_value b ≡ Some n → as_value n ≡ hex_value b

@@ -32,34 +32,13 @@ pub(crate) fn encode<const N: usize, V: Vectors<N>, O: Output>(
         encode_step::<N, V, O>(&input[middle..end], upper, output);
         at = end;
     }
-    encode_last::<N, V, O>(&input[at..], upper, output);
-}
-
-/// Encodes one step if the input has one, and then the remainder, as one piece.
-#[inline(always)]
-fn encode_last<const N: usize, V: Vectors<N>, O: Output>(input: &[u8], upper: bool, output: &mut O)
-    requires fewer { length input.now < 2 * N }
-    requires room { HasRoom (O.room output.old) (2 * length input.now) }
-    ensures { Writes O.step output.old (hex_text upper input.now) output.new }
-{
-    let mut left = input;
-    if left.len() >= N {
-        let (bytes, rest) = left.split_at(N);
-        encode_step::<N, V, O>(bytes, upper, output);
-        left = rest;
+    if input.len() - at >= N {
+        let end = at + N;
+        encode_step::<N, V, O>(&input[at..end], upper, output);
+        at = end;
     }
-    encode_rest::<O>(left, upper, output);
-}
-
-/// Encodes at most 32 bytes, as one piece, or none if there are no bytes.
-#[inline(always)]
-fn encode_rest<O: Output>(rest: &[u8], upper: bool, output: &mut O)
-    requires few { length rest.now ≤ 32 }
-    requires room { HasRoom (O.room output.old) (2 * length rest.now) }
-    ensures { Writes O.step output.old (hex_text upper rest.now) output.new }
-{
-    if rest.len() > 0 {
-        encode_few::<O>(rest, upper, output);
+    if at < input.len() {
+        encode_few::<O>(&input[at..], upper, output);
     }
 }
 
@@ -90,6 +69,7 @@ fn encode_few<O: Output>(bytes: &[u8], upper: bool, output: &mut O)
 /// Writes two digits for each of `H` to `2 * H` bytes, as one piece. The first `H` bytes and the last
 /// `H` share a vector.
 #[inline(always)]
+#[tactic(auto, using(crate::proofs::lemmas::Ends::ends_text))]
 fn encode_ends<const H: usize, const N: usize, V: Vectors<N>, O: Output>(
     bytes: &[u8],
     upper: bool,
