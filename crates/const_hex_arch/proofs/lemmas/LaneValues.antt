@@ -1,5 +1,5 @@
 -- The values of digits, in vectors of any number of lanes.
-use Rattle.std.proofs.Common.{◌≡◌, ℕ, zero, suc, ◌+◌, ◌-◌, ◌%◌, ◌^◌, ◌<◌, ◌≤◌, Bool, true, false, cond, eqb, ltb, T, ◌||◌, List, [], ◌∷◌, map, length, replicate, drop, get_or, bit_and, refl, ap, subst, arith, w8, Fits, Option, Some, None, IsSome, eqb→eq}
+use Rattle.std.proofs.Common.{◌≡◌, ℕ, zero, suc, ◌+◌, ◌-◌, ◌%◌, ◌^◌, ◌<◌, ◌≤◌, Bool, true, false, cond, eqb, ltb, T, ◌||◌, List, [], ◌∷◌, map, length, replicate, drop, get_or, bit_and, refl, ap, arith, w8, Fits, Option, Some, None, IsSome, eqb→eq}
 use Rattle.std.specs.List.{AllZip}
 use Rattle.std.proofs.lemmas.Bool.Decides.{nat_tests}
 use Rattle.std.proofs.lemmas.List.Elements.{All-head, All-tail}

@@ -1,14 +1,14 @@
 -- Texts that are worked through in steps, and the remainder by another call.
-use Rattle.std.proofs.Common.{◌≡◌, ℕ, ◌+◌, ◌-◌, ◌*◌, ◌≤◌, ◌↔◌, Bool, List, [], ◌++◌, length, take, drop, refl, sym, ap, subst, ◌∙◌, arith, take-add, take-append-drop, drop-drop, length-take, length-drop, Option}
+use Rattle.std.proofs.Common.{◌≡◌, ℕ, ◌+◌, ◌-◌, ◌*◌, ◌≤◌, ◌↔◌, Bool, List, [], ◌++◌, length, take, drop, refl, sym, ap, subst, ◌∙◌, arith, take-add, take-append-drop, drop-drop, length-take, length-append, Option}
 use Rattle.std.proofs.lemmas.Grind.{common_steps}
-use Rattle.std.proofs.lemmas.List.{append-nil, drop_at, take_rest}
+use Rattle.std.proofs.lemmas.List.{append-nil, take_at, drop_at, take_rest}
 use Rattle.std.proofs.lemmas.List.Elements.{All-take, All-drop}
 use Rattle.std.proofs.lemmas.Slice.{take-put_mid, drop-put_mid}
 use borrow.Rule.Slice.PartMut.{put_mid}
 use Rattle.const_hex_arch.specs.Digits.{IsDigit}
 use Rattle.const_hex_arch.specs.Runs.{HasRoom, less_room, Writes}
 use Rattle.const_hex_arch.specs.Texts.{hex_text, AllDigits, Spells, Partial}
-use Rattle.const_hex_arch.proofs.lemmas.Runs.{HasRoom-less, Writes-none, Writes-more, Writes-append}
+use Rattle.const_hex_arch.proofs.lemmas.Runs.{HasRoom-less, Writes-none, Writes-more}
 use Rattle.const_hex_arch.proofs.lemmas.Spelling.{Spells-append, Spells-parts, digits_append, none_decoded, Partial-after}
 use Rattle.const_hex_arch.proofs.lemmas.Texts.{hex_text-nil, hex_text-append, length-hex_text}
 
@@ -64,22 +64,6 @@ module _ {S : Type 0} {step : S → List ℕ → S → Type 0} {room : S → Opt
             (subst (HasRoom (room mid)) room_left d.has_room));
       }
 
-  -- there is room for the rest
-  pub room_rest : {mid : S} {i : ℕ} {rest : List ℕ} → IsWritten step room up u old mid i → rest ≡ drop i u → HasRoom (room mid) (2 * length rest)
-  room_rest {i = i} {rest} d e = let size : length rest ≡ length u - i = rw e (length-drop i u) in rw size d.has_room
-
-  -- the rest is written by another call
-  pub written_rest : {mid new : S} {i : ℕ} {rest : List ℕ} → IsWritten step room up u old mid i → rest ≡ drop i u
-      → Writes step mid (hex_text up rest) new → Writes step old (hex_text up u) new
-  written_rest {new = new} {i} d e w =
-      subst (λ x. Writes step old (hex_text up x) new) (take-append-drop i u)
-      (rw (hex_text-append up (take i u) (drop i u)) (Writes-append step _ _ _ _ _ d.text (rw e at w)))
-
-  -- the first n bytes, as one piece
-  pub first_written : {mid : S} (n : ℕ) {part : List ℕ} → HasRoom (room old) (2 * length u) → n ≤ length u → part ≡ take n u
-      → step old (hex_text up part) mid → (1 ≤ n) × (n ≤ 32) → IsWritten step room up u old mid n
-  first_written n h k e s size_is = written_step n n (none_written h) (omega arith) k (rw e at s) size_is
-
 -- ---- the first bytes of an output hold what the first pairs of a text spell, and the rest of the
 -- output is unchanged
 pub record IsDecoded (u old new : List ℕ) (i : ℕ) : Type 0 where
@@ -105,16 +89,17 @@ decoded_step {u} {old} {new} {i} {end} r n m d e h f l s =
     }
 
 -- fewer bytes are decoded than there are
-pub decoded_less : (u new : List ℕ) (i e : ℕ) → e ≤ i → i ≤ length new → Spells (take (2 * i) u) (take i new) → IsDecoded u new new e
-decoded_less u new i e h within front = record {
-  within = omega arith;
-  same_length = refl;
-  front =
-      let text : take (2 * e) (take (2 * i) u) ≡ take (2 * e) u = grind (arith, common_steps) in
-      let bytes : take e (take i new) ≡ take e new = grind (arith, common_steps) in
-      rw (text, bytes) at (Spells-parts (take (2 * i) u) (take i new) e (2 * e) refl front).0;
-  rest = refl;
-}
+pub decoded_less : {u old new : List ℕ} {i : ℕ} (e : ℕ) → IsDecoded u old new i → e ≤ i → IsDecoded u new new e
+decoded_less {u} {old} {new} {i} e d h =
+    let within = d.within in record {
+      within = omega arith;
+      same_length = refl;
+      front =
+          let text : take (2 * e) (take (2 * i) u) ≡ take (2 * e) u = grind (arith, common_steps) in
+          let bytes : take e (take i new) ≡ take e new = grind (arith, common_steps) in
+          rw (text, bytes) at (Spells-parts (take (2 * i) u) (take i new) e (2 * e) refl d.front).0;
+      rest = refl;
+    }
 
 -- a step that wrote nothing
 pub kept_step : (new r : List ℕ) (i n : ℕ) → r ≡ take n (drop i new) → put_mid i n new r ≡ new
@@ -139,9 +124,13 @@ module _ {u old new : List ℕ} {i : ℕ} (r : List ℕ) (d : IsDecoded u old ne
   pub spells_rest : Spells (take (length u - 2 * i) (drop (2 * i) u)) r → Spells u (put_mid i (length new - i) new r)
   spells_rest s = rw whole (subst (λ x. Spells x (take i new ++ r)) (take-append-drop (2 * i) u) (Spells-append _ _ _ _ d.front (rw take_rest at s)))
 
-  pub partial_behind : Partial (take (length new - i) (drop i new)) (take (length u - 2 * i) (drop (2 * i) u)) r
-      → Partial (drop i old) (drop (2 * i) u) (drop i (put_mid i (length new - i) new r))
-  partial_behind p =
+  pub refused_rest : Partial (take (length new - i) (drop i new)) (take (length u - 2 * i) (drop (2 * i) u)) r
+      → Partial old u (put_mid i (length new - i) new r)
+  refused_rest p =
       let within = d.within in
+      let same = d.same_length in
       let front : length (take i new) ≡ i = omega (arith, length-take i new) in
-      rw (whole, drop_at (take i new) r i front) (rw (take_rest, take_rest, d.rest) at p)
+      let all : length (take i new ++ r) ≡ length old = omega (arith, length-append (take i new) r) in
+      let behind : Partial (drop i old) (drop (2 * i) u) r = rw (take_rest new i, take_rest u (2 * i), d.rest) at p in
+      rw whole (Partial-after old u (take i new ++ r) i (2 * i) refl (omega arith) all (omega arith)
+      (rw (take_at (take i new) r i front) d.front) (rw (drop_at (take i new) r i front) behind))

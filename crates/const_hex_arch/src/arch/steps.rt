@@ -159,8 +159,9 @@ fn check_last<const N: usize, V: Vectors<N>>(input: &[u8], at: usize) -> bool
 }
 
 /// Decodes two steps at a time, then single steps, and then 16 bytes if they are left. If two steps
-/// are refused, single steps decode the first of them if possible. A text of less than 16 bytes is
-/// left to `short::decode`.
+/// are refused, single steps decode the first of them if possible. The last 16 bytes are one step,
+/// which decodes some again. If it is refused, it has written nothing, and `short::decode` decodes
+/// what is left, as it decodes a text of less than 16 bytes.
 #[inline(always)]
 pub(crate) fn decode_checked<const N: usize, V: Vectors<N>>(input: &[u8], output: &mut [u8]) -> bool
     requires { length input.now ≡ 2 * length output.old }
@@ -192,24 +193,6 @@ pub(crate) fn decode_checked<const N: usize, V: Vectors<N>>(input: &[u8], output
         }
         at = end;
     }
-    decode_last(input, output, at)
-}
-
-/// Decodes the end of a text: the first `at` bytes of the output are decoded, and at most 16 are left.
-/// The last 16 bytes are one step, which decodes some again. If it is refused, it has written nothing,
-/// and `short::decode` decodes what is left.
-#[inline(always)]
-fn decode_last(input: &[u8], output: &mut [u8], at: usize) -> bool
-    requires size { length input.now ≡ 2 * length output.old }
-    requires step { 16 ≤ length output.old }
-    requires within { at ≤ length output.old }
-    requires few { length output.old ≤ at + 16 }
-    requires front { Spells (take (2 * at) input.now) (take at output.old) }
-    ensures spells { IsTrue result → Spells input.now output.new }
-    ensures kept { result ≡ false → take at output.new ≡ take at output.old }
-    ensures refused { result ≡ false
-        → Partial (drop at output.old) (drop (2 * at) input.now) (drop at output.new) }
-{
     if at == output.len() {
         return true;
     }
@@ -243,20 +226,6 @@ pub(crate) fn decode_unchecked<const N: usize, V: Vectors<N>>(input: &[u8], outp
         decode_digits_step::<16, Lanes16>(&input[2 * at..2 * end], &mut output[at..end]);
         at = end;
     }
-    decode_digits_last(input, output, at);
-}
-
-/// As `decode_last`, for a text that has only digits.
-#[inline(always)]
-fn decode_digits_last(input: &[u8], output: &mut [u8], at: usize)
-    requires size { length input.now ≡ 2 * length output.old }
-    requires step { 16 ≤ length output.old }
-    requires within { at ≤ length output.old }
-    requires few { length output.old ≤ at + 16 }
-    requires front { Spells (take (2 * at) input.now) (take at output.old) }
-    requires digits { AllDigits input.now }
-    ensures { Spells input.now output.new }
-{
     if at < output.len() {
         let start = output.len() - 16;
         decode_digits_step::<16, Lanes16>(&input[2 * start..], &mut output[start..]);

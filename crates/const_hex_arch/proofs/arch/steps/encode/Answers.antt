@@ -32,7 +32,7 @@ written g c =
       | then-input-at w ↦ (
         omega arith,
         rw (w.output-is, w.at-is)
-        (written_step g.met.O.Output.shrinks _ _ c.loop-at.invariant (omega arith) (omega arith) w.encode_step-then-input-at.ensures (omega arith, omega arith)),
+            (written_step g.met.O.Output.shrinks _ _ c.loop-at.invariant (omega arith) (omega arith) w.encode_step-then-input-at.ensures (omega arith, omega arith)),
       )
       | else-input-at w ↦ (omega arith, rw (w.output-is, w.at-is) c.loop-at.invariant)
     ]
