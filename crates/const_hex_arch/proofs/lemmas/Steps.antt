@@ -1,7 +1,7 @@
 -- Texts that are worked through in steps, and the remainder by another call.
 use Rattle.std.proofs.Common.{◌≡◌, ℕ, ◌+◌, ◌-◌, ◌*◌, ◌≤◌, ◌↔◌, Bool, List, [], ◌++◌, length, take, drop, refl, sym, ap, subst, ◌∙◌, arith, take-add, take-append-drop, drop-drop, length-take, length-append, Option}
 use Rattle.std.proofs.lemmas.Grind.{common_steps}
-use Rattle.std.proofs.lemmas.List.{append-nil, take_at, drop_at, take_rest}
+use Rattle.std.proofs.lemmas.List.{append-nil, append_assoc, take_at, drop_at, take_rest}
 use Rattle.std.proofs.lemmas.List.Elements.{All-take, All-drop}
 use Rattle.std.proofs.lemmas.Slice.{take-put_mid, drop-put_mid}
 use borrow.Rule.Slice.PartMut.{put_mid}
@@ -32,37 +32,43 @@ digits_last u i e h d = (
   λ whole. rw take_rest (All-drop IsDigit e u whole),
 )
 
--- ---- the text of the first bytes is written, and there is room for the rest
-pub record IsWritten {S : Type 0} (step : S → List ℕ → S → Type 0) (room : S → Option ℕ) (up : Bool) (u : List ℕ) (old new : S) (i : ℕ) : Type 0 where
-  pub within : i ≤ length u
-  pub text : Writes step old (hex_text up (take i u)) new
-  pub has_room : HasRoom (room new) (2 * (length u - i))
+-- ---- the text of the front is written, and there is room for the rest
+pub record IsWritten {S : Type 0} (step : S → List ℕ → S → Type 0) (room : S → Option ℕ) (up : Bool) (u : List ℕ) (old new : S) (rest : List ℕ) : Type 0 where
+  pub front : List ℕ
+  pub whole : front ++ rest ≡ u
+  pub text : Writes step old (hex_text up front) new
+  pub has_room : HasRoom (room new) (2 * length rest)
 
 module _ {S : Type 0} {step : S → List ℕ → S → Type 0} {room : S → Option ℕ}
     (shrinks : (s : S) (piece : List ℕ) (t : S) → step s piece t → room t ≡ less_room (room s) (length piece))
     {up : Bool} {u : List ℕ} {old : S} where
-  pub none_written : HasRoom (room old) (2 * length u) → IsWritten step room up u old old 0
-  none_written h = record {
-    within = omega arith;
-    text = rw (hex_text-nil up) (Writes-none step old);
-    has_room = let all : length u - 0 ≡ length u = omega arith in rw all h;
-  }
+  pub none_written : HasRoom (room old) (2 * length u) → IsWritten step room up u old old u
+  none_written h = record { front = []; whole = refl; text = rw (hex_text-nil up) (Writes-none step old); has_room = h }
 
-  -- the text of n more bytes, as one piece
-  pub written_step : {mid new : S} {i : ℕ} (n end : ℕ) → IsWritten step room up u old mid i → end ≡ i + n → end ≤ length u
-      → step mid (hex_text up (take n (drop i u))) new → (1 ≤ n) × (n ≤ 32) → IsWritten step room up u old new end
-  written_step {mid} {new} {i} n end d e h s size_is =
-      let part = take n (drop i u) in
-      let piece = hex_text up part in
-      let size : length part ≡ n = grind (arith, common_steps) in
+  -- the text of one part more, as one piece
+  pub written_step : {mid new : S} {all : List ℕ} (part rest : List ℕ) → IsWritten step room up u old mid all → part ++ rest ≡ all
+      → step mid (hex_text up part) new → (1 ≤ length part) × (length part ≤ 32) → IsWritten step room up u old new rest
+  written_step {mid} {new} {all} part rest d e s size_is =
       let long = length-hex_text up part in
-      let room_left : 2 * (length u - i) ≡ length piece + 2 * (length u - end) = omega (arith, long, size) in record {
-        within = h;
-        text = rw (e, take-add i n u, hex_text-append up (take i u) part)
-            (Writes-more step _ _ _ _ _ d.text s (omega (arith, long, size), omega (arith, long, size)));
-        has_room = rw (shrinks mid piece new s) (HasRoom-less (room mid) (length piece) (2 * (length u - end))
-            (subst (HasRoom (room mid)) room_left d.has_room));
+      let needed : 2 * length all ≡ length (hex_text up part) + 2 * length rest = rw (← e) (omega (arith, long, length-append part rest)) in record {
+        front = d.front ++ part;
+        whole = append_assoc d.front part rest ∙ ap (λ x. d.front ++ x) e ∙ d.whole;
+        text = rw (hex_text-append up d.front part) (Writes-more step _ _ _ _ _ d.text s (omega (arith, long), omega (arith, long)));
+        has_room = rw (shrinks mid (hex_text up part) new s) (HasRoom-less (room mid) (length (hex_text up part)) (2 * length rest) (rw needed at d.has_room));
       }
+
+  -- the bytes from i to end
+  pub written_slice : {mid new : S} (i end : ℕ) → i ≤ end → end ≤ length u → IsWritten step room up u old mid (drop i u)
+      → step mid (hex_text up (take (end - i) (drop i u))) new → (1 ≤ end - i) × (end - i ≤ 32) → IsWritten step room up u old new (drop end u)
+  written_slice i end h k d s size_is =
+      let size : length (take (end - i) (drop i u)) ≡ end - i = grind (arith, common_steps) in
+      let q : i + (end - i) ≡ end = omega arith in
+      let behind : drop (end - i) (drop i u) ≡ drop end u = drop-drop (end - i) i u ∙ ap (λ k. drop k u) q in
+      written_step (take (end - i) (drop i u)) (drop end u) d (parts (end - i) refl (sym behind)) s (rw size size_is)
+
+  -- all bytes
+  pub all_written : {new : S} → IsWritten step room up u old new [] → Writes step old (hex_text up u) new
+  all_written d = let whole : d.front ≡ u = sym (append-nil d.front) ∙ d.whole in rw whole at d.text
 
 -- ---- the first bytes of an output hold what the first pairs of a text spell, and the rest of the
 -- output is unchanged

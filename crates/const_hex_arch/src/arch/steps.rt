@@ -32,13 +32,14 @@ pub(crate) fn encode<const N: usize, V: Vectors<N>, O: Output>(
         encode_step::<N, V, O>(&input[middle..end], upper, output);
         at = end;
     }
-    if input.len() - at >= N {
-        let end = at + N;
-        encode_step::<N, V, O>(&input[at..end], upper, output);
-        at = end;
+    let mut rest = &input[at..];
+    if rest.len() >= N {
+        let (bytes, behind) = rest.split_at(N);
+        encode_step::<N, V, O>(bytes, upper, output);
+        rest = behind;
     }
-    if at < input.len() {
-        encode_few::<O>(&input[at..], upper, output);
+    if rest.len() > 0 {
+        encode_few::<O>(rest, upper, output);
     }
 }
 
@@ -137,19 +138,6 @@ pub(crate) fn check<const N: usize, V: Vectors<N>>(input: &[u8]) -> bool
         }
         at = end;
     }
-    check_last::<N, V>(input, at)
-}
-
-/// Checks the end of an input whose first `at` bytes are digits: at most two steps, by one test. The
-/// last step of the input may begin before that end.
-#[inline(always)]
-fn check_last<const N: usize, V: Vectors<N>>(input: &[u8], at: usize) -> bool
-    requires step { N ≤ length input.now }
-    requires within { at ≤ length input.now }
-    requires few { length input.now ≤ at + 2 * N }
-    requires digits { AllDigits (take at input.now) }
-    ensures { IsTrue result ↔ AllDigits input.now }
-{
     let last = &input[input.len() - N..];
     if input.len() - at > N {
         check_pair::<N, V>(&input[at..at + N], last)
