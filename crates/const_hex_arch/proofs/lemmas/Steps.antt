@@ -57,15 +57,6 @@ module _ {S : Type 0} {step : S → List ℕ → S → Type 0} {room : S → Opt
         has_room = rw (shrinks mid (hex_text up part) new s) (HasRoom-less (room mid) (length (hex_text up part)) (2 * length rest) (rw needed at d.has_room));
       }
 
-  -- the bytes from i to end
-  pub written_slice : {mid new : S} (i end : ℕ) → i ≤ end → end ≤ length u → IsWritten step room up u old mid (drop i u)
-      → step mid (hex_text up (take (end - i) (drop i u))) new → (1 ≤ end - i) × (end - i ≤ 32) → IsWritten step room up u old new (drop end u)
-  written_slice i end h k d s size_is =
-      let size : length (take (end - i) (drop i u)) ≡ end - i = grind (arith, common_steps) in
-      let q : i + (end - i) ≡ end = omega arith in
-      let behind : drop (end - i) (drop i u) ≡ drop end u = drop-drop (end - i) i u ∙ ap (λ k. drop k u) q in
-      written_step (take (end - i) (drop i u)) (drop end u) d (parts (end - i) refl (sym behind)) s (rw size size_is)
-
   -- all bytes
   pub all_written : {new : S} → IsWritten step room up u old new [] → Writes step old (hex_text up u) new
   all_written d = let whole : d.front ≡ u = sym (append-nil d.front) ∙ d.whole in rw whole at d.text

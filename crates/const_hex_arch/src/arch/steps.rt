@@ -24,15 +24,14 @@ pub(crate) fn encode<const N: usize, V: Vectors<N>, O: Output>(
     requires { HasRoom (O.room output.old) (2 * length input.now) }
     ensures { Writes O.step output.old (hex_text upper input.now) output.new }
 {
-    let mut at = 0;
-    while input.len() - at >= 2 * N {
-        let middle = at + N;
-        let end = middle + N;
-        encode_step::<N, V, O>(&input[at..middle], upper, output);
-        encode_step::<N, V, O>(&input[middle..end], upper, output);
-        at = end;
+    let mut rest = input;
+    while rest.len() >= 2 * N {
+        let (first, behind) = rest.split_at(N);
+        let (second, behind) = behind.split_at(N);
+        encode_step::<N, V, O>(first, upper, output);
+        encode_step::<N, V, O>(second, upper, output);
+        rest = behind;
     }
-    let mut rest = &input[at..];
     if rest.len() >= N {
         let (bytes, behind) = rest.split_at(N);
         encode_step::<N, V, O>(bytes, upper, output);
