@@ -19,8 +19,6 @@ use Rattle.const_hex_arch.proofs.lemmas.Tables.{all_below, every_below}
 use Rattle.const_hex_arch.proofs.lemmas.LaneValues.{same_value, is_none, same_if_some, sub8, min_l}
 use Rattle.const_hex_arch.proofs.lemmas.Spelling.{digits_append}
 
--- ---- tests that compute
-
 -- the bits that mark a lane
 abbrev mark_bits : ℕ → ℕ
 mark_bits z = bit_at z 7 + bit_at z 6 + bit_at z 4 + bit_at z 3

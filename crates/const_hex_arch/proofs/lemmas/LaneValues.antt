@@ -81,7 +81,6 @@ pub unhex_are : (v : List ℕ) → Each1 (Fits w8) v → AllZip IsValueOf v (unh
 unhex_are [] f = tt
 unhex_are (x ∷ xs) f = (unhex_at x f.0.fits, unhex_are xs f.1)
 
--- the values of digits
 one_value : (b n : ℕ) → hex_value b ≡ Some n → as_value n ≡ hex_value b
 one_value b n e = let small = hex_value-small b n e in grind (arith, nat_tests)
 
@@ -95,7 +94,6 @@ values_of_digits (b ∷ v) (n ∷ ns) z d =
 one_small : (n x : ℕ) → as_value n ≡ hex_value x → IsDigit x → n ≤ 15
 one_small n x e = rw (← e) (λ s. grind (arith, nat_tests))
 
--- the values of digits are small
 pub small_values : (ns v : List ℕ) → map as_value ns ≡ map hex_value v → AllDigits v → AllNibbles ns
 small_values [] v e d = tt
 small_values (n ∷ ns) [] e d = absurd (let q : suc (length (map as_value ns)) ≡ zero = ap length e in omega arith)

@@ -33,16 +33,13 @@ module _ {S : Type 0} (step : S → List ℕ → S → Type 0) (room : S → Opt
       rw (run_shrinks step room shrinks s w.pieces t w.run, w.whole) (HasRoom-less (room s) (length text) n h)
 
 module _ {S : Type 0} (step : S → List ℕ → S → Type 0) where
-  -- one run and then another
   pub run_append : (s : S) (ps : List (List ℕ)) (m : S) (qs : List (List ℕ)) (t : S) → FoldsTo step s ps m → FoldsTo step m qs t → FoldsTo step s (ps ++ qs) t
   run_append s [] m qs t h k = subst (λ (x : S). FoldsTo step x qs t) (sym h) k
   run_append s (p ∷ ps) m qs t (j, h, r) k = (j, h, run_append j ps m qs t r k)
 
-  -- no write
   pub Writes-none : (s : S) → Writes step s [] s
   Writes-none s = record { pieces = []; run = refl; whole = refl; sizes = All-nil IsKernelPiece }
 
-  -- one piece more
   pub Writes-more : (s : S) (text : List ℕ) (m : S) (piece : List ℕ) (t : S) → Writes step s text m → step m piece t → IsKernelPiece piece
       → Writes step s (text ++ piece) t
   Writes-more s text m piece t h k i = record {
@@ -52,11 +49,9 @@ module _ {S : Type 0} (step : S → List ℕ → S → Type 0) where
     sizes = All-append IsKernelPiece h.pieces (piece ∷ []) h.sizes (All-cons IsKernelPiece piece [] i (All-nil IsKernelPiece));
   }
 
-  -- one piece
   pub one_written : (s : S) (piece : List ℕ) (t : S) → step s piece t → IsKernelPiece piece → Writes step s piece t
   one_written s piece t h i = Writes-more s [] s piece t (Writes-none s) h i
 
-  -- one text and then another
   pub Writes-append : (s : S) (first : List ℕ) (m : S) (second : List ℕ) (t : S) → Writes step s first m → Writes step m second t
       → Writes step s (first ++ second) t
   Writes-append s first m second t h k = record {

@@ -12,7 +12,6 @@ use Rattle.const_hex_arch.proofs.lemmas.Runs.{HasRoom-less, Writes-none, Writes-
 use Rattle.const_hex_arch.proofs.lemmas.Spelling.{Spells-append, Spells-parts, digits_append, none_decoded, Partial-after}
 use Rattle.const_hex_arch.proofs.lemmas.Texts.{hex_text-nil, hex_text-append, length-hex_text}
 
--- two parts of a list
 pub parts : (n : ℕ) {u front back : List ℕ} → front ≡ take n u → back ≡ drop n u → front ++ back ≡ u
 parts n {u} f b = rw (f, b) (take-append-drop n u)
 
@@ -57,7 +56,6 @@ module _ {S : Type 0} {step : S → List ℕ → S → Type 0} {room : S → Opt
         has_room = rw (shrinks mid (hex_text up part) new s) (HasRoom-less (room mid) (length (hex_text up part)) (2 * length rest) (rw needed at d.has_room));
       }
 
-  -- all bytes
   pub all_written : {new : S} → IsWritten step room up u old new [] → Writes step old (hex_text up u) new
   all_written d = let whole : d.front ≡ u = sym (append-nil d.front) ∙ d.whole in rw whole at d.text
 

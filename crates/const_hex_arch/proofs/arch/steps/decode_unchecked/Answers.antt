@@ -14,9 +14,11 @@ decoded : (g : Over) (c : Joined-output-at-ge16 g) → (length c.if-output-at-ge
 decoded g c =
     let sizes = g.met.V.Vectors.sizes in
     elim c.if-output-at-ge16.branch [
-      | then-output-at-ge16 w ↦
-          let last = decoded_step _ _ _ c.loop-output.invariant (omega arith) (omega arith) (omega arith) (omega arith) w.decode_digits_step-then-output-at-ge16.ensures in
-          (omega arith, rw (w.output-is, w.at-is) last)
+      | then-output-at-ge16 w ↦ (
+        omega arith,
+        rw (w.output-is, w.at-is)
+        (decoded_step _ _ _ c.loop-output.invariant (omega arith) (omega arith) (omega arith) (omega arith) w.decode_digits_step-then-output-at-ge16.ensures),
+      )
       | else-output-at-ge16 w ↦ (omega arith, rw (w.output-is, w.at-is) c.loop-output.invariant)
     ]
 
