@@ -123,19 +123,16 @@ module _ {S : Type 0} (step : S → List ℕ → S → Type 0) (is_refused : S �
     run : Offers step is_refused old (take count pieces) new
     complete : is_refused new ≡ false → count ≡ length pieces
 
-  offered_more : (s : S) (p : List ℕ) (m : S) (ps : List (List ℕ)) (t : S) → is_refused s ≡ false → step s p m → Offered m ps t → Offered s (p ∷ ps) t
-  offered_more s p m ps t e h o = record {
-    count = suc o.count;
-    within = omega arith;
-    run = (e, (m, h, o.run));
-    complete = λ u. ap suc (o.complete u);
-  }
-
   offered_one : (s : SinkOutput S) (p : List ℕ) (m : SinkOutput S) (ps : List (List ℕ)) (t : SinkOutput S) → is_refused (output_sink s) ≡ false
       → SinkStep step is_refused s p m → FoldsTo (SinkStep step is_refused) m ps t
       → (is_refused (output_sink m) ≡ false → Offered (output_sink m) ps (output_sink t))
       → (b : Bool) → is_refused (output_sink m) ≡ b → Offered (output_sink s) (p ∷ ps) (output_sink t)
-  offered_one s p m ps t e h k more false u = offered_more (output_sink s) p (output_sink m) ps (output_sink t) e (h.accepting e) (more u)
+  offered_one s p m ps t e h k more false u = let o = more u in record {
+    count = suc o.count;
+    within = omega arith;
+    run = (e, (output_sink m, h.accepting e, o.run));
+    complete = λ v. ap suc (o.complete v);
+  }
   offered_one s p m ps t e h k more true u = let c = refused_run m ps t u k in record {
     count = 1;
     within = omega arith;

@@ -17,7 +17,7 @@ decoded g c =
       | then-output-at-ge16 w ↦ (
         omega arith,
         rw (w.output-is, w.at-is)
-        (decoded_step _ _ _ c.loop-output.invariant (omega arith) (omega arith) (omega arith) (omega arith) w.decode_digits_step-then-output-at-ge16.ensures),
+            (decoded_step _ _ _ c.loop-output.invariant (omega arith) (omega arith) (omega arith) (omega arith) w.decode_digits_step-then-output-at-ge16.ensures),
       )
       | else-output-at-ge16 w ↦ (omega arith, rw (w.output-is, w.at-is) c.loop-output.invariant)
     ]
