@@ -1,15 +1,16 @@
 -- Digits in a vector: their values and the test of each lane by one look-up, and the test of all
 -- lanes.
-use Rattle.std.proofs.Common.{◌≡◌, ℕ, zero, suc, ◌+◌, ◌-◌, ◌*◌, ◌/◌, ◌%◌, ◌<◌, ◌≤◌, ◌↔◌, Bool, true, false, eqb, cond, ltb, ◌||◌, T, List, [], ◌∷◌, ◌++◌, length, replicate, get_or, bit_and, bit_or, refl, sym, subst, ◌∙◌, arith, w8, Fits, eqb-true, eq-eqb, IsTrue, Some}
+use Rattle.std.proofs.Common.{◌≡◌, ℕ, zero, suc, ◌+◌, ◌-◌, ◌*◌, ◌/◌, ◌%◌, ◌<◌, ◌≤◌, ◌↔◌, Bool, true, eqb, cond, ltb, ◌||◌, T, List, [], ◌∷◌, ◌++◌, length, replicate, get_or, bit_and, bit_or, refl, sym, subst, ◌∙◌, arith, w8, Fits, eqb-true, eq-eqb, IsTrue, Some}
 use Rattle.std.specs.List.{AllZip}
 use Rattle.std.specs.Int.{bit_at}
 use Rattle.std.specs.Option.{is_some}
 use Rattle.std.proofs.lemmas.Bool.{agree_below, agree_below_at}
+use Rattle.std.proofs.lemmas.Bool.Decides.{nat_tests}
 use Rattle.std.proofs.lemmas.List.Elements.{All-nil, All-head, All-tail, All-cons}
 use Rattle.std.proofs.lemmas.Nat.{le_or_l, le_or_r}
 use Rattle.std.proofs.lemmas.Nat.Bits.{bit_at_or}
 use Rattle.std.proofs.lemmas.Simd.{swz_l}
-use lib.Lanes.{zip2, sel_l, top, fold_l, Each1}
+use lib.Lanes.{zip2, fold_l, Each1}
 use mir.Val.{zeroes}
 use Rattle.const_hex_arch.specs.Digits.{hex_value, IsDigit}
 use Rattle.const_hex_arch.specs.Lanes.{IsUnmarked, AllUnmarked}
@@ -73,12 +74,8 @@ module _ (table : List ℕ) where
 abbrev within : ℕ → ℕ → ℕ
 within x y = get_or (min_l (x ∷ []) (y ∷ [])) 0 0
 
-within_by : (x y : ℕ) (b : Bool) → cond b x y ≡ get_or (sel_l (top 7 (cond b 255 0) ∷ []) (x ∷ []) (y ∷ [])) 0 0
-within_by x y true = refl
-within_by x y false = refl
-
 within_is : (x y : ℕ) → cond (ltb x y) x y ≡ within x y
-within_is x y = within_by x y (ltb x y)
+within_is x y = grind (arith, nat_tests)
 
 abbrev less_l : ℕ → List ℕ → List ℕ
 less_l n v = zip2 sub8 v (replicate n 48)
@@ -107,11 +104,8 @@ unmarked_are_digits (b ∷ v) (n ∷ ns) z =
 -- a lane of two together
 both_unmarked : (y z : ℕ) → IsUnmarked (bit_or y z) ↔ (IsUnmarked y × IsUnmarked z)
 both_unmarked y z =
-    let seven = bit_at_or y z 7 in
-    let four = bit_at_or y z 4 in
-    let three = bit_at_or y z 3 in
-    let six = bit_at_or y z 6 in
-    (λ h. (omega (arith, seven, six, four, three, h), omega (arith, seven, six, four, three, h)), λ h. omega (arith, seven, six, four, three, h.0, h.1))
+    let bits = bit_at_or y z in
+    (λ h. (omega (arith, bits 7, bits 6, bits 4, bits 3), omega (arith, bits 7, bits 6, bits 4, bits 3)), λ h. omega (arith, bits 7, bits 6, bits 4, bits 3))
 
 all_unmarked : (ys zs : List ℕ) → length ys ≡ length zs → AllUnmarked (zip2 bit_or ys zs) ↔ (AllUnmarked ys × AllUnmarked zs)
 all_unmarked [] [] e = (λ h. (tt, tt), λ h. tt)

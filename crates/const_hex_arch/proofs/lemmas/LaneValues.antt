@@ -33,9 +33,6 @@ pub same_if_some : (o p : Option ℕ) → T (is_none o || same_value o p) → Is
 same_if_some None p t s = absurd (false_is_true s)
 same_if_some (Some v) p t s = same_value-true (Some v) p t
 
-pub cons_same : {A : Type 0} {x y : A} {xs ys : List A} → x ≡ y → xs ≡ ys → ◌≡◌ {A = List A} (x ∷ xs) (y ∷ ys)
-cons_same e f = rw (e, f) refl
-
 -- ---- the operations on a vector
 
 abbrev pub add8 : ℕ → ℕ → ℕ
@@ -75,7 +72,7 @@ unhex_at b h s = same_if_some _ _ (every_below (λ b. is_none (hex_value b) || s
 
 pub nibbles_are : (v : List ℕ) → Each1 (Fits w8) v → map as_value (nibbles_l (length v) v) ≡ map hex_value v
 nibbles_are [] f = refl
-nibbles_are (x ∷ xs) f = cons_same (nibble_at x f.0.fits) (nibbles_are xs f.1)
+nibbles_are (x ∷ xs) f = cc (nibble_at x f.0.fits, nibbles_are xs f.1)
 
 pub unhex_are : (v : List ℕ) → Each1 (Fits w8) v → AllZip IsValueOf v (unhex_l (length v) v)
 unhex_are [] f = tt
@@ -89,7 +86,7 @@ values_of_digits [] [] z d = refl
 values_of_digits [] (n ∷ ns) z d = absurd z
 values_of_digits (b ∷ v) [] z d = absurd z
 values_of_digits (b ∷ v) (n ∷ ns) z d =
-    cons_same (one_value b n (z.0 (All-head IsDigit b v d))) (values_of_digits v ns z.1 (All-tail IsDigit b v d))
+    cc (one_value b n (z.0 (All-head IsDigit b v d)), values_of_digits v ns z.1 (All-tail IsDigit b v d))
 
 one_small : (n x : ℕ) → as_value n ≡ hex_value x → IsDigit x → n ≤ 15
 one_small n x e = rw (← e) (λ s. grind (arith, nat_tests))

@@ -74,8 +74,7 @@ pub IsPair-byte : (c d b : ℕ) → IsPair c d b → b < 256
 IsPair-byte c d b p =
     let high = hex_value-small c p.high p.high_is in
     let low = hex_value-small d p.low p.low_is in
-    let e = p.byte_is in
-    omega (arith, high, low, e)
+    omega arith
 
 -- two texts, one behind the other
 pub Spells-append : (u bs v cs : List ℕ) → Spells u bs → Spells v cs → Spells (u ++ v) (bs ++ cs)
@@ -129,9 +128,7 @@ IsPair-same : (c d a b : ℕ) → IsPair c d a → IsPair c d b → a ≡ b
 IsPair-same c d a b p q =
     let high : p.high ≡ q.high = cc in
     let low : p.low ≡ q.low = cc in
-    let first = p.byte_is in
-    let second = q.byte_is in
-    omega (arith, high, low, first, second)
+    omega arith
 
 -- a text spells one list of bytes
 pub Spells-same : (u xs ys : List ℕ) → Spells u xs → Spells u ys → xs ≡ ys
@@ -156,7 +153,6 @@ digits_no_bad u p a f = no_value (hex_value (slice_index u p)) f.here (All-get_o
 -- a text has one first bad byte
 not_before : (u : List ℕ) (p q : ℕ) → p < q → FirstBad u p → FirstBad u q → ⊥
 not_before u p q h f g =
-    let w = g.within in
     let len : p < length (take q u) = simp length-take (omega arith) in
     no_value _ f.here (rw (get_or-take q u p 0 h) at (All-get_or IsDigit (take q u) p 0 len g.before))
 
@@ -169,7 +165,6 @@ FirstBad-same u p q f g =
 -- a bad byte behind k digits
 pub FirstBad-after : (k : ℕ) (u : List ℕ) (p : ℕ) → AllDigits (take k u) → k ≤ length u → FirstBad (drop k u) p → FirstBad u (k + p)
 FirstBad-after k u p a h f =
-    let w = f.within in
     record {
       within = grind (arith, common_steps);
       before = rw (take-add k p u) ((digits_append _ _).1 (a, f.before));
@@ -188,7 +183,7 @@ digits_or_bad (b ∷ u) =
             | inr f ↦ inr (
               suc f.0,
               record {
-                within = let w = f.1.within in omega arith;
+                within = omega arith;
                 before = All-cons IsDigit b (take f.0 u) here f.1.before;
                 here = f.1.here;
               },
@@ -259,12 +254,11 @@ refused_low old u new i v s d h l e n =
 pub Partial-after : (old u new : List ℕ) (k m : ℕ) → m ≡ 2 * k → m ≤ length u → length new ≡ length old → k ≤ length new
     → Spells (take m u) (take k new) → Partial (drop k old) (drop m u) (drop k new) → Partial old u new
 Partial-after old u new k m e h l b s p =
-    let not_past = p.not_past in
     record {
       bad = m + p.bad;
       done = k + p.done;
       first_bad = FirstBad-after m u p.bad (Spells-digits _ _ s) h p.first_bad;
-      not_past = omega (arith, not_past);
+      not_past = omega arith;
       same_length = l;
       front =
           let q : 2 * (k + p.done) ≡ m + 2 * p.done = omega arith in

@@ -71,30 +71,27 @@ pub record IsDecoded (u old new : List ℕ) (i : ℕ) : Type 0 where
 pub decoded_step : {u old new : List ℕ} {i end : ℕ} (r : List ℕ) (n m : ℕ) → IsDecoded u old new i → end ≡ i + n → end ≤ length new → m ≡ 2 * n → length r ≡ n
     → Spells (take m (drop (2 * i) u)) r → IsDecoded u old (put_mid i n new r) end
 decoded_step {u} {old} {new} {i} {end} r n m d e h f l s =
-    let within = d.within in
-    let same = d.same_length in
     let text : take (2 * end) u ≡ take (2 * i) u ++ take m (drop (2 * i) u) = let q : 2 * end ≡ 2 * i + m = omega arith in rw q (take-add (2 * i) m u) in
-    let bytes : take end (put_mid i n new r) ≡ take i new ++ r = take-put_mid i n new r end (omega arith) within in
-    let past : drop end (put_mid i n new r) ≡ drop end new = drop-put_mid i n new r end (omega arith) within l in
+    let bytes : take end (put_mid i n new r) ≡ take i new ++ r = take-put_mid i n new r end (omega arith) d.within in
+    let past : drop end (put_mid i n new r) ≡ drop end new = drop-put_mid i n new r end (omega arith) d.within l in
     let length_kept : length (put_mid i n new r) ≡ length new = grind (arith, common_steps) in record {
       within = omega arith;
-      same_length = length_kept ∙ same;
+      same_length = length_kept ∙ d.same_length;
       front = rw (text, bytes) (Spells-append _ _ _ _ d.front s);
       rest = past ∙ rw e (sym (drop-drop n i new) ∙ ap (drop n) d.rest ∙ drop-drop n i old);
     }
 
 -- fewer bytes are decoded than there are
 pub decoded_less : {u old new : List ℕ} {i : ℕ} (e : ℕ) → IsDecoded u old new i → e ≤ i → IsDecoded u new new e
-decoded_less {u} {old} {new} {i} e d h =
-    let within = d.within in record {
-      within = omega arith;
-      same_length = refl;
-      front =
-          let text : take (2 * e) (take (2 * i) u) ≡ take (2 * e) u = grind (arith, common_steps) in
-          let bytes : take e (take i new) ≡ take e new = grind (arith, common_steps) in
-          rw (text, bytes) at (Spells-parts (take (2 * i) u) (take i new) e (2 * e) refl d.front).0;
-      rest = refl;
-    }
+decoded_less {u} {old} {new} {i} e d h = record {
+  within = omega arith;
+  same_length = refl;
+  front =
+      let text : take (2 * e) (take (2 * i) u) ≡ take (2 * e) u = grind (arith, common_steps) in
+      let bytes : take e (take i new) ≡ take e new = grind (arith, common_steps) in
+      rw (text, bytes) at (Spells-parts (take (2 * i) u) (take i new) e (2 * e) refl d.front).0;
+  rest = refl;
+}
 
 -- a step that wrote nothing
 pub kept_step : (new r : List ℕ) (i n : ℕ) → r ≡ take n (drop i new) → put_mid i n new r ≡ new
@@ -104,10 +101,8 @@ kept_step new r i n e = rw e (ap (λ x. take i new ++ x) (take-append-drop n (dr
 pub refused_step : {u old new r : List ℕ} {i : ℕ} (n m : ℕ) → IsDecoded u old new i → length u ≡ 2 * length old → r ≡ take n (drop i new)
     → (AllDigits (take m (drop (2 * i) u)) → ⊥) → Partial old u (put_mid i n new r)
 refused_step {u} {old} {new} {r} {i} n m d size e none =
-    let within = d.within in
-    let same = d.same_length in
     let rest = none_decoded (drop i new) (drop (2 * i) u) (λ a. none (All-take IsDigit m (drop (2 * i) u) a)) in
-    rw (kept_step new r i n e) (Partial-after old u new i (2 * i) (omega arith) (omega arith) same within d.front (rw (← d.rest) rest))
+    rw (kept_step new r i n e) (Partial-after old u new i (2 * i) (omega arith) (omega arith) d.same_length d.within d.front (rw (← d.rest) rest))
 
 -- the remainder by another call
 module _ {u old new : List ℕ} {i : ℕ} (r : List ℕ) (d : IsDecoded u old new i) (size : length u ≡ 2 * length old) (long : length r ≡ length new - i) where
@@ -122,8 +117,6 @@ module _ {u old new : List ℕ} {i : ℕ} (r : List ℕ) (d : IsDecoded u old ne
   pub refused_rest : Partial (take (length new - i) (drop i new)) (take (length u - 2 * i) (drop (2 * i) u)) r
       → Partial old u (put_mid i (length new - i) new r)
   refused_rest p =
-      let within = d.within in
-      let same = d.same_length in
       let front : length (take i new) ≡ i = omega (arith, length-take i new) in
       let all : length (take i new ++ r) ≡ length old = omega (arith, length-append (take i new) r) in
       let behind : Partial (drop i old) (drop (2 * i) u) r = rw (take_rest new i, take_rest u (2 * i), d.rest) at p in

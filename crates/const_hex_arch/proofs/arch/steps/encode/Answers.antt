@@ -20,7 +20,6 @@ halfway g c =
 pub encode_step-requires-in-loop-rest-clause-room : goal.encode_step-requires-in-loop-rest-clause-room
 encode_step-requires-in-loop-rest-clause-room g c =
     let before = halfway g (goal.at.encode_step-requires-in-loop-rest-clause-room g c).After-encode_step in
-    let halves = c.split_at.ensures in
     HasRoom-fewer (g.O.Output.room c.encode_step.new.output) _ _ (omega arith) before.has_room
 
 pub loop-rest-preserved : goal.loop-rest-preserved
