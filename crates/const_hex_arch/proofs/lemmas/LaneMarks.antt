@@ -104,8 +104,10 @@ unmarked_are_digits (b ∷ v) (n ∷ ns) z =
 -- a lane of two together
 both_unmarked : (y z : ℕ) → IsUnmarked (bit_or y z) ↔ (IsUnmarked y × IsUnmarked z)
 both_unmarked y z =
-    let bits = bit_at_or y z in
-    (λ h. (omega (arith, bits 7, bits 6, bits 4, bits 3), omega (arith, bits 7, bits 6, bits 4, bits 3)), λ h. omega (arith, bits 7, bits 6, bits 4, bits 3))
+    let bits = bit_at_or y z in (
+      λ h. (omega (arith, bits 7, bits 6, bits 4, bits 3), omega (arith, bits 7, bits 6, bits 4, bits 3)),
+      λ h. omega (arith, bits 7, bits 6, bits 4, bits 3),
+    )
 
 all_unmarked : (ys zs : List ℕ) → length ys ≡ length zs → AllUnmarked (zip2 bit_or ys zs) ↔ (AllUnmarked ys × AllUnmarked zs)
 all_unmarked [] [] e = (λ h. (tt, tt), λ h. tt)

@@ -15,7 +15,8 @@ loop-at-preserved g c = record {
 }
 
 -- before the last test
-digits : (g : Over) (c : Joined-input-at g) → (length c.args.input.now ≤ c.if-input-at.at + 2 * g.row.N) × AllDigits (take c.if-input-at.at c.args.input.now)
+digits : (g : Over) (c : Joined-input-at g) → (length c.args.input.now ≤ c.if-input-at.at + 2 * g.row.N)
+    × AllDigits (take c.if-input-at.at c.args.input.now)
 digits g c =
     elim c.if-input-at.branch [
       | then-input-at+else-not-check_two_steps w ↦
@@ -34,7 +35,10 @@ returns-then-input-at-2 g c =
       λ t.
           let both = pair.0 (c.check_pair.ensures.0 t) in
           (digits_last u end start (omega arith) (digits_step u at (end - at) end (omega arith) front.1 both.0)).0 both.1,
-      λ d. c.check_pair.ensures.1 (pair.1 (All-take IsDigit (end - at) (drop at u) (All-drop IsDigit at u d), All-take IsDigit (length u - start) (drop start u) (All-drop IsDigit start u d))),
+      λ d. c.check_pair.ensures.1 (pair.1 (
+        All-take IsDigit (end - at) (drop at u) (All-drop IsDigit at u d),
+        All-take IsDigit (length u - start) (drop start u) (All-drop IsDigit start u d),
+      )),
     )
 
 pub returns-else-input-at-2 : goal.returns-else-input-at-2

@@ -15,7 +15,8 @@ halfway : (g : Over) (c : After-encode_step g)
 halfway g c =
     let sizes = g.met.V.Vectors.sizes in
     let halves = c.split_at.ensures in
-    written_step g.met.O.Output.shrinks c.split_at.result.0.now _ c.loop-rest.invariant (parts _ halves.front halves.back) c.encode_step.ensures (omega arith, omega arith)
+    written_step g.met.O.Output.shrinks c.split_at.result.0.now _ c.loop-rest.invariant (parts _ halves.front halves.back)
+    c.encode_step.ensures (omega arith, omega arith)
 
 pub encode_step-requires-in-loop-rest-clause-room : goal.encode_step-requires-in-loop-rest-clause-room
 encode_step-requires-in-loop-rest-clause-room g c =
@@ -27,7 +28,8 @@ loop-rest-preserved g c =
     let sizes = g.met.V.Vectors.sizes in
     let before = halfway g (goal.at.loop-rest-preserved g c).After-encode_step in
     let halves = c.split_at-in-loop-rest.ensures in
-    written_step g.met.O.Output.shrinks c.split_at-in-loop-rest.result.0.now _ before (parts _ halves.front halves.back) c.encode_step-in-loop-rest.ensures (omega arith, omega arith)
+    written_step g.met.O.Output.shrinks c.split_at-in-loop-rest.result.0.now _ before (parts _ halves.front halves.back)
+    c.encode_step-in-loop-rest.ensures (omega arith, omega arith)
 
 -- before the remainder
 written : (g : Over) (c : Joined-rest g) → (length c.if-rest.rest.now ≤ 32)
@@ -37,8 +39,11 @@ written g c =
     elim c.if-rest.branch [
       | then-rest w ↦
           let halves = w.split_at-then-rest.ensures in
-          rw (w.output-is, w.rest-is)
-          (omega arith, written_step g.met.O.Output.shrinks w.split_at-then-rest.result.0.now _ c.loop-rest.invariant (parts _ halves.front halves.back) w.encode_step-then-rest.ensures (omega arith, omega arith))
+          rw (w.output-is, w.rest-is) (
+            omega arith,
+            written_step g.met.O.Output.shrinks w.split_at-then-rest.result.0.now _ c.loop-rest.invariant
+                (parts _ halves.front halves.back) w.encode_step-then-rest.ensures (omega arith, omega arith),
+          )
       | else-rest w ↦ rw (w.output-is, w.rest-is) (omega arith, c.loop-rest.invariant)
     ]
 
@@ -48,7 +53,8 @@ encode_few-requires-clause-room g c = (written g (goal.at.encode_few-requires-cl
 pub returns-then-rest-gt0 : goal.returns-then-rest-gt0
 returns-then-rest-gt0 g c =
     let before = written g (goal.at.returns-then-rest-gt0 g c).Joined-rest in
-    all_written g.met.O.Output.shrinks (written_step g.met.O.Output.shrinks c.if-rest.rest.now [] before.1 (append-nil _) c.encode_few.ensures (omega arith, omega arith))
+    all_written g.met.O.Output.shrinks
+    (written_step g.met.O.Output.shrinks c.if-rest.rest.now [] before.1 (append-nil _) c.encode_few.ensures (omega arith, omega arith))
 
 pub returns-else-rest-gt0 : goal.returns-else-rest-gt0
 returns-else-rest-gt0 g c =
