@@ -1,5 +1,4 @@
 pub mod Ends
-pub mod Gathering
 pub mod LaneBytes
 pub mod LaneLookups
 pub mod LaneMarks

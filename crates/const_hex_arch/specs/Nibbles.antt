@@ -11,14 +11,10 @@ as_value n = if nat_le n 15 then Some n else None
 abbrev pub IsValueOf : ℕ → ℕ → Type 0
 IsValueOf b n = IsDigit b → hex_value b ≡ Some n
 
--- a lane has no mark exactly if the byte is a digit
-abbrev pub IsMarkOf : ℕ → ℕ → Type 0
-IsMarkOf b z = IsUnmarked z ↔ IsDigit b
-
 -- if the byte is a digit, n is its value; the byte less 48, less n, has no mark exactly if the byte
 -- is a digit
 abbrev pub IsPartOf : ℕ → ℕ → Type 0
-IsPartOf b n = IsValueOf b n × IsMarkOf b (((b + 208) % 256 + (256 - n)) % 256)
+IsPartOf b n = IsValueOf b n × (IsUnmarked (((b + 208) % 256 + (256 - n)) % 256) ↔ IsDigit b)
 
 -- the byte less 48, but at most t, is such a part
 abbrev pub IsLimitOf : ℕ → ℕ → Type 0

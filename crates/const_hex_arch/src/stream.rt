@@ -1,7 +1,7 @@
 //! The text of bytes, handed to a sink in large pieces.
 
 ghost use Rattle.std.specs.Prelude.{◌≡◌, ◌≤◌, false, not, is_ok, length};
-ghost use Rattle.const_hex_arch.specs.Texts.{full_text};
+ghost use Rattle.const_hex_arch.specs.Texts.{full_text, text_length};
 ghost use Rattle.const_hex_arch.specs.Streams.{Handed, Streams, TellsCut, hex_bytes};
 
 use crate::arch::{FixedKernel, Kernel, encode_full};
@@ -79,7 +79,6 @@ impl<'a, const UPPER: bool, const PREFIX: bool> BufferedHex<'a, UPPER, PREFIX> {
     /// assert!(rt; hex.write_with::<Plain, PieceSink>(&mut sink).is_ok());
     /// assert_eq!(rt; sink.pieces()[0].as_str(), "6b697769");
     /// ```
-    #[tactic(auto, using(crate::proofs::lemmas::Texts::full_text_size))]
     pub fn write_with<K: Kernel, S: Sink>(&self, sink: &mut S) -> Result<(), SinkError>
         requires { S.is_refused sink.old ≡ false }
         ensures streams { Streams S.step S.is_refused sink.old
@@ -102,11 +101,10 @@ impl<'a, const UPPER: bool, const PREFIX: bool> BufferedHex<'a, UPPER, PREFIX> {
     }
 
     /// As `write_with`, for a text of at most `N` bytes: one call, or none if the text is empty.
-    #[tactic(auto, using(crate::proofs::lemmas::Texts::full_text_size))]
     fn write_whole<K: Kernel, S: Sink, const N: usize>(&self, sink: &mut S) -> Result<(), SinkError>
         requires accepting { S.is_refused sink.old ≡ false }
         requires size { N ≤ 4096 }
-        requires short { length (full_text PREFIX UPPER (hex_bytes self.now)) ≤ N }
+        requires short { text_length PREFIX (length (hex_bytes self.now)) ≤ N }
         ensures { Handed S.step S.is_refused S.told sink.old
             (full_text PREFIX UPPER (hex_bytes self.now)) (is_ok result) sink.new }
     {

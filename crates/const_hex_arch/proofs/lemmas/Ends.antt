@@ -95,23 +95,18 @@ Placed-some : (old : List ℕ) (at : ℕ) (first mid : List ℕ) (m : ℕ) (last
     → 1 ≤ length first → Placed old at (take (count - length last) first ++ last) new end
 Placed-some old at first mid m last new end count h g same least most some =
     let k = count - length last in
-    let b = h.bytes in
-    let e = h.end_at in
-    let f = g.end_at in
-    let sum = length-append (take at old ++ first) (drop m old) in
     let part = length-append (take at old) first in
-    let long = ap length b in
-    let kept = h.same_length in
-    let within : m ≤ length old = omega (arith, sum, part, long, kept, length-take at old, length-drop m old) in
+    let sum = length-append (take at old ++ first) (drop m old) in
+    let within : m ≤ length old = omega (arith, sum, part, ap length h.bytes, length-take at old, length-drop m old) in
     let short : length (take at old) ≡ at = omega (arith, length-take at old) in
     let from : m - (length first + length last - count) ≡ length (take at old) + k = omega arith in
     let past : end ≡ length (take at old ++ first) + (end - m) = omega (arith, part) in
     let front : take (length (take at old) + k) mid ≡ take at old ++ take k first =
-    ap (take (length (take at old) + k)) (b ∙ append_assoc (take at old) first (drop m old)) ∙ take-append-add (take at old) (first ++ drop m old) k
+    ap (take (length (take at old) + k)) (h.bytes ∙ append_assoc (take at old) first (drop m old)) ∙ take-append-add (take at old) (first ++ drop m old) k
     ∙ ap (λ x. take at old ++ x) (take-append-le k first (drop m old) (omega arith)) in
     let behind : drop end mid ≡ drop end old =
     let q : m + (end - m) ≡ end = omega arith in
-    ap (drop end) b ∙ ap (λ n. drop n ((take at old ++ first) ++ drop m old)) past
+    ap (drop end) h.bytes ∙ ap (λ n. drop n ((take at old ++ first) ++ drop m old)) past
     ∙ drop-append-add (take at old ++ first) (drop m old) (end - m) ∙ drop-drop (end - m) m old ∙ ap (λ n. drop n old) q in record {
       end_at = omega (arith, length-append (take k first) last, length-take k first);
       same_length = g.same_length ∙ h.same_length;

@@ -1,10 +1,9 @@
 -- From the values in two vectors of text to the bytes that the text spells.
 use Rattle.std.proofs.Common.{◌≡◌, ℕ, zero, suc, ◌+◌, ◌*◌, ◌%◌, ◌/◌, ◌≤◌, eqb, List, [], ◌∷◌, ◌++◌, map, length, take, drop, get_or, refl, sym, ap, subst, ◌∙◌, arith, Some, None, eqb→eq, le-leb, length-append}
-use Rattle.std.specs.List.{AllZip, range_with_len}
+use Rattle.std.specs.List.{AllZip}
 use Rattle.std.proofs.lemmas.Grind.{common_steps}
 use Rattle.std.proofs.lemmas.List.{map-append}
-use Rattle.std.proofs.lemmas.Simd.{pick_l_whole}
-use lib.Lanes.{number_l, digits_l, pick_l}
+use lib.Lanes.{number_l, digits_l}
 use Rattle.const_hex_arch.specs.Digits.{hex_value}
 use Rattle.const_hex_arch.specs.Lanes.{AllNibbles, byte_pairs}
 use Rattle.const_hex_arch.specs.Nibbles.{as_value, IsValueOf}
@@ -33,9 +32,6 @@ merge_all (suc k) (h ∷ l ∷ ns) e a =
     let here = merge_at h l a.0 a.1.0 in
     let rest = merge_all k ns (omega arith) a.1.1 in
     rw (low, high, here, rest) refl
-
-pub join_are : (n : ℕ) (a b : List ℕ) → length a ≡ n → length b ≡ n → pick_l 0 (a ++ b) (range_with_len 0 (n + n)) ≡ a ++ b
-join_are n a b p q = pick_l_whole 0 (a ++ b) (n + n) (omega (arith, length-append a b))
 
 -- ---- the bytes that values spell
 

@@ -1,25 +1,24 @@
 -- Digits in a vector: their values and the test of each lane by one look-up, and the test of all
 -- lanes.
-use Rattle.std.proofs.Common.{◌≡◌, ℕ, zero, suc, ◌+◌, ◌-◌, ◌*◌, ◌/◌, ◌%◌, ◌<◌, ◌≤◌, ◌↔◌, Bool, true, false, eqb, cond, ltb, ◌||◌, T, List, [], ◌∷◌, ◌++◌, length, replicate, get_or, bit_and, bit_or, refl, sym, subst, ◌∙◌, arith, w8, Fits, eqb-true, eq-eqb, IsTrue, Some}
+use Rattle.std.proofs.Common.{◌≡◌, ℕ, zero, suc, ◌+◌, ◌-◌, ◌*◌, ◌/◌, ◌%◌, ◌<◌, ◌≤◌, ◌↔◌, Bool, true, eqb, cond, ltb, ◌||◌, T, List, [], ◌∷◌, ◌++◌, length, replicate, get_or, bit_and, bit_or, refl, sym, subst, ◌∙◌, arith, w8, Fits, eqb-true, eq-eqb, IsTrue, Some}
 use Rattle.std.specs.List.{AllZip}
 use Rattle.std.specs.Int.{bit_at}
 use Rattle.std.specs.Option.{is_some}
 use Rattle.std.proofs.lemmas.Bool.{agree_below, agree_below_at}
+use Rattle.std.proofs.lemmas.Bool.Decides.{nat_tests}
 use Rattle.std.proofs.lemmas.List.Elements.{All-nil, All-head, All-tail, All-cons}
 use Rattle.std.proofs.lemmas.Nat.{le_or_l, le_or_r}
 use Rattle.std.proofs.lemmas.Nat.Bits.{bit_at_or}
 use Rattle.std.proofs.lemmas.Simd.{swz_l}
-use lib.Lanes.{zip2, sel_l, top, fold_l, Each1}
+use lib.Lanes.{zip2, fold_l, Each1}
 use mir.Val.{zeroes}
 use Rattle.const_hex_arch.specs.Digits.{hex_value, IsDigit}
 use Rattle.const_hex_arch.specs.Lanes.{IsUnmarked, AllUnmarked}
-use Rattle.const_hex_arch.specs.Nibbles.{IsMarkOf, IsValueOf, IsPartOf, IsLimitOf}
+use Rattle.const_hex_arch.specs.Nibbles.{IsValueOf, IsPartOf, IsLimitOf}
 use Rattle.const_hex_arch.specs.Texts.{AllDigits}
 use Rattle.const_hex_arch.proofs.lemmas.Tables.{all_below, every_below}
 use Rattle.const_hex_arch.proofs.lemmas.LaneValues.{same_value, is_none, same_if_some, sub8, min_l}
 use Rattle.const_hex_arch.proofs.lemmas.Spelling.{digits_append}
-
--- ---- tests that compute
 
 -- the bits that mark a lane
 abbrev mark_bits : ℕ → ℕ
@@ -75,24 +74,17 @@ module _ (table : List ℕ) where
 abbrev within : ℕ → ℕ → ℕ
 within x y = get_or (min_l (x ∷ []) (y ∷ [])) 0 0
 
-within_by : (x y : ℕ) (b : Bool) → cond b x y ≡ get_or (sel_l (top 7 (cond b 255 0) ∷ []) (x ∷ []) (y ∷ [])) 0 0
-within_by x y true = refl
-within_by x y false = refl
-
 within_is : (x y : ℕ) → cond (ltb x y) x y ≡ within x y
-within_is x y = within_by x y (ltb x y)
+within_is x y = grind (arith, nat_tests)
 
 abbrev less_l : ℕ → List ℕ → List ℕ
 less_l n v = zip2 sub8 v (replicate n 48)
 
-parts_all : (v t : List ℕ) → AllZip IsLimitOf v t → AllZip IsPartOf v (min_l (less_l (length v) v) t)
-parts_all [] [] z = tt
-parts_all [] (y ∷ t) z = absurd z
-parts_all (x ∷ v) [] z = absurd z
-parts_all (x ∷ v) (y ∷ t) z = (subst (IsPartOf x) (within_is (less x) y) z.0, parts_all v t z.1)
-
-pub parts_are : (n : ℕ) (v t : List ℕ) → length v ≡ n → AllZip IsLimitOf v t → AllZip IsPartOf v (min_l (less_l n v) t)
-parts_are n v t e z = subst (λ n. AllZip IsPartOf v (min_l (less_l n v) t)) e (parts_all v t z)
+pub parts_are : (v t : List ℕ) → AllZip IsLimitOf v t → AllZip IsPartOf v (min_l (less_l (length v) v) t)
+parts_are [] [] z = tt
+parts_are [] (y ∷ t) z = absurd z
+parts_are (x ∷ v) [] z = absurd z
+parts_are (x ∷ v) (y ∷ t) z = (subst (IsPartOf x) (within_is (less x) y) z.0, parts_are v t z.1)
 
 pub values_of_parts : (v ns : List ℕ) → AllZip IsPartOf v ns → AllZip IsValueOf v ns
 values_of_parts [] [] z = tt
@@ -100,33 +92,22 @@ values_of_parts [] (n ∷ ns) z = absurd z
 values_of_parts (x ∷ v) [] z = absurd z
 values_of_parts (x ∷ v) (n ∷ ns) z = (z.0.0, values_of_parts v ns z.1)
 
-marks_all : (v ns : List ℕ) → AllZip IsPartOf v ns → AllZip IsMarkOf v (zip2 sub8 (less_l (length v) v) ns)
-marks_all [] [] z = tt
-marks_all [] (n ∷ ns) z = absurd z
-marks_all (x ∷ v) [] z = absurd z
-marks_all (x ∷ v) (n ∷ ns) z = (z.0.1, marks_all v ns z.1)
-
-pub marks_are : (n : ℕ) (v ns : List ℕ) → length v ≡ n → AllZip IsPartOf v ns → AllZip IsMarkOf v (zip2 sub8 (less_l n v) ns)
-marks_are n v ns e z = subst (λ n. AllZip IsMarkOf v (zip2 sub8 (less_l n v) ns)) e (marks_all v ns z)
-
--- ---- lanes have no mark if they stand for digits
-
-pub unmarked_are_digits : (v zs : List ℕ) → AllZip IsMarkOf v zs → AllUnmarked zs ↔ AllDigits v
+-- the marks of lanes: there are none exactly if all lanes are digits
+pub unmarked_are_digits : (v ns : List ℕ) → AllZip IsPartOf v ns → AllUnmarked (zip2 sub8 (less_l (length v) v) ns) ↔ AllDigits v
 unmarked_are_digits [] [] z = (λ _. All-nil IsDigit, λ _. tt)
 unmarked_are_digits [] (n ∷ ns) z = absurd z
 unmarked_are_digits (b ∷ v) [] z = absurd z
 unmarked_are_digits (b ∷ v) (n ∷ ns) z =
     let more = unmarked_are_digits v ns z.1 in
-    (λ a. All-cons IsDigit b v (z.0.0 a.0) (more.0 a.1), λ a. (z.0.1 (All-head IsDigit b v a), more.1 (All-tail IsDigit b v a)))
+    (λ a. All-cons IsDigit b v (z.0.1.0 a.0) (more.0 a.1), λ a. (z.0.1.1 (All-head IsDigit b v a), more.1 (All-tail IsDigit b v a)))
 
 -- a lane of two together
 both_unmarked : (y z : ℕ) → IsUnmarked (bit_or y z) ↔ (IsUnmarked y × IsUnmarked z)
 both_unmarked y z =
-    let seven = bit_at_or y z 7 in
-    let four = bit_at_or y z 4 in
-    let three = bit_at_or y z 3 in
-    let six = bit_at_or y z 6 in
-    (λ h. (omega (arith, seven, six, four, three, h), omega (arith, seven, six, four, three, h)), λ h. omega (arith, seven, six, four, three, h.0, h.1))
+    let bits = bit_at_or y z in (
+      λ h. (omega (arith, bits 7, bits 6, bits 4, bits 3), omega (arith, bits 7, bits 6, bits 4, bits 3)),
+      λ h. omega (arith, bits 7, bits 6, bits 4, bits 3),
+    )
 
 all_unmarked : (ys zs : List ℕ) → length ys ≡ length zs → AllUnmarked (zip2 bit_or ys zs) ↔ (AllUnmarked ys × AllUnmarked zs)
 all_unmarked [] [] e = (λ h. (tt, tt), λ h. tt)
@@ -170,10 +151,8 @@ pub are_unmarked : (n : ℕ) (xs : List ℕ) → (length xs ≡ n) × Each1 (Fit
     → IsTrue (eqb (fold_l bit_or 0 (zip2 bit_and xs (replicate n 216))) 0) ↔ AllUnmarked xs
 are_unmarked n xs f =
     let all = unmarked_fold 0 xs f.1 in
-    let joined = λ (n : ℕ). fold_l bit_or 0 (zip2 bit_and xs (replicate n 216)) in
     let none : zero ≡ 0 = refl in
-    subst (λ n. IsTrue (eqb (joined n) 0) ↔ AllUnmarked xs) f.0
-    (λ t. (all.0 (eqb-true (joined (length xs)) 0 t)).1, λ a. eq-eqb (joined (length xs)) 0 (all.1 (none, a)))
+    rw (← f.0) (λ t. (all.0 (eqb-true _ 0 t)).1, λ a. eq-eqb _ 0 (all.1 (none, a)))
 
 -- ---- one condition through another
 

@@ -1,5 +1,5 @@
 -- The values of digits, in vectors of any number of lanes.
-use Rattle.std.proofs.Common.{◌≡◌, ℕ, zero, suc, ◌+◌, ◌-◌, ◌%◌, ◌^◌, ◌<◌, ◌≤◌, Bool, true, false, cond, eqb, ltb, T, ◌||◌, List, [], ◌∷◌, map, length, replicate, drop, get_or, bit_and, refl, ap, subst, arith, w8, Fits, Option, Some, None, IsSome, eqb→eq}
+use Rattle.std.proofs.Common.{◌≡◌, ℕ, zero, suc, ◌+◌, ◌-◌, ◌%◌, ◌^◌, ◌<◌, ◌≤◌, Bool, true, false, cond, eqb, ltb, T, ◌||◌, List, [], ◌∷◌, map, length, replicate, drop, get_or, bit_and, refl, ap, arith, w8, Fits, Option, Some, None, IsSome, eqb→eq}
 use Rattle.std.specs.List.{AllZip}
 use Rattle.std.proofs.lemmas.Bool.Decides.{nat_tests}
 use Rattle.std.proofs.lemmas.List.Elements.{All-head, All-tail}
@@ -32,9 +32,6 @@ is_none (Some v) = false
 pub same_if_some : (o p : Option ℕ) → T (is_none o || same_value o p) → IsSome o → o ≡ p
 same_if_some None p t s = absurd (false_is_true s)
 same_if_some (Some v) p t s = same_value-true (Some v) p t
-
-pub cons_same : {A : Type 0} {x y : A} {xs ys : List A} → x ≡ y → xs ≡ ys → ◌≡◌ {A = List A} (x ∷ xs) (y ∷ ys)
-cons_same e f = rw (e, f) refl
 
 -- ---- the operations on a vector
 
@@ -73,21 +70,14 @@ unhex_at b h s = same_if_some _ _ (every_below (λ b. is_none (hex_value b) || s
 
 -- ---- all lanes
 
-nibbles_all : (v : List ℕ) → Each1 (Fits w8) v → map as_value (nibbles_l (length v) v) ≡ map hex_value v
-nibbles_all [] f = refl
-nibbles_all (x ∷ xs) f = cons_same (nibble_at x f.0.fits) (nibbles_all xs f.1)
+pub nibbles_are : (v : List ℕ) → Each1 (Fits w8) v → map as_value (nibbles_l (length v) v) ≡ map hex_value v
+nibbles_are [] f = refl
+nibbles_are (x ∷ xs) f = cc (nibble_at x f.0.fits, nibbles_are xs f.1)
 
-unhex_all : (v : List ℕ) → Each1 (Fits w8) v → AllZip IsValueOf v (unhex_l (length v) v)
-unhex_all [] f = tt
-unhex_all (x ∷ xs) f = (unhex_at x f.0.fits, unhex_all xs f.1)
+pub unhex_are : (v : List ℕ) → Each1 (Fits w8) v → AllZip IsValueOf v (unhex_l (length v) v)
+unhex_are [] f = tt
+unhex_are (x ∷ xs) f = (unhex_at x f.0.fits, unhex_are xs f.1)
 
-pub nibbles_are : (n : ℕ) (v : List ℕ) → (length v ≡ n) × Each1 (Fits w8) v → map as_value (nibbles_l n v) ≡ map hex_value v
-nibbles_are n v f = subst (λ n. map as_value (nibbles_l n v) ≡ map hex_value v) f.0 (nibbles_all v f.1)
-
-pub unhex_are : (n : ℕ) (v : List ℕ) → (length v ≡ n) × Each1 (Fits w8) v → AllZip IsValueOf v (unhex_l n v)
-unhex_are n v f = subst (λ n. AllZip IsValueOf v (unhex_l n v)) f.0 (unhex_all v f.1)
-
--- the values of digits
 one_value : (b n : ℕ) → hex_value b ≡ Some n → as_value n ≡ hex_value b
 one_value b n e = let small = hex_value-small b n e in grind (arith, nat_tests)
 
@@ -96,12 +86,11 @@ values_of_digits [] [] z d = refl
 values_of_digits [] (n ∷ ns) z d = absurd z
 values_of_digits (b ∷ v) [] z d = absurd z
 values_of_digits (b ∷ v) (n ∷ ns) z d =
-    cons_same (one_value b n (z.0 (All-head IsDigit b v d))) (values_of_digits v ns z.1 (All-tail IsDigit b v d))
+    cc (one_value b n (z.0 (All-head IsDigit b v d)), values_of_digits v ns z.1 (All-tail IsDigit b v d))
 
 one_small : (n x : ℕ) → as_value n ≡ hex_value x → IsDigit x → n ≤ 15
 one_small n x e = rw (← e) (λ s. grind (arith, nat_tests))
 
--- the values of digits are small
 pub small_values : (ns v : List ℕ) → map as_value ns ≡ map hex_value v → AllDigits v → AllNibbles ns
 small_values [] v e d = tt
 small_values (n ∷ ns) [] e d = absurd (let q : suc (length (map as_value ns)) ≡ zero = ap length e in omega arith)

@@ -1,10 +1,11 @@
 -- Runs of steps over pieces, and the room that they leave.
-use Rattle.std.proofs.Common.{◌≡◌, ℕ, ◌+◌, ◌*◌, ◌≤◌, List, [], ◌∷◌, ◌++◌, length, refl, sym, ap, subst, ◌∙◌, arith}
+use Rattle.std.proofs.Common.{◌≡◌, ℕ, ◌+◌, ◌*◌, ◌≤◌, List, [], ◌∷◌, ◌++◌, length, refl, sym, ap, subst, ◌∙◌, arith, inl}
 use Rattle.std.specs.Prelude.{Option, Some, None}
 use Rattle.std.specs.List.{FoldsTo, concat}
 use Rattle.std.proofs.lemmas.List.{append-nil}
 use Rattle.std.proofs.lemmas.List.Elements.{All-nil, All-cons, All-append}
 use Rattle.std.proofs.lemmas.List.Folds.{concat-append}
+use Rattle.const_hex_arch.specs.Gathering.{Gathers, piece_of}
 use Rattle.const_hex_arch.specs.Runs.{HasRoom, less_room, IsKernelPiece, Writes}
 pub use Rattle.const_hex_arch.specs.Laws.{less_room-add, run_shrinks}
 
@@ -33,16 +34,13 @@ module _ {S : Type 0} (step : S → List ℕ → S → Type 0) (room : S → Opt
       rw (run_shrinks step room shrinks s w.pieces t w.run, w.whole) (HasRoom-less (room s) (length text) n h)
 
 module _ {S : Type 0} (step : S → List ℕ → S → Type 0) where
-  -- one run and then another
   pub run_append : (s : S) (ps : List (List ℕ)) (m : S) (qs : List (List ℕ)) (t : S) → FoldsTo step s ps m → FoldsTo step m qs t → FoldsTo step s (ps ++ qs) t
   run_append s [] m qs t h k = subst (λ (x : S). FoldsTo step x qs t) (sym h) k
   run_append s (p ∷ ps) m qs t (j, h, r) k = (j, h, run_append j ps m qs t r k)
 
-  -- no write
   pub Writes-none : (s : S) → Writes step s [] s
   Writes-none s = record { pieces = []; run = refl; whole = refl; sizes = All-nil IsKernelPiece }
 
-  -- one piece more
   pub Writes-more : (s : S) (text : List ℕ) (m : S) (piece : List ℕ) (t : S) → Writes step s text m → step m piece t → IsKernelPiece piece
       → Writes step s (text ++ piece) t
   Writes-more s text m piece t h k i = record {
@@ -52,11 +50,9 @@ module _ {S : Type 0} (step : S → List ℕ → S → Type 0) where
     sizes = All-append IsKernelPiece h.pieces (piece ∷ []) h.sizes (All-cons IsKernelPiece piece [] i (All-nil IsKernelPiece));
   }
 
-  -- one piece
   pub one_written : (s : S) (piece : List ℕ) (t : S) → step s piece t → IsKernelPiece piece → Writes step s piece t
   one_written s piece t h i = Writes-more s [] s piece t (Writes-none s) h i
 
-  -- one text and then another
   pub Writes-append : (s : S) (first : List ℕ) (m : S) (second : List ℕ) (t : S) → Writes step s first m → Writes step m second t
       → Writes step s (first ++ second) t
   Writes-append s first m second t h k = record {
@@ -64,4 +60,25 @@ module _ {S : Type 0} (step : S → List ℕ → S → Type 0) where
     run = run_append s h.pieces m k.pieces t h.run k.run;
     whole = concat-append h.pieces k.pieces ∙ ap (λ x. x ++ concat k.pieces) h.whole ∙ ap (λ x. first ++ x) k.whole;
     sizes = All-append IsKernelPiece h.pieces k.pieces h.sizes k.sizes;
+  }
+
+-- ---- what an output that gathers hands on
+
+pub concat-piece_of : (pending : List ℕ) → concat (piece_of pending) ≡ pending
+concat-piece_of [] = refl
+concat-piece_of (b ∷ bs) = append-nil (b ∷ bs)
+
+module _ {O : Type 0} (step : O → List ℕ → O → Type 0) (room : O → Option ℕ) where
+  -- the pending text goes first, and then a long piece
+  pub Gathers-long : (n : ℕ) (old : O) (pending piece : List ℕ) (mid new : O) → FoldsTo step old (piece_of pending) mid → step mid piece new
+      → n ≤ length piece → Gathers step room n old pending piece new []
+  Gathers-long n old pending piece mid new h k w = record {
+    handed = piece_of pending ++ piece ∷ [];
+    run = run_append step old (piece_of pending) mid (piece ∷ []) new h (new, k, refl);
+    whole = append-nil _ ∙ concat-append (piece_of pending) (piece ∷ []) ∙ ap (λ x. x ++ (piece ++ [])) (concat-piece_of pending)
+        ∙ ap (λ x. pending ++ x) (append-nil piece);
+    bound = omega arith;
+    fits = omega arith;
+    short = λ l. absurd (omega arith);
+    long = λ _. inl refl;
   }

@@ -1,7 +1,5 @@
 -- What texts spell.
 use Rattle.std.proofs.Common.{◌≡◌, ℕ, zero, suc, ◌+◌, ◌-◌, ◌*◌, ◌/◌, ◌%◌, ◌<◌, ◌≤◌, ◌≢◌, ◌↔◌, eqb, eqb→eq, List, [], ◌∷◌, ◌++◌, length, take, drop, get_or, set, slice_index, false, ◌⊎◌, Option, Some, None, IsSome, IsNone, inl, inr, refl, sym, ap, ◌∙◌, arith, take-add, drop-drop, length-take}
-use Rattle.std.specs.Prelude.{unwrap_or}
-use Rattle.std.proofs.lemmas.Bool.{cases_lt}
 use Rattle.std.proofs.lemmas.Bool.Decides.{nat_tests}
 use Rattle.std.proofs.lemmas.Grind.{common_steps}
 use Rattle.std.proofs.lemmas.List.{get_or-take, take_more, append_assoc, take_at, drop_at}
@@ -35,12 +33,8 @@ value_not_found b r e n = grind (arith, nat_tests)
 pub in_table : (b : ℕ) → b < 256 → get_or HEX_DECODE_LUT.now b 0 ≡ value_or_nil (hex_value b)
 in_table b h = eqb→eq _ _ (every_below (λ b. eqb (get_or HEX_DECODE_LUT.now b 0) (value_or_nil (hex_value b))) 256 tt b h)
 
-value_of_digit : (o : Option ℕ) (r : ℕ) → r ≡ value_or_nil o → IsSome o → o ≡ Some r
-value_of_digit (Some v) r e n = ap Some (sym e)
-value_of_digit None r e n = absurd (false_is_true n)
-
 pub digit_found : (b r : ℕ) → r ≡ value_or_nil (hex_value b) → IsDigit b → hex_value b ≡ Some r
-digit_found b r e n = value_of_digit (hex_value b) r e n
+digit_found b r e n = grind (arith, nat_tests)
 
 -- a byte has a value or none
 pub value_cases : (o : Option ℕ) → ((v : ℕ) × (o ≡ Some v)) ⊎ IsNone o
@@ -80,8 +74,7 @@ pub IsPair-byte : (c d b : ℕ) → IsPair c d b → b < 256
 IsPair-byte c d b p =
     let high = hex_value-small c p.high p.high_is in
     let low = hex_value-small d p.low p.low_is in
-    let e = p.byte_is in
-    omega (arith, high, low, e)
+    omega arith
 
 -- two texts, one behind the other
 pub Spells-append : (u bs v cs : List ℕ) → Spells u bs → Spells v cs → Spells (u ++ v) (bs ++ cs)
@@ -133,11 +126,9 @@ Spells-bytes (c ∷ d ∷ u) (b ∷ bs) s (suc k) = Spells-bytes u bs s.1 k
 -- a pair spells one byte
 IsPair-same : (c d a b : ℕ) → IsPair c d a → IsPair c d b → a ≡ b
 IsPair-same c d a b p q =
-    let eh : p.high ≡ q.high = ap (λ (o : Option ℕ). unwrap_or o 0) (sym p.high_is ∙ q.high_is) in
-    let el : p.low ≡ q.low = ap (λ (o : Option ℕ). unwrap_or o 0) (sym p.low_is ∙ q.low_is) in
-    let ea = p.byte_is in
-    let eb = q.byte_is in
-    omega (arith, eh, el, ea, eb)
+    let high : p.high ≡ q.high = cc in
+    let low : p.low ≡ q.low = cc in
+    omega arith
 
 -- a text spells one list of bytes
 pub Spells-same : (u xs ys : List ℕ) → Spells u xs → Spells u ys → xs ≡ ys
@@ -160,27 +151,20 @@ pub digits_no_bad : (u : List ℕ) (p : ℕ) → AllDigits u → FirstBad u p �
 digits_no_bad u p a f = no_value (hex_value (slice_index u p)) f.here (All-get_or IsDigit u p 0 f.within a)
 
 -- a text has one first bad byte
+not_before : (u : List ℕ) (p q : ℕ) → p < q → FirstBad u p → FirstBad u q → ⊥
+not_before u p q h f g =
+    let len : p < length (take q u) = simp length-take (omega arith) in
+    no_value _ f.here (rw (get_or-take q u p 0 h) at (All-get_or IsDigit (take q u) p 0 len g.before))
+
 pub FirstBad-same : (u : List ℕ) (p q : ℕ) → FirstBad u p → FirstBad u q → p ≡ q
 FirstBad-same u p q f g =
-    elim (cases_lt p q) [
-      | inl below ↦ absurd (no_value _ f.here (front u q p g below))
-      | inr above ↦
-          elim (cases_lt q p) [
-            | inl under ↦ absurd (no_value _ g.here (front u p q f under))
-            | inr over ↦ omega arith
-          ]
-    ]
-  where
-    front : (u : List ℕ) (n k : ℕ) → FirstBad u n → k < n → IsDigit (slice_index u k)
-    front u n k f h =
-        let w = f.within in
-        let len : k < length (take n u) = simp length-take (omega arith) in
-        rw (get_or-take n u k 0 h) at (All-get_or IsDigit (take n u) k 0 len f.before)
+    let below = λ (h : p < q). not_before u p q h f g in
+    let above = λ (h : q < p). not_before u q p h g f in
+    omega (arith, below, above)
 
 -- a bad byte behind k digits
 pub FirstBad-after : (k : ℕ) (u : List ℕ) (p : ℕ) → AllDigits (take k u) → k ≤ length u → FirstBad (drop k u) p → FirstBad u (k + p)
 FirstBad-after k u p a h f =
-    let w = f.within in
     record {
       within = grind (arith, common_steps);
       before = rw (take-add k p u) ((digits_append _ _).1 (a, f.before));
@@ -199,7 +183,7 @@ digits_or_bad (b ∷ u) =
             | inr f ↦ inr (
               suc f.0,
               record {
-                within = let w = f.1.within in omega arith;
+                within = omega arith;
                 before = All-cons IsDigit b (take f.0 u) here f.1.before;
                 here = f.1.here;
               },
@@ -270,12 +254,11 @@ refused_low old u new i v s d h l e n =
 pub Partial-after : (old u new : List ℕ) (k m : ℕ) → m ≡ 2 * k → m ≤ length u → length new ≡ length old → k ≤ length new
     → Spells (take m u) (take k new) → Partial (drop k old) (drop m u) (drop k new) → Partial old u new
 Partial-after old u new k m e h l b s p =
-    let not_past = p.not_past in
     record {
       bad = m + p.bad;
       done = k + p.done;
       first_bad = FirstBad-after m u p.bad (Spells-digits _ _ s) h p.first_bad;
-      not_past = omega (arith, not_past);
+      not_past = omega arith;
       same_length = l;
       front =
           let q : 2 * (k + p.done) ≡ m + 2 * p.done = omega arith in

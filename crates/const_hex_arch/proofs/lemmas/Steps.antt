@@ -1,18 +1,17 @@
 -- Texts that are worked through in steps, and the remainder by another call.
-use Rattle.std.proofs.Common.{◌≡◌, ℕ, ◌+◌, ◌-◌, ◌*◌, ◌≤◌, ◌↔◌, Bool, List, [], ◌++◌, length, take, drop, refl, sym, ap, subst, ◌∙◌, arith, take-add, take-append-drop, drop-drop, length-take, length-drop, Option}
+use Rattle.std.proofs.Common.{◌≡◌, ℕ, ◌+◌, ◌-◌, ◌*◌, ◌≤◌, ◌↔◌, Bool, List, [], ◌++◌, length, take, drop, refl, sym, ap, subst, ◌∙◌, arith, take-add, take-append-drop, drop-drop, length-take, length-append, Option}
 use Rattle.std.proofs.lemmas.Grind.{common_steps}
-use Rattle.std.proofs.lemmas.List.{append-nil, drop_at, take_rest}
+use Rattle.std.proofs.lemmas.List.{append-nil, append_assoc, take_at, drop_at, take_rest}
 use Rattle.std.proofs.lemmas.List.Elements.{All-take, All-drop}
 use Rattle.std.proofs.lemmas.Slice.{take-put_mid, drop-put_mid}
 use borrow.Rule.Slice.PartMut.{put_mid}
 use Rattle.const_hex_arch.specs.Digits.{IsDigit}
 use Rattle.const_hex_arch.specs.Runs.{HasRoom, less_room, Writes}
 use Rattle.const_hex_arch.specs.Texts.{hex_text, AllDigits, Spells, Partial}
-use Rattle.const_hex_arch.proofs.lemmas.Runs.{HasRoom-less, Writes-none, Writes-more, Writes-append}
+use Rattle.const_hex_arch.proofs.lemmas.Runs.{HasRoom-less, Writes-none, Writes-more}
 use Rattle.const_hex_arch.proofs.lemmas.Spelling.{Spells-append, Spells-parts, digits_append, none_decoded, Partial-after}
 use Rattle.const_hex_arch.proofs.lemmas.Texts.{hex_text-nil, hex_text-append, length-hex_text}
 
--- two parts of a list
 pub parts : (n : ℕ) {u front back : List ℕ} → front ≡ take n u → back ≡ drop n u → front ++ back ≡ u
 parts n {u} f b = rw (f, b) (take-append-drop n u)
 
@@ -32,53 +31,33 @@ digits_last u i e h d = (
   λ whole. rw take_rest (All-drop IsDigit e u whole),
 )
 
--- ---- the text of the first bytes is written, and there is room for the rest
-pub record IsWritten {S : Type 0} (step : S → List ℕ → S → Type 0) (room : S → Option ℕ) (up : Bool) (u : List ℕ) (old new : S) (i : ℕ) : Type 0 where
-  pub within : i ≤ length u
-  pub text : Writes step old (hex_text up (take i u)) new
-  pub has_room : HasRoom (room new) (2 * (length u - i))
+-- ---- the text of the front is written, and there is room for the rest
+pub record IsWritten {S : Type 0} (step : S → List ℕ → S → Type 0) (room : S → Option ℕ) (up : Bool) (u : List ℕ) (old new : S) (rest : List ℕ) : Type 0 where
+  pub front : List ℕ
+  pub whole : front ++ rest ≡ u
+  pub text : Writes step old (hex_text up front) new
+  pub has_room : HasRoom (room new) (2 * length rest)
 
 module _ {S : Type 0} {step : S → List ℕ → S → Type 0} {room : S → Option ℕ}
     (shrinks : (s : S) (piece : List ℕ) (t : S) → step s piece t → room t ≡ less_room (room s) (length piece))
     {up : Bool} {u : List ℕ} {old : S} where
-  pub none_written : HasRoom (room old) (2 * length u) → IsWritten step room up u old old 0
-  none_written h = record {
-    within = omega arith;
-    text = rw (hex_text-nil up) (Writes-none step old);
-    has_room = let all : length u - 0 ≡ length u = omega arith in rw all h;
-  }
+  pub none_written : HasRoom (room old) (2 * length u) → IsWritten step room up u old old u
+  none_written h = record { front = []; whole = refl; text = rw (hex_text-nil up) (Writes-none step old); has_room = h }
 
-  -- the text of n more bytes, as one piece
-  pub written_step : {mid new : S} {i : ℕ} (n end : ℕ) → IsWritten step room up u old mid i → end ≡ i + n → end ≤ length u
-      → step mid (hex_text up (take n (drop i u))) new → (1 ≤ n) × (n ≤ 32) → IsWritten step room up u old new end
-  written_step {mid} {new} {i} n end d e h s size_is =
-      let part = take n (drop i u) in
-      let piece = hex_text up part in
-      let size : length part ≡ n = grind (arith, common_steps) in
+  -- the text of one part more, as one piece
+  pub written_step : {mid new : S} {all : List ℕ} (part rest : List ℕ) → IsWritten step room up u old mid all → part ++ rest ≡ all
+      → step mid (hex_text up part) new → (1 ≤ length part) × (length part ≤ 32) → IsWritten step room up u old new rest
+  written_step {mid} {new} {all} part rest d e s size_is =
       let long = length-hex_text up part in
-      let room_left : 2 * (length u - i) ≡ length piece + 2 * (length u - end) = omega (arith, long, size) in record {
-        within = h;
-        text = rw (e, take-add i n u, hex_text-append up (take i u) part)
-            (Writes-more step _ _ _ _ _ d.text s (omega (arith, long, size), omega (arith, long, size)));
-        has_room = rw (shrinks mid piece new s) (HasRoom-less (room mid) (length piece) (2 * (length u - end))
-            (subst (HasRoom (room mid)) room_left d.has_room));
+      let needed : 2 * length all ≡ length (hex_text up part) + 2 * length rest = rw (← e) (omega (arith, long, length-append part rest)) in record {
+        front = d.front ++ part;
+        whole = append_assoc d.front part rest ∙ ap (λ x. d.front ++ x) e ∙ d.whole;
+        text = rw (hex_text-append up d.front part) (Writes-more step _ _ _ _ _ d.text s (omega (arith, long), omega (arith, long)));
+        has_room = rw (shrinks mid (hex_text up part) new s) (HasRoom-less (room mid) (length (hex_text up part)) (2 * length rest) (rw needed at d.has_room));
       }
 
-  -- there is room for the rest
-  pub room_rest : {mid : S} {i : ℕ} {rest : List ℕ} → IsWritten step room up u old mid i → rest ≡ drop i u → HasRoom (room mid) (2 * length rest)
-  room_rest {i = i} {rest} d e = let size : length rest ≡ length u - i = rw e (length-drop i u) in rw size d.has_room
-
-  -- the rest is written by another call
-  pub written_rest : {mid new : S} {i : ℕ} {rest : List ℕ} → IsWritten step room up u old mid i → rest ≡ drop i u
-      → Writes step mid (hex_text up rest) new → Writes step old (hex_text up u) new
-  written_rest {new = new} {i} d e w =
-      subst (λ x. Writes step old (hex_text up x) new) (take-append-drop i u)
-      (rw (hex_text-append up (take i u) (drop i u)) (Writes-append step _ _ _ _ _ d.text (rw e at w)))
-
-  -- the first n bytes, as one piece
-  pub first_written : {mid : S} (n : ℕ) {part : List ℕ} → HasRoom (room old) (2 * length u) → n ≤ length u → part ≡ take n u
-      → step old (hex_text up part) mid → (1 ≤ n) × (n ≤ 32) → IsWritten step room up u old mid n
-  first_written n h k e s size_is = written_step n n (none_written h) (omega arith) k (rw e at s) size_is
+  pub all_written : {new : S} → IsWritten step room up u old new [] → Writes step old (hex_text up u) new
+  all_written d = let whole : d.front ≡ u = sym (append-nil d.front) ∙ d.whole in rw whole at d.text
 
 -- ---- the first bytes of an output hold what the first pairs of a text spell, and the rest of the
 -- output is unchanged
@@ -92,27 +71,25 @@ pub record IsDecoded (u old new : List ℕ) (i : ℕ) : Type 0 where
 pub decoded_step : {u old new : List ℕ} {i end : ℕ} (r : List ℕ) (n m : ℕ) → IsDecoded u old new i → end ≡ i + n → end ≤ length new → m ≡ 2 * n → length r ≡ n
     → Spells (take m (drop (2 * i) u)) r → IsDecoded u old (put_mid i n new r) end
 decoded_step {u} {old} {new} {i} {end} r n m d e h f l s =
-    let within = d.within in
-    let same = d.same_length in
     let text : take (2 * end) u ≡ take (2 * i) u ++ take m (drop (2 * i) u) = let q : 2 * end ≡ 2 * i + m = omega arith in rw q (take-add (2 * i) m u) in
-    let bytes : take end (put_mid i n new r) ≡ take i new ++ r = take-put_mid i n new r end (omega arith) within in
-    let past : drop end (put_mid i n new r) ≡ drop end new = drop-put_mid i n new r end (omega arith) within l in
+    let bytes : take end (put_mid i n new r) ≡ take i new ++ r = take-put_mid i n new r end (omega arith) d.within in
+    let past : drop end (put_mid i n new r) ≡ drop end new = drop-put_mid i n new r end (omega arith) d.within l in
     let length_kept : length (put_mid i n new r) ≡ length new = grind (arith, common_steps) in record {
       within = omega arith;
-      same_length = length_kept ∙ same;
+      same_length = length_kept ∙ d.same_length;
       front = rw (text, bytes) (Spells-append _ _ _ _ d.front s);
       rest = past ∙ rw e (sym (drop-drop n i new) ∙ ap (drop n) d.rest ∙ drop-drop n i old);
     }
 
 -- fewer bytes are decoded than there are
-pub decoded_less : (u new : List ℕ) (i e : ℕ) → e ≤ i → i ≤ length new → Spells (take (2 * i) u) (take i new) → IsDecoded u new new e
-decoded_less u new i e h within front = record {
+pub decoded_less : {u old new : List ℕ} {i : ℕ} (e : ℕ) → IsDecoded u old new i → e ≤ i → IsDecoded u new new e
+decoded_less {u} {old} {new} {i} e d h = record {
   within = omega arith;
   same_length = refl;
   front =
       let text : take (2 * e) (take (2 * i) u) ≡ take (2 * e) u = grind (arith, common_steps) in
       let bytes : take e (take i new) ≡ take e new = grind (arith, common_steps) in
-      rw (text, bytes) at (Spells-parts (take (2 * i) u) (take i new) e (2 * e) refl front).0;
+      rw (text, bytes) at (Spells-parts (take (2 * i) u) (take i new) e (2 * e) refl d.front).0;
   rest = refl;
 }
 
@@ -124,10 +101,8 @@ kept_step new r i n e = rw e (ap (λ x. take i new ++ x) (take-append-drop n (dr
 pub refused_step : {u old new r : List ℕ} {i : ℕ} (n m : ℕ) → IsDecoded u old new i → length u ≡ 2 * length old → r ≡ take n (drop i new)
     → (AllDigits (take m (drop (2 * i) u)) → ⊥) → Partial old u (put_mid i n new r)
 refused_step {u} {old} {new} {r} {i} n m d size e none =
-    let within = d.within in
-    let same = d.same_length in
     let rest = none_decoded (drop i new) (drop (2 * i) u) (λ a. none (All-take IsDigit m (drop (2 * i) u) a)) in
-    rw (kept_step new r i n e) (Partial-after old u new i (2 * i) (omega arith) (omega arith) same within d.front (rw (← d.rest) rest))
+    rw (kept_step new r i n e) (Partial-after old u new i (2 * i) (omega arith) (omega arith) d.same_length d.within d.front (rw (← d.rest) rest))
 
 -- the remainder by another call
 module _ {u old new : List ℕ} {i : ℕ} (r : List ℕ) (d : IsDecoded u old new i) (size : length u ≡ 2 * length old) (long : length r ≡ length new - i) where
@@ -139,9 +114,11 @@ module _ {u old new : List ℕ} {i : ℕ} (r : List ℕ) (d : IsDecoded u old ne
   pub spells_rest : Spells (take (length u - 2 * i) (drop (2 * i) u)) r → Spells u (put_mid i (length new - i) new r)
   spells_rest s = rw whole (subst (λ x. Spells x (take i new ++ r)) (take-append-drop (2 * i) u) (Spells-append _ _ _ _ d.front (rw take_rest at s)))
 
-  pub partial_behind : Partial (take (length new - i) (drop i new)) (take (length u - 2 * i) (drop (2 * i) u)) r
-      → Partial (drop i old) (drop (2 * i) u) (drop i (put_mid i (length new - i) new r))
-  partial_behind p =
-      let within = d.within in
+  pub refused_rest : Partial (take (length new - i) (drop i new)) (take (length u - 2 * i) (drop (2 * i) u)) r
+      → Partial old u (put_mid i (length new - i) new r)
+  refused_rest p =
       let front : length (take i new) ≡ i = omega (arith, length-take i new) in
-      rw (whole, drop_at (take i new) r i front) (rw (take_rest, take_rest, d.rest) at p)
+      let all : length (take i new ++ r) ≡ length old = omega (arith, length-append (take i new) r) in
+      let behind : Partial (drop i old) (drop (2 * i) u) r = rw (take_rest new i, take_rest u (2 * i), d.rest) at p in
+      rw whole (Partial-after old u (take i new ++ r) i (2 * i) refl (omega arith) all (omega arith)
+      (rw (take_at (take i new) r i front) d.front) (rw (drop_at (take i new) r i front) behind))

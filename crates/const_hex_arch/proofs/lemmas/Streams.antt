@@ -12,12 +12,11 @@ use Rattle.const_hex_arch.specs.Gathering.{Gathers, piece_of, FlushesPending}
 use Rattle.const_hex_arch.specs.Sinks.{SinkStep, output_sink, sink_name, told_after}
 use Rattle.const_hex_arch.specs.declared.sink.output.SinkOutput.{SinkOutput}
 use Rattle.const_hex_arch.specs.Streams.{IsCallPiece, IsLargePiece, all_but_last, Cut, Offers, Streams, Handed}
-use Rattle.const_hex_arch.proofs.lemmas.Runs.{run_append}
-use Rattle.const_hex_arch.proofs.lemmas.Gathering.{concat-piece_of}
+use Rattle.const_hex_arch.proofs.lemmas.Runs.{run_append, concat-piece_of}
 
 -- ---- what a run of small writes to a gathering output hands on
 
-IsHandedOn : List ℕ → Type 0
+abbrev IsHandedOn : List ℕ → Type 0
 IsHandedOn p = (4033 ≤ length p) × (length p ≤ 4096)
 
 record Gathered {O : Type 0} (step : O → List ℕ → O → Type 0) (old : O) (pending text : List ℕ) (new : O) (rest : List ℕ) : Type 0 where
@@ -29,7 +28,6 @@ record Gathered {O : Type 0} (step : O → List ℕ → O → Type 0) (old : O) 
 
 handed_sizes : (pending piece : List ℕ) (handed : List (List ℕ)) → length pending ≤ 4096 → IsKernelPiece piece → FlushesPending 4096 pending piece handed
     → All IsHandedOn handed
-unfolding IsHandedOn
 handed_sizes pending piece handed f k (inl e) = All-same IsHandedOn handed [] e (All-nil IsHandedOn)
 handed_sizes pending piece handed f k (inr (e, m)) =
     All-same IsHandedOn handed (pending ∷ []) e (All-cons IsHandedOn pending [] (omega arith, omega arith) (All-nil IsHandedOn))
@@ -62,7 +60,6 @@ module _ {O : Type 0} (step : O → List ℕ → O → Type 0) (room : O → Opt
 -- ---- what was handed on, and then the pending text, is a cut
 
 all_but_last-append : (ps : List (List ℕ)) (rest : List ℕ) → All IsHandedOn ps → All IsLargePiece (all_but_last (ps ++ piece_of rest))
-unfolding IsHandedOn
 all_but_last-append ps [] a =
     rw (append-nil ps) (All-take IsLargePiece _ ps (All-weaker IsHandedOn IsLargePiece (λ p h. h.0) ps a))
 all_but_last-append ps (b ∷ bs) a =
@@ -75,7 +72,6 @@ piece_of-sizes (b ∷ bs) f = All-cons IsCallPiece (b ∷ bs) [] (omega arith, f
 
 Cut-of : (text : List ℕ) (ps : List (List ℕ)) (rest : List ℕ) → concat ps ++ rest ≡ text → All IsHandedOn ps → length rest ≤ 4096
     → Cut text (ps ++ piece_of rest)
-unfolding IsHandedOn
 Cut-of text ps rest w a f = record {
   whole = concat-append ps (piece_of rest) ∙ ap (λ x. concat ps ++ x) (concat-piece_of rest) ∙ w;
   sizes = All-append IsCallPiece ps (piece_of rest) (All-weaker IsHandedOn IsCallPiece (λ p h. (omega arith, h.1)) ps a) (piece_of-sizes rest f);
@@ -84,7 +80,6 @@ Cut-of text ps rest w a f = record {
 
 -- so many pieces have so many bytes
 many_bytes : (ps : List (List ℕ)) → All IsHandedOn ps → 4033 * length ps ≤ length (concat ps)
-unfolding IsHandedOn
 many_bytes [] a = omega arith
 many_bytes (p ∷ ps) a =
     let h = (All-head IsHandedOn p ps a).0 in
@@ -97,12 +92,9 @@ small_piece (x ∷ rest) = (omega arith, omega arith)
 few_pieces : (text : List ℕ) (ps : List (List ℕ)) (rest : List ℕ) → concat ps ++ rest ≡ text → All IsHandedOn ps
     → length (ps ++ piece_of rest) ≤ (length text + 4032) / 4033
 few_pieces text ps rest w a =
-    let m = many_bytes ps a in
-    let e = ap length w in
-    let n = length-append ps (piece_of rest) in
-    let b = length-append (concat ps) rest in
     let few = small_piece rest in
-    let l : length (ps ++ piece_of rest) * 4033 ≤ length text + 4032 = omega (arith, m, e, n, b, few) in
+    let l : length (ps ++ piece_of rest) * 4033 ≤ length text + 4032 =
+    omega (arith, many_bytes ps a, ap length w, length-append ps (piece_of rest), length-append (concat ps) rest) in
     (le-div_iff_mul-le {k = 4033} (omega arith)).1 l
 
 -- ---- what is offered to a sink
@@ -123,19 +115,16 @@ module _ {S : Type 0} (step : S → List ℕ → S → Type 0) (is_refused : S �
     run : Offers step is_refused old (take count pieces) new
     complete : is_refused new ≡ false → count ≡ length pieces
 
-  offered_more : (s : S) (p : List ℕ) (m : S) (ps : List (List ℕ)) (t : S) → is_refused s ≡ false → step s p m → Offered m ps t → Offered s (p ∷ ps) t
-  offered_more s p m ps t e h o = record {
-    count = suc o.count;
-    within = omega arith;
-    run = (e, (m, h, o.run));
-    complete = λ u. ap suc (o.complete u);
-  }
-
   offered_one : (s : SinkOutput S) (p : List ℕ) (m : SinkOutput S) (ps : List (List ℕ)) (t : SinkOutput S) → is_refused (output_sink s) ≡ false
       → SinkStep step is_refused s p m → FoldsTo (SinkStep step is_refused) m ps t
       → (is_refused (output_sink m) ≡ false → Offered (output_sink m) ps (output_sink t))
       → (b : Bool) → is_refused (output_sink m) ≡ b → Offered (output_sink s) (p ∷ ps) (output_sink t)
-  offered_one s p m ps t e h k more false u = offered_more (output_sink s) p (output_sink m) ps (output_sink t) e (h.accepting e) (more u)
+  offered_one s p m ps t e h k more false u = let o = more u in record {
+    count = suc o.count;
+    within = omega arith;
+    run = (e, (output_sink m, h.accepting e, o.run));
+    complete = λ v. ap suc (o.complete v);
+  }
   offered_one s p m ps t e h k more true u = let c = refused_run m ps t u k in record {
     count = 1;
     within = omega arith;

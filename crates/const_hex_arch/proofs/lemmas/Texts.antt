@@ -1,4 +1,4 @@
--- The text of bytes.
+-- The text of bytes: its length, that it is ASCII, and that it spells the bytes.
 use Rattle.std.proofs.Common.{◌≡◌, ℕ, suc, ◌+◌, ◌*◌, ◌/◌, ◌%◌, ◌<◌, Bool, true, false, List, [], ◌∷◌, ◌++◌, length, take, get_or, slice_index, Some, refl, ap, ◌∙◌, sym, arith, length-append}
 use Rattle.std.specs.Str.{IsAscii}
 use Rattle.std.proofs.lemmas.Bool.Decides.{nat_tests}
@@ -8,12 +8,10 @@ use Rattle.std.proofs.lemmas.Str.Ascii.{IsAscii-nil, IsAscii-cons}
 use Rattle.const_hex_arch.specs.Digits.{hex_value, hex_digit}
 use Rattle.const_hex_arch.specs.Texts.{hex_text, prefix_of, full_text, text_length, Spells}
 
--- no bytes
 pub hex_text-nil : (up : Bool) → hex_text up [] ≡ []
 unfolding hex_text
 hex_text-nil up = refl
 
--- the text of two lists
 pub hex_text-append : (up : Bool) (xs ys : List ℕ) → hex_text up (xs ++ ys) ≡ hex_text up xs ++ hex_text up ys
 unfolding hex_text
 hex_text-append up [] ys = refl
@@ -27,7 +25,6 @@ length-hex_text up (b ∷ bs) = let e = length-hex_text up bs in omega (arith, e
 pub length-full_text : (prefix up : Bool) (bs : List ℕ) → length (full_text prefix up bs) ≡ length (prefix_of prefix) + 2 * length bs
 length-full_text prefix up bs = length-append (prefix_of prefix) (hex_text up bs) ∙ ap (λ n. length (prefix_of prefix) + n) (length-hex_text up bs)
 
--- the length of the text, with and without a prefix
 pub full_text_size : (prefix up : Bool) (bs : List ℕ) → length (full_text prefix up bs) ≡ text_length prefix (length bs)
 full_text_size true up bs = let l = length-full_text true up bs in omega (arith, l)
 full_text_size false up bs = let l = length-full_text false up bs in omega (arith, l)

@@ -4,7 +4,7 @@ ghost use Rattle.std.specs.Prelude.{◌≡◌, ◌-◌, ◌*◌, ◌++◌, ◌�
 ghost use Rattle.std.specs.List.{AllZip, concat};
 ghost use Rattle.const_hex_arch.specs.Digits.{hex_value, IsDigit};
 ghost use Rattle.const_hex_arch.specs.Lanes.{AllNibbles, AllUnmarked, byte_pairs};
-ghost use Rattle.const_hex_arch.specs.Nibbles.{as_value, IsValueOf, IsMarkOf, IsPartOf, IsLimitOf};
+ghost use Rattle.const_hex_arch.specs.Nibbles.{as_value, IsValueOf, IsPartOf, IsLimitOf};
 ghost use Rattle.const_hex_arch.specs.Texts.{hex_text, AllDigits, Spells};
 
 use std::simd::prelude::*;
@@ -43,29 +43,6 @@ pub(crate) fn nibbles<const N: usize>(v: Simd<u8, N>) -> Simd<u8, N>
     decimal.simd_min(letter)
 }
 
-/// The lane less 48, but at most its limit. If the lane is a digit, this is its value. The marks
-/// are made from it.
-#[inline(always)]
-pub(crate) fn values<const N: usize>(v: Simd<u8, N>, limits: Simd<u8, N>) -> Simd<u8, N>
-    requires { AllZip IsLimitOf v limits }
-    ensures parts { AllZip IsPartOf v.entry result }
-    ensures values { AllZip IsValueOf v.entry result }
-{
-    (v - Simd::splat(0x30)).simd_min(limits)
-}
-
-/// The lane less 48, less the given value. It sets at least one of the bits 7, 6, 4 and 3 in each
-/// lane that is not a digit, and clears all four in every other lane.
-// Not by `saturating_sub` of the limits: the limits and the values would both be kept until the
-// test of the marks is done. The default processor has too few registers for that.
-#[inline(always)]
-pub(crate) fn marks<const N: usize>(v: Simd<u8, N>, values: Simd<u8, N>) -> Simd<u8, N>
-    requires { AllZip IsPartOf v values }
-    ensures { AllZip IsMarkOf v.entry result }
-{
-    v - Simd::splat(0x30) - values
-}
-
 /// Whether no lane has a mark, so all have the bits 7, 6, 4 and 3 clear.
 #[inline(always)]
 #[tactic(auto, using(crate::proofs::lemmas::LaneMarks::are_unmarked))]
@@ -84,20 +61,26 @@ pub(crate) fn unhex<const N: usize>(v: Simd<u8, N>) -> Simd<u8, N>
     (v & Simd::splat(15)) + v.simd_gt(Simd::splat(64)).select(nine, Simd::splat(0))
 }
 
-/// What the mark of each lane is made from. If the lane is a digit, this is its value.
+/// The lane less 48, but at most its limit. If the lane is a digit, this is its value. The marks
+/// are made from it.
 #[inline(always)]
 fn digit_values<const N: usize, V: Vectors<N>>(v: Simd<u8, N>) -> Simd<u8, N>
     ensures { AllZip IsPartOf v.entry result }
 {
-    values(v, V::limits(v))
+    let limits = V::limits(v);
+    (v - Simd::splat(0x30)).simd_min(limits)
 }
 
-/// Marks of a vector: there are none exactly if each lane is a digit.
+/// The lane less 48, less its value. It sets at least one of the bits 7, 6, 4 and 3 in each lane
+/// that is not a digit, and clears all four in every other lane.
+// Not by `saturating_sub` of the limits: the limits and the values would both be kept until the
+// test of the marks is done. The default processor has too few registers for that.
 #[inline(always)]
 fn digit_marks<const N: usize, V: Vectors<N>>(v: Simd<u8, N>) -> Simd<u8, N>
     ensures { AllUnmarked result ↔ AllDigits v.entry }
 {
-    marks(v, digit_values::<N, V>(v))
+    let values = digit_values::<N, V>(v);
+    v - Simd::splat(0x30) - values
 }
 
 /// Whether every lane is a digit.

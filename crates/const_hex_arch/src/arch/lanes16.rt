@@ -37,8 +37,8 @@ pub fn encode_chunk<const UPPER: bool>(v: u8x16) -> [u8x16; 2]
     ensures text { concat result ≡ hex_text UPPER v }
     ensures lanes { map length result ≡ 16 ∷ 16 ∷ [] }
 {
-    let high = low_digits::<UPPER>(v >> u8x16::splat(4));
-    let (first, second) = high.interleave(low_digits::<UPPER>(v));
+    let high = low_digits(v >> u8x16::splat(4), UPPER);
+    let (first, second) = high.interleave(low_digits(v, UPPER));
     [first, second]
 }
 
@@ -181,10 +181,10 @@ impl Vectors<16> for Lanes16 {
 
 /// The digit of the low half of each lane.
 #[inline(always)]
-fn low_digits<const UPPER: bool>(v: u8x16) -> u8x16
-    ensures { result ≡ map (low_digit UPPER) v }
+fn low_digits(v: u8x16, upper: bool) -> u8x16
+    ensures { result ≡ map (low_digit upper) v }
 {
-    let digits = if UPPER {
+    let digits = if upper {
         *HEX_CHARS_UPPER
     } else {
         *HEX_CHARS_LOWER

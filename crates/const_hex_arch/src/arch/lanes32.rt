@@ -33,8 +33,8 @@ pub fn encode_chunk<const UPPER: bool>(v: u8x32) -> [u8x32; 2]
     ensures text { concat result ≡ hex_text UPPER v }
     ensures lanes { map length result ≡ 32 ∷ 32 ∷ [] }
 {
-    let high = low_digits::<UPPER>(v >> u8x32::splat(4));
-    let (first, second) = high.interleave(low_digits::<UPPER>(v));
+    let high = low_digits(v >> u8x32::splat(4), UPPER);
+    let (first, second) = high.interleave(low_digits(v, UPPER));
     [first, second]
 }
 
@@ -178,10 +178,10 @@ impl Vectors<32> for Lanes32 {
 
 /// The digit of the low half of each lane.
 #[inline(always)]
-fn low_digits<const UPPER: bool>(v: u8x32) -> u8x32
-    ensures { result ≡ map (low_digit UPPER) v }
+fn low_digits(v: u8x32, upper: bool) -> u8x32
+    ensures { result ≡ map (low_digit upper) v }
 {
-    let digits = if UPPER { DIGITS_UPPER } else { DIGITS_LOWER };
+    let digits = if upper { DIGITS_UPPER } else { DIGITS_LOWER };
     u8x32::from_array(digits).swizzle_dyn_within::<16>(v & u8x32::splat(15))
 }
 

@@ -47,22 +47,7 @@ pub(crate) fn decode(text: &[u8], output: &mut [u8]) -> bool
     ensures spells { IsTrue result → Spells text.now output.new }
     ensures refused { result ≡ false → Partial output.old text.now output.new }
 {
-    if decode_whole(text, output) {
-        return true;
-    }
-    Plain::decode_checked(text, output)
-}
-
-/// Fills an output of at most 16 bytes with the bytes that the text spells, and returns true.
-/// Otherwise the output stays unchanged, and the answer is false.
-#[inline(always)]
-fn decode_whole(text: &[u8], output: &mut [u8]) -> bool
-    requires size { length text.now ≡ 2 * length output.old }
-    requires short { length output.old ≤ 16 }
-    ensures spells { IsTrue result → Spells text.now output.new }
-    ensures unchanged { result ≡ false → output.new ≡ output.old }
-{
-    if output.len() >= 8 {
+    let is_decoded = if output.len() >= 8 {
         decode_ends::<8, 16>(text, output)
     } else if output.len() >= 4 {
         decode_ends::<4, 8>(text, output)
@@ -72,10 +57,15 @@ fn decode_whole(text: &[u8], output: &mut [u8]) -> bool
         decode_ends::<1, 2>(text, output)
     } else {
         false
+    };
+    if is_decoded {
+        return true;
     }
+    Plain::decode_checked(text, output)
 }
 
-/// As `decode_whole`, for `H` to `2 * H` bytes. `D` digits spell `H` bytes.
+/// Fills an output of `H` to `2 * H` bytes with the bytes that the text spells, and returns true.
+/// Otherwise the output stays unchanged, and the answer is false. `D` digits spell `H` bytes.
 #[inline(always)]
 fn decode_ends<const H: usize, const D: usize>(text: &[u8], output: &mut [u8]) -> bool
     requires half { H ≤ 8 }

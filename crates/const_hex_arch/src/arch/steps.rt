@@ -24,40 +24,19 @@ pub(crate) fn encode<const N: usize, V: Vectors<N>, O: Output>(
     requires { HasRoom (O.room output.old) (2 * length input.now) }
     ensures { Writes O.step output.old (hex_text upper input.now) output.new }
 {
-    let mut at = 0;
-    while input.len() - at >= 2 * N {
-        let middle = at + N;
-        let end = middle + N;
-        encode_step::<N, V, O>(&input[at..middle], upper, output);
-        encode_step::<N, V, O>(&input[middle..end], upper, output);
-        at = end;
+    let mut rest = input;
+    while rest.len() >= 2 * N {
+        let (first, behind) = rest.split_at(N);
+        let (second, behind) = behind.split_at(N);
+        encode_step::<N, V, O>(first, upper, output);
+        encode_step::<N, V, O>(second, upper, output);
+        rest = behind;
     }
-    encode_last::<N, V, O>(&input[at..], upper, output);
-}
-
-/// Encodes one step if the input has one, and then the remainder, as one piece.
-#[inline(always)]
-fn encode_last<const N: usize, V: Vectors<N>, O: Output>(input: &[u8], upper: bool, output: &mut O)
-    requires fewer { length input.now < 2 * N }
-    requires room { HasRoom (O.room output.old) (2 * length input.now) }
-    ensures { Writes O.step output.old (hex_text upper input.now) output.new }
-{
-    let mut left = input;
-    if left.len() >= N {
-        let (bytes, rest) = left.split_at(N);
+    if rest.len() >= N {
+        let (bytes, behind) = rest.split_at(N);
         encode_step::<N, V, O>(bytes, upper, output);
-        left = rest;
+        rest = behind;
     }
-    encode_rest::<O>(left, upper, output);
-}
-
-/// Encodes at most 32 bytes, as one piece, or none if there are no bytes.
-#[inline(always)]
-fn encode_rest<O: Output>(rest: &[u8], upper: bool, output: &mut O)
-    requires few { length rest.now ≤ 32 }
-    requires room { HasRoom (O.room output.old) (2 * length rest.now) }
-    ensures { Writes O.step output.old (hex_text upper rest.now) output.new }
-{
     if rest.len() > 0 {
         encode_few::<O>(rest, upper, output);
     }
@@ -90,6 +69,7 @@ fn encode_few<O: Output>(bytes: &[u8], upper: bool, output: &mut O)
 /// Writes two digits for each of `H` to `2 * H` bytes, as one piece. The first `H` bytes and the last
 /// `H` share a vector.
 #[inline(always)]
+#[tactic(auto, using(crate::proofs::lemmas::Ends::ends_text))]
 fn encode_ends<const H: usize, const N: usize, V: Vectors<N>, O: Output>(
     bytes: &[u8],
     upper: bool,
@@ -157,19 +137,6 @@ pub(crate) fn check<const N: usize, V: Vectors<N>>(input: &[u8]) -> bool
         }
         at = end;
     }
-    check_last::<N, V>(input, at)
-}
-
-/// Checks the end of an input whose first `at` bytes are digits: at most two steps, by one test. The
-/// last step of the input may begin before that end.
-#[inline(always)]
-fn check_last<const N: usize, V: Vectors<N>>(input: &[u8], at: usize) -> bool
-    requires step { N ≤ length input.now }
-    requires within { at ≤ length input.now }
-    requires few { length input.now ≤ at + 2 * N }
-    requires digits { AllDigits (take at input.now) }
-    ensures { IsTrue result ↔ AllDigits input.now }
-{
     let last = &input[input.len() - N..];
     if input.len() - at > N {
         check_pair::<N, V>(&input[at..at + N], last)
@@ -179,8 +146,9 @@ fn check_last<const N: usize, V: Vectors<N>>(input: &[u8], at: usize) -> bool
 }
 
 /// Decodes two steps at a time, then single steps, and then 16 bytes if they are left. If two steps
-/// are refused, single steps decode the first of them if possible. A text of less than 16 bytes is
-/// left to `short::decode`.
+/// are refused, single steps decode the first of them if possible. The last 16 bytes are one step,
+/// which decodes some again. If it is refused, it has written nothing, and `short::decode` decodes
+/// what is left, as it decodes a text of less than 16 bytes.
 #[inline(always)]
 pub(crate) fn decode_checked<const N: usize, V: Vectors<N>>(input: &[u8], output: &mut [u8]) -> bool
     requires { length input.now ≡ 2 * length output.old }
@@ -212,24 +180,6 @@ pub(crate) fn decode_checked<const N: usize, V: Vectors<N>>(input: &[u8], output
         }
         at = end;
     }
-    decode_last(input, output, at)
-}
-
-/// Decodes the end of a text: the first `at` bytes of the output are decoded, and at most 16 are left.
-/// The last 16 bytes are one step, which decodes some again. If it is refused, it has written nothing,
-/// and `short::decode` decodes what is left.
-#[inline(always)]
-fn decode_last(input: &[u8], output: &mut [u8], at: usize) -> bool
-    requires size { length input.now ≡ 2 * length output.old }
-    requires step { 16 ≤ length output.old }
-    requires within { at ≤ length output.old }
-    requires few { length output.old ≤ at + 16 }
-    requires front { Spells (take (2 * at) input.now) (take at output.old) }
-    ensures spells { IsTrue result → Spells input.now output.new }
-    ensures kept { result ≡ false → take at output.new ≡ take at output.old }
-    ensures refused { result ≡ false
-        → Partial (drop at output.old) (drop (2 * at) input.now) (drop at output.new) }
-{
     if at == output.len() {
         return true;
     }
@@ -263,20 +213,6 @@ pub(crate) fn decode_unchecked<const N: usize, V: Vectors<N>>(input: &[u8], outp
         decode_digits_step::<16, Lanes16>(&input[2 * at..2 * end], &mut output[at..end]);
         at = end;
     }
-    decode_digits_last(input, output, at);
-}
-
-/// As `decode_last`, for a text that has only digits.
-#[inline(always)]
-fn decode_digits_last(input: &[u8], output: &mut [u8], at: usize)
-    requires size { length input.now ≡ 2 * length output.old }
-    requires step { 16 ≤ length output.old }
-    requires within { at ≤ length output.old }
-    requires few { length output.old ≤ at + 16 }
-    requires front { Spells (take (2 * at) input.now) (take at output.old) }
-    requires digits { AllDigits input.now }
-    ensures { Spells input.now output.new }
-{
     if at < output.len() {
         let start = output.len() - 16;
         decode_digits_step::<16, Lanes16>(&input[2 * start..], &mut output[start..]);

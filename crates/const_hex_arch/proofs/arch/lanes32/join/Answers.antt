@@ -1,5 +1,6 @@
-use Rattle.const_hex_arch.proofs.lemmas.LaneBytes.{join_are}
+use Rattle.std.proofs.Common.{arith, length-append}
+use Rattle.std.proofs.lemmas.Simd.{pick_l_whole}
 use Rattle.const_hex_arch.proofs.arch.lanes32.join.Goals as goal
 
 pub returns : goal.returns
-returns c = join_are 32 c.args.first c.args.second c.fits-first.0 c.fits-second.0
+returns c = pick_l_whole 0 _ 64 (simp length-append (omega arith))

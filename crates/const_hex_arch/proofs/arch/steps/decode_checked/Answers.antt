@@ -1,8 +1,11 @@
-use Rattle.std.proofs.Common.{◌*◌, refl, arith}
-use Rattle.const_hex_arch.proofs.lemmas.Spelling.{false_is_true, Partial-after}
-use Rattle.const_hex_arch.proofs.lemmas.Steps.{IsDecoded, decoded_step, kept_step, refused_step}
+use Rattle.std.proofs.Common.{◌≡◌, ◌+◌, ◌-◌, ◌*◌, ◌≤◌, length, refl, arith}
+use Rattle.std.proofs.lemmas.List.{take_all}
+use borrow.Rule.Slice.PartMut.{put_mid}
+use Rattle.const_hex_arch.proofs.lemmas.Spelling.{false_is_true}
+use Rattle.const_hex_arch.proofs.lemmas.Steps.{IsDecoded, decoded_step, decoded_less, kept_step, refused_step, spells_rest, refused_rest}
+use Rattle.const_hex_arch.proofs.arch.steps.decode_checked.Given.{Over}
 use Rattle.const_hex_arch.proofs.arch.steps.decode_checked.Goals as goal
-use Rattle.const_hex_arch.proofs.arch.steps.decode_checked.Goals.{else-loop-output-test, then-loop-output-test+then-not-decode_two_steps, then-output-at-ge16+else-not-decode_step-2, else-output-at-ge16}
+use Rattle.const_hex_arch.proofs.arch.steps.decode_checked.Goals.{Joined-output-at-ge16, else-loop-output-test, then-loop-output-test+then-not-decode_two_steps, then-output-at-ge16+else-not-decode_step-2, else-output-at-ge16}
 
 pub loop-output-preserved : goal.loop-output-preserved
 loop-output-preserved g c =
@@ -29,26 +32,41 @@ returns-then-not-decode_step-2-clause-refused g c = λ _.
     let is = c.if-not-decode_step-2.ensures in
     refused_step _ _ c.loop-output-2.invariant c.requires (is.unchanged refl) (λ d. false_is_true (is.digits.1 d))
 
-pub decode_last-requires-clause-front : goal.decode_last-requires-clause-front
-decode_last-requires-clause-front g c = elim c.if-output-at-ge16.branch [
-  | then-output-at-ge16+else-not-decode_step-2 w ↦
-      let last = decoded_step _ _ _ c.loop-output-2.invariant (omega arith) (omega arith) (omega arith) (omega arith) (w.if-not-decode_step-2.ensures.spells refl) in
-      rw (w.output-is, w.at-is) last.front
-  | else-output-at-ge16 w ↦ rw (w.output-is, w.at-is) c.loop-output-2.invariant.front
-]
+-- before the remainder
+decoded : (g : Over) (c : Joined-output-at-ge16 g) → (length c.if-output-at-ge16.output ≤ c.if-output-at-ge16.at + 16)
+    × IsDecoded c.args.input.now c.args.output.now c.if-output-at-ge16.output c.if-output-at-ge16.at
+decoded g c =
+    let sizes = g.met.V.Vectors.sizes in
+    elim c.if-output-at-ge16.branch [
+      | then-output-at-ge16+else-not-decode_step-2 w ↦ (
+        omega arith,
+        rw (w.output-is, w.at-is)
+            (decoded_step _ _ _ c.loop-output-2.invariant (omega arith) (omega arith) (omega arith) (omega arith) (w.if-not-decode_step-2.ensures.spells refl)),
+      )
+      | else-output-at-ge16 w ↦ (omega arith, rw (w.output-is, w.at-is) c.loop-output-2.invariant)
+    ]
 
-pub returns-clause-refused : goal.returns-clause-refused
-returns-clause-refused g c = λ f.
+pub returns-then-at-output-clause-spells : goal.returns-then-at-output-clause-spells
+returns-then-at-output-clause-spells g c = λ _.
     let at = c.if-output-at-ge16.at in
-    let decoded : IsDecoded c.args.input.now c.args.output.now c.if-output-at-ge16.output at = elim c.if-output-at-ge16.branch [
-      | then-output-at-ge16+else-not-decode_step-2 w ↦
-          rw (w.output-is, w.at-is)
-          (decoded_step _ _ _ c.loop-output-2.invariant (omega arith) (omega arith) (omega arith) (omega arith) (w.if-not-decode_step-2.ensures.spells refl))
-      | else-output-at-ge16 w ↦ rw (w.output-is, w.at-is) c.loop-output-2.invariant
-    ] in
-    let within = decoded.within in
-    let same = decoded.same_length in
-    let is = c.decode_last.ensures in
-    let long = c.decode_last.auto.output in
-    Partial-after c.args.output.now c.args.input.now c.decode_last.new.output at (2 * at) refl
-    (omega arith) (omega arith) (omega arith) (rw (is.kept f) decoded.front) (rw decoded.rest at (is.refused f))
+    let before = decoded g (goal.at.returns-then-at-output-clause-spells g c).Joined-output-at-ge16 in
+    rw (take_all (2 * at) c.args.input.now (omega arith), take_all at c.if-output-at-ge16.output (omega arith)) at before.1.front
+
+pub returns-then-decode_step-clause-spells : goal.returns-then-decode_step-clause-spells
+returns-then-decode_step-clause-spells g c = λ _.
+    let before = decoded g (goal.at.returns-then-decode_step-clause-spells g c).Joined-output-at-ge16 in
+    let start = length c.if-output-at-ge16.output - 16 in
+    spells_rest _ (decoded_less start before.1 (omega arith)) (omega arith) (omega arith) (c.if-decode_step.ensures.spells refl)
+
+pub returns : goal.returns
+returns g c =
+    let before = decoded g (goal.at.returns g c).Joined-output-at-ge16 in
+    let new = c.if-output-at-ge16.output in
+    let start = length new - 16 in
+    let mid = put_mid start (length new - start) new c.decode_step-2.new.output in
+    let same : mid ≡ new = kept_step new _ _ _ (c.if-decode_step.ensures.unchanged refl) in
+    let kept : IsDecoded c.args.input.now c.args.output.now mid c.if-output-at-ge16.at = rw same before.1 in
+    let is = c.decode-2.ensures in record {
+      spells = λ t. spells_rest _ kept c.requires (omega arith) (is.spells t);
+      refused = λ f. refused_rest _ kept c.requires (omega arith) (is.refused f);
+    }

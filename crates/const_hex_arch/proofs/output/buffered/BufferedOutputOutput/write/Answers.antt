@@ -1,6 +1,6 @@
 use Rattle.std.proofs.Common.{◌≡◌, [], take, refl, ap, ◌∙◌, arith}
 use Rattle.std.proofs.lemmas.List.{nil_from_length}
-use Rattle.const_hex_arch.proofs.lemmas.Gathering.{Gathers-long}
+use Rattle.const_hex_arch.proofs.lemmas.Runs.{Gathers-long}
 use Rattle.const_hex_arch.proofs.output.buffered.BufferedOutputOutput.write.Goals as goal
 use Rattle.const_hex_arch.proofs.output.buffered.BufferedOutputOutput.write.Goals.{then-bytes-pending, else-bytes-pending}
 
