@@ -5,14 +5,4 @@
 #![tactic(auto)]
 
 #[cfg(test)]
-mod callers;
-#[cfg(test)]
-mod hashes;
-#[cfg(test)]
-mod hosts;
-#[cfg(test)]
-mod questions;
-#[cfg(test)]
-mod rows;
-#[cfg(test)]
-mod runs;
+mod tests;

@@ -2,48 +2,20 @@
 
 use std::alloc::{AllocError, Global};
 
-/// A kernel's name, whether it is tried behind `CheckFirst`, and in which steps it works.
+/// A kernel, by itself or behind `CheckFirst`, and in which steps it works.
 #[derive(Clone, Copy, Debug)]
 pub struct KernelCase {
     pub name: &'static str,
     /// Its place in rows with a figure for each kernel.
     pub number: usize,
-    pub checks_first: bool,
     /// How many digits it decodes in a step: the first number as long as possible, then the next.
     /// Empty if it decodes nothing of a text that it refuses.
-    reads: &'static [usize],
+    pub reads: &'static [usize],
     /// How many digits it writes in a piece. If fewer are left, they are one piece.
     pub writes: usize,
 }
 
 impl KernelCase {
-    /// A kernel by itself, by its name, its place in rows, what it reads and what it writes.
-    pub fn new(
-        name: &'static str,
-        number: usize,
-        reads: &'static [usize],
-        writes: usize,
-    ) -> KernelCase {
-        KernelCase {
-            name,
-            number,
-            checks_first: false,
-            reads,
-            writes,
-        }
-    }
-
-    /// A kernel behind `CheckFirst`, by its name there, its place in rows and what it writes.
-    pub fn checking_first(name: &'static str, number: usize, writes: usize) -> KernelCase {
-        KernelCase {
-            name,
-            number,
-            checks_first: true,
-            reads: &[],
-            writes,
-        }
-    }
-
     /// How many bytes it decodes of a body of that length with a bad byte at that place.
     pub fn decoded(self, length: usize, place: usize) -> usize {
         for step in self.reads {
@@ -65,27 +37,29 @@ impl KernelCase {
     }
 }
 
-/// Calls a function with each kernel, by itself and behind `CheckFirst`. The kernel's case is its last
-/// argument. With a `?`, the first error is returned. The last kernel is `Backward` of
+/// Calls a function or a method with each kernel, by itself and behind `CheckFirst`, and gives the
+/// array of their results. The last argument is the kernel's case. The last kernel is `Backward` of
 /// `const_hex_uses`.
 #[macro_export]
 macro_rules! by_each_kernel {
-    ($call:ident($($argument:expr),*) $($try:tt)?) => {
-        $call::<const_hex::Plain>(
-            $($argument,)* $crate::KernelCase::new("Plain", 0, &[2], 1))$($try)?;
-        $call::<const_hex::CheckFirst<const_hex::Plain>>(
-            $($argument,)* $crate::KernelCase::checking_first("CheckFirst<Plain>", 0, 1))$($try)?;
-        $call::<const_hex::Lanes16>(
-            $($argument,)* $crate::KernelCase::new("Lanes16", 1, &[32, 2], 32))$($try)?;
-        $call::<const_hex::CheckFirst<const_hex::Lanes16>>(
-            $($argument,)* $crate::KernelCase::checking_first("CheckFirst<Lanes16>", 1, 32))$($try)?;
-        $call::<const_hex::Lanes32>(
-            $($argument,)* $crate::KernelCase::new("Lanes32", 2, &[64, 32, 2], 64))$($try)?;
-        $call::<const_hex::CheckFirst<const_hex::Lanes32>>(
-            $($argument,)* $crate::KernelCase::checking_first("CheckFirst<Lanes32>", 2, 64))$($try)?;
-        $call::<const_hex_uses::own_kernel::Backward>(
-            $($argument,)* $crate::KernelCase::new("Backward", 3, &[], 2))$($try)?;
-        $call::<const_hex::CheckFirst<const_hex_uses::own_kernel::Backward>>(
-            $($argument,)* $crate::KernelCase::checking_first("CheckFirst<Backward>", 3, 2))$($try)?;
+    ($($call:ident).+($($argument:expr),*)) => {
+        [
+            $($call).+::<const_hex::Plain>($($argument,)*
+                $crate::KernelCase { name: "Plain", number: 0, reads: &[2], writes: 1 }),
+            $($call).+::<const_hex::CheckFirst<const_hex::Plain>>($($argument,)*
+                $crate::KernelCase { name: "CheckFirst<Plain>", number: 0, reads: &[], writes: 1 }),
+            $($call).+::<const_hex::Lanes16>($($argument,)*
+                $crate::KernelCase { name: "Lanes16", number: 1, reads: &[32, 2], writes: 32 }),
+            $($call).+::<const_hex::CheckFirst<const_hex::Lanes16>>($($argument,)*
+                $crate::KernelCase { name: "CheckFirst<Lanes16>", number: 1, reads: &[], writes: 32 }),
+            $($call).+::<const_hex::Lanes32>($($argument,)*
+                $crate::KernelCase { name: "Lanes32", number: 2, reads: &[64, 32, 2], writes: 64 }),
+            $($call).+::<const_hex::CheckFirst<const_hex::Lanes32>>($($argument,)*
+                $crate::KernelCase { name: "CheckFirst<Lanes32>", number: 2, reads: &[], writes: 64 }),
+            $($call).+::<const_hex_uses::own_kernel::Backward>($($argument,)*
+                $crate::KernelCase { name: "Backward", number: 3, reads: &[], writes: 2 }),
+            $($call).+::<const_hex::CheckFirst<const_hex_uses::own_kernel::Backward>>($($argument,)*
+                $crate::KernelCase { name: "CheckFirst<Backward>", number: 3, reads: &[], writes: 2 }),
+        ]
     };
 }

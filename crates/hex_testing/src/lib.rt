@@ -13,4 +13,4 @@ pub use crate::counting::Counting;
 pub use crate::devices::{Endless, Fault, Source, Target};
 pub use crate::formatted::InHex;
 pub use crate::kernels::KernelCase;
-pub use crate::rows::{Text, difference};
+pub use crate::rows::{Rest, Testing, Text, rests, shown};

@@ -1,7 +1,14 @@
-//! How a row that fails is printed.
+//! What tests take, and how a row that fails is printed.
 
+use std::convert::AsSlice;
 use std::fmt::Debug;
+use std::process::Abort;
 use std::{ascii, fmt};
+
+/// What a test is given: it can end the process, and allocate.
+pub trait Testing: Abort + AllocGlobal {}
+
+impl<R: Abort + AllocGlobal> Testing for R {}
 
 /// Bytes that print as a text: at most the first 64, and how many there are if there are more.
 #[derive(Clone, Copy, PartialEq, Eq)]
@@ -21,35 +28,61 @@ impl Debug for Text<'_> {
     }
 }
 
-/// Where two slices of bytes differ: a place a little before the first byte that does, and both
-/// slices from there on. `None` if they are equal.
-pub fn difference<'a>(bytes: &'a [u8], want: &'a [u8]) -> Option<(usize, Text<'a>, Text<'a>)> {
-    if bytes == want {
-        return None;
+/// An answer whose bytes print as a text.
+pub fn shown<B: AsSlice<u8>, E>(answer: &Result<B, E>) -> Result<Text<'_>, &E> {
+    match answer {
+        Ok(bytes) => Ok(Text(bytes.as_slice())),
+        Err(error) => Err(error),
     }
-    let place = bytes.iter().zip(want).position(|(byte, want)| byte != want);
-    let from = place.unwrap_or(0).saturating_sub(8);
-    let [bytes, want] = [bytes, want].map(|bytes| Text(bytes.get(from..).unwrap_or(&[])));
-    Some((from, bytes, want))
+}
+
+/// What follows the first bytes of a text.
+#[derive(Clone, Copy, Debug, PartialEq, Eq)]
+pub struct Rest<'a> {
+    pub from_byte: usize,
+    pub text: Text<'a>,
+}
+
+/// Two texts from a little before the first byte that differs. They are equal if all bytes are.
+pub fn rests<'a>(bytes: &'a [u8], want: &'a [u8]) -> [Rest<'a>; 2] {
+    // The comparison at once is the quick one.
+    let differs = match bytes == want {
+        true => None,
+        false => bytes.iter().zip(want).position(|(byte, want)| byte != want),
+    };
+    let place = differs.unwrap_or(bytes.len().min(want.len()));
+    let from_byte = place.saturating_sub(8);
+    [bytes, want].map(|bytes| Rest {
+        from_byte,
+        text: Text(bytes.get(from_byte..).unwrap_or(&[])),
+    })
 }
 
 /// Ends the test if a call did not answer what is wanted. Prints the call, its row and both answers.
 /// With no call and no row, it prints the expression that has the answer.
-// No library may end the process. So each crate of tests has the module `rows` with what ends it.
+// No library may end the process. So each crate of tests has the functions that end it.
 #[macro_export]
 macro_rules! same {
     ($rt:expr; $answer:expr, $want:expr) => {
-        crate::rows::check($rt, stringify!($answer), (), $answer, $want)
+        crate::tests::check($rt, stringify!($answer), (), $answer, $want)
     };
     ($rt:expr, $call:expr, $row:expr; $answer:expr, $want:expr) => {
-        crate::rows::check($rt, $call, $row, $answer, $want)
+        crate::tests::check($rt, $call, $row, $answer, $want)
     };
 }
 
-/// As `same`, for slices of bytes. Prints them from a little before the first byte that differs.
+/// As `same`, for what lends bytes, from a little before the first byte that differs.
 #[macro_export]
 macro_rules! same_bytes {
     ($rt:expr, $call:expr, $row:expr; $bytes:expr, $want:expr) => {
-        crate::rows::check_bytes($rt, $call, $row, $bytes, $want)
+        crate::tests::check_bytes($rt, $call, $row, $bytes, $want)
+    };
+}
+
+/// As `same_bytes`, for what may be an error.
+#[macro_export]
+macro_rules! same_read {
+    ($rt:expr, $call:expr, $row:expr; $read:expr, $want:expr) => {
+        crate::tests::check_read($rt, $call, $row, $read, $want)
     };
 }

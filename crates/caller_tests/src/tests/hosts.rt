@@ -1,14 +1,13 @@
 //! The whole program, from its arguments to its exit status and its line on standard error.
 
 use consthex_modes::{Mode, USAGE, mode_of, program};
-use hex_testing::{Endless, Fault, Source, Target, Text, same, same_bytes};
-use std::alloc::{AllocError, Global};
+use hex_testing::{Endless, Fault, Source, Target, Testing, Text, same, same_bytes};
+use std::alloc::AllocError;
 use std::cell::Cell;
 use std::env::{Env, FillError};
 use std::fmt::{self, Debug, Display};
 use std::io::{self, Eprint, ErrorKind, Read, Write};
-use std::process::{Abort, ExitCode};
-use std::test::Fail;
+use std::process::ExitCode;
 
 /// The arguments of a program, beginning with its name, and its standard error: the first 128 bytes
 /// that were printed, and how many were printed.
@@ -78,6 +77,8 @@ const DECODE: &[&[u8]] = &[b"consthex", b"decode"];
 
 const ENCODE: &[&[u8]] = &[b"consthex", b"encode"];
 
+const ENCODE_UPPER_PREFIXED: &[&[u8]] = &[b"consthex", b"encode-upper-prefixed"];
+
 /// Arguments that print as texts.
 #[derive(Drop)]
 struct Words<'a>(&'a [&'a [u8]]);
@@ -93,14 +94,13 @@ impl Debug for Words<'_> {
 
 /// The program on that host ends with that status, and prints that line.
 fn ends<R: Read>(
-    rt: &impl Abort,
-    alloc: Global,
+    rt: &impl Testing,
     host: Host<'_>,
     input: &mut R,
     output: &mut Target,
     (status, line): (u8, &str),
 ) {
-    let code = program(&(&host, alloc), input, output);
+    let code = program(&(&host, rt.alloc()), input, output);
     same!(rt, "program", Words(host.words); code, ExitCode::from(status));
     let (bytes, count) = host.printed.get();
     let printed = &bytes[..count.min(128)];
@@ -121,29 +121,24 @@ fn words_that_name_a_mode(rt: HostRuntime) {
         (&[b"check", b"encode"], b"kiwi", b"6b697769\n"),
         (&[b"consthex", b"encode-upper"], b"kiwi", b"6B697769\n"),
         (&[b"consthex", b"encode-prefixed"], b"kiwi", b"0x6b697769\n"),
-        (
-            &[b"consthex", b"encode-upper-prefixed"],
-            b"kiwi",
-            b"0x6B697769\n",
-        ),
+        (ENCODE_UPPER_PREFIXED, b"kiwi", b"0x6B697769\n"),
         (&[b"consthex", b"decode"], b"6b697769\n", b"kiwi"),
         (&[b"consthex", b"check"], b"6b697769\n", b"ok\n"),
     ];
     for (words, input, answer) in rows {
-        answers(&rt, rt.alloc(), words, input, answer);
+        let (mut input, mut output) = (input, Target::new(rt.alloc(), 1, Fault::Nothing));
+        ends(
+            &rt,
+            Host::new(words, true),
+            &mut input,
+            &mut output,
+            (0, ""),
+        );
+        same_bytes!(&rt, "program", Words(words); output.taken, answer);
     }
 }
 
-/// The program with these arguments writes that answer.
-fn answers(rt: &impl Abort, alloc: Global, words: &[&[u8]], input: &[u8], answer: &[u8]) {
-    let mut input = input;
-    let mut output = Target::new(alloc, 1, Fault::Nothing);
-    let host = Host::new(words, true);
-    ends(rt, alloc, host, &mut input, &mut output, (0, ""));
-    same_bytes!(rt, "program", Words(words); &output.taken, answer);
-}
-
-// It makes no difference if standard error fails.
+// The program reads and writes nothing. It makes no difference if standard error fails.
 #[test]
 fn words_that_name_none(rt: HostRuntime) {
     let rows: [(&[&[u8]], bool); 14] = [
@@ -163,33 +158,26 @@ fn words_that_name_none(rt: HostRuntime) {
         (&[b"consthex", LONG_WORD], true),
     ];
     for (words, can_print) in rows {
-        misused(&rt, rt.alloc(), words, can_print);
+        let mut input = b"kiwi".as_slice();
+        let mut output = Target::new(rt.alloc(), 1, Fault::Nothing);
+        let host = Host::new(words, can_print);
+        ends(&rt, host, &mut input, &mut output, (2, USAGE));
+        same_bytes!(&rt, "what is left to read", Words(words); input, "kiwi");
+        same!(&rt, "writes, flushes", Words(words); (output.writes, output.flushes), (0, 0));
     }
-}
-
-/// The program with these arguments ends with status 2, and reads and writes nothing.
-fn misused(rt: &impl Abort, alloc: Global, words: &[&[u8]], can_print: bool) {
-    let mut input = b"kiwi".as_slice();
-    let mut output = Target::new(alloc, 1, Fault::Nothing);
-    let host = Host::new(words, can_print);
-    ends(rt, alloc, host, &mut input, &mut output, (2, USAGE));
-    same_bytes!(rt, "what is left to read", Words(words); input, b"kiwi");
-    same!(rt, "writes, flushes", Words(words); (output.writes, output.flushes), (0, 0));
 }
 
 // A text that is refused, a failed read, and too long an input.
 #[test]
 fn statuses_and_lines(rt: HostRuntime) {
-    let alloc = rt.alloc();
-    let mut output = Target::new(alloc, 1, Fault::Nothing);
+    let mut output = Target::new(rt.alloc(), 1, Fault::Nothing);
     let (host, line) = (Host::new(DECODE, false), (1, "odd number of digits"));
-    let mut odd = b"0x1\n".as_slice();
-    ends(&rt, alloc, host, &mut odd, &mut output, line);
+    ends(&rt, host, &mut b"0x1\n".as_slice(), &mut output, line);
     let (host, line) = (Host::new(ENCODE, true), (3, "read failed"));
     let mut failing = Source::new(b"kiwi", 2, ErrorKind::Interrupted);
-    ends(&rt, alloc, host, &mut failing, &mut output, line);
+    ends(&rt, host, &mut failing, &mut output, line);
     let (host, line) = (Host::new(ENCODE, true), (3, "input too long"));
-    ends(&rt, alloc, host, &mut Endless, &mut output, line);
+    ends(&rt, host, &mut Endless, &mut output, line);
     same!(&rt; (output.writes, output.flushes), (0, 0));
 }
 
@@ -203,16 +191,14 @@ fn statuses_of_failed_writes(rt: HostRuntime) {
         Fault::Full(2),
         Fault::Flush(kind),
     ] {
-        let mut input = b"kiwi".as_slice();
+        let (host, line) = (Host::new(ENCODE, true), (3, "write failed"));
         let mut output = Target::new(rt.alloc(), 1, fault);
-        let host = Host::new(ENCODE, true);
-        let line = (3, "write failed");
-        ends(&rt, rt.alloc(), host, &mut input, &mut output, line);
+        ends(&rt, host, &mut b"kiwi".as_slice(), &mut output, line);
     }
 }
 
 #[test]
-fn six_words_name_a_mode(rt: HostRuntime) -> Result<(), Fail> {
+fn six_words_name_a_mode(rt: HostRuntime) -> Result<(), AllocError> {
     let rows = [
         ("encode", Mode::Encode),
         ("encode-upper", Mode::EncodeUpper),
@@ -222,32 +208,26 @@ fn six_words_name_a_mode(rt: HostRuntime) -> Result<(), Fail> {
         ("check", Mode::Check),
     ];
     for (word, mode) in rows {
-        name(&rt, rt.alloc(), &[word], Some(mode))?;
-        name(&rt, rt.alloc(), &[word, word], None)?;
+        name(&rt, &[word], Some(mode))?;
+        name(&rt, &[word, word], None)?;
     }
     Ok(())
 }
 
 #[test]
-fn other_words_name_none(rt: HostRuntime) -> Result<(), Fail> {
+fn other_words_name_none(rt: HostRuntime) -> Result<(), AllocError> {
     for word in "|ENCODE|Decode|encode |encodes|--check|upper".split('|') {
-        name(&rt, rt.alloc(), &[word], None)?;
+        name(&rt, &[word], None)?;
     }
-    name(&rt, rt.alloc(), &[], None)?;
-    name(&rt, rt.alloc(), &["encode", "-upper"], None)?;
-    Ok(())
+    name(&rt, &[], None)?;
+    name(&rt, &["encode", "-upper"], None)
 }
 
 /// These arguments name that mode, or none.
-fn name(
-    rt: &impl Abort,
-    alloc: Global,
-    words: &[&str],
-    mode: Option<Mode>,
-) -> Result<(), AllocError> {
-    let mut strings = Vec::new(alloc);
+fn name(rt: &impl Testing, words: &[&str], mode: Option<Mode>) -> Result<(), AllocError> {
+    let mut strings = Vec::new(rt.alloc());
     for word in words {
-        strings.push(String::from_str(alloc, word)?)?;
+        strings.push(word.to_string(rt.alloc())?)?;
     }
     same!(rt, "mode_of", words; mode_of(&strings), mode);
     Ok(())

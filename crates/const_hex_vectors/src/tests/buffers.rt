@@ -3,13 +3,10 @@
 ghost use Rattle.std.specs.Prelude.{◌≡◌};
 ghost use Rattle.const_hex.specs.Texts.{text_length};
 
-use crate::decoding::{each_answers, reads};
-use crate::texts::printed;
-use const_hex::{Buffer, FromHexError, const_decode_to_array, const_encode, decode_to_array};
-use hex_testing::{same, same_bytes};
-use std::alloc::{AllocError, Global};
-use std::process::Abort;
-use std::test::Fail;
+use crate::tests::texts::printed;
+use const_hex::{Buffer, const_decode_to_array, const_encode, decode_to_array};
+use hex_testing::{Testing, same, same_bytes, same_read};
+use std::alloc::AllocError;
 
 /// A buffer whose calls are tested.
 #[derive(Drop)]
@@ -17,32 +14,24 @@ struct Tested<const N: usize, const PREFIX: bool, const LEN: usize>(Buffer<N, PR
 
 impl<const N: usize, const PREFIX: bool, const LEN: usize> Tested<N, PREFIX, LEN> {
     /// Each call that lends the text lends this one.
-    fn lends(&self, rt: &impl Abort, text: &str) {
+    fn lends(&self, rt: &impl Testing, text: &str) {
         same!(rt, "as_str", N; self.0.as_str(), text);
-        same_bytes!(rt, "as_bytes", N; self.0.as_bytes(), text.as_bytes());
-        same_bytes!(rt, "as_byte_array", N; self.0.as_byte_array(), text.as_bytes());
+        same_bytes!(rt, "as_bytes", N; self.0.as_bytes(), text);
+        same_bytes!(rt, "as_byte_array", N; self.0.as_byte_array(), text);
     }
 
     /// Each call that copies the text copies this one, and decoders read these bytes.
-    fn copies(
-        &self,
-        rt: &impl Abort,
-        alloc: Global,
-        text: &str,
-        bytes: &[u8; N],
-    ) -> Result<(), AllocError> {
-        same!(rt, "to_string", N; self.0.to_string(alloc)?.as_str(), text);
-        same_bytes!(rt, "to_vec", N; &self.0.to_vec(alloc)?, text.as_bytes());
-        Tested(self.0.clone()?).lends(rt, text);
-        let want: Result<&[u8], FromHexError> = Ok(bytes);
-        each_answers!(reads, rt, text.as_bytes(), want;
-            decode_to_array::<N>(self.0.as_bytes()),
-            const_decode_to_array::<N>(self.0.as_bytes()));
-        Ok(())
+    fn copies(&self, rt: &impl Testing, text: &str, bytes: &[u8; N]) {
+        let (copy, list, alloc) = (text.as_bytes(), self.0.as_bytes(), rt.alloc());
+        same_read!(rt, "to_string", N; self.0.to_string(alloc), Ok(copy));
+        same_read!(rt, "to_vec", N; self.0.to_vec(alloc), Ok(copy));
+        same_read!(rt, "decode_to_array", N; decode_to_array::<N>(list), Ok(bytes));
+        same_read!(rt, "const_decode_to_array", N; const_decode_to_array::<N>(list), Ok(bytes));
+        Tested(self.0.clone().unwrap()).lends(rt, text);
     }
 
     /// Each call that writes and lends does so, over the text of other bytes.
-    fn formats(&mut self, rt: &impl Abort, bytes: &[u8; N], lower: &str, upper: &str)
+    fn formats(&mut self, rt: &impl Testing, bytes: &[u8; N], lower: &str, upper: &str)
         requires { LEN ≡ text_length PREFIX N }
     {
         same!(rt, "format", N; self.0.format(bytes), lower);
@@ -59,20 +48,21 @@ impl<const N: usize, const PREFIX: bool, const LEN: usize> Tested<N, PREFIX, LEN
     }
 
     /// The text of N bytes is what std prints, and is read back.
-    fn agrees_with_std(mut self, rt: &impl Abort, alloc: Global) -> Result<(), AllocError>
+    fn agrees_with_std(mut self, rt: &impl Testing) -> Result<(), AllocError>
         requires { LEN ≡ text_length PREFIX N }
     {
         let mut bytes = [0; N];
         for i in 0..N {
             bytes[i] = ((i % 256) as u8).wrapping_mul(37).wrapping_add(11);
         }
-        let lower = printed(alloc, &bytes, PREFIX, false)?;
-        let upper = printed(alloc, &bytes, PREFIX, true)?;
+        let lower = printed(rt.alloc(), &bytes, PREFIX, false)?;
+        let upper = printed(rt.alloc(), &bytes, PREFIX, true)?;
         same!(rt, "LEN", N; Buffer::<N, PREFIX, LEN>::LEN, lower.len());
         self.formats(rt, &bytes, &lower, &upper);
-        self.copies(rt, alloc, &upper, &bytes)?;
+        self.copies(rt, &upper, &bytes);
         self.0.format(&bytes);
-        self.copies(rt, alloc, &lower, &bytes)
+        self.copies(rt, &lower, &bytes);
+        Ok(())
     }
 }
 
@@ -107,29 +97,26 @@ fn made_at_once(rt: HostRuntime) {
 }
 
 #[test]
-fn debug_form(rt: HostRuntime) -> Result<(), Fail> {
+fn debug_form(rt: HostRuntime) {
     let mut buffer = Buffer::<1, false, 2>::new();
-    same!(&rt; format!(in rt.alloc(); "{buffer:?}")?.as_str(), "Buffer(\"\\0\\0\")");
+    same!(&rt; format!(in rt.alloc(); "{buffer:?}").as_deref(), Ok("Buffer(\"\\0\\0\")"));
     buffer.format(&[0xAB]);
-    same!(&rt; format!(in rt.alloc(); "{buffer:?}")?.as_str(), "Buffer(\"ab\")");
-    same!(&rt; format!(in rt.alloc(); "{buffer:#?}")?.as_str(), "Buffer(\n    \"ab\",\n)");
-    Ok(())
+    let forms = format!(in rt.alloc(); "{buffer:?} {buffer:#?}");
+    same!(&rt; forms.as_deref(), Ok("Buffer(\"ab\") Buffer(\n    \"ab\",\n)"));
 }
 
 #[test]
-fn many_sizes(rt: HostRuntime) -> Result<(), Fail> {
-    let alloc = rt.alloc();
-    Tested(const_encode::<0, true, 2>(&[])).copies(&rt, alloc, "0x", &[])?;
-    Tested(Buffer::<0, true, 2>::new()).agrees_with_std(&rt, alloc)?;
-    Tested(Buffer::<8, false, 16>::new()).agrees_with_std(&rt, alloc)?;
-    Tested(Buffer::<8, true, 18>::new()).agrees_with_std(&rt, alloc)?;
-    Tested(Buffer::<20, false, 40>::new()).agrees_with_std(&rt, alloc)?;
-    Tested(Buffer::<20, true, 42>::new()).agrees_with_std(&rt, alloc)?;
-    Tested(Buffer::<32, false, 64>::new()).agrees_with_std(&rt, alloc)?;
-    Tested(Buffer::<32, true, 66>::new()).agrees_with_std(&rt, alloc)?;
-    Tested(Buffer::<64, false, 128>::new()).agrees_with_std(&rt, alloc)?;
-    Tested(Buffer::<64, true, 130>::new()).agrees_with_std(&rt, alloc)?;
-    Tested(Buffer::<128, false, 256>::new()).agrees_with_std(&rt, alloc)?;
-    Tested(Buffer::<128, true, 258>::new()).agrees_with_std(&rt, alloc)?;
-    Ok(())
+fn many_sizes(rt: HostRuntime) -> Result<(), AllocError> {
+    Tested(const_encode::<0, true, 2>(&[])).copies(&rt, "0x", &[]);
+    Tested(Buffer::<0, true, 2>::new()).agrees_with_std(&rt)?;
+    Tested(Buffer::<8, false, 16>::new()).agrees_with_std(&rt)?;
+    Tested(Buffer::<8, true, 18>::new()).agrees_with_std(&rt)?;
+    Tested(Buffer::<20, false, 40>::new()).agrees_with_std(&rt)?;
+    Tested(Buffer::<20, true, 42>::new()).agrees_with_std(&rt)?;
+    Tested(Buffer::<32, false, 64>::new()).agrees_with_std(&rt)?;
+    Tested(Buffer::<32, true, 66>::new()).agrees_with_std(&rt)?;
+    Tested(Buffer::<64, false, 128>::new()).agrees_with_std(&rt)?;
+    Tested(Buffer::<64, true, 130>::new()).agrees_with_std(&rt)?;
+    Tested(Buffer::<128, false, 256>::new()).agrees_with_std(&rt)?;
+    Tested(Buffer::<128, true, 258>::new()).agrees_with_std(&rt)
 }

@@ -1,18 +1,17 @@
 //! Every call that checks or reads a text, on worked examples.
 
-use crate::texts::{bad, digits};
+use crate::tests::check_read;
+use crate::tests::texts::{bad, digits};
 use const_hex::serde::{JsonError, no_prefix};
 use const_hex::{
     FromHex, FromHexError, Plain, check, check_raw, const_check, const_check_raw,
     const_decode_to_array, decode, decode_to_array, decode_to_front, decode_to_slice,
     decode_to_slice_with, deserialize, serialize,
 };
-use hex_testing::{Text, same, same_bytes};
+use hex_testing::{Testing, Text, same, same_bytes};
 use serde_json::{Value, json};
-use std::alloc::{AllocError, Global};
+use std::alloc::AllocError;
 use std::boxed::BoxedSlice;
-use std::fmt::Debug;
-use std::process::Abort;
 use std::rc::Rc;
 use std::test::Fail;
 
@@ -20,40 +19,31 @@ const ODD: FromHexError = FromHexError::OddLength;
 
 const OTHER_LENGTH: FromHexError = FromHexError::InvalidStringLength;
 
+/// The bytes of a text, or why it is refused.
+pub(crate) type Read<'a> = Result<&'a [u8], FromHexError>;
+
+/// Whether a text is refused.
+type Checked = Result<(), FromHexError>;
+
 /// Checks by `$check` that each call answers the wanted bytes or error.
 macro_rules! each_answers {
-    ($check:ident, $rt:expr, $text:expr, $want:expr; $($call:expr),+ $(,)?) => {$(
+    ($check:path, $rt:expr, $text:expr, $want:expr; $($call:expr),+ $(,)?) => {$(
         match $call {
-            Ok(bytes) => $check($rt, stringify!($call), $text, Ok(&bytes[..]), $want),
-            Err(error) => $check($rt, stringify!($call), $text, Err(error), $want),
+            Ok(bytes) => $check($rt, stringify!($call), Text($text), Ok(&bytes[..]), $want),
+            Err(error) => $check($rt, stringify!($call), Text($text), Err(error), $want),
         }
     )+};
 }
 
 pub(crate) use each_answers;
 
-/// A call of a text answers these bytes or this error.
-pub(crate) fn reads<E: Debug + PartialEq + Drop>(
-    rt: &impl Abort,
+/// As `check_read`, for numbers that have the bits of the bytes.
+fn check_numbers(
+    rt: &impl Testing,
     call: &str,
-    text: &[u8],
-    answer: Result<&[u8], E>,
-    want: Result<&[u8], E>,
-) {
-    let (answer, want) = (
-        answer.map(|bytes| Text(bytes)),
-        want.map(|bytes| Text(bytes)),
-    );
-    same!(rt, call, Text(text); answer, want);
-}
-
-/// As [`reads`], for numbers that have the bits of the bytes.
-fn reads_numbers(
-    rt: &impl Abort,
-    call: &str,
-    text: &[u8],
+    text: Text<'_>,
     answer: Result<&[i8], FromHexError>,
-    want: Result<&[u8], FromHexError>,
+    want: Read<'_>,
 ) {
     let is_same = match (answer, want) {
         (Ok(numbers), Ok(bytes)) => {
@@ -64,68 +54,53 @@ fn reads_numbers(
     };
     assert!(rt;
         is_same,
-        "{call} at {:?}: {answer:?}, but wanted {want:?}",
-        Text(text)
+        "{call} at {text:?}: {answer:?}, but wanted {want:?}"
     );
 }
 
 /// What a check answers to a text to which decoders answer this.
-pub(crate) fn checked(want: Result<&[u8], FromHexError>) -> Result<(), FromHexError> {
-    want?;
-    Ok(())
+pub(crate) fn checked(want: Read<'_>) -> Checked {
+    want.and(Ok(()))
 }
 
 /// Each call that reads any count of bytes answers this. If the text is not UTF-8, no JSON value has
 /// it.
 pub(crate) fn each_call_answers(
-    rt: &impl Abort,
-    alloc: Global,
+    rt: &impl Testing,
     text: &[u8],
-    want: Result<&[u8], FromHexError>,
+    want: Read<'_>,
 ) -> Result<(), AllocError> {
     same!(rt, "check", Text(text); check(text), checked(want));
     same!(rt, "const_check", Text(text); const_check(text), checked(want));
-    each_vector_answers(rt, alloc, text, want);
-    each_signed_vector_answers(rt, alloc, text, want);
-    each_json_answers(rt, alloc, text, want)
+    each_vector_answers(rt, text, want);
+    each_signed_vector_answers(rt, text, want);
+    each_json_answers(rt, text, want)
 }
 
-fn each_vector_answers(
-    rt: &impl Abort,
-    alloc: Global,
-    text: &[u8],
-    want: Result<&[u8], FromHexError>,
-) {
-    each_answers!(reads, rt, text, want;
+fn each_vector_answers(rt: &impl Testing, text: &[u8], want: Read<'_>) {
+    let alloc = rt.alloc();
+    each_answers!(check_read::<_, &[u8], _>, rt, text, want;
         decode(alloc, text),
         <Vec<u8>>::from_hex(alloc, text),
         <BoxedSlice<u8>>::from_hex(alloc, text),
         <Box<Rc<Vec<u8>>>>::from_hex(alloc, text));
 }
 
-fn each_signed_vector_answers(
-    rt: &impl Abort,
-    alloc: Global,
-    text: &[u8],
-    want: Result<&[u8], FromHexError>,
-) {
-    each_answers!(reads_numbers, rt, text, want;
+fn each_signed_vector_answers(rt: &impl Testing, text: &[u8], want: Read<'_>) {
+    let alloc = rt.alloc();
+    each_answers!(check_numbers, rt, text, want;
         <Vec<i8>>::from_hex(alloc, text),
         <BoxedSlice<i8>>::from_hex(alloc, text),
         <Rc<Box<Vec<i8>>>>::from_hex(alloc, text));
 }
 
-fn each_json_answers(
-    rt: &impl Abort,
-    alloc: Global,
-    text: &[u8],
-    want: Result<&[u8], FromHexError>,
-) -> Result<(), AllocError> {
+fn each_json_answers(rt: &impl Testing, text: &[u8], want: Read<'_>) -> Result<(), AllocError> {
     let Ok(string) = str::from_utf8(text) else {
         return Ok(());
     };
+    let alloc = rt.alloc();
     let value = Value::String(string.to_string(alloc)?);
-    each_answers!(reads, rt, text, want.map_err(JsonError::Hex);
+    each_answers!(check_read::<_, &[u8], _>, rt, text, want.map_err(JsonError::Hex);
         deserialize::<Vec<u8>>(alloc, &value),
         deserialize::<BoxedSlice<u8>>(alloc, &value),
         no_prefix::deserialize::<Vec<u8>>(alloc, &value));
@@ -133,8 +108,8 @@ fn each_json_answers(
 }
 
 #[test]
-fn accepted_and_refused_texts(rt: HostRuntime) -> Result<(), Fail> {
-    let rows: [(&[u8], Result<&[u8], FromHexError>); 24] = [
+fn accepted_and_refused_texts(rt: HostRuntime) -> Result<(), AllocError> {
+    let rows: [(&[u8], Read<'_>); 24] = [
         (b"", Ok(b"")),
         (b"0x", Ok(b"")),
         (b"0X", Ok(b"")),
@@ -161,38 +136,29 @@ fn accepted_and_refused_texts(rt: HostRuntime) -> Result<(), Fail> {
         (&[0xFF, 0x30], Err(bad(0xFF, 0))),
     ];
     for (text, want) in rows {
-        each_call_answers(&rt, rt.alloc(), text, want)?;
+        each_call_answers(&rt, text, want)?;
     }
     Ok(())
 }
 
 /// Each call that reads N bytes answers this, and a slice of bytes 0xEE then holds `left`.
-fn sized<const N: usize>(
-    rt: &impl Abort,
-    alloc: Global,
-    text: &[u8],
-    answer: Result<(), FromHexError>,
-    left: [u8; N],
-) {
-    let (row, mut output) = ((N, Text(text)), [0xEE; N]);
+fn sized<const N: usize>(rt: &impl Testing, text: &[u8], answer: Checked, left: [u8; N]) {
+    let (row, mut output, alloc) = ((N, Text(text)), [0xEE; N], rt.alloc());
     same!(rt, "decode_to_slice", row; decode_to_slice(text, &mut output), answer);
-    same_bytes!(rt, "what decode_to_slice leaves", row; &output, &left);
-    let want = match answer {
-        Ok(()) => Ok(left.as_slice()),
-        Err(error) => Err(error),
-    };
-    each_answers!(reads, rt, text, want;
+    same_bytes!(rt, "what decode_to_slice leaves", row; output, left);
+    let want = answer.and(Ok(left.as_slice()));
+    each_answers!(check_read::<_, &[u8], _>, rt, text, want;
         decode_to_array::<N>(text),
         const_decode_to_array::<N>(text),
         <[u8; N]>::from_hex(alloc, text));
-    each_answers!(reads_numbers, rt, text, want;
+    each_answers!(check_numbers, rt, text, want;
         <[i8; N]>::from_hex(alloc, text),
         <Box<[i8; N]>>::from_hex(alloc, text));
 }
 
 #[test]
 fn one_byte(rt: HostRuntime) {
-    let rows: [(&[u8], Result<(), FromHexError>, u8); 9] = [
+    let rows: [(&[u8], Checked, u8); 9] = [
         (b"0xff", Ok(()), 0xFF),
         (b"0x0", Err(ODD), 0xEE),
         (b"0x1", Err(ODD), 0xEE),
@@ -204,7 +170,7 @@ fn one_byte(rt: HostRuntime) {
         (b"zz", Err(bad(b'z', 0)), 0xEE),
     ];
     for (text, answer, byte) in rows {
-        sized(&rt, rt.alloc(), text, answer, [byte]);
+        sized(&rt, text, answer, [byte]);
     }
     let shared = <Rc<[u8; 1]>>::from_hex(rt.alloc(), b"0x0");
     same!(&rt, "<Rc<[u8; 1]>>::from_hex", "0x0"; shared.err(), Some(ODD));
@@ -212,7 +178,7 @@ fn one_byte(rt: HostRuntime) {
 
 #[test]
 fn two_bytes(rt: HostRuntime) {
-    let rows: [(&[u8], Result<(), FromHexError>, [u8; 2]); 11] = [
+    let rows: [(&[u8], Checked, [u8; 2]); 11] = [
         (b"ff80", Ok(()), [255, 128]),
         (b"0xff80", Ok(()), [255, 128]),
         (b"0XFF80", Ok(()), [255, 128]),
@@ -226,38 +192,37 @@ fn two_bytes(rt: HostRuntime) {
         (b"0xffg0", Err(bad(b'g', 4)), [255, 0xEE]),
     ];
     for (text, answer, bytes) in rows {
-        sized(&rt, rt.alloc(), text, answer, bytes);
+        sized(&rt, text, answer, bytes);
     }
 }
 
 #[test]
 fn other_counts(rt: HostRuntime) {
-    let alloc = rt.alloc();
-    sized(&rt, alloc, b"0x", Ok(()), []);
-    sized(&rt, alloc, b"0X", Ok(()), []);
-    sized(&rt, alloc, b"ff", Err(OTHER_LENGTH), []);
+    sized(&rt, b"0x", Ok(()), []);
+    sized(&rt, b"0X", Ok(()), []);
+    sized(&rt, b"ff", Err(OTHER_LENGTH), []);
     let texts: [&[u8]; 3] = [b"0X6B697769", b"0x6b697769", b"6b697769"];
     for text in texts {
-        sized(&rt, alloc, text, Ok(()), *b"kiwi");
-        sized(&rt, alloc, text, Err(OTHER_LENGTH), [0xEE; 3]);
+        sized(&rt, text, Ok(()), *b"kiwi");
+        sized(&rt, text, Err(OTHER_LENGTH), [0xEE; 3]);
     }
     let hello = b"48656c6c6f20776f726c6421";
-    sized(&rt, alloc, hello, Ok(()), *b"Hello world!");
+    sized(&rt, hello, Ok(()), *b"Hello world!");
     // The fixed kernel leaves the front that its whole steps have decoded.
     for (place, count) in [(63, 0), (70, 32)] {
         let mut text = [b'a'; 96];
         text[place] = b'g';
         let mut left = [0xEE; 48];
         left[..count].fill(0xAA);
-        sized(&rt, alloc, &text, Err(bad(b'g', place)), left);
+        sized(&rt, &text, Err(bad(b'g', place)), left);
     }
 }
 
-fn by_plain<const N: usize>(rt: &impl Abort, text: &[u8], error: FromHexError, left: [u8; N]) {
+fn by_plain<const N: usize>(rt: &impl Testing, text: &[u8], error: FromHexError, left: [u8; N]) {
     let mut output = [0xEE; N];
     let answer = decode_to_slice_with::<Plain>(text, &mut output);
     same!(rt, "decode_to_slice_with", Text(text); answer, Err(error));
-    same_bytes!(rt, "what it leaves", Text(text); &output, &left);
+    same_bytes!(rt, "what it leaves", Text(text); output, left);
 }
 
 #[test]
@@ -272,7 +237,7 @@ fn slices_by_the_plain_kernel(rt: HostRuntime) {
 // error leaves the whole output unchanged.
 #[test]
 fn fronts_of_outputs(rt: HostRuntime) {
-    let rows: [(&[u8], usize, Result<&[u8], FromHexError>); 14] = [
+    let rows: [(&[u8], usize, Read<'_>); 14] = [
         (b"", 0, Ok(b"")),
         (b"0x", 3, Ok(b"")),
         (b"6b697769", 4, Ok(b"kiwi")),
@@ -299,12 +264,12 @@ fn fronts_of_outputs(rt: HostRuntime) {
         left[..front.len()].copy_from_slice(front);
         let row = (Text(text), length);
         same!(&rt, "decode_to_front", row; answer, want.map(|bytes| bytes.len()));
-        same_bytes!(&rt, "what it leaves", row; &output, &left);
+        same_bytes!(&rt, "what it leaves", row; output, left);
     }
 }
 
 #[test]
-fn raw_checks(rt: HostRuntime) -> Result<(), Fail> {
+fn raw_checks(rt: HostRuntime) -> Result<(), AllocError> {
     let rows: [(&[u8], bool); 5] = [
         (b"48656c6c6f20776f726c642", true),
         (b"48656c6c6f20776f726c6421", true),
@@ -332,10 +297,12 @@ fn json_values_that_are_no_text(rt: HostRuntime) -> Result<(), Fail> {
     let list = Value::from_str(rt.alloc(), "[null, true, 5, -1, [], {}, [\"0xff\"]]")?;
     for place in 0..7usize {
         let value = list.get(place).ok_or("a value is missing")?;
-        let error = deserialize::<Vec<u8>>(rt.alloc(), value).err();
-        same!(&rt, "deserialize", value; error, Some(JsonError::NotText));
-        let error = no_prefix::deserialize::<Vec<u8>>(rt.alloc(), value).err();
-        same!(&rt, "no_prefix::deserialize", value; error, Some(JsonError::NotText));
+        let errors = [
+            deserialize::<Vec<u8>>(rt.alloc(), value).err(),
+            no_prefix::deserialize::<Vec<u8>>(rt.alloc(), value).err(),
+        ];
+        let not_text = [Some(JsonError::NotText), Some(JsonError::NotText)];
+        same!(&rt, "(no_prefix::)deserialize", value; errors, not_text);
     }
     Ok(())
 }
@@ -346,23 +313,14 @@ fn json_there_and_back(rt: HostRuntime) -> Result<(), Fail> {
     let alloc = rt.alloc();
     let message = json!(in alloc; {"id": 1, "result": (serialize(alloc, b"Hello world!")?)})?;
     let printed = message.to_string(alloc)?;
-    let want = "{\"id\":1,\"result\":\"0x48656c6c6f20776f726c6421\"}";
-    same!(&rt; printed.as_str(), want);
+    same!(&rt; printed.as_str(), "{\"id\":1,\"result\":\"0x48656c6c6f20776f726c6421\"}");
     let read = Value::from_str(alloc, &printed)?;
     let text = read.get("result").unwrap_or(&Value::Null);
     same!(&rt; deserialize::<[u8; 12]>(alloc, text), Ok(*b"Hello world!"));
-    has_another_length(&rt, alloc, text);
-    Ok(())
-}
-
-fn has_another_length(rt: &impl Abort, alloc: Global, text: &Value) {
-    let error = deserialize::<[u8; 2]>(alloc, text).err();
-    same!(rt, "deserialize::<[u8; 2]>", text; error, Some(JsonError::Hex(OTHER_LENGTH)));
-}
-
-#[test]
-fn a_short_json_string(rt: HostRuntime) -> Result<(), Fail> {
-    let short = Value::String("0xff".to_string(rt.alloc())?);
-    has_another_length(&rt, rt.alloc(), &short);
+    let short = Value::String("0xff".to_string(alloc)?);
+    for text in [text, &short] {
+        let error = deserialize::<[u8; 2]>(alloc, text).err();
+        same!(&rt, "deserialize::<[u8; 2]>", text; error, Some(JsonError::Hex(OTHER_LENGTH)));
+    }
     Ok(())
 }

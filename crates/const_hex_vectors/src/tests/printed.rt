@@ -1,12 +1,10 @@
 //! What `display` prints.
 
-use crate::texts::{bytes, printed};
+use crate::tests::texts::{bytes, printed};
 use const_hex::{BufferedHex, FormatterSink, Lanes16, Sink, display};
-use hex_testing::{Counting, InHex, same, same_bytes};
+use hex_testing::{Counting, InHex, Testing, same, same_read};
 use std::alloc::{AllocError, Global};
 use std::fmt::{self, Write};
-use std::process::Abort;
-use std::test::Fail;
 
 /// Prints the uppercase text by 16 lanes, through the library's sink over a formatter.
 #[derive(Drop)]
@@ -41,57 +39,40 @@ fn forms<D: fmt::Display>(alloc: Global, v: &D) -> Result<String, AllocError> {
 }
 
 #[test]
-fn printed_forms(rt: HostRuntime) -> Result<(), Fail> {
+fn printed_forms(rt: HostRuntime) {
     let alloc = rt.alloc();
     let bytes = [0xDE, 0xAD, 0xBE, 0xEF];
     let lower = "deadbeef 0xdeadbeef deadbeef 0xdeadbeef deadbeef deadbeef deadbeef";
     let upper = "DEADBEEF 0xDEADBEEF DEADBEEF 0xDEADBEEF DEADBEEF DEADBEEF DEADBEEF";
-    same!(&rt; forms(alloc, &display(&bytes))?.as_str(), lower);
-    same!(&rt; forms(alloc, &InHex::<false>(&bytes))?.as_str(), lower);
-    same!(&rt; forms(alloc, &InHex::<true>(&bytes))?.as_str(), upper);
-    same!(&rt; ByLanes(&bytes).to_string(alloc)?.as_str(), "DEADBEEF");
-    same!(&rt; EmptyPiece.to_string(alloc)?.as_str(), "true");
-    Ok(())
+    same!(&rt; forms(alloc, &display(&bytes)).as_deref(), Ok(lower));
+    same!(&rt; forms(alloc, &InHex::<false>(&bytes)).as_deref(), Ok(lower));
+    same!(&rt; forms(alloc, &InHex::<true>(&bytes)).as_deref(), Ok(upper));
+    same!(&rt; ByLanes(&bytes).to_string(alloc).as_deref(), Ok("DEADBEEF"));
+    same!(&rt; EmptyPiece.to_string(alloc).as_deref(), Ok("true"));
 }
 
 // Each count of bytes that is printed in one piece, and 100,000.
 #[test]
-fn printed_bytes(rt: HostRuntime) -> Result<(), Fail> {
-    let alloc = rt.alloc();
-    let data = bytes(alloc, 100_000)?;
+fn printed_bytes(rt: HostRuntime) -> Result<(), AllocError> {
+    let data = bytes(rt.alloc(), 100_000)?;
     same!(&rt; data.len(), 100_000);
-    let lower = printed(alloc, &data, false, false)?;
+    let lower = printed(rt.alloc(), &data, false, false)?;
     for count in 0..=2048usize {
         let bytes = data.get(..count).unwrap_or(&[]);
-        let want = lower
-            .get(..count.saturating_mul(2))
-            .unwrap_or("another text");
-        prints(&rt, alloc, &display(bytes), want)?;
+        let want = lower.get(..count.saturating_mul(2)).unwrap_or("another");
+        prints(&rt, &display(bytes), want)?;
     }
-    prints(&rt, alloc, &display(&data), &lower)?;
-    Ok(())
+    prints(&rt, &display(&data), &lower)?;
+    let upper = printed(rt.alloc(), &data, false, true)?;
+    prints(&rt, &InHex::<true>(&data), &upper)
 }
 
 /// A value prints this text, and with `#` the prefix and this text.
-fn prints<D: fmt::Display>(
-    rt: &impl Abort,
-    alloc: Global,
-    v: &D,
-    want: &str,
-) -> Result<(), AllocError> {
-    let plain = v.to_string(alloc)?;
-    same_bytes!(rt, "{}", want.len(); plain.as_bytes(), want.as_bytes());
-    let prefixed = format!(in alloc; "{v:#}")?;
-    let body = prefixed.strip_prefix("0x").unwrap_or("no prefix");
-    same_bytes!(rt, "{:#}", want.len(); body.as_bytes(), want.as_bytes());
-    Ok(())
-}
-
-#[test]
-fn printed_in_uppercase(rt: HostRuntime) -> Result<(), Fail> {
-    let data = bytes(rt.alloc(), 100_000)?;
-    let upper = printed(rt.alloc(), &data, false, true)?;
-    prints(&rt, rt.alloc(), &InHex::<true>(&data), &upper)?;
+fn prints<D: fmt::Display>(rt: &impl Testing, v: &D, want: &str) -> Result<(), AllocError> {
+    same_read!(rt, "{}", want.len(); v.to_string(rt.alloc()), Ok(want.as_bytes()));
+    let prefixed: Result<_, _> = format!(in rt.alloc(); "{v:#}");
+    let want = ["0x", want].concat(rt.alloc())?;
+    same_read!(rt, "{:#}", want.len(); prefixed, Ok(want.as_bytes()));
     Ok(())
 }
 
@@ -105,7 +86,7 @@ fn nothing_follows_an_error(rt: HostRuntime) {
 }
 
 /// A writer that fails at one call gets that many calls, and its error is returned.
-fn fails_once<D: fmt::Display>(rt: &impl Abort, text: &D, fail_at: usize, calls: usize) {
+fn fails_once<D: fmt::Display>(rt: &impl Testing, text: &D, fail_at: usize, calls: usize) {
     let mut writer = Counting::new(fail_at);
     let answer = write!(writer, "{text}");
     same!(rt, "write!", fail_at; answer.is_err(), (fail_at < 4));

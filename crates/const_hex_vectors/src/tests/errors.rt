@@ -2,54 +2,40 @@
 
 ghost use Rattle.std.specs.Prelude.{IsTrue};
 
-use crate::texts::bad;
+use crate::tests::texts::bad;
 use const_hex::FromHexError::{self, InvalidStringLength, NoMemory, OddLength};
 use const_hex::{HexFault, JsonError, SinkError};
-use hex_testing::same;
-use std::alloc::{AllocError, Global};
-use std::process::Abort;
-use std::test::Fail;
+use hex_testing::{Testing, same};
+use std::alloc::AllocError;
 
 const NOT_TEXT: JsonError<FromHexError> = JsonError::NotText;
 
 /// The message of an error is this, also as the error of a JSON value.
-fn prints(
-    rt: &impl Abort,
-    alloc: Global,
-    error: FromHexError,
-    want: &str,
-) -> Result<(), AllocError> {
-    same!(rt, "message", error; error.to_string(alloc)?.as_str(), want);
-    let in_json = JsonError::Hex(error).to_string(alloc)?;
-    same!(rt, "message in JSON", error; in_json.as_str(), want);
-    Ok(())
+fn prints(rt: &impl Testing, error: FromHexError, want: &str) {
+    let want = Ok(want);
+    let text = error.to_string(rt.alloc());
+    let in_json = JsonError::Hex(error).to_string(rt.alloc());
+    same!(rt, "message", error; text.as_deref(), want);
+    same!(rt, "message in JSON", error; in_json.as_deref(), want);
 }
 
 #[test]
-fn printed(rt: HostRuntime) -> Result<(), AllocError> {
-    let alloc = rt.alloc();
-    prints(&rt, alloc, OddLength, "odd number of digits")?;
-    prints(&rt, alloc, InvalidStringLength, "invalid string length")?;
-    prints(&rt, alloc, NoMemory, "out of memory")?;
-    Ok(())
+fn printed(rt: HostRuntime) {
+    prints(&rt, OddLength, "odd number of digits");
+    prints(&rt, InvalidStringLength, "invalid string length");
+    prints(&rt, NoMemory, "out of memory");
+    let texts = format!(in rt.alloc(); "{NOT_TEXT}, {SinkError}");
+    same!(&rt; texts.as_deref(), Ok("expected a hex encoded string, sink refused"));
 }
 
 #[test]
-fn others_printed(rt: HostRuntime) -> Result<(), AllocError> {
-    same!(&rt; NOT_TEXT.to_string(rt.alloc())?.as_str(), "expected a hex encoded string");
-    same!(&rt; SinkError.to_string(rt.alloc())?.as_str(), "sink refused");
-    Ok(())
-}
-
-#[test]
-fn debug_forms(rt: HostRuntime) -> Result<(), Fail> {
+fn debug_forms(rt: HostRuntime) {
     let errors = (OddLength, bad(b'z', 5));
-    let text = format!(in rt.alloc(); "{errors:?}")?;
-    same!(&rt; text.as_str(), "(OddLength, InvalidHexCharacter { c: 'z', index: 5 })");
     let others = (JsonError::Hex(OddLength), NOT_TEXT, SinkError);
-    let text = format!(in rt.alloc(); "{others:?}")?;
-    same!(&rt; text.as_str(), "(Hex(OddLength), NotText, SinkError)");
-    Ok(())
+    let texts = format!(in rt.alloc(); "{errors:?}, {others:?}");
+    let want = "(OddLength, InvalidHexCharacter { c: 'z', index: 5 }), \
+                (Hex(OddLength), NotText, SinkError)";
+    same!(&rt; texts.as_deref(), Ok(want));
 }
 
 // The character is printed in Rust's debug form. Places have one to eight figures.
@@ -71,7 +57,7 @@ fn printed_places(rt: HostRuntime) -> Result<(), AllocError> {
         (0xFF, "invalid character '\u{FF}' at position 5"),
     ];
     for (byte, want) in rows {
-        prints(&rt, rt.alloc(), bad(byte, 5), want)?;
+        prints(&rt, bad(byte, 5), want);
     }
     let places = [
         (0, "0"),
@@ -87,7 +73,7 @@ fn printed_places(rt: HostRuntime) -> Result<(), AllocError> {
     ];
     for (place, figures) in places {
         let want = ["invalid character 'z' at position ", figures].concat(rt.alloc())?;
-        prints(&rt, rt.alloc(), bad(b'z', place), &want)?;
+        prints(&rt, bad(b'z', place), &want);
     }
     Ok(())
 }

@@ -1,60 +1,51 @@
 //! `WriteSink`, over writers that fail, accept few bytes per call, or come back.
 
+use crate::tests::texts::{bytes, printed};
 use const_hex::{BufferedHex, Plain, Sink, WriteSink};
-use hex_testing::{Fault, Target, Text, same, same_bytes};
-use std::alloc::Global;
-use std::io;
-use std::io::ErrorKind;
-use std::process::Abort;
-use std::test::Fail;
+use hex_testing::{Fault, Target, Testing, Text, same, same_bytes};
+use std::alloc::AllocError;
+use std::io::{self, ErrorKind};
 
 // A text of 6002 bytes comes in pieces of 4096 and 1906. A writer that accepts 1000 per call gets
 // them in 7 calls. Before each call, and at the end, it has this many bytes.
 const TAKEN: [usize; 8] = [0, 1000, 2000, 3000, 4000, 4096, 5096, 6002];
 
 #[test]
-fn writers_that_fail_at_each_call(rt: HostRuntime) -> Result<(), Fail> {
-    let alloc = rt.alloc();
-    let bytes: Vec<u8> = (0..3000usize)
-        .map(|i| (i % 256 * 37 % 256) as u8)
-        .collect(alloc)?;
-    let mut text = "0x".to_string(alloc)?;
-    for byte in &bytes {
-        text.push_str(&format!(in alloc; "{byte:02x}")?)?;
-    }
+fn writers_that_fail_at_each_call(rt: HostRuntime) -> Result<(), AllocError> {
+    let bytes = bytes(rt.alloc(), 3000)?;
+    let text = printed(rt.alloc(), &bytes, true, false)?;
     let case = (bytes.as_slice(), text.as_bytes());
     for (before, taken) in TAKEN.into_iter().enumerate() {
-        at_call(&rt, alloc, (before.saturating_add(1), taken), case);
+        at_call(&rt, (before.saturating_add(1), taken), case);
     }
     Ok(())
 }
 
 /// A writer has accepted so many bytes before that call. The call fails, or accepts no bytes; or a
 /// signal interrupts it 1, 2, 100 or 10,000 times in a row, and it is made again.
-fn at_call(rt: &impl Abort, alloc: Global, (call, taken): (usize, usize), case: (&[u8], &[u8])) {
+fn at_call(rt: &impl Testing, (call, taken): (usize, usize), case: (&[u8], &[u8])) {
     let (fails, calls) = (call < 8, call.min(7));
     for kind in [ErrorKind::Other, ErrorKind::WouldBlock] {
         let want = (fails.then_some(kind), taken, calls);
-        writes(rt, alloc, Fault::Writes(call, call, kind), case, want);
+        writes(rt, Fault::Writes(call, call, kind), case, want);
     }
     let want = (fails.then_some(ErrorKind::WriteZero), taken, calls);
-    writes(rt, alloc, Fault::Full(call), case, want);
+    writes(rt, Fault::Full(call), case, want);
     for more in [0, 1, 99, 9999usize] {
         let fault = Fault::Writes(call, call.saturating_add(more), ErrorKind::Interrupted);
         let calls = if fails { more.saturating_add(8) } else { 7 };
-        writes(rt, alloc, fault, case, (None, 6002, calls));
+        writes(rt, fault, case, (None, 6002, calls));
     }
 }
 
 /// Writes the bytes, whose text is `text`. Checks the error, what the writer has, and its calls.
 fn writes(
-    rt: &impl Abort,
-    alloc: Global,
+    rt: &impl Testing,
     fault: Fault,
     (bytes, text): (&[u8], &[u8]),
     (kind, taken, calls): (Option<ErrorKind>, usize, usize),
 ) {
-    let mut target = Target::new(alloc, 1000, fault);
+    let mut target = Target::new(rt.alloc(), 1000, fault);
     let mut sink = WriteSink::new(&mut target);
     let answer = BufferedHex::<false, true>::new(bytes).write_with::<Plain, _>(&mut sink);
     same!(rt, "write_with", fault; answer.is_err(), kind.is_some());
@@ -63,7 +54,7 @@ fn writes(
     same!(rt, "finish", fault; kind_of(sink.finish().as_ref().err()), kind);
     same!(rt, "writes and flushes", fault; (target.writes, target.flushes), (calls, 0));
     let front = text.get(..taken).unwrap_or(&[]);
-    same_bytes!(rt, "what the writer has", fault; &target.taken, front);
+    same_bytes!(rt, "what the writer has", fault; target.taken, front);
 }
 
 fn kind_of(error: Option<&io::Error>) -> Option<ErrorKind> {
@@ -72,7 +63,7 @@ fn kind_of(error: Option<&io::Error>) -> Option<ErrorKind> {
 
 // A writer that accepts one byte per call is called once per byte, and not for an empty piece.
 #[test]
-fn a_byte_a_call(rt: HostRuntime) -> Result<(), Fail> {
+fn a_byte_a_call(rt: HostRuntime) -> io::Result<()> {
     let text = "01234".repeat(rt.alloc(), 1000)?;
     let mut target = Target::new(rt.alloc(), 1, Fault::Nothing);
     let mut sink = WriteSink::new(&mut target);
@@ -100,7 +91,7 @@ fn writing_goes_on_after_an_error(rt: HostRuntime) {
 }
 
 #[test]
-fn no_call_flushes(rt: HostRuntime) -> Result<(), Fail> {
+fn no_call_flushes(rt: HostRuntime) -> io::Result<()> {
     let mut target = Target::new(rt.alloc(), 4, Fault::Nothing);
     let mut sink = WriteSink::new(&mut target);
     same!(&rt; sink.write_hex::<false, false>(&[0xab]), Ok(()));
@@ -114,7 +105,7 @@ fn no_call_flushes(rt: HostRuntime) -> Result<(), Fail> {
 }
 
 #[test]
-fn a_writer_comes_back(rt: HostRuntime) -> Result<(), Fail> {
+fn a_writer_comes_back(rt: HostRuntime) -> io::Result<()> {
     let mut file = Vec::new(rt.alloc());
     let mut sink = WriteSink::new(&mut file);
     same!(&rt; sink.write_hex::<true, false>(&[0xab]), Ok(()));

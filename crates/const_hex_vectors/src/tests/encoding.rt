@@ -1,21 +1,26 @@
 //! Every call that writes text, on worked examples.
 
-use crate::decoding::each_call_answers;
-use crate::texts::{bytes, printed};
+use crate::tests::decoding::each_call_answers;
+use crate::tests::texts::{bytes, printed};
 use const_hex::serde::no_prefix;
 use const_hex::{
     BytesToHexChars, FromHexError, Plain, ToHex, ToHexExt, encode, encode_full_to_slice,
     encode_prefixed, encode_to_slice, encode_to_slice_upper, encode_to_str, encode_to_str_upper,
     encode_upper, encode_upper_prefixed, fill_text, serialize, serialize_upper, text_length,
 };
-use hex_testing::{Text, same, same_bytes};
+use hex_testing::{Testing, Text, same, same_bytes, same_read};
 use serde_json::Value;
 use std::alloc::{AllocError, Global};
-use std::process::Abort;
-use std::test::Fail;
 
 /// Bytes, and their text in lowercase and in uppercase.
 type Row<'a> = (&'a [u8], &'a str, &'a str);
+
+/// Checks that each call writes the wanted text of the bytes.
+macro_rules! each_writes {
+    ($rt:ident, $bytes:ident; $($call:expr => $want:ident,)+) => {
+        $(same_read!($rt, stringify!($call), Text($bytes); $call, Ok($want.as_bytes()));)+
+    };
+}
 
 /// Bytes, and their texts: in lowercase, in uppercase, and both behind a prefix.
 #[derive(Drop)]
@@ -37,69 +42,51 @@ impl Written {
     }
 
     /// Each call that makes a text of the bytes makes these.
-    pub(crate) fn each_call_writes(&self, rt: &impl Abort, alloc: Global) {
-        let (bytes, [lower, upper, prefixed_lower, prefixed_upper]) = (&self.bytes, &self.texts);
-        self.wrote(rt, "encode", encode(alloc, bytes), lower);
-        self.wrote(rt, "encode_upper", encode_upper(alloc, bytes), upper);
-        let text = encode_prefixed(alloc, bytes);
-        self.wrote(rt, "encode_prefixed", text, prefixed_lower);
-        let text = encode_upper_prefixed(alloc, bytes);
-        self.wrote(rt, "encode_upper_prefixed", text, prefixed_upper);
-        self.each_call_serializes(rt, alloc);
-        self.traits_write(rt, alloc, bytes);
+    pub(crate) fn each_call_writes(&self, rt: &impl Testing) {
+        let (bytes, alloc) = (&self.bytes, rt.alloc());
+        let [lower, upper, prefixed_lower, prefixed_upper] = &self.texts;
+        each_writes!(rt, bytes;
+            encode(alloc, bytes) => lower,
+            encode_upper(alloc, bytes) => upper,
+            encode_prefixed(alloc, bytes) => prefixed_lower,
+            encode_upper_prefixed(alloc, bytes) => prefixed_upper,
+        );
+        self.each_call_serializes(rt);
+        self.traits_write(rt, bytes);
     }
 
     /// Each call that makes a JSON string of the bytes makes these.
-    fn each_call_serializes(&self, rt: &impl Abort, alloc: Global) {
-        let (bytes, [lower, upper, prefixed_lower, prefixed_upper]) = (&self.bytes, &self.texts);
-        self.serialized(rt, "serialize", serialize(alloc, bytes), prefixed_lower);
-        self.serialized(
-            rt,
-            "serialize_upper",
-            serialize_upper(alloc, bytes),
-            prefixed_upper,
+    fn each_call_serializes(&self, rt: &impl Testing) {
+        let (bytes, alloc) = (&self.bytes, rt.alloc());
+        let [lower, upper, prefixed_lower, prefixed_upper] = &self.texts;
+        each_writes!(rt, bytes;
+            text_of(serialize(alloc, bytes)) => prefixed_lower,
+            text_of(serialize_upper(alloc, bytes)) => prefixed_upper,
+            text_of(no_prefix::serialize(alloc, bytes)) => lower,
+            text_of(no_prefix::serialize_upper(alloc, bytes)) => upper,
         );
-        let value = no_prefix::serialize(alloc, bytes);
-        self.serialized(rt, "no_prefix::serialize", value, lower);
-        let value = no_prefix::serialize_upper(alloc, bytes);
-        self.serialized(rt, "no_prefix::serialize_upper", value, upper);
     }
 
     /// The calls of the traits write these texts of a value.
-    fn traits_write<T: ToHex + ToHexExt>(&self, rt: &impl Abort, alloc: Global, value: &T) {
+    fn traits_write<T: ToHex + ToHexExt>(&self, rt: &impl Testing, value: &T) {
+        let (bytes, alloc) = (&self.bytes, rt.alloc());
         let [lower, upper, prefixed_lower, prefixed_upper] = &self.texts;
-        let text = ToHex::encode_hex(value, alloc);
-        self.wrote(rt, "ToHex::encode_hex", text, lower);
-        let text = ToHex::encode_hex_upper(value, alloc);
-        self.wrote(rt, "ToHex::encode_hex_upper", text, upper);
-        let text = ToHexExt::encode_hex(value, alloc);
-        self.wrote(rt, "ToHexExt::encode_hex", text, lower);
-        let text = ToHexExt::encode_hex_upper(value, alloc);
-        self.wrote(rt, "ToHexExt::encode_hex_upper", text, upper);
-        let text = value.encode_hex_with_prefix(alloc);
-        self.wrote(rt, "encode_hex_with_prefix", text, prefixed_lower);
-        let text = value.encode_hex_upper_with_prefix(alloc);
-        self.wrote(rt, "encode_hex_upper_with_prefix", text, prefixed_upper);
+        each_writes!(rt, bytes;
+            ToHex::encode_hex(value, alloc) => lower,
+            ToHex::encode_hex_upper(value, alloc) => upper,
+            ToHexExt::encode_hex(value, alloc) => lower,
+            ToHexExt::encode_hex_upper(value, alloc) => upper,
+            value.encode_hex_with_prefix(alloc) => prefixed_lower,
+            value.encode_hex_upper_with_prefix(alloc) => prefixed_upper,
+        );
     }
+}
 
-    fn wrote(&self, rt: &impl Abort, call: &str, answer: Result<String, AllocError>, want: &str) {
-        match answer {
-            Ok(text) => {
-                same_bytes!(rt, call, Text(&self.bytes); text.as_bytes(), want.as_bytes());
-            }
-            Err(error) => same!(rt, call, Text(&self.bytes); Some(error), None),
-        }
-    }
-
-    fn serialized(
-        &self,
-        rt: &impl Abort,
-        call: &str,
-        answer: Result<Value, AllocError>,
-        want: &str,
-    ) {
-        let text = answer.as_ref().ok().and_then(|value| value.as_str());
-        same!(rt, call, Text(&self.bytes); text, Some(want));
+/// The text of a JSON value.
+fn text_of(value: Result<Value, AllocError>) -> Result<String, Option<AllocError>> {
+    match value {
+        Ok(Value::String(text)) => Ok(text),
+        answer => Err(answer.err()),
     }
 }
 
@@ -118,28 +105,27 @@ const ROWS: [Row<'_>; 5] = [
 ];
 
 #[test]
-fn owned_texts(rt: HostRuntime) -> Result<(), Fail> {
-    let alloc = rt.alloc();
+fn owned_texts(rt: HostRuntime) -> Result<(), AllocError> {
     for row in ROWS {
-        Written::new(alloc, row)?.each_call_writes(&rt, alloc);
+        Written::new(rt.alloc(), row)?.each_call_writes(&rt);
     }
-    let want = Written::new(alloc, HELLO)?;
-    want.traits_write(&rt, alloc, b"Hello world!");
-    want.traits_write(&rt, alloc, &"Hello world!".to_string(alloc)?);
+    let want = Written::new(rt.alloc(), HELLO)?;
+    want.traits_write(&rt, b"Hello world!");
+    want.traits_write(&rt, &"Hello world!".to_string(rt.alloc())?);
     Ok(())
 }
 
 // The Rust crate's own tests try these counts of bytes.
 #[test]
-fn there_and_back(rt: HostRuntime) -> Result<(), Fail> {
+fn there_and_back(rt: HostRuntime) -> Result<(), AllocError> {
     let alloc = rt.alloc();
     for count in [1, 8, 20, 32, 64, 128] {
         let bytes = bytes(alloc, count)?;
         let lower = printed(alloc, &bytes, false, false)?;
         let upper = printed(alloc, &bytes, false, true)?;
         let want = Written::new(alloc, (&bytes, &lower, &upper))?;
-        want.each_call_writes(&rt, alloc);
-        each_call_answers(&rt, alloc, lower.as_bytes(), Ok(&bytes))?;
+        want.each_call_writes(&rt);
+        each_call_answers(&rt, lower.as_bytes(), Ok(&bytes))?;
     }
     Ok(())
 }
@@ -149,7 +135,7 @@ const ROOM: usize = 26;
 
 // An output of another length than the text is refused, and stays unchanged.
 #[test]
-fn texts_in_slices(rt: HostRuntime) -> Result<(), Fail> {
+fn texts_in_slices(rt: HostRuntime) -> Result<(), AllocError> {
     for (bytes, lower, upper) in ROWS {
         for (is_upper, text) in [(false, lower), (true, upper)] {
             let prefixed = ["0x", text].concat(rt.alloc())?;
@@ -164,7 +150,13 @@ fn texts_in_slices(rt: HostRuntime) -> Result<(), Fail> {
 
 /// Each call that writes text into a slice fills an output of that length; or it is an error, and the
 /// output stays unchanged.
-fn fills(rt: &impl Abort, bytes: &[u8], text: &str, (prefix, upper): (bool, bool), length: usize) {
+fn fills(
+    rt: &impl Testing,
+    bytes: &[u8],
+    text: &str,
+    (prefix, upper): (bool, bool),
+    length: usize,
+) {
     assert!(rt; length <= ROOM);
     let row = (text, upper, length);
     same!(rt, "text_length", row; text_length(prefix, bytes.len()), text.len());
@@ -176,7 +168,7 @@ fn fills(rt: &impl Abort, bytes: &[u8], text: &str, (prefix, upper): (bool, bool
     let mut output = [0xEE; ROOM];
     let filled = encode_full_to_slice(bytes, prefix, upper, &mut output[..length]);
     same!(rt, "encode_full_to_slice", row; filled, want.map(|_| ()));
-    same_bytes!(rt, "what encode_full_to_slice leaves", row; &output, &left);
+    same_bytes!(rt, "what encode_full_to_slice leaves", row; output, left);
     if prefix {
         return;
     }
@@ -193,8 +185,8 @@ fn fills(rt: &impl Abort, bytes: &[u8], text: &str, (prefix, upper): (bool, bool
     };
     same!(rt, "encode_to_slice(_upper)", row; filled, want.map(|_| ()));
     same!(rt, "encode_to_str(_upper)", row; lent, want);
-    same_bytes!(rt, "what encode_to_slice(_upper) leaves", row; &output, &left);
-    same_bytes!(rt, "what encode_to_str(_upper) leaves", row; &lender, &left);
+    same_bytes!(rt, "what encode_to_slice(_upper) leaves", row; output, left);
+    same_bytes!(rt, "what encode_to_str(_upper) leaves", row; lender, left);
 }
 
 #[test]
@@ -207,18 +199,16 @@ fn full_texts(rt: HostRuntime) {
 }
 
 #[test]
-fn characters(rt: HostRuntime) -> Result<(), AllocError> {
+fn characters(rt: HostRuntime) {
     let rows = [(2, Some('0')), (1, Some('F')), (0, None), (0, None)];
     has_next(&rt, BytesToHexChars::<true>::new(&[0x0f]), &rows);
     has_next(&rt, BytesToHexChars::<false>::new(&[]), &[(0, None); 2]);
-    let text: String = BytesToHexChars::<false>::new(b"kiwi").collect(rt.alloc())?;
-    same!(&rt; text.as_str(), "6b697769");
-    Ok(())
+    same!(&rt; BytesToHexChars::<false>::new(b"kiwi").eq("6b697769".chars()), true);
 }
 
 /// How many characters are left, and the next one, in turn.
 fn has_next<const UPPER: bool>(
-    rt: &impl Abort,
+    rt: &impl Testing,
     mut chars: BytesToHexChars<'_, UPPER>,
     rows: &[(usize, Option<char>)],
 ) {

@@ -5,7 +5,6 @@ use hex_testing::same;
 use std::alloc::{AllocError, Global};
 use std::fs;
 use std::rt::Files;
-use std::test::Fail;
 
 /// The most blocks that are reserved.
 const BLOCKS: usize = 60_000;
@@ -38,7 +37,7 @@ fn reserve_all(alloc: Global, blocks: &mut Vec<Vec<u8>>) {
 
 /// Passes without a claim if the machine refuses nothing.
 #[test]
-fn names_refused_memory(rt: HostRuntime) -> Result<(), Fail> {
+fn names_refused_memory(rt: HostRuntime) -> Result<(), AllocError> {
     if counts_reserved(&rt) {
         return Ok(());
     }

@@ -2,14 +2,12 @@
 
 use const_hex::{FromHex, FromHexError, JsonError};
 use hash_hex::{Address20, FixedBytes, Hash32};
-use hex_testing::{Text, same};
-use serde_json::{Value, json};
-use std::alloc::{AllocError, Global};
+use hex_testing::{Testing, Text, same};
+use serde_json::{Number, Value};
+use std::alloc::AllocError;
 use std::cmp::Ordering;
 use std::collections::HashSet;
 use std::fmt;
-use std::process::Abort;
-use std::test::Fail;
 
 const COUNTED: &str = "0x000102030405060708090a0b0c0d0e0f101112131415161718191a1b1c1d1e1f";
 
@@ -23,34 +21,25 @@ fn counted() -> [u8; 32] {
 }
 
 /// The value prints that text by `{}`.
-fn prints<D: fmt::Display>(
-    rt: &impl Abort,
-    alloc: Global,
-    value: &D,
-    want: &str,
-) -> Result<(), AllocError> {
-    same!(rt, "{}", want; value.to_string(alloc)?.as_str(), want);
-    Ok(())
+fn prints<D: fmt::Display>(rt: &impl Testing, value: &D, want: &str) {
+    same!(rt, "{}", want; value.to_string(rt.alloc()).as_deref(), Ok(want));
 }
 
 /// The value prints that text by `{:?}`.
-fn shows<D: fmt::Debug>(rt: &impl Abort, alloc: Global, value: &D, want: &str) -> Result<(), Fail> {
-    same!(rt, "{:?}", want; format!(in alloc; "{value:?}")?.as_str(), want);
-    Ok(())
+fn shows<D: fmt::Debug>(rt: &impl Testing, value: &D, want: &str) {
+    same!(rt, "{:?}", want; format!(in rt.alloc(); "{value:?}").as_deref(), Ok(want));
 }
 
 #[test]
-fn texts_of_hashes(rt: HostRuntime) -> Result<(), Fail> {
-    let alloc = rt.alloc();
+fn texts_of_hashes(rt: HostRuntime) {
     let hash = Hash32::from(counted());
-    prints(&rt, alloc, &hash, COUNTED)?;
+    prints(&rt, &hash, COUNTED);
     same!(&rt; hash.to_buffer().as_str(), COUNTED);
-    same!(&rt; Hash32::from_hex(alloc, COUNTED.as_bytes()), Ok(hash));
+    same!(&rt; Hash32::from_hex(rt.alloc(), COUNTED.as_bytes()), Ok(hash));
     let letters = Hash32::from_bytes([255; 32]);
-    same!(&rt; Hash32::from_hex(alloc, &[b'F'; 64]), Ok(letters));
+    same!(&rt; Hash32::from_hex(rt.alloc(), &[b'F'; 64]), Ok(letters));
     let lower = "0xffffffffffffffffffffffffffffffffffffffffffffffffffffffffffffffff";
-    prints(&rt, alloc, &letters, lower)?;
-    Ok(())
+    prints(&rt, &letters, lower);
 }
 
 #[test]
@@ -75,28 +64,25 @@ fn refused_texts(rt: HostRuntime) {
 
 // The first example of EIP-55. Its checksum, the case of letters, does not matter here.
 #[test]
-fn texts_of_addresses(rt: HostRuntime) -> Result<(), Fail> {
-    let alloc = rt.alloc();
-    let address = Address20::from_hex(alloc, b"0x5aAeb6053F3E94C9b9A09f33669435E7Ef1BeAed")?;
+fn texts_of_addresses(rt: HostRuntime) -> Result<(), FromHexError> {
+    let address = Address20::from_hex(rt.alloc(), b"0x5aAeb6053F3E94C9b9A09f33669435E7Ef1BeAed")?;
     let lower = "0x5aaeb6053f3e94c9b9a09f33669435e7ef1beaed";
-    prints(&rt, alloc, &address, lower)?;
+    let shown = "Address20(0x5aaeb6053f3e94c9b9a09f33669435e7ef1beaed)";
+    prints(&rt, &address, lower);
+    shows(&rt, &address, shown);
     same!(&rt; address.to_buffer().as_str(), lower);
     for text in [lower, "5AAEB6053F3E94C9B9A09F33669435E7EF1BEAED"] {
-        let read = Address20::from_hex(alloc, text.as_bytes());
+        let read = Address20::from_hex(rt.alloc(), text.as_bytes());
         same!(&rt, "from_hex", text; read, Ok(address));
     }
     Ok(())
 }
 
 #[test]
-fn debug_forms(rt: HostRuntime) -> Result<(), Fail> {
-    let (alloc, pair) = (rt.alloc(), FixedBytes::from([1, 0xAB]));
-    let address = Address20::from_hex(alloc, b"0x5aAeb6053F3E94C9b9A09f33669435E7Ef1BeAed")?;
-    let text = "Address20(0x5aaeb6053f3e94c9b9a09f33669435e7ef1beaed)";
-    shows(&rt, alloc, &address, text)?;
+fn debug_forms(rt: HostRuntime) {
     let hash = "Hash32(0x000102030405060708090a0b0c0d0e0f101112131415161718191a1b1c1d1e1f)";
-    shows(&rt, alloc, &Hash32::from(counted()), hash)?;
-    shows(&rt, alloc, &pair, "FixedBytes(0x01ab)")
+    shows(&rt, &Hash32::from(counted()), hash);
+    shows(&rt, &FixedBytes::from([1, 0xAB]), "FixedBytes(0x01ab)");
 }
 
 // The first byte that differs decides.
@@ -113,41 +99,38 @@ fn order_of_values(rt: HostRuntime) {
     ordered(&rt, Hash32::from(low), Hash32::from(high));
 }
 
-fn ordered<T: Ord + Copy + fmt::Debug>(rt: &impl Abort, low: T, high: T) {
+fn ordered<T: Ord + Copy + fmt::Debug>(rt: &impl Testing, low: T, high: T) {
     let answers = (low == high, low < high, low.cmp(&high), high.cmp(&low));
     let want = (false, true, Ordering::Less, Ordering::Greater);
     same!(rt, "==, <, cmp", low; answers, want);
 }
 
 #[test]
-fn sets_of_values(rt: HostRuntime) -> Result<(), Fail> {
+fn sets_of_values(rt: HostRuntime) -> Result<(), FromHexError> {
     let mut seen = HashSet::new(rt.alloc());
-    assert!(rt; seen.insert(Address20::from([0xAB; 20]))?);
     let address = Address20::from_hex(rt.alloc(), b"aBaBaBaBaBaBaBaBaBaBaBaBaBaBaBaBaBaBaBaB")?;
-    assert!(rt; !seen.insert(address)?);
-    assert!(rt; !seen.contains(&Address20::from([0xAC; 20])));
+    same!(&rt; seen.insert(Address20::from([0xAB; 20])).ok(), Some(true));
+    same!(&rt; seen.insert(address).ok(), Some(false));
+    same!(&rt; seen.contains(&Address20::from([0xAC; 20])), false);
     Ok(())
 }
 
 #[test]
-fn json_values(rt: HostRuntime) -> Result<(), Fail> {
-    let alloc = rt.alloc();
-    let hash = Hash32::from(counted());
-    let value = hash.to_value(alloc)?;
+fn json_values(rt: HostRuntime) -> Result<(), AllocError> {
+    let (hash, address) = (Hash32::from(counted()), Address20::from([7; 20]));
+    let value = hash.to_value(rt.alloc())?;
     same!(&rt; value.as_str(), Some(COUNTED));
-    same!(&rt; Hash32::from_value(alloc, &value), Ok(hash));
-    let address = Address20::from([7; 20]);
-    let value = address.to_value(alloc)?;
-    same!(&rt; Address20::from_value(alloc, &value), Ok(address));
+    same!(&rt; Hash32::from_value(rt.alloc(), &value), Ok(hash));
+    let value = address.to_value(rt.alloc())?;
+    same!(&rt; Address20::from_value(rt.alloc(), &value), Ok(address));
     let other_length = JsonError::Hex(FromHexError::InvalidStringLength);
-    same!(&rt; Hash32::from_value(alloc, &value), Err(other_length));
+    same!(&rt; Hash32::from_value(rt.alloc(), &value), Err(other_length));
     Ok(())
 }
 
 #[test]
-fn json_values_that_are_no_text(rt: HostRuntime) -> Result<(), Fail> {
-    let number = json!(in rt.alloc(); 5)?;
+fn json_values_that_are_no_text(rt: HostRuntime) {
+    let number = Value::Number(Number::from(5u8));
     same!(&rt; Hash32::from_value(rt.alloc(), &number), Err(JsonError::NotText));
     same!(&rt; Address20::from_value(rt.alloc(), &Value::Null), Err(JsonError::NotText));
-    Ok(())
 }

@@ -36,7 +36,7 @@ fn worked_values(rt: HostRuntime) {
     worked!(rt, u8x32, lanes32);
     // The first 16 bytes side by side, once and twice.
     let values = lanes16::nibbles(u8x16::from_slice(&BYTES)).to_array();
-    same_bytes!(&rt, "lanes16::nibbles", "the first 16"; &values, &VALUES[..16]);
+    same_bytes!(&rt, "lanes16::nibbles", "the first 16"; values, &VALUES[..16]);
     let mut bytes = [0; 32];
     bytes[..16].copy_from_slice(&BYTES[..16]);
     bytes[16..].copy_from_slice(&BYTES[..16]);
@@ -44,7 +44,7 @@ fn worked_values(rt: HostRuntime) {
     let mut want = [0; 32];
     want[..16].copy_from_slice(&VALUES[..16]);
     want[16..].copy_from_slice(&VALUES[..16]);
-    same_bytes!(&rt, "lanes32::nibbles", "the first 16, twice"; &values, &want);
+    same_bytes!(&rt, "lanes32::nibbles", "the first 16, twice"; values, want);
 }
 
 #[test]
@@ -70,10 +70,10 @@ fn bytes_of_a_step(rt: HostRuntime) {
     let second = u8x16::from_array(*b"8899aAbBcCdDeEfF");
     let bytes = decoded_or::<u8x16, Lanes16>([first, second], other);
     let spelled = *b"\x00\x11\x22\x33\x44\x55\x66\x77\x88\x99\xAA\xBB\xCC\xDD\xEE\xFF";
-    same_bytes!(&rt, "decode_chunk", "16 lanes"; &bytes.to_array(), &spelled);
+    same_bytes!(&rt, "decode_chunk", "16 lanes"; bytes.to_array(), spelled);
     let bad = u8x16::from_array(*b"001\x10223344556677");
     let refused = decoded_or::<u8x16, Lanes16>([bad, second], other);
-    same_bytes!(&rt, "decode_chunk", "16 lanes, bad"; &refused.to_array(), &[0xEE; 16]);
+    same_bytes!(&rt, "decode_chunk", "16 lanes, bad"; refused.to_array(), [0xEE; 16]);
 }
 
 #[test]
@@ -85,5 +85,5 @@ fn bytes_of_a_wide_step(rt: HostRuntime) {
     same!(&rt, "decode_chunk", "32 lanes"; bytes.as_chunks::<8>().0, [half; 4].as_slice());
     let bad = u8x32::from_array(*b"0123456789abcdef0123456789ABCDEG");
     let refused = decoded_or::<u8x32, Lanes32>([text, bad], other);
-    same_bytes!(&rt, "decode_chunk", "32 lanes, bad"; &refused.to_array(), &[0xEE; 32]);
+    same_bytes!(&rt, "decode_chunk", "32 lanes, bad"; refused.to_array(), [0xEE; 32]);
 }

@@ -1,12 +1,9 @@
 //! Lines of questions: what is no question, long lines, and readers and writers that fail.
 
 use const_hex_answers::answer_lines;
-use hex_testing::{Fault, Source, Target, Text, same, same_bytes};
-use std::alloc::Global;
+use hex_testing::{Fault, Source, Target, Testing, Text, same, same_bytes};
 use std::fmt::Debug;
 use std::io::{self, BufRead, BufReader, ErrorKind, Read};
-use std::process::Abort;
-use std::test::Fail;
 
 /// Reasons why lines are not questions, each with its lines. A bar separates the lines.
 const NO_QUESTIONS: [(&str, &str); 6] = [
@@ -40,39 +37,38 @@ const NO_QUESTIONS: [(&str, &str); 6] = [
 ];
 
 #[test]
-fn what_is_no_question_is_answered_bad(rt: HostRuntime) -> Result<(), Fail> {
+fn what_is_no_question_is_answered_bad(rt: HostRuntime) -> io::Result<()> {
     for (why, lines) in NO_QUESTIONS {
         for line in lines.split('|') {
-            is_bad(&rt, rt.alloc(), line.as_bytes(), why)?;
+            is_bad(&rt, line.as_bytes(), why)?;
         }
     }
-    is_bad(&rt, rt.alloc(), b"encode \xff", "not UTF-8")
+    is_bad(&rt, b"encode \xff", "not UTF-8")
 }
 
 /// The line is no question for this reason. The next line, `encode 6b`, is answered.
-fn is_bad(rt: &impl Abort, alloc: Global, line: &[u8], why: &str) -> Result<(), Fail> {
+fn is_bad(rt: &impl Testing, line: &[u8], why: &str) -> io::Result<()> {
     let mut input = line.chain(b"\nencode 6b".as_slice());
-    let answers = format!(in alloc; "BAD {why}\nOK 3662\n")?;
-    are_answered(rt, alloc, &Text(line), &mut input, (false, &answers))
+    let answers = ["BAD ", why, "\nOK 3662\n"].concat(rt.alloc())?;
+    are_answered(rt, Text(line), &mut input, (false, &answers))
 }
 
 /// These lines get these answers, and `answer_lines` returns whether all were questions.
-fn are_answered<R: BufRead, D: Debug>(
-    rt: &impl Abort,
-    alloc: Global,
-    row: &D,
+fn are_answered<R: BufRead, D: Debug + Copy>(
+    rt: &impl Testing,
+    row: D,
     input: &mut R,
     (are_questions, answers): (bool, &str),
-) -> Result<(), Fail> {
-    let mut output = Vec::new(alloc);
-    let answer = answer_lines(alloc, input, &mut output)?;
+) -> io::Result<()> {
+    let mut output = Vec::new(rt.alloc());
+    let answer = answer_lines(rt.alloc(), input, &mut output)?;
     same!(rt, "answer_lines", row; answer, are_questions);
-    same_bytes!(rt, "answers", row; &output, answers.as_bytes());
+    same_bytes!(rt, "answers", row; output, answers);
     Ok(())
 }
 
 #[test]
-fn the_last_line_needs_no_line_break(rt: HostRuntime) -> Result<(), Fail> {
+fn the_last_line_needs_no_line_break(rt: HostRuntime) -> io::Result<()> {
     let rows: [(&str, (bool, &str)); 8] = [
         ("", (true, "")),
         ("\n", (false, "BAD unknown operation\n")),
@@ -87,14 +83,13 @@ fn the_last_line_needs_no_line_break(rt: HostRuntime) -> Result<(), Fail> {
         ),
     ];
     for (lines, want) in rows {
-        let mut input = lines.as_bytes();
-        are_answered(&rt, rt.alloc(), &lines, &mut input, want)?;
+        are_answered(&rt, lines, &mut lines.as_bytes(), want)?;
     }
     Ok(())
 }
 
 #[test]
-fn a_line_has_up_to_65536_bytes(rt: HostRuntime) -> Result<(), Fail> {
+fn a_line_has_up_to_65536_bytes(rt: HostRuntime) -> io::Result<()> {
     let behind = (false, "BAD line too long\nOK 6b\n");
     let rows = [
         (65_526, "\ndecode 3662", (true, "OK false\nOK 6b\n")),
@@ -105,29 +100,18 @@ fn a_line_has_up_to_65536_bytes(rt: HostRuntime) -> Result<(), Fail> {
         (65_528, "\ndecode 3662", behind),
         (200_000, "\ndecode 3662", behind),
     ];
+    // A line `check_raw` of so many digits, the rest behind it, and the answers.
     for (digits, rest, want) in rows {
-        long_line(&rt, rt.alloc(), (digits, rest), want)?;
+        let line = vec![in rt.alloc(); b'0'; digits]?;
+        let lines = b"check_raw ".as_slice().chain(line.as_slice());
+        let mut input = BufReader::new(rt.alloc(), lines.chain(rest.as_bytes()))?;
+        are_answered(&rt, (digits, rest), &mut input, want)?;
     }
     Ok(())
 }
 
-/// A line `check_raw` of so many digits, and the rest behind it, get these answers.
-fn long_line(
-    rt: &impl Abort,
-    alloc: Global,
-    row: (usize, &str),
-    want: (bool, &str),
-) -> Result<(), Fail> {
-    let (digits, rest) = row;
-    let line = vec![in alloc; b'0'; digits]?;
-    let rest = line.as_slice().chain(rest.as_bytes());
-    let lines = b"check_raw ".as_slice().chain(rest);
-    let mut input = BufReader::new(alloc, lines)?;
-    are_answered(rt, alloc, &row, &mut input, want)
-}
-
 #[test]
-fn a_failed_read_ends_the_run(rt: HostRuntime) -> Result<(), Fail> {
+fn a_failed_read_ends_the_run(rt: HostRuntime) -> io::Result<()> {
     let both = "BAD unknown operation\nOK 3662\n";
     let rows: [(&[u8], &str); 4] = [
         (b"", ""),
@@ -136,32 +120,32 @@ fn a_failed_read_ends_the_run(rt: HostRuntime) -> Result<(), Fail> {
         (b"no\nencode 6b\nencode 6", both),
     ];
     for (bytes, answers) in rows {
-        ends_after(&rt, rt.alloc(), bytes, answers)?;
+        ends_after(&rt, bytes, answers)?;
     }
-    ends_after(&rt, rt.alloc(), &vec![in rt.alloc(); b'0'; 66_000]?, "")
+    ends_after(&rt, &[b'0'; 66_000], "")
 }
 
 /// A reader that fails behind these bytes ends the run, after these answers.
-fn ends_after(rt: &impl Abort, alloc: Global, bytes: &[u8], answers: &str) -> Result<(), Fail> {
+fn ends_after(rt: &impl Testing, bytes: &[u8], answers: &str) -> io::Result<()> {
     let kind = ErrorKind::ConnectionReset;
     let source = Source::new(bytes, bytes.len().saturating_add(1), kind);
-    let mut input = BufReader::new(alloc, source)?;
-    let mut output = Vec::new(alloc);
-    let ended = answer_lines(alloc, &mut input, &mut output);
+    let mut input = BufReader::new(rt.alloc(), source)?;
+    let mut output = Vec::new(rt.alloc());
+    let ended = answer_lines(rt.alloc(), &mut input, &mut output);
     same!(rt, "answer_lines", answers; kind_of(ended), Some(kind));
-    same_bytes!(rt, "answers", answers; &output, answers.as_bytes());
+    same_bytes!(rt, "answers", answers; output, answers);
     Ok(())
 }
 
 // The reader hands out one byte per call, so eleven calls read the line and its end.
 #[test]
-fn an_interrupted_read_is_made_again(rt: HostRuntime) -> Result<(), Fail> {
+fn an_interrupted_read_is_made_again(rt: HostRuntime) -> io::Result<()> {
     for call in 1..=11usize {
         let mut source = Source::new(b"encode 6b\n", call, ErrorKind::Interrupted);
         let mut output = Vec::new(rt.alloc());
         let mut input = BufReader::new(rt.alloc(), &mut source)?;
         same!(&rt, "answer_lines", call; answer_lines(rt.alloc(), &mut input, &mut output)?, true);
-        same_bytes!(&rt, "answers", call; &output, b"OK 3662\n");
+        same_bytes!(&rt, "answers", call; output, "OK 3662\n");
     }
     Ok(())
 }
@@ -176,22 +160,22 @@ fn kind_of(ended: io::Result<bool>) -> Option<ErrorKind> {
 fn a_failed_write_ends_the_run(rt: HostRuntime) {
     for (most, calls) in [(1, 17usize), (3, 8)] {
         for call in 1..calls {
-            stops_at(&rt, rt.alloc(), (most, call));
+            stops_at(&rt, most, call);
         }
     }
 }
 
-fn stops_at(rt: &impl Abort, alloc: Global, row: (usize, usize)) {
-    let (most, call) = row;
-    let answers = b"OK 3662\nBAD unknown operation\n".as_slice();
+fn stops_at(rt: &impl Testing, most: usize, call: usize) {
+    let row = (most, call);
     let mut input = b"encode 6b\nno\ncheck 36\n".as_slice();
     let fault = Fault::Writes(call, call, ErrorKind::BrokenPipe);
-    let mut output = Target::new(alloc, most, fault);
-    let ended = answer_lines(alloc, &mut input, &mut output);
+    let mut output = Target::new(rt.alloc(), most, fault);
+    let ended = answer_lines(rt.alloc(), &mut input, &mut output);
     same!(rt, "answer_lines", row; kind_of(ended), Some(ErrorKind::BrokenPipe));
-    let front = answers.get(..output.taken.len()).unwrap_or(&[]);
-    same_bytes!(rt, "answers", row; &output.taken, front);
+    let count = output.taken.len();
     if most == 1 {
-        same!(rt, "bytes of answers", row; output.taken.len(), call.saturating_sub(1));
+        same!(rt, "bytes of answers", row; count, call.saturating_sub(1));
     }
+    let answers = "OK 3662\nBAD unknown operation\n";
+    same_bytes!(rt, "answers", row; output.taken, answers.get(..count).unwrap_or(""));
 }

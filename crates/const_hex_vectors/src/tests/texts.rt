@@ -24,6 +24,15 @@ pub(crate) fn behind(alloc: Global, prefix: &str, body: &[u8]) -> Result<Vec<u8>
     [prefix.as_bytes(), body].concat(alloc)
 }
 
+/// A body with `g` at a place.
+pub(crate) fn with_g(alloc: Global, body: &[u8], place: usize) -> Result<Vec<u8>, AllocError> {
+    let mut body = body.to_vec(alloc)?;
+    if let Some(byte) = body.get_mut(place) {
+        *byte = b'g';
+    }
+    Ok(body)
+}
+
 /// The error that names a byte and its place in the text.
 pub(crate) fn bad(byte: u8, index: usize) -> FromHexError {
     let c = char::from(byte);

@@ -1,12 +1,10 @@
 //! What is tried with each kernel on short texts.
 
-use crate::kernels::{KernelTest, answers, refuses};
-use crate::texts::{PREFIXES, behind, bytes, cut, digits, printed, read};
+use crate::tests::kernels::{KernelTest, answers, refuses};
+use crate::tests::texts::{PREFIXES, behind, bytes, cut, digits, printed, read};
 use const_hex::{FromHexError, Kernel, PieceSink, SinkOutput, SliceOutput, check_raw, encode_with};
-use hex_testing::{KernelCase, Text, same, same_bytes};
-use std::alloc::{AllocError, Global};
-use std::process::Abort;
-use std::test::Fail;
+use hex_testing::{KernelCase, Testing, Text, same, same_bytes};
+use std::alloc::AllocError;
 
 // Counts of the bytes 0, 1, 2 and on, near the steps of each kernel, and how their text ends.
 const COUNTS: [usize; 12] = [15, 16, 17, 31, 32, 33, 47, 48, 49, 63, 64, 65];
@@ -20,91 +18,72 @@ const ENDS: [&str; 12] = [
 pub(crate) struct Lengths;
 
 impl KernelTest for Lengths {
-    fn run<K: Kernel>(
-        &self,
-        rt: &impl Abort,
-        alloc: Global,
-        kernel: KernelCase,
-    ) -> Result<(), Fail> {
+    fn run<K: Kernel>(&self, rt: &impl Testing, kernel: KernelCase) -> Result<(), AllocError> {
         for length in 0..=130usize {
-            of_length::<K>(rt, alloc, kernel, length)?;
+            for prefix in PREFIXES {
+                behind_prefix::<K>(rt, kernel, prefix, length)?;
+            }
         }
         for count in 0..=200usize {
-            there_and_back::<K>(rt, alloc, kernel, &bytes(alloc, count)?)?;
+            there_and_back::<K>(rt, kernel, &bytes(rt.alloc(), count)?)?;
         }
         for (count, end) in COUNTS.into_iter().zip(ENDS) {
-            ends_in::<K>(rt, alloc, kernel, count, end)?;
+            ends_in::<K>(rt, kernel, count, end)?;
         }
-        own_calls::<K>(rt, alloc, kernel)
+        own_calls::<K>(rt, kernel)
     }
 }
 
 /// A kernel writes the bytes 0, 1, 2 and on as a text that ends so, and reads it again.
 fn ends_in<K: Kernel>(
-    rt: &impl Abort,
-    alloc: Global,
+    rt: &impl Testing,
     kernel: KernelCase,
     count: usize,
     end: &str,
 ) -> Result<(), AllocError> {
-    let bytes: Vec<u8> = (0..count).map(|i| (i % 256) as u8).collect(alloc)?;
-    there_and_back::<K>(rt, alloc, kernel, &bytes)?;
-    let text = encode_with::<K, false>(alloc, &bytes)?;
+    let bytes: Vec<u8> = (0..count).map(|i| (i % 256) as u8).collect(rt.alloc())?;
+    there_and_back::<K>(rt, kernel, &bytes)?;
+    let text = encode_with::<K, false>(rt.alloc(), &bytes)?;
     let last = text.get(text.len().saturating_sub(2)..);
     same!(rt, "encode_with", (kernel, count); last, Some(end));
     Ok(())
 }
 
-/// A kernel reads digits of that length behind each prefix.
-fn of_length<K: Kernel>(
-    rt: &impl Abort,
-    alloc: Global,
-    kernel: KernelCase,
-    length: usize,
-) -> Result<(), AllocError> {
-    for prefix in PREFIXES {
-        behind_prefix::<K>(rt, alloc, kernel, prefix, length)?;
-    }
-    Ok(())
-}
-
 /// A kernel reads digits behind a prefix as std does, and writes them in lowercase.
 fn behind_prefix<K: Kernel>(
-    rt: &impl Abort,
-    alloc: Global,
+    rt: &impl Testing,
     kernel: KernelCase,
     prefix: &str,
     length: usize,
 ) -> Result<(), AllocError> {
-    let body = digits(alloc, length)?;
-    let text = behind(alloc, prefix, &body)?;
+    let body = digits(rt.alloc(), length)?;
+    let text = behind(rt.alloc(), prefix, &body)?;
     if length % 2 == 1 {
         let odd = Err(FromHexError::OddLength);
-        return answers::<K>(rt, alloc, kernel, &text, odd, &[0xEE; 65]);
+        return answers::<K>(rt, kernel, &text, odd, &[0xEE; 65]);
     }
-    let bytes = read(alloc, &body)?;
-    let lower = encode_with::<K, false>(alloc, &bytes)?;
-    let want = body.to_ascii_lowercase(alloc)?;
-    same_bytes!(rt, "encode_with", (kernel, Text(&bytes)); lower.as_bytes(), &want);
-    answers::<K>(rt, alloc, kernel, &text, Ok(&bytes), &bytes)
+    let bytes = read(rt.alloc(), &body)?;
+    let lower = encode_with::<K, false>(rt.alloc(), &bytes)?;
+    let want = body.to_ascii_lowercase(rt.alloc())?;
+    same_bytes!(rt, "encode_with", (kernel, Text(&bytes)); lower, want);
+    answers::<K>(rt, kernel, &text, Ok(&bytes), &bytes)
 }
 
 /// A kernel writes bytes as std prints them, owned and in pieces, and reads them again.
 fn there_and_back<K: Kernel>(
-    rt: &impl Abort,
-    alloc: Global,
+    rt: &impl Testing,
     kernel: KernelCase,
     bytes: &[u8],
 ) -> Result<(), AllocError> {
-    let lower = encode_with::<K, false>(alloc, bytes)?;
-    let upper = encode_with::<K, true>(alloc, bytes)?;
+    let lower = encode_with::<K, false>(rt.alloc(), bytes)?;
+    let upper = encode_with::<K, true>(rt.alloc(), bytes)?;
     for (is_upper, owned) in [(false, &lower), (true, &upper)] {
-        let text = printed(alloc, bytes, false, is_upper)?;
-        same_bytes!(rt, "encode_with", (kernel, Text(bytes)); owned.as_bytes(), text.as_bytes());
-        in_pieces::<K>(rt, alloc, kernel, bytes, (is_upper, &text))?;
+        let text = printed(rt.alloc(), bytes, false, is_upper)?;
+        same_bytes!(rt, "encode_with", (kernel, Text(bytes)); owned, &text);
+        in_pieces::<K>(rt, kernel, bytes, (is_upper, &text))?;
         for prefix in ["", "0x"] {
-            let text = behind(alloc, prefix, text.as_bytes())?;
-            answers::<K>(rt, alloc, kernel, &text, Ok(bytes), bytes)?;
+            let text = behind(rt.alloc(), prefix, text.as_bytes())?;
+            answers::<K>(rt, kernel, &text, Ok(bytes), bytes)?;
         }
     }
     Ok(())
@@ -112,38 +91,37 @@ fn there_and_back<K: Kernel>(
 
 /// A kernel writes this text in its pieces.
 fn in_pieces<K: Kernel>(
-    rt: &impl Abort,
-    alloc: Global,
+    rt: &impl Testing,
     kernel: KernelCase,
     bytes: &[u8],
     (is_upper, text): (bool, &str),
 ) -> Result<(), AllocError> {
-    let sizes = kernel.pieces(alloc, text.len())?;
-    let mut sink = PieceSink::new(alloc, 0);
+    let sizes = kernel.pieces(rt.alloc(), text.len())?;
+    let mut sink = PieceSink::new(rt.alloc(), 0);
     K::encode(bytes, is_upper, &mut SinkOutput::new(&mut sink));
     let row = (kernel, Text(bytes));
     same!(rt, "calls of encode", row; sink.calls(), sizes.len());
-    same!(rt, "encode", row; sink.pieces(), cut(alloc, text, &sizes)?.as_slice());
+    same!(rt, "encode", row; sink.pieces(), cut(rt.alloc(), text, &sizes)?.as_slice());
     Ok(())
 }
 
 /// The kernel's own calls on 49 bytes, and the text of 17.
-fn own_calls<K: Kernel>(rt: &impl Abort, alloc: Global, kernel: KernelCase) -> Result<(), Fail> {
+fn own_calls<K: Kernel>(rt: &impl Testing, kernel: KernelCase) -> Result<(), AllocError> {
     let bytes = *b"jklmnopqrstuvwxyz{|}~@[JKLMNOPQRSTUVWXYZ][0123456";
     let mut text = [0; 98];
     K::encode(&bytes, true, &mut SliceOutput::new(&mut text));
-    let printed = printed(alloc, &bytes, false, true)?;
-    same_bytes!(rt, "encode", kernel; &text, printed.as_bytes());
+    let printed = printed(rt.alloc(), &bytes, false, true)?;
+    same_bytes!(rt, "encode", kernel; text, printed);
     assert!(rt; K::check(&text));
     let mut back = [0; 49];
     same!(rt, "decode_checked", kernel; K::decode_checked(&text, &mut back), true);
-    same_bytes!(rt, "decode_checked", kernel; &back, &bytes);
+    same_bytes!(rt, "decode_checked", kernel; back, bytes);
     let mut back = [0; 49];
     K::decode_unchecked(&text, &mut back);
-    same_bytes!(rt, "decode_unchecked", kernel; &back, &bytes);
+    same_bytes!(rt, "decode_unchecked", kernel; back, bytes);
     let bytes_to_16 = [0, 1, 2, 3, 4, 5, 6, 7, 8, 9, 10, 11, 12, 13, 14, 15, 16];
-    let text = encode_with::<K, false>(alloc, &bytes_to_16)?;
-    same!(rt, "encode_with", kernel; text.as_str(), "000102030405060708090a0b0c0d0e0f10");
+    let text = encode_with::<K, false>(rt.alloc(), &bytes_to_16);
+    same!(rt, "encode_with", kernel; text.as_deref(), Ok("000102030405060708090a0b0c0d0e0f10"));
     Ok(())
 }
 
@@ -152,22 +130,17 @@ fn own_calls<K: Kernel>(rt: &impl Abort, alloc: Global, kernel: KernelCase) -> R
 pub(crate) struct Places<'a>(pub(crate) &'a [u8]);
 
 impl KernelTest for Places<'_> {
-    fn run<K: Kernel>(
-        &self,
-        rt: &impl Abort,
-        alloc: Global,
-        kernel: KernelCase,
-    ) -> Result<(), Fail> {
+    fn run<K: Kernel>(&self, rt: &impl Testing, kernel: KernelCase) -> Result<(), AllocError> {
         for half in 0..=65usize {
-            let mut body = digits(alloc, 2 * half)?;
-            let bytes = read(alloc, &body)?;
+            let mut body = digits(rt.alloc(), 2 * half)?;
+            let bytes = read(rt.alloc(), &body)?;
             for place in 0..body.len() {
                 let digit = body[place];
                 for byte in self.0 {
                     body[place] = *byte;
                     for prefix in PREFIXES {
                         let row = (prefix, body.as_slice(), place);
-                        prefixed_or_refused::<K>(rt, alloc, kernel, row, &bytes)?;
+                        prefixed_or_refused::<K>(rt, kernel, row, &bytes)?;
                     }
                 }
                 body[place] = digit;
@@ -180,18 +153,17 @@ impl KernelTest for Places<'_> {
 /// If the prefix is empty, a letter x at the second place makes one. Any other byte that is tried is
 /// bad.
 fn prefixed_or_refused<K: Kernel>(
-    rt: &impl Abort,
-    alloc: Global,
+    rt: &impl Testing,
     kernel: KernelCase,
     (prefix, body, place): (&str, &[u8], usize),
     bytes: &[u8],
 ) -> Result<(), AllocError> {
     match body {
         [b'0', b'x' | b'X', rest @ ..] if prefix.is_empty() => {
-            let bytes = read(alloc, rest)?;
-            answers::<K>(rt, alloc, kernel, body, Ok(&bytes), &bytes)
+            let bytes = read(rt.alloc(), rest)?;
+            answers::<K>(rt, kernel, body, Ok(&bytes), &bytes)
         }
-        _ => refuses::<K>(rt, alloc, kernel, (prefix, body, place), bytes),
+        _ => refuses::<K>(rt, kernel, (prefix, body, place), bytes),
     }
 }
 
@@ -201,12 +173,7 @@ fn prefixed_or_refused<K: Kernel>(
 pub(crate) struct Letters;
 
 impl KernelTest for Letters {
-    fn run<K: Kernel>(
-        &self,
-        rt: &impl Abort,
-        alloc: Global,
-        kernel: KernelCase,
-    ) -> Result<(), Fail> {
+    fn run<K: Kernel>(&self, rt: &impl Testing, kernel: KernelCase) -> Result<(), AllocError> {
         let mut body = [b'a'; 64];
         for place in 0..64 {
             for byte in 0..=255u8 {
@@ -216,7 +183,7 @@ impl KernelTest for Letters {
             }
             for byte in [0x10, 0x2F, 0x3A, 0x40, 0x47, 0x60, 0x67, 0xC1, 0xE1] {
                 body[place] = byte;
-                refuses::<K>(rt, alloc, kernel, ("", &body, place), &[0xAA; 32])?;
+                refuses::<K>(rt, kernel, ("", &body, place), &[0xAA; 32])?;
                 same!(rt, "check_raw", (byte, place); check_raw(&body), false);
             }
             body[place] = b'a';

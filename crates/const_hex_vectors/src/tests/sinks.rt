@@ -2,16 +2,13 @@
 
 ghost use Rattle.std.specs.Prelude.{◌<◌};
 
-use crate::kernels::KernelTest;
-use crate::texts::{bytes, printed};
+use crate::tests::kernels::KernelTest;
+use crate::tests::texts::{bytes, printed};
 use const_hex::{
     BufferedHex, BufferedOutput, Kernel, Output, PieceSink, Sink, SinkOutput, SliceOutput,
 };
-use hex_testing::{KernelCase, same, same_bytes};
-use std::alloc::Global;
-use std::fmt::Debug;
-use std::process::Abort;
-use std::test::Fail;
+use hex_testing::{KernelCase, Testing, same, same_bytes};
+use std::alloc::AllocError;
 
 type ToSink<'a, const N: usize> = BufferedOutput<SinkOutput<'a, PieceSink>, N>;
 
@@ -19,7 +16,7 @@ type ToSlice<'a, const N: usize> = BufferedOutput<SliceOutput<'a>, N>;
 
 // The pieces have 8 MB, and no call is refused.
 #[test]
-fn pieces_of_each_size(rt: HostRuntime) -> Result<(), Fail> {
+fn pieces_of_each_size(rt: HostRuntime) -> Result<(), AllocError> {
     let alloc = rt.alloc();
     let text = printed(alloc, &bytes(alloc, 2048)?, false, false)?;
     let mut sink = PieceSink::new(alloc, 0);
@@ -33,7 +30,7 @@ fn pieces_of_each_size(rt: HostRuntime) -> Result<(), Fail> {
     same!(&rt; sink.pieces().len(), 4096);
     for (place, piece) in sink.pieces().iter().enumerate() {
         let want = text.get(..place + 1).unwrap_or("");
-        same_bytes!(&rt, "write_str", place; piece.as_bytes(), want.as_bytes());
+        same_bytes!(&rt, "write_str", place; piece, want);
     }
     Ok(())
 }
@@ -47,25 +44,17 @@ struct Stream<'a> {
 
 impl KernelTest for Stream<'_> {
     /// The pieces are the text, and each but the last has 4033 to 4096 bytes.
-    fn run<K: Kernel>(
-        &self,
-        rt: &impl Abort,
-        alloc: Global,
-        kernel: KernelCase,
-    ) -> Result<(), Fail> {
-        let mut sink = PieceSink::new(alloc, 0);
+    fn run<K: Kernel>(&self, rt: &impl Testing, kernel: KernelCase) -> Result<(), AllocError> {
+        let mut sink = PieceSink::new(rt.alloc(), 0);
         let answer = BufferedHex::<false, true>::new(self.data).write_with::<K, _>(&mut sink);
         same!(rt, "write_with", kernel; answer, Ok(()));
         let mut rest = self.text;
         for piece in sink.pieces() {
             let least = rest.len().min(4033);
-            assert!(rt;
-                least <= piece.len() && piece.len() <= 4096,
-                "{kernel:?}: {}",
-                piece.len()
-            );
+            let is_call_piece = (least..=4096).contains(&piece.len());
+            same!(rt, "the size of a piece", (kernel, piece.len()); is_call_piece, true);
             let (front, after) = rest.split_at_checked(piece.len()).unwrap_or((rest, ""));
-            same_bytes!(rt, "write_with", kernel; piece.as_bytes(), front.as_bytes());
+            same_bytes!(rt, "write_with", kernel; piece, front);
             rest = after;
         }
         same!(rt, "what write_with left out", kernel; rest.len(), 0);
@@ -74,10 +63,10 @@ impl KernelTest for Stream<'_> {
 }
 
 #[test]
-fn long_streams(rt: HostRuntime) -> Result<(), Fail> {
+fn long_streams(rt: HostRuntime) -> Result<(), AllocError> {
     let data = &bytes(rt.alloc(), 100_000)?;
     let text = &printed(rt.alloc(), data, true, false)?;
-    Stream { data, text }.with_each_kernel(&rt, rt.alloc())
+    Stream { data, text }.with_each_kernel(&rt)
 }
 
 // An output that gathers four bytes hands on a piece of four at once, after what it has gathered. A
@@ -92,11 +81,11 @@ fn pieces_of_just_the_size(rt: HostRuntime) {
             put(&rt, &mut output, piece.as_bytes());
         }
     }
-    has_pieces(&rt, &4, &sink, &["cdef", "ab", "cdef"]);
+    has_pieces(&rt, 4, &sink, &["cdef", "ab", "cdef"]);
 }
 
 /// A sink has accepted these pieces.
-pub(crate) fn has_pieces<R: Debug>(rt: &impl Abort, row: &R, sink: &PieceSink, want: &[&str]) {
+pub(crate) fn has_pieces(rt: &impl Testing, row: usize, sink: &PieceSink, want: &[&str]) {
     same!(rt, "pieces", row; sink.pieces().len(), want.len());
     for (piece, want) in sink.pieces().iter().zip(want) {
         same!(rt, "pieces", row; piece.as_str(), *want);
@@ -104,7 +93,7 @@ pub(crate) fn has_pieces<R: Debug>(rt: &impl Abort, row: &R, sink: &PieceSink, w
 }
 
 /// Writes a piece for which the output says that there is room.
-fn put<O: Output>(rt: &impl Abort, output: &mut O, bytes: &[u8]) {
+fn put<O: Output>(rt: &impl Testing, output: &mut O, bytes: &[u8]) {
     let room = output.remaining().unwrap_or(usize::MAX);
     assert!(rt; bytes.len() <= room);
     assert!(rt; bytes.is_ascii());
@@ -115,7 +104,7 @@ fn put<O: Output>(rt: &impl Abort, output: &mut O, bytes: &[u8]) {
     }
 }
 
-fn put_all<O: Output>(rt: &impl Abort, output: &mut O) {
+fn put_all<O: Output>(rt: &impl Testing, output: &mut O) {
     for piece in ["a", "bc", "defghijk", "l", ""] {
         put(rt, output, piece.as_bytes());
     }
@@ -123,16 +112,16 @@ fn put_all<O: Output>(rt: &impl Abort, output: &mut O) {
 
 #[test]
 fn pieces_that_are_handed_on(rt: HostRuntime) {
-    hands_on::<1>(&rt, rt.alloc(), &["a", "bc", "defghijk", "l"]);
-    hands_on::<4>(&rt, rt.alloc(), &["abc", "defghijk", "l"]);
-    hands_on::<8>(&rt, rt.alloc(), &["abc", "defghijk", "l"]);
-    hands_on::<64>(&rt, rt.alloc(), &["abcdefghijkl"]);
+    hands_on::<1>(&rt, &["a", "bc", "defghijk", "l"]);
+    hands_on::<4>(&rt, &["abc", "defghijk", "l"]);
+    hands_on::<8>(&rt, &["abc", "defghijk", "l"]);
+    hands_on::<64>(&rt, &["abcdefghijkl"]);
 }
 
-fn hands_on<const N: usize>(rt: &impl Abort, alloc: Global, pieces: &[&str])
+fn hands_on<const N: usize>(rt: &impl Testing, pieces: &[&str])
     requires { (0 < N) × (N < 100) }
 {
-    let mut sink = PieceSink::new(alloc, 0);
+    let mut sink = PieceSink::new(rt.alloc(), 0);
     let mut output = ToSink::<N>::new(SinkOutput::new(&mut sink));
     put_all(rt, &mut output);
     assert!(rt; output.finish().finish().is_ok());
@@ -140,8 +129,8 @@ fn hands_on<const N: usize>(rt: &impl Abort, alloc: Global, pieces: &[&str])
     let mut output = ToSlice::<N>::new(SliceOutput::new(&mut text));
     put_all(rt, &mut output);
     let _ = output.finish();
-    has_pieces(rt, &N, &sink, pieces);
-    same_bytes!(rt, "write", N; &text, b"abcdefghijkl");
+    has_pieces(rt, N, &sink, pieces);
+    same_bytes!(rt, "write", N; text, "abcdefghijkl");
 }
 
 #[test]
@@ -175,7 +164,7 @@ fn pieces_of_each_two_sizes(rt: HostRuntime) {
 }
 
 /// Writes that many `a`, an empty piece, that many `b`, and one `c`, into 33 zero bytes.
-fn fills<const N: usize>(rt: &impl Abort, first: usize, second: usize)
+fn fills<const N: usize>(rt: &impl Testing, first: usize, second: usize)
     requires { (0 < N) × (N < 100) }
 {
     assert!(rt; first < 17 && second < 17);
@@ -190,5 +179,5 @@ fn fills<const N: usize>(rt: &impl Abort, first: usize, second: usize)
     put(rt, &mut output, [b'b'; 16].get(..second).unwrap_or(&[]));
     put(rt, &mut output, b"c");
     let _ = output.finish();
-    same_bytes!(rt, "write", (N, first, second); &text, &want);
+    same_bytes!(rt, "write", (N, first, second); text, want);
 }

@@ -2,15 +2,13 @@
 
 ghost use Rattle.std.specs.Prelude.{◌≡◌, false, None, refl};
 
-use crate::kernels::KernelTest;
-use crate::sinks::has_pieces;
-use crate::texts::{bytes, cut, printed};
+use crate::tests::kernels::KernelTest;
+use crate::tests::sinks::has_pieces;
+use crate::tests::texts::{bytes, cut, printed};
 use const_hex::serde::serialize_inner;
 use const_hex::{BufferedHex, Kernel, Output, PieceSink, Plain, Sink, SinkError, SinkOutput};
-use hex_testing::{KernelCase, same};
+use hex_testing::{KernelCase, Testing, same};
 use std::alloc::{AllocError, Global};
-use std::process::Abort;
-use std::test::Fail;
 
 /// Keeps the text of every call, also of a call that it refuses, and beside it the accepted pieces. It
 /// refuses the call of the given number, and any call whose text it cannot keep.
@@ -99,25 +97,21 @@ const ROWS: [Row; 17] = [
 ];
 
 #[test]
-fn calls_in_each_way(rt: HostRuntime) -> Result<(), Fail> {
+fn calls_in_each_way(rt: HostRuntime) -> Result<(), AllocError> {
     for (count, prefix, sizes) in ROWS {
         let data = &bytes(rt.alloc(), count)?;
         match prefix {
-            true => in_both_cases::<true>(&rt, rt.alloc(), data, sizes)?,
-            false => in_both_cases::<false>(&rt, rt.alloc(), data, sizes)?,
+            false => {
+                Stream::<false, false> { data, sizes }.in_each_way(&rt)?;
+                Stream::<true, false> { data, sizes }.in_each_way(&rt)?;
+            }
+            true => {
+                Stream::<false, true> { data, sizes }.in_each_way(&rt)?;
+                Stream::<true, true> { data, sizes }.in_each_way(&rt)?;
+            }
         }
     }
     Ok(())
-}
-
-fn in_both_cases<const PREFIX: bool>(
-    rt: &impl Abort,
-    alloc: Global,
-    data: &[u8],
-    sizes: [&'static [usize]; 3],
-) -> Result<(), Fail> {
-    Stream::<false, PREFIX> { data, sizes }.in_each_way(rt, alloc)?;
-    Stream::<true, PREFIX> { data, sizes }.in_each_way(rt, alloc)
 }
 
 /// Bytes, and the sizes of the calls that bring their text, as in a row.
@@ -137,27 +131,22 @@ enum Way {
 }
 
 impl<const UPPER: bool, const PREFIX: bool> KernelTest for Stream<'_, UPPER, PREFIX> {
-    fn run<K: Kernel>(
-        &self,
-        rt: &impl Abort,
-        alloc: Global,
-        kernel: KernelCase,
-    ) -> Result<(), Fail> {
-        self.calls::<K>(rt, alloc, Way::ByKernel(kernel))
+    fn run<K: Kernel>(&self, rt: &impl Testing, kernel: KernelCase) -> Result<(), AllocError> {
+        self.calls::<K>(rt, Way::ByKernel(kernel))
     }
 }
 
 impl<const UPPER: bool, const PREFIX: bool> Stream<'_, UPPER, PREFIX> {
-    fn in_each_way(&self, rt: &impl Abort, alloc: Global) -> Result<(), Fail> {
-        self.with_each_kernel(rt, alloc)?;
-        self.calls::<Plain>(rt, alloc, Way::ByFixedKernel)?;
-        self.calls::<Plain>(rt, alloc, Way::AsJson)
+    fn in_each_way(&self, rt: &impl Testing) -> Result<(), AllocError> {
+        self.with_each_kernel(rt)?;
+        self.calls::<Plain>(rt, Way::ByFixedKernel)?;
+        self.calls::<Plain>(rt, Way::AsJson)
     }
 
     /// Tries sinks that never refuse, that refuse each call in turn, and that would refuse the call
     /// after the last. Only `Way::ByKernel` uses K. The fixed kernel has 32 lanes. In a JSON text, an
     /// empty text has a call too.
-    fn calls<K: Kernel>(&self, rt: &impl Abort, alloc: Global, way: Way) -> Result<(), Fail> {
+    fn calls<K: Kernel>(&self, rt: &impl Testing, way: Way) -> Result<(), AllocError> {
         let [by_digits, by_lanes16, by_lanes32] = self.sizes;
         let sizes = match way {
             Way::ByKernel(kernel) if kernel.writes < 32 => by_digits,
@@ -165,13 +154,14 @@ impl<const UPPER: bool, const PREFIX: bool> Stream<'_, UPPER, PREFIX> {
             Way::AsJson if by_lanes32.is_empty() => &[0],
             _ => by_lanes32,
         };
-        let pieces = cut(alloc, &printed(alloc, self.data, PREFIX, UPPER)?, sizes)?;
+        let text = printed(rt.alloc(), self.data, PREFIX, UPPER)?;
+        let pieces = cut(rt.alloc(), &text, sizes)?;
         let row = (way, self.data.len(), sizes);
         same!(rt, "the row's sizes", row; pieces.len(), sizes.len());
         for refuse_at in 0..pieces.len() + 2 {
-            let calls = until(&pieces, refuse_at);
-            self.noted::<K>(rt, alloc, (way, self.data.len(), refuse_at), calls);
-            self.kept::<K>(rt, alloc, (way, self.data.len(), refuse_at), calls);
+            let (row, calls) = ((way, self.data.len(), refuse_at), until(&pieces, refuse_at));
+            self.noted::<K>(rt, row, calls);
+            self.kept::<K>(rt, row, calls);
         }
         Ok(())
     }
@@ -179,14 +169,13 @@ impl<const UPPER: bool, const PREFIX: bool> Stream<'_, UPPER, PREFIX> {
     /// A noting sink that refuses the call of that number has these calls and accepted pieces.
     fn noted<K: Kernel>(
         &self,
-        rt: &impl Abort,
-        alloc: Global,
+        rt: &impl Testing,
         row: (Way, usize, usize),
         (noted, accepted): (&[String], &[String]),
     ) {
         let (way, _, refuse_at) = row;
         let is_refused = accepted.len() < noted.len();
-        let mut sink = NotingSink::new(alloc, refuse_at);
+        let mut sink = NotingSink::new(rt.alloc(), refuse_at);
         let answer = self.hand_over::<K, NotingSink>(way, &mut sink);
         same!(rt, "the noting sink's error", row; answer.is_err(), is_refused);
         same!(rt, "its refused", row; sink.refused(), is_refused);
@@ -197,14 +186,13 @@ impl<const UPPER: bool, const PREFIX: bool> Stream<'_, UPPER, PREFIX> {
     /// So does a `PieceSink`, which keeps only the accepted pieces.
     fn kept<K: Kernel>(
         &self,
-        rt: &impl Abort,
-        alloc: Global,
+        rt: &impl Testing,
         row: (Way, usize, usize),
         (noted, accepted): (&[String], &[String]),
     ) {
         let (way, _, refuse_at) = row;
         let is_refused = accepted.len() < noted.len();
-        let mut sink = PieceSink::new(alloc, refuse_at);
+        let mut sink = PieceSink::new(rt.alloc(), refuse_at);
         let answer = self.hand_over::<K, PieceSink>(way, &mut sink);
         same!(rt, "PieceSink's error", row; answer.is_err(), is_refused);
         same!(rt, "pieces", row; sink.pieces(), accepted);
@@ -238,12 +226,12 @@ fn two_texts_into_one_sink(rt: HostRuntime) -> Result<(), SinkError> {
     let mut sink = PieceSink::new(rt.alloc(), 0);
     BufferedHex::<false, true>::new(b"kiwi").write_to(&mut sink)?;
     BufferedHex::<true, false>::new(b"kiwi").write_to(&mut sink)?;
-    has_pieces(&rt, &"two texts", &sink, &["0x6b697769", "6B697769"]);
+    has_pieces(&rt, 2, &sink, &["0x6b697769", "6B697769"]);
     Ok(())
 }
 
 #[test]
-fn writes_after_an_error(rt: HostRuntime) -> Result<(), Fail> {
+fn writes_after_an_error(rt: HostRuntime) -> Result<(), AllocError> {
     let pieces = cut(rt.alloc(), "onetwo", &[3, 3])?;
     for refuse_at in 1..3usize {
         let mut sink = NotingSink::new(rt.alloc(), refuse_at);

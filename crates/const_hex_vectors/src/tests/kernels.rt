@@ -1,0 +1,136 @@
+//! Every kernel: what is tried with each, and how they read a text.
+
+mod suite;
+
+use crate::tests::decoding::{Read, checked};
+use crate::tests::texts::{bad, behind, with_g};
+use const_hex::{Kernel, PieceSink, SinkOutput, check_with, decode_to_slice_with, decode_with};
+use hex_testing::{KernelCase, Testing, Text, by_each_kernel, same, same_bytes, same_read};
+use std::alloc::AllocError;
+
+/// A figure for each kernel.
+type Figures = [usize; 4];
+
+/// What is tried with each kernel, by itself and behind `CheckFirst`.
+pub(crate) trait KernelTest {
+    fn run<K: Kernel>(&self, rt: &impl Testing, kernel: KernelCase) -> Result<(), AllocError>;
+
+    final fn with_each_kernel(&self, rt: &impl Testing) -> Result<(), AllocError> {
+        for done in by_each_kernel!(self.run(rt)) {
+            done?;
+        }
+        Ok(())
+    }
+}
+
+/// Each call that reads a text by a kernel answers this, and an output of bytes 0xEE then holds `left`.
+pub(crate) fn answers<K: Kernel>(
+    rt: &impl Testing,
+    kernel: KernelCase,
+    text: &[u8],
+    want: Read<'_>,
+    left: &[u8],
+) -> Result<(), AllocError> {
+    let row = (kernel, Text(text), want.err());
+    same!(rt, "check_with", row; check_with::<K>(text), checked(want));
+    let mut output = vec![in rt.alloc(); 0xEEu8; left.len()]?;
+    let filled = decode_to_slice_with::<K>(text, &mut output);
+    same!(rt, "decode_to_slice_with", row; filled, checked(want));
+    same_bytes!(rt, "what decode_to_slice_with leaves", row; output, left);
+    same_read!(rt, "decode_with", row; decode_with::<K>(rt.alloc(), text), want);
+    Ok(())
+}
+
+/// Each of these calls refuses a body behind a prefix, for its byte at that place. Before that place
+/// the body spells the first of these bytes.
+pub(crate) fn refuses<K: Kernel>(
+    rt: &impl Testing,
+    kernel: KernelCase,
+    (prefix, body, place): (&str, &[u8], usize),
+    bytes: &[u8],
+) -> Result<(), AllocError> {
+    let byte = body.get(place).copied().unwrap_or(0);
+    let error = bad(byte, prefix.len().saturating_add(place));
+    let mut left = bytes.to_vec(rt.alloc())?;
+    let decoded = kernel.decoded(body.len(), place);
+    if decoded <= left.len() {
+        left[decoded..].fill(0xEE);
+    }
+    let text = behind(rt.alloc(), prefix, body)?;
+    answers::<K>(rt, kernel, &text, Err(error), &left)
+}
+
+#[test]
+fn each_length(rt: HostRuntime) -> Result<(), AllocError> {
+    suite::Lengths.with_each_kernel(&rt)
+}
+
+#[test]
+fn each_place(rt: HostRuntime) -> Result<(), AllocError> {
+    suite::Places(&[0x10, b'G', b'g', 0xC1]).with_each_kernel(&rt)
+}
+
+#[test]
+fn each_place_of_an_x(rt: HostRuntime) -> Result<(), AllocError> {
+    suite::Places(b"xX").with_each_kernel(&rt)
+}
+
+#[test]
+fn each_byte(rt: HostRuntime) -> Result<(), AllocError> {
+    suite::Letters.with_each_kernel(&rt)
+}
+
+/// A prefix and that many letters `a`, with `g` at a place, and how many bytes each kernel decodes.
+#[derive(Drop)]
+struct Front(&'static str, usize, usize, Figures);
+
+impl KernelTest for Front {
+    fn run<K: Kernel>(&self, rt: &impl Testing, kernel: KernelCase) -> Result<(), AllocError> {
+        let Front(prefix, length, place, counts) = self;
+        let count = match kernel.name.starts_with("CheckFirst") {
+            true => Some(0),
+            false => counts.get(kernel.number).copied(),
+        };
+        let body = with_g(rt.alloc(), &vec![in rt.alloc(); b'a'; *length]?, *place)?;
+        let bytes = vec![in rt.alloc(); 0xAAu8; *length / 2]?;
+        let decoded = kernel.decoded(*length, *place);
+        same!(rt, "the figure", (kernel, Text(&body)); Some(decoded), count);
+        refuses::<K>(rt, kernel, (prefix, &body, *place), &bytes)
+    }
+}
+
+#[test]
+fn worked_fronts(rt: HostRuntime) -> Result<(), AllocError> {
+    let rows = [
+        Front("", 64, 31, [15, 0, 0, 0]),
+        Front("", 64, 32, [16, 16, 0, 0]),
+        Front("0x", 64, 33, [16, 16, 0, 0]),
+        Front("", 100, 98, [49, 49, 49, 0]),
+        Front("", 96, 63, [31, 16, 0, 0]),
+        Front("", 96, 70, [35, 32, 32, 0]),
+    ];
+    for row in &rows {
+        row.with_each_kernel(&rt)?;
+    }
+    Ok(())
+}
+
+/// How many pieces each kernel makes of the text of 49 bytes.
+#[derive(Drop)]
+struct Pieces(Figures);
+
+impl KernelTest for Pieces {
+    fn run<K: Kernel>(&self, rt: &impl Testing, kernel: KernelCase) -> Result<(), AllocError> {
+        let mut sink = PieceSink::new(rt.alloc(), 0);
+        K::encode(&[0xAB; 49], false, &mut SinkOutput::new(&mut sink));
+        let figure = self.0.get(kernel.number).copied();
+        same!(rt, "pieces", kernel; Some(sink.pieces().len()), figure);
+        same!(rt, "the figure", kernel; Some(kernel.pieces(rt.alloc(), 98)?.len()), figure);
+        Ok(())
+    }
+}
+
+#[test]
+fn worked_pieces(rt: HostRuntime) -> Result<(), AllocError> {
+    Pieces([98, 4, 2, 49]).with_each_kernel(&rt)
+}

@@ -1,0 +1,143 @@
+//! Long texts, with ample memory: each call that allocates, and a bad byte late in a text.
+
+use crate::tests::decoding::each_call_answers;
+use crate::tests::encoding::Written;
+use crate::tests::kernels::{KernelTest, answers, refuses};
+use crate::tests::texts::{bad, behind, bytes, printed, with_g};
+use const_hex::{Buffer, Kernel, ToHex, ToHexExt, const_encode, decode_to_slice, encode_with};
+use hex_testing::{KernelCase, Testing, Text, same, same_bytes, same_read};
+use std::alloc::{AllocError, Global};
+
+/// Counts of blocks of 256 bytes: for 768 bytes, 1 MiB and 3 MiB.
+const SHORT: usize = 3;
+
+const LONG: usize = 4096;
+
+const LONGEST: usize = 12_288;
+
+/// That many times the 256 bytes.
+fn long_text(alloc: Global, blocks: usize) -> Result<Written, AllocError> {
+    let block = bytes(alloc, 256)?;
+    let lower = printed(alloc, &block, false, false)?.repeat(alloc, blocks)?;
+    let upper = printed(alloc, &block, false, true)?.repeat(alloc, blocks)?;
+    Written::new(alloc, (&block.repeat(alloc, blocks)?, &lower, &upper))
+}
+
+#[test]
+fn owned_texts(rt: HostRuntime) -> Result<(), AllocError> {
+    for blocks in [SHORT, LONG, LONGEST] {
+        long_text(rt.alloc(), blocks)?.each_call_writes(&rt);
+    }
+    Ok(())
+}
+
+#[test]
+fn owned_bytes(rt: HostRuntime) -> Result<(), AllocError> {
+    for blocks in [SHORT, LONG, LONGEST] {
+        let Written { bytes, texts } = long_text(rt.alloc(), blocks)?;
+        let [lower, _, _, prefixed_upper] = texts;
+        for text in [lower, prefixed_upper] {
+            each_call_answers(&rt, text.as_bytes(), Ok(&bytes))?;
+        }
+    }
+    Ok(())
+}
+
+#[test]
+fn late_bad_bytes(rt: HostRuntime) -> Result<(), AllocError> {
+    late_bad_bytes_of(&rt, SHORT)?;
+    late_bad_bytes_of(&rt, LONG)
+}
+
+#[test]
+fn late_bad_bytes_of_the_longest(rt: HostRuntime) -> Result<(), AllocError> {
+    late_bad_bytes_of(&rt, LONGEST)
+}
+
+/// Each decoder names a bad byte in the middle and at the end of a body, with a prefix and without.
+fn late_bad_bytes_of(rt: &impl Testing, blocks: usize) -> Result<(), AllocError> {
+    let written = long_text(rt.alloc(), blocks)?;
+    let lower = written.texts[0].as_bytes();
+    for place in [lower.len() / 2, lower.len().saturating_sub(1)] {
+        let body = with_g(rt.alloc(), lower, place)?;
+        late_bad_byte(rt, "", &body, place)?;
+        late_bad_byte(rt, "0X", &body, place)?;
+    }
+    Ok(())
+}
+
+fn late_bad_byte(
+    rt: &impl Testing,
+    prefix: &str,
+    body: &[u8],
+    place: usize,
+) -> Result<(), AllocError> {
+    let text = behind(rt.alloc(), prefix, body)?;
+    let error = bad(b'g', prefix.len().saturating_add(place));
+    let mut output = vec![in rt.alloc(); 0u8; body.len() / 2]?;
+    let answer = decode_to_slice(&text, &mut output);
+    same!(rt, "decode_to_slice", Text(&text); answer, Err(error));
+    each_call_answers(rt, &text, Err(error))
+}
+
+#[test]
+fn kernels(rt: HostRuntime) -> Result<(), AllocError> {
+    long_text(rt.alloc(), SHORT)?.with_each_kernel(&rt)?;
+    long_text(rt.alloc(), LONG)?.with_each_kernel(&rt)
+}
+
+#[test]
+fn kernels_on_the_longest(rt: HostRuntime) -> Result<(), AllocError> {
+    long_text(rt.alloc(), LONGEST)?.with_each_kernel(&rt)
+}
+
+impl KernelTest for Written {
+    /// Writes the text in both cases, and reads it, also with a bad byte at the end.
+    fn run<K: Kernel>(&self, rt: &impl Testing, kernel: KernelCase) -> Result<(), AllocError> {
+        let (bytes, row) = (self.bytes.as_slice(), (kernel, Text(&self.bytes)));
+        let [lower, upper, _, prefixed_upper] = &self.texts;
+        let encoded = encode_with::<K, false>(rt.alloc(), bytes);
+        same_read!(rt, "encode_with", row; encoded, Ok(lower.as_bytes()));
+        let encoded = encode_with::<K, true>(rt.alloc(), bytes);
+        same_read!(rt, "encode_with, upper", row; encoded, Ok(upper.as_bytes()));
+        for text in [lower, prefixed_upper] {
+            answers::<K>(rt, kernel, text.as_bytes(), Ok(bytes), bytes)?;
+        }
+        let place = lower.len().saturating_sub(1);
+        let body = with_g(rt.alloc(), lower.as_bytes(), place)?;
+        refuses::<K>(rt, kernel, ("0x", &body, place), bytes)
+    }
+}
+
+// Arrays stand on the stack, so they are shorter.
+#[test]
+fn large_arrays(rt: HostRuntime) -> Result<(), AllocError> {
+    let (bytes, alloc) = ([0xAB; 50_000], rt.alloc());
+    let lower = "ab".repeat(alloc, 50_000)?;
+    let prefixed = ["0x", &lower].concat(alloc)?;
+    let digits_of_lower = "6162".repeat(alloc, 50_000)?;
+    let full = const_encode::<50_000, true, 100_002>(&bytes);
+    let mut buffer = Buffer::<50_000, false, 100_000>::new();
+    same_bytes!(&rt, "format", (); buffer.format(&bytes), &lower);
+    let rows = [
+        ("to_string, 0x", full.to_string(alloc), &prefixed),
+        ("to_string", buffer.to_string(alloc), &lower),
+        ("encode_hex", ToHex::encode_hex(&bytes, alloc), &lower),
+        (
+            "encode_hex_with_prefix",
+            bytes.encode_hex_with_prefix(alloc),
+            &prefixed,
+        ),
+        (
+            "encode_hex of a string",
+            ToHex::encode_hex(&lower, alloc),
+            &digits_of_lower,
+        ),
+    ];
+    for (call, text, want) in rows {
+        same_read!(&rt, call, (); text, Ok(want.as_bytes()));
+    }
+    same_read!(&rt, "to_vec", "0x"; full.to_vec(alloc), Ok(prefixed.as_bytes()));
+    same_read!(&rt, "to_vec", (); buffer.to_vec(alloc), Ok(lower.as_bytes()));
+    Ok(())
+}
