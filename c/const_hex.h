@@ -41,8 +41,8 @@
  * If a text is valid, and for all bytes that are encoded, the instructions that a call runs depend
  * only on the call, the lengths, the prefix, and upper. No address that it reads or writes depends
  * on a byte or a digit. This is tested for both builds on x86-64, and not proved. It is not said of
- * const_hex_check_raw of one digit alone, nor of a text that is refused: the refusal names the place
- * of the bad character, and the time shows it too. How long an instruction takes is up to the
+ * a text that is refused: the refusal names the place of the bad character, and the time shows it
+ * too. How long an instruction takes is up to the
  * processor. No memory is wiped. libsodium has sodium_bin2hex and sodium_hex2bin, made for keys.
  *
  * EXAMPLES

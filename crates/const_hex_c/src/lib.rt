@@ -14,10 +14,13 @@ ghost use Rattle.const_hex.specs.Answers.{Reads, ReadsSized, ReadsWithin, Leaves
 ghost use Rattle.const_hex.specs.Bodies.{body_of};
 ghost use Rattle.const_hex_c.specs.Crossing.{StandsFor, Says, IsUnknown};
 
+mod kernel;
 mod refusal;
 mod words;
 
+use crate::kernel::FixedKernel;
 use crate::refusal::Refusal;
+use const_hex::Kernel;
 
 /// The length of the text of so many bytes: two digits for each byte, and two bytes more for a
 /// prefix. If that does not fit, the answer is the greatest number, and no text has that length.
@@ -47,7 +50,7 @@ pub extern "C" fn const_hex_encode(bytes: &[u8], prefix: bool, upper: bool, text
     ensures text { IsTrue result → text.new ≡ full_text prefix upper bytes.now }
     ensures unchanged { result ≡ false → text.new ≡ text.old }
 {
-    const_hex::encode_full_to_slice(bytes, prefix, upper, text).is_ok()
+    const_hex::encode_full_to_slice_with::<FixedKernel>(bytes, prefix, upper, text).is_ok()
 }
 
 /// Fills the bytes with what the text spells, with or without a prefix, in either case.
@@ -72,7 +75,7 @@ pub extern "C" fn const_hex_decode(text: &[u8], bytes: &mut [u8], refusal: &mut 
     ensures after_error { result ≡ false
         → StandsFor refusal.new (λ e. Leaves text.now bytes.old bytes.new e) }
 {
-    match const_hex::decode_to_slice(text, bytes) {
+    match const_hex::decode_to_slice_with::<FixedKernel>(text, bytes) {
         Ok(()) => true,
         Err(error) => {
             *refusal = Refusal::from(error);
@@ -113,7 +116,7 @@ pub extern "C" fn const_hex_decode_front(
         → StandsFor refusal.new (λ e. Leaves text.now bytes.old bytes.new e) }
     ensures uncounted { result ≡ false → count.new ≡ count.old }
 {
-    match const_hex::decode_to_front(text, bytes) {
+    match const_hex::decode_to_front_with::<FixedKernel>(text, bytes) {
         Ok(decoded) => {
             *count = decoded;
             true
@@ -140,7 +143,7 @@ pub extern "C" fn const_hex_check(text: &[u8], refusal: &mut Refusal) -> bool
     ensures kept { IsTrue result → refusal.new ≡ refusal.old }
     ensures err { result ≡ false → StandsFor refusal.new (λ e. Reads text.now (Err e)) }
 {
-    match const_hex::check(text) {
+    match const_hex::check_with::<FixedKernel>(text) {
         Ok(()) => true,
         Err(error) => {
             *refusal = Refusal::from(error);
@@ -159,7 +162,7 @@ pub extern "C" fn const_hex_check(text: &[u8], refusal: &mut Refusal) -> bool
 pub extern "C" fn const_hex_check_raw(text: &[u8]) -> bool
     ensures { IsTrue result ↔ AllDigits text.now }
 {
-    const_hex::check_raw(text)
+    FixedKernel::check(text)
 }
 
 /// Puts the message of a refusal and a NUL into the buffer, and returns how many bytes stand before
