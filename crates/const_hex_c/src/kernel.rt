@@ -1,4 +1,4 @@
-//! The kernel of all calls.
+//! The kernel of the calls. `c/build` names another for WebAssembly.
 
-// `c/build --target wasm64` puts `Arithmetic16` here.
-pub(crate) use const_hex::FixedKernel;
+/// The kernel that each call uses.
+pub(crate) type CallsKernel = const_hex::FixedKernel;
