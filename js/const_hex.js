@@ -10,10 +10,6 @@ import { MODULE } from './module.js';
 const MOST_MEMORY = 2 ** 30;
 const PAGE = 65536;
 
-// Without Node's Buffer, texts of at most so many characters are copied by a loop, four characters at a
-// time. TextDecoder and encodeInto take longer for these.
-const SHORT_TEXT = 160;
-
 const KINDS = [undefined, 'OddLength', 'InvalidStringLength', 'InvalidHexCharacter'];
 const WORDS_LENGTH = 64;
 // The module's stack ends here. `c/build` asks for it.
@@ -25,6 +21,10 @@ const decoder = new TextDecoder();
 // In Node these two calls of a Buffer are the fastest. They are not documented, so they may be missing.
 const { latin1Slice, utf8Write } = globalThis.process?.versions?.node ? globalThis.Buffer?.prototype ?? {} : {};
 const hasBuffer = typeof latin1Slice === 'function' && typeof utf8Write === 'function';
+
+// Texts of at most so many characters are copied by these calls, or elsewhere by loops, four characters at
+// a time. TextDecoder and encodeInto take longer for such texts.
+const SHORT_TEXT = hasBuffer ? 2 ** 14 : 160;
 
 // What an array says of itself by these cannot be changed by a property of its own or of a subclass.
 const { prototype: TYPED_ARRAY } = Object.getPrototypeOf(Uint8Array);
