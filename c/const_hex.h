@@ -68,10 +68,9 @@
  *
  * BUILDING
  *
- * The first command uses the archive of c/build, the second what c/install has installed:
- *
- *     cc -std=c99 -Ic program.c c/out/libconst_hex.a -o program
  *     cc -std=c99 program.c $(pkg-config --cflags --libs const_hex) -o program
+ *
+ * In CMake, find_package(const_hex) finds the library, and const_hex::const_hex is its target.
  */
 #ifndef CONST_HEX_H
 #define CONST_HEX_H
