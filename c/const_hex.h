@@ -31,8 +31,10 @@
  * On x86-64 the library needs a processor with x86-64-v2 (SSE4.2 and what came with it, since about
  * 2009). On an older one a call may stop the program with an illegal instruction.
  *
- * The archive with two builds picks one by an indirect function (ifunc). musl has none, and programs
- * that are built with -mcmodel=large cannot link it. Both need the archive of c/build --single.
+ * On x86-64 the library is tested with glibc and with musl.
+ *
+ * The objects have no unwind tables. A debugger or a profiler that stops inside a call may not find the
+ * caller.
  *
  * The objects have no marks for IBT and SHSTK. A program that is linked with them runs without both.
  *
@@ -66,10 +68,9 @@
  *
  * BUILDING
  *
- * The first command uses the archive of c/build, the second what c/install has installed:
- *
- *     cc -std=c99 -Ic program.c c/out/libconst_hex.a -o program
  *     cc -std=c99 program.c $(pkg-config --cflags --libs const_hex) -o program
+ *
+ * In CMake, find_package(const_hex) finds the library, and const_hex::const_hex is its target.
  */
 #ifndef CONST_HEX_H
 #define CONST_HEX_H

@@ -26,7 +26,7 @@ has_instruction() {
 }
 
 test_code() {
-    (cd "$room" && ar x both/libconst_hex.a const_hex_default.o const_hex_v3.o)
+    (cd "$room" && ar x both/libconst_hex.a const_hex_default.o const_hex_v3.o dispatch.o)
     does "the build for x86-64-v3 has its lanes" wide
     does "the default build goes without them" narrow
     does "the default build looks up in 16 lanes" has_instruction objdump "$room/const_hex_default.o" \
@@ -50,8 +50,7 @@ closes() {
 
 # Whether the code that picks a build names nothing outside the library.
 picks_alone() {
-    (cd "$room" && ar x both/libconst_hex.a dispatch.o) &&
-        nm -u "$room/dispatch.o" > "$room/undefined" && ! grep -v ' U const_hex_' "$room/undefined"
+    nm -u "$room/dispatch.o" > "$room/undefined" && ! grep -v ' U const_hex_' "$room/undefined"
 }
 
 test_symbols() {
@@ -108,6 +107,7 @@ test_examples() {
     done
     does "hash.py" writes 0 "$room/hash.stdout" python3 -E c/examples/hash.py "$shared" "$room/foobar"
     does "hash.py of another version" other_version
+    does "hash.py without an argument" misused c/examples/hash.py
     does "fingerprint to a full device" full "$room/fingerprint" "$room/foobar"
     does "mark to a full device" full "$room/mark" < c/examples/mark.stdin
     does "mark of many lines to a full device" full "$room/mark" < "$room/lines"
@@ -129,8 +129,7 @@ test_warnings() {
     done
 }
 
-# Ways of linking. A program that is bound at its start asks for each build before it begins; one
-# that is static and may lie anywhere does so without a loader.
+# Ways of linking.
 test_linking() {
     local with=("-L$room/both" -lconst_hex "-Wl,-rpath,$room/both")
     does "fingerprint.c, bound at once" compiled now c/examples/fingerprint.c "${with[@]}" -Wl,-z,now
@@ -139,17 +138,34 @@ test_linking() {
         -static-pie "$archive"
     does "fingerprint, static and anywhere" writes 0 "$room/foobar.stdout" "$room/anywhere" \
         "$room/foobar"
-    does "fingerprint.c with -mcmodel=large, the default build alone" compiled large \
-        c/examples/fingerprint.c -mcmodel=large "$single"
+    does "fingerprint.c with -mcmodel=large" compiled large c/examples/fingerprint.c \
+        -mcmodel=large "$archive"
     does "fingerprint with -mcmodel=large" writes 0 "$room/foobar.stdout" "$room/large" "$room/foobar"
     does "loaded.c" compiled loaded c/tests/loaded.c -ldl
     does "loaded again and again" "$room/loaded" "$shared"
-    does "between.c, the library" compiled libbetween.so c/tests/between.c -DLIBRARY -shared -fPIC
-    does "between.c, the program" compiled between c/tests/between.c -Wl,--no-as-needed "${with[@]}" \
-        "-L$room" -lbetween "-Wl,-rpath,$room"
-    does "a library that was not linked with it" writes 0 "$room/kiwi.stdout" "$room/between"
-    does "the same, bound at once" writes 0 "$room/kiwi.stdout" env LD_BIND_NOW=1 "$room/between" \
-        2> "$room/complaint"
+}
+
+# Compiles a program with musl, as `compiled` does with this system's libc.
+compiled_with_musl() {
+    local to=$1 from=$2
+    shift 2
+    musl-gcc -std=c99 "${warnings[@]}" "$from" "$@" -o "$room/$to"
+}
+
+# Both libraries in programs with another libc.
+test_musl() {
+    local name how
+    has 40 musl musl-gcc || return
+    does "check.c with musl" compiled_with_musl musl-check c/tests/check.c -static "$archive"
+    starts "check.c with musl" "$room/musl-check" 32
+    for how in "-static $archive" "$archive" "$shared -Wl,-rpath,$room/both"; do
+        for name in fingerprint mark; do
+            # Each row is one line of arguments.
+            # shellcheck disable=SC2086
+            does "$name.c with musl ($how)" compiled_with_musl "$name" "c/examples/$name.c" $how
+        done
+        examples_run "musl, $how"
+    done
 }
 
 # Whether a script shows its own usage, and its status is 2.
@@ -162,7 +178,6 @@ test_words_of_build() {
         # shellcheck disable=SC2086
         does "c/build $words" misused c/build $words
     done
-    does "c/build --help says what needs --single" grep -q 'mcmodel=large need --single' "$room/complaint"
     does "c/install --bogus" misused c/install --bogus
     does "c/install --prefix with no folder" misused c/install --prefix
     does "c/install --prefix with a folder of the caller's" misused c/install --prefix here

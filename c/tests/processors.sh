@@ -20,23 +20,15 @@ build_here() {
     echo v3
 }
 
-# Whether each call of the shared object stands for one build. $1 is the build's name, and the rest is
-# what runs a program. nm knows where each build lies.
-picks() {
-    local build=$1
-    shift
-    nm "$shared" | sed -n "s/ t \(.*\)_$build\$/ \1/p" | sort > "$room/builds"
-    [ "$(wc -l < "$room/builds")" -eq "${#calls[@]}" ] &&
-        "$@" "$room/loaded" "$shared" "${calls[@]}" 2> "$room/complaint" | sort |
-        diff "$room/builds" -
-}
-
 test_processors() {
     local row
-    does "each call picks the build for this processor" picks "$(build_here)"
+    # With the choice as the archive has it.
+    does "picks.c" compiled picks c/tests/picks.c "$room/dispatch.o"
+    starts "each call picks the build for this processor" "$room/picks" "$(build_here)"
     has $((${#emulated[@]} + 22)) "other processors" qemu-x86_64 || return
     for row in "${emulated[@]}"; do
-        does "${row% *} picks the build ${row#* }" picks "${row#* }" qemu-x86_64 -cpu "${row% *}"
+        does "${row% *} picks the build ${row#* }" qemu-x86_64 -cpu "${row% *}" "$room/picks" \
+            "${row#* }"
     done
     # An instruction that an older processor lacks ends the program.
     starts "check.c on an older processor" qemu-x86_64 -cpu Westmere "$room/check" 32

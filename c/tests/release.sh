@@ -41,7 +41,7 @@ has_sums() {
 # Whether the archive has these files with these modes.
 has_files() {
     (cd "$(unpacked x86_64)" && find . -printf '%m %y %P\n' | sort -k 3 | sed 's/ $//') | diff - <(
-        cat << 'LIST'
+        cat << LIST
 755 d
 644 f LICENSE-APACHE
 644 f LICENSE-MIT
@@ -52,6 +52,10 @@ has_files() {
 755 d include
 644 f include/const_hex.h
 755 d lib
+755 d lib/cmake
+755 d lib/cmake/const_hex
+644 f lib/cmake/const_hex/const_hexConfig.cmake
+644 f lib/cmake/const_hex/const_hexConfigVersion.cmake
 644 f lib/libconst_hex.a
 777 l lib/libconst_hex.so
 777 l lib/libconst_hex.so.1
@@ -62,6 +66,7 @@ has_files() {
 755 d share/man
 755 d share/man/man3
 644 f share/man/man3/const_hex.3
+$(printf '644 f share/man/man3/%s.3\n' "${calls[@]}")
 LIST
     )
 }
@@ -122,6 +127,8 @@ test_release() {
     does "hash.py by the archive" writes 0 "$room/hash.stdout" python3 -E c/examples/hash.py \
         "$(unpacked x86_64)/lib/libconst_hex.so" "$room/foobar"
     has 1 "the archive by pkg-config" pkg-config && does "the archive by pkg-config" by_its_package
+    has 1 "the archive by CMake" cmake &&
+        does "the archive by CMake" by_cmake "$(unpacked x86_64)" 1.0
     has 1 "the archive for ARM" qemu-aarch64 aarch64-linux-gnu-gcc &&
         does "a program by the archive for ARM" for_arm
     does "c/release without libraries in the folder" leaves_nothing "$room/un packed"
