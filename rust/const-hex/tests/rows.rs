@@ -119,7 +119,7 @@ fn collections_of_characters() {
         bytes.encode_hex::<Vec<char>>(),
         text.chars().collect::<Vec<char>>()
     );
-    assert_eq!(bytes.encode_hex::<Box<str>>(), text.clone().into());
+    assert_eq!(bytes.encode_hex::<Box<[char]>>(), text.chars().collect());
     assert_eq!(bytes.encode_hex::<std::borrow::Cow<'_, str>>(), text);
     assert_eq!(ToHex::encode_hex::<String>(&bytes), text);
     assert_eq!(
