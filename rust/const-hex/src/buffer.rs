@@ -113,7 +113,7 @@ impl<const N: usize, const PREFIX: bool> Buffer<N, PREFIX> {
     #[inline]
     #[track_caller]
     pub fn format_slice<T: AsRef<[u8]>>(&mut self, slice: T) -> &mut str {
-        self.write(slice.as_ref(), false)
+        self.write_all(slice.as_ref(), false)
     }
 
     /// Writes the text of `slice` in uppercase, and returns all of the text.
@@ -128,27 +128,38 @@ impl<const N: usize, const PREFIX: bool> Buffer<N, PREFIX> {
     #[inline]
     #[track_caller]
     pub fn format_slice_upper<T: AsRef<[u8]>>(&mut self, slice: T) -> &mut str {
-        self.write(slice.as_ref(), true)
+        self.write_all(slice.as_ref(), true)
     }
 
-    /// Writes the prefix, if any, and the digits of `bytes`.
+    /// Writes all of the text.
     #[inline]
     #[track_caller]
-    fn write(&mut self, bytes: &[u8], upper: bool) -> &mut str {
-        assert_eq!(
-            bytes.len(),
-            N,
-            "the slice does not have the buffer's number of bytes"
-        );
+    fn write_all(&mut self, bytes: &[u8], upper: bool) -> &mut str {
+        assert_eq!(bytes.len(), N, "the slice has another number of bytes");
+        self.write_front(bytes, upper);
+        self.as_mut_str()
+    }
+
+    /// Writes the prefix, and the digits of at most `N` bytes behind it. What follows is unchanged, and
+    /// has to be UTF-8 of its own.
+    #[inline]
+    fn write_front(&mut self, bytes: &[u8], upper: bool) {
         self.prefix = Self::WRITTEN;
         // SAFETY: only digits are written, which are ASCII.
-        let digits = unsafe { self.buffer() };
+        let digits = unsafe { &mut self.buffer()[..2 * bytes.len()] };
         let written = match upper {
             false => crate::encode_to_slice(bytes, digits),
             true => crate::encode_to_slice_upper(bytes, digits),
         };
         written.expect("there is room for two digits per byte");
-        self.as_mut_str()
+    }
+
+    /// Hands the text of at most `N` bytes to `user`, and returns what that returns.
+    #[inline]
+    pub(crate) fn with_text<R>(bytes: &[u8], upper: bool, user: impl FnOnce(&str) -> R) -> R {
+        let mut buffer = Self::new();
+        buffer.write_front(bytes, upper);
+        user(&buffer.as_str()[..Self::PREFIX_LEN + 2 * bytes.len()])
     }
 
     /// Returns a copy of the text. Allocates.

@@ -59,17 +59,19 @@ const fn body_start(text: &[u8]) -> usize {
     }
 }
 
-/// Returns an error for the first byte from `start` on that is not a digit.
-const fn digits_from(text: &[u8], start: usize) -> Result<(), FromHexError> {
+/// Returns the error of a byte that is not a digit.
+const fn bad(text: &[u8], index: usize) -> FromHexError {
+    let c = text[index] as char;
+    FromHexError::InvalidHexCharacter { c, index }
+}
+
+/// Returns where the first byte from `start` on is that is not a digit, or the length if all are digits.
+const fn digits_end(text: &[u8], start: usize) -> usize {
     let mut index = start;
-    while index < text.len() {
-        if HEX_DECODE_LUT[text[index] as usize] == NIL {
-            let c = text[index] as char;
-            return Err(FromHexError::InvalidHexCharacter { c, index });
-        }
+    while index < text.len() && HEX_DECODE_LUT[text[index] as usize] != NIL {
         index += 1;
     }
-    Ok(())
+    index
 }
 
 /// Returns the lowercase text of bytes in a [`Buffer`]. A constant can call it.
@@ -101,7 +103,11 @@ pub const fn const_check(input: &[u8]) -> Result<(), FromHexError> {
     if input.len() % 2 != 0 {
         return Err(FromHexError::OddLength);
     }
-    digits_from(input, body_start(input))
+    let end = digits_end(input, body_start(input));
+    if end < input.len() {
+        return Err(bad(input, end));
+    }
+    Ok(())
 }
 
 /// Returns what [`check_raw`](crate::check_raw) returns. A constant can call it; at run time
@@ -114,7 +120,7 @@ pub const fn const_check(input: &[u8]) -> Result<(), FromHexError> {
 #[inline]
 #[must_use]
 pub const fn const_check_raw(input: &[u8]) -> bool {
-    digits_from(input, 0).is_ok()
+    digits_end(input, 0) == input.len()
 }
 
 /// Returns what [`decode_to_array`](crate::decode_to_array) returns. A constant can call it; at run
@@ -141,14 +147,19 @@ pub const fn const_decode_to_array<const N: usize>(input: &[u8]) -> Result<[u8; 
     if (input.len() - start) / 2 != N {
         return Err(FromHexError::InvalidStringLength);
     }
-    if let Err(error) = digits_from(input, start) {
-        return Err(error);
-    }
     let mut bytes = [0; N];
     let mut place = 0;
     while place < N {
-        let (high, low) = (input[start + 2 * place], input[start + 2 * place + 1]);
-        bytes[place] = HEX_DECODE_LUT[high as usize] * 16 + HEX_DECODE_LUT[low as usize];
+        let first = start + 2 * place;
+        let high = HEX_DECODE_LUT[input[first] as usize];
+        let low = HEX_DECODE_LUT[input[first + 1] as usize];
+        if high == NIL {
+            return Err(bad(input, first));
+        }
+        if low == NIL {
+            return Err(bad(input, first + 1));
+        }
+        bytes[place] = 16 * high + low;
         place += 1;
     }
     Ok(bytes)

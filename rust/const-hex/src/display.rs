@@ -1,6 +1,6 @@
 //! Printing, which does not allocate.
 
-use crate::{encode_to_str, encode_to_str_upper};
+use crate::{encode_to_str, encode_to_str_upper, Buffer};
 use core::fmt;
 
 /// Returns a value that prints the digits of bytes.
@@ -51,9 +51,6 @@ impl<T: AsRef<[u8]>> fmt::UpperHex for Display<T> {
     }
 }
 
-/// How many bytes are printed at once.
-pub(crate) const PIECE: usize = 128;
-
 /// What prints the text of `bytes`.
 pub(crate) struct Text<'a> {
     pub bytes: &'a [u8],
@@ -66,8 +63,12 @@ impl fmt::Display for Text<'_> {
         if self.prefix {
             f.write_str("0x")?;
         }
-        let mut room = [0; 2 * PIECE];
-        for piece in self.bytes.chunks(PIECE) {
+        // One buffer for short texts, and a larger one for the pieces of longer ones.
+        if self.bytes.len() <= 32 {
+            return Buffer::<32>::with_text(self.bytes, self.upper, |digits| f.write_str(digits));
+        }
+        let mut room = [0; 512];
+        for piece in self.bytes.chunks(room.len() / 2) {
             let room = &mut room[..2 * piece.len()];
             let digits = match self.upper {
                 false => encode_to_str(piece, room),

@@ -22,9 +22,9 @@
 //! # Ok::<(), serde_json::Error>(())
 //! ```
 
-use crate::display::{Text, PIECE};
+use crate::display::Text;
+use crate::Buffer;
 use ::serde::Serializer;
-use core::str;
 
 pub use const_hex_proved::serde::deserialize;
 
@@ -71,21 +71,22 @@ where
 }
 
 /// Hands a text to a serializer: in one piece if it is short.
+#[inline]
 fn hand_over<S: Serializer>(text: Text<'_>, serializer: S) -> Result<S::Ok, S::Error> {
-    if text.bytes.len() > PIECE {
+    let Text {
+        bytes,
+        prefix,
+        upper,
+    } = text;
+    if bytes.len() > 128 {
         return serializer.collect_str(&text);
     }
-    let mut room = [0; 2 + 2 * PIECE];
-    room[..2].copy_from_slice(b"0x");
-    let digits = &mut room[2..][..2 * text.bytes.len()];
-    let written = match text.upper {
-        false => crate::encode_to_slice(text.bytes, digits),
-        true => crate::encode_to_slice_upper(text.bytes, digits),
-    };
-    written.expect("the room has two digits per byte");
-    let start = if text.prefix { 0 } else { 2 };
-    let all = &room[start..2 + 2 * text.bytes.len()];
-    serializer.serialize_str(str::from_utf8(all).expect("digits are ASCII"))
+    let hand = |text: &str| serializer.serialize_str(if prefix { text } else { &text[2..] });
+    // Most texts are those of addresses and hashes, which need not fill a large buffer with zeros.
+    match bytes.len() {
+        0..=32 => Buffer::<32, true>::with_text(bytes, upper, hand),
+        _ => Buffer::<128, true>::with_text(bytes, upper, hand),
+    }
 }
 
 /// Fields of text without a prefix, by `#[serde(with = "const_hex::serde::no_prefix")]`.

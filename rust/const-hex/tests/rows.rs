@@ -45,7 +45,7 @@ fn views_of_a_buffer() {
 }
 
 #[test]
-#[should_panic(expected = "number of bytes")]
+#[should_panic(expected = "another number of bytes")]
 fn a_slice_of_another_length() {
     Buffer::<4>::new().format_slice("kiw");
 }
