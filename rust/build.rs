@@ -1,7 +1,8 @@
 //! Finds `libconst_hex`, the library for C.
 //!
-//! The folder that `CONST_HEX_LIBRARIES` names has it, else pkg-config finds it, else `c/build` makes
-//! it. A folder is handed on to the build scripts of dependents, as `DEP_CONST_HEX_FOLDER`.
+//! The folder that `CONST_HEX_LIBRARIES` names has it; else it stands beside this package, as in the
+//! archive of a release; else pkg-config finds it; else `c/build` makes it. A folder is handed on to the
+//! build scripts of dependents, as `DEP_CONST_HEX_FOLDER`.
 
 use std::path::{Path, PathBuf};
 use std::process::{exit, Command, Stdio};
@@ -31,15 +32,16 @@ fn main() {
     println!("cargo:rerun-if-env-changed={FOLDER}");
     let found = match env::var_os(FOLDER) {
         Some(folder) => link(Path::new(&folder)),
-        None => packaged().or_else(|unpackaged| {
+        None => released().or_else(|_| packaged()).or_else(|unpackaged| {
             made().map_err(|unmade| format!("pkg-config: {unpackaged}\nc/build: {unmade}"))
         }),
     };
     if let Err(reason) = found {
         eprintln!("const-hex-proved does not find the library for C. It links the first of these:");
         eprintln!("1. the library in the folder that {FOLDER} names, if the variable is set;");
-        eprintln!("2. the one that pkg-config finds as const_hex, and that c/install installs;");
-        eprintln!("3. the one that c/build makes, if the command rt is on the path.");
+        eprintln!("2. the one in ../lib, as in the archive of a release;");
+        eprintln!("3. the one that pkg-config finds as const_hex, and that c/install installs;");
+        eprintln!("4. the one that c/build makes, if the command rt is on the path.");
         eprintln!("{reason}");
         exit(1);
     }
@@ -58,6 +60,15 @@ fn link(folder: &Path) -> Result<(), String> {
     println!("cargo:rustc-link-lib=static=const_hex");
     println!("cargo:folder={}", folder.display());
     Ok(())
+}
+
+/// Links the archive beside this package. For musl it is the one with one build, if there are two.
+fn released() -> Result<(), String> {
+    let alone = Path::new("../single");
+    match target("ENV") == "musl" && link(alone).is_ok() {
+        true => Ok(()),
+        false => link(Path::new("../lib")),
+    }
 }
 
 /// Ends the build if an archive needs ifunc, and the target has none.
