@@ -10,18 +10,21 @@
 //! ```
 //! use const_hex::FromHexError::{InvalidHexCharacter, InvalidStringLength, OddLength};
 //!
-//! assert_eq!(const_hex::encode("kiwi"), "6b697769");
-//! assert_eq!(const_hex::encode_upper_prefixed("kiwi"), "0x6B697769");
-//! assert_eq!(const_hex::decode("0x6B697769"), Ok(b"kiwi".to_vec()));
-//! assert_eq!(const_hex::decode("6b6"), Err(OddLength));
+//! let mut buffer = const_hex::Buffer::<4, true>::new();
+//! assert_eq!(buffer.format(b"kiwi"), "0x6b697769");
+//! assert_eq!(const_hex::decode_to_array("0x6B697769"), Ok(*b"kiwi"));
 //! assert_eq!(const_hex::decode_to_array::<_, 4>("0x6b"), Err(InvalidStringLength));
 //! assert_eq!(const_hex::check("0x6b!9"), Err(InvalidHexCharacter { c: '!', index: 4 }));
 //!
-//! let mut buffer = const_hex::Buffer::<4, true>::new();
-//! assert_eq!(buffer.format(b"kiwi"), "0x6b697769");
-//!
 //! const KIWI: const_hex::Buffer<4> = const_hex::const_encode(b"kiwi");
 //! assert_eq!(KIWI.as_str(), "6b697769");
+//! # #[cfg(feature = "alloc")]
+//! # {
+//!
+//! assert_eq!(const_hex::encode_upper_prefixed("kiwi"), "0x6B697769");
+//! assert_eq!(const_hex::decode("0x6B697769"), Ok(b"kiwi".to_vec()));
+//! assert_eq!(const_hex::decode("6b6"), Err(OddLength));
+//! # }
 //! ```
 #![no_std]
 #![deny(unsafe_code)]

@@ -12,10 +12,10 @@
 //!     #[serde(with = "const_hex")]
 //!     name: [u8; 4],
 //!     #[serde(with = "const_hex::serde::no_prefix")]
-//!     seeds: Vec<u8>,
+//!     seeds: [u8; 3],
 //! }
 //!
-//! let kiwi = Fruit { name: *b"kiwi", seeds: vec![1, 2, 255] };
+//! let kiwi = Fruit { name: *b"kiwi", seeds: [1, 2, 255] };
 //! let text = r#"{"name":"0x6b697769","seeds":"0102ff"}"#;
 //! assert_eq!(serde_json::to_string(&kiwi)?, text);
 //! assert_eq!(serde_json::from_str::<Fruit>(text)?.seeds, [1, 2, 255]);
