@@ -1,14 +1,18 @@
 //! Finds `libconst_hex`, the library for C.
 //!
-//! The folder that `CONST_HEX_LIBRARIES` names has it, else pkg-config finds it, else `c/build` makes
-//! it. A folder is handed on to the build scripts of dependents, as `DEP_CONST_HEX_FOLDER`.
+//! The folder that `CONST_HEX_LIBRARIES` names has it; else it stands beside this package, as in the
+//! archive of a release; else pkg-config finds it; else `c/build` makes it. A folder is handed on to the
+//! build scripts of dependents, as `DEP_CONST_HEX_FOLDER`.
 
-use std::env;
 use std::path::{Path, PathBuf};
 use std::process::{exit, Command, Stdio};
+use std::{env, fs};
 
 /// What names the folder that has the library.
 const FOLDER: &str = "CONST_HEX_LIBRARIES";
+
+/// What stands in an archive that picks one of two builds by ifunc.
+const IFUNC: &[u8] = b"pick_const_hex_";
 
 /// What the library is made from, as seen from the top of the repository.
 const SOURCES: [&str; 10] = [
@@ -28,15 +32,16 @@ fn main() {
     println!("cargo:rerun-if-env-changed={FOLDER}");
     let found = match env::var_os(FOLDER) {
         Some(folder) => link(Path::new(&folder)),
-        None => packaged().or_else(|unpackaged| {
+        None => released().or_else(|_| packaged()).or_else(|unpackaged| {
             made().map_err(|unmade| format!("pkg-config: {unpackaged}\nc/build: {unmade}"))
         }),
     };
     if let Err(reason) = found {
         eprintln!("const-hex-proved does not find the library for C. It links the first of these:");
         eprintln!("1. the library in the folder that {FOLDER} names, if the variable is set;");
-        eprintln!("2. the one that pkg-config finds as const_hex, and that c/install installs;");
-        eprintln!("3. the one that c/build makes, if the command rt is on the path.");
+        eprintln!("2. the one in ../lib, as in the archive of a release;");
+        eprintln!("3. the one that pkg-config finds as const_hex, and that c/install installs;");
+        eprintln!("4. the one that c/build makes, if the command rt is on the path.");
         eprintln!("{reason}");
         exit(1);
     }
@@ -49,6 +54,7 @@ fn link(folder: &Path) -> Result<(), String> {
     if !archive.exists() {
         return Err(format!("{} does not exist", archive.display()));
     }
+    refuse_ifunc(&archive);
     println!("cargo:rerun-if-changed={}", archive.display());
     println!("cargo:rustc-link-search=native={}", folder.display());
     println!("cargo:rustc-link-lib=static=const_hex");
@@ -56,15 +62,39 @@ fn link(folder: &Path) -> Result<(), String> {
     Ok(())
 }
 
+/// Links the archive beside this package. For musl it is the one with one build, if there are two.
+fn released() -> Result<(), String> {
+    let alone = Path::new("../single");
+    match target("ENV") == "musl" && link(alone).is_ok() {
+        true => Ok(()),
+        false => link(Path::new("../lib")),
+    }
+}
+
+/// Ends the build if an archive needs ifunc, and the target has none.
+fn refuse_ifunc(archive: &Path) {
+    let has_ifunc = |bytes: Vec<u8>| bytes.windows(IFUNC.len()).any(|window| window == IFUNC);
+    if target("ENV") == "musl" && fs::read(archive).map_or(false, has_ifunc) {
+        let archive = archive.display();
+        eprintln!("{archive} needs ifunc, which musl lacks: let {FOLDER} name a folder with one build, `single`.");
+        exit(1);
+    }
+}
+
+/// Returns what cargo says of the target.
+fn target(part: &str) -> String {
+    env::var(format!("CARGO_CFG_TARGET_{part}")).unwrap_or_default()
+}
+
 /// Links what pkg-config finds: the archive, unless the system has the library in its own folders.
 fn packaged() -> Result<(), String> {
     let mut sought = pkg_config::Config::new();
-    sought
-        .range_version("1.0".."2.0")
-        .statik(true)
-        .probe("const_hex")
-        .map(drop)
-        .map_err(|e| e.to_string())
+    sought.range_version("1.0".."2.0").statik(true);
+    let found = sought.probe("const_hex").map_err(|e| e.to_string())?;
+    for folder in found.link_paths {
+        refuse_ifunc(&folder.join("libconst_hex.a"));
+    }
+    Ok(())
 }
 
 /// Makes the library for the target, and links it.
@@ -73,7 +103,6 @@ fn made() -> Result<(), String> {
     for source in SOURCES {
         println!("cargo:rerun-if-changed={}", top.join(source).display());
     }
-    let target = |part| env::var(format!("CARGO_CFG_TARGET_{part}")).unwrap_or_default();
     let words: &[&str] = match (&*target("ARCH"), &*target("OS"), &*target("ENV")) {
         ("x86_64", "linux", "musl") => &["--single"],
         ("x86_64", "linux", _) => &[],

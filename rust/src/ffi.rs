@@ -62,6 +62,7 @@ extern "C" {
 
 impl Refusal {
     /// Returns the error that a call has filled in.
+    #[cold]
     fn error(self) -> FromHexError {
         match self.kind {
             ODD_LENGTH => FromHexError::OddLength,
@@ -76,6 +77,7 @@ impl Refusal {
     }
 
     /// Returns the error if the text was refused.
+    #[inline]
     fn unless(self, is_accepted: bool) -> Result<(), FromHexError> {
         if is_accepted {
             Ok(())
@@ -105,6 +107,7 @@ fn encoded_length(bytes: usize, prefix: bool) -> usize {
 
 /// Fills `text` with the digits of `bytes`, and returns it as `str`. Returns `None` if `text` has
 /// another length, and leaves it unchanged.
+#[inline]
 pub fn encode<'a>(bytes: &[u8], upper: bool, text: &'a mut [u8]) -> Option<&'a mut str> {
     let (from, to) = (bytes.as_ptr(), text.as_mut_ptr());
     // SAFETY: each pointer and its length come from one slice, and `text` is borrowed mutably.
@@ -132,6 +135,7 @@ pub fn encoded(bytes: &[u8], prefix: bool, upper: bool) -> alloc::string::String
 }
 
 /// Fills `bytes` with what `text` spells.
+#[inline]
 pub fn decode(text: &[u8], bytes: &mut [u8]) -> Result<(), FromHexError> {
     let mut refusal = Refusal::default();
     let (from, to) = (text.as_ptr(), bytes.as_mut_ptr());
@@ -161,6 +165,7 @@ pub fn decoded(text: &[u8]) -> Result<alloc::vec::Vec<u8>, FromHexError> {
 }
 
 /// Returns whether `text` can be decoded, and the error if not.
+#[inline]
 pub fn check(text: &[u8]) -> Result<(), FromHexError> {
     let mut refusal = Refusal::default();
     // SAFETY: the pointer and its length come from one slice, and `refusal` is borrowed mutably.
@@ -169,6 +174,7 @@ pub fn check(text: &[u8]) -> Result<(), FromHexError> {
 }
 
 /// Returns whether every byte of `text` is a digit.
+#[inline]
 pub fn check_raw(text: &[u8]) -> bool {
     // SAFETY: the pointer and its length come from one slice.
     unsafe { const_hex_check_raw(text.as_ptr(), text.len()) }
