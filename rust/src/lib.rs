@@ -18,12 +18,16 @@ extern crate alloc;
 #[cfg(feature = "std")]
 extern crate std;
 
+mod decoder;
 mod error;
 mod ffi;
 #[cfg(feature = "serde")]
 pub mod serde;
 mod traits;
 
+#[cfg(feature = "std")]
+pub use crate::decoder::DecodeReader;
+pub use crate::decoder::Decoder;
 pub use crate::error::FromHexError;
 #[cfg(feature = "serde")]
 pub use crate::serde::deserialize;
