@@ -45,6 +45,18 @@ export function check(text: Text): void;
 /** Whether `decode` accepts the text. A wrong type throws a `TypeError` as there. */
 export function isHex(text: Text): boolean;
 
+/** `encode` without options, by the name that `@noble/hashes` has for it. */
+export function bytesToHex(bytes: Bytes): string;
+
+/** `decode`, by the name that `@noble/hashes` has for it. That one refuses a prefix, this one accepts it. */
+export function hexToBytes(text: Text): Uint8Array;
+
+/**
+ * Clears what earlier calls left in the memory of the module. Strings, and arrays outside of it, stay as
+ * they are.
+ */
+export function wipe(): void;
+
 /** The error of a text that cannot be decoded. */
 export class HexError extends SyntaxError {
     readonly kind: 'OddLength' | 'InvalidStringLength' | 'InvalidHexCharacter';

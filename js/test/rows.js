@@ -1,5 +1,5 @@
 // Tests that run in Node and in a browser. Each row is a name and a function that throws if it fails.
-import { check, decode, decodeInto, encode, HexError, isHex, version } from '../const_hex.js';
+import { bytesToHex, check, decode, decodeInto, encode, HexError, hexToBytes, isHex, version, wipe } from '../const_hex.js';
 
 export const rows = [];
 
@@ -321,6 +321,53 @@ row('a mebibyte', () => {
 });
 
 row('more than a string can have', () => {
-    same(thrown(() => encode(new ArrayBuffer(2 ** 28))).name, 'RangeError');
+    // In Chromium and Node. A string of Firefox or WebKit can have more than the memory.
+    let length = 2 ** 29;
+    try {
+        ({ length } = encode(new ArrayBuffer(2 ** 28)));
+    } catch (error) {
+        same(error.name, 'RangeError');
+    }
+    same(length, 2 ** 29);
     same(encode(KIWI), '6b697769');
+});
+
+row('arrays that lie', () => {
+    const secret = new Uint8Array(20).fill(0xc9);
+    const lies = { length: 20, byteLength: 20, byteOffset: 0, buffer: secret.buffer, [Symbol.toStringTag]: 'Uint8Array', set: () => {} };
+    const lying = (view) => Object.defineProperties(view, Object.getOwnPropertyDescriptors(lies));
+    class Liar extends Uint8Array {
+        get length() { return 20; }
+        set() {}
+    }
+    const views = () => [Uint8Array.of(1, 2), new Uint8ClampedArray([1, 2]), new Uint16Array([513]), new DataView(Uint8Array.of(1, 2).buffer)];
+    encode(secret);
+    for (const view of [...views().map(lying), Liar.of(1, 2), lying(Liar.of(1, 2)), Object.setPrototypeOf(new Uint16Array([513]), Uint8Array.prototype)]) {
+        same(encode(view), '0102');
+        same(thrown(() => decode(view)).byte, 1);
+    }
+    for (const view of [lying(new Uint8Array(0)), new Liar(0)]) same([encode(view), isHex(view)], ['', true]);
+    for (const target of [lying(new Uint8Array(2)), new Liar(2)]) {
+        same(answer(() => decodeInto('c9'.repeat(20), target)), 'InvalidStringLength');
+        decodeInto('0102', target);
+        same([target[0], target[1]], [1, 2]);
+    }
+    same(thrown(() => decodeInto('0102', lying(new Uint16Array(1)))).name, 'TypeError');
+    for (const other of [new Proxy(secret, {}), lying({}), Object.assign(Object.create(Uint8Array.prototype), { 0: 1 })]) {
+        same(thrown(() => encode(other)).name, 'TypeError');
+    }
+});
+
+row('the names of noble', () => {
+    same([KIWI, KIWI].map(bytesToHex), ['6b697769', '6b697769']);
+    same(['6b69', '0X6B69'].map(hexToBytes).map((bytes) => [...bytes]), [[0x6b, 0x69], [0x6b, 0x69]]);
+    same(answer(() => hexToBytes('6b6')), 'OddLength');
+});
+
+row('wipe', () => {
+    const text = encode(KIWI);
+    const bytes = decode(text);
+    wipe();
+    same([text, ...bytes], ['6b697769', ...KIWI]);
+    same([encode(KIWI, { prefix: true }), answer(() => decode('0x6z'))], ['0x6b697769', { kind: 'InvalidHexCharacter', index: 3, byte: 122 }]);
 });
