@@ -2,6 +2,7 @@ pub mod Answers
 pub mod Bodies
 pub mod Buffers
 pub mod Chars
+pub mod Decoding
 pub mod Elements
 pub mod Formatting
 pub mod Json

@@ -16,6 +16,7 @@ mod write_sink;
 
 pub use crate::buffer::{Buffer, const_encode};
 pub use crate::codec::checks::{check, check_raw, check_with, const_check, const_check_raw};
+pub use crate::codec::decoder::Decoder;
 pub use crate::codec::decoders::{
     bytes_of, const_decode_to_array, decode, decode_to_array, decode_to_front, decode_to_slice,
     decode_to_slice_with, decode_with,

@@ -8,16 +8,19 @@
 //! The contracts use the terms of `const_hex`, and those defined in `specs/`.
 #![tactic(auto)]
 
-ghost use Rattle.std.specs.Prelude.{◌≡◌, ◌↔◌, ◌*◌, ◌+◌, ◌-◌, ◌<◌, ℕ, List, true, false, length, take, drop, min, slice_index, IsTrue, Ok, Err};
-ghost use Rattle.const_hex.specs.Texts.{full_text, text_length, AllDigits};
-ghost use Rattle.const_hex.specs.Answers.{Reads, ReadsSized, ReadsWithin, Leaves};
+ghost use Rattle.std.specs.Prelude.{◌≡◌, ◌↔◌, ◌*◌, ◌+◌, ◌-◌, ◌<◌, ◌≢◌, ◌++◌, ℕ, List, Some, IfSome, true, false, length, take, drop, min, slice_index, IsTrue, Ok, Err};
+ghost use Rattle.const_hex.specs.Texts.{full_text, text_length, AllDigits, Partial};
+ghost use Rattle.const_hex.specs.Answers.{IsOdd, Reads, ReadsSized, ReadsWithin, Leaves};
 ghost use Rattle.const_hex.specs.Bodies.{body_of};
-ghost use Rattle.const_hex_c.specs.Crossing.{StandsFor, Says, IsUnknown};
+ghost use Rattle.const_hex.specs.Decoding.{HasRead, ReadsOn, error_of};
+ghost use Rattle.const_hex.specs.declared.error.FromHexError.TheVariants.{OddLength, InvalidStringLength};
+ghost use Rattle.const_hex_c.specs.Crossing.{StandsFor, Says, IsUnknown, refusal_of};
 
 mod refusal;
 mod words;
 
 use crate::refusal::Refusal;
+use const_hex::Decoder;
 
 /// The length of the text of so many bytes: two digits for each byte, and two bytes more for a
 /// prefix. If that does not fit, the answer is the greatest number, and no text has that length.
@@ -125,6 +128,100 @@ pub extern "C" fn const_hex_decode_front(
     }
 }
 
+/// Decodes the next piece of a text that comes in pieces. A struct whose bytes are all zero is a new
+/// decoder.
+///
+/// Fills the front of the bytes with those that are spelled now and were not before, and sets the
+/// count to their number: at most half of `length + 1`. What is behind them is unchanged. Together
+/// the pieces are read as one text, however it was cut.
+///
+/// Returns false if the piece is refused; the count is then unchanged. The refusal is the first of
+/// these: the bad byte of an earlier piece, again; an invalid length, if the pairs of digits do not
+/// fit into the bytes, and then nothing changes and the piece may be handed over again; the first
+/// byte that is not a digit, with its place in the whole text. After that, a front of the bytes may
+/// be decoded, no longer than the pairs before the bad byte, and the rest is unchanged. If the piece
+/// is accepted, the refusal is unchanged.
+///
+/// A struct that no call has made is safe: nothing outside the given memory is read or written. Does
+/// not allocate.
+///
+/// ```c
+/// struct const_hex_decoder decoder = {0};
+/// unsigned char bytes[4];
+/// size_t count;
+/// struct const_hex_refusal refusal;
+/// bool accepted = const_hex_decode_piece(&decoder, "0x6b6", 5, bytes, sizeof bytes, &count, &refusal);
+/// /* count is 1 */
+/// ```
+#[unsafe(no_mangle)]
+pub extern "C" fn const_hex_decode_piece(
+    decoder: &mut Decoder,
+    text: &[u8],
+    bytes: &mut [u8],
+    count: &mut usize,
+    refusal: &mut Refusal,
+) -> bool
+    // `t` was read so far, and the bytes `bs` were given.
+    ensures ok { IsTrue result → (t bs : List ℕ) → HasRead decoder.old t bs
+        → HasRead decoder.new (t ++ text.now) (bs ++ take count.new bytes.new) }
+    ensures count { IsTrue result → (t bs : List ℕ) → HasRead decoder.old t bs
+        → ReadsOn (t ++ text.now) bs (length bytes.old) (Ok count.new) }
+    ensures rest { IsTrue result → drop count.new bytes.new ≡ drop count.new bytes.old }
+    ensures kept { IsTrue result → refusal.new ≡ refusal.old }
+    ensures err { result ≡ false → (t bs : List ℕ) → HasRead decoder.old t bs
+        → StandsFor refusal.new (λ e. ReadsOn (t ++ text.now) bs (length bytes.old) (Err e)) }
+    ensures unchanged { result ≡ false → refusal.new ≡ refusal_of InvalidStringLength
+        → (decoder.new ≡ decoder.old) × (bytes.new ≡ bytes.old) }
+    ensures after_error { result ≡ false → (t bs : List ℕ) → HasRead decoder.old t bs
+        → StandsFor refusal.new (λ e. e ≢ InvalidStringLength
+        → Partial bytes.old (drop (2 * length bs) (body_of (t ++ text.now))) bytes.new) }
+    ensures ended { result ≡ false → StandsFor refusal.new (λ e. e ≢ InvalidStringLength
+        → error_of decoder.new ≡ Some e) }
+    ensures refused { IfSome (error_of decoder.old) (λ e.
+        (result ≡ false) × (refusal.new ≡ refusal_of e)
+        × (decoder.new ≡ decoder.old) × (bytes.new ≡ bytes.old)) }
+    ensures uncounted { result ≡ false → count.new ≡ count.old }
+{
+    match decoder.decode(text, bytes) {
+        Ok(more) => {
+            *count = more;
+            true
+        }
+        Err(error) => {
+            *refusal = Refusal::from(error);
+            false
+        }
+    }
+}
+
+/// Ends a text that came in pieces. Returns true if it was decoded whole.
+///
+/// Returns false otherwise, and sets the refusal: the bad byte of a piece, again, or else an odd
+/// length. If the answer is true, the refusal is unchanged. Does not allocate.
+///
+/// ```c
+/// struct const_hex_decoder decoder = {0};
+/// struct const_hex_refusal refusal;
+/// bool whole = const_hex_decode_end(&decoder, &refusal); /* true: the empty text */
+/// ```
+#[unsafe(no_mangle)]
+pub extern "C" fn const_hex_decode_end(decoder: &Decoder, refusal: &mut Refusal) -> bool
+    ensures ok { (t bs : List ℕ) → HasRead decoder.now t bs → IsTrue result ↔ Reads t (Ok bs) }
+    ensures odd { (t bs : List ℕ) → HasRead decoder.now t bs → result ≡ false
+        → (refusal.new ≡ refusal_of OddLength) × IsOdd (length t) }
+    ensures kept { IsTrue result → refusal.new ≡ refusal.old }
+    ensures refused { IfSome (error_of decoder.now) (λ e.
+        (result ≡ false) × (refusal.new ≡ refusal_of e)) }
+{
+    match decoder.finish() {
+        Ok(()) => true,
+        Err(error) => {
+            *refusal = Refusal::from(error);
+            false
+        }
+    }
+}
+
 /// Whether the text can be decoded, with or without a prefix, in either case.
 ///
 /// Returns false if the text is refused, and sets the refusal: an odd length, or else the first
@@ -199,11 +296,11 @@ pub extern "C" fn const_hex_refusal_words(refusal: &Refusal, buffer: &mut [u8]) 
 /// Does not allocate.
 ///
 /// ```c
-/// uint32_t version = const_hex_version(); /* 10000 is 1.0.0 */
+/// uint32_t version = const_hex_version(); /* 10100 is 1.1.0 */
 /// ```
 #[unsafe(no_mangle)]
 pub extern "C" fn const_hex_version() -> u32
-    ensures { result ≡ 10000 }
+    ensures { result ≡ 10100 }
 {
-    10_000
+    10_100
 }

@@ -1,7 +1,7 @@
 //! The body of a text: the prefix rule, the first bad byte, and decoding by a kernel.
 
-ghost use Rattle.std.specs.Prelude.{◌≡◌, ◌*◌, ◌%◌, ◌≤◌, ◌==◌, ◌&&◌, ◌||◌, true, false, length, IsTrue};
-ghost use Rattle.const_hex_arch.specs.Texts.{AllDigits, Spells, Partial};
+ghost use Rattle.std.specs.Prelude.{◌≡◌, ◌*◌, ◌%◌, ◌≤◌, ◌==◌, ◌&&◌, ◌||◌, true, false, length, slice_index, IsTrue};
+ghost use Rattle.const_hex_arch.specs.Texts.{AllDigits, FirstBad, Spells, Partial};
 ghost use Rattle.const_hex.specs.Bodies.{body_of, NamesFirstBad};
 
 use crate::error::FromHexError;
@@ -23,7 +23,7 @@ pub(crate) fn strip_prefix(text: &[u8]) -> &[u8]
 /// Whether two bytes are `0x` or `0X`.
 // Both are compared at once: byte by byte, a text that begins with `0` would run a path of its own.
 #[inline(always)]
-fn is_prefix(first: u8, second: u8) -> bool
+pub(crate) fn is_prefix(first: u8, second: u8) -> bool
     ensures { result ≡ ((first == 48) && (second == 120 || second == 88)) }
 {
     let pair = u16::from_le_bytes([first, second]);
@@ -32,28 +32,35 @@ fn is_prefix(first: u8, second: u8) -> bool
 
 /// The error that names the first byte behind the prefix that is not a digit, and its place in the
 /// whole text. There must be such a byte.
-// If another process makes the text valid meanwhile, no byte is found. Then the error names the end
-// of the text. `rt check` proves that this line is not reached while the text stays the same.
 #[cold]
 pub(crate) fn bad_character(text: &[u8]) -> FromHexError
     requires { AllDigits (body_of text.now) → ⊥ }
     ensures { NamesFirstBad text.now result }
 {
     let body = strip_prefix(text);
-    let start = text.len() - body.len();
-    'digits: for place in 0..body.len() {
-        let byte = body[place];
+    let (byte, place) = first_bad(body);
+    FromHexError::InvalidHexCharacter {
+        c: char::from(byte),
+        index: text.len() - body.len() + place,
+    }
+}
+
+/// The first byte that is not a digit, and its place.
+// If there is none, as when another process changes the text meanwhile, this names a NUL behind the
+// last byte.
+#[cold]
+pub(crate) fn first_bad(digits: &[u8]) -> (u8, usize)
+    ensures bad { (AllDigits digits.now → ⊥) → FirstBad digits.now result.1 }
+    ensures byte { result.0 ≡ slice_index digits.now result.1 }
+    ensures within { result.1 ≤ length digits.now }
+{
+    'digits: for place in 0..digits.len() {
+        let byte = digits[place];
         if value_at(byte) == NIL {
-            return FromHexError::InvalidHexCharacter {
-                c: char::from(byte),
-                index: start + place,
-            };
+            return (byte, place);
         }
     }
-    FromHexError::InvalidHexCharacter {
-        c: '\0',
-        index: text.len(),
-    }
+    (0, digits.len())
 }
 
 /// Fills the output with the bytes that the body spells, and returns true. Returns false if some

@@ -1,0 +1,61 @@
+-- A text that a decoder reads in pieces.
+use Rattle.std.specs.Prelude.{◌≡◌, ℕ, ◌+◌, ◌-◌, ◌/◌, ◌^◌, ◌≤◌, ◌<◌, ◌==◌, nat_le, min, if◌then◌else◌, List, [], ◌∷◌, ◌++◌, length, Option, Some, None, Result, Ok, Err}
+use Rattle.const_hex_arch.specs.Texts.{AllDigits, Spells}
+use Rattle.const_hex.specs.Bodies.{body_of, NamesFirstBad}
+use Rattle.const_hex.specs.declared.codec.decoder.Decoder.{Decoder}
+use Rattle.const_hex.specs.declared.error.FromHexError.{FromHexError}
+use Rattle.const_hex.specs.declared.error.FromHexError.TheVariants.{OddLength, InvalidStringLength, InvalidHexCharacter, NoMemory}
+
+-- a count of bytes, which stops at the greatest `usize`
+abbrev pub counted : ℕ → ℕ
+counted n = min n (2 ^ 64 - 1)
+
+-- no byte, or one
+abbrev pub listed : Option ℕ → List ℕ
+listed None = []
+listed (Some b) = b ∷ []
+
+-- the digit that waits for its other half, if there is one
+abbrev pub waiting_digit : Decoder → List ℕ
+waiting_digit d = if d.state == 1 then d.byte ∷ [] else []
+
+-- how many bytes of the text were read; after an error, the place of the bad byte
+abbrev pub place_of : Decoder → ℕ
+place_of d = d.place
+
+-- the error that ended the text, if there was one
+abbrev pub error_of : Decoder → Option FromHexError
+error_of d = if nat_le d.state 1 then None else Some (InvalidHexCharacter d.byte d.place)
+
+-- the decoder whose fields are zero
+abbrev pub zero_decoder : Decoder
+zero_decoder = record { place = 0; byte = 0; state = 0 }
+
+-- the decoder has read the text t without an error, and has given the bytes bs: the body of t is
+-- two digits for each byte, and at most one digit more, which waits
+pub record HasRead (d : Decoder) (t bs : List ℕ) : Type 0 where
+  pub no_error : error_of d ≡ None
+  pub counts : place_of d ≡ counted (length t)
+  pub pairs : List ℕ
+  pub whole : body_of t ≡ pairs ++ waiting_digit d
+  pub given : Spells pairs bs
+  pub waits : AllDigits (waiting_digit d)
+
+-- as `NamesFirstBad`, with the greatest `usize` for a place beyond it
+abbrev pub NamesCounted : List ℕ → FromHexError → Type 0
+NamesCounted t OddLength = ⊥
+NamesCounted t InvalidStringLength = ⊥
+NamesCounted t (InvalidHexCharacter c i) =
+    (n : ℕ) × NamesFirstBad t (InvalidHexCharacter c n) × (i ≡ counted n)
+NamesCounted t NoMemory = ⊥
+
+-- the answer when t was read so far, the bytes bs were given before its last piece, and there is
+-- room for n bytes: the room is tested first, by the count of digits, and then each digit
+abbrev pub ReadsOn : List ℕ → List ℕ → ℕ → Result ℕ FromHexError → Type 0
+ReadsOn t bs n (Ok more) =
+    (more ≤ n) × (length (body_of t) / 2 ≡ length bs + more) × AllDigits (body_of t)
+ReadsOn t bs n (Err OddLength) = ⊥
+ReadsOn t bs n (Err InvalidStringLength) = length bs + n < length (body_of t) / 2
+ReadsOn t bs n (Err (InvalidHexCharacter c i)) =
+    (length (body_of t) / 2 ≤ length bs + n) × NamesCounted t (InvalidHexCharacter c i)
+ReadsOn t bs n (Err NoMemory) = ⊥
