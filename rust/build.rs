@@ -60,7 +60,7 @@ fn link(folder: &Path) -> Result<(), String> {
 fn packaged() -> Result<(), String> {
     let mut sought = pkg_config::Config::new();
     sought
-        .range_version("1.0".."2.0")
+        .range_version("1.1".."2.0")
         .statik(true)
         .probe("const_hex")
         .map(drop)

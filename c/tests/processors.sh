@@ -20,6 +20,9 @@ build_here() {
     echo v3
 }
 
+# Whether each call picks the build $1 on the processor $2.
+picks() { qemu-x86_64 -cpu "$2" "$room/picks" "$1" > "$room/said" 2> "$room/complaint"; }
+
 test_processors() {
     local row
     # With the choice as the archive has it.
@@ -27,8 +30,7 @@ test_processors() {
     starts "each call picks the build for this processor" "$room/picks" "$(build_here)"
     has $((${#emulated[@]} + 30)) "other processors" qemu-x86_64 || return
     for row in "${emulated[@]}"; do
-        does "${row% *} picks the build ${row#* }" qemu-x86_64 -cpu "${row% *}" "$room/picks" \
-            "${row#* }"
+        does "${row% *} picks the build ${row#* }" picks "${row#* }" "${row% *}"
     done
     # An instruction that an older processor lacks ends the program.
     starts "check.c on an older processor" qemu-x86_64 -cpu Westmere "$room/check" 32
