@@ -71,6 +71,13 @@ EITHER(bool, const_hex_decode_front,
        (const char *text, size_t text_length, void *bytes, size_t bytes_length, size_t *count,
         struct const_hex_refusal *refusal),
        (text, text_length, bytes, bytes_length, count, refusal))
+EITHER(bool, const_hex_decode_piece,
+       (struct const_hex_decoder *decoder, const char *text, size_t text_length, void *bytes,
+        size_t bytes_length, size_t *count, struct const_hex_refusal *refusal),
+       (decoder, text, text_length, bytes, bytes_length, count, refusal))
+EITHER(bool, const_hex_decode_end,
+       (const struct const_hex_decoder *decoder, struct const_hex_refusal *refusal),
+       (decoder, refusal))
 EITHER(bool, const_hex_check,
        (const char *text, size_t text_length, struct const_hex_refusal *refusal),
        (text, text_length, refusal))

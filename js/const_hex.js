@@ -15,8 +15,8 @@ const WORDS_LENGTH = 64;
 // The module's stack ends here. `c/build` asks for it.
 const STACK = 65536;
 
-const encoder = new TextEncoder();
-const decoder = new TextDecoder();
+const textEncoder = new TextEncoder();
+const textDecoder = new TextDecoder();
 
 // In Node these two calls of a Buffer are the fastest. They are not documented, so they may be missing.
 const { latin1Slice, utf8Write } = globalThis.process?.versions?.node ? globalThis.Buffer?.prototype ?? {} : {};
@@ -43,15 +43,18 @@ const {
     const_hex_encode: encodeCall,
     const_hex_decode: decodeCall,
     const_hex_decode_front: decodeFrontCall,
+    const_hex_decode_piece: decodePieceCall,
+    const_hex_decode_end: decodeEndCall,
     const_hex_check: checkCall,
     const_hex_refusal_words: wordsCall,
 } = instance(Uint8Array.from(atob(MODULE), (character) => character.charCodeAt(0)));
 
 // From `__heap_base` on, the module leaves its memory alone. First come the struct of a refusal, a
-// count, and the message of an error, then the input, and then the output.
+// count, the struct of a decoder, and the message of an error, then the input, and then the output.
 const REFUSAL = 16 * Math.ceil(Number(heapBase.value) / 16);
 const COUNT = REFUSAL + 16;
-const WORDS = COUNT + 16;
+const DECODER = COUNT + 16;
+const WORDS = DECODER + 16;
 const INPUT = WORDS + WORDS_LENGTH;
 
 // The memory as bytes, as 32-bit numbers, and as a Buffer. Each growth of the memory makes new ones.
@@ -110,6 +113,31 @@ export function decodeInto(text, target) {
     if (!decodeCall(INPUT, length, output, room, REFUSAL)) throw refusal();
     set.call(target, bytes.subarray(output, output + room));
     return target;
+}
+
+/** A decoder of a text that comes in pieces. */
+export function decoder() {
+    // The struct of this decoder, while no call uses it. A new one is 0.
+    const state = new Uint32Array(4);
+    return {
+        /** The bytes that the text spells so far and no call before has returned. */
+        push(piece) {
+            const length = put(piece);
+            const room = (length + 1) >> 1;
+            const output = outputBehind(length, room);
+            numbers.set(state, DECODER >> 2);
+            const accepted = decodePieceCall(DECODER, INPUT, length, output, room, COUNT, REFUSAL);
+            state.set(numbers.subarray(DECODER >> 2, (DECODER >> 2) + state.length));
+            if (!accepted) throw refusal();
+            return bytes.slice(output, output + numbers[COUNT >> 2]);
+        },
+
+        /** Throws if the pieces are not a whole text. */
+        end() {
+            numbers.set(state, DECODER >> 2);
+            if (!decodeEndCall(DECODER, REFUSAL)) throw refusal();
+        },
+    };
 }
 
 /** Throws what `decode` throws for the text. */
@@ -212,7 +240,7 @@ function putShort(text) {
 function putString(text, ratio) {
     const end = INPUT + ratio * text.length;
     reserve(end);
-    const { read, written } = encoder.encodeInto(text, bytes.subarray(INPUT, end));
+    const { read, written } = textEncoder.encodeInto(text, bytes.subarray(INPUT, end));
     return read === text.length ? written : putString(text, 3);
 }
 
@@ -232,7 +260,7 @@ function textAt(address, length) {
     try {
         text = hasBuffer
             ? latin1Slice.call(buffer, address, address + length)
-            : decoder.decode(bytes.subarray(address, address + length));
+            : textDecoder.decode(bytes.subarray(address, address + length));
     } catch (error) {
         cause = error;
     }
@@ -289,9 +317,10 @@ function textOf64(b, a) {
 /** The struct of a refusal in the memory, as an error. */
 function refusal() {
     const count = wordsCall(REFUSAL, WORDS, WORDS_LENGTH);
-    const [kind, byte, index] = numbers.subarray(REFUSAL >> 2);
+    const [kind, byte, low, high] = numbers.subarray(REFUSAL >> 2);
+    const index = high * 2 ** 32 + low;
     const place = KINDS[kind] === 'InvalidHexCharacter' ? { index, byte } : undefined;
-    return new HexError(decoder.decode(bytes.subarray(WORDS, WORDS + count)), KINDS[kind], place);
+    return new HexError(textDecoder.decode(bytes.subarray(WORDS, WORDS + count)), KINDS[kind], place);
 }
 
 /** The bytes of an argument. `others` says what else it may be. */

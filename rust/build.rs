@@ -4,15 +4,12 @@
 //! archive of a release; else pkg-config finds it; else `c/build` makes it. A folder is handed on to the
 //! build scripts of dependents, as `DEP_CONST_HEX_FOLDER`.
 
+use std::env;
 use std::path::{Path, PathBuf};
 use std::process::{exit, Command, Stdio};
-use std::{env, fs};
 
 /// What names the folder that has the library.
 const FOLDER: &str = "CONST_HEX_LIBRARIES";
-
-/// What stands in an archive that picks one of two builds by ifunc.
-const IFUNC: &[u8] = b"pick_const_hex_";
 
 /// What the library is made from, as seen from the top of the repository.
 const SOURCES: [&str; 10] = [
@@ -32,7 +29,7 @@ fn main() {
     println!("cargo:rerun-if-env-changed={FOLDER}");
     let found = match env::var_os(FOLDER) {
         Some(folder) => link(Path::new(&folder)),
-        None => released().or_else(|_| packaged()).or_else(|unpackaged| {
+        None => link(Path::new("../lib")).or_else(|_| packaged()).or_else(|unpackaged| {
             made().map_err(|unmade| format!("pkg-config: {unpackaged}\nc/build: {unmade}"))
         }),
     };
@@ -54,7 +51,6 @@ fn link(folder: &Path) -> Result<(), String> {
     if !archive.exists() {
         return Err(format!("{} does not exist", archive.display()));
     }
-    refuse_ifunc(&archive);
     println!("cargo:rerun-if-changed={}", archive.display());
     println!("cargo:rustc-link-search=native={}", folder.display());
     println!("cargo:rustc-link-lib=static=const_hex");
@@ -62,39 +58,15 @@ fn link(folder: &Path) -> Result<(), String> {
     Ok(())
 }
 
-/// Links the archive beside this package. For musl it is the one with one build, if there are two.
-fn released() -> Result<(), String> {
-    let alone = Path::new("../single");
-    match target("ENV") == "musl" && link(alone).is_ok() {
-        true => Ok(()),
-        false => link(Path::new("../lib")),
-    }
-}
-
-/// Ends the build if an archive needs ifunc, and the target has none.
-fn refuse_ifunc(archive: &Path) {
-    let has_ifunc = |bytes: Vec<u8>| bytes.windows(IFUNC.len()).any(|window| window == IFUNC);
-    if target("ENV") == "musl" && fs::read(archive).map_or(false, has_ifunc) {
-        let archive = archive.display();
-        eprintln!("{archive} needs ifunc, which musl lacks: let {FOLDER} name a folder with one build, `single`.");
-        exit(1);
-    }
-}
-
-/// Returns what cargo says of the target.
-fn target(part: &str) -> String {
-    env::var(format!("CARGO_CFG_TARGET_{part}")).unwrap_or_default()
-}
-
 /// Links what pkg-config finds: the archive, unless the system has the library in its own folders.
 fn packaged() -> Result<(), String> {
     let mut sought = pkg_config::Config::new();
-    sought.range_version("1.0".."2.0").statik(true);
-    let found = sought.probe("const_hex").map_err(|e| e.to_string())?;
-    for folder in found.link_paths {
-        refuse_ifunc(&folder.join("libconst_hex.a"));
-    }
-    Ok(())
+    sought
+        .range_version("1.1".."2.0")
+        .statik(true)
+        .probe("const_hex")
+        .map(drop)
+        .map_err(|e| e.to_string())
 }
 
 /// Makes the library for the target, and links it.
@@ -103,10 +75,10 @@ fn made() -> Result<(), String> {
     for source in SOURCES {
         println!("cargo:rerun-if-changed={}", top.join(source).display());
     }
-    let words: &[&str] = match (&*target("ARCH"), &*target("OS"), &*target("ENV")) {
-        ("x86_64", "linux", "musl") => &["--single"],
-        ("x86_64", "linux", _) => &[],
-        ("aarch64", "linux", _) => &["--target", "aarch64"],
+    let target = |part| env::var(format!("CARGO_CFG_TARGET_{part}")).unwrap_or_default();
+    let words: &[&str] = match (&*target("ARCH"), &*target("OS")) {
+        ("x86_64", "linux") => &[],
+        ("aarch64", "linux") => &["--target", "aarch64"],
         _ => return Err("the library is for Linux on x86-64 and aarch64".to_string()),
     };
     let folder = PathBuf::from(env::var_os("OUT_DIR").expect("cargo names a folder"));

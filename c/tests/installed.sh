@@ -6,7 +6,7 @@ installs() { (umask 077; c/install --prefix "$room/usr" "$room/both" > "$room/sa
 # Whether the files of $room/usr hold what was built, and others may read them.
 is_whole() {
     local lib=$room/usr/lib
-    cmp "$archive" "$lib/libconst_hex.a" && cmp "$shared" "$lib/libconst_hex.so.1.0.0" &&
+    cmp "$archive" "$lib/libconst_hex.a" && cmp "$shared" "$lib/libconst_hex.so.1.1.0" &&
         cmp c/const_hex.h "$room/usr/include/const_hex.h" &&
         (cd "$room/usr" && find . ! -type l -printf '%m %P\n' | sort -k 2 | sed 's/ $//') | diff - <(
             cat << END
@@ -19,7 +19,7 @@ is_whole() {
 644 lib/cmake/const_hex/const_hexConfig.cmake
 644 lib/cmake/const_hex/const_hexConfigVersion.cmake
 644 lib/libconst_hex.a
-755 lib/libconst_hex.so.1.0.0
+755 lib/libconst_hex.so.1.1.0
 755 lib/pkgconfig
 644 lib/pkgconfig/const_hex.pc
 755 share
@@ -33,8 +33,8 @@ END
 
 # Whether a file that a program holds stays what it is when the library is installed again.
 replaces() {
-    ln "$room/usr/lib/libconst_hex.so.1.0.0" "$room/held" && installs &&
-        [ ! "$room/held" -ef "$room/usr/lib/libconst_hex.so.1.0.0" ] && cmp "$room/held" "$shared"
+    ln "$room/usr/lib/libconst_hex.so.1.1.0" "$room/held" && installs &&
+        [ ! "$room/held" -ef "$room/usr/lib/libconst_hex.so.1.1.0" ] && cmp "$room/held" "$shared"
 }
 
 # Whether the archive alone of the folder $1 is installed, over both libraries.
@@ -150,7 +150,7 @@ is_installed() {
 ./lib/libconst_hex.a
 ./lib/libconst_hex.so
 ./lib/libconst_hex.so.1
-./lib/libconst_hex.so.1.0.0
+./lib/libconst_hex.so.1.1.0
 ./lib/pkgconfig/const_hex.pc
 ./share/man/man3/const_hex.3
 $(printf './share/man/man3/%s.3\n' "${calls[@]}")
@@ -233,7 +233,7 @@ END
 test_build_systems() {
     if has 5 CMake cmake; then
         does "CMake" by_cmake "$room/usr" 1.0
-        does "CMake with the archive alone" by_cmake "$room/alone single" 1.0.0
+        does "CMake with the archive alone" by_cmake "$room/alone single" 1.1.0
         does "CMake without a version" by_cmake "$room/usr" ""
         does "CMake for a later version" not_by_cmake 1.99
         does "CMake for another version" not_by_cmake 0.9
@@ -272,7 +272,7 @@ test_install() {
     does "c/install for a package" staged
     if has 18 "pkg-config" pkg-config; then
         does "a prefix with a blank" has_blank
-        does "its version" [ "$(package --modversion)" = 1.0.0 ]
+        does "its version" [ "$(package --modversion)" = 1.1.0 ]
         for compiler in cc c++; do
             for static in "" --static; do
                 does "fingerprint.c ($compiler $static)" by_package "$compiler" fingerprint $static

@@ -30,9 +30,9 @@ test_code() {
     does "the build for x86-64-v3 has its lanes" wide
     does "the default build goes without them" narrow
     does "the default build looks up in 16 lanes" has_instruction objdump "$room/const_hex_default.o" \
-        'pshufb ' const_hex_{encode,decode,decode_front,check,check_raw}_default
+        'pshufb ' const_hex_{encode,decode,decode_front,decode_piece,check,check_raw}_default
     does "the build for x86-64-v3 looks up in 32 lanes" has_instruction objdump "$room/const_hex_v3.o" \
-        'vpshufb .*%ymm' const_hex_{encode,decode,decode_front,check,check_raw}_v3
+        'vpshufb .*%ymm' const_hex_{encode,decode,decode_front,decode_piece,check,check_raw}_v3
 }
 
 # Whether the shared object exports the calls of the header, and nothing else.
@@ -72,6 +72,8 @@ test_answers() {
     starts "check.c as C++" "$room/check++" 8
     does "lengths.c" compiled lengths c/tests/lengths.c "$archive"
     starts "lengths.c" "$room/lengths"
+    does "pieces.c" compiled pieces c/tests/pieces.c "$archive"
+    starts "pieces.c" "$room/pieces"
     does "compilers.c" compiled compilers c/tests/compilers.c "$room/second/libconst_hex.a" "$archive"
     starts "compilers.c" "$room/compilers"
     does "shared_text.c" compiled shared_text c/tests/shared_text.c "$archive"
@@ -96,6 +98,24 @@ other_version() {
         grep -q 'does not have version 1' "$room/complaint"
 }
 
+# Whether unhex refuses the text in a file of the room, and says this.
+unhex_refuses() {
+    "$room/unhex" < "$room/$1" > "$room/written" 2> "$room/complaint"
+    [ $? -eq 1 ] && [ "$(cat "$room/complaint")" = "unhex: $2" ]
+}
+
+# unhex decodes pieces of 65536 bytes.
+test_unhex() {
+    does "unhex.c ($1)" compiled unhex c/examples/unhex.c "$room/$1/libconst_hex.a"
+    does "unhex ($1)" writes 0 "$room/numbers" "$room/unhex" < "$room/numbers.hex"
+    does "unhex of nothing ($1)" writes 0 /dev/null "$room/unhex" < /dev/null
+    does "unhex of a prefix that a piece begins with ($1)" unhex_refuses second_prefix \
+        "invalid character 'x' at position 65537"
+    does "unhex of a newline that ends a piece ($1)" unhex_refuses second_line \
+        "invalid character '\\n' at position 65535"
+    does "unhex of an odd text ($1)" unhex_refuses odd "odd number of digits"
+}
+
 test_examples() {
     local build
     for build in both single; do
@@ -103,12 +123,14 @@ test_examples() {
             "$room/$build/libconst_hex.a"
         does "mark.c ($build)" compiled mark c/examples/mark.c "$room/$build/libconst_hex.a"
         examples_run "$build"
+        test_unhex "$build"
         does "mark of other lines ($build)" writes 1 "$room/lines.stdout" "$room/mark" < "$room/lines"
     done
     does "hash.py" writes 0 "$room/hash.stdout" python3 -E c/examples/hash.py "$shared" "$room/foobar"
     does "hash.py of another version" other_version
     does "hash.py without an argument" misused c/examples/hash.py
     does "fingerprint to a full device" full "$room/fingerprint" "$room/foobar"
+    does "unhex to a full device" full "$room/unhex" < "$room/numbers.hex"
     does "mark to a full device" full "$room/mark" < c/examples/mark.stdin
     does "mark of many lines to a full device" full "$room/mark" < "$room/lines"
 }
@@ -124,7 +146,7 @@ warns() {
 
 test_warnings() {
     local call
-    for call in 0 1 2 3 4 5 6; do
+    for call in 0 1 2 3 4 5 6 7 8; do
         does "a warning of ignored answer $call" warns "$call"
     done
 }

@@ -20,6 +20,7 @@ enum { THREADS = 8 };
 static const char TEXT[] = "6b69";
 static char output[4];
 static struct const_hex_refusal refusal;
+static struct const_hex_decoder decoder;
 static size_t count;
 
 /* The build that this thread was given last, or null if it was given other values. */
@@ -54,6 +55,15 @@ CALL(bool, const_hex_decode_front,
      text == TEXT && text_length == 4 && bytes == output && bytes_length == 3 &&
          so_many == &count && why == &refusal,
      (TEXT, 4, output, 3, &count, &refusal))
+CALL(bool, const_hex_decode_piece,
+     (struct const_hex_decoder *of, const char *text, size_t text_length, void *bytes,
+      size_t bytes_length, size_t *so_many, struct const_hex_refusal *why),
+     of == &decoder && text == TEXT && text_length == 4 && bytes == output && bytes_length == 3 &&
+         so_many == &count && why == &refusal,
+     (&decoder, TEXT, 4, output, 3, &count, &refusal))
+CALL(bool, const_hex_decode_end,
+     (const struct const_hex_decoder *of, struct const_hex_refusal *why),
+     of == &decoder && why == &refusal, (&decoder, &refusal))
 CALL(bool, const_hex_check,
      (const char *text, size_t text_length, struct const_hex_refusal *why),
      text == TEXT && text_length == 4 && why == &refusal, (TEXT, 4, &refusal))
@@ -71,6 +81,8 @@ static const struct {
              {"encode", call_const_hex_encode},
              {"decode", call_const_hex_decode},
              {"decode_front", call_const_hex_decode_front},
+             {"decode_piece", call_const_hex_decode_piece},
+             {"decode_end", call_const_hex_decode_end},
              {"check", call_const_hex_check},
              {"check_raw", call_const_hex_check_raw},
              {"refusal_words", call_const_hex_refusal_words},

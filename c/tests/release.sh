@@ -1,7 +1,7 @@
 # Tests of the archives of a release, for c/test.
 
 # The folder of an archive that was unpacked in a folder with a blank. $1 is the processor.
-unpacked() { echo "$room/un packed/const_hex-1.0.0-linux-$1"; }
+unpacked() { echo "$room/un packed/const_hex-1.1.0-linux-$1"; }
 
 # Makes the archives, by a caller whose files nobody else may read.
 releases() { (umask 077; c/release "$room/release" "$room" > "$room/said"); }
@@ -20,7 +20,7 @@ releases_again() {
 
 unpacks() {
     mkdir -p "$room/un packed" &&
-        tar xzf "$room/release/const_hex-1.0.0-linux-$1.tar.gz" -C "$room/un packed"
+        tar xzf "$room/release/const_hex-1.1.0-linux-$1.tar.gz" -C "$room/un packed"
 }
 
 # Whether the entries of the archives are sorted, and each has no owner and the one time.
@@ -63,7 +63,7 @@ has_files() {
 644 f lib/libconst_hex.a
 777 l lib/libconst_hex.so
 777 l lib/libconst_hex.so.1
-755 f lib/libconst_hex.so.1.0.0
+755 f lib/libconst_hex.so.1.1.0
 755 d lib/pkgconfig
 644 f lib/pkgconfig/const_hex.pc
 755 d share

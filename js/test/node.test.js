@@ -5,7 +5,7 @@ import { spawnSync } from 'node:child_process';
 import { readFileSync } from 'node:fs';
 import test from 'node:test';
 import { fileURLToPath } from 'node:url';
-import { check, decode, decodeInto, encode, isHex, version } from '../const_hex.js';
+import { check, decode, decodeInto, decoder, encode, isHex, version } from '../const_hex.js';
 import { answer, randomOf, randomText, thrown } from './rows.js';
 
 const TOP = new URL('../../', import.meta.url);
@@ -221,4 +221,15 @@ test('the types declare each export', async () => {
     const exported = Object.keys(await import('../const_hex.js')).sort();
     const declared = [...read('js/index.d.ts').matchAll(/^export (?:declare )?(?:function|class|const) (\w+)/gm)];
     assert.deepEqual(declared.map(([, name]) => name).sort(), exported);
+});
+
+test('a stream of pieces', async () => {
+    const pieces = decoder();
+    const stream = ReadableStream.from(['0', Buffer.from('x6b6'), '97', '769']).pipeThrough(new TransformStream({
+        transform: (piece, controller) => controller.enqueue(pieces.push(piece)),
+        flush: () => pieces.end(),
+    }));
+    const found = [];
+    for await (const bytes of stream) found.push(...bytes);
+    assert.equal(Buffer.from(found).toString(), 'kiwi');
 });

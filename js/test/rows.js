@@ -1,5 +1,5 @@
 // Tests that run in Node and in a browser. Each row is a name and a function that throws if it fails.
-import { bytesToHex, check, decode, decodeInto, encode, HexError, hexToBytes, isHex, version, wipe } from '../const_hex.js';
+import { bytesToHex, check, decode, decodeInto, decoder, encode, HexError, hexToBytes, isHex, version, wipe } from '../const_hex.js';
 
 export const rows = [];
 
@@ -211,6 +211,56 @@ row('prefixes', () => {
         compare(text);
         compare(ascii(text));
     }
+});
+
+/** What pieces are answered: all bytes that they spell, or the error. */
+function inPieces(...pieces) {
+    return answer(() => {
+        const it = decoder();
+        const found = pieces.flatMap((piece) => [...it.push(piece)]);
+        it.end();
+        return found;
+    });
+}
+
+row('pieces', () => {
+    same(inPieces(), []);
+    same(inPieces('0', 'x6b69', ascii('7769'), ''), [...KIWI]);
+    same(inPieces('0', 'X', '6', 'B6', '9776', '9'), [...KIWI]);
+    same(inPieces('0'), 'OddLength');
+    same(inPieces('0x6', 'b6'), 'OddLength');
+    same(inPieces('0', 'x0', 'x'), { kind: 'InvalidHexCharacter', index: 3, byte: 120 });
+    const [first, last] = ['61'.repeat(40000), '62'.repeat(40000)];
+    same(inPieces(first, '0x', last), { kind: 'InvalidHexCharacter', index: 80001, byte: 120 });
+});
+
+row('each cut into two pieces, with each bad place', () => {
+    for (const prefix of ['', '0x', '0X']) {
+        const text = `${prefix}${'6b697769'.repeat(6)}`;
+        for (let cut = 0; cut <= text.length; cut++) {
+            const halves = (it) => [it.slice(0, cut), it.slice(cut)];
+            same(inPieces(...halves(text)), [...decode(text)]);
+            same(inPieces(...halves(ascii(text))), [...decode(text)]);
+            same(inPieces(...halves(`${text}7`)), 'OddLength');
+            for (let index = prefix.length; index < text.length; index++) {
+                const bad = `${text.slice(0, index)}g${text.slice(index + 1)}`;
+                same(inPieces(...halves(bad)), { kind: 'InvalidHexCharacter', index, byte: 103 });
+            }
+        }
+    }
+});
+
+row('decoders beside each other, and one that was refused', () => {
+    const [one, other] = [decoder(), decoder()];
+    same([...one.push('6b6')], [107]);
+    same([...other.push('0')], []);
+    same(thrown(() => one.push(5)).name, 'TypeError');
+    same([...one.push('9')], [105]);
+    const wanted = { kind: 'InvalidHexCharacter', index: 2, byte: 195 };
+    for (const piece of ['x\u00e9', '', '00']) same(answer(() => other.push(piece)), wanted);
+    same(answer(() => other.end()), wanted);
+    same(thrown(() => other.end()).message, "invalid character '\u00c3' at position 2");
+    one.end();
 });
 
 row('100,000 random texts', () => {

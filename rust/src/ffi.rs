@@ -23,6 +23,13 @@ struct Refusal {
     index: usize,
 }
 
+/// The state of a decoder, as C has it. A new one is zero.
+#[repr(C)]
+#[derive(Clone, Debug, Default)]
+pub struct Decoder {
+    state: [usize; 2],
+}
+
 extern "C" {
     #[cfg(feature = "alloc")]
     fn const_hex_encoded_length(bytes: usize, prefix: bool) -> usize;
@@ -50,6 +57,16 @@ extern "C" {
         count: *mut usize,
         refusal: *mut Refusal,
     ) -> bool;
+    fn const_hex_decode_piece(
+        decoder: *mut Decoder,
+        text: *const u8,
+        text_length: usize,
+        bytes: *mut u8,
+        bytes_length: usize,
+        count: *mut usize,
+        refusal: *mut Refusal,
+    ) -> bool;
+    fn const_hex_decode_end(decoder: *const Decoder, refusal: *mut Refusal) -> bool;
     fn const_hex_check(text: *const u8, text_length: usize, refusal: *mut Refusal) -> bool;
     fn const_hex_check_raw(text: *const u8, text_length: usize) -> bool;
     fn const_hex_refusal_words(
@@ -162,6 +179,38 @@ pub fn decoded(text: &[u8]) -> Result<alloc::vec::Vec<u8>, FromHexError> {
     // SAFETY: the call has written the first `count` bytes of the room.
     unsafe { bytes.set_len(count) };
     Ok(bytes)
+}
+
+/// Fills the front of `bytes` with what the next piece of a text adds, and returns how many bytes it is.
+pub fn decode_piece(
+    decoder: &mut Decoder,
+    text: &[u8],
+    bytes: &mut [u8],
+) -> Result<usize, FromHexError> {
+    let (mut count, mut refusal) = (0, Refusal::default());
+    let (from, to, room) = (text.as_ptr(), bytes.as_mut_ptr(), bytes.len());
+    // SAFETY: each pointer and its length come from one slice; `decoder`, `bytes`, `count` and
+    // `refusal` are borrowed mutably.
+    let is_decoded = unsafe {
+        const_hex_decode_piece(
+            decoder,
+            from,
+            text.len(),
+            to,
+            room,
+            &mut count,
+            &mut refusal,
+        )
+    };
+    refusal.unless(is_decoded).map(|()| count)
+}
+
+/// Returns whether the pieces are a whole text, and the error if not.
+pub fn decode_end(decoder: &Decoder) -> Result<(), FromHexError> {
+    let mut refusal = Refusal::default();
+    // SAFETY: `decoder` is borrowed, and `refusal` mutably.
+    let is_whole = unsafe { const_hex_decode_end(decoder, &mut refusal) };
+    refusal.unless(is_whole)
 }
 
 /// Returns whether `text` can be decoded, and the error if not.

@@ -18,6 +18,7 @@ extern crate alloc;
 #[cfg(feature = "std")]
 extern crate std;
 
+mod decoder;
 mod error;
 mod ffi;
 #[cfg(feature = "serde")]
@@ -26,6 +27,9 @@ pub mod serde;
 mod string;
 mod traits;
 
+#[cfg(feature = "std")]
+pub use crate::decoder::DecodeReader;
+pub use crate::decoder::Decoder;
 pub use crate::error::FromHexError;
 #[cfg(feature = "serde")]
 pub use crate::serde::deserialize;
