@@ -26,7 +26,7 @@ use std::simd::prelude::*;
 const LIMITS: [u8; 16] = [1, 10, 11, 12, 13, 14, 15, 8, 9, 10, 0, 0, 0, 0, 0, 0];
 
 /// The digits of all values, and 4097 in each lane of 16 bits: in lowercase and in uppercase, twice.
-// The last pair is never read. Without it the compiler would know each factor, since all are the same.
+// The last pair is never read. Without it all factors would be the same, and the compiler would know them.
 const ROWS: &[[Row; 2]; 3] = &[CASES, CASES, [[[0; 16]; 2]; 2]];
 
 const CASES: [Row; 2] = [
@@ -34,14 +34,14 @@ const CASES: [Row; 2] = [
     [*b"0123456789ABCDEF", FACTORS],
 ];
 
-pub(crate) const FACTORS: [u8; 16] = [1, 16, 1, 16, 1, 16, 1, 16, 1, 16, 1, 16, 1, 16, 1, 16];
+const FACTORS: [u8; 16] = [1, 16, 1, 16, 1, 16, 1, 16, 1, 16, 1, 16, 1, 16, 1, 16];
 
 /// 16 digits, and the factors.
 type Row = [[u8; 16]; 2];
 
 /// The row of a case, or its twin, which is equal.
-// Where the compiler knows the factor, it puts two shifts and a sum in place of the multiplication. Where it
-// does not know both `upper` and `twin`, it does not know the factor.
+// If the compiler knows the factors, it multiplies by a shift and a sum, which takes longer. It does not know
+// them if `upper` or `twin` is known only at run time.
 #[inline(always)]
 pub(crate) fn row(upper: bool, twin: bool) -> &'static Row
     ensures { result.now ≡ row_of upper }
