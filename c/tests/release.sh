@@ -52,7 +52,7 @@ has_files() {
 644 f README.md
 644 f SHA256SUMS
 755 d examples
-644 f examples/hash.py
+755 f examples/hash.py
 755 d include
 644 f include/const_hex.h
 755 d lib
