@@ -226,7 +226,12 @@ function putBytes(view) {
 
 /** The text of so many ASCII characters at an address of the memory. */
 function textAt(address, length) {
-    if (length <= SHORT_TEXT && !hasBuffer) return shortText(address, length);
+    if (length > SHORT_TEXT) return longText(address, length);
+    return hasBuffer ? latin1Slice.call(buffer, address, address + length) : shortText(address, length);
+}
+
+/** The same for a long text. */
+function longText(address, length) {
     let text = '';
     let cause;
     try {
@@ -295,9 +300,13 @@ function refusal() {
 }
 
 /** The bytes of an argument. `others` says what else it may be. */
-function viewOf(value, name, others = '') {
+function viewOf(value, name, others) {
+    return typeOf.call(value) === 'Uint8Array' && lengthOf.call(value) > 0 ? value : otherView(value, name, others);
+}
+
+/** The same of any other argument than an array with bytes in it. */
+function otherView(value, name, others = '') {
     const type = typeOf.call(value);
-    if (type === 'Uint8Array' && lengthOf.call(value) > 0) return value;
     const isView = ArrayBuffer.isView(value);
     if (!isView && !isBuffer(value)) throw wrongType(name, `${others}a view of bytes or an ArrayBuffer`, value);
     try {
