@@ -10,10 +10,6 @@ import { MODULE } from './module.js';
 const MOST_MEMORY = 2 ** 30;
 const PAGE = 65536;
 
-// Without Node's Buffer, texts of at most so many characters are copied by a loop, four characters at a
-// time. TextDecoder and encodeInto take longer for these.
-const SHORT_TEXT = 160;
-
 const KINDS = [undefined, 'OddLength', 'InvalidStringLength', 'InvalidHexCharacter'];
 const WORDS_LENGTH = 64;
 // The module's stack ends here. `c/build` asks for it.
@@ -25,6 +21,10 @@ const textDecoder = new TextDecoder();
 // In Node these two calls of a Buffer are the fastest. They are not documented, so they may be missing.
 const { latin1Slice, utf8Write } = globalThis.process?.versions?.node ? globalThis.Buffer?.prototype ?? {} : {};
 const hasBuffer = typeof latin1Slice === 'function' && typeof utf8Write === 'function';
+
+// Texts of at most so many characters are copied by these calls, or elsewhere by loops, four characters at
+// a time. TextDecoder and encodeInto take longer for such texts.
+const SHORT_TEXT = hasBuffer ? 2 ** 14 : 160;
 
 // What an array says of itself by these cannot be changed by a property of its own or of a subclass.
 const { prototype: TYPED_ARRAY } = Object.getPrototypeOf(Uint8Array);
@@ -254,7 +254,12 @@ function putBytes(view) {
 
 /** The text of so many ASCII characters at an address of the memory. */
 function textAt(address, length) {
-    if (length <= SHORT_TEXT && !hasBuffer) return shortText(address, length);
+    if (length > SHORT_TEXT) return longText(address, length);
+    return hasBuffer ? latin1Slice.call(buffer, address, address + length) : shortText(address, length);
+}
+
+/** The same for a long text. */
+function longText(address, length) {
     let text = '';
     let cause;
     try {
@@ -324,9 +329,13 @@ function refusal() {
 }
 
 /** The bytes of an argument. `others` says what else it may be. */
-function viewOf(value, name, others = '') {
+function viewOf(value, name, others) {
+    return typeOf.call(value) === 'Uint8Array' && lengthOf.call(value) > 0 ? value : otherView(value, name, others);
+}
+
+/** The same of any other argument than an array with bytes in it. */
+function otherView(value, name, others = '') {
     const type = typeOf.call(value);
-    if (type === 'Uint8Array' && lengthOf.call(value) > 0) return value;
     const isView = ArrayBuffer.isView(value);
     if (!isView && !isBuffer(value)) throw wrongType(name, `${others}a view of bytes or an ArrayBuffer`, value);
     try {

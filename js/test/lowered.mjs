@@ -76,6 +76,9 @@ assert.equal(new DataView(narrow.memory.buffer).getUint32(REFUSAL + 8, true), 63
 whole.fill(0xab, OUTPUT, OUTPUT + 32);
 assert.equal(narrow.const_hex_encode(OUTPUT, 32, 0, 0, LAST, 64), 1);
 assert.equal(Buffer.from(whole.subarray(LAST)).toString(), 'ab'.repeat(32));
+// A length of more than 31 bits: it is not the length that is wrong, but the first byte.
+assert.equal(narrow.const_hex_decode(2 ** 31 - 64, 2 ** 31 + 2, OUTPUT, 2 ** 30 + 1, REFUSAL), 0);
+assert.equal(new DataView(narrow.memory.buffer).getUint32(REFUSAL, true), 3);
 // No length fits, as the header says.
 assert.equal(narrow.const_hex_encoded_length(2 ** 31 - 1, 0) >>> 0, 2 ** 32 - 2);
 assert.equal(narrow.const_hex_encoded_length(2 ** 31, 0) >>> 0, 2 ** 32 - 1);

@@ -396,6 +396,7 @@ row('arrays that lie', () => {
         same(encode(view), '0102');
         same(thrown(() => decode(view)).byte, 1);
     }
+    for (const text of [lying(ascii('6b')), Liar.from(ascii('6b'))]) same([answer(() => decode(text)), isHex(text)], [[0x6b], true]);
     for (const view of [lying(new Uint8Array(0)), new Liar(0)]) same([encode(view), isHex(view)], ['', true]);
     for (const target of [lying(new Uint8Array(2)), new Liar(2)]) {
         same(answer(() => decodeInto('c9'.repeat(20), target)), 'InvalidStringLength');
