@@ -1,2 +1,3 @@
+pub mod Decoded
 pub mod Refusals
 pub mod Settings

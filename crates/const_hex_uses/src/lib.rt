@@ -14,4 +14,5 @@ pub mod readers;
 pub mod settings;
 pub mod sinks;
 pub mod store;
+pub mod streams;
 pub mod writers;

@@ -1,5 +1,5 @@
 -- Digits that come in pieces.
-use Rattle.std.proofs.Common.{◌≡◌, ℕ, suc, ◌+◌, ◌-◌, ◌*◌, ◌/◌, ◌%◌, ◌≤◌, List, [], ◌∷◌, ◌++◌, length, take, drop, get_or, slice_index, None, Ok, refl, sym, ap, ◌∙◌, arith, length-append, length-drop}
+use Rattle.std.proofs.Common.{◌≡◌, ℕ, suc, ◌+◌, ◌-◌, ◌*◌, ◌/◌, ◌%◌, ◌<◌, ◌≤◌, List, [], ◌∷◌, ◌++◌, length, take, drop, get_or, slice_index, Bool, true, false, if◌then◌else◌, ◌==◌, ◌&&◌, ◌||◌, None, Ok, refl, sym, ap, ◌∙◌, arith, length-append, length-drop}
 use Rattle.std.proofs.lemmas.Grind.{common_steps}
 use Rattle.std.proofs.lemmas.List.{append_assoc, append-nil, take-append-le, take-append-drop, take_all, take_at, drop_all, drop_at}
 use Rattle.const_hex.proofs.lemmas.Fronts.{partial_front}
@@ -8,13 +8,21 @@ use Rattle.const_hex.specs.Bodies.{body_of}
 use Rattle.const_hex.specs.Decoding.{HasRead, NamesCounted, counted, error_of, place_of, waiting_digit}
 use Rattle.const_hex.specs.TypeLaws.{body-parity}
 use Rattle.const_hex.specs.declared.codec.decoder.Decoder.{Decoder}
-use Rattle.const_hex.specs.declared.error.FromHexError.TheVariants.{InvalidHexCharacter}
+use Rattle.const_hex.specs.declared.error.FromHexError.TheVariants.{OddLength, InvalidStringLength, InvalidHexCharacter, NoMemory}
+use Rattle.const_hex.specs.declared.error.FromHexError.{FromHexError}
 use Rattle.const_hex_arch.specs.Digits.{IsDigit}
 use Rattle.std.proofs.lemmas.List.Elements.{All-drop}
 use Rattle.const_hex_arch.specs.Texts.{AllDigits, FirstBad, Partial, Spells}
 use Rattle.const_hex_arch.proofs.lemmas.Spelling.{FirstBad-after, Partial-after, Spells-append, Spells-digits, Spells-length, digits_append, digits_no_bad, first_bad}
 
 -- ---- a bad byte, whatever follows
+
+within_front : (u v : List ℕ) (p : ℕ) → p < length u → slice_index u p ≡ slice_index (u ++ v) p
+within_front u v p h = grind (arith, common_steps)
+
+longer : (b : Bool) (u v w : List ℕ) → (if b then u ++ w else v ++ w) ≡ (if b then u else v) ++ w
+longer true u v w = refl
+longer false u v w = refl
 
 pub FirstBad-longer : (u v : List ℕ) (p : ℕ) → FirstBad u p → FirstBad (u ++ v) p
 FirstBad-longer u v p f =
@@ -23,7 +31,7 @@ FirstBad-longer u v p f =
     record {
       within = omega (arith, length-append u v);
       before = rw (take-append-le p u v early) f.before;
-      here = let e : get_or u p 0 ≡ get_or (u ++ v) p 0 = grind (arith, common_steps) in rw e at f.here;
+      here = rw (within_front u v p inside) at f.here;
     }
 
 pub Partial-longer : (old u new v : List ℕ) → Partial old u new → Partial old (u ++ v) new
@@ -156,7 +164,53 @@ module _ (d : Decoder) (t bs piece w digits : List ℕ) (r : HasRead d t bs) (wh
         omega (arith, e, before, size, parts, bound),
       )
 
--- digits alone have no bad byte
+-- ---- a text with a bad byte, whatever follows
+
+body-longer : (t u : List ℕ) (p : ℕ) → FirstBad (body_of t) p → body_of (t ++ u) ≡ body_of t ++ u
+body-longer [] u p f = absurd (let inside = f.within in omega arith)
+body-longer (c ∷ []) [] p f = refl
+body-longer (c ∷ []) (d ∷ u) p f = grind (arith, f.within, f.here)
+body-longer (c ∷ d ∷ t) u p f = longer ((c == 48) && (d == 120 || d == 88)) t (c ∷ d ∷ t) u
+
+pub NamesCounted-longer : (t u : List ℕ) (e : FromHexError) → NamesCounted t e → NamesCounted (t ++ u) e
+NamesCounted-longer t u OddLength h = h
+NamesCounted-longer t u InvalidStringLength h = h
+NamesCounted-longer t u (InvalidHexCharacter c i) (n, (p, f, is, place), counts) =
+    let body = body-longer t u p f in
+    let inside = f.within in
+    let bound = body-shorter t in
+    let sizes : length (t ++ u) - length (body_of t ++ u) ≡ length t - length (body_of t) =
+    omega (arith, length-append t u, length-append (body_of t) u) in
+    let same : slice_index (body_of t) p ≡ slice_index (body_of t ++ u) p = within_front (body_of t) u p inside in
+    (n, (p, rw body (FirstBad-longer (body_of t) u p f), rw body (is ∙ same), rw (body, sizes) place), counts)
+NamesCounted-longer t u NoMemory h = h
+
+-- ---- what was read is spelled
+
+pub read_digits : (d : Decoder) (t bs : List ℕ) → HasRead d t bs → AllDigits (body_of t)
+read_digits d t bs r = rw r.whole ((digits_append r.pairs (waiting_digit d)).1 (Spells-digits _ _ r.given, r.waits))
+
+front_of : (u v bs : List ℕ) → Spells u bs → Spells (take (2 * length bs) (u ++ v)) bs
+front_of u v bs s = rw (take_at u v (2 * length bs) (Spells-length u bs s)) s
+
+-- whatever follows
+pub read_front : (d : Decoder) (t bs u : List ℕ) → HasRead d t bs → Spells (take (2 * length bs) (body_of (t ++ u))) bs
+read_front d t [] u r = tt
+read_front d [] (b ∷ bs) u r =
+    let twice = Spells-length r.pairs (b ∷ bs) r.given in
+    let size : 0 ≡ length r.pairs + length (waiting_digit d) = ap length r.whole ∙ length-append r.pairs (waiting_digit d) in
+    absurd (omega (arith, twice, size))
+read_front d (c ∷ []) (b ∷ bs) u r =
+    let twice = Spells-length r.pairs (b ∷ bs) r.given in
+    let size : 1 ≡ length r.pairs + length (waiting_digit d) = ap length r.whole ∙ length-append r.pairs (waiting_digit d) in
+    absurd (omega (arith, twice, size))
+read_front d (c ∷ e ∷ t) (b ∷ bs) u r =
+    let more : body_of ((c ∷ e ∷ t) ++ u) ≡ r.pairs ++ (waiting_digit d ++ u) =
+    longer ((c == 48) && (e == 120 || e == 88)) t (c ∷ e ∷ t) u ∙ ap (λ x. x ++ u) r.whole ∙ append_assoc r.pairs (waiting_digit d) u in
+    rw more (front_of r.pairs (waiting_digit d ++ u) (b ∷ bs) r.given)
+
+-- ---- digits alone have no bad byte
+
 pub not_all : (w digits old new : List ℕ) → Partial old (w ++ digits) new → AllDigits w → AllDigits digits → ⊥
 not_all w digits old new p a b = digits_no_bad (w ++ digits) p.bad ((digits_append w digits).1 (a, b)) p.first_bad
 

@@ -97,6 +97,9 @@ impl Decoder {
             → IfOk result (λ n. HasRead self.new (t ++ piece.now) (bs ++ take n output.new)) }
         ensures answer { (t bs : List ℕ) → HasRead self.old t bs
             → ReadsOn (t ++ piece.now) bs (length output.old) result }
+        ensures most { IfOk result (λ n. n ≤ (length piece.now + 1) / 2) }
+        ensures enough { (length piece.now + 1) / 2 ≤ length output.old
+            → result ≢ Err InvalidStringLength }
         ensures rest { IfOk result (λ n. drop n output.new ≡ drop n output.old) }
         ensures unchanged { result ≡ Err InvalidStringLength
             → (self.new ≡ self.old) × (output.new ≡ output.old) }
@@ -129,6 +132,9 @@ impl Decoder {
             → IfOk result (λ n. HasRead self.new (t ++ piece.now) (bs ++ take n output.new)) }
         ensures answer { (t bs : List ℕ) → HasRead self.old t bs
             → ReadsOn (t ++ piece.now) bs (length output.old) result }
+        ensures most { IfOk result (λ n. n ≤ (length piece.now + 1) / 2) }
+        ensures enough { (length piece.now + 1) / 2 ≤ length output.old
+            → result ≢ Err InvalidStringLength }
         ensures rest { IfOk result (λ n. drop n output.new ≡ drop n output.old) }
         ensures unchanged { result ≡ Err InvalidStringLength
             → (self.new ≡ self.old) × (output.new ≡ output.old) }
