@@ -1,10 +1,10 @@
-//! Texts that are decoded in pieces: at every cut, and with too little room.
+//! Texts that are decoded in pieces: at every cut, at random cuts, and with too little room.
 
 use crate::tests::decoding::Read;
 use crate::tests::kernels::KernelTest;
-use crate::tests::texts::bad;
+use crate::tests::texts::{PREFIXES, bad, behind, digits, read};
 use const_hex::{Decoder, FromHexError, Kernel};
-use hex_testing::{KernelCase, Testing, Text, same, same_bytes};
+use hex_testing::{KernelCase, Testing, Text, same, same_bytes, same_read};
 use std::alloc::{AllocError, Global};
 
 /// Texts and their answers. An odd length is found last.
@@ -17,14 +17,38 @@ const ROWS: [(&[u8], Read<'static>); 16] = [
     (b"0X6B697769", Ok(b"kiwi")),
     (b"006b697769", Ok(b"\0kiwi")),
     (b"0x6b6", Err(FromHexError::OddLength)),
-    (b"0x0x6b", Err(FromHexError::InvalidHexCharacter { c: 'x', index: 3 })),
-    (b"6b0x6b", Err(FromHexError::InvalidHexCharacter { c: 'x', index: 3 })),
-    (b"x06b", Err(FromHexError::InvalidHexCharacter { c: 'x', index: 0 })),
-    (b"1x6b", Err(FromHexError::InvalidHexCharacter { c: 'x', index: 1 })),
-    (b"0y6b", Err(FromHexError::InvalidHexCharacter { c: 'y', index: 1 })),
-    (b"0xg", Err(FromHexError::InvalidHexCharacter { c: 'g', index: 2 })),
-    (b"6b69776!!", Err(FromHexError::InvalidHexCharacter { c: '!', index: 7 })),
-    (b"6b69\n", Err(FromHexError::InvalidHexCharacter { c: '\n', index: 4 })),
+    (
+        b"0x0x6b",
+        Err(FromHexError::InvalidHexCharacter { c: 'x', index: 3 }),
+    ),
+    (
+        b"6b0x6b",
+        Err(FromHexError::InvalidHexCharacter { c: 'x', index: 3 }),
+    ),
+    (
+        b"x06b",
+        Err(FromHexError::InvalidHexCharacter { c: 'x', index: 0 }),
+    ),
+    (
+        b"1x6b",
+        Err(FromHexError::InvalidHexCharacter { c: 'x', index: 1 }),
+    ),
+    (
+        b"0y6b",
+        Err(FromHexError::InvalidHexCharacter { c: 'y', index: 1 }),
+    ),
+    (
+        b"0xg",
+        Err(FromHexError::InvalidHexCharacter { c: 'g', index: 2 }),
+    ),
+    (
+        b"6b69776!!",
+        Err(FromHexError::InvalidHexCharacter { c: '!', index: 7 }),
+    ),
+    (
+        b"6b69\n",
+        Err(FromHexError::InvalidHexCharacter { c: '\n', index: 4 }),
+    ),
 ];
 
 /// What a decoder gives for these pieces.
@@ -70,6 +94,65 @@ fn rows_at_every_cut(rt: HostRuntime) -> Result<(), AllocError> {
         Row { text, want }.with_each_kernel(&rt)?;
     }
     Ok(())
+}
+
+/// What a decoder gives for a text that is cut at random, into pieces of up to 31 bytes.
+fn at_random<K: Kernel>(
+    alloc: Global,
+    text: &[u8],
+    seed: &mut u64,
+) -> Result<Vec<u8>, FromHexError> {
+    let mut decoder = Decoder::new();
+    let mut all = Vec::new(alloc);
+    let mut rest = text;
+    for turn in 0..=text.len() {
+        *seed = seed.wrapping_mul(6_364_136_223_846_793_005).wrapping_add(1);
+        let count = match turn == text.len() {
+            true => rest.len(),
+            false => (*seed >> 59) as usize,
+        };
+        let (piece, behind) = rest.split_at(count.min(rest.len()));
+        let mut bytes = [0; 128];
+        let decoded = decoder.decode_with::<K>(piece, &mut bytes)?;
+        all.extend_from_slice(&bytes[..decoded])?;
+        rest = behind;
+    }
+    decoder.finish()?;
+    Ok(all)
+}
+
+/// Texts of up to 64 bytes at random cuts, whole and with a bad byte at each place.
+#[derive(Drop)]
+struct RandomCuts;
+
+impl KernelTest for RandomCuts {
+    fn run<K: Kernel>(&self, rt: &impl Testing, kernel: KernelCase) -> Result<(), AllocError> {
+        let mut seed = 1;
+        for half in 0..=64usize {
+            let mut body = digits(rt.alloc(), 2 * half)?;
+            let bytes = read(rt.alloc(), &body)?;
+            for prefix in PREFIXES {
+                let text = behind(rt.alloc(), prefix, &body)?;
+                let given = at_random::<K>(rt.alloc(), &text, &mut seed);
+                same_read!(rt, "at random cuts", (kernel, Text(&text)); given, Ok(&bytes));
+                for place in 0..body.len() {
+                    let digit = body[place];
+                    body[place] = b'g';
+                    let text = behind(rt.alloc(), prefix, &body)?;
+                    let given = at_random::<K>(rt.alloc(), &text, &mut seed);
+                    let error = bad(b'g', prefix.len().saturating_add(place));
+                    same_read!(rt, "at random cuts", (kernel, Text(&text)); given, Err(error));
+                    body[place] = digit;
+                }
+            }
+        }
+        Ok(())
+    }
+}
+
+#[test]
+fn random_cuts(rt: HostRuntime) -> Result<(), AllocError> {
+    RandomCuts.with_each_kernel(&rt)
 }
 
 #[test]
