@@ -65,6 +65,7 @@ fn in_pieces<K: Kernel>(alloc: Global, pieces: &[&[u8]]) -> Result<Vec<u8>, From
 }
 
 /// A text and its answer.
+#[derive(Drop)]
 struct Row<'a> {
     text: &'a [u8],
     want: Read<'a>,
