@@ -87,6 +87,8 @@ test_answers() {
     starts "lengths.c" "$room/lengths"
     does "pieces.c" compiled pieces c/tests/pieces.c "$archive"
     starts "pieces.c" "$room/pieces"
+    does "pairs.c" compiled pairs c/tests/pairs.c "$archive"
+    starts "pairs.c" "$room/pairs"
     does "compilers.c" compiled compilers c/tests/compilers.c "$room/second/libconst_hex.a" "$archive"
     starts "compilers.c" "$room/compilers"
     does "shared_text.c" compiled shared_text c/tests/shared_text.c "$archive"

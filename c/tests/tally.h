@@ -25,14 +25,14 @@ struct test {
 };
 
 /*
- * Runs each test for each build that this processor can run, and says how many passed: a test of one
- * build is one. Answers the status to end with.
+ * Runs each test for each build from `first` on that this processor can run, and says how many passed:
+ * a test of one build is one. Answers the status to end with.
  */
-static int run_all(const struct test *tests, size_t count) {
+static inline int run_from(size_t first, const struct test *tests, size_t count) {
     size_t builds = builds_here();
     unsigned long passed = 0;
     unsigned long failed = 0;
-    for (size_t which = 0; which < builds; which++) {
+    for (size_t which = first; which < builds; which++) {
         build = &BUILDS[which];
         for (size_t test = 0; test < count; test++) {
             unsigned long before = wrong;
@@ -48,6 +48,20 @@ static int run_all(const struct test *tests, size_t count) {
     printf("%lu checks\n", checks);
     printf("%lu passed, %lu failed\n", passed, failed);
     return failed == 0 ? 0 : 1;
+}
+
+/* Runs them for each build and for the dispatcher. */
+static inline int run_all(const struct test *tests, size_t count) {
+    return run_from(0, tests, count);
+}
+
+/* Runs them for each build, without the dispatcher, which picks one of these. */
+static inline int run_builds(const struct test *tests, size_t count) {
+#ifdef CONST_HEX_SINGLE
+    return run_from(0, tests, count);
+#else
+    return run_from(1, tests, count);
+#endif
 }
 
 #endif
