@@ -12,14 +12,14 @@
  * No call can check these rules. Unless a rule says more, nothing is promised if it is broken:
  *  - a pointer points to as many bytes as the length after it says. They can be read, and also
  *    written if the pointer is not to const. A null pointer is allowed if the length is 0;
- *  - what a call writes (text or bytes, count, refusal, buffer) overlaps nothing else that the call
- *    is given, and no other thread touches it during the call;
+ *  - what a call writes (text or bytes, count, refusal, decoder, buffer) overlaps nothing else that
+ *    the call is given, and no other thread touches it during the call;
  *  - nothing else changes what a call reads during the call: no other thread, and no other process
  *    through shared memory or a mapped file. If the text changes all the same, the call still
  *    returns and writes only what it was given, but the answer and what is written may be anything.
  *    Tests show this, and no proof does;
- *  - a pointer to one value (count, refusal) is not null and is aligned for its type. The value can
- *    be written; const_hex_refusal_words only reads its refusal;
+ *  - a pointer to one value (count, refusal, decoder) is not null and is aligned for its type. The
+ *    value can be written, unless the pointer is to const;
  *  - prefix and upper are 0 or 1. In C and C++ the type bool ensures that. From another language,
  *    pass its bool and not an int.
  *
@@ -31,8 +31,10 @@
  * On x86-64 the library needs a processor with x86-64-v2 (SSE4.2 and what came with it, since about
  * 2009). On an older one a call may stop the program with an illegal instruction.
  *
- * The archive with two builds picks one by an indirect function (ifunc). musl has none, and programs
- * that are built with -mcmodel=large cannot link it. Both need the archive of c/build --single.
+ * On x86-64 the library is tested with glibc and with musl.
+ *
+ * The objects have no unwind tables. A debugger or a profiler that stops inside a call may not find the
+ * caller.
  *
  * The objects have no marks for IBT and SHSTK. A program that is linked with them runs without both.
  *
@@ -41,9 +43,18 @@
  * If a text is valid, and for all bytes that are encoded, the instructions that a call runs depend
  * only on the call, the lengths, the prefix, and upper. No address that it reads or writes depends
  * on a byte or a digit. This is tested for both builds on x86-64, and not proved. It is not said of
- * const_hex_check_raw of one digit alone, nor of a text that is refused: the refusal names the place
- * of the bad character, and the time shows it too. How long an instruction takes is up to the
+ * a text that is refused: the refusal names the place of the bad character, and the time shows it
+ * too. How long an instruction takes is up to the
  * processor. No memory is wiped. libsodium has sodium_bin2hex and sodium_hex2bin, made for keys.
+ *
+ * TEXTS IN PIECES
+ *
+ * A text that comes in pieces, as from a file or a socket, is decoded by const_hex_decode_piece, which
+ * takes the prefix from the front of the text alone. Any other call that decodes or checks has to be
+ * given a whole text: it would drop a 0x at the front of any piece.
+ *
+ * To encode bytes that come in pieces, call const_hex_encode for each piece, with a prefix for the
+ * first piece alone. The texts together are the text of all bytes.
  *
  * EXAMPLES
  *
@@ -66,10 +77,9 @@
  *
  * BUILDING
  *
- * The first command uses the archive of c/build, the second what c/install has installed:
- *
- *     cc -std=c99 -Ic program.c c/out/libconst_hex.a -o program
  *     cc -std=c99 program.c $(pkg-config --cflags --libs const_hex) -o program
+ *
+ * In CMake, find_package(const_hex) finds the library, and const_hex::const_hex is its target.
  */
 #ifndef CONST_HEX_H
 #define CONST_HEX_H
@@ -79,7 +89,7 @@
 #include <stdint.h>
 
 /* The version of these calls: 10000 times the major one, 100 times the minor one, and the patch. */
-#define CONST_HEX_VERSION 10000
+#define CONST_HEX_VERSION 10100
 
 /* How long the text of so many bytes is, as a constant that can size an array. */
 #define CONST_HEX_TEXT_LENGTH(bytes, prefix) (2 * (bytes) + ((prefix) ? 2 : 0))
@@ -162,11 +172,55 @@ bool const_hex_decode(const char *text, size_t text_length, void *bytes, size_t 
  * *count is their number, and the rest of bytes and refusal are unchanged. Returns false if text is
  * refused. Then *count is unchanged, and refusal is as for const_hex_decode, but
  * CONST_HEX_INVALID_LENGTH means that text spells more than bytes_length bytes.
+ *
+ * The text has to be whole. const_hex_decode_piece decodes one that comes in pieces.
  */
 CONST_HEX_ANSWER
 bool const_hex_decode_front(const char *text, size_t text_length, void *bytes,
                             size_t bytes_length, size_t *count,
                             struct const_hex_refusal *refusal);
+
+/*
+ * A decoder of a text that comes in pieces. If all of it is 0, it is a new one:
+ *
+ *     struct const_hex_decoder decoder = {0};
+ *
+ * Only the two calls below use what it holds. It may be copied, and nothing has to be freed. With any
+ * other values the calls are as safe, but the bytes and the answers may be anything.
+ */
+struct const_hex_decoder {
+    size_t state[2];
+};
+
+/*
+ * Decodes the next piece of a text. The text may be cut anywhere, also between the two digits of a
+ * byte or between the 0 and the x of its prefix, and a piece may be empty.
+ *
+ * Returns true if the text has no bad byte so far, and there is room. Then the front of bytes holds
+ * what the text spells so far and no call before has given, *count is the number of these bytes, and
+ * the rest of bytes and refusal are unchanged. There are at most (text_length + 1) / 2 of them.
+ * Returns false if not. Then *count is unchanged, and refusal has one of these:
+ *  - CONST_HEX_INVALID_LENGTH, if there are more than bytes_length bytes. decoder and bytes are
+ *    unchanged: call again with the same piece and more room, or with less of the piece;
+ *  - CONST_HEX_INVALID_CHARACTER, with the place of the bad byte in the whole text, up to SIZE_MAX. A
+ *    front of bytes may be decoded, and the rest is unchanged. Each later call for this decoder gives
+ *    the same refusal, and changes nothing else.
+ */
+CONST_HEX_ANSWER
+bool const_hex_decode_piece(struct const_hex_decoder *decoder, const char *text, size_t text_length,
+                            void *bytes, size_t bytes_length, size_t *count,
+                            struct const_hex_refusal *refusal);
+
+/*
+ * Whether the pieces that a decoder was given are a whole text. Then they spell the bytes that were
+ * given, and refusal is unchanged. If not, refusal has one of these:
+ *  - CONST_HEX_INVALID_CHARACTER, if a piece was refused for it, with the same place;
+ *  - CONST_HEX_ODD_LENGTH, if a digit is left over. A whole text in one piece is refused for its odd
+ *    length first.
+ */
+CONST_HEX_ANSWER
+bool const_hex_decode_end(const struct const_hex_decoder *decoder,
+                          struct const_hex_refusal *refusal);
 
 /*
  * Whether text can be decoded. If not, refusal says why: CONST_HEX_ODD_LENGTH, or else

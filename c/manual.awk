@@ -1,4 +1,4 @@
-# Writes the manual page const_hex(3) from const_hex.h, whose comments are its text.
+# Writes the manual page PAGE from const_hex.h, whose comments are its text: const_hex, or a call.
 #
 # The first comment is the front: its lines in capitals head sections, and its lines that are set in by
 # four blanks are shown as they stand. Behind it, each comment with what it stands above is a part of
@@ -61,25 +61,39 @@ function print_words(line) {
     print shown(line)
 }
 
-function print_declaration() {
-    if (declaration == "") return
-    printf ".PP\n.nf\n%s.fi\n", declaration
+# The lines of the comment. $1 begins each paragraph.
+function print_comment(paragraph) {
     count = split(comment, lines, "\n")
-    print ".IP"
     for (at = 1; at < count; at++) {
-        if (lines[at] == "") print ".IP"
+        if (lines[at] == "") print paragraph
         else print_words(lines[at])
+    }
+}
+
+function print_declaration() {
+    if (declaration != "" && !is_call) {
+        printf ".PP\n.nf\n%s.fi\n.IP\n", declaration
+        print_comment(".IP")
+    } else if (index(declaration, PAGE "(")) {
+        printf ".PP\n%s.fi\n.SH DESCRIPTION\n", declaration
+        print_comment(".PP")
     }
     declaration = comment = ""
 }
 
 BEGIN {
-    print ".TH CONST_HEX 3 \"\" \"const_hex " VERSION "\""
-    print ".SH NAME\nconst_hex \\- hexadecimal text, proved"
-    print ".SH SYNOPSIS\n.nf\n#include <const_hex.h>\n.fi\n.SH DESCRIPTION"
+    is_call = PAGE != "const_hex"
+    print ".TH " toupper(PAGE) " 3 \"\" \"const_hex " VERSION "\""
+    print ".SH NAME\n" PAGE " \\- hexadecimal text, proved"
+    print ".SH SYNOPSIS\n.nf\n#include <const_hex.h>"
+    if (!is_call) print ".fi\n.SH DESCRIPTION"
 }
 
-# The front.
+# The front, which the page of a call leaves out.
+!behind_front && is_call {
+    behind_front = /^ \*\/$/
+    next
+}
 !behind_front && /^\/\*$/ { next }
 !behind_front && /^ \*\/$/ {
     end_code()
@@ -106,4 +120,10 @@ declaration == "" && /^(\/\*| \*)/ {
 }
 { declaration = declaration shown($0) "\n" }
 
-END { print_declaration() }
+END {
+    print_declaration()
+    if (is_call) {
+        print ".SH SEE ALSO\n.BR const_hex (3)"
+        print "has what every caller has to ensure, the kinds of a refusal, limits, and examples."
+    }
+}

@@ -1,15 +1,15 @@
 // Measures the codec beside what the engine has, and beside a loop with a table.
 //
-//     node --experimental-wasm-memory64 js/bench.mjs     (Node 24 needs no flag)
+//     node js/bench.mjs
+//     js/test/browse chromium js/bench.html     (or firefox)
 //
-// In a browser the page bench.html runs it, served as in `cd js && python3 -m http.server`. A cell has the
-// nanoseconds per call of the fastest batch and of the median one. The sides run in turn. Their answers
-// are compared first.
+// A cell has the nanoseconds per call of the fastest batch and of the median one. The sides run in turn.
+// Their answers are compared first.
 import { decode, encode } from './const_hex.js';
 
-const BATCHES = 25;
-// Long enough for a clock of 0.1 ms, as browsers have it.
-const BATCH_NANOSECONDS = 2e7;
+const BATCHES = 60;
+// Long enough for a clock of 0.02 ms, as browsers have it for an isolated page.
+const BATCH_NANOSECONDS = 5e6;
 const LENGTHS = [20, 32, 2048, 2 ** 20];
 
 const DIGITS = Array.from({ length: 256 }, (_, byte) => byte.toString(16).padStart(2, '0'));
@@ -70,6 +70,7 @@ function batch(side, count) {
 
 /** How many calls last as long as a batch. The side is warm then. */
 function countOf(side) {
+    batch(side, 100);
     let count = 1;
     while (batch(side, count) * count < BATCH_NANOSECONDS) count *= 2;
     return count;
@@ -113,3 +114,5 @@ for (const call of ['encode', 'decode']) {
         row([`\`${call}\``, length, ...measure(Object.values(sides))]);
     }
 }
+// For `browse`, which waits for this.
+if (globalThis.document) fetch('/done', { method: 'POST', body: document.querySelector('pre').textContent });

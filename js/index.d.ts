@@ -39,11 +39,46 @@ export function decode(text: Text): Uint8Array;
  */
 export function decodeInto<Target extends Uint8Array>(text: Text, target: Target): Target;
 
+/** What `decoder` returns. */
+export interface Decoder {
+    /**
+     * The bytes that the text spells so far and no call before has returned.
+     *
+     * @throws {HexError} if a character is not a digit, with its place in the whole text. Each later call
+     *     throws the same. Else the errors of `decode`, after which the call may be made again
+     */
+    push(piece: Text): Uint8Array;
+    /**
+     * Returns if the pieces are a whole text.
+     *
+     * @throws {HexError} if a digit is left over, or what `push` has thrown
+     */
+    end(): void;
+}
+
+/**
+ * A decoder of a text that comes in pieces, cut anywhere. A prefix is removed from the front of the text
+ * alone, while `decode` of each piece would remove one from the front of any piece.
+ */
+export function decoder(): Decoder;
+
 /** Throws what `decode` throws for the text, and returns nothing if it throws nothing. */
 export function check(text: Text): void;
 
 /** Whether `decode` accepts the text. A wrong type throws a `TypeError` as there. */
 export function isHex(text: Text): boolean;
+
+/** `encode` without options, by the name that `@noble/hashes` has for it. */
+export function bytesToHex(bytes: Bytes): string;
+
+/** `decode`, by the name that `@noble/hashes` has for it. That one refuses a prefix, this one accepts it. */
+export function hexToBytes(text: Text): Uint8Array;
+
+/**
+ * Clears what earlier calls left in the memory of the module. Strings, and arrays outside of it, stay as
+ * they are.
+ */
+export function wipe(): void;
 
 /** The error of a text that cannot be decoded. */
 export class HexError extends SyntaxError {

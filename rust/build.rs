@@ -1,7 +1,8 @@
 //! Finds `libconst_hex`, the library for C.
 //!
-//! The folder that `CONST_HEX_LIBRARIES` names has it, else pkg-config finds it, else `c/build` makes
-//! it. A folder is handed on to the build scripts of dependents, as `DEP_CONST_HEX_FOLDER`.
+//! The folder that `CONST_HEX_LIBRARIES` names has it; else it stands beside this package, as in the
+//! archive of a release; else pkg-config finds it; else `c/build` makes it. A folder is handed on to the
+//! build scripts of dependents, as `DEP_CONST_HEX_FOLDER`.
 
 use std::env;
 use std::path::{Path, PathBuf};
@@ -28,15 +29,16 @@ fn main() {
     println!("cargo:rerun-if-env-changed={FOLDER}");
     let found = match env::var_os(FOLDER) {
         Some(folder) => link(Path::new(&folder)),
-        None => packaged().or_else(|unpackaged| {
+        None => link(Path::new("../lib")).or_else(|_| packaged()).or_else(|unpackaged| {
             made().map_err(|unmade| format!("pkg-config: {unpackaged}\nc/build: {unmade}"))
         }),
     };
     if let Err(reason) = found {
         eprintln!("const-hex-proved does not find the library for C. It links the first of these:");
         eprintln!("1. the library in the folder that {FOLDER} names, if the variable is set;");
-        eprintln!("2. the one that pkg-config finds as const_hex, and that c/install installs;");
-        eprintln!("3. the one that c/build makes, if the command rt is on the path.");
+        eprintln!("2. the one in ../lib, as in the archive of a release;");
+        eprintln!("3. the one that pkg-config finds as const_hex, and that c/install installs;");
+        eprintln!("4. the one that c/build makes, if the command rt is on the path.");
         eprintln!("{reason}");
         exit(1);
     }
@@ -60,7 +62,7 @@ fn link(folder: &Path) -> Result<(), String> {
 fn packaged() -> Result<(), String> {
     let mut sought = pkg_config::Config::new();
     sought
-        .range_version("1.0".."2.0")
+        .range_version("1.1".."2.0")
         .statik(true)
         .probe("const_hex")
         .map(drop)
@@ -74,10 +76,9 @@ fn made() -> Result<(), String> {
         println!("cargo:rerun-if-changed={}", top.join(source).display());
     }
     let target = |part| env::var(format!("CARGO_CFG_TARGET_{part}")).unwrap_or_default();
-    let words: &[&str] = match (&*target("ARCH"), &*target("OS"), &*target("ENV")) {
-        ("x86_64", "linux", "musl") => &["--single"],
-        ("x86_64", "linux", _) => &[],
-        ("aarch64", "linux", _) => &["--target", "aarch64"],
+    let words: &[&str] = match (&*target("ARCH"), &*target("OS")) {
+        ("x86_64", "linux") => &[],
+        ("aarch64", "linux") => &["--target", "aarch64"],
         _ => return Err("the library is for Linux on x86-64 and aarch64".to_string()),
     };
     let folder = PathBuf::from(env::var_os("OUT_DIR").expect("cargo names a folder"));

@@ -30,4 +30,7 @@ def main(library, name):
     print(text.raw.decode("ascii"))
 
 
+if len(sys.argv) != 3:
+    print(f"usage: {sys.argv[0]} LIBRARY FILE", file=sys.stderr)
+    sys.exit(2)
 main(*sys.argv[1:])

@@ -22,6 +22,11 @@ extern "C" {
     bool const_hex_decode_front_##build(const char *text, size_t text_length, void *bytes,        \
                                         size_t bytes_length, size_t *count,                       \
                                         struct const_hex_refusal *refusal);                       \
+    bool const_hex_decode_piece_##build(struct const_hex_decoder *decoder, const char *text,      \
+                                        size_t text_length, void *bytes, size_t bytes_length,     \
+                                        size_t *count, struct const_hex_refusal *refusal);        \
+    bool const_hex_decode_end_##build(const struct const_hex_decoder *decoder,                    \
+                                      struct const_hex_refusal *refusal);                         \
     bool const_hex_check_##build(const char *text, size_t text_length,                            \
                                  struct const_hex_refusal *refusal);                              \
     bool const_hex_check_raw_##build(const char *text, size_t text_length);                       \
@@ -42,6 +47,9 @@ struct build {
     bool (*decode)(const char *, size_t, void *, size_t, struct const_hex_refusal *);
     bool (*decode_front)(const char *, size_t, void *, size_t, size_t *,
                          struct const_hex_refusal *);
+    bool (*decode_piece)(struct const_hex_decoder *, const char *, size_t, void *, size_t, size_t *,
+                         struct const_hex_refusal *);
+    bool (*decode_end)(const struct const_hex_decoder *, struct const_hex_refusal *);
     bool (*check)(const char *, size_t, struct const_hex_refusal *);
     bool (*check_raw)(const char *, size_t);
     size_t (*words)(const struct const_hex_refusal *, char *, size_t);
@@ -51,8 +59,9 @@ struct build {
 #define BUILD(name, end)                                                                          \
     {                                                                                             \
         name, const_hex_encoded_length##end, const_hex_encode##end, const_hex_decode##end,        \
-            const_hex_decode_front##end, const_hex_check##end, const_hex_check_raw##end,          \
-            const_hex_refusal_words##end, const_hex_version##end                                  \
+            const_hex_decode_front##end, const_hex_decode_piece##end, const_hex_decode_end##end,  \
+            const_hex_check##end, const_hex_check_raw##end, const_hex_refusal_words##end,         \
+            const_hex_version##end                                                                \
     }
 
 static const struct build BUILDS[] = {

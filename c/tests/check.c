@@ -61,7 +61,7 @@ static void worked_rows(void) {
               build->encoded_length(SIZE_MAX / 2 + 1, false) == SIZE_MAX &&
               build->encoded_length(SIZE_MAX, true) == SIZE_MAX,
           "encoded_length that does not fit", 0, 0);
-    holds(build->version() == 10000 && CONST_HEX_VERSION == 10000, "version", 0, 0);
+    holds(build->version() == 10100 && CONST_HEX_VERSION == 10100, "version", 0, 0);
     holds(CONST_HEX_TEXT_LENGTH(20, true) == 42 && CONST_HEX_TEXT_LENGTH(3 + 1, false) == 8,
           "CONST_HEX_TEXT_LENGTH", 0, 0);
 }

@@ -28,6 +28,7 @@ class Refusal(ctypes.Structure):
 
 SIZE = ctypes.c_size_t
 TEXT, REFUSAL = [ctypes.c_char_p, SIZE], [ctypes.POINTER(Refusal)]
+DECODER = [ctypes.POINTER(SIZE * 2)]
 
 # The answer and the parameters of each call.
 FORMS = {
@@ -35,6 +36,8 @@ FORMS = {
     "encode": (ctypes.c_bool, TEXT + [ctypes.c_bool, ctypes.c_bool] + TEXT),
     "decode": (ctypes.c_bool, TEXT + TEXT + REFUSAL),
     "decode_front": (ctypes.c_bool, TEXT + TEXT + [ctypes.POINTER(SIZE)] + REFUSAL),
+    "decode_piece": (ctypes.c_bool, DECODER + TEXT + TEXT + [ctypes.POINTER(SIZE)] + REFUSAL),
+    "decode_end": (ctypes.c_bool, DECODER + REFUSAL),
     "check": (ctypes.c_bool, TEXT + REFUSAL),
     "check_raw": (ctypes.c_bool, TEXT),
     "refusal_words": (SIZE, REFUSAL + TEXT),
@@ -70,6 +73,18 @@ class Library:
         if self.call_decode_front(text, len(text), out, room, count, refusal):
             return None, out.raw[: count.value]
         return refusal, out.raw
+
+    def in_pieces(self, pieces):
+        """The refusal or the bytes of a text in pieces."""
+        decoder, refusal, count = (SIZE * 2)(), Refusal(), SIZE()
+        given = b""
+        for piece in pieces:
+            room = (len(piece) + 1) // 2
+            out = ctypes.create_string_buffer(b"\xee" * room, room)
+            if not self.call_decode_piece(decoder, piece, len(piece), out, room, count, refusal):
+                return refusal, given
+            given += out.raw[: count.value]
+        return (None if self.call_decode_end(decoder, refusal) else refusal), given
 
     def check(self, text):
         refusal = Refusal()
@@ -154,6 +169,28 @@ def replay(library, questions, answers):
         raise AssertionError(f"only {asked} questions")
 
 
+def in_two_pieces(library, questions, answers):
+    """Each stored text that is decoded, at every cut into two: the same answer, but oddness is found last."""
+    asked = 0
+    for question, wanted in zip(questions, answers, strict=True):
+        operation, data, *_ = question.split(" ")
+        if operation != "decode":
+            continue
+        data = b"" if data == "-" else bytes.fromhex(data)
+        bad = library.check(data + b"0") if len(data) % 2 else None
+        if bad is not None:
+            wanted = str(bad)
+        for cut in range(len(data) + 1) if len(data) <= 300 else [1, 2, 3, len(data) // 2, len(data) - 1]:
+            asked += 1
+            refusal, given = library.in_pieces([data[:cut], data[cut:]])
+            answered = f"OK {shown(given)}" if refusal is None else str(refusal)
+            if answered != wanted:
+                raise AssertionError(f"{question} at {cut}: {answered}, and not {wanted}")
+    print(f"check.py: {asked} texts in two pieces")
+    if asked < 5000:
+        raise AssertionError(f"only {asked} texts")
+
+
 MODES = {"encode": "encode", "encode_upper": "encode-upper", "encode_prefixed": "encode-prefixed",
          "encode_upper_prefixed": "encode-upper-prefixed", "decode": "decode", "check": "check"}
 
@@ -217,7 +254,7 @@ def against_python(library, questions, answers):
 
 def version(library, questions, answers):
     """The version, and the length that does not fit."""
-    assert library.call_version() == 10000
+    assert library.call_version() == 10100
     assert library.call_encoded_length(2**63, False) == 2**64 - 1
 
 
@@ -232,7 +269,7 @@ def main():
         answers = file.read().splitlines()
     passed = failed = 0
     library = Library(path)
-    for test in [replay, against_python, version] + [against_consthex] * (PROGRAM is not None):
+    for test in [replay, in_two_pieces, against_python, version] + [against_consthex] * (PROGRAM is not None):
         try:
             test(library, questions, answers)
             passed += 1

@@ -38,15 +38,32 @@ static bool agree(const struct outcome *one, const struct outcome *other) {
            memcmp(one->output, other->output, ROOMS) == 0;
 }
 
-/* Both builds on one text: decode into its own room, decode_front into more, check and check_raw. */
+/* A text in two pieces, behind its prefix and a digit more. The answer is that of the last call. */
+static void in_pieces(const struct build *with, const char *text, size_t length, struct outcome *outcome) {
+    struct const_hex_decoder decoder = {{0, 0}};
+    size_t cut = length < 3 ? length : 3;
+    size_t first = 0;
+    outcome->answer =
+        with->decode_piece(&decoder, text, cut, outcome->output, ROOMS, &first, &outcome->refusal) &&
+        with->decode_piece(&decoder, text + cut, length - cut, outcome->output + first, ROOMS - first,
+                           &outcome->count, &outcome->refusal) &&
+        with->decode_end(&decoder, &outcome->refusal);
+}
+
+/*
+ * Both builds on one text: decode into its own room, decode_front into more, check, check_raw, and in
+ * pieces.
+ */
 static void reads(const char *text, size_t length, size_t room, size_t place) {
     const struct build *both[] = {build, second};
-    struct outcome outcomes[4][2];
+    struct outcome outcomes[5][2];
     for (size_t which = 0; which < 2; which++) {
         struct outcome *exact = &outcomes[0][which];
         struct outcome *front = &outcomes[1][which];
         struct outcome *check = &outcomes[2][which];
         struct outcome *raw = &outcomes[3][which];
+        begin(&outcomes[4][which]);
+        in_pieces(both[which], text, length, &outcomes[4][which]);
         begin(exact);
         begin(front);
         begin(check);
@@ -61,6 +78,7 @@ static void reads(const char *text, size_t length, size_t room, size_t place) {
     holds(agree(&outcomes[1][0], &outcomes[1][1]), "decode_front", length, place);
     holds(agree(&outcomes[2][0], &outcomes[2][1]), "check", length, place);
     holds(agree(&outcomes[3][0], &outcomes[3][1]), "check_raw", length, place);
+    holds(agree(&outcomes[4][0], &outcomes[4][1]), "pieces", length, place);
 }
 
 /* Both builds encode so many bytes, into the text's room and into one byte less and more. */

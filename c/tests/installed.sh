@@ -6,30 +6,35 @@ installs() { (umask 077; c/install --prefix "$room/usr" "$room/both" > "$room/sa
 # Whether the files of $room/usr hold what was built, and others may read them.
 is_whole() {
     local lib=$room/usr/lib
-    cmp "$archive" "$lib/libconst_hex.a" && cmp "$shared" "$lib/libconst_hex.so.1.0.0" &&
+    cmp "$archive" "$lib/libconst_hex.a" && cmp "$shared" "$lib/libconst_hex.so.1.1.0" &&
         cmp c/const_hex.h "$room/usr/include/const_hex.h" &&
         (cd "$room/usr" && find . ! -type l -printf '%m %P\n' | sort -k 2 | sed 's/ $//') | diff - <(
-            cat << 'END'
+            cat << END
 755
 755 include
 644 include/const_hex.h
 755 lib
+755 lib/cmake
+755 lib/cmake/const_hex
+644 lib/cmake/const_hex/const_hexConfig.cmake
+644 lib/cmake/const_hex/const_hexConfigVersion.cmake
 644 lib/libconst_hex.a
-755 lib/libconst_hex.so.1.0.0
+755 lib/libconst_hex.so.1.1.0
 755 lib/pkgconfig
 644 lib/pkgconfig/const_hex.pc
 755 share
 755 share/man
 755 share/man/man3
 644 share/man/man3/const_hex.3
+$(printf '644 share/man/man3/%s.3\n' "${calls[@]}")
 END
         )
 }
 
 # Whether a file that a program holds stays what it is when the library is installed again.
 replaces() {
-    ln "$room/usr/lib/libconst_hex.so.1.0.0" "$room/held" && installs &&
-        [ ! "$room/held" -ef "$room/usr/lib/libconst_hex.so.1.0.0" ] && cmp "$room/held" "$shared"
+    ln "$room/usr/lib/libconst_hex.so.1.1.0" "$room/held" && installs &&
+        [ ! "$room/held" -ef "$room/usr/lib/libconst_hex.so.1.1.0" ] && cmp "$room/held" "$shared"
 }
 
 # Whether the archive alone of the folder $1 is installed, over both libraries.
@@ -60,6 +65,7 @@ is_other_version() {
     copy_scripts && "$room/other/c/install" --prefix "$usr" "$room/both" > "$room/said" &&
         [ -f "$usr/lib/libconst_hex.so.1.2.3" ] &&
         grep -qx 'Version: 1.2.3' "$usr/lib/pkgconfig/const_hex.pc" &&
+        grep -qx 'set(PACKAGE_VERSION 1.2.3)' "$usr/lib/cmake/const_hex/const_hexConfigVersion.cmake" &&
         grep -qx '.TH CONST_HEX 3 "" "const_hex 1.2.3"' "$usr/share/man/man3/const_hex.3"
 }
 
@@ -137,14 +143,17 @@ listed() { (cd "$1" && find . ! -type d | sort); }
 
 is_installed() {
     listed "$1" | diff - <(
-        cat << 'END'
+        cat << END
 ./include/const_hex.h
+./lib/cmake/const_hex/const_hexConfig.cmake
+./lib/cmake/const_hex/const_hexConfigVersion.cmake
 ./lib/libconst_hex.a
 ./lib/libconst_hex.so
 ./lib/libconst_hex.so.1
-./lib/libconst_hex.so.1.0.0
+./lib/libconst_hex.so.1.1.0
 ./lib/pkgconfig/const_hex.pc
 ./share/man/man3/const_hex.3
+$(printf './share/man/man3/%s.3\n' "${calls[@]}")
 END
     )
 }
@@ -164,13 +173,75 @@ by_package() {
         "${static[@]}" $(package --cflags --libs "$@") -o "$room/$example"
 }
 
-# Whether the page has each call of the header, and no line of its comments that is marked as one.
+# Whether the page has each call of the header, and no page has a line of the comments that is marked as
+# one, or a path of this checkout.
 is_page() {
-    local call page=$room/usr/share/man/man3/const_hex.3
+    local call pages=$room/usr/share/man/man3
     for call in "${calls[@]}"; do
-        grep -q "$call(" "$page" || return 1
+        grep -q "$call(" "$pages/const_hex.3" || return 1
     done
-    ! grep -q '^ \*' "$page"
+    ! grep -E '^ \*|(^|[^a-z])c/' "$pages"/*
+}
+
+# Whether man finds the page of each call by its name, with the call and its comment, and complains of none.
+is_found_by_man() {
+    local call
+    for call in "${calls[@]}"; do
+        LC_ALL=C.UTF-8 man --warnings -M "$room/usr/share/man" "$call" > "$room/shown" \
+            2> "$room/complaint" && [ ! -s "$room/complaint" ] && grep -q "$call(" "$room/shown" &&
+            grep -A 1 '^DESCRIPTION$' "$room/shown" | grep -q '^ .*[a-z]' || return 1
+    done
+}
+
+# Compiles and runs an example by CMake. $1 is the folder where the library was installed, $2 the version
+# that is wanted.
+by_cmake() {
+    local from=$room/cmake
+    rm -rf "$from" && mkdir "$from" && cat > "$from/CMakeLists.txt" << END &&
+cmake_minimum_required(VERSION 3.10)
+project(tried C)
+find_package(const_hex $2 REQUIRED)
+add_executable(fingerprint $PWD/c/examples/fingerprint.c)
+target_link_libraries(fingerprint const_hex::const_hex)
+END
+        cmake -S "$from" -B "$from/made" "-DCMAKE_PREFIX_PATH=$1" > "$room/said" 2> "$room/complaint" &&
+        cmake --build "$from/made" > "$room/said" &&
+        writes 0 "$room/foobar.stdout" "$from/made/fingerprint" "$room/foobar"
+}
+
+# Whether CMake does not take the library for the version $1.
+not_by_cmake() {
+    ! by_cmake "$room/usr" "$1" && grep -q 'compatible with requested version' "$room/complaint"
+}
+
+# Compiles and runs an example by meson, which finds the library by $1: pkg-config or cmake.
+by_meson() {
+    local from=$room/meson
+    rm -rf "$from" && mkdir "$from" && cp c/examples/fingerprint.c "$from" &&
+        cat > "$from/meson.build" << END &&
+project('tried', 'c')
+library = dependency('const_hex', version: '>=1.0', method: '$1', modules: ['const_hex::const_hex'])
+executable('fingerprint', 'fingerprint.c', dependencies: library)
+END
+        PKG_CONFIG_PATH=$room/usr/lib/pkgconfig meson setup "-Dcmake_prefix_path=$room/usr" \
+            "$from/made" "$from" > "$room/said" &&
+        meson compile -C "$from/made" > "$room/said" &&
+        LD_LIBRARY_PATH=$room/usr/lib writes 0 "$room/foobar.stdout" "$from/made/fingerprint" \
+            "$room/foobar"
+}
+
+test_build_systems() {
+    if has 5 CMake cmake; then
+        does "CMake" by_cmake "$room/usr" 1.0
+        does "CMake with the archive alone" by_cmake "$room/alone single" 1.1.0
+        does "CMake without a version" by_cmake "$room/usr" ""
+        does "CMake for a later version" not_by_cmake 1.99
+        does "CMake for another version" not_by_cmake 0.9
+    fi
+    if has 2 meson meson ninja pkg-config cmake; then
+        does "meson by pkg-config" by_meson pkg-config
+        does "meson by CMake" by_meson cmake
+    fi
 }
 
 # Whether a package's folder is honoured, and stands in no file.
@@ -195,11 +266,13 @@ test_install() {
     does "c/install by a link" by_link
     test_failed_installs
     test_refused_folders
-    does "the manual page" is_page
+    does "the manual pages" is_page
+    has 1 "the manual by name" man && does "the manual by name" is_found_by_man
+    test_build_systems
     does "c/install for a package" staged
     if has 18 "pkg-config" pkg-config; then
         does "a prefix with a blank" has_blank
-        does "its version" [ "$(package --modversion)" = 1.0.0 ]
+        does "its version" [ "$(package --modversion)" = 1.1.0 ]
         for compiler in cc c++; do
             for static in "" --static; do
                 does "fingerprint.c ($compiler $static)" by_package "$compiler" fingerprint $static

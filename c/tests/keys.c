@@ -56,6 +56,18 @@ static bool run_decode_front(size_t length, size_t digits, bool prefix, bool upp
     return build->decode_front(text, digits, decoded, LONGEST, &count, &refusal);
 }
 
+/* A text in two pieces, cut behind half of its digits and a digit more. */
+static bool run_pieces(size_t length, size_t digits, bool prefix, bool upper) {
+    struct const_hex_decoder decoder = {{0, 0}};
+    size_t cut = digits / 2 + (digits / 2 % 2 == 0);
+    size_t first = 0;
+    (void)length, (void)prefix, (void)upper;
+    return build->decode_piece(&decoder, text, cut, decoded, LONGEST, &first, &refusal) &&
+           build->decode_piece(&decoder, text + cut, digits - cut, decoded + first, LONGEST - first,
+                               &count, &refusal) &&
+           build->decode_end(&decoder, &refusal);
+}
+
 static bool run_check(size_t length, size_t digits, bool prefix, bool upper) {
     (void)length, (void)prefix, (void)upper;
     return build->check(text, digits, &refusal);
@@ -82,6 +94,8 @@ static const struct row {
     {"decode, prefix", run_decode, true, false, false},
     {"decode_front", run_decode_front, false, false, false},
     {"decode_front, prefix", run_decode_front, true, false, false},
+    {"pieces", run_pieces, false, false, false},
+    {"pieces, prefix", run_pieces, true, false, false},
     {"check", run_check, false, false, false},
     {"check, prefix", run_check, true, false, false},
     {"check_raw", run_check_raw, false, false, false},

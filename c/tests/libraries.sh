@@ -12,27 +12,40 @@ wide() { code v3 && uses_newer && grep -q '%ymm' "$room/code"; }
 narrow() { code default && grep -q '<const_hex_decode' "$room/code" && ! uses_newer; }
 
 # Whether the instruction $3 stands in each named function of the object $2. $1 is the disassembler. With
-# no look-up in lanes a call would be right, and ten times as slow.
+# no look-up in lanes a call would be right, and ten times as slow. A function that is made for a kernel
+# has a sum behind its name.
 has_instruction() {
     local tool=$1 object=$2 instruction=$3 name
     shift 3
     for name in "$@"; do
         "$tool" -dr --no-show-raw-insn "$object" |
-            awk -v head="<$name>:" '$2 == head { is_in = 1 } !NF { is_in = 0 } is_in' |
+            awk -v head="^<$name(::<#[0-9a-f]+>)?>:$" '$2 ~ head { is_in = 1 } !NF { is_in = 0 } is_in' |
             grep -Eq "[[:space:]]$instruction" && continue
         echo "$name does not have '$instruction'"
         return 1
     done
 }
 
+# What decodes the digits of a piece.
+piece_digits=const_hex::codec::decoder::decode_digits
+
+decodes_pieces() {
+    local build
+    for build in default v3; do
+        has_instruction objdump "$room/const_hex_$build.o" "R_X86_64_PLT32.*$piece_digits" \
+            "const_hex_decode_piece_$build" || return 1
+    done
+}
+
 test_code() {
-    (cd "$room" && ar x both/libconst_hex.a const_hex_default.o const_hex_v3.o)
+    (cd "$room" && ar x both/libconst_hex.a const_hex_default.o const_hex_v3.o dispatch.o)
     does "the build for x86-64-v3 has its lanes" wide
     does "the default build goes without them" narrow
     does "the default build looks up in 16 lanes" has_instruction objdump "$room/const_hex_default.o" \
-        'pshufb ' const_hex_{encode,decode,decode_front,check,check_raw}_default
+        'pshufb ' const_hex_{encode,decode,decode_front,check,check_raw}_default "$piece_digits"
     does "the build for x86-64-v3 looks up in 32 lanes" has_instruction objdump "$room/const_hex_v3.o" \
-        'vpshufb .*%ymm' const_hex_{encode,decode,decode_front,check,check_raw}_v3
+        'vpshufb .*%ymm' const_hex_{encode,decode,decode_front,check,check_raw}_v3 "$piece_digits"
+    does "the digits of a piece are decoded there" decodes_pieces
 }
 
 # Whether the shared object exports the calls of the header, and nothing else.
@@ -50,8 +63,7 @@ closes() {
 
 # Whether the code that picks a build names nothing outside the library.
 picks_alone() {
-    (cd "$room" && ar x both/libconst_hex.a dispatch.o) &&
-        nm -u "$room/dispatch.o" > "$room/undefined" && ! grep -v ' U const_hex_' "$room/undefined"
+    nm -u "$room/dispatch.o" > "$room/undefined" && ! grep -v ' U const_hex_' "$room/undefined"
 }
 
 test_symbols() {
@@ -73,6 +85,8 @@ test_answers() {
     starts "check.c as C++" "$room/check++" 8
     does "lengths.c" compiled lengths c/tests/lengths.c "$archive"
     starts "lengths.c" "$room/lengths"
+    does "pieces.c" compiled pieces c/tests/pieces.c "$archive"
+    starts "pieces.c" "$room/pieces"
     does "compilers.c" compiled compilers c/tests/compilers.c "$room/second/libconst_hex.a" "$archive"
     starts "compilers.c" "$room/compilers"
     does "shared_text.c" compiled shared_text c/tests/shared_text.c "$archive"
@@ -97,6 +111,24 @@ other_version() {
         grep -q 'does not have version 1' "$room/complaint"
 }
 
+# Whether unhex refuses the text in a file of the room, and says this.
+unhex_refuses() {
+    "$room/unhex" < "$room/$1" > "$room/written" 2> "$room/complaint"
+    [ $? -eq 1 ] && [ "$(cat "$room/complaint")" = "unhex: $2" ]
+}
+
+# unhex decodes pieces of 65536 bytes.
+test_unhex() {
+    does "unhex.c ($1)" compiled unhex c/examples/unhex.c "$room/$1/libconst_hex.a"
+    does "unhex ($1)" writes 0 "$room/numbers" "$room/unhex" < "$room/numbers.hex"
+    does "unhex of nothing ($1)" writes 0 /dev/null "$room/unhex" < /dev/null
+    does "unhex of a prefix that a piece begins with ($1)" unhex_refuses second_prefix \
+        "invalid character 'x' at position 65537"
+    does "unhex of a newline that ends a piece ($1)" unhex_refuses second_line \
+        "invalid character '\\n' at position 65535"
+    does "unhex of an odd text ($1)" unhex_refuses odd "odd number of digits"
+}
+
 test_examples() {
     local build
     for build in both single; do
@@ -104,11 +136,14 @@ test_examples() {
             "$room/$build/libconst_hex.a"
         does "mark.c ($build)" compiled mark c/examples/mark.c "$room/$build/libconst_hex.a"
         examples_run "$build"
+        test_unhex "$build"
         does "mark of other lines ($build)" writes 1 "$room/lines.stdout" "$room/mark" < "$room/lines"
     done
     does "hash.py" writes 0 "$room/hash.stdout" python3 -E c/examples/hash.py "$shared" "$room/foobar"
     does "hash.py of another version" other_version
+    does "hash.py without an argument" misused c/examples/hash.py
     does "fingerprint to a full device" full "$room/fingerprint" "$room/foobar"
+    does "unhex to a full device" full "$room/unhex" < "$room/numbers.hex"
     does "mark to a full device" full "$room/mark" < c/examples/mark.stdin
     does "mark of many lines to a full device" full "$room/mark" < "$room/lines"
 }
@@ -124,13 +159,12 @@ warns() {
 
 test_warnings() {
     local call
-    for call in 0 1 2 3 4 5 6; do
+    for call in 0 1 2 3 4 5 6 7 8; do
         does "a warning of ignored answer $call" warns "$call"
     done
 }
 
-# Ways of linking. A program that is bound at its start asks for each build before it begins; one
-# that is static and may lie anywhere does so without a loader.
+# Ways of linking.
 test_linking() {
     local with=("-L$room/both" -lconst_hex "-Wl,-rpath,$room/both")
     does "fingerprint.c, bound at once" compiled now c/examples/fingerprint.c "${with[@]}" -Wl,-z,now
@@ -139,17 +173,34 @@ test_linking() {
         -static-pie "$archive"
     does "fingerprint, static and anywhere" writes 0 "$room/foobar.stdout" "$room/anywhere" \
         "$room/foobar"
-    does "fingerprint.c with -mcmodel=large, the default build alone" compiled large \
-        c/examples/fingerprint.c -mcmodel=large "$single"
+    does "fingerprint.c with -mcmodel=large" compiled large c/examples/fingerprint.c \
+        -mcmodel=large "$archive"
     does "fingerprint with -mcmodel=large" writes 0 "$room/foobar.stdout" "$room/large" "$room/foobar"
     does "loaded.c" compiled loaded c/tests/loaded.c -ldl
     does "loaded again and again" "$room/loaded" "$shared"
-    does "between.c, the library" compiled libbetween.so c/tests/between.c -DLIBRARY -shared -fPIC
-    does "between.c, the program" compiled between c/tests/between.c -Wl,--no-as-needed "${with[@]}" \
-        "-L$room" -lbetween "-Wl,-rpath,$room"
-    does "a library that was not linked with it" writes 0 "$room/kiwi.stdout" "$room/between"
-    does "the same, bound at once" writes 0 "$room/kiwi.stdout" env LD_BIND_NOW=1 "$room/between" \
-        2> "$room/complaint"
+}
+
+# Compiles a program with musl, as `compiled` does with this system's libc.
+compiled_with_musl() {
+    local to=$1 from=$2
+    shift 2
+    musl-gcc -std=c99 "${warnings[@]}" "$from" "$@" -o "$room/$to"
+}
+
+# Both libraries in programs with another libc.
+test_musl() {
+    local name how
+    has 40 musl musl-gcc || return
+    does "check.c with musl" compiled_with_musl musl-check c/tests/check.c -static "$archive"
+    starts "check.c with musl" "$room/musl-check" 32
+    for how in "-static $archive" "$archive" "$shared -Wl,-rpath,$room/both"; do
+        for name in fingerprint mark; do
+            # Each row is one line of arguments.
+            # shellcheck disable=SC2086
+            does "$name.c with musl ($how)" compiled_with_musl "$name" "c/examples/$name.c" $how
+        done
+        examples_run "musl, $how"
+    done
 }
 
 # Whether a script shows its own usage, and its status is 2.
@@ -162,7 +213,6 @@ test_words_of_build() {
         # shellcheck disable=SC2086
         does "c/build $words" misused c/build $words
     done
-    does "c/build --help says what needs --single" grep -q 'mcmodel=large need --single' "$room/complaint"
     does "c/install --bogus" misused c/install --bogus
     does "c/install --prefix with no folder" misused c/install --prefix
     does "c/install --prefix with a folder of the caller's" misused c/install --prefix here

@@ -20,26 +20,21 @@ build_here() {
     echo v3
 }
 
-# Whether each call of the shared object stands for one build. $1 is the build's name, and the rest is
-# what runs a program. nm knows where each build lies.
-picks() {
-    local build=$1
-    shift
-    nm "$shared" | sed -n "s/ t \(.*\)_$build\$/ \1/p" | sort > "$room/builds"
-    [ "$(wc -l < "$room/builds")" -eq "${#calls[@]}" ] &&
-        "$@" "$room/loaded" "$shared" "${calls[@]}" 2> "$room/complaint" | sort |
-        diff "$room/builds" -
-}
+# Whether each call picks the build $1 on the processor $2.
+picks() { qemu-x86_64 -cpu "$2" "$room/picks" "$1" > "$room/said" 2> "$room/complaint"; }
 
 test_processors() {
     local row
-    does "each call picks the build for this processor" picks "$(build_here)"
-    has $((${#emulated[@]} + 22)) "other processors" qemu-x86_64 || return
+    # With the choice as the archive has it.
+    does "picks.c" compiled picks c/tests/picks.c "$room/dispatch.o"
+    starts "each call picks the build for this processor" "$room/picks" "$(build_here)"
+    has $((${#emulated[@]} + 30)) "other processors" qemu-x86_64 || return
     for row in "${emulated[@]}"; do
-        does "${row% *} picks the build ${row#* }" picks "${row#* }" qemu-x86_64 -cpu "${row% *}"
+        does "${row% *} picks the build ${row#* }" picks "${row#* }" "${row% *}"
     done
     # An instruction that an older processor lacks ends the program.
     starts "check.c on an older processor" qemu-x86_64 -cpu Westmere "$room/check" 32
+    starts "pieces.c on an older processor" qemu-x86_64 -cpu Westmere "$room/pieces" 60
     does "fingerprint on an older processor" compiled fingerprint c/examples/fingerprint.c "$archive"
     does "mark on an older processor" compiled mark c/examples/mark.c "$archive"
     examples_run "an older processor" qemu-x86_64 -cpu Westmere
@@ -54,17 +49,20 @@ compiled_for_arm() {
 test_arm() {
     local name kernel=const_hex_arch::arch::lanes32::Lanes32Kernel
     local code=(aarch64-linux-gnu-objdump "$room/aarch64/libconst_hex.a")
-    has 20 ARM qemu-aarch64 aarch64-linux-gnu-gcc aarch64-linux-gnu-objdump || return
+    has 31 ARM qemu-aarch64 aarch64-linux-gnu-gcc aarch64-linux-gnu-objdump || return
     does "the build for ARM looks up in lanes" has_instruction "${code[@]}" 'tbl[[:space:]]' \
-        const_hex_{encode,decode,decode_front} "$kernel::check"
+        const_hex_{encode,decode,decode_front} "$kernel::check" "$piece_digits"
     # There the checks hold none of the kernel's code.
     does "the checks for ARM call that kernel" has_instruction "${code[@]}" \
         "R_AARCH64_CALL26.*$kernel::check" const_hex_check{,_raw}
-    for name in check lengths; do
+    does "the digits of a piece are decoded there on ARM" has_instruction "${code[@]}" \
+        "R_AARCH64_CALL26.*$piece_digits" const_hex_decode_piece
+    for name in check lengths pieces; do
         does "$name.c for ARM" compiled_for_arm "arm-$name" "c/tests/$name.c"
     done
     starts "check.c on ARM" qemu-aarch64 "$room/arm-check" 32
     starts "lengths.c on ARM" qemu-aarch64 "$room/arm-lengths"
+    starts "pieces.c on ARM" qemu-aarch64 "$room/arm-pieces" 60
     for name in fingerprint mark; do
         does "$name.c for ARM" compiled_for_arm "$name" "c/examples/$name.c"
     done

@@ -1,7 +1,7 @@
 # Tests of the archives of a release, for c/test.
 
 # The folder of an archive that was unpacked in a folder with a blank. $1 is the processor.
-unpacked() { echo "$room/un packed/const_hex-1.0.0-linux-$1"; }
+unpacked() { echo "$room/un packed/const_hex-1.1.0-linux-$1"; }
 
 # Makes the archives, by a caller whose files nobody else may read.
 releases() { (umask 077; c/release "$room/release" "$room" > "$room/said"); }
@@ -10,8 +10,9 @@ releases() { (umask 077; c/release "$room/release" "$room" > "$room/said"); }
 releases_again() {
     local copy=$room/released
     mkdir -p "$copy/c" "$copy/libraries" && cp LICENSE-* NOTICE "$copy" && cp -R js "$copy" &&
-        cp c/release c/install c/archive.md c/manual.awk c/const_hex.h "$copy/c" &&
-        cp -R "$room/both" "$room/aarch64" "$room/wasm64" "$copy/libraries" &&
+        cp -R c/release c/install c/archive.md c/manual.awk c/const_hex.h c/examples "$copy/c" &&
+        cp -R rust "$copy" &&
+        cp -R "$room/both" "$room/single" "$room/aarch64" "$room/wasm64" "$copy/libraries" &&
         find "$copy" -exec touch -hd '2001-02-03 04:05' {} + &&
         (cd "$copy" && TZ=Asia/Tokyo LC_ALL=C.UTF-8 c/release made libraries > "$room/said") &&
         diff -r "$room/release" "$copy/made"
@@ -19,7 +20,7 @@ releases_again() {
 
 unpacks() {
     mkdir -p "$room/un packed" &&
-        tar xzf "$room/release/const_hex-1.0.0-linux-$1.tar.gz" -C "$room/un packed"
+        tar xzf "$room/release/const_hex-1.1.0-linux-$1.tar.gz" -C "$room/un packed"
 }
 
 # Whether the entries of the archives are sorted, and each has no owner and the one time.
@@ -40,8 +41,9 @@ has_sums() {
 
 # Whether the archive has these files with these modes.
 has_files() {
-    (cd "$(unpacked x86_64)" && find . -printf '%m %y %P\n' | sort -k 3 | sed 's/ $//') | diff - <(
-        cat << 'LIST'
+    (cd "$(unpacked x86_64)" && find . -path ./rust -prune -o -printf '%m %y %P\n' | sort -k 3 |
+        sed 's/ $//') | diff - <(
+        cat << LIST
 755 d
 644 f LICENSE-APACHE
 644 f LICENSE-MIT
@@ -49,22 +51,34 @@ has_files() {
 644 f OBJECTS
 644 f README.md
 644 f SHA256SUMS
+755 d examples
+755 f examples/hash.py
 755 d include
 644 f include/const_hex.h
 755 d lib
+755 d lib/cmake
+755 d lib/cmake/const_hex
+644 f lib/cmake/const_hex/const_hexConfig.cmake
+644 f lib/cmake/const_hex/const_hexConfigVersion.cmake
 644 f lib/libconst_hex.a
 777 l lib/libconst_hex.so
 777 l lib/libconst_hex.so.1
-755 f lib/libconst_hex.so.1.0.0
+755 f lib/libconst_hex.so.1.1.0
 755 d lib/pkgconfig
 644 f lib/pkgconfig/const_hex.pc
 755 d share
 755 d share/man
 755 d share/man/man3
 644 f share/man/man3/const_hex.3
+$(printf '644 f share/man/man3/%s.3\n' "${calls[@]}")
+755 d single
+644 f single/libconst_hex.a
 LIST
     )
 }
+
+# Whether the archive has the packages for Rust, and no file that cargo has made.
+has_rust() { diff -r -x test -x target -x Cargo.lock rust "$(unpacked x86_64)/rust"; }
 
 # Whether the archive of the processor $1 has what was built in $2, with the sums of the objects $3.
 has_built() {
@@ -113,15 +127,19 @@ test_release() {
     does "sorted names, no owner and one time" is_settled
     does "the sums of the archives" has_sums "$room/release"
     does "the files of the archive" has_files
+    does "its packages for Rust" has_rust
+    does "the build alone" cmp "$room/single/libconst_hex.a" "$(unpacked x86_64)/single/libconst_hex.a"
     does "the sums of its files" has_sums "$(unpacked x86_64)"
     does "the archive for x86-64 has what was built" has_built x86_64 both \
         "const_hex_default.o const_hex_v3.o"
     does "the archive for ARM has what was built" has_built aarch64 aarch64 const_hex_c.o
     does "its README's line for C" by_readme cc
     does "its README's line for C++" by_readme c++ cpp
-    does "hash.py by the archive" writes 0 "$room/hash.stdout" python3 -E c/examples/hash.py \
+    does "hash.py by the archive" writes 0 "$room/hash.stdout" python3 -E "$(unpacked x86_64)/examples/hash.py" \
         "$(unpacked x86_64)/lib/libconst_hex.so" "$room/foobar"
     has 1 "the archive by pkg-config" pkg-config && does "the archive by pkg-config" by_its_package
+    has 1 "the archive by CMake" cmake &&
+        does "the archive by CMake" by_cmake "$(unpacked x86_64)" 1.0
     has 1 "the archive for ARM" qemu-aarch64 aarch64-linux-gnu-gcc &&
         does "a program by the archive for ARM" for_arm
     does "c/release without libraries in the folder" leaves_nothing "$room/un packed"

@@ -30,14 +30,18 @@ static void change_for_ever(void) {
 static bool answer_of(size_t call, unsigned char *bytes) {
     const char *changing = (const char *)text;
     struct const_hex_refusal refusal = {0, 0, 0};
+    struct const_hex_decoder decoder = {{0, 0}};
     size_t count = 0;
-    switch (call % 4) {
+    switch (call % 5) {
     case 0:
         return build->decode(changing, LENGTH, bytes, COUNT, &refusal);
     case 1:
         return build->decode_front(changing, LENGTH, bytes, COUNT, &count, &refusal);
     case 2:
         return build->check(changing, LENGTH, &refusal);
+    case 3:
+        return build->decode_piece(&decoder, changing, LENGTH, bytes, COUNT, &count, &refusal) &&
+               build->decode_end(&decoder, &refusal);
     default:
         return build->check_raw(changing, LENGTH);
     }

@@ -30,6 +30,12 @@ use std::process;
 /// The bytes of data that are encoded, or that a text spells.
 const SIZES: [usize; 10] = [4, 20, 32, 33, 65, 256, 2048, 16_384, 131_072, 1_048_576];
 
+/// From this size on, calls are measured with outputs that begin at each of `PLACES`.
+const LARGE: usize = 2048;
+
+/// How far behind a multiple of 64 an output begins. Large blocks of malloc begin 16 behind.
+const PLACES: [usize; 4] = [0, 16, 32, 48];
+
 /// What is asked for.
 #[derive(Clone, Debug)]
 pub struct Bench {
@@ -55,10 +61,11 @@ pub const HIDDEN: &str = "--avx2-is-hidden";
 /// The argument before the folder for the pictures.
 pub const PICTURES: &str = "--pictures";
 
-/// The times of every side for a call at a size.
+/// The times of every side for a call at a size, with an output at a place.
 struct Row {
     call: Call,
     size: usize,
+    place: usize,
     times: Vec<(Side, Times)>,
 }
 
@@ -118,10 +125,17 @@ fn print(asked: &Bench, output: &mut impl Write) -> io::Result<bool> {
     let mut rows = Vec::new();
     for call in Call::ALL {
         for size in SIZES {
-            let row = measured(call, size);
-            table::write_row(output, &row)?;
-            output.flush()?;
-            rows.push(row);
+            let places = if call.fills() && size >= LARGE {
+                &PLACES[..]
+            } else {
+                &PLACES[..1]
+            };
+            for &place in places {
+                let row = measured(call, size, place);
+                table::write_row(output, &row)?;
+                output.flush()?;
+                rows.push(row);
+            }
         }
     }
     table::write_slower(output, &rows)?;
@@ -131,13 +145,18 @@ fn print(asked: &Bench, output: &mut impl Write) -> io::Result<bool> {
     Ok(true)
 }
 
-/// Measures a call at a size by every side that has it.
-fn measured(call: Call, size: usize) -> Row {
+/// Measures a call at a size, with an output at a place, by every side that has it.
+fn measured(call: Call, size: usize, place: usize) -> Row {
     let sides = Side::here().into_iter();
     let batches: Vec<_> = sides
         .filter_map(|side| Some((side, batch(call, side)?)))
         .collect();
-    let mut work = Work::new(size);
+    let mut work = Work::new(size, place);
     let times = measure(&batches, &mut work);
-    Row { call, size, times }
+    Row {
+        call,
+        size,
+        place,
+        times,
+    }
 }

@@ -79,7 +79,7 @@ fn counts(build: impl Build, place: usize) -> io::Result<[u64; SIZES.len()]> {
 /// Counts the instructions of a call at a size.
 fn counted(build: impl Build, place: usize, size: usize) -> io::Result<u64> {
     let batch = by_build(build, CALLS[place]);
-    let mut work = Work::new(size);
+    let mut work = Work::new(size, 0);
     instructions(build.entries()[place], || batch(&mut work, 1))
 }
 

@@ -5,7 +5,7 @@ import { spawnSync } from 'node:child_process';
 import { readFileSync } from 'node:fs';
 import test from 'node:test';
 import { fileURLToPath } from 'node:url';
-import { check, decode, decodeInto, encode, isHex, version } from '../const_hex.js';
+import { check, decode, decodeInto, decoder, encode, isHex, version } from '../const_hex.js';
 import { answer, randomOf, randomText, thrown } from './rows.js';
 
 const TOP = new URL('../../', import.meta.url);
@@ -120,7 +120,7 @@ function printed(program) {
     const source = program.replace('PACKAGE', JSON.stringify(new URL('../const_hex.js', import.meta.url)));
     const { stdout, stderr } = spawnSync(
         process.execPath,
-        [...process.execArgv.filter((word) => word.includes('memory64')), '--input-type=module', '-e', source],
+        ['--input-type=module', '-e', source],
         { encoding: 'utf8', cwd: fileURLToPath(TOP) },
     );
     return stdout + stderr;
@@ -140,28 +140,75 @@ test('a memory that cannot grow', () => {
     `), 'RangeError 6b\nRangeError 6b\nRangeError 6b\n2097152\n');
 });
 
-test('an engine without 64-bit memories', () => {
+test('an engine without SIMD', () => {
     for (const lack of ['WebAssembly.validate = () => false', 'delete globalThis.WebAssembly']) {
         assert.match(printed(`
             ${lack};
             await import(PACKAGE).catch((error) => console.log(error.message));
-        `), /^const-hex-proved needs 64-bit WebAssembly memories, .* Chrome 133, Firefox 134 and Node 24 .*\n$/);
+        `), /^const-hex-proved needs WebAssembly with SIMD, .* Chrome 91, Firefox 89 and Safari 16.4 have it\n$/);
     }
 });
 
-test('a memory whose pages are counted by the other type of number', () => {
+test('without Buffer, as in a browser', () => {
     assert.equal(printed(`
-        const { grow } = WebAssembly.Memory.prototype;
-        let own;
-        try { new WebAssembly.Memory({ initial: 0n, address: 'i64' }).grow(0n); own = BigInt; } catch { own = Number; }
-        const other = own === BigInt ? Number : BigInt;
-        WebAssembly.Memory.prototype.grow = function (pages) {
-            if (typeof pages !== typeof other(0)) throw new TypeError('not this type');
-            return grow.call(this, own(pages));
-        };
-        const { encode } = await import(PACKAGE);
-        console.log(encode(new Uint8Array(2 ** 20)).length);
-    `), '2097152\n');
+        const { from } = Buffer;
+        delete globalThis.Buffer;
+        const { decode, encode, isHex } = await import(PACKAGE);
+        let wrong = 0;
+        for (let length = 0; length < 300; length++) {
+            const bytes = Uint8Array.from({ length }, (_, at) => (37 * at + length) % 256);
+            const digits = from(bytes).toString('hex');
+            for (const prefix of [false, true]) {
+                const text = (prefix ? '0x' : '') + digits;
+                if (encode(bytes, { prefix }) !== text || String(decode(text)) !== String(bytes)) wrong++;
+                for (const unit of ['g', '\\u0130', '\\u00e9', '\\ud800']) if (isHex(text.slice(0, -1) + unit)) wrong++;
+            }
+        }
+        console.log(wrong);
+    `), '0\n');
+});
+
+test('without the calls of a Buffer that are not documented', () => {
+    assert.equal(printed(`
+        delete Buffer.prototype.utf8Write;
+        const { decode, encode } = await import(PACKAGE);
+        console.log(encode(decode('0x6b69'), { prefix: true }));
+    `), '0x6b69\n');
+});
+
+test('what wipe leaves', () => {
+    for (const lack of ['', 'delete globalThis.Buffer;']) {
+        assert.equal(printed(`
+            ${lack}
+            const { Instance } = WebAssembly;
+            let memory;
+            WebAssembly.Instance = function (module) {
+                const instance = new Instance(module);
+                memory = instance.exports.memory;
+                return instance;
+            };
+            const { decode, encode, isHex, wipe } = await import(PACKAGE);
+            const before = new Uint8Array(memory.buffer).slice();
+            const has = (text) => new TextDecoder('latin1').decode(memory.buffer).includes(text);
+            for (const length of [1, 20, 32, 33, 100000]) {
+                const secret = new Uint8Array(length).fill(0xc9);
+                isHex(encode(decode(encode(secret)), { upper: true }) + '0');
+            }
+            console.log(has('C9'));
+            wipe();
+            const after = new Uint8Array(memory.buffer);
+            console.log(has('C9'), after.every((byte, at) => byte === (before[at] ?? 0)), encode(decode('0x6b69')));
+        `), 'true\nfalse true 6b69\n');
+    }
+});
+
+test('more than 32 bits can count', () => {
+    const bytes = new Uint8Array(2 ** 32);
+    for (const call of [() => encode(bytes), () => decode(bytes), () => isHex(bytes)]) {
+        assert.equal(thrown(call).name, 'RangeError');
+        assert.equal(encode(Buffer.from('kiwi')), '6b697769');
+    }
+    assert.equal(answer(() => decodeInto('6b', bytes)), 'InvalidStringLength');
 });
 
 test('the version is the one of the header', () => {
@@ -174,4 +221,15 @@ test('the types declare each export', async () => {
     const exported = Object.keys(await import('../const_hex.js')).sort();
     const declared = [...read('js/index.d.ts').matchAll(/^export (?:declare )?(?:function|class|const) (\w+)/gm)];
     assert.deepEqual(declared.map(([, name]) => name).sort(), exported);
+});
+
+test('a stream of pieces', async () => {
+    const pieces = decoder();
+    const stream = ReadableStream.from(['0', Buffer.from('x6b6'), '97', '769']).pipeThrough(new TransformStream({
+        transform: (piece, controller) => controller.enqueue(pieces.push(piece)),
+        flush: () => pieces.end(),
+    }));
+    const found = [];
+    for await (const bytes of stream) found.push(...bytes);
+    assert.equal(Buffer.from(found).toString(), 'kiwi');
 });

@@ -1,5 +1,5 @@
 // Tests that run in Node and in a browser. Each row is a name and a function that throws if it fails.
-import { check, decode, decodeInto, encode, HexError, isHex, version } from '../const_hex.js';
+import { bytesToHex, check, decode, decodeInto, decoder, encode, HexError, hexToBytes, isHex, version, wipe } from '../const_hex.js';
 
 export const rows = [];
 
@@ -213,6 +213,56 @@ row('prefixes', () => {
     }
 });
 
+/** What pieces are answered: all bytes that they spell, or the error. */
+function inPieces(...pieces) {
+    return answer(() => {
+        const it = decoder();
+        const found = pieces.flatMap((piece) => [...it.push(piece)]);
+        it.end();
+        return found;
+    });
+}
+
+row('pieces', () => {
+    same(inPieces(), []);
+    same(inPieces('0', 'x6b69', ascii('7769'), ''), [...KIWI]);
+    same(inPieces('0', 'X', '6', 'B6', '9776', '9'), [...KIWI]);
+    same(inPieces('0'), 'OddLength');
+    same(inPieces('0x6', 'b6'), 'OddLength');
+    same(inPieces('0', 'x0', 'x'), { kind: 'InvalidHexCharacter', index: 3, byte: 120 });
+    const [first, last] = ['61'.repeat(40000), '62'.repeat(40000)];
+    same(inPieces(first, '0x', last), { kind: 'InvalidHexCharacter', index: 80001, byte: 120 });
+});
+
+row('each cut into two pieces, with each bad place', () => {
+    for (const prefix of ['', '0x', '0X']) {
+        const text = `${prefix}${'6b697769'.repeat(6)}`;
+        for (let cut = 0; cut <= text.length; cut++) {
+            const halves = (it) => [it.slice(0, cut), it.slice(cut)];
+            same(inPieces(...halves(text)), [...decode(text)]);
+            same(inPieces(...halves(ascii(text))), [...decode(text)]);
+            same(inPieces(...halves(`${text}7`)), 'OddLength');
+            for (let index = prefix.length; index < text.length; index++) {
+                const bad = `${text.slice(0, index)}g${text.slice(index + 1)}`;
+                same(inPieces(...halves(bad)), { kind: 'InvalidHexCharacter', index, byte: 103 });
+            }
+        }
+    }
+});
+
+row('decoders beside each other, and one that was refused', () => {
+    const [one, other] = [decoder(), decoder()];
+    same([...one.push('6b6')], [107]);
+    same([...other.push('0')], []);
+    same(thrown(() => one.push(5)).name, 'TypeError');
+    same([...one.push('9')], [105]);
+    const wanted = { kind: 'InvalidHexCharacter', index: 2, byte: 195 };
+    for (const piece of ['x\u00e9', '', '00']) same(answer(() => other.push(piece)), wanted);
+    same(answer(() => other.end()), wanted);
+    same(thrown(() => other.end()).message, "invalid character '\u00c3' at position 2");
+    one.end();
+});
+
 row('100,000 random texts', () => {
     const random = randomOf(7);
     for (let count = 0; count < 100000; count++) compare(randomText(random));
@@ -321,6 +371,54 @@ row('a mebibyte', () => {
 });
 
 row('more than a string can have', () => {
-    same(thrown(() => encode(new ArrayBuffer(2 ** 28))).name, 'RangeError');
+    // In Chromium and Node. A string of Firefox or WebKit can have more than the memory.
+    let length = 2 ** 29;
+    try {
+        ({ length } = encode(new ArrayBuffer(2 ** 28)));
+    } catch (error) {
+        same(error.name, 'RangeError');
+    }
+    same(length, 2 ** 29);
     same(encode(KIWI), '6b697769');
+});
+
+row('arrays that lie', () => {
+    const secret = new Uint8Array(20).fill(0xc9);
+    const lies = { length: 20, byteLength: 20, byteOffset: 0, buffer: secret.buffer, [Symbol.toStringTag]: 'Uint8Array', set: () => {} };
+    const lying = (view) => Object.defineProperties(view, Object.getOwnPropertyDescriptors(lies));
+    class Liar extends Uint8Array {
+        get length() { return 20; }
+        set() {}
+    }
+    const views = () => [Uint8Array.of(1, 2), new Uint8ClampedArray([1, 2]), new Uint16Array([513]), new DataView(Uint8Array.of(1, 2).buffer)];
+    encode(secret);
+    for (const view of [...views().map(lying), Liar.of(1, 2), lying(Liar.of(1, 2)), Object.setPrototypeOf(new Uint16Array([513]), Uint8Array.prototype)]) {
+        same(encode(view), '0102');
+        same(thrown(() => decode(view)).byte, 1);
+    }
+    for (const text of [lying(ascii('6b')), Liar.from(ascii('6b'))]) same([answer(() => decode(text)), isHex(text)], [[0x6b], true]);
+    for (const view of [lying(new Uint8Array(0)), new Liar(0)]) same([encode(view), isHex(view)], ['', true]);
+    for (const target of [lying(new Uint8Array(2)), new Liar(2)]) {
+        same(answer(() => decodeInto('c9'.repeat(20), target)), 'InvalidStringLength');
+        decodeInto('0102', target);
+        same([target[0], target[1]], [1, 2]);
+    }
+    same(thrown(() => decodeInto('0102', lying(new Uint16Array(1)))).name, 'TypeError');
+    for (const other of [new Proxy(secret, {}), lying({}), Object.assign(Object.create(Uint8Array.prototype), { 0: 1 })]) {
+        same(thrown(() => encode(other)).name, 'TypeError');
+    }
+});
+
+row('the names of noble', () => {
+    same([KIWI, KIWI].map(bytesToHex), ['6b697769', '6b697769']);
+    same(['6b69', '0X6B69'].map(hexToBytes).map((bytes) => [...bytes]), [[0x6b, 0x69], [0x6b, 0x69]]);
+    same(answer(() => hexToBytes('6b6')), 'OddLength');
+});
+
+row('wipe', () => {
+    const text = encode(KIWI);
+    const bytes = decode(text);
+    wipe();
+    same([text, ...bytes], ['6b697769', ...KIWI]);
+    same([encode(KIWI, { prefix: true }), answer(() => decode('0x6z'))], ['0x6b697769', { kind: 'InvalidHexCharacter', index: 3, byte: 122 }]);
 });

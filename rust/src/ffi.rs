@@ -23,6 +23,13 @@ struct Refusal {
     index: usize,
 }
 
+/// The state of a decoder, as C has it. A new one is zero.
+#[repr(C)]
+#[derive(Clone, Debug, Default)]
+pub struct Decoder {
+    state: [usize; 2],
+}
+
 extern "C" {
     #[cfg(feature = "alloc")]
     fn const_hex_encoded_length(bytes: usize, prefix: bool) -> usize;
@@ -50,6 +57,16 @@ extern "C" {
         count: *mut usize,
         refusal: *mut Refusal,
     ) -> bool;
+    fn const_hex_decode_piece(
+        decoder: *mut Decoder,
+        text: *const u8,
+        text_length: usize,
+        bytes: *mut u8,
+        bytes_length: usize,
+        count: *mut usize,
+        refusal: *mut Refusal,
+    ) -> bool;
+    fn const_hex_decode_end(decoder: *const Decoder, refusal: *mut Refusal) -> bool;
     fn const_hex_check(text: *const u8, text_length: usize, refusal: *mut Refusal) -> bool;
     fn const_hex_check_raw(text: *const u8, text_length: usize) -> bool;
     fn const_hex_refusal_words(
@@ -62,6 +79,7 @@ extern "C" {
 
 impl Refusal {
     /// Returns the error that a call has filled in.
+    #[cold]
     fn error(self) -> FromHexError {
         match self.kind {
             ODD_LENGTH => FromHexError::OddLength,
@@ -76,6 +94,7 @@ impl Refusal {
     }
 
     /// Returns the error if the text was refused.
+    #[inline]
     fn unless(self, is_accepted: bool) -> Result<(), FromHexError> {
         if is_accepted {
             Ok(())
@@ -105,6 +124,7 @@ fn encoded_length(bytes: usize, prefix: bool) -> usize {
 
 /// Fills `text` with the digits of `bytes`, and returns it as `str`. Returns `None` if `text` has
 /// another length, and leaves it unchanged.
+#[inline]
 pub fn encode<'a>(bytes: &[u8], upper: bool, text: &'a mut [u8]) -> Option<&'a mut str> {
     let (from, to) = (bytes.as_ptr(), text.as_mut_ptr());
     // SAFETY: each pointer and its length come from one slice, and `text` is borrowed mutably.
@@ -132,6 +152,7 @@ pub fn encoded(bytes: &[u8], prefix: bool, upper: bool) -> alloc::string::String
 }
 
 /// Fills `bytes` with what `text` spells.
+#[inline]
 pub fn decode(text: &[u8], bytes: &mut [u8]) -> Result<(), FromHexError> {
     let mut refusal = Refusal::default();
     let (from, to) = (text.as_ptr(), bytes.as_mut_ptr());
@@ -160,7 +181,40 @@ pub fn decoded(text: &[u8]) -> Result<alloc::vec::Vec<u8>, FromHexError> {
     Ok(bytes)
 }
 
+/// Fills the front of `bytes` with what the next piece of a text adds, and returns how many bytes it is.
+pub fn decode_piece(
+    decoder: &mut Decoder,
+    text: &[u8],
+    bytes: &mut [u8],
+) -> Result<usize, FromHexError> {
+    let (mut count, mut refusal) = (0, Refusal::default());
+    let (from, to, room) = (text.as_ptr(), bytes.as_mut_ptr(), bytes.len());
+    // SAFETY: each pointer and its length come from one slice; `decoder`, `bytes`, `count` and
+    // `refusal` are borrowed mutably.
+    let is_decoded = unsafe {
+        const_hex_decode_piece(
+            decoder,
+            from,
+            text.len(),
+            to,
+            room,
+            &mut count,
+            &mut refusal,
+        )
+    };
+    refusal.unless(is_decoded).map(|()| count)
+}
+
+/// Returns whether the pieces are a whole text, and the error if not.
+pub fn decode_end(decoder: &Decoder) -> Result<(), FromHexError> {
+    let mut refusal = Refusal::default();
+    // SAFETY: `decoder` is borrowed, and `refusal` mutably.
+    let is_whole = unsafe { const_hex_decode_end(decoder, &mut refusal) };
+    refusal.unless(is_whole)
+}
+
 /// Returns whether `text` can be decoded, and the error if not.
+#[inline]
 pub fn check(text: &[u8]) -> Result<(), FromHexError> {
     let mut refusal = Refusal::default();
     // SAFETY: the pointer and its length come from one slice, and `refusal` is borrowed mutably.
@@ -169,6 +223,7 @@ pub fn check(text: &[u8]) -> Result<(), FromHexError> {
 }
 
 /// Returns whether every byte of `text` is a digit.
+#[inline]
 pub fn check_raw(text: &[u8]) -> bool {
     // SAFETY: the pointer and its length come from one slice.
     unsafe { const_hex_check_raw(text.as_ptr(), text.len()) }

@@ -18,12 +18,18 @@ extern crate alloc;
 #[cfg(feature = "std")]
 extern crate std;
 
+mod decoder;
 mod error;
 mod ffi;
 #[cfg(feature = "serde")]
 pub mod serde;
+#[cfg(feature = "alloc")]
+mod string;
 mod traits;
 
+#[cfg(feature = "std")]
+pub use crate::decoder::DecodeReader;
+pub use crate::decoder::Decoder;
 pub use crate::error::FromHexError;
 #[cfg(feature = "serde")]
 pub use crate::serde::deserialize;
@@ -94,6 +100,25 @@ pub fn encode_to_slice<T: AsRef<[u8]>>(input: T, output: &mut [u8]) -> Result<()
     encode_to_str(input, output).map(|_| ())
 }
 
+/// Fills `output` with two uppercase digits per byte. Does not allocate.
+///
+/// # Errors
+///
+/// Returns the errors of [`encode_to_slice`].
+///
+/// ```
+/// let mut text = [0; 8];
+/// const_hex_proved::encode_to_slice_upper("kiwi", &mut text)?;
+/// assert_eq!(&text, b"6B697769");
+/// # Ok::<(), const_hex_proved::FromHexError>(())
+/// ```
+pub fn encode_to_slice_upper<T: AsRef<[u8]>>(
+    input: T,
+    output: &mut [u8],
+) -> Result<(), FromHexError> {
+    encode_to_str_upper(input, output).map(|_| ())
+}
+
 /// Does the same as [`encode_to_slice`], and returns the output as `str`. Does not allocate.
 ///
 /// # Errors
@@ -110,6 +135,24 @@ pub fn encode_to_str<T: AsRef<[u8]>>(
     output: &mut [u8],
 ) -> Result<&mut str, FromHexError> {
     ffi::encode(input.as_ref(), false, output).ok_or(FromHexError::InvalidStringLength)
+}
+
+/// Does the same as [`encode_to_slice_upper`], and returns the output as `str`. Does not allocate.
+///
+/// # Errors
+///
+/// Returns the errors of [`encode_to_slice`].
+///
+/// ```
+/// let mut text = [0; 8];
+/// assert_eq!(const_hex_proved::encode_to_str_upper("kiwi", &mut text)?, "6B697769");
+/// # Ok::<(), const_hex_proved::FromHexError>(())
+/// ```
+pub fn encode_to_str_upper<T: AsRef<[u8]>>(
+    input: T,
+    output: &mut [u8],
+) -> Result<&mut str, FromHexError> {
+    ffi::encode(input.as_ref(), true, output).ok_or(FromHexError::InvalidStringLength)
 }
 
 /// Returns the bytes that a text spells. Allocates, also for a text that is refused.

@@ -69,6 +69,10 @@ where
     }
 
     fn visit_str<E: Error>(self, text: &str) -> Result<T, E> {
+        self.visit_bytes(text.as_bytes())
+    }
+
+    fn visit_bytes<E: Error>(self, text: &[u8]) -> Result<T, E> {
         T::from_hex(text).map_err(Error::custom)
     }
 }

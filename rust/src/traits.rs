@@ -1,6 +1,17 @@
 //! The traits of the crate `hex`.
 
+#[cfg(feature = "alloc")]
+use crate::string;
 use crate::{ffi, FromHexError};
+#[cfg(all(feature = "alloc", target_has_atomic = "ptr"))]
+use alloc::sync::Arc;
+#[cfg(feature = "alloc")]
+use alloc::{
+    borrow::{Cow, ToOwned},
+    boxed::Box,
+    rc::Rc,
+    vec::Vec,
+};
 
 /// A value that has a hexadecimal text.
 ///
@@ -20,22 +31,30 @@ pub trait ToHex {
 }
 
 impl<B: AsRef<[u8]>> ToHex for B {
+    #[inline]
     fn encode_hex<T: FromIterator<char>>(&self) -> T {
-        digits(self.as_ref(), false).collect()
+        collected(self.as_ref(), false)
     }
 
+    #[inline]
     fn encode_hex_upper<T: FromIterator<char>>(&self) -> T {
-        digits(self.as_ref(), true).collect()
+        collected(self.as_ref(), true)
     }
 }
 
-/// Returns the digits of `bytes`.
-fn digits(bytes: &[u8], upper: bool) -> impl Iterator<Item = char> + '_ {
-    bytes.chunks(32).flat_map(move |piece| {
+/// Returns the digits of `bytes`. A `String` is made by one call.
+#[inline]
+fn collected<T: FromIterator<char>>(bytes: &[u8], upper: bool) -> T {
+    #[cfg(feature = "alloc")]
+    if let Some(text) = string::made(|| ffi::encoded(bytes, false, upper)) {
+        return text;
+    }
+    let digits = bytes.chunks(32).flat_map(move |piece| {
         let (mut text, length) = ([0; 64], 2 * piece.len());
         ffi::encode(piece, upper, &mut text[..length]).expect("the room has the text's length");
         text.into_iter().take(length).map(char::from)
-    })
+    });
+    digits.collect()
 }
 
 /// A type that can be read from hexadecimal text.
@@ -53,26 +72,80 @@ pub trait FromHex: Sized {
     ///
     /// # Errors
     ///
-    /// For `Vec<u8>` the errors of `decode`, and for `[u8; N]` the errors of
-    /// [`decode_to_array`](crate::decode_to_array).
+    /// For vectors and boxed slices the errors of `decode`, for arrays the errors of
+    /// [`decode_to_array`](crate::decode_to_array), and for `Box<T>`, `Rc<T>`, `Arc<T>` and `Cow<T>`
+    /// the error of what they hold.
     fn from_hex<T: AsRef<[u8]>>(hex: T) -> Result<Self, Self::Error>;
-}
-
-#[cfg(feature = "alloc")]
-impl FromHex for alloc::vec::Vec<u8> {
-    type Error = FromHexError;
-
-    fn from_hex<T: AsRef<[u8]>>(hex: T) -> Result<Self, FromHexError> {
-        ffi::decoded(hex.as_ref())
-    }
 }
 
 impl<const N: usize> FromHex for [u8; N] {
     type Error = FromHexError;
 
+    #[inline]
     fn from_hex<T: AsRef<[u8]>>(hex: T) -> Result<Self, FromHexError> {
         let mut bytes = [0; N];
         ffi::decode(hex.as_ref(), &mut bytes)?;
         Ok(bytes)
     }
+}
+
+/// Each byte from 128 on is a negative number.
+impl<const N: usize> FromHex for [i8; N] {
+    type Error = FromHexError;
+
+    #[inline]
+    fn from_hex<T: AsRef<[u8]>>(hex: T) -> Result<Self, FromHexError> {
+        <[u8; N]>::from_hex(hex).map(|bytes| bytes.map(|byte| byte as i8))
+    }
+}
+
+#[cfg(feature = "alloc")]
+impl FromHex for Vec<u8> {
+    type Error = FromHexError;
+
+    #[inline]
+    fn from_hex<T: AsRef<[u8]>>(hex: T) -> Result<Self, FromHexError> {
+        ffi::decoded(hex.as_ref())
+    }
+}
+
+/// Each byte from 128 on is a negative number.
+#[cfg(feature = "alloc")]
+impl FromHex for Vec<i8> {
+    type Error = FromHexError;
+
+    fn from_hex<T: AsRef<[u8]>>(hex: T) -> Result<Self, FromHexError> {
+        let bytes = ffi::decoded(hex.as_ref())?;
+        Ok(bytes.into_iter().map(|byte| byte as i8).collect())
+    }
+}
+
+/// Types that hold the value of another one, and how they are made of it.
+#[cfg(feature = "alloc")]
+macro_rules! holders {
+    ($($(#[$attribute:meta])* [$($parameter:tt)*] $holder:ty, of $held:ty: $make:expr;)+) => {$(
+        $(#[$attribute])*
+        impl<$($parameter)*> FromHex for $holder
+        where
+            $held: FromHex,
+        {
+            type Error = <$held as FromHex>::Error;
+
+            #[inline]
+            fn from_hex<U: AsRef<[u8]>>(hex: U) -> Result<Self, Self::Error> {
+                <$held>::from_hex(hex).map($make)
+            }
+        }
+    )+};
+}
+
+#[cfg(feature = "alloc")]
+holders! {
+    [] Box<[u8]>, of Vec<u8>: Vec::into_boxed_slice;
+    [] Box<[i8]>, of Vec<i8>: Vec::into_boxed_slice;
+    [T] Box<T>, of T: Box::new;
+    [T] Rc<T>, of T: Rc::new;
+    #[cfg(target_has_atomic = "ptr")]
+    [T] Arc<T>, of T: Arc::new;
+    [T: ToOwned + ?Sized] Cow<'_, T>, of T::Owned: Cow::Owned;
 }

@@ -59,6 +59,15 @@ fn refusals() {
     }
 }
 
+/// A format may hand over the text as bytes.
+#[test]
+fn from_bytes() {
+    use serde::de::value::{BytesDeserializer, Error};
+
+    let text = BytesDeserializer::<Error>::new(b"0x6b69");
+    assert_eq!(const_hex_proved::deserialize(text), Ok(*b"ki"));
+}
+
 proptest! {
     #[test]
     fn as_hex(bytes in proptest::collection::vec(any::<u8>(), 0..200)) {

@@ -27,6 +27,11 @@ impl Call {
         Call::Display,
     ];
 
+    /// Whether it fills an output of the caller's.
+    pub fn fills(self) -> bool {
+        matches!(self, Call::EncodeToSlice | Call::DecodeToSlice)
+    }
+
     /// Its name.
     pub fn name(self) -> &'static str {
         match self {
@@ -227,7 +232,7 @@ mod tests {
     fn the_port_and_the_crate_answer_alike() {
         for call in Call::ALL.into_iter().filter(|call| *call != Call::Display) {
             for size in [1, 4, 33, 300, 5000] {
-                let mut work = Work::new(size);
+                let mut work = Work::new(size, 0);
                 let wanted = by_const_hex(call)(&mut work, 7);
                 let through_c = |side: &Side| side.is_port() || *side == Side::ConstHexByC;
                 let sides = Side::here().into_iter().filter(through_c);

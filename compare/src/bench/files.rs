@@ -48,7 +48,7 @@ fn write_csv(output: &mut impl Write, sides: &[Side], rows: &[Row]) -> io::Resul
     let heads: String = heads
         .map(|name| format!(",{name} fastest,{name} median"))
         .collect();
-    writeln!(output, "call,bytes{heads}")?;
+    writeln!(output, "call,bytes,output at{heads}")?;
     for row in rows {
         let cells = sides.iter().map(|side| row.of(*side));
         let cells: String = cells
@@ -59,12 +59,13 @@ fn write_csv(output: &mut impl Write, sides: &[Side], rows: &[Row]) -> io::Resul
                 None => ",,".to_owned(),
             })
             .collect();
-        writeln!(output, "{},{}{cells}", row.call.name(), row.size)?;
+        writeln!(output, "{},{},{}{cells}", row.call.name(), row.size, row.place)?;
     }
     Ok(())
 }
 
-/// Draws the ratios of a build's fastest times.
+/// Draws the ratios of a build's fastest times. If outputs at several places were measured, the
+/// greatest ratio of them counts.
 #[cfg(feature = "pictures")]
 fn picture(side: Side, avx2: Avx2, rows: &[Row]) -> io::Result<String> {
     use crate::bench::picture::{svg, Line};
@@ -74,12 +75,16 @@ fn picture(side: Side, avx2: Avx2, rows: &[Row]) -> io::Result<String> {
             continue;
         };
         let (name, point) = (row.call.name(), (row.size, ratio.fastest));
-        match lines.last_mut().filter(|line| line.name == name) {
-            Some(line) => line.points.push(point),
-            None => lines.push(Line {
+        let Some(line) = lines.last_mut().filter(|line| line.name == name) else {
+            lines.push(Line {
                 name,
                 points: vec![point],
-            }),
+            });
+            continue;
+        };
+        match line.points.last_mut().filter(|last| last.0 == point.0) {
+            Some(last) => last.1 = last.1.max(point.1),
+            None => line.points.push(point),
         }
     }
     let build = format!("{}{}", side.name(), without(avx2));
@@ -106,18 +111,19 @@ mod tests {
             fastest,
             median: 2.0 * fastest,
         };
-        let row = |call, size, times| Row { call, size, times };
+        let row = |size, place, times| Row {
+            call: Call::EncodeToSlice,
+            size,
+            place,
+            times,
+        };
+        let crates = (Side::ConstHexByC, of(10.0));
         vec![
-            row(
-                Call::Encode,
-                4,
-                vec![(Side::ConstHexByC, of(10.0)), (Side::Default, of(5.04))],
-            ),
-            row(
-                Call::Encode,
-                2048,
-                vec![(Side::ConstHexByC, of(100.0)), (Side::Copy, of(7.0))],
-            ),
+            row(4, 0, vec![crates, (Side::Default, of(5.04))]),
+            row(2048, 0, vec![crates, (Side::Copy, of(7.0))]),
+            row(4096, 0, vec![crates, (Side::Default, of(6.0))]),
+            row(4096, 16, vec![crates, (Side::Default, of(9.0))]),
+            row(4096, 32, vec![crates, (Side::Default, of(7.0))]),
         ]
     }
 
@@ -126,10 +132,13 @@ mod tests {
         let mut csv = Vec::new();
         write_csv(&mut csv, &SIDES, &rows()).expect("a vector has no errors");
         let wanted =
-            "call,bytes,const-hex through C fastest,const-hex through C median,default build \
-                      fastest,default build median,copy fastest,copy median\n\
-                      encode,4,10.0,20.0,5.0,10.1,,\n\
-                      encode,2048,100,200,,,7.0,14.0\n";
+            "call,bytes,output at,const-hex through C fastest,const-hex through C median,default \
+                      build fastest,default build median,copy fastest,copy median\n\
+                      encode_to_slice,4,0,10.0,20.0,5.0,10.1,,\n\
+                      encode_to_slice,2048,0,10.0,20.0,,,7.0,14.0\n\
+                      encode_to_slice,4096,0,10.0,20.0,6.0,12.0,,\n\
+                      encode_to_slice,4096,16,10.0,20.0,9.0,18.0,,\n\
+                      encode_to_slice,4096,32,10.0,20.0,7.0,14.0,,\n";
         assert_eq!(String::from_utf8_lossy(&csv), wanted);
     }
 
@@ -158,6 +167,7 @@ mod tests {
             drawn.contains("<title>The default build without AVX2: "),
             "{drawn}"
         );
-        assert!(drawn.contains(" encode: 0.50 at 4.</desc>"), "{drawn}");
+        let wanted = " encode_to_slice: 0.50 at 4, 0.90 at 4096.</desc>";
+        assert!(drawn.contains(wanted), "{drawn}");
     }
 }

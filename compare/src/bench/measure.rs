@@ -24,29 +24,37 @@ const MOST_CALLS: usize = 1024;
 const PLACES: usize = 4;
 const PLACES_APART: usize = 64;
 
+/// Outputs begin so far behind a multiple of this.
+const ALIGNMENT: usize = 64;
+
 /// What the calls of a batch work on.
 pub struct Work {
     size: usize,
     bytes: Vec<u8>,
     text: Vec<u8>,
     room: Vec<u8>,
+    /// Where in the room an output begins.
+    start: usize,
 }
 
 /// A batch of calls: so many over that work. It answers a sum of what they answered.
 pub type Batch = Box<dyn Fn(&mut Work, usize) -> usize>;
 
 impl Work {
-    /// Work on so many bytes of data, in no order that a processor could learn.
-    pub fn new(size: usize) -> Work {
+    /// Work on so many bytes of data, in no order that a processor could learn. The output of a call
+    /// begins so many bytes behind a multiple of 64.
+    pub fn new(size: usize, behind: usize) -> Work {
         let slack = PLACES * PLACES_APART;
         let bytes = Random::new(size as u64).bytes(size + slack);
         let text = const_hex::encode(&bytes).into_bytes();
-        let room = vec![0; 2 * size];
+        let room = vec![0; 2 * size + ALIGNMENT + behind];
+        let start = room.as_ptr().align_offset(ALIGNMENT) + behind;
         Work {
             size,
             bytes,
             text,
             room,
+            start,
         }
     }
 
@@ -58,24 +66,26 @@ impl Work {
     /// Makes calls on the bytes, with room for their text.
     #[inline(always)]
     pub fn on_bytes(&mut self, calls: usize, call: impl Fn(&[u8], &mut [u8]) -> usize) -> usize {
-        turns(&self.bytes, self.size, &mut self.room, calls, call)
+        let room = &mut self.room[self.start..self.start + 2 * self.size];
+        turns(&self.bytes, self.size, room, calls, call)
     }
 
     /// Makes calls on the text, with room for its bytes.
     #[inline(always)]
     pub fn on_text(&mut self, calls: usize, call: impl Fn(&[u8], &mut [u8]) -> usize) -> usize {
-        let room = &mut self.room[..self.size];
+        let room = &mut self.room[self.start..self.start + self.size];
         turns(&self.text, 2 * self.size, room, calls, call)
     }
 
     /// Copies as much as a text.
     pub fn copy_text(&mut self, calls: usize) -> usize {
-        turns(&self.text, 2 * self.size, &mut self.room, calls, copy)
+        let room = &mut self.room[self.start..self.start + 2 * self.size];
+        turns(&self.text, 2 * self.size, room, calls, copy)
     }
 
     /// Copies as much as the bytes.
     pub fn copy_bytes(&mut self, calls: usize) -> usize {
-        let room = &mut self.room[..self.size];
+        let room = &mut self.room[self.start..self.start + self.size];
         turns(&self.bytes, self.size, room, calls, copy)
     }
 }

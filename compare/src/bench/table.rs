@@ -21,7 +21,7 @@ pub fn write_head(output: &mut impl Write, avx2: Avx2, pinned: Option<usize>) ->
         "\nNanoseconds a call, of the fastest batch and of the median; ratios of both to const-hex \
          through C.\n"
     )?;
-    let mut names = vec!["call", "bytes"];
+    let mut names = vec!["call", "bytes", "output at"];
     for side in Side::here() {
         names.push(side.name());
         if side.is_port() {
@@ -41,7 +41,11 @@ fn machine() -> Option<String> {
 
 /// Writes a row.
 pub fn write_row(output: &mut impl Write, row: &Row) -> io::Result<()> {
-    let mut cells = vec![format!("`{}`", row.call.name()), row.size.to_string()];
+    let mut cells = vec![
+        format!("`{}`", row.call.name()),
+        row.size.to_string(),
+        row.place.to_string(),
+    ];
     for side in Side::here() {
         let times = row.of(side);
         cells.push(times.map_or(String::new(), nanoseconds));
@@ -101,7 +105,7 @@ pub fn write_slower(output: &mut impl Write, rows: &[Row]) -> io::Result<()> {
 /// The cell of a row if one of its two printed ratios is above 1.
 fn slower(row: &Row, side: Side) -> Option<String> {
     let ratio = row.ratio(side)?;
-    let (call, size) = (row.call.name(), row.size);
+    let (call, size, place) = (row.call.name(), row.size, row.place);
     is_slower(ratio.fastest.max(ratio.median))
-        .then(|| format!("`{call}` at {size} ({})", ratios(ratio)))
+        .then(|| format!("`{call}` of {size} at {place} ({})", ratios(ratio)))
 }

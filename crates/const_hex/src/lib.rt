@@ -18,12 +18,13 @@ pub use crate::buffer::{Buffer, const_encode};
 pub use crate::codec::checks::{check, check_raw, check_with, const_check, const_check_raw};
 pub use crate::codec::decoder::Decoder;
 pub use crate::codec::decoders::{
-    bytes_of, const_decode_to_array, decode, decode_to_array, decode_to_front, decode_to_slice,
-    decode_to_slice_with, decode_with,
+    bytes_of, const_decode_to_array, decode, decode_to_array, decode_to_front,
+    decode_to_front_with, decode_to_slice, decode_to_slice_with, decode_with,
 };
 pub use crate::codec::encoders::{
-    encode, encode_full_to_slice, encode_prefixed, encode_to_slice, encode_to_slice_upper,
-    encode_to_str, encode_to_str_upper, encode_upper, encode_upper_prefixed, encode_with,
+    encode, encode_full_to_slice, encode_full_to_slice_with, encode_prefixed, encode_to_slice,
+    encode_to_slice_upper, encode_to_str, encode_to_str_upper, encode_upper, encode_upper_prefixed,
+    encode_with,
 };
 pub use crate::error::FromHexError;
 pub use crate::formatting::display;
@@ -33,8 +34,8 @@ pub use crate::serde::{JsonError, deserialize, serialize, serialize_inner, seria
 pub use crate::traits::{BytesToHexChars, FromHex, HexFault, ToHex, ToHexExt};
 pub use crate::write_sink::WriteSink;
 pub use const_hex_arch::{
-    BufferedHex, BufferedOutput, CheckFirst, FixedKernel, HEX_CHARS_LOWER, HEX_CHARS_UPPER,
-    HEX_DECODE_LUT, Kernel, Lanes16, Lanes32, NIL, Output, PieceSink, Plain, Sink, SinkError,
-    SinkOutput, SliceOutput, ascii_text, digit_at, encode_full, fill_text, lanes16, lanes32,
-    text_length, value_at,
+    Arithmetic16, BufferedHex, BufferedOutput, CheckFirst, FixedKernel, HEX_CHARS_LOWER,
+    HEX_CHARS_UPPER, HEX_DECODE_LUT, Kernel, Lanes16, Lanes32, NIL, Output, PieceSink, Plain, Sink,
+    SinkError, SinkOutput, SliceOutput, ascii_text, digit_at, encode_full, fill_text, lanes16,
+    lanes32, text_length, value_at,
 };

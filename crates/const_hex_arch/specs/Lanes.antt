@@ -1,7 +1,7 @@
 -- What the parts of a step do with lanes.
-use Rattle.std.specs.Prelude.{◌≡◌, ℕ, ◌+◌, ◌*◌, ◌%◌, ◌≤◌, Bool, List, [], ◌∷◌}
+use Rattle.std.specs.Prelude.{◌≡◌, ℕ, ◌+◌, ◌*◌, ◌/◌, ◌%◌, ◌≤◌, Bool, List, [], ◌∷◌, map, replicate}
 use Rattle.std.specs.Int.{bit_at}
-use Rattle.std.specs.List.{AllByRecursion}
+use Rattle.std.specs.List.{AllByRecursion, concat, range_with_len}
 use Rattle.const_hex_arch.specs.Digits.{hex_digit}
 
 -- every lane is a value
@@ -16,9 +16,18 @@ IsUnmarked z = bit_at z 7 + bit_at z 6 + bit_at z 4 + bit_at z 3 ≡ 0
 abbrev pub AllUnmarked : List ℕ → Type 0
 AllUnmarked = AllByRecursion IsUnmarked
 
--- the digit of the low half of a byte
-abbrev pub low_digit : Bool → ℕ → ℕ
-low_digit up b = hex_digit up (b % 16)
+-- 4097 in each of 8 lanes of 16 bits
+abbrev pub bytes_of_4097 : List ℕ
+bytes_of_4097 = concat (replicate 8 (1 ∷ 16 ∷ []))
+
+-- the digits of all values, and those bytes
+abbrev pub row_of : Bool → List (List ℕ)
+row_of up = map (hex_digit up) (range_with_len 0 16) ∷ bytes_of_4097 ∷ []
+
+-- the halves of all bytes, the upper one first
+abbrev pub halves_of : List ℕ → List ℕ
+halves_of [] = []
+halves_of (x ∷ v) = x / 16 ∷ x % 16 ∷ halves_of v
 
 -- one byte for each pair of values, the higher half first
 abbrev pub byte_pairs : List ℕ → List ℕ

@@ -16,11 +16,13 @@ ghost use Rattle.const_hex.specs.Decoding.{HasRead, ReadsOn, error_of};
 ghost use Rattle.const_hex.specs.declared.error.FromHexError.TheVariants.{OddLength, InvalidStringLength};
 ghost use Rattle.const_hex_c.specs.Crossing.{StandsFor, Says, IsUnknown, refusal_of};
 
+mod kernel;
 mod refusal;
 mod words;
 
+use crate::kernel::CallsKernel;
 use crate::refusal::Refusal;
-use const_hex::Decoder;
+use const_hex::{Decoder, Kernel};
 
 /// The length of the text of so many bytes: two digits for each byte, and two bytes more for a
 /// prefix. If that does not fit, the answer is the greatest number, and no text has that length.
@@ -50,7 +52,7 @@ pub extern "C" fn const_hex_encode(bytes: &[u8], prefix: bool, upper: bool, text
     ensures text { IsTrue result → text.new ≡ full_text prefix upper bytes.now }
     ensures unchanged { result ≡ false → text.new ≡ text.old }
 {
-    const_hex::encode_full_to_slice(bytes, prefix, upper, text).is_ok()
+    const_hex::encode_full_to_slice_with::<CallsKernel>(bytes, prefix, upper, text).is_ok()
 }
 
 /// Fills the bytes with what the text spells, with or without a prefix, in either case.
@@ -75,7 +77,7 @@ pub extern "C" fn const_hex_decode(text: &[u8], bytes: &mut [u8], refusal: &mut 
     ensures after_error { result ≡ false
         → StandsFor refusal.new (λ e. Leaves text.now bytes.old bytes.new e) }
 {
-    match const_hex::decode_to_slice(text, bytes) {
+    match const_hex::decode_to_slice_with::<CallsKernel>(text, bytes) {
         Ok(()) => true,
         Err(error) => {
             *refusal = Refusal::from(error);
@@ -116,7 +118,7 @@ pub extern "C" fn const_hex_decode_front(
         → StandsFor refusal.new (λ e. Leaves text.now bytes.old bytes.new e) }
     ensures uncounted { result ≡ false → count.new ≡ count.old }
 {
-    match const_hex::decode_to_front(text, bytes) {
+    match const_hex::decode_to_front_with::<CallsKernel>(text, bytes) {
         Ok(decoded) => {
             *count = decoded;
             true
@@ -183,7 +185,7 @@ pub extern "C" fn const_hex_decode_piece(
         × (decoder.new ≡ decoder.old) × (bytes.new ≡ bytes.old)) }
     ensures uncounted { result ≡ false → count.new ≡ count.old }
 {
-    match decoder.decode(text, bytes) {
+    match decoder.decode_with::<CallsKernel>(text, bytes) {
         Ok(more) => {
             *count = more;
             true
@@ -238,7 +240,7 @@ pub extern "C" fn const_hex_check(text: &[u8], refusal: &mut Refusal) -> bool
     ensures kept { IsTrue result → refusal.new ≡ refusal.old }
     ensures err { result ≡ false → StandsFor refusal.new (λ e. Reads text.now (Err e)) }
 {
-    match const_hex::check(text) {
+    match const_hex::check_with::<CallsKernel>(text) {
         Ok(()) => true,
         Err(error) => {
             *refusal = Refusal::from(error);
@@ -257,7 +259,7 @@ pub extern "C" fn const_hex_check(text: &[u8], refusal: &mut Refusal) -> bool
 pub extern "C" fn const_hex_check_raw(text: &[u8]) -> bool
     ensures { IsTrue result ↔ AllDigits text.now }
 {
-    const_hex::check_raw(text)
+    CallsKernel::check(text)
 }
 
 /// Puts the message of a refusal and a NUL into the buffer, and returns how many bytes stand before

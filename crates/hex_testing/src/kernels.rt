@@ -52,6 +52,10 @@ macro_rules! by_each_kernel {
                 $crate::KernelCase { name: "Lanes16", number: 1, reads: &[32, 2], writes: 32 }),
             $($call).+::<const_hex::CheckFirst<const_hex::Lanes16>>($($argument,)*
                 $crate::KernelCase { name: "CheckFirst<Lanes16>", number: 1, reads: &[], writes: 32 }),
+            $($call).+::<const_hex::Arithmetic16>($($argument,)*
+                $crate::KernelCase { name: "Arithmetic16", number: 1, reads: &[32, 2], writes: 32 }),
+            $($call).+::<const_hex::CheckFirst<const_hex::Arithmetic16>>($($argument,)*
+                $crate::KernelCase { name: "CheckFirst<Arithmetic16>", number: 1, reads: &[], writes: 32 }),
             $($call).+::<const_hex::Lanes32>($($argument,)*
                 $crate::KernelCase { name: "Lanes32", number: 2, reads: &[64, 32, 2], writes: 64 }),
             $($call).+::<const_hex::CheckFirst<const_hex::Lanes32>>($($argument,)*

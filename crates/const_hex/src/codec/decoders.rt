@@ -163,8 +163,29 @@ pub fn decode_to_slice_with<K: Kernel>(input: &[u8], output: &mut [u8]) -> Resul
 /// assert_eq!(rt; &bytes, b"kiwi..");
 /// ```
 #[inline]
-#[tactic(auto, using(crate::proofs::lemmas::Fronts::partial_front))]
 pub fn decode_to_front(input: &[u8], output: &mut [u8]) -> Result<usize, FromHexError>
+    ensures ok { IfOk result (λ n. ReadsWithin input.now (length output.old) (Ok (take n output.new))) }
+    ensures count { IfOk result (λ n. length (body_of input.now) ≡ 2 * n) }
+    ensures rest { IfOk result (λ n. drop n output.new ≡ drop n output.old) }
+    ensures err { IfErr result (λ e. ReadsWithin input.now (length output.old) (Err e)) }
+    ensures after_error { IfErr result (λ e. Leaves input.now output.old output.new e) }
+{
+    decode_to_front_with::<FixedKernel>(input, output)
+}
+
+/// As [`decode_to_front`], by a kernel of the caller's choice. Does not allocate.
+///
+/// ```rust
+/// let mut bytes = *b"......";
+/// assert_eq!(rt; const_hex::decode_to_front_with::<Plain>(b"6B697769", &mut bytes), Ok(4));
+/// assert_eq!(rt; &bytes, b"kiwi..");
+/// ```
+#[inline]
+#[tactic(auto, using(crate::proofs::lemmas::Fronts::partial_front))]
+pub fn decode_to_front_with<K: Kernel>(
+    input: &[u8],
+    output: &mut [u8],
+) -> Result<usize, FromHexError>
     ensures ok { IfOk result (λ n. ReadsWithin input.now (length output.old) (Ok (take n output.new))) }
     ensures count { IfOk result (λ n. length (body_of input.now) ≡ 2 * n) }
     ensures rest { IfOk result (λ n. drop n output.new ≡ drop n output.old) }
@@ -179,7 +200,7 @@ pub fn decode_to_front(input: &[u8], output: &mut [u8]) -> Result<usize, FromHex
     if count > output.len() {
         return Err(FromHexError::InvalidStringLength);
     }
-    if !decode_body::<FixedKernel>(body, &mut output[..count]) {
+    if !decode_body::<K>(body, &mut output[..count]) {
         return Err(bad_character(input));
     }
     Ok(count)

@@ -187,11 +187,33 @@ pub fn encode_full_to_slice(
     ensures refusal { OnErr result (result ≡ Err InvalidStringLength) }
     ensures unchanged { OnErr result (output.new ≡ output.old) }
 {
+    encode_full_to_slice_with::<FixedKernel>(input, prefix, upper, output)
+}
+
+/// As [`encode_full_to_slice`], by a kernel of the caller's choice. Does not allocate.
+///
+/// ```rust
+/// let mut text = [0; 8];
+/// const_hex::encode_full_to_slice_with::<Plain>(b"kiwi", false, true, &mut text)?;
+/// assert_eq!(rt; &text, b"6B697769");
+/// ```
+#[inline]
+pub fn encode_full_to_slice_with<K: Kernel>(
+    input: &[u8],
+    prefix: bool,
+    upper: bool,
+    output: &mut [u8],
+) -> Result<(), FromHexError>
+    ensures fits { IsOk result ↔ (length output.old ≡ text_length prefix (length input.now)) }
+    ensures text { OnOk result (output.new ≡ full_text prefix upper input.now) }
+    ensures refusal { OnErr result (result ≡ Err InvalidStringLength) }
+    ensures unchanged { OnErr result (output.new ≡ output.old) }
+{
     let digits = output.len().checked_sub(if prefix { 2 } else { 0 });
     if !digits.is_some_and(|digits| two_per_byte(input.len(), digits)) {
         return Err(FromHexError::InvalidStringLength);
     }
-    fill_text::<FixedKernel>(input, prefix, upper, output);
+    fill_text::<K>(input, prefix, upper, output);
     Ok(())
 }
 

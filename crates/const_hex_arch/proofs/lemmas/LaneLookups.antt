@@ -30,7 +30,7 @@ masked_ok m t b n v blocks f =
 -- ---- two halves
 
 -- the halves of a vector of twice n lanes, which are picked from it and itself again
-halves : (n : ℕ) (v : List ℕ) → length v ≡ 2 * n → pick_l 0 (v ++ v) (range_with_len 0 n) ++ pick_l 0 (v ++ v) (range_with_len n n) ≡ v
+pub halves : (n : ℕ) (v : List ℕ) → length v ≡ 2 * n → pick_l 0 (v ++ v) (range_with_len 0 n) ++ pick_l 0 (v ++ v) (range_with_len n n) ≡ v
 halves n v e =
     let long = length-append v v in
     let front : take n (v ++ v) ≡ take n v = grind (arith, common_steps) in

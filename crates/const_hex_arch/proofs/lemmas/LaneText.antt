@@ -1,83 +1,96 @@
--- The text of lanes, from tables of 16 digits in each block of 16 lanes, and from the two halves of
--- each lane in turn.
-use Rattle.std.proofs.Common.{◌≡◌, ℕ, zero, suc, ◌+◌, ◌*◌, ◌/◌, ◌%◌, ◌^◌, ◌<◌, ◌≤◌, Bool, eqb, T, List, [], ◌∷◌, ◌++◌, map, length, replicate, take, get_or, bit_and, refl, sym, ap, subst, ◌∙◌, arith, w8, Fits, eqb→eq, length-append}
+-- The text of lanes, from tables of 16 digits in each block of 16 lanes.
+use Rattle.std.proofs.Common.{◌≡◌, ℕ, zero, suc, ◌+◌, ◌*◌, ◌/◌, ◌%◌, ◌^◌, ◌<◌, ◌≤◌, Bool, true, false, eqb, T, List, [], ◌∷◌, ◌++◌, map, length, replicate, take, get_or, refl, sym, ap, subst, ◌∙◌, arith, w8, Fits, eqb→eq}
 use Rattle.std.specs.List.{range_with_len, concat}
-use Rattle.std.proofs.lemmas.List.{append-nil, drop_at, ext_get_or, get_or-map, length-map, take_all, take_at}
-use Rattle.std.proofs.lemmas.Nat.{and_mask}
-use Rattle.std.proofs.lemmas.Simd.{length-zip2, length-replicate, length-put_chunk, take_more_put_chunk, swz_l, length-swz_l, get_or-swz_l_below, zip2_splat, pick_l-range_with_len}
-use lib.Lanes.{zip2, Each1, pick_l, put_chunk}
+use Rattle.std.proofs.lemmas.List.{append-nil, ext_get_or, get_or-map, length-map}
+use Rattle.std.proofs.lemmas.Simd.{Each1-get_or, SwzOk, SwzOk-from_below, length-put_chunk, take_more_put_chunk, swz_l, length-swz_l, get_or-swz_l_below}
+use lib.Lanes.{zip2, Each1, pick_l, put_chunk, number_l, digits_l}
 use Rattle.const_hex_arch.specs.Digits.{hex_digit}
-use Rattle.const_hex_arch.specs.Lanes.{low_digit}
+use Rattle.const_hex_arch.specs.Lanes.{AllNibbles, halves_of}
 use Rattle.const_hex_arch.specs.Texts.{hex_text}
-use Rattle.const_hex_arch.proofs.lemmas.Tables.{all_below, every_pair}
+use Rattle.const_hex_arch.proofs.lemmas.Tables.{all_below, every_below, every_pair}
+use Rattle.const_hex_arch.proofs.lemmas.Texts.{hex_text-append}
+use Rattle.const_hex_arch.proofs.lemmas.LaneLookups.{halves}
 
--- ---- the digits of the low halves
+-- ---- the halves of a byte, in a lane of 16 bits
+
+abbrev doubled : ℕ → ℕ
+doubled zero = zero
+doubled (suc n) = suc (suc (doubled n))
+
+abbrev times : ℕ → ℕ → ℕ
+times a b = a * b % 65536
+
+abbrev shift_down : ℕ → ℕ → ℕ
+shift_down a b = a / 2 ^ b
+
+-- what the lanes hold
+abbrev spread : ℕ → List ℕ → ℕ
+spread n v = number_l 65536 (zip2 shift_down (zip2 times (map (λ x. x) v) (replicate n 4097)) (replicate n 4))
+
+spread_at : (x : ℕ) → x < 256 → x * 4097 % 65536 / 16 ≡ x / 16 + 256 * (x % 16)
+spread_at x h = eqb→eq _ _ (every_below (λ x. eqb (x * 4097 % 65536 / 16) (x / 16 + 256 * (x % 16))) 256 tt x h)
+
+spread_halves : (v : List ℕ) → Each1 (Fits w8) v → digits_l 256 (doubled (length v)) (spread (length v) v) ≡ halves_of v
+spread_halves [] f = refl
+spread_halves (x ∷ v) f =
+    let n = spread (length v) v in
+    let here = spread_at x f.0.fits in
+    let high : x / 16 < 16 = omega (arith, f.0.fits) in
+    let first : (x * 4097 % 65536 / 16 + 65536 * n) % 256 ≡ x / 16 = rw here (omega arith) in
+    let second : (x * 4097 % 65536 / 16 + 65536 * n) / 256 % 256 ≡ x % 16 = rw here (omega arith) in
+    let behind : (x * 4097 % 65536 / 16 + 65536 * n) / 256 / 256 ≡ n = rw here (omega arith) in
+    let rest = spread_halves v f.1 in
+    rw (first, second, behind, rest) refl
+
+pub of_16 : (v : List ℕ) → (length v ≡ 16) × Each1 (Fits w8) v → digits_l 256 32 (spread 16 v) ≡ halves_of v
+of_16 v f = subst (λ n. digits_l 256 (doubled n) (spread n v) ≡ halves_of v) f.0 (spread_halves v f.1)
+
+length-halves_of : (v : List ℕ) → length (halves_of v) ≡ 2 * length v
+length-halves_of [] = refl
+length-halves_of (x ∷ v) = let rest = length-halves_of v in omega arith
+
+halves_below : (v : List ℕ) → Each1 (Fits w8) v → Each1 (λ j. j < 16) (halves_of v)
+halves_below [] f = tt
+halves_below (x ∷ v) f = (omega (arith, f.0.fits), (omega arith, halves_below v f.1))
+
+pub halves_are_values : (v : List ℕ) → Each1 (Fits w8) v → AllNibbles (halves_of v)
+halves_are_values [] f = tt
+halves_are_values (x ∷ v) f = (omega (arith, f.0.fits), (omega arith, halves_are_values v f.1))
+
+pub halves_ok : (v : List ℕ) → (length v ≡ 16) × Each1 (Fits w8) v → SwzOk w8 16 32 0 (halves_of v)
+halves_ok v f = SwzOk-from_below w8 16 2 32 0 (halves_of v) refl (omega (arith, length-halves_of v, f.0)) (halves_below v f.1)
+
+-- ---- their digits
 
 -- each block of t has the digits
 abbrev pub is_table : Bool → List ℕ → ℕ → Bool
 is_table up t n = all_below (λ i. all_below (λ j. eqb (get_or t (16 * ((0 + i) / 16) + j) 0) (hex_digit up j)) 16) n
 
-pub low_digits_are : (up : Bool) (t v : List ℕ) (n : ℕ) → length v ≡ n → T (is_table up t n)
-    → swz_l w8 16 t 0 (zip2 bit_and v (replicate n 15)) ≡ map (low_digit up) v
-low_digits_are up t v n long table =
-    let js = zip2 bit_and v (replicate n 15) in
-    let is : js ≡ map (λ x. bit_and x 15) v = zip2_splat bit_and v n 15 long in
-    let many : length js ≡ n = ap length is ∙ length-map v _ ∙ long in
-    ext_get_or 0 _ _ (length-swz_l w8 16 t 0 js ∙ many ∙ sym (length-map v (low_digit up) ∙ long)) (λ i h.
-    let lt : i < n = omega (arith, length-swz_l w8 16 t 0 js) in
-    let within : i < length v = omega arith in
-    let j : get_or js i 0 ≡ get_or v i 0 % 16 = ap (λ l. get_or l i 0) is ∙ get_or-map (λ x. bit_and x 15) v i 0 0 within ∙ and_mask (get_or v i 0) 4 in
-    let below : get_or js i 0 < 16 = omega arith in
-    get_or-swz_l_below w8 16 t 0 js i (omega arith) below
-    ∙ eqb→eq _ _ (every_pair (λ i j. eqb (get_or t (16 * ((0 + i) / 16) + j) 0) (hex_digit up j)) n 16 table i (get_or js i 0) lt below)
-    ∙ ap (hex_digit up) j ∙ sym (get_or-map (low_digit up) v i 0 0 within))
+looked_up : (up : Bool) (t js : List ℕ) (n : ℕ) → length js ≡ n → Each1 (λ j. j < 16) js → T (is_table up t n)
+    → swz_l w8 16 t 0 js ≡ map (hex_digit up) js
+looked_up up t js n long below table =
+    ext_get_or 0 _ _ (length-swz_l w8 16 t 0 js ∙ sym (length-map js (hex_digit up))) (λ i h.
+    let lt : i < length js = omega (arith, length-swz_l w8 16 t 0 js) in
+    let small : get_or js i 0 < 16 = Each1-get_or (λ j. j < 16) js i 0 lt below in
+    get_or-swz_l_below w8 16 t 0 js i lt small
+    ∙ eqb→eq _ _ (every_pair (λ i j. eqb (get_or t (16 * ((0 + i) / 16) + j) 0) (hex_digit up j)) n 16 table i (get_or js i 0) (omega (arith, long)) small)
+    ∙ sym (get_or-map (hex_digit up) js i 0 0 lt))
 
--- ---- two vectors, lane by lane in turn
-
-abbrev weave : {A : Type 0} → List A → List A → List A
-weave [] ys = []
-weave (x ∷ xs) [] = []
-weave (x ∷ xs) (y ∷ ys) = x ∷ y ∷ weave xs ys
-
-weave-map : {A B : Type 0} (f : A → B) (xs ys : List A) → map f (weave xs ys) ≡ weave (map f xs) (map f ys)
-weave-map f [] ys = refl
-weave-map f (x ∷ xs) [] = refl
-weave-map f (x ∷ xs) (y ∷ ys) = ap (λ t. f x ∷ f y ∷ t) (weave-map f xs ys)
-
-interleaved : (n : ℕ) (a b : List ℕ) → length a ≡ n → length b ≡ n → pick_l 0 (a ++ b) (weave (range_with_len 0 n) (range_with_len n n)) ≡ weave a b
-interleaved n a b p q =
-    let whole : length (a ++ b) ≡ n + n = omega (arith, length-append a b) in
-    weave-map (λ k. get_or (a ++ b) k 0) (range_with_len 0 n) (range_with_len n n)
-    ∙ rw (pick_l-range_with_len 0 (a ++ b) 0 n (omega arith), pick_l-range_with_len 0 (a ++ b) n n (omega arith))
-    (rw (take_at a b n p, drop_at a b n p, take_all n b (omega arith)) refl)
-
--- ---- the text
-
-abbrev shift_down : ℕ → ℕ → ℕ
-shift_down a b = a / 2 ^ b
-
-halves_in_turn : (up : Bool) (v : List ℕ) → Each1 (Fits w8) v
-    → weave (map (low_digit up) (zip2 shift_down v (replicate (length v) 4))) (map (low_digit up) v) ≡ hex_text up v
+pub digits_of_halves : (up : Bool) (v : List ℕ) → map (hex_digit up) (halves_of v) ≡ hex_text up v
 unfolding hex_text
-halves_in_turn up [] f = refl
-halves_in_turn up (x ∷ v) f =
-    let high : x / 16 % 16 ≡ x / 16 = omega (arith, f.0.fits) in
-    let rest = halves_in_turn up v f.1 in
-    rw (high, rest) refl
+digits_of_halves up [] = refl
+digits_of_halves up (x ∷ v) = let rest = digits_of_halves up v in rw rest refl
 
--- a holds the digits of the high halves, and b the digits of the low halves
-pub interleaved_text : (up : Bool) (n : ℕ) (v a b : List ℕ) → (length v ≡ n) × Each1 (Fits w8) v
-    → a ≡ map (low_digit up) (zip2 shift_down v (replicate n 4)) → b ≡ map (low_digit up) v
-    → pick_l 0 (a ++ b) (weave (range_with_len 0 n) (range_with_len n n)) ≡ hex_text up v
-interleaved_text up n v a b f p q =
-    let r = replicate n 4 in
-    let lr : length r ≡ n = length-replicate n 4 in
-    let lz : length (zip2 shift_down v r) ≡ n = length-zip2 shift_down v r (f.0 ∙ sym lr) ∙ f.0 in
-    let la : length a ≡ n = ap length p ∙ length-map (zip2 shift_down v r) (low_digit up) ∙ lz in
-    let lb : length b ≡ n = ap length q ∙ length-map v (low_digit up) ∙ f.0 in
-    interleaved n a b la lb
-    ∙ rw (p, q) (subst (λ n. weave (map (low_digit up) (zip2 shift_down v (replicate n 4))) (map (low_digit up) v) ≡ hex_text up v) f.0
-    (halves_in_turn up v f.1))
+pub halves_text : (up : Bool) (t v : List ℕ) → (length v ≡ 16) × Each1 (Fits w8) v → T (is_table up t 32)
+    → swz_l w8 16 t 0 (halves_of v) ≡ hex_text up v
+halves_text up t v f table =
+    looked_up up t (halves_of v) 32 (omega (arith, length-halves_of v, f.0)) (halves_below v f.1) table
+    ∙ digits_of_halves up v
+
+-- the digits of a row, twice
+pub row_is_table : (up : Bool) → T (is_table up (map (hex_digit up) (range_with_len 0 16) ++ map (hex_digit up) (range_with_len 0 16)) 32)
+row_is_table true = tt
+row_is_table false = tt
 
 -- ---- two vectors of n lanes
 
@@ -87,6 +100,18 @@ concat_pair [] e = absurd (omega arith)
 concat_pair (a ∷ []) e = absurd (omega arith)
 concat_pair (a ∷ b ∷ []) e = ap (λ x. a ++ x) (append-nil b)
 concat_pair (a ∷ b ∷ c ∷ vs) e = absurd (omega arith)
+
+-- 2 * n lanes, in their halves
+pub in_halves : (n : ℕ) (t : List ℕ) → length t ≡ 2 * n
+    → concat (pick_l 0 (t ++ t) (range_with_len 0 n) ∷ pick_l 0 (t ++ t) (range_with_len n n) ∷ []) ≡ t
+in_halves n t long =
+    concat_pair (pick_l 0 (t ++ t) (range_with_len 0 n) ∷ pick_l 0 (t ++ t) (range_with_len n n) ∷ []) refl ∙ halves n t long
+
+-- the texts of both halves of a vector of 2 * n lanes
+pub text_of_halves : (n : ℕ) (up : Bool) (v a b : List ℕ) → length v ≡ 2 * n → a ≡ hex_text up (pick_l 0 (v ++ v) (range_with_len 0 n))
+    → b ≡ hex_text up (pick_l 0 (v ++ v) (range_with_len n n)) → concat (a ∷ b ∷ []) ≡ hex_text up v
+text_of_halves n up v a b long p q =
+    concat_pair (a ∷ b ∷ []) refl ∙ rw (p, q) (sym (hex_text-append up _ _) ∙ ap (hex_text up) (halves n v long))
 
 -- stored one behind the other
 pub stored_pair : (n : ℕ) (vs : List (List ℕ)) (old : List ℕ) → map (λ x. length x) vs ≡ n ∷ n ∷ [] → 2 * n ≤ length old

@@ -2,7 +2,7 @@
 
 ghost use Rattle.std.specs.Prelude.{◌≡◌, ◌-◌, ◌*◌, ◌++◌, ◌≤◌, ◌↔◌, [], ◌∷◌, length, take, drop, map, IsTrue};
 ghost use Rattle.std.specs.List.{AllZip, concat};
-ghost use Rattle.const_hex_arch.specs.Digits.{hex_value, IsDigit};
+ghost use Rattle.const_hex_arch.specs.Digits.{hex_digit, hex_value, IsDigit};
 ghost use Rattle.const_hex_arch.specs.Lanes.{AllNibbles, AllUnmarked, byte_pairs};
 ghost use Rattle.const_hex_arch.specs.Nibbles.{as_value, IsValueOf, IsPartOf, IsLimitOf};
 ghost use Rattle.const_hex_arch.specs.Texts.{hex_text, AllDigits, Spells};
@@ -10,18 +10,24 @@ ghost use Rattle.const_hex_arch.specs.Texts.{hex_text, AllDigits, Spells};
 use std::simd::prelude::*;
 
 /// What differs between vectors of different `N`. The rest of a kernel is the same for every `N`.
+/// Calls that take `twin` do the same for both values, by [`lanes16::row`](super::lanes16::row).
 pub(crate) trait Vectors<const N: usize> {
     /// Two digits for each lane, in order: the text of the first half, and the text of the second.
-    fn encode(v: Simd<u8, N>, upper: bool) -> [Simd<u8, N>; 2]
+    fn encode(v: Simd<u8, N>, upper: bool, twin: bool) -> [Simd<u8, N>; 2]
         ensures text { concat result ≡ hex_text upper v.entry }
         ensures lanes { map length result ≡ N ∷ N ∷ [] };
 
-    /// The limit of each lane. If the lane is a digit, its value is at most the limit.
-    fn limits(v: Simd<u8, N>) -> Simd<u8, N>
-        ensures { AllZip IsLimitOf v.entry result };
+    /// The value of each lane that is a digit.
+    fn values(v: Simd<u8, N>) -> Simd<u8, N>
+        ensures { AllZip IsValueOf v.entry result };
+
+    /// Sets at least one of the bits 7, 6, 4 and 3 in each lane that is not a digit, and clears all
+    /// four in every other lane.
+    fn marks(v: Simd<u8, N>) -> Simd<u8, N>
+        ensures { AllUnmarked result ↔ AllDigits v.entry };
 
     /// One byte for each two values, the higher half first.
-    fn merge(first: Simd<u8, N>, second: Simd<u8, N>) -> Simd<u8, N>
+    fn merge(first: Simd<u8, N>, second: Simd<u8, N>, twin: bool) -> Simd<u8, N>
         ensures { AllNibbles (first.entry ++ second.entry)
             → result ≡ byte_pairs (first.entry ++ second.entry) };
 
@@ -61,26 +67,45 @@ pub(crate) fn unhex<const N: usize>(v: Simd<u8, N>) -> Simd<u8, N>
     (v & Simd::splat(15)) + v.simd_gt(Simd::splat(64)).select(nine, Simd::splat(0))
 }
 
-/// The lane less 48, but at most its limit. If the lane is a digit, this is its value. The marks
-/// are made from it.
+/// The lane less 48, but at most its limit. If the lane is a digit, this is its value.
 #[inline(always)]
-fn digit_values<const N: usize, V: Vectors<N>>(v: Simd<u8, N>) -> Simd<u8, N>
+pub(crate) fn values_within<const N: usize>(v: Simd<u8, N>, limits: Simd<u8, N>) -> Simd<u8, N>
+    requires { AllZip IsLimitOf v limits }
     ensures { AllZip IsPartOf v.entry result }
 {
-    let limits = V::limits(v);
     (v - Simd::splat(0x30)).simd_min(limits)
 }
 
-/// The lane less 48, less its value. It sets at least one of the bits 7, 6, 4 and 3 in each lane
-/// that is not a digit, and clears all four in every other lane.
+/// The lane less 48, less its value: the marks of [`Vectors::marks`].
 // Not by `saturating_sub` of the limits: the limits and the values would both be kept until the
 // test of the marks is done. The default processor has too few registers for that.
 #[inline(always)]
-fn digit_marks<const N: usize, V: Vectors<N>>(v: Simd<u8, N>) -> Simd<u8, N>
+pub(crate) fn marks_beyond<const N: usize>(v: Simd<u8, N>, values: Simd<u8, N>) -> Simd<u8, N>
+    requires { AllZip IsPartOf v values }
     ensures { AllUnmarked result ↔ AllDigits v.entry }
 {
-    let values = digit_values::<N, V>(v);
     v - Simd::splat(0x30) - values
+}
+
+/// The marks of [`Vectors::marks`], by what [`nibbles`] makes of each lane.
+#[inline(always)]
+pub(crate) fn marks_of_nibbles<const N: usize>(v: Simd<u8, N>) -> Simd<u8, N>
+    ensures { AllUnmarked result ↔ AllDigits v.entry }
+{
+    let values = nibbles(v);
+    let marks = values.simd_gt(Simd::splat(15));
+    marks.select(Simd::splat(255), Simd::splat(0))
+}
+
+/// The digit of each lane, which must be a value.
+#[inline(always)]
+pub(crate) fn digits<const N: usize>(values: Simd<u8, N>, upper: bool) -> Simd<u8, N>
+    requires { AllNibbles values }
+    ensures { result ≡ map (hex_digit upper) values.entry }
+{
+    let gap = if upper { 7 } else { 39 };
+    let is_letter = values.simd_gt(Simd::splat(9));
+    values + Simd::splat(48) + is_letter.select(Simd::splat(gap), Simd::splat(0))
 }
 
 /// Whether every lane is a digit.
@@ -89,7 +114,7 @@ fn digit_marks<const N: usize, V: Vectors<N>>(v: Simd<u8, N>) -> Simd<u8, N>
 pub(crate) fn are_digits<const N: usize, V: Vectors<N>>(v: Simd<u8, N>) -> bool
     ensures { IsTrue result ↔ AllDigits v.entry }
 {
-    are_unmarked(digit_marks::<N, V>(v))
+    are_unmarked(V::marks(v))
 }
 
 /// The marks of two vectors, joined.
@@ -100,20 +125,21 @@ pub(crate) fn joint_marks<const N: usize, V: Vectors<N>>(
 ) -> Simd<u8, N>
     ensures { AllUnmarked result ↔ AllDigits (first.entry ++ second.entry) }
 {
-    digit_marks::<N, V>(first) | digit_marks::<N, V>(second)
+    V::marks(first) | V::marks(second)
 }
 
 /// The bytes that the text of two vectors spells, if each of its lanes is a digit. Otherwise they
 /// mean nothing.
 #[inline(always)]
-#[tactic(auto, using(crate::proofs::lemmas::LaneBytes::merge_spells, crate::proofs::lemmas::LaneMarks::values_of_parts))]
+#[tactic(auto, using(crate::proofs::lemmas::LaneBytes::merge_spells))]
 pub(crate) fn decode<const N: usize, V: Vectors<N>>(
     first: Simd<u8, N>,
     second: Simd<u8, N>,
+    twin: bool,
 ) -> Simd<u8, N>
     ensures { AllDigits (first.entry ++ second.entry) → Spells (first.entry ++ second.entry) result }
 {
-    V::merge(digit_values::<N, V>(first), digit_values::<N, V>(second))
+    V::merge(V::values(first), V::values(second), twin)
 }
 
 /// As [`decode`], by [`unhex`], for a text that was tested before.
@@ -122,10 +148,11 @@ pub(crate) fn decode<const N: usize, V: Vectors<N>>(
 pub(crate) fn decode_digits<const N: usize, V: Vectors<N>>(
     first: Simd<u8, N>,
     second: Simd<u8, N>,
+    twin: bool,
 ) -> Simd<u8, N>
     ensures { AllDigits (first.entry ++ second.entry) → Spells (first.entry ++ second.entry) result }
 {
-    V::merge(unhex(first), unhex(second))
+    V::merge(unhex(first), unhex(second), twin)
 }
 
 /// A step of `N` bytes: the first `H` bytes, then the last `H`, and then only `fill`.

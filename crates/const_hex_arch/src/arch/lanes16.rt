@@ -6,14 +6,13 @@
 ghost use Rattle.std.specs.Prelude.{◌≡◌, ◌*◌, ◌↔◌, [], ◌∷◌, ◌++◌, length, map, IsTrue, false, IsNone, IfSome};
 ghost use Rattle.std.specs.List.{AllZip, concat};
 ghost use Rattle.const_hex_arch.specs.Digits.{hex_value};
-ghost use Rattle.const_hex_arch.specs.Lanes.{AllNibbles, low_digit, byte_pairs};
+ghost use Rattle.const_hex_arch.specs.Lanes.{AllNibbles, AllUnmarked, byte_pairs, bytes_of_4097, halves_of, row_of};
 ghost use Rattle.const_hex_arch.specs.Nibbles.{as_value, IsValueOf, IsLimitOf};
 ghost use Rattle.const_hex_arch.specs.Texts.{hex_text, AllDigits, Spells};
 
 use crate::arch::lanes::{self, Vectors};
 use crate::arch::{Kernel, short, steps};
 use crate::output::Output;
-use crate::tables::{HEX_CHARS_LOWER, HEX_CHARS_UPPER};
 use std::simd::prelude::*;
 
 /// The limit for each low half of a byte: no digit with this low half has a greater value.
@@ -26,6 +25,40 @@ use std::simd::prelude::*;
 // one more, `P`, `W`, `X` and `Y` would leave 32.)
 const LIMITS: [u8; 16] = [1, 10, 11, 12, 13, 14, 15, 8, 9, 10, 0, 0, 0, 0, 0, 0];
 
+/// The digits of all values, and 4097 in each lane of 16 bits: in lowercase and in uppercase, twice.
+// The last pair is never read. Without it all factors would be the same, and the compiler would know them.
+const ROWS: &[[Row; 2]; 3] = &[CASES, CASES, [[[0; 16]; 2]; 2]];
+
+const CASES: [Row; 2] = [
+    [*b"0123456789abcdef", FACTORS],
+    [*b"0123456789ABCDEF", FACTORS],
+];
+
+const FACTORS: [u8; 16] = [1, 16, 1, 16, 1, 16, 1, 16, 1, 16, 1, 16, 1, 16, 1, 16];
+
+/// 16 digits, and the factors.
+type Row = [[u8; 16]; 2];
+
+/// The row of a case, or its twin, which is equal.
+// If the compiler knows the factors, it multiplies by a shift and a sum, which takes longer. It does not know
+// them if `upper` or `twin` is known only at run time.
+#[inline(always)]
+pub(crate) fn row(upper: bool, twin: bool) -> &'static Row
+    ensures { result.now ≡ row_of upper }
+{
+    let cases = &ROWS[if twin { 1 } else { 0 }];
+    &cases[if upper { 1 } else { 0 }]
+}
+
+/// Half of a row, in both halves of a vector.
+#[inline(always)]
+pub(crate) fn in_both_halves(lanes: [u8; 16]) -> u8x32
+    ensures { result ≡ lanes ++ lanes }
+{
+    let half = u8x16::from_array(lanes);
+    join(half, half)
+}
+
 /// Two digits for each lane, in order: the text of the first 8 lanes, and the text of the last 8.
 ///
 /// ```rust
@@ -37,9 +70,7 @@ pub fn encode_chunk<const UPPER: bool>(v: u8x16) -> [u8x16; 2]
     ensures text { concat result ≡ hex_text UPPER v }
     ensures lanes { map length result ≡ 16 ∷ 16 ∷ [] }
 {
-    let high = low_digits(v >> u8x16::splat(4), UPPER);
-    let (first, second) = high.interleave(low_digits(v, UPPER));
-    [first, second]
+    encoded(v, UPPER, false)
 }
 
 /// Whether every lane is a digit.
@@ -120,7 +151,7 @@ impl Kernel for Lanes16 {
 
     #[inline(always)]
     fn encode<O: Output>(input: &[u8], upper: bool, output: &mut O) {
-        steps::encode::<16, Lanes16, O>(input, upper, output);
+        steps::encode::<8, 16, Lanes16, Lanes16, O>(input, upper, output);
     }
 
     // Not `always`: decoders name `CheckFirst` in a branch that this kernel never takes. With all
@@ -128,50 +159,51 @@ impl Kernel for Lanes16 {
     #[inline]
     fn check(input: &[u8]) -> bool {
         if input.len() < 16 {
-            return short::check(input);
+            return short::check::<Lanes16>(input);
         }
         steps::check::<16, Lanes16>(input)
     }
 
     #[inline(always)]
     fn decode_checked(input: &[u8], output: &mut [u8]) -> bool {
-        steps::decode_checked::<16, Lanes16>(input, output)
+        steps::decode_checked::<16, Lanes16, Lanes16>(input, output)
     }
 
     #[inline(always)]
     fn decode_unchecked(input: &[u8], output: &mut [u8]) {
-        steps::decode_unchecked::<16, Lanes16>(input, output);
+        steps::decode_unchecked::<16, Lanes16, Lanes16>(input, output);
     }
 }
 
 impl Vectors<16> for Lanes16 {
     #[inline(always)]
-    fn encode(v: u8x16, upper: bool) -> [u8x16; 2]
+    fn encode(v: u8x16, upper: bool, twin: bool) -> [u8x16; 2]
         ensures text { concat result ≡ hex_text upper v }
         ensures lanes { map length result ≡ 16 ∷ 16 ∷ [] }
     {
-        if upper {
-            encode_chunk::<true>(v)
-        } else {
-            encode_chunk::<false>(v)
-        }
+        encoded(v, upper, twin)
     }
 
-    // The look-up is in a register: no byte decides which memory is read. `swizzle_dyn` takes
-    // positions below 16, and from 128 on, which read as 0. The mask leaves only such positions. It
-    // costs nothing, since the machine looks only at the same five bits.
     #[inline(always)]
-    fn limits(v: u8x16) -> u8x16
-        ensures { AllZip IsLimitOf v result }
+    #[tactic(auto, using(crate::proofs::lemmas::LaneMarks::values_of_parts))]
+    fn values(v: u8x16) -> u8x16
+        ensures { AllZip IsValueOf v result }
     {
-        u8x16::from_array(LIMITS).swizzle_dyn(v & u8x16::splat(0x8F))
+        lanes::values_within(v, limits(v))
     }
 
     #[inline(always)]
-    fn merge(first: u8x16, second: u8x16) -> u8x16
+    fn marks(v: u8x16) -> u8x16
+        ensures { AllUnmarked result ↔ AllDigits v }
+    {
+        lanes::marks_beyond(v, lanes::values_within(v, limits(v)))
+    }
+
+    #[inline(always)]
+    fn merge(first: u8x16, second: u8x16, twin: bool) -> u8x16
         ensures { AllNibbles (first ++ second) → result ≡ byte_pairs (first ++ second) }
     {
-        packed(join(first, second))
+        packed(join(first, second), twin)
     }
 
     ghost use Rattle.std.proofs.Common.{arith};
@@ -179,17 +211,56 @@ impl Vectors<16> for Lanes16 {
     ghost sizes = { (Prim.omega arith, Prim.omega arith) };
 }
 
-/// The digit of the low half of each lane.
+/// The limit of each lane. If the lane is a digit, its value is at most the limit.
+// The look-up is in a register: no byte decides which memory is read. `swizzle_dyn` takes
+// positions below 16, and from 128 on, which read as 0. The mask leaves only such positions. It
+// costs nothing, since the machine looks only at the same five bits.
 #[inline(always)]
-fn low_digits(v: u8x16, upper: bool) -> u8x16
-    ensures { result ≡ map (low_digit upper) v }
+pub(crate) fn limits(v: u8x16) -> u8x16
+    ensures { AllZip IsLimitOf v result }
 {
-    let digits = if upper {
-        *HEX_CHARS_UPPER
-    } else {
-        *HEX_CHARS_LOWER
-    };
-    u8x16::from_array(digits).swizzle_dyn(v & u8x16::splat(15))
+    u8x16::from_array(LIMITS).swizzle_dyn(v & u8x16::splat(0x8F))
+}
+
+/// The text of 16 lanes, in two vectors.
+#[inline(always)]
+fn encoded(v: u8x16, upper: bool, twin: bool) -> [u8x16; 2]
+    ensures text { concat result ≡ hex_text upper v }
+    ensures lanes { map length result ≡ 16 ∷ 16 ∷ [] }
+{
+    in_two(text_of(v, upper, twin))
+}
+
+/// A vector in its halves.
+#[inline(always)]
+pub(crate) fn in_two(v: u8x32) -> [u8x16; 2]
+    ensures parts { concat result ≡ v }
+    ensures lanes { map length result ≡ 16 ∷ 16 ∷ [] }
+{
+    [v.extract::<0, 16>(), v.extract::<16, 16>()]
+}
+
+/// Two digits for each lane, in order.
+#[inline(always)]
+pub(crate) fn text_of(v: u8x16, upper: bool, twin: bool) -> u8x32
+    ensures { result ≡ hex_text upper v }
+{
+    let [digits, factors] = *row(upper, twin);
+    in_both_halves(digits).swizzle_dyn_within::<16>(halves(v, factors))
+}
+
+/// Both halves of each lane, the upper one first.
+// A lane of 16 bits takes a byte. Times 4097, the byte stands there a second time, 12 bits higher, and
+// its upper half drops out. Moved down by 4 bits, the upper half is the first byte of the lane, and the
+// lower half the second.
+#[inline(always)]
+pub(crate) fn halves(v: u8x16, factors: [u8; 16]) -> u8x32
+    requires { factors ≡ bytes_of_4097 }
+    ensures { result ≡ halves_of v }
+{
+    let wide: u16x16 = v.cast();
+    let halves = (wide * u16x16::from_le_bytes(in_both_halves(factors))) >> u16x16::splat(4);
+    halves.to_le_bytes()
 }
 
 /// The bytes that the lanes of a text spell, and whether each of these lanes is a digit. If one is
@@ -201,7 +272,7 @@ fn decode_flagged(text: [u8x16; 2]) -> (u8x16, bool)
     ensures spells { IsTrue result.1 → Spells (concat text) result.0 }
 {
     let marks = lanes::joint_marks::<16, Lanes16>(text[0], text[1]);
-    let bytes = lanes::decode::<16, Lanes16>(text[0], text[1]);
+    let bytes = lanes::decode::<16, Lanes16>(text[0], text[1], false);
     (bytes, lanes::are_unmarked(marks))
 }
 
@@ -222,9 +293,10 @@ pub(crate) fn join(first: u8x16, second: u8x16) -> u8x32
 /// One byte for each two lanes, which must be values.
 // Two lanes make one of 16 bits, high + 256 * low. Times 4097, its upper byte is 16 * high + low.
 #[inline(always)]
-fn packed(nibbles: u8x32) -> u8x16
+fn packed(nibbles: u8x32, twin: bool) -> u8x16
     ensures { AllNibbles nibbles → result ≡ byte_pairs nibbles }
 {
     let pairs = u16x16::from_le_bytes(nibbles);
-    ((pairs * u16x16::splat(4097)) >> u16x16::splat(8)).cast()
+    let factors = u16x16::from_le_bytes(in_both_halves(row(false, twin)[1]));
+    ((pairs * factors) >> u16x16::splat(8)).cast()
 }

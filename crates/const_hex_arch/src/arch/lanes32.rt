@@ -6,7 +6,7 @@
 ghost use Rattle.std.specs.Prelude.{◌≡◌, ◌*◌, ◌↔◌, [], ◌∷◌, ◌++◌, length, map, IsTrue, false, IsNone, IfSome};
 ghost use Rattle.std.specs.List.{AllZip, concat};
 ghost use Rattle.const_hex_arch.specs.Digits.{hex_value};
-ghost use Rattle.const_hex_arch.specs.Lanes.{AllNibbles, low_digit, byte_pairs};
+ghost use Rattle.const_hex_arch.specs.Lanes.{AllNibbles, AllUnmarked, byte_pairs};
 ghost use Rattle.const_hex_arch.specs.Nibbles.{as_value, IsValueOf, IsLimitOf};
 ghost use Rattle.const_hex_arch.specs.Texts.{hex_text, AllDigits, Spells};
 
@@ -15,12 +15,6 @@ use crate::arch::lanes16::{self, Lanes16};
 use crate::arch::{Kernel, steps};
 use crate::output::Output;
 use std::simd::prelude::*;
-
-/// The digits of each value, for each half of the lanes.
-const DIGITS_LOWER: [u8; 32] = *b"0123456789abcdef0123456789abcdef";
-
-/// The same in uppercase.
-const DIGITS_UPPER: [u8; 32] = *b"0123456789ABCDEF0123456789ABCDEF";
 
 /// Two digits for each lane, in order: the text of the first 16 lanes, and the text of the last 16.
 ///
@@ -33,9 +27,7 @@ pub fn encode_chunk<const UPPER: bool>(v: u8x32) -> [u8x32; 2]
     ensures text { concat result ≡ hex_text UPPER v }
     ensures lanes { map length result ≡ 32 ∷ 32 ∷ [] }
 {
-    let high = low_digits(v >> u8x32::splat(4), UPPER);
-    let (first, second) = high.interleave(low_digits(v, UPPER));
-    [first, second]
+    encoded(v, UPPER, false)
 }
 
 /// Whether every lane is a digit.
@@ -116,7 +108,7 @@ impl Kernel for Lanes32 {
 
     #[inline(always)]
     fn encode<O: Output>(input: &[u8], upper: bool, output: &mut O) {
-        steps::encode::<32, Lanes32, O>(input, upper, output);
+        steps::encode::<16, 32, Lanes32, Lanes16, O>(input, upper, output);
     }
 
     // Not `always`: decoders name `CheckFirst` in a branch that this kernel never takes. With all
@@ -131,44 +123,44 @@ impl Kernel for Lanes32 {
 
     #[inline(always)]
     fn decode_checked(input: &[u8], output: &mut [u8]) -> bool {
-        steps::decode_checked::<32, Lanes32>(input, output)
+        steps::decode_checked::<32, Lanes32, Lanes16>(input, output)
     }
 
     #[inline(always)]
     fn decode_unchecked(input: &[u8], output: &mut [u8]) {
-        steps::decode_unchecked::<32, Lanes32>(input, output);
+        steps::decode_unchecked::<32, Lanes32, Lanes16>(input, output);
     }
 }
 
 impl Vectors<32> for Lanes32 {
     #[inline(always)]
-    fn encode(v: u8x32, upper: bool) -> [u8x32; 2]
+    fn encode(v: u8x32, upper: bool, twin: bool) -> [u8x32; 2]
         ensures text { concat result ≡ hex_text upper v }
         ensures lanes { map length result ≡ 32 ∷ 32 ∷ [] }
     {
-        if upper {
-            encode_chunk::<true>(v)
-        } else {
-            encode_chunk::<false>(v)
-        }
+        encoded(v, upper, twin)
     }
 
-    // In halves of 16 lanes, for which the mask costs nothing. With AVX2 the compiler makes one
-    // look-up of both. The rest uses 32 lanes, or the compiler would use halves there too.
     #[inline(always)]
-    fn limits(v: u8x32) -> u8x32
-        ensures { AllZip IsLimitOf v result }
+    #[tactic(auto, using(crate::proofs::lemmas::LaneMarks::values_of_parts))]
+    fn values(v: u8x32) -> u8x32
+        ensures { AllZip IsValueOf v result }
     {
-        let first = Lanes16::limits(v.extract::<0, 16>());
-        let second = Lanes16::limits(v.extract::<16, 16>());
-        lanes16::join(first, second)
+        lanes::values_within(v, limits(v))
     }
 
     #[inline(always)]
-    fn merge(first: u8x32, second: u8x32) -> u8x32
+    fn marks(v: u8x32) -> u8x32
+        ensures { AllUnmarked result ↔ AllDigits v }
+    {
+        lanes::marks_beyond(v, lanes::values_within(v, limits(v)))
+    }
+
+    #[inline(always)]
+    fn merge(first: u8x32, second: u8x32, twin: bool) -> u8x32
         ensures { AllNibbles (first ++ second) → result ≡ byte_pairs (first ++ second) }
     {
-        packed(join(first, second))
+        packed(join(first, second), twin)
     }
 
     ghost use Rattle.std.proofs.Common.{arith};
@@ -176,13 +168,27 @@ impl Vectors<32> for Lanes32 {
     ghost sizes = { (Prim.omega arith, Prim.omega arith) };
 }
 
-/// The digit of the low half of each lane.
+/// The limit of each lane. If the lane is a digit, its value is at most the limit.
+// In halves of 16 lanes, for which the mask costs nothing. With AVX2 the compiler makes one
+// look-up of both. The rest uses 32 lanes, or the compiler would use halves there too.
 #[inline(always)]
-fn low_digits(v: u8x32, upper: bool) -> u8x32
-    ensures { result ≡ map (low_digit upper) v }
+fn limits(v: u8x32) -> u8x32
+    ensures { AllZip IsLimitOf v result }
 {
-    let digits = if upper { DIGITS_UPPER } else { DIGITS_LOWER };
-    u8x32::from_array(digits).swizzle_dyn_within::<16>(v & u8x32::splat(15))
+    let first = lanes16::limits(v.extract::<0, 16>());
+    let second = lanes16::limits(v.extract::<16, 16>());
+    lanes16::join(first, second)
+}
+
+/// The text of 32 lanes, in two vectors.
+#[inline(always)]
+fn encoded(v: u8x32, upper: bool, twin: bool) -> [u8x32; 2]
+    ensures text { concat result ≡ hex_text upper v }
+    ensures lanes { map length result ≡ 32 ∷ 32 ∷ [] }
+{
+    let first = lanes16::text_of(v.extract::<0, 16>(), upper, twin);
+    let second = lanes16::text_of(v.extract::<16, 16>(), upper, twin);
+    [first, second]
 }
 
 /// The bytes that the lanes of a text spell, and whether each of these lanes is a digit. If one is
@@ -194,7 +200,7 @@ fn decode_flagged(text: [u8x32; 2]) -> (u8x32, bool)
     ensures spells { IsTrue result.1 → Spells (concat text) result.0 }
 {
     let marks = lanes::joint_marks::<32, Lanes32>(text[0], text[1]);
-    let bytes = lanes::decode::<32, Lanes32>(text[0], text[1]);
+    let bytes = lanes::decode::<32, Lanes32>(text[0], text[1], false);
     (bytes, lanes::are_unmarked(marks))
 }
 
@@ -216,9 +222,11 @@ fn join(first: u8x32, second: u8x32) -> u8x64
 /// One byte for each two lanes, which must be values.
 // Two lanes make one of 16 bits, high + 256 * low. Times 4097, its upper byte is 16 * high + low.
 #[inline(always)]
-fn packed(nibbles: u8x64) -> u8x32
+fn packed(nibbles: u8x64, twin: bool) -> u8x32
     ensures { AllNibbles nibbles → result ≡ byte_pairs nibbles }
 {
     let pairs = u16x32::from_le_bytes(nibbles);
-    ((pairs * u16x32::splat(4097)) >> u16x32::splat(8)).cast()
+    let half = lanes16::in_both_halves(lanes16::row(false, twin)[1]);
+    let factors = u16x32::from_le_bytes(join(half, half));
+    ((pairs * factors) >> u16x32::splat(8)).cast()
 }

@@ -3,58 +3,58 @@
 ghost use Rattle.std.specs.Prelude.{◌≡◌, ◌-◌, ◌*◌, ◌≤◌, ◌++◌, ◌↔◌, length, take, IsTrue, false};
 ghost use Rattle.const_hex_arch.specs.Texts.{AllDigits, Spells, Partial};
 
-use crate::arch::lanes16::Lanes16;
+use crate::arch::lanes::Vectors;
 use crate::arch::plain::Plain;
 use crate::arch::{Kernel, lanes, steps};
 use std::simd::prelude::*;
 
 /// Whether every byte of a text of at most 16 bytes is a digit.
 #[inline(always)]
-pub(crate) fn check(text: &[u8]) -> bool
+pub(crate) fn check<W: Vectors<16>>(text: &[u8]) -> bool
     requires { length text.now ≤ 16 }
     ensures { IsTrue result ↔ AllDigits text.now }
 {
     if text.len() >= 8 {
-        check_ends::<8>(text)
+        check_ends::<8, W>(text)
     } else if text.len() >= 4 {
-        check_ends::<4>(text)
+        check_ends::<4, W>(text)
     } else if text.len() >= 2 {
-        check_ends::<2>(text)
+        check_ends::<2, W>(text)
     } else {
-        Plain::check(text)
+        text.is_empty() || check_ends::<1, W>(text)
     }
 }
 
 /// As `check`, for `H` to `2 * H` bytes.
 #[inline(always)]
 #[tactic(auto, using(crate::proofs::lemmas::LaneMarks::through, crate::proofs::lemmas::Ends::digits_ends))]
-fn check_ends<const H: usize>(text: &[u8]) -> bool
+fn check_ends<const H: usize, W: Vectors<16>>(text: &[u8]) -> bool
     requires half { H ≤ 8 }
     requires least { H ≤ length text.now }
     requires most { length text.now ≤ 2 * H }
     ensures { IsTrue result ↔ AllDigits text.now }
 {
-    steps::check_step::<16, Lanes16>(&lanes::ends::<H, 16>(text, b'0'))
+    steps::check_step::<16, W>(&lanes::ends::<H, 16>(text, b'0'))
 }
 
 /// Fills an output of at most 16 bytes with the bytes that the text spells, and returns true.
 /// Returns false if some byte is not a digit. Then a front of the output may be decoded.
 // A call of its own: with its body, the calls that decode would be too large to be inlined.
 #[inline(never)]
-pub(crate) fn decode(text: &[u8], output: &mut [u8]) -> bool
+pub(crate) fn decode<W: Vectors<16>>(text: &[u8], output: &mut [u8]) -> bool
     requires size { length text.now ≡ 2 * length output.old }
     requires short { length output.old ≤ 16 }
     ensures spells { IsTrue result → Spells text.now output.new }
     ensures refused { result ≡ false → Partial output.old text.now output.new }
 {
     let is_decoded = if output.len() >= 8 {
-        decode_ends::<8, 16>(text, output)
+        decode_ends::<8, 16, W>(text, output)
     } else if output.len() >= 4 {
-        decode_ends::<4, 8>(text, output)
+        decode_ends::<4, 8, W>(text, output)
     } else if output.len() >= 2 {
-        decode_ends::<2, 4>(text, output)
+        decode_ends::<2, 4, W>(text, output)
     } else if output.len() == 1 {
-        decode_ends::<1, 2>(text, output)
+        decode_ends::<1, 2, W>(text, output)
     } else {
         false
     };
@@ -67,7 +67,10 @@ pub(crate) fn decode(text: &[u8], output: &mut [u8]) -> bool
 /// Fills an output of `H` to `2 * H` bytes with the bytes that the text spells, and returns true.
 /// Otherwise the output stays unchanged, and the answer is false. `D` digits spell `H` bytes.
 #[inline(always)]
-fn decode_ends<const H: usize, const D: usize>(text: &[u8], output: &mut [u8]) -> bool
+fn decode_ends<const H: usize, const D: usize, W: Vectors<16>>(
+    text: &[u8],
+    output: &mut [u8],
+) -> bool
     requires half { H ≤ 8 }
     requires digits { D ≡ 2 * H }
     requires size { length text.now ≡ 2 * length output.old }
@@ -78,7 +81,7 @@ fn decode_ends<const H: usize, const D: usize>(text: &[u8], output: &mut [u8]) -
 {
     let mut bytes = [0; 16];
     let step = lanes::ends::<D, 32>(text, b'0');
-    let are_digits = steps::decode_step::<16, Lanes16>(&step, &mut bytes);
+    let are_digits = steps::decode_step::<16, W>(&step, &mut bytes, false);
     if are_digits {
         put::<H>(
             Simd::from_slice(&bytes),

@@ -7,8 +7,6 @@ ghost use Rattle.const_hex_arch.specs.Runs.{HasRoom, Writes};
 ghost use Rattle.const_hex_arch.specs.Texts.{hex_text, AllDigits, Spells, Partial};
 
 use crate::arch::lanes::{self, Vectors};
-use crate::arch::lanes16::Lanes16;
-use crate::arch::lanes32::Lanes32;
 use crate::arch::short;
 use crate::output::Output;
 use std::simd::prelude::*;
@@ -16,53 +14,60 @@ use std::simd::prelude::*;
 /// Encodes two steps in each turn of the loop, then one more step if the input has one, and then the
 /// remainder, as one piece.
 #[inline(always)]
-pub(crate) fn encode<const N: usize, V: Vectors<N>, O: Output>(
+pub(crate) fn encode<const H: usize, const N: usize, V: Vectors<N>, W: Vectors<16>, O: Output>(
     input: &[u8],
     upper: bool,
     output: &mut O,
 )
-    requires { HasRoom (O.room output.old) (2 * length input.now) }
+    requires half { 2 * H ≡ N }
+    requires room { HasRoom (O.room output.old) (2 * length input.now) }
     ensures { Writes O.step output.old (hex_text upper input.now) output.new }
 {
     let mut rest = input;
     while rest.len() >= 2 * N {
         let (first, behind) = rest.split_at(N);
         let (second, behind) = behind.split_at(N);
-        encode_step::<N, V, O>(first, upper, output);
-        encode_step::<N, V, O>(second, upper, output);
+        let twin = input.len() % 2 == 1;
+        encode_step::<N, V, O>(first, upper, twin, output);
+        encode_step::<N, V, O>(second, upper, twin, output);
         rest = behind;
     }
     if rest.len() >= N {
         let (bytes, behind) = rest.split_at(N);
-        encode_step::<N, V, O>(bytes, upper, output);
+        encode_step::<N, V, O>(bytes, upper, false, output);
         rest = behind;
     }
     if rest.len() > 0 {
-        encode_few::<O>(rest, upper, output);
+        encode_few::<H, N, V, W, O>(rest, upper, output);
     }
 }
 
-/// Encodes 1 to 32 bytes, as one piece.
+/// Encodes less bytes than a step, as one piece.
 // Not `always`: its callers would be too large to be inlined.
 #[inline]
-fn encode_few<O: Output>(bytes: &[u8], upper: bool, output: &mut O)
+fn encode_few<const H: usize, const N: usize, V: Vectors<N>, W: Vectors<16>, O: Output>(
+    bytes: &[u8],
+    upper: bool,
+    output: &mut O,
+)
+    requires half { 2 * H ≡ N }
     requires some { 1 ≤ length bytes.now }
-    requires few { length bytes.now ≤ 32 }
+    requires few { length bytes.now < N }
     requires room { HasRoom (O.room output.old) (2 * length bytes.now) }
     ensures { O.step output.old (hex_text upper bytes.now) output.new }
 {
     if bytes.len() == 1 {
-        encode_ends::<1, 16, Lanes16, O>(bytes, upper, output);
+        encode_ends::<1, 16, W, O>(bytes, upper, output);
     } else if bytes.len() > 16 {
-        encode_ends::<16, 32, Lanes32, O>(bytes, upper, output);
+        encode_ends::<H, N, V, O>(bytes, upper, output);
     } else if bytes.len() == 16 {
-        encode_step::<16, Lanes16, O>(bytes, upper, output);
+        encode_step::<16, W, O>(bytes, upper, false, output);
     } else if bytes.len() >= 8 {
-        encode_ends::<8, 16, Lanes16, O>(bytes, upper, output);
+        encode_ends::<8, 16, W, O>(bytes, upper, output);
     } else if bytes.len() >= 4 {
-        encode_ends::<4, 16, Lanes16, O>(bytes, upper, output);
+        encode_ends::<4, 16, W, O>(bytes, upper, output);
     } else {
-        encode_ends::<2, 16, Lanes16, O>(bytes, upper, output);
+        encode_ends::<2, 16, W, O>(bytes, upper, output);
     }
 }
 
@@ -81,33 +86,33 @@ fn encode_ends<const H: usize, const N: usize, V: Vectors<N>, O: Output>(
     requires room { HasRoom (O.room output.old) (2 * length bytes.now) }
     ensures { O.step output.old (hex_text upper bytes.now) output.new }
 {
-    let text = &text_of::<N, V>(&lanes::ends::<H, N>(bytes, 0), upper)[..2 * N];
+    let text = &text_of::<N, V>(&lanes::ends::<H, N>(bytes, 0), upper, false)[..2 * N];
     output.write_ends(&text[..2 * H], &text[2 * H..4 * H], 2 * bytes.len());
 }
 
 /// Writes two digits for each byte of a step, as one piece.
-// With one write for both cases, the machine code for few bytes has three instructions more.
 #[inline(always)]
-fn encode_step<const N: usize, V: Vectors<N>, O: Output>(bytes: &[u8], upper: bool, output: &mut O)
+fn encode_step<const N: usize, V: Vectors<N>, O: Output>(
+    bytes: &[u8],
+    upper: bool,
+    twin: bool,
+    output: &mut O,
+)
     requires size { length bytes.now ≡ N }
     requires room { HasRoom (O.room output.old) (2 * N) }
     ensures { O.step output.old (hex_text upper bytes.now) output.new }
 {
-    if upper {
-        output.write(&text_of::<N, V>(bytes, true)[..2 * N]);
-    } else {
-        output.write(&text_of::<N, V>(bytes, false)[..2 * N]);
-    }
+    output.write(&text_of::<N, V>(bytes, upper, twin)[..2 * N]);
 }
 
 /// An array that begins with the text of a step.
 #[inline(always)]
-fn text_of<const N: usize, V: Vectors<N>>(bytes: &[u8], upper: bool) -> [u8; 64]
+fn text_of<const N: usize, V: Vectors<N>>(bytes: &[u8], upper: bool, twin: bool) -> [u8; 64]
     requires { length bytes.now ≡ N }
     ensures text { take (2 * N) result ≡ hex_text upper bytes.now }
     ensures ascii { IsAscii (take (2 * N) result) }
 {
-    let digits = V::encode(Simd::from_slice(bytes), upper);
+    let digits = V::encode(Simd::from_slice(bytes), upper, twin);
     let mut text = [0; 64];
     let place = &mut text[..];
     digits[0].copy_to_slice(place);
@@ -150,32 +155,36 @@ pub(crate) fn check<const N: usize, V: Vectors<N>>(input: &[u8]) -> bool
 /// which decodes some again. If it is refused, it has written nothing, and `short::decode` decodes
 /// what is left, as it decodes a text of less than 16 bytes.
 #[inline(always)]
-pub(crate) fn decode_checked<const N: usize, V: Vectors<N>>(input: &[u8], output: &mut [u8]) -> bool
+pub(crate) fn decode_checked<const N: usize, V: Vectors<N>, W: Vectors<16>>(
+    input: &[u8],
+    output: &mut [u8],
+) -> bool
     requires { length input.now ≡ 2 * length output.old }
     ensures spells { IsTrue result → Spells input.now output.new }
     ensures refused { result ≡ false → Partial output.old input.now output.new }
 {
     if output.len() < 16 {
-        return short::decode(input, output);
+        return short::decode::<W>(input, output);
     }
     let mut at = 0;
     while output.len() - at >= 2 * N {
         let end = at + 2 * N;
-        if !decode_two_steps::<N, V>(&input[2 * at..2 * end], &mut output[at..end]) {
+        let twin = output.len() % 2 == 1;
+        if !decode_two_steps::<N, V>(&input[2 * at..2 * end], &mut output[at..end], twin) {
             break;
         }
         at = end;
     }
     while output.len() - at >= N {
         let end = at + N;
-        if !decode_step::<N, V>(&input[2 * at..2 * end], &mut output[at..end]) {
+        if !decode_step::<N, V>(&input[2 * at..2 * end], &mut output[at..end], false) {
             return false;
         }
         at = end;
     }
     if output.len() - at >= 16 {
         let end = at + 16;
-        if !decode_step::<16, Lanes16>(&input[2 * at..2 * end], &mut output[at..end]) {
+        if !decode_step::<16, W>(&input[2 * at..2 * end], &mut output[at..end], false) {
             return false;
         }
         at = end;
@@ -184,38 +193,42 @@ pub(crate) fn decode_checked<const N: usize, V: Vectors<N>>(input: &[u8], output
         return true;
     }
     let start = output.len() - 16;
-    if decode_step::<16, Lanes16>(&input[2 * start..], &mut output[start..]) {
+    if decode_step::<16, W>(&input[2 * start..], &mut output[start..], false) {
         return true;
     }
-    short::decode(&input[2 * at..], &mut output[at..])
+    short::decode::<W>(&input[2 * at..], &mut output[at..])
 }
 
 /// Decodes digits in steps, and then by the last 16 bytes, some of them again. A text of less than 16
 /// bytes is left to `short::decode`.
 #[inline(always)]
-pub(crate) fn decode_unchecked<const N: usize, V: Vectors<N>>(input: &[u8], output: &mut [u8])
+pub(crate) fn decode_unchecked<const N: usize, V: Vectors<N>, W: Vectors<16>>(
+    input: &[u8],
+    output: &mut [u8],
+)
     requires size { length input.now ≡ 2 * length output.old }
     requires digits { AllDigits input.now }
     ensures { Spells input.now output.new }
 {
     if output.len() < 16 {
-        short::decode(input, output);
+        short::decode::<W>(input, output);
         return;
     }
     let mut at = 0;
     while output.len() - at >= N {
         let end = at + N;
-        decode_digits_step::<N, V>(&input[2 * at..2 * end], &mut output[at..end]);
+        let twin = output.len() % 2 == 1;
+        decode_digits_step::<N, V>(&input[2 * at..2 * end], &mut output[at..end], twin);
         at = end;
     }
     if output.len() - at >= 16 {
         let end = at + 16;
-        decode_digits_step::<16, Lanes16>(&input[2 * at..2 * end], &mut output[at..end]);
+        decode_digits_step::<16, W>(&input[2 * at..2 * end], &mut output[at..end], false);
         at = end;
     }
     if at < output.len() {
         let start = output.len() - 16;
-        decode_digits_step::<16, Lanes16>(&input[2 * start..], &mut output[start..]);
+        decode_digits_step::<16, W>(&input[2 * start..], &mut output[start..], false);
     }
 }
 
@@ -275,7 +288,11 @@ fn marks_of_two_steps<const N: usize, V: Vectors<N>>(text: &[u8]) -> Simd<u8, N>
 /// is not a digit, the output stays unchanged, and the answer is false.
 #[inline(always)]
 #[tactic(auto, using(std::proofs::lemmas::Simd::put_chunk_whole))]
-pub(crate) fn decode_step<const N: usize, V: Vectors<N>>(text: &[u8], output: &mut [u8]) -> bool
+pub(crate) fn decode_step<const N: usize, V: Vectors<N>>(
+    text: &[u8],
+    output: &mut [u8],
+    twin: bool,
+) -> bool
     requires text { length text.now ≡ 2 * N }
     requires output { length output.old ≡ N }
     ensures digits { IsTrue result ↔ AllDigits text.now }
@@ -284,7 +301,7 @@ pub(crate) fn decode_step<const N: usize, V: Vectors<N>>(text: &[u8], output: &m
 {
     let are_digits = check_two_steps::<N, V>(text);
     if are_digits {
-        decoded::<N, V>(text).copy_to_slice(output);
+        decoded::<N, V>(text, twin).copy_to_slice(output);
     }
     are_digits
 }
@@ -292,7 +309,11 @@ pub(crate) fn decode_step<const N: usize, V: Vectors<N>>(text: &[u8], output: &m
 /// As `decode_step`, for the text of two steps, by one test.
 #[inline(always)]
 #[tactic(auto, using(crate::proofs::lemmas::Spelling::spelled, crate::proofs::lemmas::Steps::parts, std::proofs::lemmas::Simd::put_chunk_whole))]
-fn decode_two_steps<const N: usize, V: Vectors<N>>(text: &[u8], output: &mut [u8]) -> bool
+fn decode_two_steps<const N: usize, V: Vectors<N>>(
+    text: &[u8],
+    output: &mut [u8],
+    twin: bool,
+) -> bool
     requires text { length text.now ≡ 4 * N }
     requires output { length output.old ≡ 2 * N }
     ensures digits { IsTrue result ↔ AllDigits text.now }
@@ -302,8 +323,8 @@ fn decode_two_steps<const N: usize, V: Vectors<N>>(text: &[u8], output: &mut [u8
     let are_digits = check_four_steps::<N, V>(text);
     if are_digits {
         let (text, next) = text.split_at(2 * N);
-        let first = decoded::<N, V>(text);
-        let second = decoded::<N, V>(next);
+        let first = decoded::<N, V>(text, twin);
+        let second = decoded::<N, V>(next, twin);
         let (front, back) = output.split_at_mut(N);
         first.copy_to_slice(front);
         second.copy_to_slice(back);
@@ -315,23 +336,23 @@ fn decode_two_steps<const N: usize, V: Vectors<N>>(text: &[u8], output: &mut [u8
 // The values are computed again here. The compiler reuses the test's values.
 #[inline(always)]
 #[tactic(auto, using(crate::proofs::lemmas::LaneBytes::in_two))]
-fn decoded<const N: usize, V: Vectors<N>>(text: &[u8]) -> Simd<u8, N>
+fn decoded<const N: usize, V: Vectors<N>>(text: &[u8], twin: bool) -> Simd<u8, N>
     requires text { length text.now ≡ 2 * N }
     requires digits { AllDigits text.now }
     ensures { Spells text.now result }
 {
-    lanes::decode::<N, V>(Simd::from_slice(text), Simd::from_slice(&text[N..]))
+    lanes::decode::<N, V>(Simd::from_slice(text), Simd::from_slice(&text[N..]), twin)
 }
 
 /// Fills the output with the bytes that the digits of a step spell.
 #[inline(always)]
 #[tactic(auto, using(crate::proofs::lemmas::LaneBytes::in_two, std::proofs::lemmas::Simd::put_chunk_whole))]
-fn decode_digits_step<const N: usize, V: Vectors<N>>(text: &[u8], output: &mut [u8])
+fn decode_digits_step<const N: usize, V: Vectors<N>>(text: &[u8], output: &mut [u8], twin: bool)
     requires text { length text.now ≡ 2 * N }
     requires output { length output.old ≡ N }
     requires digits { AllDigits text.now }
     ensures { Spells text.now output.new }
 {
     let first = Simd::from_slice(text);
-    lanes::decode_digits::<N, V>(first, Simd::from_slice(&text[N..])).copy_to_slice(output);
+    lanes::decode_digits::<N, V>(first, Simd::from_slice(&text[N..]), twin).copy_to_slice(output);
 }

@@ -80,7 +80,9 @@ fn copy_over(place: &mut [u8], bytes: &[u8])
     ensures { place.new ≡ bytes.now }
 {
     if bytes.len() == 64 {
-        u8x64::from_slice(bytes).copy_to_slice(place);
+        let (front, back) = place.split_at_mut(32);
+        u8x32::from_slice(bytes).copy_to_slice(front);
+        u8x32::from_slice(&bytes[32..]).copy_to_slice(back);
     } else if bytes.len() == 32 {
         u8x32::from_slice(bytes).copy_to_slice(place);
     } else {

@@ -2,4 +2,5 @@ use Rattle.const_hex_arch.proofs.lemmas.LaneBytes.{merge_all}
 use Rattle.const_hex_arch.proofs.arch.lanes32.packed.Goals as goal
 
 pub returns : goal.returns
-returns c = merge_all 32 c.args.nibbles c.fits-nibbles.0
+returns c =
+    rw (c.join-factors.ensures, c.in_both_halves-half.ensures, c.row.ensures) (merge_all 32 c.args.nibbles c.fits-nibbles.0)

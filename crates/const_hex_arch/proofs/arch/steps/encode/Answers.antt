@@ -1,4 +1,4 @@
-use Rattle.std.proofs.Common.{◌≤◌, [], length, arith}
+use Rattle.std.proofs.Common.{◌<◌, [], length, arith}
 use Rattle.std.proofs.lemmas.List.{append-nil, nil_from_length}
 use Rattle.const_hex_arch.proofs.lemmas.Runs.{HasRoom-fewer}
 use Rattle.const_hex_arch.proofs.lemmas.Steps.{IsWritten, none_written, written_step, all_written, parts}
@@ -7,7 +7,7 @@ use Rattle.const_hex_arch.proofs.arch.steps.encode.Goals as goal
 use Rattle.const_hex_arch.proofs.arch.steps.encode.Goals.{After-encode_step, Joined-rest, then-rest, else-rest}
 
 pub loop-rest-init : goal.loop-rest-init
-loop-rest-init g c = none_written g.met.O.Output.shrinks c.requires
+loop-rest-init g c = none_written g.met.O.Output.shrinks c.requires.room
 
 -- after the first step of a turn
 halfway : (g : Over) (c : After-encode_step g)
@@ -32,7 +32,7 @@ loop-rest-preserved g c =
     c.encode_step-in-loop-rest.ensures (omega arith, omega arith)
 
 -- before the remainder
-written : (g : Over) (c : Joined-rest g) → (length c.if-rest.rest.now ≤ 32)
+written : (g : Over) (c : Joined-rest g) → (length c.if-rest.rest.now < g.row.N)
     × IsWritten g.O.Output.step g.O.Output.room c.args.upper c.args.input.now c.args.output.now c.if-rest.output c.if-rest.rest.now
 written g c =
     let sizes = g.met.V.Vectors.sizes in
@@ -52,6 +52,7 @@ encode_few-requires-clause-room g c = (written g (goal.at.encode_few-requires-cl
 
 pub returns-then-rest-gt0 : goal.returns-then-rest-gt0
 returns-then-rest-gt0 g c =
+    let sizes = g.met.V.Vectors.sizes in
     let before = written g (goal.at.returns-then-rest-gt0 g c).Joined-rest in
     all_written g.met.O.Output.shrinks
     (written_step g.met.O.Output.shrinks c.if-rest.rest.now [] before.1 (append-nil _) c.encode_few.ensures (omega arith, omega arith))

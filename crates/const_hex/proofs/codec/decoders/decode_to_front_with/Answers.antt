@@ -1,0 +1,17 @@
+use Rattle.std.proofs.Common.{◌≡◌, ◌/◌, ◌++◌, length, take, drop, arith}
+use Rattle.std.proofs.lemmas.Grind.{common_steps}
+use Rattle.const_hex.proofs.codec.decoders.decode_to_front_with.Goals as goal
+
+pub returns-clause-ok : goal.returns-clause-ok
+returns-clause-ok g c =
+    let n = length c.strip_prefix-body.result.now / 2 in
+    let front : take n (c.decode_body.new.output ++ drop n c.args.output.now) ≡ c.decode_body.new.output = grind (arith, common_steps) in
+    rw (← c.strip_prefix-body.ensures.body, front) (omega arith, (c.if-input-ne0.false, c.decode_body.ensures.spells c.if-not-decode_body.false))
+
+pub returns-clause-count : goal.returns-clause-count
+returns-clause-count g c = rw (← c.strip_prefix-body.ensures.body) (omega arith)
+
+pub returns-clause-rest : goal.returns-clause-rest
+returns-clause-rest g c =
+    let n = length c.strip_prefix-body.result.now / 2 in
+    let rest : drop n (c.decode_body.new.output ++ drop n c.args.output.now) ≡ drop n c.args.output.now = grind (arith, common_steps) in rest

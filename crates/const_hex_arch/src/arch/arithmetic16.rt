@@ -1,0 +1,90 @@
+//! The kernel of 16 lanes that looks nothing up.
+
+ghost use Rattle.std.specs.Prelude.{◌≡◌, ◌*◌, ◌↔◌, [], ◌∷◌, ◌++◌, length, map, IsTrue, false};
+ghost use Rattle.std.specs.List.{AllZip, concat};
+ghost use Rattle.const_hex_arch.specs.Lanes.{AllNibbles, AllUnmarked, byte_pairs};
+ghost use Rattle.const_hex_arch.specs.Nibbles.{IsValueOf};
+ghost use Rattle.const_hex_arch.specs.Texts.{hex_text, AllDigits};
+
+use crate::arch::lanes::{self, Vectors};
+use crate::arch::lanes16::{self, Lanes16};
+use crate::arch::{Kernel, short, steps};
+use crate::output::Output;
+use std::simd::prelude::*;
+
+/// Works in the steps of [`Lanes16`], and looks nothing up: digits, their values and the tests are
+/// computed. It is for processors that cannot look up in a vector, such as those of WebAssembly,
+/// where a look-up by a digit of a key would show in the caches.
+///
+/// ```rust
+/// let mut bytes = [0; 4];
+/// assert!(rt; Arithmetic16::decode_checked(b"6b697769", &mut bytes));
+/// assert_eq!(rt; bytes, *b"kiwi");
+/// ```
+#[derive(Drop)]
+pub struct Arithmetic16;
+
+impl Kernel for Arithmetic16 {
+    ghost USE_CHECK_FN = { false };
+
+    const USE_CHECK_FN: bool = false;
+
+    #[inline(always)]
+    fn encode<O: Output>(input: &[u8], upper: bool, output: &mut O) {
+        steps::encode::<8, 16, Arithmetic16, Arithmetic16, O>(input, upper, output);
+    }
+
+    #[inline]
+    fn check(input: &[u8]) -> bool {
+        if input.len() < 16 {
+            return short::check::<Arithmetic16>(input);
+        }
+        steps::check::<16, Arithmetic16>(input)
+    }
+
+    #[inline(always)]
+    fn decode_checked(input: &[u8], output: &mut [u8]) -> bool {
+        steps::decode_checked::<16, Arithmetic16, Arithmetic16>(input, output)
+    }
+
+    #[inline(always)]
+    fn decode_unchecked(input: &[u8], output: &mut [u8]) {
+        steps::decode_unchecked::<16, Arithmetic16, Arithmetic16>(input, output);
+    }
+}
+
+impl Vectors<16> for Arithmetic16 {
+    #[inline(always)]
+    fn encode(v: u8x16, upper: bool, twin: bool) -> [u8x16; 2]
+        ensures text { concat result ≡ hex_text upper v }
+        ensures lanes { map length result ≡ 16 ∷ 16 ∷ [] }
+    {
+        let [_, factors] = *lanes16::row(upper, twin);
+        lanes16::in_two(lanes::digits(lanes16::halves(v, factors), upper))
+    }
+
+    #[inline(always)]
+    fn values(v: u8x16) -> u8x16
+        ensures { AllZip IsValueOf v result }
+    {
+        lanes::nibbles(v)
+    }
+
+    #[inline(always)]
+    fn marks(v: u8x16) -> u8x16
+        ensures { AllUnmarked result ↔ AllDigits v }
+    {
+        lanes::marks_of_nibbles(v)
+    }
+
+    #[inline(always)]
+    fn merge(first: u8x16, second: u8x16, twin: bool) -> u8x16
+        ensures { AllNibbles (first ++ second) → result ≡ byte_pairs (first ++ second) }
+    {
+        Lanes16::merge(first, second, twin)
+    }
+
+    ghost use Rattle.std.proofs.Common.{arith};
+
+    ghost sizes = { (Prim.omega arith, Prim.omega arith) };
+}
