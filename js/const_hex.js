@@ -223,8 +223,10 @@ function putShort(text) {
     const to = numbers;
     let joined = 0;
     for (let at = 0; at < whole; at += 4) {
-        const [first, second] = [text.charCodeAt(at), text.charCodeAt(at + 1)];
-        const [third, fourth] = [text.charCodeAt(at + 2), text.charCodeAt(at + 3)];
+        const first = text.charCodeAt(at);
+        const second = text.charCodeAt(at + 1);
+        const third = text.charCodeAt(at + 2);
+        const fourth = text.charCodeAt(at + 3);
         joined |= first | second | third | fourth;
         to[(INPUT + at) >> 2] = first | (second << 8) | (third << 16) | (fourth << 24);
     }

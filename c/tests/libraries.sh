@@ -12,16 +12,28 @@ wide() { code v3 && uses_newer && grep -q '%ymm' "$room/code"; }
 narrow() { code default && grep -q '<const_hex_decode' "$room/code" && ! uses_newer; }
 
 # Whether the instruction $3 stands in each named function of the object $2. $1 is the disassembler. With
-# no look-up in lanes a call would be right, and ten times as slow.
+# no look-up in lanes a call would be right, and ten times as slow. A function that is made for a kernel
+# has a sum behind its name.
 has_instruction() {
     local tool=$1 object=$2 instruction=$3 name
     shift 3
     for name in "$@"; do
         "$tool" -dr --no-show-raw-insn "$object" |
-            awk -v head="<$name>:" '$2 == head { is_in = 1 } !NF { is_in = 0 } is_in' |
+            awk -v head="^<$name(::<#[0-9a-f]+>)?>:$" '$2 ~ head { is_in = 1 } !NF { is_in = 0 } is_in' |
             grep -Eq "[[:space:]]$instruction" && continue
         echo "$name does not have '$instruction'"
         return 1
+    done
+}
+
+# What decodes the digits of a piece.
+piece_digits=const_hex::codec::decoder::decode_digits
+
+decodes_pieces() {
+    local build
+    for build in default v3; do
+        has_instruction objdump "$room/const_hex_$build.o" "R_X86_64_PLT32.*$piece_digits" \
+            "const_hex_decode_piece_$build" || return 1
     done
 }
 
@@ -30,9 +42,10 @@ test_code() {
     does "the build for x86-64-v3 has its lanes" wide
     does "the default build goes without them" narrow
     does "the default build looks up in 16 lanes" has_instruction objdump "$room/const_hex_default.o" \
-        'pshufb ' const_hex_{encode,decode,decode_front,decode_piece,check,check_raw}_default
+        'pshufb ' const_hex_{encode,decode,decode_front,check,check_raw}_default "$piece_digits"
     does "the build for x86-64-v3 looks up in 32 lanes" has_instruction objdump "$room/const_hex_v3.o" \
-        'vpshufb .*%ymm' const_hex_{encode,decode,decode_front,decode_piece,check,check_raw}_v3
+        'vpshufb .*%ymm' const_hex_{encode,decode,decode_front,check,check_raw}_v3 "$piece_digits"
+    does "the digits of a piece are decoded there" decodes_pieces
 }
 
 # Whether the shared object exports the calls of the header, and nothing else.

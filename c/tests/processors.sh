@@ -49,12 +49,14 @@ compiled_for_arm() {
 test_arm() {
     local name kernel=const_hex_arch::arch::lanes32::Lanes32Kernel
     local code=(aarch64-linux-gnu-objdump "$room/aarch64/libconst_hex.a")
-    has 30 ARM qemu-aarch64 aarch64-linux-gnu-gcc aarch64-linux-gnu-objdump || return
+    has 31 ARM qemu-aarch64 aarch64-linux-gnu-gcc aarch64-linux-gnu-objdump || return
     does "the build for ARM looks up in lanes" has_instruction "${code[@]}" 'tbl[[:space:]]' \
-        const_hex_{encode,decode,decode_front,decode_piece} "$kernel::check"
+        const_hex_{encode,decode,decode_front} "$kernel::check" "$piece_digits"
     # There the checks hold none of the kernel's code.
     does "the checks for ARM call that kernel" has_instruction "${code[@]}" \
         "R_AARCH64_CALL26.*$kernel::check" const_hex_check{,_raw}
+    does "the digits of a piece are decoded there on ARM" has_instruction "${code[@]}" \
+        "R_AARCH64_CALL26.*$piece_digits" const_hex_decode_piece
     for name in check lengths pieces; do
         does "$name.c for ARM" compiled_for_arm "arm-$name" "c/tests/$name.c"
     done

@@ -47,21 +47,22 @@ ends() {
     return 1
 }
 
-# Whether a build for wasm64 uses the plain kernel, and leaves the sources alone. The arguments go to
-# c/build.
-uses_plain() {
-    local line='pub type FixedKernel ='
-    plant_rt "grep '^$line' src/arch.rt >&2; exit 1" || return 1
+# Whether a build for wasm64 uses the kernel without look-ups, and leaves the sources alone. The arguments go
+# to c/build.
+uses_arithmetic() {
+    local line='pub(crate) type CallsKernel = const_hex::'
+    touch "$room/planted/bin/rtlib.py"
+    plant_rt "case \$PWD in */const_hex_c) grep '^$line' src/kernel.rt >&2; exit 1 ;; esac" || return 1
     PATH=$room/planted/bin:$PATH "$room/planted/c/build" "$@" --target wasm64 > "$room/said" 2> "$room/complaint"
-    [ $? -eq 1 ] && [ "$(head -n 1 "$room/complaint")" = "$line Plain;" ] &&
-        grep -qx "$line Lanes32;" "$room/planted/crates/const_hex_arch/src/arch.rt"
+    [ $? -eq 1 ] && [ "$(head -n 1 "$room/complaint")" = "${line}Arithmetic16;" ] &&
+        grep -qx "${line}FixedKernel;" "$room/planted/crates/const_hex_c/src/kernel.rt"
 }
 
 # Whether that build ends if it does not find the kernel.
 misses_kernel() {
-    sed -i 's/^pub type FixedKernel = Lanes32;$/& /' "$room/planted/crates/const_hex_arch/src/arch.rt"
+    sed -i 's/^pub(crate) type CallsKernel = .*;$/& /' "$room/planted/crates/const_hex_c/src/kernel.rt"
     PATH=$room/planted/bin:$PATH "$room/planted/c/build" --target wasm64 > "$room/said" 2> "$room/complaint"
-    [ $? -eq 1 ] && grep -q "has not just one line 'pub type FixedKernel" "$room/complaint"
+    [ $? -eq 1 ] && grep -q "has not just one line 'pub(crate) type CallsKernel" "$room/complaint"
 }
 
 # Whether ./test, with parts of the test's own, says how many edits were tried, names the part that failed
@@ -91,8 +92,8 @@ test_scripts() {
     for signal in HUP INT TERM; do
         does "c/build that $signal ends leaves nothing running" ends "$signal"
     done
-    does "c/build uses the plain kernel for wasm64" uses_plain
-    does "c/build --again uses the plain kernel for wasm64" uses_plain --again
+    does "c/build uses the kernel without look-ups for wasm64" uses_arithmetic
+    does "c/build --again uses the kernel without look-ups for wasm64" uses_arithmetic --again
     does "c/build for wasm64 ends if it does not find the kernel" misses_kernel
     does "./test tells how far it is" tells_progress
 }

@@ -56,6 +56,9 @@ pub enum Side {
     Default,
     /// The port, as built for x86-64-v3.
     Avx2,
+    /// The port's package for Rust, called from Rust.
+    #[cfg(feature = "rust")]
+    Package,
     /// A copy of the same output, or of the text if there is no output.
     Copy,
     /// The Rust crate hex.
@@ -73,6 +76,8 @@ impl Side {
         if Avx2Build::here().is_some() {
             sides.push(Side::Avx2);
         }
+        #[cfg(feature = "rust")]
+        sides.push(Side::Package);
         sides.push(Side::Copy);
         #[cfg(feature = "hex")]
         sides.push(Side::Hex);
@@ -88,6 +93,8 @@ impl Side {
             Side::ConstHexByC => "const-hex through C",
             Side::Default => "default build",
             Side::Avx2 => "AVX2 build",
+            #[cfg(feature = "rust")]
+            Side::Package => "package for Rust",
             Side::Copy => "copy",
             #[cfg(feature = "hex")]
             Side::Hex => "hex",
@@ -109,6 +116,8 @@ pub fn batch(call: Call, side: Side) -> Option<Batch> {
         Side::ConstHexByC => Some(by_build(RustCalls, call)),
         Side::Default => Some(by_build(DefaultBuild::here()?, call)),
         Side::Avx2 => Some(by_build(Avx2Build::here()?, call)),
+        #[cfg(feature = "rust")]
+        Side::Package => by_package(call),
         Side::Copy => Some(by_copy(call)),
         #[cfg(feature = "hex")]
         Side::Hex => by_hex(call),
@@ -158,6 +167,24 @@ pub fn by_build(build: impl Build, call: Call) -> Batch {
         Call::Decode => on_text(move |text, _| build.decode_owned(text)),
         Call::Display => on_bytes(move |bytes, _| build.display(bytes)),
     }
+}
+
+/// A batch of a call by the port's package for Rust.
+#[cfg(feature = "rust")]
+fn by_package(call: Call) -> Option<Batch> {
+    use const_hex_proved as port;
+    Some(match call {
+        Call::EncodeToSlice => {
+            on_bytes(|bytes, text| usize::from(port::encode_to_slice(bytes, text).is_ok()))
+        }
+        Call::DecodeToSlice => {
+            on_text(|text, bytes| usize::from(port::decode_to_slice(text, bytes).is_ok()))
+        }
+        Call::CheckRaw => on_text(|text, _| usize::from(port::check_raw(text))),
+        Call::Encode => on_bytes(|bytes, _| told(port::encode(bytes).as_bytes())),
+        Call::Decode => on_text(|text, _| port::decode(text).map_or(0, |bytes| told(&bytes))),
+        Call::Display => return None,
+    })
 }
 
 /// A batch of copies of what a call writes, or of what it reads if it writes nothing.
@@ -235,6 +262,11 @@ mod tests {
                 let mut work = Work::new(size, 0);
                 let wanted = by_const_hex(call)(&mut work, 7);
                 let through_c = |side: &Side| side.is_port() || *side == Side::ConstHexByC;
+                #[cfg(feature = "rust")]
+                {
+                    let batch = by_package(call).expect("the package has the call");
+                    assert_eq!(batch(&mut work, 7), wanted, "{} at {size}", call.name());
+                }
                 let sides = Side::here().into_iter().filter(through_c);
                 for batch in sides.filter_map(|side| batch(call, side)) {
                     assert_eq!(batch(&mut work, 7), wanted, "{} at {size}", call.name());

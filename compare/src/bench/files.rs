@@ -59,7 +59,13 @@ fn write_csv(output: &mut impl Write, sides: &[Side], rows: &[Row]) -> io::Resul
                 None => ",,".to_owned(),
             })
             .collect();
-        writeln!(output, "{},{},{}{cells}", row.call.name(), row.size, row.place)?;
+        writeln!(
+            output,
+            "{},{},{}{cells}",
+            row.call.name(),
+            row.size,
+            row.place
+        )?;
     }
     Ok(())
 }

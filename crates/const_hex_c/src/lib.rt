@@ -8,7 +8,7 @@
 //! The contracts use the terms of `const_hex`, and those defined in `specs/`.
 #![tactic(auto)]
 
-ghost use Rattle.std.specs.Prelude.{◌≡◌, ◌↔◌, ◌*◌, ◌+◌, ◌-◌, ◌<◌, ◌≢◌, ◌++◌, ℕ, List, Some, IfSome, true, false, length, take, drop, min, slice_index, IsTrue, Ok, Err};
+ghost use Rattle.std.specs.Prelude.{◌≡◌, ◌↔◌, ◌*◌, ◌+◌, ◌-◌, ◌<◌, ◌≤◌, ◌≢◌, ◌++◌, ℕ, List, Some, IfSome, true, false, length, take, drop, min, slice_index, IsTrue, Ok, Err};
 ghost use Rattle.const_hex.specs.Texts.{full_text, text_length, AllDigits, Partial};
 ghost use Rattle.const_hex.specs.Answers.{IsOdd, Reads, ReadsSized, ReadsWithin, Leaves};
 ghost use Rattle.const_hex.specs.Bodies.{body_of};
@@ -168,6 +168,7 @@ pub extern "C" fn const_hex_decode_piece(
         → HasRead decoder.new (t ++ text.now) (bs ++ take count.new bytes.new) }
     ensures count { IsTrue result → (t bs : List ℕ) → HasRead decoder.old t bs
         → ReadsOn (t ++ text.now) bs (length bytes.old) (Ok count.new) }
+    ensures within { IsTrue result → count.new ≤ length bytes.old }
     ensures rest { IsTrue result → drop count.new bytes.new ≡ drop count.new bytes.old }
     ensures kept { IsTrue result → refusal.new ≡ refusal.old }
     ensures err { result ≡ false → (t bs : List ℕ) → HasRead decoder.old t bs

@@ -9,6 +9,7 @@ mod exhausted;
 mod kernels;
 mod lanes;
 mod long;
+mod pieces;
 mod printed;
 mod sinks;
 mod streaming;

@@ -51,11 +51,11 @@ pub(crate) const fn pairs<const N: usize>(bytes: &[u8; N], upper: bool) -> [[u8;
     pairs
 }
 
-/// Returns where the body begins: behind the prefix, if any.
-const fn body_start(text: &[u8]) -> usize {
+/// Returns the text without its prefix, if any.
+const fn body(text: &[u8]) -> &[u8] {
     match text {
-        [b'0', b'x' | b'X', ..] => 2,
-        _ => 0,
+        [b'0', b'x' | b'X', body @ ..] => body,
+        _ => text,
     }
 }
 
@@ -65,13 +65,15 @@ const fn bad(text: &[u8], index: usize) -> FromHexError {
     FromHexError::InvalidHexCharacter { c, index }
 }
 
-/// Returns where the first byte from `start` on is that is not a digit, or the length if all are digits.
-const fn digits_end(text: &[u8], start: usize) -> usize {
-    let mut index = start;
-    while index < text.len() && HEX_DECODE_LUT[text[index] as usize] != NIL {
-        index += 1;
+/// Returns how many bytes there are from the first on that is not a digit: 0 if all are digits.
+const fn refused(mut text: &[u8]) -> usize {
+    while let [first, rest @ ..] = text {
+        if HEX_DECODE_LUT[*first as usize] == NIL {
+            break;
+        }
+        text = rest;
     }
-    index
+    text.len()
 }
 
 /// Returns the lowercase text of bytes in a [`Buffer`]. A constant can call it.
@@ -103,11 +105,10 @@ pub const fn const_check(input: &[u8]) -> Result<(), FromHexError> {
     if input.len() % 2 != 0 {
         return Err(FromHexError::OddLength);
     }
-    let end = digits_end(input, body_start(input));
-    if end < input.len() {
-        return Err(bad(input, end));
+    match refused(body(input)) {
+        0 => Ok(()),
+        count => Err(bad(input, input.len() - count)),
     }
-    Ok(())
 }
 
 /// Returns what [`check_raw`](crate::check_raw) returns. A constant can call it; at run time
@@ -120,7 +121,7 @@ pub const fn const_check(input: &[u8]) -> Result<(), FromHexError> {
 #[inline]
 #[must_use]
 pub const fn const_check_raw(input: &[u8]) -> bool {
-    digits_end(input, 0) == input.len()
+    refused(input) == 0
 }
 
 /// Returns what [`decode_to_array`](crate::decode_to_array) returns. A constant can call it; at run
@@ -143,21 +144,17 @@ pub const fn const_decode_to_array<const N: usize>(input: &[u8]) -> Result<[u8; 
     if input.len() % 2 != 0 {
         return Err(FromHexError::OddLength);
     }
-    let start = body_start(input);
-    if (input.len() - start) / 2 != N {
+    let body = body(input);
+    if body.len() / 2 != N {
         return Err(FromHexError::InvalidStringLength);
     }
     let mut bytes = [0; N];
     let mut place = 0;
     while place < N {
-        let first = start + 2 * place;
-        let high = HEX_DECODE_LUT[input[first] as usize];
-        let low = HEX_DECODE_LUT[input[first + 1] as usize];
-        if high == NIL {
-            return Err(bad(input, first));
-        }
-        if low == NIL {
-            return Err(bad(input, first + 1));
+        let high = HEX_DECODE_LUT[body[2 * place] as usize];
+        let low = HEX_DECODE_LUT[body[2 * place + 1] as usize];
+        if high == NIL || low == NIL {
+            return Err(bad(input, input.len() - refused(body)));
         }
         bytes[place] = 16 * high + low;
         place += 1;

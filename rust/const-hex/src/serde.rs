@@ -39,14 +39,7 @@ where
     S: Serializer,
     T: AsRef<[u8]>,
 {
-    hand_over(
-        Text {
-            bytes: data.as_ref(),
-            prefix: true,
-            upper: false,
-        },
-        serializer,
-    )
+    hand_over(data.as_ref(), true, false, serializer)
 }
 
 /// Serializes bytes as `0x` and uppercase digits.
@@ -60,25 +53,23 @@ where
     S: Serializer,
     T: AsRef<[u8]>,
 {
-    hand_over(
-        Text {
-            bytes: data.as_ref(),
-            prefix: true,
-            upper: true,
-        },
-        serializer,
-    )
+    hand_over(data.as_ref(), true, true, serializer)
 }
 
-/// Hands a text to a serializer: in one piece if it is short.
+/// Hands the text of `bytes` to a serializer: in one piece if it is short.
 #[inline]
-fn hand_over<S: Serializer>(text: Text<'_>, serializer: S) -> Result<S::Ok, S::Error> {
-    let Text {
-        bytes,
-        prefix,
-        upper,
-    } = text;
+fn hand_over<S: Serializer>(
+    bytes: &[u8],
+    prefix: bool,
+    upper: bool,
+    serializer: S,
+) -> Result<S::Ok, S::Error> {
     if bytes.len() > 128 {
+        let text = Text {
+            bytes,
+            prefix,
+            upper,
+        };
         return serializer.collect_str(&text);
     }
     let hand = |text: &str| serializer.serialize_str(if prefix { text } else { &text[2..] });
@@ -91,7 +82,7 @@ fn hand_over<S: Serializer>(text: Text<'_>, serializer: S) -> Result<S::Ok, S::E
 
 /// Fields of text without a prefix, by `#[serde(with = "const_hex::serde::no_prefix")]`.
 pub mod no_prefix {
-    use super::{hand_over, Serializer, Text};
+    use super::{hand_over, Serializer};
 
     pub use super::deserialize;
 
@@ -106,14 +97,7 @@ pub mod no_prefix {
         S: Serializer,
         T: AsRef<[u8]>,
     {
-        hand_over(
-            Text {
-                bytes: data.as_ref(),
-                prefix: false,
-                upper: false,
-            },
-            serializer,
-        )
+        hand_over(data.as_ref(), false, false, serializer)
     }
 
     /// Serializes bytes as uppercase digits.
@@ -127,13 +111,6 @@ pub mod no_prefix {
         S: Serializer,
         T: AsRef<[u8]>,
     {
-        hand_over(
-            Text {
-                bytes: data.as_ref(),
-                prefix: false,
-                upper: true,
-            },
-            serializer,
-        )
+        hand_over(data.as_ref(), false, true, serializer)
     }
 }

@@ -97,6 +97,7 @@ impl Decoder {
             → IfOk result (λ n. HasRead self.new (t ++ piece.now) (bs ++ take n output.new)) }
         ensures answer { (t bs : List ℕ) → HasRead self.old t bs
             → ReadsOn (t ++ piece.now) bs (length output.old) result }
+        ensures within { IfOk result (λ n. n ≤ length output.old) }
         ensures most { IfOk result (λ n. n ≤ (length piece.now + 1) / 2) }
         ensures enough { (length piece.now + 1) / 2 ≤ length output.old
             → result ≢ Err InvalidStringLength }
@@ -132,6 +133,7 @@ impl Decoder {
             → IfOk result (λ n. HasRead self.new (t ++ piece.now) (bs ++ take n output.new)) }
         ensures answer { (t bs : List ℕ) → HasRead self.old t bs
             → ReadsOn (t ++ piece.now) bs (length output.old) result }
+        ensures within { IfOk result (λ n. n ≤ length output.old) }
         ensures most { IfOk result (λ n. n ≤ (length piece.now + 1) / 2) }
         ensures enough { (length piece.now + 1) / 2 ≤ length output.old
             → result ≢ Err InvalidStringLength }

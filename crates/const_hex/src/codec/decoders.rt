@@ -144,6 +144,9 @@ pub fn decode_to_slice_with<K: Kernel>(input: &[u8], output: &mut [u8]) -> Resul
 /// Fills the front of the output with the bytes that a text spells, with or without a prefix, in
 /// either case, and returns their number. The rest of the output is unchanged.
 ///
+/// The text must be whole. If it comes in chunks, use a [`Decoder`](crate::Decoder): this call would
+/// remove a prefix from each chunk.
+///
 /// The first of these errors is returned:
 ///
 /// - [`FromHexError::OddLength`], and the output is unchanged;
