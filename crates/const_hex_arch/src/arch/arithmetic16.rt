@@ -1,4 +1,4 @@
-//! The kernel of 16 lanes that looks nothing up.
+//! The kernel of 16 lanes that looks up no digit of a valid text.
 
 ghost use Rattle.std.specs.Prelude.{◌≡◌, ◌*◌, ◌↔◌, [], ◌∷◌, ◌++◌, length, map, IsTrue, false};
 ghost use Rattle.std.specs.List.{AllZip, concat};
@@ -12,9 +12,9 @@ use crate::arch::{Kernel, short, steps};
 use crate::output::Output;
 use std::simd::prelude::*;
 
-/// Works in the steps of [`Lanes16`], and looks nothing up: digits, their values and the tests are
-/// computed. It is for processors that cannot look up in a vector, such as those of WebAssembly,
-/// where a look-up by a digit of a key would show in the caches.
+/// Works in the steps of [`Lanes16`], and computes digits, their values and the tests. It is for
+/// targets for which the compiler makes loads of a look-up in a vector, as for WebAssembly. There a
+/// look-up by a digit of a key would show in the caches. Only a text with a bad byte is looked up.
 ///
 /// ```rust
 /// let mut bytes = [0; 4];

@@ -1,4 +1,6 @@
 //! Kernels that work in steps of lanes, and then do the remainder.
+//!
+//! `V` has the lanes of a step: `N`, which is twice `H`. `W` has the 16 lanes of what is shorter.
 
 ghost use Rattle.std.specs.Prelude.{◌≡◌, ◌+◌, ◌*◌, ◌<◌, ◌≤◌, ◌++◌, ◌↔◌, IsTrue, false, length, take, drop};
 ghost use Rattle.std.specs.Str.{IsAscii};
@@ -27,6 +29,7 @@ pub(crate) fn encode<const H: usize, const N: usize, V: Vectors<N>, W: Vectors<1
     while rest.len() >= 2 * N {
         let (first, behind) = rest.split_at(N);
         let (second, behind) = behind.split_at(N);
+        // Any bit that is known only at run time.
         let twin = input.len() % 2 == 1;
         encode_step::<N, V, O>(first, upper, twin, output);
         encode_step::<N, V, O>(second, upper, twin, output);
@@ -42,7 +45,7 @@ pub(crate) fn encode<const H: usize, const N: usize, V: Vectors<N>, W: Vectors<1
     }
 }
 
-/// Encodes less bytes than a step, as one piece.
+/// Encodes fewer bytes than a step, as one piece.
 // Not `always`: its callers would be too large to be inlined.
 #[inline]
 fn encode_few<const H: usize, const N: usize, V: Vectors<N>, W: Vectors<16>, O: Output>(
