@@ -3,6 +3,3 @@ use Rattle.const_hex.proofs.codec.encoders.encode_full_to_slice_with.Goals as go
 
 pub returns-then-not-is_some_and-clause-unchanged : goal.returns-then-not-is_some_and-clause-unchanged
 returns-then-not-is_some_and-clause-unchanged g c = search rules
-
-pub returns-clause-text : goal.returns-clause-text
-returns-clause-text g c = search rules

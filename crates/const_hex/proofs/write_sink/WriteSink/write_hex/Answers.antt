@@ -1,9 +1,5 @@
-use Rattle.std.proofs.Common.{rules}
 use Rattle.const_hex.proofs.lemmas.WriteSinks.{streamed_text}
 use Rattle.const_hex.proofs.write_sink.WriteSink.write_hex.Goals as goal
 
 pub returns-clause-text : goal.returns-clause-text
 returns-clause-text g c = λ _. streamed_text g.W.Write.contents _ _ _ (rw c.new.ensures at c.write_to.ensures.streams)
-
-pub returns-then-refused : goal.returns-then-refused
-returns-then-refused g c = record { text = search rules; after_error = search rules; flag = search rules }

@@ -1,6 +1,0 @@
-use Rattle.std.proofs.Common.{arith}
-use Rattle.std.proofs.lemmas.Grind.{common_steps}
-use Rattle.const_hex_arch.proofs.sink.pieces.PieceSink.no_memory.Goals as goal
-
-pub returns-then-self : goal.returns-then-self
-returns-then-self c = grind (arith, common_steps)
