@@ -1,8 +1,10 @@
 //! The body of a text: the prefix rule, the first bad byte, and decoding by a kernel.
 
-ghost use Rattle.std.specs.Prelude.{◌≡◌, ◌*◌, ◌%◌, ◌≤◌, ◌==◌, ◌&&◌, ◌||◌, true, false, length, slice_index, IsTrue};
+ghost use Rattle.std.specs.Prelude.{◌≡◌, ◌*◌, ◌%◌, ◌≤◌, ◌==◌, ◌&&◌, ◌||◌, true, false, length, slice_index, IfErr, IfOk, IsTrue};
 ghost use Rattle.const_hex_arch.specs.Texts.{AllDigits, FirstBad, Spells, Partial};
+ghost use Rattle.const_hex.specs.Answers.{IsEven, IsOdd};
 ghost use Rattle.const_hex.specs.Bodies.{body_of, NamesFirstBad};
+ghost use Rattle.const_hex.specs.declared.error.FromHexError.TheVariants.{OddLength};
 
 use crate::error::FromHexError;
 use const_hex_arch::{CheckFirst, Kernel, NIL, value_at};
@@ -18,6 +20,19 @@ pub(crate) fn strip_prefix(text: &[u8]) -> &[u8]
         [first, second, rest @ ..] if is_prefix(*first, *second) => rest,
         _ => text,
     }
+}
+
+/// The text without its prefix, or [`FromHexError::OddLength`].
+#[inline(always)]
+pub(crate) fn even_body(text: &[u8]) -> Result<&[u8], FromHexError>
+    ensures body { IfOk result (λ b. b.now ≡ body_of text.now) }
+    ensures even { IfOk result (λ b. IsEven (length text.now) × IsEven (length b.now)) }
+    ensures odd { IfErr result (λ e. (e ≡ OddLength) × IsOdd (length text.now)) }
+{
+    if text.len() % 2 != 0 {
+        return Err(FromHexError::OddLength);
+    }
+    Ok(strip_prefix(text))
 }
 
 /// Whether two bytes are `0x` or `0X`.

@@ -5,7 +5,7 @@ ghost use Rattle.const_hex_arch.specs.Texts.{AllDigits};
 ghost use Rattle.const_hex.specs.Answers.{Reads, Checks};
 ghost use Rattle.const_hex.specs.declared.error.FromHexError.{FromHexError};
 
-use crate::codec::body::{bad_character, strip_prefix};
+use crate::codec::body::{bad_character, even_body};
 use crate::error::FromHexError;
 use const_hex_arch::{FixedKernel, Kernel};
 
@@ -38,10 +38,7 @@ pub fn check_with<K: Kernel>(input: &[u8]) -> Result<(), FromHexError>
     ensures answer { Checks input.now result }
     ensures accepts { IsOk result ↔ ((bs : List ℕ) × Reads input.now (Ok bs)) }
 {
-    if input.len() % 2 != 0 {
-        return Err(FromHexError::OddLength);
-    }
-    if K::check(strip_prefix(input)) {
+    if K::check(even_body(input)?) {
         Ok(())
     } else {
         Err(bad_character(input))

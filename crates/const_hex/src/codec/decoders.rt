@@ -7,7 +7,7 @@ ghost use Rattle.const_hex.specs.Answers.{IsOdd, AreBytes, Reads, ReadsSized, Re
 ghost use Rattle.const_hex.specs.declared.error.FromHexError.{FromHexError};
 ghost use Rattle.const_hex.specs.declared.error.FromHexError.TheVariants.{OddLength, NoMemory};
 
-use crate::codec::body::{bad_character, decode_body, strip_prefix};
+use crate::codec::body::{bad_character, decode_body, even_body};
 use crate::error::FromHexError;
 use const_hex_arch::{FixedKernel, Kernel};
 use std::alloc::Global;
@@ -76,10 +76,7 @@ fn decode_owned<K: Kernel>(alloc: Global, input: &[u8]) -> Result<Vec<u8>, FromH
     ensures err { IfErr result (λ e. e ≢ NoMemory → Reads input.now (Err e)) }
     ensures odd { (result ≡ Err OddLength) ↔ IsOdd (length input.now) }
 {
-    if input.len() % 2 != 0 {
-        return Err(FromHexError::OddLength);
-    }
-    let body = strip_prefix(input);
+    let body = even_body(input)?;
     let mut bytes = vec![in alloc; 0u8; body.len() / 2]?;
     if !decode_body::<K>(body, &mut bytes) {
         return Err(bad_character(input));
@@ -128,10 +125,7 @@ pub fn decode_to_slice_with<K: Kernel>(input: &[u8], output: &mut [u8]) -> Resul
     ensures after_error { IfErr result (λ e. Leaves input.now output.old output.new e) }
     ensures unchanged { K.USE_CHECK_FN ≡ true → OnErr result (output.new ≡ output.old) }
 {
-    if input.len() % 2 != 0 {
-        return Err(FromHexError::OddLength);
-    }
-    let body = strip_prefix(input);
+    let body = even_body(input)?;
     if body.len() / 2 != output.len() {
         return Err(FromHexError::InvalidStringLength);
     }
@@ -192,10 +186,7 @@ pub fn decode_to_front_with<K: Kernel>(
     ensures err { IfErr result (λ e. ReadsWithin input.now (length output.old) (Err e)) }
     ensures after_error { IfErr result (λ e. Leaves input.now output.old output.new e) }
 {
-    if input.len() % 2 != 0 {
-        return Err(FromHexError::OddLength);
-    }
-    let body = strip_prefix(input);
+    let body = even_body(input)?;
     let count = body.len() / 2;
     if count > output.len() {
         return Err(FromHexError::InvalidStringLength);

@@ -4,14 +4,14 @@ use Rattle.const_hex.proofs.codec.decoders.decode_to_front_with.Goals as goal
 
 pub returns-clause-ok : goal.returns-clause-ok
 returns-clause-ok g c =
-    let n = length c.strip_prefix-body.result.now / 2 in
+    let n = length c.in_ok-body.body.now / 2 in
     let front : take n (c.decode_body.new.output ++ drop n c.args.output.now) ≡ c.decode_body.new.output = grind (arith, common_steps) in
-    rw (← c.strip_prefix-body.ensures.body, front) (omega arith, (c.if-input-ne0.false, c.decode_body.ensures.spells c.if-not-decode_body.false))
+    rw (← c.in_ok-body.ensures.body, front) (omega (arith, c.in_ok-body.ensures.even.1), (c.in_ok-body.ensures.even.0, c.decode_body.ensures.spells c.if-not-decode_body.false))
 
 pub returns-clause-count : goal.returns-clause-count
-returns-clause-count g c = rw (← c.strip_prefix-body.ensures.body) (omega arith)
+returns-clause-count g c = rw (← c.in_ok-body.ensures.body) (omega (arith, c.in_ok-body.ensures.even.1))
 
 pub returns-clause-rest : goal.returns-clause-rest
 returns-clause-rest g c =
-    let n = length c.strip_prefix-body.result.now / 2 in
+    let n = length c.in_ok-body.body.now / 2 in
     let rest : drop n (c.decode_body.new.output ++ drop n c.args.output.now) ≡ drop n c.args.output.now = grind (arith, common_steps) in rest
