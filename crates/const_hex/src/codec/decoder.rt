@@ -1,6 +1,6 @@
 //! From a text in pieces to bytes.
 
-ghost use Rattle.std.specs.Prelude.{◌≡◌, ◌≢◌, ℕ, List, [], None, ◌++◌, ◌*◌, ◌+◌, ◌/◌, ◌%◌, ◌≤◌, ◌↔◌, Some, Ok, Err, true, false, length, take, drop, slice_index, IsOk, IfOk, IfErr, OnErr, IfSome, IsTrue};
+ghost use Rattle.std.specs.Prelude.{◌≡◌, ◌≢◌, ℕ, List, [], ◌∷◌, None, ◌++◌, ◌*◌, ◌+◌, ◌/◌, ◌%◌, ◌≤◌, ◌↔◌, Some, Ok, Err, true, false, length, take, drop, slice_index, IsOk, IfOk, IfErr, OnErr, IfSome, IsTrue};
 ghost use Rattle.const_hex_arch.specs.Texts.{AllDigits, FirstBad, Partial, Spells};
 ghost use Rattle.const_hex.specs.Answers.{IsOdd, Reads};
 ghost use Rattle.const_hex.specs.Bodies.{body_of};
@@ -242,7 +242,7 @@ impl Decoder {
         ensures shorter { length result.1.now ≤ length piece.now }
     {
         if self.place == 0 {
-            return (self.waiting(), strip_prefix(piece));
+            return (None, strip_prefix(piece));
         }
         match piece {
             [x, rest @ ..] if self.place == 1 && is_prefix(self.byte, *x) => (None, rest),
@@ -327,9 +327,22 @@ fn decode_next<K: Kernel>(waiting: Option<u8>, digits: &[u8], output: &mut [u8])
     ensures refused { result ≡ false
         → Partial output.old (listed waiting ++ digits.now) output.new }
 {
-    let Some(high) = waiting else {
-        return decode_digits::<K>(digits, output);
-    };
+    match waiting {
+        Some(high) => decode_behind::<K>(high, digits, output),
+        None => decode_digits::<K>(digits, output),
+    }
+}
+
+/// As `decode_next`, behind a digit that waits.
+// A call of its own: with its body too, `decode_with` would be too large to be inlined.
+#[inline(never)]
+fn decode_behind<K: Kernel>(high: u8, digits: &[u8], output: &mut [u8]) -> bool
+    requires { length output.old ≡ (1 + length digits.now) / 2 }
+    ensures digits { IsTrue result → AllDigits digits.now }
+    ensures spells { IsTrue result
+        → Spells (take (2 * length output.old) (high ∷ digits.now)) output.new }
+    ensures refused { result ≡ false → Partial output.old (high ∷ digits.now) output.new }
+{
     let [low, rest @ ..] = digits else {
         return true;
     };
@@ -348,18 +361,13 @@ fn decode_digits<K: Kernel>(digits: &[u8], output: &mut [u8]) -> bool
     ensures refused { result ≡ false → Partial output.old digits.now output.new }
 {
     let (pairs, last) = digits.split_at(2 * output.len());
-    decode_body::<K>(pairs, output) && is_last::<K>(last)
+    decode_body::<K>(pairs, output) && check_last::<K>(last)
 }
 
-/// Whether at most one byte is a digit. It is decoded as half of a pair, since no table of digits is
-/// looked up for that.
+/// Whether the byte behind the pairs, if there is one, is a digit.
 #[inline(always)]
-fn is_last<K: Kernel>(last: &[u8]) -> bool
-    requires { length last.now ≤ 1 }
+fn check_last<K: Kernel>(last: &[u8]) -> bool
     ensures { IsTrue result ↔ AllDigits last.now }
 {
-    match last {
-        [digit] => decode_body::<K>(&[b'0', *digit], &mut [0]),
-        _ => true,
-    }
+    last.is_empty() || K::check(last)
 }
