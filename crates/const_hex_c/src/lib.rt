@@ -16,6 +16,7 @@ ghost use Rattle.const_hex.specs.Decoding.{HasRead, ReadsOn, error_of};
 ghost use Rattle.const_hex.specs.declared.error.FromHexError.TheVariants.{OddLength, InvalidStringLength};
 ghost use Rattle.const_hex_c.specs.Crossing.{StandsFor, Says, IsUnknown, refusal_of};
 
+mod callers;
 mod kernel;
 mod refusal;
 mod words;

@@ -1,6 +1,6 @@
 //! A file or a socket that receives text.
 
-ghost use Rattle.std.specs.Prelude.{◌≡◌, true, false, OnOk, OnErr};
+ghost use Rattle.std.specs.Prelude.{◌≡◌, ◌∷◌, ◌++◌, [], true, false, OnOk, OnErr};
 ghost use Rattle.std.specs.Io.KnownBytes.{Appends};
 ghost use Rattle.const_hex.specs.Texts.{full_text};
 ghost use Rattle.const_hex.specs.WriteSinks.{WritesBeginning};
@@ -25,6 +25,26 @@ pub fn write_text<W: Write>(bytes: &[u8], writer: &mut W) -> io::Result<()>
     let mut sink = WriteSink::new(writer);
     let _ = sink.write_hex::<false, true>(bytes);
     sink.finish()
+}
+
+/// Writes the text of some bytes and a newline. Returns the writer's error if it fails.
+///
+/// ```rust
+/// let mut file = Vec::new(rt.alloc());
+/// write_line(b"kiwi", &mut file)?;
+/// assert_eq!(rt; file.as_slice(), b"0x6b697769\n".as_slice());
+/// ```
+pub fn write_line<W: Write>(bytes: &[u8], writer: &mut W) -> io::Result<()>
+    ensures { OnOk result (Appends (W.contents writer.old) (W.contents writer.new)
+        (full_text true false bytes.now ++ 10 ∷ [])) }
+{
+    let mut sink = WriteSink::new(writer);
+    let _ = sink.write_hex::<false, true>(bytes);
+    let (writer, error) = sink.into_parts();
+    match error {
+        Some(error) => Err(error),
+        None => writer.write_all(b"\n"),
+    }
 }
 
 /// Writes the bytes of a reader as lines of text, each of at most 16 bytes, until the reader ends

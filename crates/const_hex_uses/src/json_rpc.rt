@@ -6,7 +6,8 @@ ghost use Rattle.serde_json.specs.Find.{as_str, get};
 ghost use Rattle.serde_json.specs.View.{view};
 ghost use Rattle.const_hex.specs.Answers.{Reads};
 ghost use Rattle.const_hex.specs.Texts.{full_text};
-ghost use Rattle.const_hex.specs.declared.serde.error.JsonError.TheVariants.{NotText};
+ghost use Rattle.const_hex.specs.declared.error.FromHexError.TheVariants.{OddLength};
+ghost use Rattle.const_hex.specs.declared.serde.error.JsonError.TheVariants.{Hex, NotText};
 ghost use Rattle.const_hex_uses.specs.Refusals.{explained_text, marked_text};
 
 use const_hex::{FromHexError, JsonError, deserialize, serialize};
@@ -47,6 +48,21 @@ pub fn code_of(alloc: Global, answer: &Value) -> Result<Vec<u8>, JsonError<FromH
         Some(code) => deserialize(alloc, code),
         None => Err(JsonError::NotText),
     }
+}
+
+/// What a user sees of an answer without code.
+///
+/// ```rust
+/// let error = code_of(rt.alloc(), &Value::Null).unwrap_err();
+/// assert_eq!(rt; reason(rt.alloc(), &error)?.as_str(), "expected a hex encoded string");
+/// ```
+pub fn reason(alloc: Global, error: &JsonError<FromHexError>) -> Result<String, AllocError>
+    ensures not_text { error.now ≡ NotText
+        → IfOk result (λ s. string_bytes s ≡ codes "expected a hex encoded string") }
+    ensures odd { error.now ≡ Hex OddLength
+        → IfOk result (λ s. string_bytes s ≡ codes "odd number of digits") }
+{
+    format!(in alloc; "{error}")
 }
 
 /// A text, and on the next line a mark under the byte at that place.

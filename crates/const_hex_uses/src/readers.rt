@@ -1,13 +1,14 @@
 //! Callers that read a text: as any type, by the law of such types alone; and into a key.
 
 ghost use Rattle.std.specs.Prelude.{◌≡◌, ◌≢◌, ◌↔◌, ◌⊎◌, false, length, IfOk, IfErr, Ok, Err};
-ghost use Rattle.const_hex.specs.Answers.{Reads, ReadsSized};
+ghost use Rattle.const_hex.specs.Answers.{IsOdd, Reads, ReadsSized};
 ghost use Rattle.const_hex.specs.Bodies.{body_of, lowered};
 ghost use Rattle.const_hex.specs.Types.{IsCount, RefusesOrMisfits};
 ghost use Rattle.const_hex.specs.declared.error.FromHexError.TheVariants.{InvalidStringLength, NoMemory, OddLength};
 
 use const_hex::{FromHex, FromHexError, decode_to_slice};
 use std::alloc::Global;
+use std::rc::Rc;
 
 /// Reads a text. A value has the bytes that the text spells. If the error is not of memory, the
 /// text is no hex, or its number of bytes does not fit.
@@ -77,6 +78,19 @@ pub fn read_twice<const N: usize>(
     let list = read::<Vec<u8>>(alloc, text)?;
     let array = read::<[u8; N]>(alloc, text)?;
     Ok((list, array))
+}
+
+/// The bytes that a text spells, behind a shared pointer. If the length of the text is odd, the error
+/// says so, even without memory.
+///
+/// ```rust
+/// assert_eq!(rt; read_shared(rt.alloc(), b"0x6b69")?.as_slice(), b"ki".as_slice());
+/// ```
+pub fn read_shared(alloc: Global, text: &[u8]) -> Result<Rc<Vec<u8>>, FromHexError>
+    ensures bytes { IfOk result (λ shared. Reads text.now (Ok shared.value.items)) }
+    ensures odd { IsOdd (length text.now) → result ≡ Err OddLength }
+{
+    FromHex::from_hex(alloc, text)
 }
 
 /// Replaces a key by the 32 bytes that a text spells. If the text is odd, or has another length, the

@@ -1,9 +1,11 @@
 //! A text for any sink, and its pieces.
 
-ghost use Rattle.std.specs.Prelude.{◌≡◌, true, false, not, is_ok, IfOk};
+ghost use Rattle.std.specs.Prelude.{◌≡◌, ◌≤◌, true, false, not, is_ok, length, IfOk};
+ghost use Rattle.std.specs.List.{All, concat};
 ghost use Rattle.const_hex.specs.Streams.{Cut, Streams};
 ghost use Rattle.const_hex.specs.Texts.{full_text};
 
+use const_hex::serde::serialize_inner;
 use const_hex::{BufferedHex, PieceSink, Sink, SinkError};
 use std::alloc::Global;
 
@@ -31,9 +33,41 @@ pub fn send<S: Sink>(bytes: &[u8], sink: &mut S) -> Result<(), SinkError>
 /// assert_eq!(rt; packets(rt.alloc(), &[0xAB; 5000])?.pieces().len(), 3);
 /// ```
 pub fn packets(alloc: Global, bytes: &[u8]) -> Result<PieceSink, SinkError>
-    ensures { IfOk result (λ sink. Cut (full_text true false bytes.now) sink.pieces) }
+    ensures cut { IfOk result (λ sink. Cut (full_text true false bytes.now) sink.pieces) }
+    ensures sizes { IfOk result
+        (λ sink. All (λ piece. (1 ≤ length piece) × (length piece ≤ 4096)) sink.pieces) }
 {
     let mut sink = PieceSink::new(alloc, 0);
     BufferedHex::<false, true>::new(bytes).write_to(&mut sink)?;
     Ok(sink)
+}
+
+/// The text of a JSON string, in the pieces that its sink accepted.
+///
+/// Returns an error if there is too little memory.
+///
+/// ```rust
+/// assert_eq!(rt; json_pieces(rt.alloc(), b"kiwi")?.pieces()[0].as_str(), "0x6b697769");
+/// ```
+pub fn json_pieces(alloc: Global, bytes: &[u8]) -> Result<PieceSink, SinkError>
+    ensures { IfOk result (λ sink. concat sink.pieces ≡ full_text true false bytes.now) }
+{
+    let mut sink = PieceSink::new(alloc, 0);
+    serialize_inner::<false, true, PieceSink>(bytes, &mut sink)?;
+    Ok(sink)
+}
+
+/// A sink that refuses the second of two pieces.
+///
+/// ```rust
+/// assert_eq!(rt; first_alone(rt.alloc(), "0x", "6b69").pieces()[0].as_str(), "0x");
+/// ```
+pub fn first_alone(alloc: Global, first: &str, second: &str) -> PieceSink
+    ensures { length result.pieces ≤ 1 }
+{
+    let mut sink = PieceSink::new(alloc, 2);
+    if sink.write_str(first).is_ok() {
+        let _ = sink.write_str(second);
+    }
+    sink
 }

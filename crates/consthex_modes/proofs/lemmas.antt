@@ -1,2 +1,3 @@
+pub mod Modes
 pub mod Pieces
 pub mod Statuses

@@ -1,9 +1,13 @@
 //! What a mode answers to given bytes.
 
-ghost use Rattle.std.specs.Prelude.{◌≡◌, ◌≢◌, ◌≤◌, ◌<◌, ◌++◌, ◌+◌, ◌↔◌, length, IfOk, IfErr, Ok, Err};
+ghost use Rattle.std.specs.Prelude.{◌≡◌, ◌≢◌, ◌≤◌, ◌<◌, ◌++◌, ◌+◌, ◌↔◌, ◌⊎◌, List, ℕ, codes, length, IfOk, IfErr, Ok, Err};
+ghost use Rattle.const_hex.specs.Answers.{IsOdd, Reads};
 ghost use Rattle.const_hex.specs.Texts.{full_text, text_length};
+ghost use Rattle.const_hex.specs.declared.error.FromHexError.{FromHexError};
+ghost use Rattle.const_hex.specs.declared.error.FromHexError.TheVariants.{OddLength};
 ghost use Rattle.consthex_modes.specs.Answer.{Answer, TakesMemory, without_newline, newline, limit};
-ghost use Rattle.consthex_modes.specs.declared.error.RunError.TheVariants.{TooLong, NoMemory};
+ghost use Rattle.consthex_modes.specs.declared.error.RunError.TheVariants.{Text, TooLong, NoMemory};
+ghost use Rattle.consthex_modes.specs.declared.mode.Mode.TheVariants.{Decode, Check};
 
 use crate::error::RunError;
 use crate::mode::Mode;
@@ -28,6 +32,15 @@ pub fn answer(alloc: Global, mode: Mode, input: &[u8]) -> Result<Vec<u8>, RunErr
     ensures err { IfErr result (λ e. e ≢ NoMemory → Answer mode input.now (Err e)) }
     ensures too_long { (result ≡ Err TooLong) ↔ (limit < length input.now) }
     ensures no_memory { result ≡ Err NoMemory → TakesMemory mode input.now }
+    // Only a text that cannot be decoded is refused as a text, whatever the mode.
+    ensures refused { (e : FromHexError) → result ≡ Err (Text e)
+        → Reads (without_newline input.now) (Err e) }
+    // `ok` is said of a text that can be decoded, and of no other.
+    ensures checked { mode ≡ Check → IfOk result (λ v. (v.items ≡ codes "ok" ++ newline)
+        × ((bs : List ℕ) × Reads (without_newline input.now) (Ok bs))) }
+    // Memory is never blamed for an odd length.
+    ensures odd { (mode ≡ Decode) ⊎ (mode ≡ Check) → length input.now ≤ limit
+        → IsOdd (length (without_newline input.now)) → result ≡ Err (Text OddLength) }
 {
     if input.len() > LIMIT {
         return Err(RunError::TooLong);

@@ -1,11 +1,11 @@
 //! A whole run over any reader and writer.
 
-ghost use Rattle.std.specs.Prelude.{◌≡◌, ◌≢◌, ◌≤◌, ◌<◌, ◌+◌, List, ℕ, take, vec_len, OnOk, OnErr, IfOk, Ok, Err};
-ghost use Rattle.std.specs.Io.KnownBytes.{Appends, Keeps};
+ghost use Rattle.std.specs.Prelude.{◌≡◌, ◌≢◌, ◌≤◌, ◌<◌, ◌+◌, List, ℕ, length, take, vec_len, OnOk, OnErr, IfOk, Ok, Err};
+ghost use Rattle.std.specs.Io.KnownBytes.{Appends, Consumes, Keeps};
 ghost use Rattle.const_hex.specs.declared.error.FromHexError.{FromHexError};
 ghost use Rattle.const_hex.specs.WriteSinks.{WritesBeginning};
 ghost use Rattle.consthex_modes.specs.Answer.{limit};
-ghost use Rattle.consthex_modes.specs.Outcome.{ReadsAll, Answers, ReadsTooMuch};
+ghost use Rattle.consthex_modes.specs.Outcome.{ReadsAll, Answers};
 ghost use Rattle.consthex_modes.specs.declared.error.RunError.TheVariants.{Text, WriteFailed, TooLong};
 
 use crate::answers::{LIMIT, answer};
@@ -44,8 +44,8 @@ pub fn run<R: Read, W: Write>(
     // The reader was read to its end, and the answer to all of it is this error.
     ensures text { (e : FromHexError) → result ≡ Err (Text e)
         → Answers mode (R.remaining input.old) (R.remaining input.new) (Err (Text e)) }
-    ensures too_long { result ≡ Err TooLong
-        → ReadsTooMuch (R.remaining input.old) (R.remaining input.new) }
+    ensures too_long { result ≡ Err TooLong → (x : List ℕ) × (limit < length x)
+        × Consumes (R.remaining input.old) (R.remaining input.new) x }
     // The reader was read to its end, and a beginning of the answer to all of it was written.
     ensures write_failed { result ≡ Err WriteFailed → (bs : List ℕ)
         × Answers mode (R.remaining input.old) (R.remaining input.new) (Ok bs)
@@ -62,8 +62,8 @@ pub fn run<R: Read, W: Write>(
 fn read_all<R: Read>(alloc: Global, input: &mut R) -> Result<Vec<u8>, RunError>
     ensures ok { IfOk result
         (λ v. ReadsAll (R.remaining input.old) (R.remaining input.new) v.items) }
-    ensures too_long { result ≡ Err TooLong
-        → ReadsTooMuch (R.remaining input.old) (R.remaining input.new) }
+    ensures too_long { result ≡ Err TooLong → (x : List ℕ) × (limit < length x)
+        × Consumes (R.remaining input.old) (R.remaining input.new) x }
     ensures not_text { (e : FromHexError) → result ≢ Err (Text e) }
     ensures not_written { result ≢ Err WriteFailed }
 {
