@@ -1,4 +1,4 @@
-# Tests of c/build and ./test as scripts, for c/test: with an rt of the test's own in place of rt.
+# Tests of c/build as a script, for c/test: with an rt of the test's own in place of rt.
 
 # Makes a copy of the repository with something in the folder out/ of a crate.
 plant() {
@@ -65,25 +65,6 @@ misses_kernel() {
     [ $? -eq 1 ] && grep -q "has not just one line 'pub(crate) type CallsKernel" "$room/complaint"
 }
 
-# Whether ./test, with parts of the test's own, says how many edits were tried, names the part that failed
-# again, and adds up.
-tells_progress() {
-    local part copy=$room/planted
-    cp test "$copy" && mkdir -p "$copy"/{memory,rust,js} || return 1
-    for part in memory/run c/test rust/test js/check; do
-        printf '#!/bin/sh\necho "1 passed, 0 failed"\n' > "$copy/$part" && chmod +x "$copy/$part" || return 1
-    done
-    printf '#!/bin/sh\necho broken\nexit 1\n' > "$copy/js/check"
-    plant_rt '[ "$1" = ci ] || exit
-        for turn in {1..10}; do mktemp -d -t rt-edit-XXXX > "$0.made"; done
-        sleep 3
-        echo "3 passed, 0 failed"' || return 1
-    PATH=$copy/bin:$PATH "$copy/test" > "$room/said" 2>&1
-    [ $? -eq 1 ] && grep -q ' min: must-fail edits: check 10 of ' "$room/said" &&
-        grep -qx 'test: FAILED: JavaScript: status 1, last line: broken' "$room/said" &&
-        [ "$(tail -n 1 "$room/said")" = "6 passed, 1 failed" ]
-}
-
 test_scripts() {
     local signal
     does "a copy of the repository" plant
@@ -95,5 +76,4 @@ test_scripts() {
     does "c/build uses the kernel without look-ups for wasm64" uses_arithmetic
     does "c/build --again uses the kernel without look-ups for wasm64" uses_arithmetic --again
     does "c/build for wasm64 ends if it does not find the kernel" misses_kernel
-    does "./test tells how far it is" tells_progress
 }
