@@ -1,10 +1,10 @@
-# Tests of c/build and ./test as scripts, for c/test: with an rt of the test's own in place of rt.
+# Tests of c/build as a script, for c/test: with an rt of the test's own in place of rt.
 
 # Makes a copy of the repository with something in the folder out/ of a crate.
 plant() {
     mkdir -p "$room/planted/bin" &&
         tar c --exclude=out c crates crates.txt HANDLES | tar x -C "$room/planted" &&
-        mkdir "$room/planted/crates/const_hex_arch/out"
+        mkdir "$room/planted/crates/const_hex_arch/out" && touch "$room/planted/bin/rtlib.py"
 }
 
 # An rt that does $1, for the planted copy.
@@ -51,7 +51,6 @@ ends() {
 # to c/build.
 uses_arithmetic() {
     local line='pub(crate) type CallsKernel = const_hex::'
-    touch "$room/planted/bin/rtlib.py"
     plant_rt "case \$PWD in */const_hex_c) grep '^$line' src/kernel.rt >&2; exit 1 ;; esac" || return 1
     PATH=$room/planted/bin:$PATH "$room/planted/c/build" "$@" --target wasm64 > "$room/said" 2> "$room/complaint"
     [ $? -eq 1 ] && [ "$(head -n 1 "$room/complaint")" = "${line}Arithmetic16;" ] &&
@@ -65,35 +64,89 @@ misses_kernel() {
     [ $? -eq 1 ] && grep -q "has not just one line 'pub(crate) type CallsKernel" "$room/complaint"
 }
 
-# Whether ./test, with parts of the test's own, says how many edits were tried, names the part that failed
-# again, and adds up.
-tells_progress() {
-    local part copy=$room/planted
-    cp test "$copy" && mkdir -p "$copy"/{memory,rust,js} || return 1
-    for part in memory/run c/test rust/test js/check; do
-        printf '#!/bin/sh\necho "1 passed, 0 failed"\n' > "$copy/$part" && chmod +x "$copy/$part" || return 1
-    done
-    printf '#!/bin/sh\necho broken\nexit 1\n' > "$copy/js/check"
-    plant_rt '[ "$1" = ci ] || exit
-        for turn in {1..10}; do mktemp -d -t rt-edit-XXXX > "$0.made"; done
-        sleep 3
-        echo "3 passed, 0 failed"' || return 1
-    PATH=$copy/bin:$PATH "$copy/test" > "$room/said" 2>&1
-    [ $? -eq 1 ] && grep -q ' min: must-fail edits: check 10 of ' "$room/said" &&
-        grep -qx 'test: FAILED: JavaScript: status 1, last line: broken' "$room/said" &&
-        [ "$(tail -n 1 "$room/said")" = "6 passed, 1 failed" ]
+# Runs c/build of the planted copy. The arguments go to it, and then a new folder.
+builds() {
+    rm -rf "$room/made"
+    JOBS=3 PATH=$room/planted/bin:$PATH "$room/planted/c/build" "$@" "$room/made" > "$room/said" 2> "$room/complaint"
+}
+
+# An rt that makes an archive with all calls, and a module. Each object has rt's words.
+plant_maker() {
+    plant_rt 'case $PWD in */const_hex_c) ;; *) exit ;; esac
+        mkdir -p out && cd out && echo "<$*>" > const_hex_c.wasm || exit 1
+        for call in '"${calls[*]}"'; do echo "const char *$call(void) { return \"<$*>\"; }"; done |
+            cc -fPIC -x c -c - -o const_hex_c.o && rm -f libconst_hex_c.a && ar rc libconst_hex_c.a const_hex_c.o'
+}
+
+# Words of c/build, and behind each file that it makes the words that rt got for each object in it, in order.
+build_rows=(
+    "|./libconst_hex.a <lib --jobs 3> <lib --jobs 3 --cpu=x86-64-v3>"
+    "|./libconst_hex.so.1 <lib --jobs 3> <lib --jobs 3 --cpu=x86-64-v3>"
+    "--single|./libconst_hex.a <lib --jobs 3>"
+    "--target aarch64|./libconst_hex.a <lib --jobs 3 --target=aarch64-unknown-linux-gnu>"
+    "--target wasm64|./const_hex.wasm <lib --jobs 3>"
+    "--all|./aarch64/libconst_hex.a <lib --jobs 3 --target=aarch64-unknown-linux-gnu>"
+    "--all|./both/libconst_hex.a <lib --jobs 3> <lib --jobs 3 --cpu=x86-64-v3>"
+    "--all|./both/libconst_hex.so.1 <lib --jobs 3> <lib --jobs 3 --cpu=x86-64-v3>"
+    "--all|./second/libconst_hex.a <lib --jobs 3 --cpu=x86-64-v3 --backend rattle> <lib --jobs 3 --backend rattle>"
+    "--all|./single/libconst_hex.a <lib --jobs 3>"
+    "--all|./wasm64/const_hex.wasm <lib --jobs 3>"
+)
+
+# Whether c/build makes all files that the rows for its words $1 name, and no other.
+makes_rows() {
+    local file
+    # The words are several arguments, or none.
+    # shellcheck disable=SC2086
+    builds $1 || return 1
+    (cd "$room/made" && find . -type f | sort | while IFS= read -r file; do
+        echo "$1|$file $(grep -ao '<lib[^>]*>' "$file" | tr '\n' ' ')"
+    done) | sed 's/ $//' | diff <(printf '%s\n' "${build_rows[@]}" | grep "^$1|") -
+}
+
+# Whether c/build fails and makes nothing if rt fails in the crate $1, where an old archive and an old module
+# stand. The rest goes to c/build.
+makes_nothing() {
+    local crate=$1
+    shift
+    plant_rt "case \$PWD in */$crate) echo broken; exit 1 ;; esac"
+    builds "$@"
+    [ $? -eq 1 ] && grep -qx "c/build: $crate was not proved or not built" "$room/complaint" &&
+        grep -qx broken "$room/complaint" && [ -z "$(ls -A "$room/made")" ]
+}
+
+# Whether two builds with --again wait for each other.
+wait_for_each_other() {
+    plant_maker && mv "$room/planted/bin/rt" "$room/planted/bin/maker" || return 1
+    plant_rt 'mkdir "$0.busy" || echo met > "$0.met"
+        "$(dirname "$0")/maker" "$@"
+        sleep 0.2
+        rmdir "$0.busy"'
+    PATH=$room/planted/bin:$PATH "$room/planted/c/build" --again --single "$room/made1" > "$room/said" 2>&1 &
+    builds --again --single && wait $! && [ ! -e "$room/planted/bin/rt.met" ]
 }
 
 test_scripts() {
-    local signal
+    local signal words crate
     does "a copy of the repository" plant
     does "c/build proves without what stands in out/" finds_out no --single
     does "c/build --again says that it trusts out/" trusts
     for signal in HUP INT TERM; do
         does "c/build that $signal ends leaves nothing running" ends "$signal"
     done
+    does "an rt that makes archives" plant_maker
+    for words in "" --single "--target aarch64" "--target wasm64" --all; do
+        does "c/build $words makes its files" makes_rows "$words"
+    done
+    does "c/build --again makes its files" builds --again --single
+    for crate in const_hex const_hex_c; do
+        for words in "--single" "--again --all" "--again --target wasm64"; do
+            # shellcheck disable=SC2086
+            does "c/build $words makes nothing if $crate is not proved" makes_nothing "$crate" $words
+        done
+    done
+    does "c/build --again waits for another" wait_for_each_other
     does "c/build uses the kernel without look-ups for wasm64" uses_arithmetic
     does "c/build --again uses the kernel without look-ups for wasm64" uses_arithmetic --again
     does "c/build for wasm64 ends if it does not find the kernel" misses_kernel
-    does "./test tells how far it is" tells_progress
 }
