@@ -59,7 +59,7 @@ fn each_kind_is_asked_all_around() {
             .iter()
             .filter(|line| line.kind == kind && line.number.is_some() == has_length);
         let (mut counts, mut prefixes, mut no_digits) =
-            (BTreeSet::new(), BTreeSet::new(), BTreeSet::new());
+            (BTreeSet::new(), BTreeSet::new(), BTreeSet::<u8>::new());
         for line in asked {
             if kind.starts_with("write") {
                 counts.insert(line.asked.len());
@@ -67,7 +67,11 @@ fn each_kind_is_asked_all_around() {
             }
             let (body, prefix) = body(line);
             prefixes.insert(prefix);
-            no_digits.extend(body.iter().filter(|byte| !byte.is_ascii_hexdigit()));
+            no_digits.extend(
+                body.iter()
+                    .filter(|byte| !byte.is_ascii_hexdigit())
+                    .copied(),
+            );
             if body.len() % 2 == 0 {
                 counts.insert(body.len() / 2);
             }
