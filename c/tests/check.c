@@ -3,10 +3,10 @@
  *
  *     check [STEP]
  *
- * What is wanted comes from plain loops of this folder. Inputs and outputs
- * stand at the ends of pages behind and before which nothing may be read or written, so a byte out
- * of range ends the program. Only each STEPth alignment is tried if a number is given, for a
- * processor that is emulated. The last line is "N passed, M failed": a test of one build is one.
+ * What is wanted comes from plain loops of this folder; table.c has worked rows. Inputs and outputs stand
+ * at the ends of pages behind and before which nothing may be read or written, so a byte out of range ends
+ * the program. Only each STEPth alignment is tried if a number is given, for a processor that is emulated.
+ * The last line is "N passed, M failed": a test of one build is one.
  */
 #ifndef _GNU_SOURCE
 #define _GNU_SOURCE
