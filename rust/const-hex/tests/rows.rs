@@ -1,6 +1,6 @@
 //! Buffers, printing and the traits: what no line of the table asks.
 
-use const_hex::{display, Buffer, FromHex, FromHexError, ToHex};
+use const_hex::{display, Buffer, ToHex};
 
 /// Bytes of every kind that a signed number tells apart, and their text.
 const BYTES: [u8; 4] = [0, 127, 128, 255];
@@ -106,6 +106,7 @@ fn collections_of_characters() {
 #[cfg(feature = "alloc")]
 mod owned {
     use super::*;
+    use const_hex::{FromHex, FromHexError};
     use std::borrow::Cow;
     use std::fmt::Debug;
     use std::rc::Rc;
