@@ -3,10 +3,10 @@
  *
  *     check [STEP]
  *
- * What is wanted comes from worked rows and from plain loops of this folder. Inputs and outputs
- * stand at the ends of pages behind and before which nothing may be read or written, so a byte out
- * of range ends the program. Only each STEPth alignment is tried if a number is given, for a
- * processor that is emulated. The last line is "N passed, M failed": a test of one build is one.
+ * What is wanted comes from plain loops of this folder; table.c has worked rows. Inputs and outputs stand
+ * at the ends of pages behind and before which nothing may be read or written, so a byte out of range ends
+ * the program. Only each STEPth alignment is tried if a number is given, for a processor that is emulated.
+ * The last line is "N passed, M failed": a test of one build is one.
  */
 #ifndef _GNU_SOURCE
 #define _GNU_SOURCE
@@ -24,38 +24,11 @@ enum { LONGEST = 300, ALIGNMENTS = 64, BAD_LENGTHS = 130, SPARE = 3, LANES = 64 
 /* From one alignment that is tried to the next. */
 static size_t alignment_step = 1;
 
-static void worked_rows(void) {
-    char text[64];
-    unsigned char bytes[32];
-    size_t count = 0;
+/* What no line of the table asks. */
+static void lengths_and_version(void) {
     struct const_hex_refusal refusal = {9, 9, 9};
-    holds(build->encode("kiwi", 4, true, false, text, 10) && memcmp(text, "0x6b697769", 10) == 0,
-          "kiwi", 10, 0);
-    holds(build->encode("kiwi", 4, false, true, text, 8) && memcmp(text, "6B697769", 8) == 0,
-          "KIWI", 8, 0);
-    holds(build->encode("Hello world!", 12, false, false, text, 24) &&
-              memcmp(text, "48656c6c6f20776f726c6421", 24) == 0,
-          "Hello world!", 24, 0);
-    holds(build->decode("0X6B697769", 10, bytes, 4, &refusal) && memcmp(bytes, "kiwi", 4) == 0,
-          "decoded kiwi", 10, 0);
-    holds(build->decode_front("6b697769", 8, bytes, 32, &count, &refusal) && count == 4 &&
-              memcmp(bytes, "kiwi", 4) == 0,
-          "kiwi in front", 8, 0);
-    holds(build->check("6B", 2, &refusal), "6B", 2, 0);
-    holds(refusal.kind == 9 && refusal.byte == 9 && refusal.index == 9, "kept refusal", 0, 0);
-    holds(!build->check("0xzz", 4, &refusal) && refusal.kind == 3 && refusal.byte == 'z' &&
-              refusal.index == 2,
-          "0xzz", 4, 2);
-    holds(!build->decode("0x6b6977zz", 10, bytes, 4, &refusal) && refusal.kind == 3 &&
-              refusal.byte == 'z' && refusal.index == 8,
-          "0x6b6977zz", 10, 8);
-    holds(!build->check("6b6", 3, &refusal) && refusal.kind == 1 && refusal.byte == 0 &&
-              refusal.index == 0,
-          "6b6", 3, 0);
-    holds(!build->check("0x0x", 4, &refusal) && refusal.index == 3, "0x0x", 4, 3);
-    holds(build->check_raw("6b6", 3) && !build->check_raw("0x6b", 4), "check_raw", 3, 0);
-    holds(build->encoded_length(20, true) == 42 && build->encoded_length(0, false) == 0,
-          "encoded_length", 20, 0);
+    holds(build->check("6B", 2, &refusal) && refusal.kind == 9 && refusal.byte == 9 && refusal.index == 9,
+          "kept refusal", 2, 0);
     holds(build->encoded_length(SIZE_MAX / 2, false) == SIZE_MAX - 1 &&
               build->encoded_length(SIZE_MAX / 2, true) == SIZE_MAX &&
               build->encoded_length(SIZE_MAX / 2 + 1, false) == SIZE_MAX &&
@@ -118,43 +91,6 @@ static void words(void) {
                       marked((unsigned char *)buffer + count + 1, room - count - 1),
                   "words", room, row);
         }
-    }
-}
-
-/* What a message names a byte by: its character, or an escape of it. */
-static void plain_name(unsigned byte, char *name) {
-    static const char short_ones[] = {0, '0', '\t', 't', '\n', 'n', '\r', 'r', '\'', '\'', '\\', '\\'};
-    for (size_t at = 0; at < sizeof short_ones; at += 2) {
-        if (byte == (unsigned char)short_ones[at]) {
-            sprintf(name, "\\%c", short_ones[at + 1]);
-            return;
-        }
-    }
-    if (byte < 0x20 || (byte >= 0x7F && byte <= 0xA0) || byte == 0xAD) {
-        sprintf(name, "\\u{%x}", byte);
-    } else if (byte < 0x80) {
-        sprintf(name, "%c", (int)byte);
-    } else {
-        sprintf(name, "%c%c", (int)(0xC0 | (byte >> 6)), (int)(0x80 | (byte & 0x3F)));
-    }
-}
-
-/* A byte that is no digit is named by its character, or by an escape of it. */
-static void words_of_every_byte(void) {
-    for (unsigned byte = 0; byte < 256; byte++) {
-        char text[4] = {'6', 'b', (char)byte, '0'};
-        char name[8];
-        char wanted[CONST_HEX_WORDS];
-        char buffer[CONST_HEX_WORDS];
-        struct const_hex_refusal refusal = {0, 0, 0};
-        if (build->check(text, 4, &refusal)) {
-            continue;
-        }
-        plain_name(byte, name);
-        sprintf(wanted, "invalid character '%s' at position 2", name);
-        holds(build->words(&refusal, buffer, sizeof buffer) == strlen(wanted) &&
-                  strcmp(buffer, wanted) == 0,
-              "words of a byte", byte, 2);
     }
 }
 
@@ -393,10 +329,9 @@ static void wrong_sizes(void) {
     }
 }
 
-static const struct test TESTS[] = {{"worked rows", worked_rows},
+static const struct test TESTS[] = {{"lengths and version", lengths_and_version},
                                     {"null pointers with length 0", null_with_no_bytes},
                                     {"words of refusals", words},
-                                    {"words of every byte", words_of_every_byte},
                                     {"every byte", every_byte},
                                     {"every byte in lanes", every_byte_in_lanes},
                                     {"outputs of wrong sizes", wrong_sizes},

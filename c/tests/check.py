@@ -1,17 +1,16 @@
 #!/usr/bin/env python3
 """Tests of libconst_hex.so, called through ctypes.
 
-    check.py LIBRARY QUESTIONS ANSWERS [PROGRAM]
+    check.py LIBRARY TABLE [PROGRAM]
 
-Texts are compared with bytes.hex() and bytes.fromhex(). The questions and answers are those of
-crates/const_hex_replay, which the program there answers too: each question of a call that the
-library has is put to the library, and its answer has to be the stored one. If PROGRAM, which is
-consthex, is given, each question that it has a mode for is put to it too, and it has to answer as
-the library does. The last line is "N passed, M failed".
+TABLE is the table of answers of crates/const_hex_table: each call answers each line that asks it. Texts are
+also compared with bytes.hex() and bytes.fromhex(). If PROGRAM, which is consthex, is given, it is asked each
+line that it has a mode for. The last line is "N passed, M failed".
 """
 
 import ctypes
 import random
+import re
 import subprocess
 import sys
 
@@ -22,8 +21,8 @@ class Refusal(ctypes.Structure):
     _fields_ = [("kind", ctypes.c_uint32), ("byte", ctypes.c_uint32), ("index", ctypes.c_size_t)]
 
     def __str__(self):
-        place = f" {self.byte} {self.index}" if self.kind == 3 else ""
-        return f"ERR {KINDS[self.kind]}{place}"
+        place = f" {self.byte:#04x} {self.index}" if self.kind == 3 else ""
+        return f"!{KINDS[self.kind]}{place}"
 
 
 SIZE = ctypes.c_size_t
@@ -96,137 +95,126 @@ class Library:
         return out.raw[:count]
 
 
-def shown(data):
-    return data.hex() or "-"
+def read_table(path):
+    """The lines of the table: the number of each, what it asks, the length of an output, bytes and answer.
+
+    The answer is bytes, or the text of a refusal.
+    """
+    with open(path, "rb") as file:
+        lines = file.read().splitlines()
+    for number, line in enumerate(lines, 1):
+        if not line or line.startswith(b"#"):
+            continue
+        question, data, answer = line.split(b"\t")[:3]
+        kind, _, size = question.decode().partition(" ")
+        answer = answer.decode() if answer.startswith(b"!") else resolved(answer)
+        yield number, kind, int(size or 0), resolved(data), answer
 
 
-def encoded(library, data, prefix, upper):
-    return f"OK {shown(library.encode(data, prefix, upper)[1])}"
+def resolved(cell):
+    """The bytes that a cell shows."""
+    if cell == b'""':
+        return b""
+    return re.sub(rb"\\x(..)", lambda found: bytes.fromhex(found[1].decode()), cell)
 
 
-def encoded_into(library, data, upper, room):
-    fits, out = library.encode(data, False, upper, room)
-    return f"OK {shown(out)}" if fits else f"ERR InvalidStringLength BUF {shown(out)}"
+def written(library, data, wanted):
+    """What is given and wanted of the calls that write bytes, and read them back."""
+    for prefix, upper in [(False, False), (False, True), (True, False), (True, True)]:
+        text = b"0x" * prefix + (wanted.upper() if upper else wanted)
+        yield library.encode(data, prefix, upper), (True, text)
+        yield library.decode(text, len(data)), (None, data)
 
 
-def decoded(library, text):
-    refusal, out = library.decode_front(text, len(text) // 2 + 3)
-    return f"OK {shown(out)}" if refusal is None else str(refusal)
+def written_into(library, size, data, wanted):
+    for upper in (False, True):
+        fits, out = library.encode(data, False, upper, size)
+        if isinstance(wanted, str):
+            yield (fits, out, wanted), (False, b"\xee" * size, str(Refusal(2)))
+        else:
+            yield (fits, out), (True, wanted.upper() if upper else wanted)
 
 
-def decoded_sized(library, text, count, with_left):
-    refusal, out = library.decode(text, count)
+def read_into(library, size, data, wanted):
+    refusal, out = library.decode(data, size)
+    yield out if refusal is None else str(refusal), wanted
+    if refusal is not None and refusal.kind != 3:
+        yield out, b"\xee" * size
+
+
+def read(library, data, wanted):
+    """The same of the calls that read a text of any length, and of pieces if no length is odd."""
+    refusal, out = library.decode_front(data, len(data) // 2 + 3)
+    yield out if refusal is None else str(refusal), wanted
+    refusal = library.check(data)
+    yield refusal and str(refusal), wanted if isinstance(wanted, str) else None
     if refusal is None:
-        return f"OK {shown(out)}"
-    return f"{refusal} BUF {shown(out)}" if with_left else str(refusal)
+        yield library.decode(data, len(wanted)), (None, wanted)
+    if refusal is None or refusal.kind != 1:
+        yield from read_in_pieces(library, data, wanted)
 
 
-def message(library, refusal):
-    return "OK" if refusal is None else f"MSG {shown(library.words(refusal))}"
+def read_in_pieces(library, data, wanted):
+    """The same of a text in two pieces, at each cut."""
+    for cut in range(len(data) + 1):
+        refusal, out = library.in_pieces([data[:cut], data[cut:]])
+        yield out if refusal is None else str(refusal), wanted
 
 
-def answer(library, operation, data, number):
-    """The library's answer to a question, as the replay writes it, or None where it has no such call."""
-    forms = {"encode": (False, False), "encode_upper": (False, True), "encode_prefixed": (True, False),
-             "encode_upper_prefixed": (True, True)}
-    if operation in forms:
-        return encoded(library, data, *forms[operation])
-    if operation in ("encode_to_slice", "encode_to_slice_upper"):
-        return encoded_into(library, data, operation.endswith("upper"), number)
-    if operation == "decode":
-        return decoded(library, data)
-    if operation == "decode_to_slice":
-        return decoded_sized(library, data, number, True)
-    array = operation.removeprefix("const_").removeprefix("decode_to_array")
-    if array.isdigit():
-        return decoded_sized(library, data, int(array), False)
-    if operation in ("check", "const_check"):
-        refusal = library.check(data)
-        return "OK" if refusal is None else str(refusal)
-    if operation in ("check_raw", "const_check_raw"):
-        return "OK true" if library.call_check_raw(data, len(data)) else "OK false"
-    if operation in ("msg_decode", "msg_check", "msg_const_check"):
-        return message(library, library.check(data))
-    if operation == "msg_decode_to_slice":
-        return message(library, library.decode(data, number)[0])
-    return None
+def asked(library, kind, size, data, wanted):
+    """What is given and wanted of each call that can answer a line."""
+    calls = {
+        "write": lambda: written(library, data, wanted),
+        "write-into": lambda: written_into(library, size, data, wanted),
+        "read": lambda: read(library, data, wanted),
+        "read-into": lambda: read_into(library, size, data, wanted),
+        "read-pieces": lambda: read_in_pieces(library, data, wanted),
+        "digits": lambda: [(library.call_check_raw(data, len(data)), wanted == b"true")],
+        "message": lambda: [(library.words(library.decode(data, size)[0] if size else library.check(data)), wanted)],
+        # No call here reads JSON.
+        "json": lambda: [],
+    }
+    return calls[kind]()
 
 
-def replay(library, questions, answers):
-    """The stored questions and answers."""
-    asked = 0
-    for question, wanted in zip(questions, answers, strict=True):
-        operation, data, *number = question.split(" ")
-        data = b"" if data == "-" else bytes.fromhex(data)
-        given = answer(library, operation, data, int(number[0]) if number else 0)
-        if given is None:
-            continue
-        asked += 1
-        if given != wanted:
-            raise AssertionError(f"{question}: {given}, and not {wanted}")
-    print(f"check.py: {asked} stored questions")
-    if asked < 2000:
-        raise AssertionError(f"only {asked} questions")
+def against_table(library):
+    """Each line of the table."""
+    answers = 0
+    for number, *line, wanted in TABLE:
+        for given, wanted_of_call in asked(library, *line, wanted):
+            answers += 1
+            if given != wanted_of_call:
+                raise AssertionError(f"line {number}: {given}, and not {wanted_of_call}")
+    print(f"check.py: {answers} answers")
+    assert answers > 40000, answers
 
 
-def in_two_pieces(library, questions, answers):
-    """Each stored text that is decoded, at every cut into two: the same answer, but oddness is found last."""
-    asked = 0
-    for question, wanted in zip(questions, answers, strict=True):
-        operation, data, *_ = question.split(" ")
-        if operation != "decode":
-            continue
-        data = b"" if data == "-" else bytes.fromhex(data)
-        bad = library.check(data + b"0") if len(data) % 2 else None
-        if bad is not None:
-            wanted = str(bad)
-        for cut in range(len(data) + 1) if len(data) <= 300 else [1, 2, 3, len(data) // 2, len(data) - 1]:
-            asked += 1
-            refusal, given = library.in_pieces([data[:cut], data[cut:]])
-            answered = f"OK {shown(given)}" if refusal is None else str(refusal)
-            if answered != wanted:
-                raise AssertionError(f"{question} at {cut}: {answered}, and not {wanted}")
-    print(f"check.py: {asked} texts in two pieces")
-    if asked < 5000:
-        raise AssertionError(f"only {asked} texts")
-
-
-MODES = {"encode": "encode", "encode_upper": "encode-upper", "encode_prefixed": "encode-prefixed",
-         "encode_upper_prefixed": "encode-upper-prefixed", "decode": "decode", "check": "check"}
-
-
-def as_program(library, mode, data):
-    """What the program is to end with, write and print, by the library's answer."""
-    if mode.startswith("encode"):
-        return 0, library.encode(data, "prefixed" in mode, "upper" in mode)[1] + b"\n", b""
-    if mode == "check":
-        refusal, out = library.check(data), b"ok\n"
-    else:
-        refusal, out = library.decode_front(data, len(data) // 2)
-    return (0, out, b"") if refusal is None else (1, b"", library.words(refusal) + b"\n")
-
-
-def against_consthex(library, questions, answers):
-    """The program, on each stored question that it has a mode for."""
-    asked = 0
-    for question in questions:
-        operation, data, *_ = question.split(" ")
-        data = b"" if data == "-" else bytes.fromhex(data)
-        mode = MODES.get(operation)
+def against_consthex(library):
+    """The program, of each line that it has a mode for."""
+    runs = 0
+    for number, kind, _, data, wanted in TABLE:
+        modes = {}
+        if kind == "write":
+            large = wanted.upper()
+            modes = {"encode": wanted, "encode-upper": large, "encode-prefixed": b"0x" + wanted,
+                     "encode-upper-prefixed": b"0x" + large}
+            modes = {mode: (0, text + b"\n", b"") for mode, text in modes.items()}
         # The program removes one newline from the end of a text that it reads, and the library none.
-        if mode is None or (mode in ("decode", "check") and data.endswith(b"\n")):
-            continue
-        asked += 1
-        ran = subprocess.run([PROGRAM, mode], input=data, capture_output=True, timeout=60)
-        given, wanted = (ran.returncode, ran.stdout, ran.stderr), as_program(library, mode, data)
-        if given != wanted:
-            raise AssertionError(f"{question}: consthex {given}, and the library {wanted}")
-    print(f"check.py: {asked} questions of consthex")
-    if asked < 1000:
-        raise AssertionError(f"only {asked} questions")
+        elif kind == "read" and isinstance(wanted, bytes):
+            modes = {"decode": (0, wanted, b""), "check": (0, b"ok\n", b"")}
+        elif kind == "read" and not data.endswith(b"\n"):
+            modes = dict.fromkeys(["decode", "check"], (1, b"", library.words(library.check(data)) + b"\n"))
+        for mode, wanted_of_mode in modes.items():
+            runs += 1
+            ran = subprocess.run([PROGRAM, mode], input=data, capture_output=True, timeout=60)
+            given = ran.returncode, ran.stdout, ran.stderr
+            if given != wanted_of_mode:
+                raise AssertionError(f"line {number}: consthex {mode}: {given}, and not {wanted_of_mode}")
+    print(f"check.py: {runs} runs of consthex")
+    assert runs > 1000, runs
 
 
-def against_python(library, questions, answers):
+def against_python(library):
     """bytes.hex() and bytes.fromhex(), at every length to 300 and of some bytes past the digits."""
     numbers = random.Random(20)
     for count in range(301):
@@ -252,26 +240,22 @@ def against_python(library, questions, answers):
         assert wanted is None or out == wanted, text
 
 
-def version(library, questions, answers):
+def version(library):
     """The version, and the length that does not fit."""
     assert library.call_version() == 10100
     assert library.call_encoded_length(2**63, False) == 2**64 - 1
 
 
-PROGRAM = sys.argv[4] if len(sys.argv) > 4 else None
+TABLE = list(read_table(sys.argv[2]))
+PROGRAM = sys.argv[3] if len(sys.argv) > 3 else None
 
 
 def main():
-    path, questions, answers = sys.argv[1:4]
-    with open(questions, encoding="ascii") as file:
-        questions = file.read().splitlines()
-    with open(answers, encoding="ascii") as file:
-        answers = file.read().splitlines()
     passed = failed = 0
-    library = Library(path)
-    for test in [replay, in_two_pieces, against_python, version] + [against_consthex] * (PROGRAM is not None):
+    library = Library(sys.argv[1])
+    for test in [against_table, against_python, version] + [against_consthex] * (PROGRAM is not None):
         try:
-            test(library, questions, answers)
+            test(library)
             passed += 1
         except AssertionError as error:
             failed += 1

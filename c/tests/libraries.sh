@@ -83,6 +83,8 @@ test_answers() {
     starts "check.c as C" "$room/check"
     # The same code, so fewer of the alignments.
     starts "check.c as C++" "$room/check++" 8
+    does "table.c" compiled table c/tests/table.c "$archive"
+    starts "table.c" "$room/table" "$table"
     does "lengths.c" compiled lengths c/tests/lengths.c "$archive"
     starts "lengths.c" "$room/lengths"
     does "pieces.c" compiled pieces c/tests/pieces.c "$archive"
@@ -94,12 +96,10 @@ test_answers() {
     does "shared_text.c" compiled shared_text c/tests/shared_text.c "$archive"
     starts "shared_text.c" "$room/shared_text"
     # -E: no variable of the environment turns its assertions off.
-    starts "check.py" python3 -E c/tests/check.py "$shared" crates/const_hex_replay/stdin \
-        crates/const_hex_replay/stdout crates/consthex/out/consthex
+    starts "check.py" python3 -E c/tests/check.py "$shared" "$table" crates/consthex/out/consthex
     does "the default build alone, as a shared object" cc -shared -Wl,--whole-archive "$single" \
         -Wl,--no-whole-archive -o "$room/single.so"
-    starts "check.py of the default build" python3 -E c/tests/check.py "$room/single.so" \
-        crates/const_hex_replay/stdin crates/const_hex_replay/stdout
+    starts "check.py of the default build" python3 -E c/tests/check.py "$room/single.so" "$table"
 }
 
 # A device that accepts nothing: what is written is lost, which a program has to say.

@@ -28,12 +28,13 @@ test_processors() {
     # With the choice as the archive has it.
     does "picks.c" compiled picks c/tests/picks.c "$room/dispatch.o"
     starts "each call picks the build for this processor" "$room/picks" "$(build_here)"
-    has $((${#emulated[@]} + 30)) "other processors" qemu-x86_64 || return
+    has $((${#emulated[@]} + 32)) "other processors" qemu-x86_64 || return
     for row in "${emulated[@]}"; do
         does "${row% *} picks the build ${row#* }" picks "${row#* }" "${row% *}"
     done
     # An instruction that an older processor lacks ends the program.
     starts "check.c on an older processor" qemu-x86_64 -cpu Westmere "$room/check" 32
+    starts "table.c on an older processor" qemu-x86_64 -cpu Westmere "$room/table" "$table"
     starts "pieces.c on an older processor" qemu-x86_64 -cpu Westmere "$room/pieces" 60
     does "fingerprint on an older processor" compiled fingerprint c/examples/fingerprint.c "$archive"
     does "mark on an older processor" compiled mark c/examples/mark.c "$archive"
@@ -49,7 +50,7 @@ compiled_for_arm() {
 test_arm() {
     local name kernel=const_hex_arch::arch::lanes32::Lanes32Kernel
     local code=(aarch64-linux-gnu-objdump "$room/aarch64/libconst_hex.a")
-    has 31 ARM qemu-aarch64 aarch64-linux-gnu-gcc aarch64-linux-gnu-objdump || return
+    has 33 ARM qemu-aarch64 aarch64-linux-gnu-gcc aarch64-linux-gnu-objdump || return
     does "the build for ARM looks up in lanes" has_instruction "${code[@]}" 'tbl[[:space:]]' \
         const_hex_{encode,decode,decode_front} "$kernel::check" "$piece_digits"
     # There the checks hold none of the kernel's code.
@@ -57,9 +58,10 @@ test_arm() {
         "R_AARCH64_CALL26.*$kernel::check" const_hex_check{,_raw}
     does "the digits of a piece are decoded there on ARM" has_instruction "${code[@]}" \
         "R_AARCH64_CALL26.*$piece_digits" const_hex_decode_piece
-    for name in check lengths pieces; do
+    for name in table check lengths pieces; do
         does "$name.c for ARM" compiled_for_arm "arm-$name" "c/tests/$name.c"
     done
+    starts "table.c on ARM" qemu-aarch64 "$room/arm-table" "$table"
     starts "check.c on ARM" qemu-aarch64 "$room/arm-check" 32
     starts "lengths.c on ARM" qemu-aarch64 "$room/arm-lengths"
     starts "pieces.c on ARM" qemu-aarch64 "$room/arm-pieces" 60

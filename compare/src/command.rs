@@ -2,11 +2,10 @@
 
 use crate::bench::{self, Avx2, Bench};
 use crate::differ::Asked;
-use crate::replies::Answers;
 
 /// How the program is called.
 pub const USAGE: &str = "\
-usage: compare answers [--intended] < QUESTIONS
+usage: compare table < TABLE
        compare questions [SEED] [COUNT]
        compare differ [SEED] [COUNT]
        compare bench [--without-avx2] [--pictures FOLDER]
@@ -17,13 +16,13 @@ Without numbers the seed is 1 and the count 1000000. README.md says what each co
 /// The seed, if none is given.
 const SEED: u64 = 1;
 
-/// How many questions there are, if no number is given.
+/// How many lines are asked, if no number is given.
 const COUNT: usize = 1_000_000;
 
 /// What is asked for.
 #[derive(Clone, Debug)]
 pub enum Command {
-    Answers(Answers),
+    Table,
     Questions(Asked),
     Differ(Asked),
     Bench(Bench),
@@ -35,8 +34,7 @@ impl Command {
     pub fn of(words: &[String]) -> Option<Command> {
         let words: Vec<&str> = words.iter().map(String::as_str).collect();
         match words.as_slice() {
-            ["answers"] => Some(Command::Answers(Answers::TheCrates)),
-            ["answers", "--intended"] => Some(Command::Answers(Answers::ThePorts)),
+            ["table"] => Some(Command::Table),
             ["questions", numbers @ ..] => asked(numbers).map(Command::Questions),
             ["differ", numbers @ ..] => asked(numbers).map(Command::Differ),
             ["bench", flags @ ..] => measured(flags).map(Command::Bench),
@@ -82,8 +80,8 @@ mod tests {
     #[test]
     fn words_of_commands() {
         let rows = [
-            ("answers", true),
-            ("answers --intended", true),
+            ("table", true),
+            ("table 1", false),
             ("questions", true),
             ("differ 7", true),
             ("differ 7 1000", true),

@@ -1,114 +1,90 @@
-//! The command `questions`: questions without end, the same for the same seed.
+//! The command `questions`: lines without end, the same for the same seed.
 //!
-//! Every operation is asked in turn. Most lengths and places of bad bytes are near the end of a
-//! kernel's step. Every byte that is not a digit is the bad one in turn. Texts have no prefix,
-//! `0x` or `0X`. One question in ten is unusual: any length up to a great one, many bad bytes, other
-//! starts, JSON that few programs write, wide fields, and late errors of sinks.
+//! Every kind is asked in turn. Most lengths and places of bad bytes are near the end of a kernel's
+//! step. Every byte that is not a digit is the bad one in turn. Texts have no prefix, `0x` or `0X`.
+//! One line in ten is unusual: any length up to a great one, many bad bytes, other starts, and JSON
+//! that few programs write.
 
 mod json;
 mod odd;
 mod texts;
 
 use crate::generator::texts::Texts;
-use crate::operation::{Operation, Refusing, OFFERED};
-use crate::question::Question;
+use crate::lines::Line;
+use crate::theirs::wanted;
 
-/// How wide a field is at most, and how wide in an odd question: no format of Rust allows more.
-const WIDEST: usize = 300;
-const WIDEST_OF_ODD: usize = u16::MAX as usize;
+/// What is asked, and whether with the length of an output.
+const KINDS: [(&str, bool); 9] = [
+    ("write", false),
+    ("write-into", true),
+    ("read", false),
+    ("read-into", true),
+    ("read-pieces", false),
+    ("digits", false),
+    ("message", false),
+    ("message", true),
+    ("json", false),
+];
 
-/// At which call a sink refuses at the latest, and at which in an odd question.
-const LATEST: usize = 6;
-const LATEST_OF_ODD: usize = 20;
+/// The lengths of arrays that are asked.
+const ARRAYS: [usize; 16] = [0, 1, 2, 3, 4, 5, 8, 12, 16, 20, 32, 33, 48, 64, 65, 128];
 
-/// One question in so many is odd.
+/// One line in so many is odd.
 const ODD: usize = 10;
 
-/// From so many bytes on a text is streamed.
-const STREAMED: usize = 129;
-
-/// Questions without end.
+/// Lines without end.
 #[derive(Clone, Debug)]
 pub struct Generator {
-    operations: Vec<Operation>,
     turn: usize,
     texts: Texts,
 }
 
 impl Generator {
-    /// The questions of that seed.
+    /// The lines of that seed.
     pub fn new(seed: u64) -> Generator {
         Generator {
-            operations: Operation::all(),
             turn: 0,
             texts: Texts::new(seed),
         }
     }
 
-    /// The next question of an operation.
-    fn question(&mut self, operation: Operation) -> Question {
+    /// The bytes that are asked, and the length of the output.
+    fn asked(&mut self, kind: &str, has_length: bool) -> (Vec<u8>, Option<usize>) {
         self.texts.is_odd = self.texts.random.one_in(ODD);
-        let (bytes, number) = match operation {
-            Operation::Encode(_) | Operation::Serialize(_) => (self.texts.data(), None),
-            Operation::Display(_) => (self.texts.data(), self.width()),
-            Operation::SerializeInner(_) => (self.texts.data_to_stream(0), self.refuse_at()),
-            Operation::BufferedHex(_) => (self.texts.data_to_stream(STREAMED), self.refuse_at()),
-            Operation::EncodeToSlice(_) | Operation::EncodeToStr(_) => {
-                let bytes = self.texts.data();
-                let size = self.texts.near(2 * bytes.len());
-                (bytes, Some(size))
-            }
-            Operation::BufferFormat(_) | Operation::BufferDebug | Operation::ConstEncode(_) => {
-                let size = self.texts.random.one_of(&OFFERED);
-                (self.texts.random.bytes(size), None)
-            }
-            Operation::DecodeToSlice | Operation::Message(Refusing::DecodeToSlice) => {
-                let pairs = self.texts.length();
-                let text = self.texts.text(pairs);
-                (text, Some(self.texts.near(pairs)))
-            }
-            Operation::DecodeToArray(size) | Operation::ConstDecodeToArray(size) => {
-                (self.texts.text_near(size), None)
-            }
-            Operation::SignedArray => (self.texts.text_near(4), None),
-            Operation::Deserialize => (self.texts.json(), None),
-            _ => {
-                let pairs = self.texts.length();
-                (self.texts.text(pairs), None)
-            }
+        let pairs = match self.texts.random.one_in(2) {
+            true => self.texts.random.one_of(&ARRAYS),
+            false => self.texts.length(),
         };
-        Question {
-            operation,
-            bytes,
-            number,
-        }
-    }
-
-    /// How wide a field is, if that is said.
-    fn width(&mut self) -> Option<usize> {
-        self.number_up_to(WIDEST, WIDEST_OF_ODD)
-    }
-
-    /// At which call a sink refuses, if it does.
-    fn refuse_at(&mut self) -> Option<usize> {
-        self.number_up_to(LATEST, LATEST_OF_ODD)
-    }
-
-    /// A number or none: up to the first, or in an odd question up to the second.
-    fn number_up_to(&mut self, most: usize, most_of_odd: usize) -> Option<usize> {
-        let most = if self.texts.is_odd { most_of_odd } else { most };
-        let random = &mut self.texts.random;
-        random.one_in(2).then(|| random.below(most + 1))
+        let (asked, length) = match kind {
+            "write" | "write-into" => (self.texts.random.bytes(pairs), 2 * pairs),
+            "json" => (self.texts.json(), 0),
+            _ => (self.texts.text(pairs), pairs),
+        };
+        let length = has_length.then(|| self.texts.near(length));
+        (asked, length)
     }
 }
 
 impl Iterator for Generator {
-    type Item = Question;
+    type Item = Line;
 
-    fn next(&mut self) -> Option<Question> {
-        let operation = self.operations[self.turn % self.operations.len()];
+    /// The next line. Texts without an error have no message, so they are not asked for one.
+    fn next(&mut self) -> Option<Line> {
+        let (kind, has_length) = KINDS[self.turn % KINDS.len()];
         self.turn = self.turn.wrapping_add(1);
-        Some(self.question(operation))
+        loop {
+            let (asked, number) = self.asked(kind, has_length);
+            let mut line = Line {
+                kind: kind.to_string(),
+                number,
+                asked,
+                answer: String::new(),
+            };
+            line.answer = wanted(&line);
+            if line.answer != "no error" {
+                return Some(line);
+            }
+        }
     }
 }
 

@@ -1,12 +1,12 @@
-//! The commands `answers`, `questions`, `differ`, `bench` and `count`. `README.md` says what each
-//! does.
+//! The commands `table`, `questions`, `differ`, `bench` and `count`. `README.md` says what each does.
 #![deny(unsafe_code)]
 
 use const_hex_compare::bench;
 use const_hex_compare::command::{Command, USAGE};
 use const_hex_compare::count;
 use const_hex_compare::differ::{differ, Asked};
-use const_hex_compare::replies::{reply, Answers};
+use const_hex_compare::generator::Generator;
+use const_hex_compare::table;
 use std::io::{self, BufWriter, Write};
 use std::process::ExitCode;
 use std::time::Instant;
@@ -34,7 +34,7 @@ fn main() -> ExitCode {
 fn run(command: Command) -> io::Result<bool> {
     let mut output = BufWriter::new(io::stdout().lock());
     let is_well = match command {
-        Command::Answers(wanted) => print_answers(wanted, &mut output)?,
+        Command::Table => print_table(&mut output)?,
         Command::Questions(asked) => print_questions(asked, &mut output)?,
         Command::Differ(asked) => print_differences(asked, &mut output)?,
         Command::Bench(asked) => bench::run(&asked, &mut output)?,
@@ -44,38 +44,35 @@ fn run(command: Command) -> io::Result<bool> {
     Ok(is_well)
 }
 
-/// Prints an answer for each question of standard input.
-fn print_answers(wanted: Answers, output: &mut impl Write) -> io::Result<bool> {
-    reply(wanted, &mut io::stdin().lock(), output)
+/// Prints the table of standard input, with its last column from the Rust crate.
+fn print_table(output: &mut impl Write) -> io::Result<bool> {
+    table::print(io::stdin().lock(), output).map(|()| true)
 }
 
-/// Prints questions.
+/// Prints random lines as the table has them.
 fn print_questions(asked: Asked, output: &mut impl Write) -> io::Result<bool> {
-    let mut line = Vec::new();
-    for question in asked.questions() {
-        line.clear();
-        question.write(&mut line);
-        output.write_all(&line)?;
+    for line in Generator::new(asked.seed).take(asked.count) {
+        writeln!(output, "{}", table::answered(line))?;
     }
     Ok(true)
 }
 
-/// Prints the differences, and how many answers agree.
+/// Prints the wrong answers, and how many there are.
 fn print_differences(asked: Asked, output: &mut impl Write) -> io::Result<bool> {
     let start = Instant::now();
     let tally = differ(asked, output)?;
     let seconds = start.elapsed().as_secs_f64();
     let Asked { seed, count } = asked;
-    writeln!(output, "seed {seed}: {count} questions in {seconds:.1} s")?;
-    writeln!(output, "{} agree", tally.agree)?;
+    writeln!(output, "seed {seed}: {count} lines in {seconds:.1} s")?;
     writeln!(
         output,
-        "{} differ as is intended, in a place behind a prefix:",
-        tally.intended()
+        "{} lines are answered otherwise by the crate, in a place behind a prefix",
+        tally.intended
     )?;
-    for (operation, count) in &tally.intended {
-        writeln!(output, "  {count} of {operation}")?;
-    }
-    writeln!(output, "{} differ", tally.differ)?;
-    Ok(tally.differ == 0)
+    writeln!(
+        output,
+        "{} answers of the port, {} of them wrong",
+        tally.answers, tally.wrong
+    )?;
+    Ok(tally.wrong == 0)
 }

@@ -1,9 +1,10 @@
-// Asks the stored questions of the module with a 64-bit memory and of the one with a 32-bit memory that
+// Asks the lines of the table of answers of the module with a 64-bit memory and of the one with a 32-bit memory that
 // js/lower made of it, and compares the answers and the memories.
 //
 //     node --experimental-wasm-memory64 js/test/lowered.mjs MODULE64 MODULE32     (Node 24 needs no flag)
 import assert from 'node:assert/strict';
 import { readFileSync } from 'node:fs';
+import { linesOf } from './table.js';
 
 const [wide, narrow] = process.argv.slice(2)
     .map((path) => new WebAssembly.Instance(new WebAssembly.Module(readFileSync(path))).exports);
@@ -48,17 +49,12 @@ function ask(bytes, address, room) {
     }
 }
 
-let questions = 0;
-for (const line of readFileSync(new URL('../../crates/const_hex_replay/stdin', import.meta.url), 'utf8').split('\n')) {
-    const [, hex, length] = line.split(' ');
-    if (!/^([\da-f]{2})+$/.test(hex)) continue;
-    const bytes = Buffer.from(hex, 'hex');
-    if (OUTPUT + 3 * bytes.length + 16 > END) continue;
+const table = readFileSync(new URL('../../crates/const_hex_table/data/answers.tsv', import.meta.url), 'utf8');
+for (const { asked, size } of linesOf(table)) {
+    assert(OUTPUT + 3 * asked.length + 16 < END);
     // The last bytes of the memory, and others.
-    for (const address of [END - bytes.length, END - bytes.length - 7]) ask(bytes, address, Number(length ?? bytes.length >> 1));
-    questions += 1;
+    for (const address of [END - asked.length, END - asked.length - 7]) ask(asked, address, size || asked.length >> 1);
 }
-assert(questions > 1000);
 same('version');
 
 // In a memory of 4 GiB the last text ends at 2^32.

@@ -1,71 +1,17 @@
-// Tests that need Node: stored answers of the Rust crate, Buffer, large inputs, and engines that lack
-// something.
+// Tests that need Node: the table of answers, Buffer, large inputs, and engines that lack something.
 import assert from 'node:assert/strict';
 import { spawnSync } from 'node:child_process';
 import { readFileSync } from 'node:fs';
 import test from 'node:test';
 import { fileURLToPath } from 'node:url';
-import { check, decode, decodeInto, decoder, encode, isHex, version } from '../const_hex.js';
-import { answer, randomOf, randomText, thrown } from './rows.js';
+import { decode, decodeInto, decoder, encode, isHex } from '../const_hex.js';
+import { randomOf, randomText, thrown } from './rows.js';
+import { askTable } from './table.js';
 
 const TOP = new URL('../../', import.meta.url);
 const read = (path) => readFileSync(new URL(path, TOP), 'utf8');
 
-/** What a call answers, as the stored answers say it. */
-function words(call) {
-    const found = answer(call);
-    if (found === undefined) return 'OK';
-    if (found.kind) return `ERR ${found.kind} ${found.byte} ${found.index}`;
-    if (/^(OddLength|InvalidStringLength)$/.test(found)) return `ERR ${found}`;
-    return `OK ${Buffer.from(found).toString('hex') || '-'}`;
-}
-
-function message(call) {
-    try {
-        call();
-        return 'OK';
-    } catch (error) {
-        return `MSG ${Buffer.from(error.message).toString('hex')}`;
-    }
-}
-
-/** After an error the crate may have decoded a front of the target. Here nothing is decoded. */
-function intoSlice(text, length) {
-    const target = new Uint8Array(length).fill(0xee);
-    const found = words(() => decodeInto(text, target));
-    if (found.startsWith('ERR')) assert(target.every((byte) => byte === 0xee));
-    return found;
-}
-
-const OPERATIONS = {
-    encode: (bytes) => words(() => encode(bytes)),
-    encode_upper: (bytes) => words(() => encode(bytes, { upper: true })),
-    encode_prefixed: (bytes) => words(() => encode(bytes, { prefix: true })),
-    encode_upper_prefixed: (bytes) => words(() => encode(bytes, { prefix: true, upper: true })),
-    decode: (text) => words(() => decode(text)),
-    check: (text) => words(() => check(text)),
-    decode_to_slice: intoSlice,
-    msg_decode: (text) => message(() => decode(text)),
-    msg_check: (text) => message(() => check(text)),
-};
-
-test('stored answers of the Rust crate', () => {
-    const [questions, answers] = ['stdin', 'stdout'].map((name) =>
-        read(`crates/const_hex_replay/${name}`).trimEnd().split('\n'));
-    const asked = {};
-    questions.forEach((question, at) => {
-        const [operation, hex, length] = question.split(' ');
-        const run = OPERATIONS[operation];
-        if (!run) return;
-        asked[operation] = (asked[operation] ?? 0) + 1;
-        const wanted = answers[at].replace(/ BUF .*/, '');
-        const bytes = Buffer.from(hex === '-' ? '' : hex, 'hex');
-        assert.equal(run(bytes, Number(length)), wanted, question);
-        if (operation.startsWith('encode') || bytes.some((byte) => byte > 127)) return;
-        assert.equal(run(bytes.toString('latin1'), Number(length)), wanted, question);
-    });
-    for (const operation of Object.keys(OPERATIONS)) assert(asked[operation] > 10, operation);
-});
+test('the table of answers', () => askTable(read('crates/const_hex_table/data/answers.tsv')));
 
 test('Buffer, of 100,000 random texts that are valid', () => {
     const random = randomOf(11);

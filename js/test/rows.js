@@ -3,7 +3,6 @@ import { bytesToHex, check, decode, decodeInto, decoder, encode, HexError, hexTo
 
 export const rows = [];
 
-const HELLO = '48656c6c6f20776f726c6421';
 const KIWI = ascii('kiwi');
 const LOST = 'has no bytes: its buffer is detached or has become too short';
 
@@ -93,23 +92,8 @@ export function randomText(random) {
     return text;
 }
 
-row('encode', () => {
-    same(encode(KIWI), '6b697769');
-    same(encode(ascii('Hello world!'), {}), HELLO);
-    same(encode(ascii('Hello world!'), { upper: true }), HELLO.toUpperCase());
-    same(encode(Uint8Array.of(1, 2, 3, 15, 16), { prefix: true, upper: true }), '0x0102030F10');
-    same(encode(Uint8Array.of(1, 2, 3, 15, 16), { prefix: true, upper: undefined }), '0x0102030f10');
-    same(encode(new Uint8Array(0)), '');
-    same(encode(new Uint8Array(0), { prefix: true }), '0x');
-});
-
-row('decode', () => {
-    for (const text of ['6b697769', '6B697769', '0x6b697769', '0X6b697769']) {
-        same([...decode(text)], [...KIWI]);
-        same([...decode(ascii(text))], [...KIWI]);
-    }
-    same([...decode('')], []);
-    same([...decode('0x')], []);
+row('options that are missing', () => {
+    for (const options of [undefined, {}, { prefix: undefined, upper: false }]) same(encode(KIWI, options), '6b697769');
 });
 
 row('decode gives an array of its own', () => {
@@ -120,21 +104,12 @@ row('decode gives an array of its own', () => {
     same(first.constructor.name, 'Uint8Array');
 });
 
-row('decodeInto', () => {
+row('decodeInto a part of an array', () => {
     const target = new Uint8Array(8).fill(0xee);
     const part = target.subarray(2, 6);
     same(decodeInto('0x6b697769', part) === part, true);
     same([...target], [0xee, 0xee, ...KIWI, 0xee, 0xee]);
-    for (const length of [0, 3, 5, 1000]) {
-        const other = new Uint8Array(length).fill(0xee);
-        same(answer(() => decodeInto('0x6b697769', other)), 'InvalidStringLength');
-        same(answer(() => decodeInto('6b69776', other)), 'OddLength');
-        same(other.every((byte) => byte === 0xee), true);
-    }
-    same(answer(() => decodeInto('', new Uint8Array(1))), 'InvalidStringLength');
-    same(answer(() => decodeInto('0x', new Uint8Array(1))), 'InvalidStringLength');
-    same(answer(() => decodeInto('6b6977zz', part)), { kind: 'InvalidHexCharacter', index: 6, byte: 122 });
-    same([...part], [...KIWI]);
+    same(answer(() => decodeInto('0x6b697769', new Uint8Array(1000))), 'InvalidStringLength');
 });
 
 row('decodeInto over its own text', () => {
@@ -143,29 +118,10 @@ row('decodeInto over its own text', () => {
     same(String.fromCharCode(...text), '0kiwi97769');
 });
 
-row('check and isHex', () => {
-    for (const text of [HELLO, `0x${HELLO}`, `0X${HELLO.toUpperCase()}`]) {
-        same(check(text), undefined);
-        same(isHex(text), true);
-    }
-    same(answer(() => check(HELLO.slice(1))), 'OddLength');
-    same(isHex(HELLO.slice(1)), false);
-    same(isHex('Hello world!'), false);
-});
-
-row('messages', () => {
-    for (const [text, message] of [
-        ['0x1', 'odd number of digits'],
-        ['0xzz', "invalid character 'z' at position 2"],
-        ['6b\n0', "invalid character '\\n' at position 2"],
-        ['6b\u00e90', 'odd number of digits'],
-        ['6b\u00e9', "invalid character '\u00c3' at position 2"],
-    ]) {
-        const error = thrown(() => decode(text));
-        same([error.name, error.message], ['HexError', message]);
-        same([error instanceof HexError, error instanceof SyntaxError], [true, true]);
-    }
-    same(thrown(() => decodeInto('6b', new Uint8Array(2))).message, 'invalid string length');
+row('errors', () => {
+    const error = thrown(() => decode('6b\u00e9'));
+    same([error.name, error.message], ['HexError', "invalid character '\u00c3' at position 2"]);
+    same([error instanceof HexError, error instanceof SyntaxError], [true, true]);
     same(Object.keys(thrown(() => decode('1'))).includes('index'), false);
 });
 
@@ -206,13 +162,6 @@ row('lengths of 0 to 200 bytes, with each bad place', () => {
     }
 });
 
-row('prefixes', () => {
-    for (const text of ['0', 'x', '0x', '0X', '0x0x', '0x0X6b', 'x0', '00x0', '0y', ' 0x', '0x0', '0x 0']) {
-        compare(text);
-        compare(ascii(text));
-    }
-});
-
 /** What pieces are answered: all bytes that they spell, or the error. */
 function inPieces(...pieces) {
     return answer(() => {
@@ -226,28 +175,8 @@ function inPieces(...pieces) {
 row('pieces', () => {
     same(inPieces(), []);
     same(inPieces('0', 'x6b69', ascii('7769'), ''), [...KIWI]);
-    same(inPieces('0', 'X', '6', 'B6', '9776', '9'), [...KIWI]);
-    same(inPieces('0'), 'OddLength');
-    same(inPieces('0x6', 'b6'), 'OddLength');
-    same(inPieces('0', 'x0', 'x'), { kind: 'InvalidHexCharacter', index: 3, byte: 120 });
     const [first, last] = ['61'.repeat(40000), '62'.repeat(40000)];
     same(inPieces(first, '0x', last), { kind: 'InvalidHexCharacter', index: 80001, byte: 120 });
-});
-
-row('each cut into two pieces, with each bad place', () => {
-    for (const prefix of ['', '0x', '0X']) {
-        const text = `${prefix}${'6b697769'.repeat(6)}`;
-        for (let cut = 0; cut <= text.length; cut++) {
-            const halves = (it) => [it.slice(0, cut), it.slice(cut)];
-            same(inPieces(...halves(text)), [...decode(text)]);
-            same(inPieces(...halves(ascii(text))), [...decode(text)]);
-            same(inPieces(...halves(`${text}7`)), 'OddLength');
-            for (let index = prefix.length; index < text.length; index++) {
-                const bad = `${text.slice(0, index)}g${text.slice(index + 1)}`;
-                same(inPieces(...halves(bad)), { kind: 'InvalidHexCharacter', index, byte: 103 });
-            }
-        }
-    }
 });
 
 row('decoders beside each other, and one that was refused', () => {

@@ -7,21 +7,6 @@ const fn bad(c: char, index: usize) -> FromHexError {
     FromHexError::InvalidHexCharacter { c, index }
 }
 
-/// Texts in pieces, and what they spell.
-const READ: [(&[&str], Result<&[u8], FromHexError>); 11] = [
-    (&[], Ok(b"")),
-    (&["", "0x", ""], Ok(b"")),
-    (&["0", "x6b69", "7769"], Ok(b"kiwi")),
-    (&["0", "X", "6", "B6", "9776", "9"], Ok(b"kiwi")),
-    (&["00", "6b"], Ok(b"\0k")),
-    (&["0"], Err(FromHexError::OddLength)),
-    (&["0x6", "b6"], Err(FromHexError::OddLength)),
-    (&["6161", "0x", "6262"], Err(bad('x', 5))),
-    (&["0", "x0", "x"], Err(bad('x', 3))),
-    (&["6", "z", "00"], Err(bad('z', 1))),
-    (&["x0", "00"], Err(bad('x', 0))),
-];
-
 /// The bytes that pieces spell.
 fn decoded<'a>(
     pieces: impl IntoIterator<Item = &'a [u8]>,
@@ -31,20 +16,6 @@ fn decoded<'a>(
         count += decoder.decode(piece, &mut output[count..])?;
     }
     decoder.finish().map(|()| (output, count))
-}
-
-#[test]
-fn texts_in_pieces() {
-    for (pieces, answer) in READ {
-        let found = decoded(pieces.iter().map(|piece| piece.as_bytes()));
-        match answer {
-            Ok(bytes) => {
-                let (output, count) = found.unwrap();
-                assert_eq!(&output[..count], bytes, "{pieces:?}");
-            }
-            Err(error) => assert_eq!(found.unwrap_err(), error, "{pieces:?}"),
-        }
-    }
 }
 
 /// Each cut of a text into two, whole, and with a bad byte at each place.

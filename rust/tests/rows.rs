@@ -1,35 +1,11 @@
-//! The calls over worked rows, at each short length, and at each place of a bad byte.
+//! The calls at each short length, at each place of a bad byte, and what no line of the table asks.
 
-use const_hex_proved::{
-    check, check_raw, decode_to_array, decode_to_slice, encode_to_slice, encode_to_str, version,
-    FromHex, FromHexError, ToHex,
-};
-
-/// Bytes and their text in lowercase.
-const TEXTS: [(&[u8], &str); 4] = [
-    (b"", ""),
-    (b"kiwi", "6b697769"),
-    (b"\x00\x0f\xf0\xff", "000ff0ff"),
-    (b"Hello world!", "48656c6c6f20776f726c6421"),
-];
+use const_hex_proved::{check, decode_to_slice, encode_to_str, version, FromHexError, ToHex};
 
 /// The error of a bad character.
 const fn bad(c: char, index: usize) -> FromHexError {
     FromHexError::InvalidHexCharacter { c, index }
 }
-
-/// Texts, and what they are as four bytes.
-const READ: [(&str, Result<[u8; 4], FromHexError>); 9] = [
-    ("6b697769", Ok(*b"kiwi")),
-    ("0x6B697769", Ok(*b"kiwi")),
-    ("0X6b697769", Ok(*b"kiwi")),
-    ("6b69776", Err(FromHexError::OddLength)),
-    ("6b6977", Err(FromHexError::InvalidStringLength)),
-    ("0x6b697769ff", Err(FromHexError::InvalidStringLength)),
-    ("zb697769", Err(bad('z', 0))),
-    ("0x6b6977zz", Err(bad('z', 8))),
-    ("0x0x6b6977", Err(bad('x', 3))),
-];
 
 /// The text of bytes, by std.
 fn text_of(bytes: &[u8]) -> String {
@@ -39,69 +15,6 @@ fn text_of(bytes: &[u8]) -> String {
 /// As many bytes, none like its neighbour.
 fn bytes_of(count: usize) -> Vec<u8> {
     (0..count).map(|at| (at * 73 + count) as u8).collect()
-}
-
-#[test]
-fn texts_of_bytes() {
-    for (bytes, text) in TEXTS {
-        let mut output = vec![0; text.len()];
-        assert_eq!(encode_to_slice(bytes, &mut output), Ok(()));
-        assert_eq!(output, text.as_bytes());
-        assert_eq!(
-            encode_to_str(bytes, &mut output),
-            Ok(text.to_string().as_mut_str())
-        );
-        assert_eq!(bytes.encode_hex::<String>(), text);
-        assert_eq!(bytes.encode_hex_upper::<String>(), text.to_uppercase());
-    }
-}
-
-#[test]
-fn an_output_of_another_length_is_unchanged() {
-    for length in [0, 7, 9] {
-        let mut output = vec![0xEE; length];
-        assert_eq!(
-            encode_to_slice("kiwi", &mut output),
-            Err(FromHexError::InvalidStringLength)
-        );
-        assert_eq!(output, vec![0xEE; length]);
-    }
-}
-
-#[test]
-fn bytes_of_texts() {
-    for (text, answer) in READ {
-        assert_eq!(decode_to_array(text), answer, "{text}");
-        assert_eq!(FromHex::from_hex(text), answer, "{text}");
-        let mut bytes = [0xEE; 4];
-        assert_eq!(
-            decode_to_slice(text, &mut bytes),
-            answer.map(|_| ()),
-            "{text}"
-        );
-        match answer {
-            Ok(answer) => assert_eq!(bytes, answer, "{text}"),
-            // The bytes from the bad pair on are unchanged, as another test shows.
-            Err(FromHexError::InvalidHexCharacter { .. }) => {}
-            Err(_) => assert_eq!(bytes, [0xEE; 4], "{text}"),
-        }
-    }
-}
-
-#[test]
-fn checks() {
-    for (text, answer) in [
-        ("", Ok(())),
-        ("0x", Ok(())),
-        ("0x6B", Ok(())),
-        ("0x6", Err(FromHexError::OddLength)),
-        ("6g", Err(bad('g', 1))),
-        ("0x\u{e9}", Err(bad('\u{c3}', 2))),
-    ] {
-        assert_eq!(check(text), answer, "{text}");
-    }
-    assert!(check_raw("6b6"));
-    assert!(!check_raw("0x6b"));
 }
 
 #[test]
@@ -139,25 +52,7 @@ fn each_place_of_a_bad_byte() {
 }
 
 #[test]
-fn each_bad_byte_and_its_words() {
-    for byte in 0..=255_u8 {
-        if byte.is_ascii_hexdigit() {
-            continue;
-        }
-        let error = check([b'6', byte]).unwrap_err();
-        assert_eq!(error, bad(char::from(byte), 1));
-        let words = format!("invalid character {:?} at position 1", char::from(byte));
-        assert_eq!(error.to_string(), words);
-    }
-}
-
-#[test]
-fn other_words() {
-    assert_eq!(FromHexError::OddLength.to_string(), "odd number of digits");
-    assert_eq!(
-        FromHexError::InvalidStringLength.to_string(),
-        "invalid string length"
-    );
+fn the_longest_words() {
     // No call returns this one. No message is longer.
     let longest = bad('\u{10ffff}', usize::MAX);
     let words = format!(
@@ -182,7 +77,9 @@ fn an_error_of_std() {
 #[cfg(feature = "alloc")]
 mod owned {
     use super::*;
-    use const_hex_proved::{decode, encode, encode_prefixed, encode_upper, encode_upper_prefixed};
+    use const_hex_proved::{
+        decode, encode, encode_prefixed, encode_upper, encode_upper_prefixed, FromHex,
+    };
 
     #[test]
     fn each_short_length() {
@@ -198,18 +95,6 @@ mod owned {
             for text in [&text, &text.to_uppercase(), &format!("0X{text}")] {
                 assert_eq!(decode(text).as_ref(), Ok(&bytes), "{text}");
                 assert_eq!(FromHex::from_hex(text).as_ref(), Ok(&bytes), "{text}");
-            }
-        }
-    }
-
-    #[test]
-    fn refusals() {
-        for (text, answer) in READ {
-            match answer {
-                Ok(bytes) => assert_eq!(decode(text), Ok(bytes.to_vec()), "{text}"),
-                // Only a text of a given length can have the wrong one.
-                Err(FromHexError::InvalidStringLength) => assert!(decode(text).is_ok(), "{text}"),
-                Err(error) => assert_eq!(decode(text), Err(error), "{text}"),
             }
         }
     }

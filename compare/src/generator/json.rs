@@ -1,6 +1,7 @@
-//! JSON values for questions.
+//! JSON values for lines.
 
 use crate::generator::texts::Texts;
+use serde_json::Value;
 
 /// Values that are no text.
 const OTHERS: [&str; 12] = [
@@ -27,7 +28,12 @@ impl Texts {
     /// A JSON value: mostly a text, which mostly spells bytes.
     pub fn json(&mut self) -> Vec<u8> {
         if self.is_odd {
-            return self.odd_json();
+            let values = std::iter::repeat_with(|| self.odd_json());
+            let is_json = |value: &Vec<u8>| serde_json::from_slice::<Value>(value).is_ok();
+            return values
+                .into_iter()
+                .find(is_json)
+                .expect("one in a few is JSON");
         }
         let value = if self.random.one_in(8) {
             self.random.one_of(&OTHERS).to_owned()

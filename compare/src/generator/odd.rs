@@ -1,8 +1,8 @@
-//! What odd questions are made of: what is far from the ends of steps, and what few programs write.
+//! What odd lines are made of: what is far from the ends of steps, and what few programs write.
 
 use crate::generator::texts::Texts;
 
-/// The most bytes of an odd question. The digits of its text's digits have to fit on a line.
+/// The most bytes of an odd line.
 const LONGEST: usize = 12_000;
 
 /// One odd length in so many is any up to that, and the others are no greater than this.
@@ -27,9 +27,8 @@ const STARTS: [&[u8]; 14] = [
     b"\x30\x58\0",
 ];
 
-/// JSON texts with short escapes, with numbers of characters in upper digits, and with halves of
-/// characters; and what is no JSON.
-const TEXTS: [&[u8]; 20] = [
+/// JSON texts with short escapes, and with numbers of characters in upper digits.
+const TEXTS: [&[u8]; 8] = [
     br#""\/""#,
     br#""\b\f\n\r\t""#,
     br#""0\u0078\u0036b""#,
@@ -37,39 +36,23 @@ const TEXTS: [&[u8]; 20] = [
     br#""\u0030\u0058\u0041B""#,
     br#""6b\"6b""#,
     br#""\\x""#,
-    br#""\uD800""#,
-    br#""\uDC006b""#,
     br#""\uD83D\uDE00""#,
-    br#""\uD83D6b""#,
-    br#""\u006""#,
-    br#""\x6b""#,
-    b"\"\xff\"",
-    b"\"\xc3\x28\"",
-    b"\"6b\xed\xa0\x80\"",
-    b"\"6b",
-    b"\"6b\" 7",
-    b"\xef\xbb\xbf\"6b\"",
-    b"",
 ];
 
-/// Numbers at and past the ends of what machines hold.
-const NUMBERS: [&str; 12] = [
+/// Numbers at and past the ends of what machines hold, none of which a parser refuses.
+const NUMBERS: [&str; 8] = [
     "18446744073709551615",
     "18446744073709551616",
     "-9223372036854775808",
     "-9223372036854775809",
     "123456789012345678901234567890",
     "1e308",
-    "1e309",
-    "-1e400",
     "1e-400",
     "-0.0",
-    "01",
-    "1.",
 ];
 
 /// How deep values are nested at most.
-const DEEPEST: usize = 300;
+const DEEPEST: usize = 100;
 
 impl Texts {
     /// A count of bytes, mostly a short one, and near nothing.
@@ -105,7 +88,7 @@ impl Texts {
         }
     }
 
-    /// JSON that few programs write, or what is none.
+    /// What may be JSON that few programs write.
     pub fn odd_json(&mut self) -> Vec<u8> {
         match self.random.below(4) {
             0 => self.random.one_of(&NUMBERS).as_bytes().to_vec(),
@@ -115,12 +98,11 @@ impl Texts {
         }
     }
 
-    /// A value inside many others, at times in too few brackets.
+    /// A value inside many others.
     fn nested(&mut self) -> Vec<u8> {
         let depth = self.random.within(1, DEEPEST);
         let (opens, closes) = self.random.one_of(&[("[", "]"), ("{\"0x\":", "}")]);
-        let closed = depth - usize::from(self.random.one_in(8));
-        [&opens.repeat(depth), "\"6b\"", &closes.repeat(closed)]
+        [&opens.repeat(depth), "\"6b\"", &closes.repeat(depth)]
             .concat()
             .into_bytes()
     }

@@ -1,4 +1,4 @@
-//! Bytes and texts for questions.
+//! Bytes and texts for lines.
 
 use crate::random::Random;
 
@@ -27,7 +27,7 @@ const PIECES: [usize; 5] = [2016, 2048, 4064, 4096, 6144];
 #[derive(Clone, Debug)]
 pub struct Texts {
     pub random: Random,
-    /// Whether what is made is for an odd question.
+    /// Whether what is made is for an odd line.
     pub is_odd: bool,
     /// Every byte that is no digit.
     bad_bytes: Vec<u8>,
@@ -64,11 +64,8 @@ impl Texts {
         (boundary + self.random.below(5)).saturating_sub(2)
     }
 
-    /// A length near the end of a piece of a stream, or any in an odd question.
+    /// A length near the end of a piece of a stream.
     fn long(&mut self) -> usize {
-        if self.is_odd {
-            return self.odd_length();
-        }
         self.random.one_of(&PIECES) + self.random.below(80) - 40
     }
 
@@ -81,29 +78,6 @@ impl Texts {
             3 => self.random.below(2 * size + 2),
             _ => size,
         }
-    }
-
-    /// Bytes to encode.
-    pub fn data(&mut self) -> Vec<u8> {
-        let length = self.length();
-        self.random.bytes(length)
-    }
-
-    /// Bytes to encode for a sink, no fewer than so many: often more than a piece takes.
-    pub fn data_to_stream(&mut self, least: usize) -> Vec<u8> {
-        let length = if self.random.one_in(4) {
-            self.long()
-        } else {
-            // Whole steps are added, so that the ends of steps stay where they are.
-            self.length() + least / STEP * STEP
-        };
-        self.random.bytes(length.max(least))
-    }
-
-    /// A text to decode, mostly of so many pairs.
-    pub fn text_near(&mut self, pairs: usize) -> Vec<u8> {
-        let pairs = self.near(pairs);
-        self.text(pairs)
     }
 
     /// A text to decode, of so many pairs behind its prefix: whole, or with a bad byte or a digit

@@ -1,0 +1,110 @@
+//! The lines of the table of answers. The page beside `answers.tsv` says what each column has.
+
+/// A line that asks something.
+pub struct Line {
+    /// What is asked.
+    pub kind: String,
+    /// The length of the output, if the kind has one.
+    pub number: Option<usize>,
+    /// The bytes or the text that it is asked of.
+    pub asked: Vec<u8>,
+    /// The answer, as the table shows it.
+    pub answer: String,
+}
+
+impl Line {
+    /// The line of a text without its line break, or `None` if it is empty or a comment.
+    pub fn read(text: &str) -> Option<Line> {
+        if text.is_empty() || text.starts_with('#') {
+            return None;
+        }
+        let mut cells = text.split('\t');
+        let mut cell = || {
+            cells
+                .next()
+                .unwrap_or_else(|| panic!("a cell is missing: {text}"))
+        };
+        let (question, asked, answer) = (cell(), cell(), cell());
+        let (kind, number) = match question.split_once(' ') {
+            Some((kind, number)) => (kind, Some(number.parse().unwrap())),
+            None => (question, None),
+        };
+        Some(Line {
+            kind: kind.to_string(),
+            number,
+            asked: bytes_of(asked),
+            answer: answer.to_string(),
+        })
+    }
+}
+
+/// Asks `calls` each line of the table in a folder, if it is there. They return the names of calls and
+/// their answers, each of which has to be the line's.
+pub fn ask(folder: &str, calls: impl Fn(&Line) -> Vec<(&'static str, String)>) {
+    let path = format!("{folder}/data/answers.tsv");
+    let table = match std::fs::read_to_string(&path) {
+        Ok(table) => table,
+        Err(_) => return eprintln!("{path} is not there, so nothing is asked"),
+    };
+    let mut asked = 0;
+    for (number, text) in table.lines().enumerate() {
+        let answers = Line::read(text).map(|line| (calls(&line), line.answer));
+        let (answers, wanted) = answers.unwrap_or_default();
+        for (call, answer) in &answers {
+            assert_eq!(*answer, wanted, "{call}, line {}: {text}", number + 1);
+        }
+        asked += usize::from(!answers.is_empty());
+    }
+    assert!(asked > 1000, "only {asked} lines are asked");
+}
+
+/// The bytes that a cell shows.
+fn bytes_of(cell: &str) -> Vec<u8> {
+    let mut parts = if cell == "\"\"" { "" } else { cell }.split("\\x");
+    let mut bytes = parts.next().unwrap().as_bytes().to_vec();
+    for part in parts {
+        bytes.push(u8::from_str_radix(&part[..2], 16).unwrap());
+        bytes.extend_from_slice(&part.as_bytes()[2..]);
+    }
+    bytes
+}
+
+/// Bytes as the table shows them.
+pub fn shown(bytes: &[u8]) -> String {
+    match bytes {
+        b"" => return "\"\"".to_string(),
+        b"\"\"" => return "\\x22\\x22".to_string(),
+        _ => {}
+    }
+    let one = |byte: &u8| match byte {
+        b'\\' => "\\x5c".to_string(),
+        b' '..=b'~' => char::from(*byte).to_string(),
+        _ => format!("\\x{byte:02x}"),
+    };
+    bytes.iter().map(one).collect()
+}
+
+/// An answer of bytes as the table shows it, in which `!` in front would be an error.
+pub fn shown_answer(bytes: &[u8]) -> String {
+    let shown = shown(bytes);
+    match shown.strip_prefix('!') {
+        Some(rest) => format!("\\x21{rest}"),
+        None => shown,
+    }
+}
+
+/// An answer in which `$size` is a constant, if the number is one of the lengths of the table.
+macro_rules! at {
+    ($number:expr, $size:ident => $answer:expr) => {
+        at!($number, $size => $answer; 0 1 2 3 4 5 8 12 16 20 32 33 48 64 65 128)
+    };
+    ($number:expr, $size:ident => $answer:expr; $($count:literal)+) => {
+        match $number {
+            $($count => {
+                const $size: usize = $count;
+                Some($answer)
+            })+
+            _ => None,
+        }
+    };
+}
