@@ -1,7 +1,7 @@
 # Tests of ./test, .ci/run and ./edit, for c/test: with stand-ins for rt and for the parts of the gate.
 
 # The parts of the gate, and rt.
-gate_parts=(bin/rt memory/run c/test rust/test js/check)
+gate_parts=(quick bin/rt memory/run c/test rust/test js/check)
 
 # Makes a copy of the scripts, with an edit of a crate.
 copy_gate() {
@@ -27,18 +27,19 @@ runs_gate() { PATH=$room/gate/bin:$PATH "$room/gate/.ci/run" > "$room/said" 2>&1
 
 # A part of the gate, what it says, its status, and what the gate has to say.
 gate_rows=(
-    "c/test|1 passed, 0 failed|0|5 passed, 0 failed"
-    "js/check|2 passed, 0 failed, 3 skipped|0|6 passed, 0 failed, 3 skipped"
-    "bin/rt|1 passed, 2 failed|1|5 passed, 2 failed"
-    "memory/run|1 passed, 2 failed|1|5 passed, 2 failed"
-    "c/test|1 passed, 2 failed|1|5 passed, 2 failed"
-    "rust/test|1 passed, 2 failed|1|5 passed, 2 failed"
-    "js/check|1 passed, 2 failed, 1 skipped|1|5 passed, 2 failed, 1 skipped"
-    "c/test|1 passed, 1 failed|0|5 passed, 1 failed"
-    "c/test|0 passed, 0 failed|0|4 passed, 1 failed"
-    "c/test|0 passed, 0 failed, 1 skipped|0|4 passed, 1 failed, 1 skipped"
-    "c/test|1 passed, 0 failed|1|5 passed, 1 failed"
-    "c/test|1 passed|0|4 passed, 1 failed"
+    "quick|1 passed, 1 failed|1|1 passed, 1 failed"
+    "c/test|1 passed, 0 failed|0|6 passed, 0 failed"
+    "js/check|2 passed, 0 failed, 3 skipped|0|7 passed, 0 failed, 3 skipped"
+    "bin/rt|1 passed, 2 failed|1|6 passed, 2 failed"
+    "memory/run|1 passed, 2 failed|1|6 passed, 2 failed"
+    "c/test|1 passed, 2 failed|1|6 passed, 2 failed"
+    "rust/test|1 passed, 2 failed|1|6 passed, 2 failed"
+    "js/check|1 passed, 2 failed, 1 skipped|1|6 passed, 2 failed, 1 skipped"
+    "c/test|1 passed, 1 failed|0|6 passed, 1 failed"
+    "c/test|0 passed, 0 failed|0|5 passed, 1 failed"
+    "c/test|0 passed, 0 failed, 1 skipped|0|5 passed, 1 failed, 1 skipped"
+    "c/test|1 passed, 0 failed|1|6 passed, 1 failed"
+    "c/test|1 passed|0|5 passed, 1 failed"
 )
 
 # Whether the gate says what a row wants, names the part if it failed, and has status 1 then.

@@ -70,6 +70,23 @@ builds() {
     JOBS=3 PATH=$room/planted/bin:$PATH "$room/planted/c/build" "$@" "$room/made" > "$room/said" 2> "$room/complaint"
 }
 
+# Whether c/build takes the crates below the calls as rt ci left them, and marks them. An rtlib.py makes the mark.
+takes_proved() {
+    local crate
+    for crate in const_hex_arch const_hex; do
+        mkdir -p "$room/planted/crates/$crate/out/rlib" && echo "$crate" > "$room/planted/crates/$crate/out/rlib/made" ||
+            return 1
+    done
+    printf '%s\n' 'class Crate:' '    def __init__(self, folder, root, known): self.folder = folder' \
+        '    def stamp(self): return self.folder.rpartition("/")[2]' > "$room/planted/bin/rtlib.py"
+    plant_rt 'case $PWD in */const_hex_c) exit 1 ;; esac
+        cmp out/rlib/made <(cat out/rlib/stamp; echo)' || return 1
+    builds --proved --single
+    [ $? -eq 1 ] && grep -q 'const_hex_c was not proved' "$room/complaint" && grep -q 'as rt ci has proved them' "$room/said" &&
+        rm -r "$room"/planted/crates/const_hex{,_arch}/out/rlib && ! builds --proved --single &&
+        grep -q 'rt ci left no library of const_hex_arch' "$room/complaint"
+}
+
 # An rt that makes an archive with all calls, and a module. Each object has rt's words.
 plant_maker() {
     plant_rt 'case $PWD in */const_hex_c) ;; *) exit ;; esac
@@ -131,6 +148,7 @@ test_scripts() {
     does "a copy of the repository" plant
     does "c/build proves without what stands in out/" finds_out no --single
     does "c/build --again says that it trusts out/" trusts
+    does "c/build --proved takes what rt ci left" takes_proved
     for signal in HUP INT TERM; do
         does "c/build that $signal ends leaves nothing running" ends "$signal"
     done
