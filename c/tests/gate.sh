@@ -10,16 +10,13 @@ copy_gate() {
         printf 'file: src/lib.rt\nold: 2\nnew: 3\n' > "$room/gate/crates/one/must-fail/two-is-three.edit"
 }
 
-# Makes a stand-in for the command $1 of that copy, which does $2.
-stands_in() { printf '#!/bin/bash\n%s\n' "$2" > "$room/gate/$1" && chmod +x "$room/gate/$1"; }
-
 # Makes stand-ins for all parts. Each passes one test.
 stand_in_for_all() {
     local part
     for part in "${gate_parts[@]}"; do
-        stands_in "$part" 'echo "1 passed, 0 failed"' || return 1
+        stands_in "$room/gate/$part" 'echo "1 passed, 0 failed"' || return 1
     done
-    stands_in c/build :
+    stands_in "$room/gate/c/build" :
 }
 
 # Runs the gate over the stand-ins.
@@ -46,7 +43,7 @@ gate_rows=(
 adds_part() {
     local part says status wanted named=0
     IFS='|' read -r part says status wanted <<< "$1"
-    stand_in_for_all && stands_in "$part" "echo '$says'; exit $status" || return 1
+    stand_in_for_all && stands_in "$room/gate/$part" "echo '$says'; exit $status" || return 1
     runs_gate
     [ $? -eq "$([[ $wanted == *" 0 failed"* ]]; echo $?)" ] || return 1
     [[ $wanted == *" 0 failed"* ]] || named=1
@@ -56,7 +53,7 @@ adds_part() {
 
 # Whether the gate says how many edits were tried.
 tells_progress() {
-    stand_in_for_all && stands_in bin/rt '[ "$1" = ci ] || exit
+    stand_in_for_all && stands_in "$room/gate/bin/rt" '[ "$1" = ci ] || exit
         for turn in {1..10}; do mktemp -d -t rt-edit-XXXX > "$0.made"; done
         sleep 2
         echo "1 passed, 0 failed"' || return 1
@@ -83,7 +80,7 @@ edit_rows=(
 tries_edit() {
     local source=$room/gate/crates/one/src/lib.rt
     echo 'fn two() -> u8 { 2 }' > "$source" && cp "$source" "$room/source" &&
-        stands_in bin/rt "[ \"\$*\" = check ] && grep 3 src/lib.rt || exit 0; ${1%|*}" || return 1
+        stands_in "$room/gate/bin/rt" "[ \"\$*\" = check ] && grep 3 src/lib.rt || exit 0; ${1%|*}" || return 1
     PATH=$room/gate/bin:$PATH env --default-signal=INT "$room/gate/edit" one/two-is-three > "$room/said" 2>&1
     [ $? -eq "${1##*|}" ] && cmp "$source" "$room/source"
 }

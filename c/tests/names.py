@@ -3,8 +3,9 @@
 
     names.py HEADER SOURCE
 
-SOURCE defines the calls, or declares them for Rust. A slice of the source is two parameters of the
-header, its pointer and its length. No compiler sees it if two names of one type change places. Each call that differs is printed, and the status is then 1.
+SOURCE defines the calls, or declares the ones that Rust uses. A slice of the source is two parameters of
+the header, its pointer and its length. No compiler sees it if two names of one type change places. Each
+call that differs is printed, and the status is then 1.
 """
 import re
 import sys
@@ -30,7 +31,7 @@ def calls(path, pattern, separator):
 
 header = calls(sys.argv[1], r"^\w+ (const_hex_\w+)\(([^)]*)\);", "")
 source = calls(sys.argv[2], r'^(?:pub extern "C"|   ) fn (const_hex_\w+)\(([^)]*)\)', ": ")
-differing = [name for name in header | source if header.get(name) != source.get(name)]
+differing = [name for name in source if header.get(name) != source[name]]
 for name in differing:
-    print(f"{name}: {header.get(name)} in the header, {source.get(name)} in the source")
+    print(f"{name}: {header.get(name)} in the header, {source[name]} in the source")
 sys.exit(1 if differing or len(source) < 8 else 0)

@@ -119,14 +119,89 @@ leaves_nothing() {
         grep -q '^c/release: ' "$room/complaint" && [ -z "$(ls -A "$room/none")" ]
 }
 
+# Whether the release has its archives and no other file. The package for JavaScript needs npm and wabt.
+has_archives() {
+    {
+        echo SHA256SUMS
+        printf 'const_hex-1.1.0-linux-%s.tar.gz\n' aarch64 x86_64
+        command -v npm > /dev/null && command -v wasm2wat > /dev/null && echo const-hex-proved-1.1.0.tgz
+    } | sort | diff - <(ls "$room/release" | sort)
+}
+
+# Whether the page of each archive names its processor.
+has_pages() {
+    local processor
+    for processor in x86_64 aarch64; do
+        grep -q "^Hexadecimal text for C, on Linux on $processor\\. " "$(unpacked "$processor")/README.md" || return 1
+    done
+}
+
+# Runs c/release of the copy, without libraries. Its c/build notes its words, copies the libraries and ends with
+# the status $1.
+releases_after_build() {
+    rm -rf "$room/released/made" && stands_in "$room/released/c/build" "echo \"\${*//\$2/FOLDER}\" > '$room/words'
+        cp -R '$room/released/libraries' \"\$2\"
+        exit $1" || return 1
+    "$room/released/c/release" "$room/released/made" > "$room/said" 2> "$room/complaint"
+}
+
+builds_all() {
+    releases_after_build 0 && [ "$(cat "$room/words")" = "--all FOLDER" ] && diff -r "$room/release" "$room/released/made"
+}
+
+ends_with_build() {
+    releases_after_build 1
+    [ $? -eq 1 ] && [ -z "$(ls -A "$room/released/made")" ]
+}
+
+# What is broken in the copy. Then nothing is made.
+broken_rows=(
+    "rm NOTICE"
+    "rm c/archive.md"
+    "rm -r rust"
+    "rm c/examples/hash.py"
+    "rm libraries/single/libconst_hex.a"
+    "stands_in bin/sha256sum 'exit 1'"
+    "stands_in bin/sha256sum '[[ \$* != *.tar.gz* ]] && exec /usr/bin/sha256sum \"\$@\"'"
+    "stands_in bin/gzip 'exit 1'"
+)
+# These are of the package for JavaScript.
+broken_package_rows=(
+    "rm js/NOTICE"
+    ": > libraries/wasm64/const_hex.wasm"
+    "stands_in bin/npm 'exit 1'"
+)
+
+# Whether c/release makes nothing in a copy that is broken so.
+makes_no_release() {
+    local copy=$room/broken
+    rm -rf "$copy" && cp -R "$room/released" "$copy" && rm -rf "$copy/made" && mkdir "$copy/bin" &&
+        (cd "$copy" && eval "$1") || return 1
+    PATH=$copy/bin:$PATH "$copy/c/release" "$copy/made" "$copy/libraries" > "$room/said" 2> "$room/complaint"
+    [ $? -eq 1 ] && grep -q '^c/release: ' "$room/complaint" && [ -z "$(ls -A "$copy/made")" ]
+}
+
 test_release() {
+    local row
     does "c/release" releases
+    does "c/release has its archives" has_archives
     does "c/release in another folder" releases_again
+    does "c/release builds all" builds_all
+    does "c/release ends if c/build does" ends_with_build
+    for row in "${broken_rows[@]}"; do
+        does "c/release makes nothing: $row" makes_no_release "$row"
+    done
+    if has ${#broken_package_rows[@]} "broken packages for JavaScript" npm wasm2wat; then
+        for row in "${broken_package_rows[@]}"; do
+            does "c/release makes nothing: $row" makes_no_release "$row"
+        done
+    fi
     does "the archive for x86-64 is unpacked" unpacks x86_64
     does "the archive for ARM is unpacked" unpacks aarch64
     does "sorted names, no owner and one time" is_settled
     does "the sums of the archives" has_sums "$room/release"
     does "the files of the archive" has_files
+    does "the pages name their processor" has_pages
     does "its packages for Rust" has_rust
     does "the build alone" cmp "$room/single/libconst_hex.a" "$(unpacked x86_64)/single/libconst_hex.a"
     does "the sums of its files" has_sums "$(unpacked x86_64)"

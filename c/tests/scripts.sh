@@ -8,10 +8,7 @@ plant() {
 }
 
 # An rt that does $1, for the planted copy.
-plant_rt() {
-    printf '#!/usr/bin/env bash\n%s\n' "$1" > "$room/planted/bin/rt" &&
-        chmod +x "$room/planted/bin/rt"
-}
+plant_rt() { stands_in "$room/planted/bin/rt" "$1"; }
 
 # Whether rt finds the folder out/ that was planted. $1 is yes or no; the rest goes to c/build.
 finds_out() {

@@ -31,8 +31,6 @@ pub struct Decoder {
 }
 
 extern "C" {
-    #[cfg(feature = "alloc")]
-    fn const_hex_encoded_length(bytes: usize, prefix: bool) -> usize;
     fn const_hex_encode(
         bytes: *const u8,
         bytes_length: usize,
@@ -115,28 +113,30 @@ impl From<FromHexError> for Refusal {
     }
 }
 
-/// Returns the length of the text of so many bytes, or `usize::MAX` if it does not fit.
-#[cfg(feature = "alloc")]
-fn encoded_length(bytes: usize, prefix: bool) -> usize {
-    // SAFETY: a number and a `bool` are passed.
-    unsafe { const_hex_encoded_length(bytes, prefix) }
-}
-
-/// Fills `text` with the digits of `bytes`, and returns it as `str`. Returns `None` if `text` has
-/// another length, and leaves it unchanged.
+/// Fills `text` with the text of `bytes`, and returns it as `str`. Returns `None` if `text` has another
+/// length, and leaves it unchanged.
 #[inline]
-pub fn encode<'a>(bytes: &[u8], upper: bool, text: &'a mut [u8]) -> Option<&'a mut str> {
+pub fn encode<'a>(
+    bytes: &[u8],
+    prefix: bool,
+    upper: bool,
+    text: &'a mut [u8],
+) -> Option<&'a mut str> {
     let (from, to) = (bytes.as_ptr(), text.as_mut_ptr());
     // SAFETY: each pointer and its length come from one slice, and `text` is borrowed mutably.
-    let is_written = unsafe { const_hex_encode(from, bytes.len(), false, upper, to, text.len()) };
-    // SAFETY: the call has filled all of `text` with digits, which are ASCII.
+    let is_written = unsafe { const_hex_encode(from, bytes.len(), prefix, upper, to, text.len()) };
+    // SAFETY: the call has filled all of `text` with digits, and `0x` if `prefix` is true, all of them ASCII.
     is_written.then(|| unsafe { core::str::from_utf8_unchecked_mut(text) })
 }
 
 /// Returns the text of `bytes`. Panics if it is longer than a string can be.
 #[cfg(feature = "alloc")]
+#[inline]
 pub fn encoded(bytes: &[u8], prefix: bool, upper: bool) -> alloc::string::String {
-    let length = encoded_length(bytes.len(), prefix);
+    let length = bytes
+        .len()
+        .saturating_mul(2)
+        .saturating_add(2 * usize::from(prefix));
     let mut text = alloc::vec::Vec::with_capacity(length);
     let (from, room) = (bytes.as_ptr(), &mut text.spare_capacity_mut()[..length]);
     let to = room.as_mut_ptr().cast();
@@ -149,6 +149,18 @@ pub fn encoded(bytes: &[u8], prefix: bool, upper: bool) -> alloc::string::String
     unsafe { text.set_len(length) };
     // SAFETY: these are digits, and `0x` if `prefix` is true, all of them ASCII.
     unsafe { alloc::string::String::from_utf8_unchecked(text) }
+}
+
+/// Returns what `user` does with the text of `bytes`. The text of at most 64 bytes is not allocated.
+#[cfg(all(feature = "alloc", feature = "serde"))]
+#[inline]
+pub fn lent<R>(bytes: &[u8], prefix: bool, upper: bool, user: impl FnOnce(&str) -> R) -> R {
+    let mut room = [0; 2 + 2 * 64];
+    let length = 2 * usize::from(prefix) + 2 * bytes.len().min(64);
+    match encode(bytes, prefix, upper, &mut room[..length]) {
+        Some(text) => user(text),
+        None => user(&encoded(bytes, prefix, upper)),
+    }
 }
 
 /// Fills `bytes` with what `text` spells.

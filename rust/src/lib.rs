@@ -134,7 +134,7 @@ pub fn encode_to_str<T: AsRef<[u8]>>(
     input: T,
     output: &mut [u8],
 ) -> Result<&mut str, FromHexError> {
-    ffi::encode(input.as_ref(), false, output).ok_or(FromHexError::InvalidStringLength)
+    ffi::encode(input.as_ref(), false, false, output).ok_or(FromHexError::InvalidStringLength)
 }
 
 /// Does the same as [`encode_to_slice_upper`], and returns the output as `str`. Does not allocate.
@@ -152,7 +152,7 @@ pub fn encode_to_str_upper<T: AsRef<[u8]>>(
     input: T,
     output: &mut [u8],
 ) -> Result<&mut str, FromHexError> {
-    ffi::encode(input.as_ref(), true, output).ok_or(FromHexError::InvalidStringLength)
+    ffi::encode(input.as_ref(), false, true, output).ok_or(FromHexError::InvalidStringLength)
 }
 
 /// Returns the bytes that a text spells. Allocates, also for a text that is refused.

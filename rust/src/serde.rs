@@ -12,7 +12,7 @@ use ::serde::Serializer;
 use core::fmt;
 use core::marker::PhantomData;
 
-/// Serializes bytes as lowercase text. Allocates the text.
+/// Serializes bytes as lowercase text. Allocates the text of more than 64 bytes.
 ///
 /// # Errors
 ///
@@ -23,10 +23,10 @@ where
     S: Serializer,
     T: ToHex,
 {
-    serializer.serialize_str(&data.encode_hex::<alloc::string::String>())
+    data.lend_hex(false, |text| serializer.serialize_str(text))
 }
 
-/// Serializes bytes as uppercase text. Allocates the text.
+/// Serializes bytes as uppercase text. Allocates the text of more than 64 bytes.
 ///
 /// # Errors
 ///
@@ -37,7 +37,7 @@ where
     S: Serializer,
     T: ToHex,
 {
-    serializer.serialize_str(&data.encode_hex_upper::<alloc::string::String>())
+    data.lend_hex(true, |text| serializer.serialize_str(text))
 }
 
 /// Deserializes a text, with or without a prefix.
@@ -81,9 +81,11 @@ where
 pub mod prefixed {
     pub use super::deserialize;
     #[cfg(feature = "alloc")]
+    use crate::ffi;
+    #[cfg(feature = "alloc")]
     use ::serde::Serializer;
 
-    /// Serializes bytes as `0x` and lowercase digits. Allocates the text.
+    /// Serializes bytes as `0x` and lowercase digits. Allocates the text of more than 64 bytes.
     ///
     /// # Errors
     ///
@@ -94,10 +96,12 @@ pub mod prefixed {
         S: Serializer,
         T: AsRef<[u8]>,
     {
-        serializer.serialize_str(&crate::encode_prefixed(data))
+        ffi::lent(data.as_ref(), true, false, |text| {
+            serializer.serialize_str(text)
+        })
     }
 
-    /// Serializes bytes as `0x` and uppercase digits. Allocates the text.
+    /// Serializes bytes as `0x` and uppercase digits. Allocates the text of more than 64 bytes.
     ///
     /// # Errors
     ///
@@ -108,6 +112,8 @@ pub mod prefixed {
         S: Serializer,
         T: AsRef<[u8]>,
     {
-        serializer.serialize_str(&crate::encode_upper_prefixed(data))
+        ffi::lent(data.as_ref(), true, true, |text| {
+            serializer.serialize_str(text)
+        })
     }
 }

@@ -32,14 +32,14 @@ fn identifier<T>() -> TypeId {
     forever.identifier()
 }
 
-/// Returns the text as `T` if that is `String`. Otherwise the text is not made.
+/// Returns the text as `T` if that is `String`, and otherwise what `other` makes.
 #[inline]
-pub fn made<T>(text: impl FnOnce() -> String) -> Option<T> {
+pub fn made<T>(text: impl FnOnce() -> String, other: impl FnOnce() -> T) -> T {
     if identifier::<T>() != TypeId::of::<String>() {
-        return None;
+        return other();
     }
     let text = ManuallyDrop::new(text());
     // SAFETY: `T` is `String`, which has no lifetime in which it could differ. The text is not dropped
     // here, so it has one owner.
-    Some(unsafe { transmute_copy(&text) })
+    unsafe { transmute_copy(&text) }
 }

@@ -28,6 +28,18 @@ pub trait ToHex {
 
     /// Returns the digits in order, in uppercase. It allocates if the collection does.
     fn encode_hex_upper<T: FromIterator<char>>(&self) -> T;
+
+    /// Returns what `user` does with the digits. The module `serde` calls this.
+    #[cfg(all(feature = "alloc", feature = "serde"))]
+    #[doc(hidden)]
+    fn lend_hex<R>(&self, upper: bool, user: impl FnOnce(&str) -> R) -> R {
+        let text: alloc::string::String = if upper {
+            self.encode_hex_upper()
+        } else {
+            self.encode_hex()
+        };
+        user(&text)
+    }
 }
 
 impl<B: AsRef<[u8]>> ToHex for B {
@@ -40,20 +52,26 @@ impl<B: AsRef<[u8]>> ToHex for B {
     fn encode_hex_upper<T: FromIterator<char>>(&self) -> T {
         collected(self.as_ref(), true)
     }
+
+    #[cfg(all(feature = "alloc", feature = "serde"))]
+    #[inline]
+    fn lend_hex<R>(&self, upper: bool, user: impl FnOnce(&str) -> R) -> R {
+        ffi::lent(self.as_ref(), false, upper, user)
+    }
 }
 
 /// Returns the digits of `bytes`. A `String` is made by one call.
 #[inline]
 fn collected<T: FromIterator<char>>(bytes: &[u8], upper: bool) -> T {
-    #[cfg(feature = "alloc")]
-    if let Some(text) = string::made(|| ffi::encoded(bytes, false, upper)) {
-        return text;
-    }
     let digits = bytes.chunks(32).flat_map(move |piece| {
         let (mut text, length) = ([0; 64], 2 * piece.len());
-        ffi::encode(piece, upper, &mut text[..length]).expect("the room has the text's length");
+        ffi::encode(piece, false, upper, &mut text[..length])
+            .expect("the room has the text's length");
         text.into_iter().take(length).map(char::from)
     });
+    #[cfg(feature = "alloc")]
+    return string::made(|| ffi::encoded(bytes, false, upper), || digits.collect());
+    #[cfg(not(feature = "alloc"))]
     digits.collect()
 }
 

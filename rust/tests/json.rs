@@ -1,6 +1,7 @@
 //! Fields of JSON, beside the crate `hex`.
 #![cfg(all(feature = "alloc", feature = "serde"))]
 
+use const_hex_proved::ToHex;
 use proptest::prelude::*;
 use serde::{Deserialize, Serialize};
 
@@ -57,6 +58,34 @@ fn refusals() {
             .to_string();
         assert!(error.starts_with(words), "{error}");
     }
+}
+
+/// A type with a text of its own.
+struct Twice(Vec<u8>);
+
+impl ToHex for Twice {
+    fn encode_hex<T: FromIterator<char>>(&self) -> T {
+        let text: String = self.0.encode_hex();
+        text.chars().chain(text.chars()).collect()
+    }
+
+    fn encode_hex_upper<T: FromIterator<char>>(&self) -> T {
+        let text: String = self.0.encode_hex_upper();
+        text.chars().chain(text.chars()).collect()
+    }
+}
+
+#[test]
+fn own_text() {
+    use const_hex_proved::{serialize, serialize_upper};
+    use serde_json::value::Serializer;
+
+    let twice = || Twice(b"kiw".to_vec());
+    assert_eq!(serialize(twice(), Serializer).unwrap(), "6b69776b6977");
+    assert_eq!(
+        serialize_upper(twice(), Serializer).unwrap(),
+        "6B69776B6977"
+    );
 }
 
 /// A format may hand over the text as bytes.
