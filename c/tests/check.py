@@ -186,7 +186,7 @@ def against_table(library):
             if given != wanted_of_call:
                 raise AssertionError(f"line {number}: {given}, and not {wanted_of_call}")
     print(f"check.py: {answers} answers")
-    assert answers > 40000, answers
+    assert answers > 30000, answers
 
 
 def against_consthex(library):
