@@ -4,7 +4,6 @@
 mod callers;
 mod hashes;
 mod hosts;
-mod questions;
 mod runs;
 
 use hex_testing::rests;

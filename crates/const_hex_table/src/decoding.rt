@@ -1,0 +1,171 @@
+//! The lines of texts that are read.
+
+use crate::line::Line;
+use const_hex::serde::no_prefix;
+use const_hex::{
+    Decoder, FromHex, FromHexError, JsonError, check, check_raw, const_check, const_check_raw,
+    const_decode_to_array, decode, decode_to_array, decode_to_front, decode_to_slice, deserialize,
+};
+use serde_json::Value;
+use std::alloc::{AllocError, Global};
+use std::boxed::BoxedSlice;
+use std::convert::AsSlice;
+use std::rc::Rc;
+
+/// Asks a line by that method whether these calls give its answer.
+macro_rules! each {
+    ($line:ident.$method:ident: $($call:expr),+ $(,)?) => {
+        $($line.$method(stringify!($call), $call);)+
+    };
+}
+
+pub(crate) fn read(line: &mut Line<'_>) -> Result<(), AllocError> {
+    let text = line.asked;
+    each!(line.refuses: check(text).err(), const_check(text).err());
+    owned(line);
+    signed(line);
+    of_json(line)?;
+    into_front(line)?;
+    let has_prefix = text.starts_with(b"0x") || text.starts_with(b"0X");
+    let prefix = if has_prefix { 2 } else { 0 };
+    read_into(line, text.len().saturating_sub(prefix) / 2)?;
+    if line.answer != "!OddLength" || check_raw(text) {
+        read_pieces(line);
+    }
+    Ok(())
+}
+
+fn owned(line: &mut Line<'_>) {
+    let (alloc, text) = (line.alloc, line.asked);
+    each!(line.reads:
+        decode(alloc, text),
+        <Vec<u8>>::from_hex(alloc, text),
+        <BoxedSlice<u8>>::from_hex(alloc, text),
+    );
+    match <Box<Rc<Vec<u8>>>>::from_hex(alloc, text) {
+        Ok(bytes) => line.reads("from_hex", Ok(bytes.as_slice())),
+        Err(error) => line.refuses("from_hex", Some(error)),
+    }
+}
+
+fn signed(line: &mut Line<'_>) {
+    let (alloc, text) = (line.alloc, line.asked);
+    each!(line.reads_signed:
+        <Vec<i8>>::from_hex(alloc, text),
+        <BoxedSlice<i8>>::from_hex(alloc, text),
+    );
+}
+
+/// Asks what reads JSON strings. One whose text is not UTF-8 there cannot be.
+fn of_json(line: &mut Line<'_>) -> Result<(), AllocError> {
+    if let Ok(text) = str::from_utf8(line.asked) {
+        let value = Value::String(text.to_string(line.alloc)?);
+        deserialized(line, &value);
+    }
+    Ok(())
+}
+
+fn deserialized(line: &mut Line<'_>, value: &Value) {
+    let alloc = line.alloc;
+    each!(line.reads_json:
+        deserialize::<Vec<u8>>(alloc, value),
+        deserialize::<BoxedSlice<u8>>(alloc, value),
+        no_prefix::deserialize::<Vec<u8>>(alloc, value),
+    );
+}
+
+/// Asks for the front of an output that has more room.
+fn into_front(line: &mut Line<'_>) -> Result<(), AllocError> {
+    let mut output = vec![in line.alloc; 0xEEu8; line.asked.len()]?;
+    match decode_to_front(line.asked, &mut output) {
+        Ok(count) => {
+            output.truncate(count);
+            line.fills("decode_to_front", Ok(()), output, line.answer);
+        }
+        Err(error) => line.fills("decode_to_front", Err(error), output, line.answer),
+    }
+    Ok(())
+}
+
+pub(crate) fn read_into(line: &mut Line<'_>, size: usize) -> Result<(), AllocError> {
+    let mut output = vec![in line.alloc; 0xEEu8; size]?;
+    let done = decode_to_slice(line.asked, &mut output);
+    line.fills("decode_to_slice", done, output, line.answer);
+    match size {
+        0 => arrays(line, [0; 0]),
+        1 => arrays(line, [0; 1]),
+        2 => arrays(line, [0; 2]),
+        4 => arrays(line, [0; 4]),
+        20 => arrays(line, [0; 20]),
+        32 => arrays(line, [0; 32]),
+        65 => arrays(line, [0; 65]),
+        _ => {}
+    }
+    Ok(())
+}
+
+/// Asks what reads arrays. The array shows that its size fits.
+fn arrays<const N: usize>(line: &mut Line<'_>, _array: [u8; N]) {
+    let (alloc, text) = (line.alloc, line.asked);
+    each!(line.reads:
+        decode_to_array::<N>(text),
+        const_decode_to_array::<N>(text),
+        <[u8; N]>::from_hex(alloc, text),
+    );
+    each!(line.reads_signed: <[i8; N]>::from_hex(alloc, text));
+}
+
+/// The sizes into which a text is cut.
+const SIZES: [usize; 7] = [1, 2, 3, 7, 31, 64, 200];
+
+pub(crate) fn read_pieces(line: &mut Line<'_>) {
+    for size in SIZES {
+        line.reads("Decoder", in_pieces(line.alloc, line.asked, size));
+    }
+}
+
+/// The bytes of a text that comes in pieces of up to 200 bytes.
+fn in_pieces(alloc: Global, text: &[u8], size: usize) -> Result<Vec<u8>, FromHexError> {
+    let mut decoder = Decoder::new();
+    let mut bytes = Vec::new(alloc);
+    let mut rest = text;
+    for _ in 0..text.len() {
+        let (piece, behind) = rest.split_at(size.min(rest.len()));
+        let mut output = [0; 128];
+        let count = decoder.decode(piece, &mut output)?;
+        bytes.extend_from_slice(&output[..count])?;
+        rest = behind;
+    }
+    decoder.finish()?;
+    Ok(bytes)
+}
+
+pub(crate) fn digits(line: &mut Line<'_>) {
+    let text = line.asked;
+    each!(line.decides: check_raw(text), const_check_raw(text));
+}
+
+pub(crate) fn message(line: &mut Line<'_>) {
+    let (alloc, text) = (line.alloc, line.asked);
+    each!(line.says:
+        decode(alloc, text).err(),
+        check(text).err(),
+        const_check(text).err(),
+        <Vec<i8>>::from_hex(alloc, text).err(),
+    );
+}
+
+pub(crate) fn message_into(line: &mut Line<'_>, size: usize) -> Result<(), AllocError> {
+    let mut output = vec![in line.alloc; 0xEEu8; size]?;
+    let error = decode_to_slice(line.asked, &mut output).err();
+    line.says("decode_to_slice", error);
+    Ok(())
+}
+
+pub(crate) fn json(line: &mut Line<'_>) {
+    let text = str::from_utf8(line.asked).unwrap_or("");
+    match Value::from_str(line.alloc, text) {
+        Ok(value) => deserialized(line, &value),
+        Err(_) => line.is("serde_json", "no JSON", line.answer),
+    }
+}
