@@ -83,7 +83,7 @@ pub trait Output {
         requires fits { HasRoom (room self.old) count }
         ensures { step self.old (take (count - length last.now) first.now ++ last.now) self.new }
     {
-        self.write(&joined(first, last, count)[..count])
+        self.write(&join_ends(first, last, count)[..count])
     }
 
     /// A write leaves less room, by its length.
@@ -94,7 +94,7 @@ pub trait Output {
 /// An array that begins with the piece that has these ends.
 #[inline(always)]
 #[tactic(auto, using(std::proofs::lemmas::Slice::overwrites, std::proofs::lemmas::Grind::common_steps))]
-fn joined(first: &[u8], last: &[u8], count: usize) -> [u8; 64]
+fn join_ends(first: &[u8], last: &[u8], count: usize) -> [u8; 64]
     requires same_size { length first.now ≡ length last.now }
     requires least { length last.now ≤ count }
     requires most { count ≤ 2 * length last.now }

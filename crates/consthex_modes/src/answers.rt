@@ -45,31 +45,36 @@ pub fn answer(alloc: Global, mode: Mode, input: &[u8]) -> Result<Vec<u8>, RunErr
     if input.len() > LIMIT {
         return Err(RunError::TooLong);
     }
-    made(alloc, mode, input)
+    answer_within_limit(alloc, mode, input)
 }
 
 /// What a mode answers to an input that is not too long.
-fn made(alloc: Global, mode: Mode, input: &[u8]) -> Result<Vec<u8>, RunError>
+fn answer_within_limit(alloc: Global, mode: Mode, input: &[u8]) -> Result<Vec<u8>, RunError>
     requires { length input.now ≤ limit }
     ensures ok { IfOk result (λ v. Answer mode input.now (Ok v.items)) }
     ensures err { IfErr result (λ e. e ≢ NoMemory → Answer mode input.now (Err e)) }
     ensures no_memory { result ≡ Err NoMemory → TakesMemory mode input.now }
 {
     match mode {
-        Mode::Encode => Ok(encoded(alloc, input, false, false)?),
-        Mode::EncodeUpper => Ok(encoded(alloc, input, false, true)?),
-        Mode::EncodePrefixed => Ok(encoded(alloc, input, true, false)?),
-        Mode::EncodeUpperPrefixed => Ok(encoded(alloc, input, true, true)?),
-        Mode::Decode => Ok(const_hex::decode(alloc, trimmed(input))?),
+        Mode::Encode => Ok(encode_line(alloc, input, false, false)?),
+        Mode::EncodeUpper => Ok(encode_line(alloc, input, false, true)?),
+        Mode::EncodePrefixed => Ok(encode_line(alloc, input, true, false)?),
+        Mode::EncodeUpperPrefixed => Ok(encode_line(alloc, input, true, true)?),
+        Mode::Decode => Ok(const_hex::decode(alloc, strip_newline(input))?),
         Mode::Check => {
-            const_hex::check(trimmed(input))?;
+            const_hex::check(strip_newline(input))?;
             Ok(b"ok\n".to_vec(alloc)?)
         }
     }
 }
 
 /// The text of the bytes and a newline. Allocates once, for exactly these.
-fn encoded(alloc: Global, input: &[u8], prefix: bool, upper: bool) -> Result<Vec<u8>, AllocError>
+fn encode_line(
+    alloc: Global,
+    input: &[u8],
+    prefix: bool,
+    upper: bool,
+) -> Result<Vec<u8>, AllocError>
     requires { length input.now ≤ limit }
     ensures { IfOk result (λ v. v.items ≡ full_text prefix upper input.now ++ newline) }
 {
@@ -89,7 +94,7 @@ fn write_line(input: &[u8], prefix: bool, upper: bool, output: &mut [u8])
 }
 
 /// The text without one newline at its end.
-fn trimmed(text: &[u8]) -> &[u8]
+fn strip_newline(text: &[u8]) -> &[u8]
     ensures { result.now ≡ without_newline text.now }
 {
     match text {

@@ -5,11 +5,11 @@
 #![tactic(auto)]
 
 mod answers;
+mod arguments;
 mod error;
 mod mode;
 mod process;
 mod runs;
-mod words;
 
 pub use crate::answers::answer;
 pub use crate::error::RunError;

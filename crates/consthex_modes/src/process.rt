@@ -10,10 +10,10 @@ ghost use Rattle.consthex_modes.specs.Outcome.{Answers};
 ghost use Rattle.consthex_modes.specs.declared.error.RunError.TheVariants.{Text};
 ghost use Rattle.consthex_modes.specs.declared.mode.Mode.{Mode};
 
+use crate::arguments::arguments;
 use crate::error::RunError;
 use crate::mode::{USAGE, mode_of};
 use crate::runs::run;
-use crate::words::words;
 use std::env::Env;
 use std::io::{Eprint, Read, Write};
 use std::process::ExitCode;
@@ -51,10 +51,10 @@ pub fn program<R: Read, W: Write>(
         × WritesBeginning (W.contents output.old) (W.contents output.new) bs) }
     ensures statuses { exit_status result ≤ 4 }
 {
-    let Ok(words) = words(rt) else {
+    let Ok(arguments) = arguments(rt) else {
         return refused(rt, RunError::NoMemory);
     };
-    match mode_of(&words) {
+    match mode_of(&arguments) {
         Some(mode) => match run(rt.alloc(), mode, input, output) {
             Ok(()) => ExitCode::SUCCESS,
             Err(error) => refused(rt, error),

@@ -14,7 +14,7 @@ use std::alloc::{AllocError, Global};
 
 /// The text, as a `String`.
 #[inline(always)]
-fn owned<K: Kernel>(
+fn encode_owned<K: Kernel>(
     alloc: Global,
     input: &[u8],
     prefix: bool,
@@ -69,7 +69,7 @@ pub fn encode_upper(alloc: Global, input: &[u8]) -> Result<String, AllocError>
 pub fn encode_prefixed(alloc: Global, input: &[u8]) -> Result<String, AllocError>
     ensures { IfOk result (λ s. string_bytes s ≡ full_text true false input.now) }
 {
-    owned::<FixedKernel>(alloc, input, true, false)
+    encode_owned::<FixedKernel>(alloc, input, true, false)
 }
 
 /// `0x`, and then the text of [`encode_upper`].
@@ -83,7 +83,7 @@ pub fn encode_prefixed(alloc: Global, input: &[u8]) -> Result<String, AllocError
 pub fn encode_upper_prefixed(alloc: Global, input: &[u8]) -> Result<String, AllocError>
     ensures { IfOk result (λ s. string_bytes s ≡ full_text true true input.now) }
 {
-    owned::<FixedKernel>(alloc, input, true, true)
+    encode_owned::<FixedKernel>(alloc, input, true, true)
 }
 
 /// As [`encode`] or [`encode_upper`], by a kernel of the caller's choice.
@@ -103,7 +103,7 @@ pub fn encode_with<K: Kernel, const UPPER: bool>(
     ensures append { (xs ys : List ℕ) → input.now ≡ xs ++ ys
         → IfOk result (λ s. string_bytes s ≡ hex_text UPPER xs ++ hex_text UPPER ys) }
 {
-    owned::<K>(alloc, input, false, UPPER)
+    encode_owned::<K>(alloc, input, false, UPPER)
 }
 
 /// Whether there are exactly two digits for each byte. No length is too large for this test.
@@ -116,7 +116,7 @@ fn two_per_byte(bytes: usize, digits: usize) -> bool
 
 /// Fills an output of the text's length with the text, and returns it.
 #[inline(always)]
-fn filled<'a>(input: &[u8], upper: bool, output: &'a mut [u8]) -> &'a mut [u8]
+fn encode_into<'a>(input: &[u8], upper: bool, output: &'a mut [u8]) -> &'a mut [u8]
     requires { length output.now ≡ 2 * length input.now }
     ensures same_slice { result.ghost_name ≡ output.entry.ghost_name }
     ensures text { result.now ≡ hex_text upper input.now }
@@ -236,7 +236,7 @@ pub fn encode_to_str<'a>(input: &[u8], output: &'a mut [u8]) -> Result<&'a str, 
     if !two_per_byte(input.len(), output.len()) {
         return Err(FromHexError::InvalidStringLength);
     }
-    Ok(ascii_text(filled(input, false, output)))
+    Ok(ascii_text(encode_into(input, false, output)))
 }
 
 /// As [`encode_to_str`], in uppercase. Does not allocate.
@@ -255,5 +255,5 @@ pub fn encode_to_str_upper<'a>(input: &[u8], output: &'a mut [u8]) -> Result<&'a
     if !two_per_byte(input.len(), output.len()) {
         return Err(FromHexError::InvalidStringLength);
     }
-    Ok(ascii_text(filled(input, true, output)))
+    Ok(ascii_text(encode_into(input, true, output)))
 }

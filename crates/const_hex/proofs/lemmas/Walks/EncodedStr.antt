@@ -17,7 +17,7 @@ use Rattle.const_hex.specs.contracts.error.FromHexError as refusal
 use Rattle.const_hex.specs.declared.error.FromHexError.TheVariants.{InvalidStringLength}
 use Rattle.const_hex.proofs.lemmas.Walks.LentSlice.{Rests-of, let_go, shared, InvalidStringLength-of}
 use Rattle.const_hex.specs.contracts.codec.encoders.two_per_byte as t
-use Rattle.const_hex.specs.contracts.codec.encoders.filled as g
+use Rattle.const_hex.specs.contracts.codec.encoders.encode_into as g
 use Rattle.const_hex_arch.specs.contracts.text.ascii_text as h
 use Rattle.const_hex.proofs.lemmas.Walks.Flags.{flag, flag_lit}
 

@@ -8,17 +8,17 @@ returns-then-input-gt-LIMIT-clause-err c = λ _. omega arith
 pub returns-then-input-gt-LIMIT-clause-too_long : goal.returns-then-input-gt-LIMIT-clause-too_long
 returns-then-input-gt-LIMIT-clause-too_long c = (λ _. omega arith, λ _. refl)
 
-pub made-requires : goal.made-requires
-made-requires c = omega arith
+pub answer_within_limit-requires : goal.answer_within_limit-requires
+answer_within_limit-requires c = omega arith
 
 pub returns-clause-err : goal.returns-clause-err
-returns-clause-err c = c.made.ensures.err
+returns-clause-err c = c.answer_within_limit.ensures.err
 
 pub returns-clause-too_long : goal.returns-clause-too_long
-returns-clause-too_long c = (λ e. (rw e at c.made.ensures.err) (λ q. cc), λ h. absurd (omega arith))
+returns-clause-too_long c = (λ e. (rw e at c.answer_within_limit.ensures.err) (λ q. cc), λ h. absurd (omega arith))
 
 pub returns-clause-refused : goal.returns-clause-refused
-returns-clause-refused c = λ e q. refused_text c.args.mode c.args.input.now e ((rw q at c.made.ensures.err) (λ z. cc)).1
+returns-clause-refused c = λ e q. refused_text c.args.mode c.args.input.now e ((rw q at c.answer_within_limit.ensures.err) (λ z. cc)).1
 
 pub returns-clause-odd : goal.returns-clause-odd
-returns-clause-odd c = odd_text (λ v. v.items) c.args.mode c.args.input.now c.made.result c.made.ensures.ok c.made.ensures.err c.made.ensures.no_memory
+returns-clause-odd c = odd_text (λ v. v.items) c.args.mode c.args.input.now c.answer_within_limit.result c.answer_within_limit.ensures.ok c.answer_within_limit.ensures.err c.answer_within_limit.ensures.no_memory

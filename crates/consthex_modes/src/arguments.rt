@@ -9,8 +9,8 @@ const LONGEST: usize = 32;
 /// The first two arguments behind the program's name. If one is not UTF-8 or has more than 32 bytes,
 /// the empty text stands for it; neither names a mode. Two arguments name no mode either, so a third
 /// is not read.
-pub(crate) fn words(rt: &(impl Env + AllocGlobal)) -> Result<Vec<String>, AllocError> {
-    let mut words = Vec::new(rt.alloc());
+pub(crate) fn arguments(rt: &(impl Env + AllocGlobal)) -> Result<Vec<String>, AllocError> {
+    let mut arguments = Vec::new(rt.alloc());
     for place in 1..3 {
         let mut bytes = [0; LONGEST];
         let length = match rt.arg(place, &mut bytes) {
@@ -18,8 +18,8 @@ pub(crate) fn words(rt: &(impl Env + AllocGlobal)) -> Result<Vec<String>, AllocE
             Err(FillError::TooLong) => 0,
             Err(FillError::NotPresent) => break,
         };
-        let word = str::from_utf8(&bytes[..length]).unwrap_or("");
-        words.push(String::from_str(rt.alloc(), word)?)?;
+        let argument = str::from_utf8(&bytes[..length]).unwrap_or("");
+        arguments.push(String::from_str(rt.alloc(), argument)?)?;
     }
-    Ok(words)
+    Ok(arguments)
 }

@@ -1,6 +1,6 @@
 use Rattle.std.proofs.Common.{◌≡◌, ◌-◌, true, if◌then◌else◌, length, take, sym, ap, rules}
 use Rattle.std.specs.Io.BufRead.{ends_with_byte}
-use Rattle.consthex_modes.proofs.answers.trimmed.Goals as goal
+use Rattle.consthex_modes.proofs.answers.strip_newline.Goals as goal
 
 pub returns-in-10 : goal.returns-in-10
 returns-in-10 c =

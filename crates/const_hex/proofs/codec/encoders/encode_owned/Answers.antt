@@ -1,7 +1,7 @@
 use Rattle.std.proofs.Common.{rules}
 use Rattle.std.proofs.lemmas.Str.{IsUtf8-from_ascii}
 use Rattle.const_hex_arch.proofs.lemmas.Texts.{IsAscii-full_text}
-use Rattle.const_hex.proofs.codec.encoders.owned.Goals as goal
+use Rattle.const_hex.proofs.codec.encoders.encode_owned.Goals as goal
 
 pub from_utf8_unchecked-requires : goal.from_utf8_unchecked-requires
 from_utf8_unchecked-requires g c =
