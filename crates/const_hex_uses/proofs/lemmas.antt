@@ -1,3 +1,4 @@
 pub mod Backward
 pub mod Decoded
+pub mod Hashes
 pub mod Lines

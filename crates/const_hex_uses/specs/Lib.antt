@@ -1,3 +1,4 @@
 pub mod Decoded
 pub mod Refusals
 pub mod Settings
+pub mod Store

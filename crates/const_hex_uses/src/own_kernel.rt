@@ -1,7 +1,9 @@
 //! A kernel of your own, under the codec.
 
-ghost use Rattle.std.specs.Prelude.{◌≡◌, ◌≢◌, ◌*◌, ◌↔◌, IsTrue, true, false, length, string_bytes, IfOk, IfErr, Ok, Err};
+ghost use Rattle.std.specs.Prelude.{◌≡◌, ◌≢◌, ◌*◌, ◌≤◌, ◌↔◌, List, ℕ, IsTrue, true, false, length, string_bytes, IfOk, IfErr, Ok, Err};
+ghost use Rattle.std.specs.List.{All, FoldsTo, concat};
 ghost use Rattle.const_hex.specs.Answers.{Reads};
+ghost use Rattle.const_hex.specs.Runs.{HasRoom};
 ghost use Rattle.const_hex.specs.Texts.{full_text, hex_text};
 ghost use Rattle.const_hex.specs.declared.error.FromHexError.TheVariants.{NoMemory};
 
@@ -88,4 +90,21 @@ pub fn decoded(alloc: Global, text: &[u8]) -> Result<Vec<u8>, FromHexError>
     ensures err { IfErr result (λ e. e ≢ NoMemory → Reads text.now (Err e)) }
 {
     decode_with::<CheckFirst<Backward>>(alloc, text)
+}
+
+/// Writes the text of bytes to any output, in pieces of 1 to 64 bytes. So an output may give an empty
+/// piece a meaning of its own, such as the end of a message.
+///
+/// ```rust
+/// let mut text = [0; 8];
+/// write_pieces(b"kiwi", &mut SliceOutput::new(&mut text));
+/// assert_eq!(rt; &text, b"6b697769");
+/// ```
+pub fn write_pieces<O: Output>(bytes: &[u8], output: &mut O)
+    requires { HasRoom (O.room output.old) (2 * length bytes.now) }
+    ensures { (pieces : List (List ℕ)) × FoldsTo O.step output.old pieces output.new
+        × (concat pieces ≡ hex_text false bytes.now)
+        × All (λ piece. (1 ≤ length piece) × (length piece ≤ 64)) pieces }
+{
+    Backward::encode(bytes, false, output);
 }

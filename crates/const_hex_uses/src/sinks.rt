@@ -1,6 +1,6 @@
 //! A text for any sink, and its pieces.
 
-ghost use Rattle.std.specs.Prelude.{◌≡◌, ◌≤◌, true, false, not, is_ok, length, IfOk};
+ghost use Rattle.std.specs.Prelude.{◌≡◌, ◌≤◌, ◌++◌, List, ℕ, Some, true, false, not, is_ok, length, IfOk, OnOk};
 ghost use Rattle.std.specs.List.{All, concat};
 ghost use Rattle.const_hex.specs.Streams.{Cut, Streams};
 ghost use Rattle.const_hex.specs.Texts.{full_text};
@@ -42,19 +42,21 @@ pub fn packets(alloc: Global, bytes: &[u8]) -> Result<PieceSink, SinkError>
     Ok(sink)
 }
 
-/// The text of a JSON string, in the pieces that its sink accepted.
-///
-/// Returns an error if there is too little memory.
+/// Sends the text of a JSON string, behind `0x`, to a sink that has refused nothing so far. If the
+/// sink tells its pieces and accepts all, the new ones are together the text.
 ///
 /// ```rust
-/// assert_eq!(rt; json_pieces(rt.alloc(), b"kiwi")?.pieces()[0].as_str(), "0x6b697769");
+/// let mut sink = PieceSink::new(rt.alloc(), 0);
+/// send_json(b"kiwi", &mut sink)?;
+/// assert_eq!(rt; sink.pieces()[0].as_str(), "0x6b697769");
 /// ```
-pub fn json_pieces(alloc: Global, bytes: &[u8]) -> Result<PieceSink, SinkError>
-    ensures { IfOk result (λ sink. concat sink.pieces ≡ full_text true false bytes.now) }
+pub fn send_json<S: Sink>(bytes: &[u8], sink: &mut S) -> Result<(), SinkError>
+    requires { S.is_refused sink.old ≡ false }
+    ensures { (told : List (List ℕ)) → S.told sink.old ≡ Some told → OnOk result
+        ((pieces : List (List ℕ)) × (concat pieces ≡ full_text true false bytes.now)
+        × (S.told sink.new ≡ Some (told ++ pieces))) }
 {
-    let mut sink = PieceSink::new(alloc, 0);
-    serialize_inner::<false, true, PieceSink>(bytes, &mut sink)?;
-    Ok(sink)
+    serialize_inner::<false, true, S>(bytes, sink)
 }
 
 /// A sink that refuses the second of two pieces.
