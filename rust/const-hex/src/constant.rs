@@ -1,6 +1,6 @@
 //! Not the proved code: calls for constants, which cannot call C, in plain safe Rust.
 //!
-//! Tests compare them with the proved library: on the stored answers, and on every pair of bytes at
+//! Tests compare them with the proved library: on the table of answers, and on every pair of bytes at
 //! each place of a text of at most 8 digits.
 
 use crate::{Buffer, FromHexError};

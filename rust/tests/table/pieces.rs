@@ -1,4 +1,4 @@
-//! What a decoder of pieces answers to a line, at each cut of a text into two and in single bytes.
+//! What a decoder of pieces answers to a line: a text cut into two, and in single bytes.
 
 use super::calls::{bytes, Answers};
 use super::codec::{Decoder, FromHexError};
@@ -12,13 +12,14 @@ pub fn is_asked(line: &Line) -> bool {
     }
 }
 
-/// The answer at each cut.
+/// The answer at each cut of a text of less than 200 bytes, and of a longer one at so many cuts.
 pub fn answers(line: &Line) -> Answers {
     let asked = &line.asked[..];
     if !is_asked(line) {
         return Vec::new();
     }
-    let cuts = (0..=asked.len()).map(|cut| decoded(&[&asked[..cut], &asked[cut..]]));
+    let cuts = (0..=asked.len()).step_by(1 + asked.len() / 200);
+    let cuts = cuts.map(|cut| decoded(&[&asked[..cut], &asked[cut..]]));
     let single: Vec<&[u8]> = asked.chunks(1).collect();
     let answers = cuts.chain([decoded(&single)]);
     answers.map(|answer| ("Decoder", bytes(answer))).collect()
