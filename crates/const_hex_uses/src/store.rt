@@ -89,6 +89,9 @@ pub fn put_hash(
     ensures stored { OnOk result (get hash_eq store.new key ≡ Some number) }
     ensures others { OnOk result ((other : FixedBytes 32) → other ≢ key
         → get hash_eq store.new other ≡ get hash_eq store.old other) }
+    ensures refused { IfErr result (λ e. e ≡ NoMemory) }
+    ensures unchanged { OnErr result ((other : FixedBytes 32)
+        → get hash_eq store.new other ≡ get hash_eq store.old other) }
 {
     store.insert(key, number)?;
     Ok(())

@@ -1,16 +1,18 @@
 //! What the small callers of `const_hex_uses` answer.
 
-use const_hex::{Buffer, FromHexError, JsonError, PieceSink, bytes_of};
+use const_hex::{Buffer, FromHexError, JsonError, PieceSink, SliceOutput, bytes_of};
 use const_hex_uses::accounts::is_same_account;
 use const_hex_uses::addresses::{address_text, digest_text, empty_text, prefixed_digest_text};
 use const_hex_uses::constants::{transfer, wrapped_ether};
-use const_hex_uses::files::{dump, write_text};
-use const_hex_uses::json_rpc::{code_of, code_request, explained};
-use const_hex_uses::readers::{read_both, read_twice, replace_key};
+use const_hex_uses::files::{dump, write_line, write_text};
+use const_hex_uses::json_rpc::{code_of, code_request, explained, reason};
+use const_hex_uses::own_kernel::write_pieces;
+use const_hex_uses::readers::{read_both, read_shared, read_twice, replace_key};
 use const_hex_uses::settings::{LineFault, first_fault};
-use const_hex_uses::sinks::{packets, send};
-use const_hex_uses::store::{find, put};
-use const_hex_uses::writers::{array_text, string_text, vector_text};
+use const_hex_uses::sinks::{first_alone, packets, send, send_json};
+use const_hex_uses::store::{find, find_hash, put, put_hash};
+use const_hex_uses::writers::{array_text, joined_text, string_text, vector_text};
+use hash_hex::Hash32;
 use hex_testing::{Source, Testing, Text, same, same_bytes};
 use serde_json::json;
 use std::alloc::AllocError;
@@ -50,6 +52,7 @@ fn texts_of_each_type(rt: HostRuntime) -> Result<(), AllocError> {
         ("string_text", string_text(alloc, &string), "6A6F6C6C79"),
         ("array_text", array_text(alloc, b"kiwi"), "0x6b697769"),
         ("array_text", array_text(alloc, &[]), "0x"),
+        ("joined_text", joined_text(alloc, b"ki", b"wi"), "6b697769"),
     ];
     for (call, text, want) in &rows {
         same!(&rt, call, *want; text.as_deref(), Ok(*want));
@@ -78,6 +81,8 @@ fn two_texts(rt: HostRuntime) -> Result<(), FromHexError> {
     same_bytes!(&rt, "read_twice", Text(UPPER); list, array);
     let refusal = FromHexError::InvalidStringLength;
     same!(&rt; read_twice::<3>(rt.alloc(), UPPER).err(), Some(refusal));
+    let shared = read_shared(rt.alloc(), UPPER)?;
+    same_bytes!(&rt, "read_shared", Text(UPPER); shared.as_slice(), [0xFF, 0x80]);
     Ok(())
 }
 
@@ -111,17 +116,31 @@ fn store(rt: HostRuntime) {
     same!(&rt; put(alloc, &mut store, b"0x6B69", 7), Ok(()));
     same!(&rt; find(alloc, &store, b"6b69"), Ok(Some(7)));
     same!(&rt; find(alloc, &store, b"6b6a"), Ok(None));
+    let (mut hashes, key) = (HashMap::new(alloc), Hash32::from_bytes([7; 32]));
+    same!(&rt; put_hash(&mut hashes, key, 7), Ok(()));
+    same!(&rt; find_hash(&hashes, &key), Some(7));
+    same!(&rt; find_hash(&hashes, &Hash32::from_bytes([8; 32])), None);
 }
 
 #[test]
 fn files_and_sinks(rt: HostRuntime) -> Result<(), Fail> {
     let mut file = Vec::new(rt.alloc());
+    write_line(b"", &mut file)?;
     write_text(b"kiwi", &mut file)?;
-    same_bytes!(&rt, "write_text", "kiwi"; file, "0x6b697769");
+    same_bytes!(&rt, "write_line, write_text", "kiwi"; file, "0x\n0x6b697769");
+    let mut text = [0; 8];
+    write_pieces(b"kiwi", &mut SliceOutput::new(&mut text));
+    same_bytes!(&rt, "write_pieces", "kiwi"; text, "6b697769");
     let mut sink = PieceSink::new(rt.alloc(), 0);
     send(b"kiwi", &mut sink)?;
-    let text = "0x6b697769".to_string(rt.alloc())?;
-    same!(&rt, "send", "kiwi"; sink.pieces(), [text].as_slice());
+    send_json(b"kiwi", &mut sink)?;
+    let texts = [
+        "0x6b697769".to_string(rt.alloc())?,
+        "0x6b697769".to_string(rt.alloc())?,
+    ];
+    same!(&rt, "send", "kiwi"; sink.pieces(), texts.as_slice());
+    let alone = first_alone(rt.alloc(), "0x", "6b");
+    same!(&rt; alone.pieces(), ["0x".to_string(rt.alloc())?].as_slice());
     Ok(())
 }
 
@@ -218,5 +237,7 @@ fn answers(rt: HostRuntime) -> Result<(), AllocError> {
     same!(&rt; code_of(rt.alloc(), &answer).as_deref(), Ok([0x60, 1].as_slice()));
     let answer = json!(in rt.alloc(); {"id": 1})?;
     same!(&rt; code_of(rt.alloc(), &answer).err(), Some(JsonError::NotText));
+    let shown = reason(rt.alloc(), &JsonError::NotText);
+    same!(&rt; shown.as_deref(), Ok("expected a hex encoded string"));
     Ok(())
 }
