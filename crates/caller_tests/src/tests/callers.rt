@@ -81,7 +81,8 @@ fn two_texts(rt: HostRuntime) -> Result<(), FromHexError> {
     same_bytes!(&rt, "read_twice", Text(UPPER); list, array);
     let refusal = FromHexError::InvalidStringLength;
     same!(&rt; read_twice::<3>(rt.alloc(), UPPER).err(), Some(refusal));
-    same_bytes!(&rt, "read_shared", Text(UPPER); *read_shared(rt.alloc(), UPPER)?, [0xFF, 0x80]);
+    let shared = read_shared(rt.alloc(), UPPER)?;
+    same_bytes!(&rt, "read_shared", Text(UPPER); shared.as_slice(), [0xFF, 0x80]);
     Ok(())
 }
 
@@ -124,10 +125,9 @@ fn store(rt: HostRuntime) {
 #[test]
 fn files_and_sinks(rt: HostRuntime) -> Result<(), Fail> {
     let mut file = Vec::new(rt.alloc());
-    write_text(b"kiwi", &mut file)?;
-    same_bytes!(&rt, "write_text", "kiwi"; file, "0x6b697769");
     write_line(b"", &mut file)?;
-    same_bytes!(&rt, "write_line", "nothing"; file, "0x6b6977690x\n");
+    write_text(b"kiwi", &mut file)?;
+    same_bytes!(&rt, "write_line, write_text", "kiwi"; file, "0x\n0x6b697769");
     let mut text = [0; 8];
     write_pieces(b"kiwi", &mut SliceOutput::new(&mut text));
     same_bytes!(&rt, "write_pieces", "kiwi"; text, "6b697769");
