@@ -39,7 +39,7 @@ test_processors() {
     for row in 1 3 5; do
         does "the choice if the system keeps the registers of $row" picks_by_kept "$row" default
     done
-    has $((${#emulated[@]} + 32)) "other processors" qemu-x86_64 || return
+    has $((${#emulated[@]} + 30)) "other processors" qemu-x86_64 || return
     for row in "${emulated[@]}"; do
         does "${row% *} picks the build ${row#* }" picks "${row#* }" "${row% *}"
     done
@@ -61,7 +61,7 @@ compiled_for_arm() {
 test_arm() {
     local name kernel=const_hex_arch::arch::lanes32::Lanes32Kernel
     local code=(aarch64-linux-gnu-objdump "$room/aarch64/libconst_hex.a")
-    has 33 ARM qemu-aarch64 aarch64-linux-gnu-gcc aarch64-linux-gnu-objdump || return
+    has 27 ARM qemu-aarch64 aarch64-linux-gnu-gcc aarch64-linux-gnu-objdump || return
     does "the build for ARM looks up in lanes" has_instruction "${code[@]}" 'tbl[[:space:]]' \
         const_hex_{encode,decode,decode_front} "$kernel::check" "$piece_digits"
     # There the checks hold none of the kernel's code.
