@@ -1,6 +1,7 @@
 //! What the small callers of `const_hex_uses` answer.
 
-use const_hex::{Buffer, FromHexError, JsonError, PieceSink, bytes_of};
+use crate::tests::buffers::lends;
+use const_hex::{FromHexError, JsonError, PieceSink, bytes_of};
 use const_hex_uses::accounts::is_same_account;
 use const_hex_uses::addresses::{address_text, digest_text, empty_text, prefixed_digest_text};
 use const_hex_uses::constants::{transfer, wrapped_ether};
@@ -29,16 +30,6 @@ fn texts_without_memory(rt: HostRuntime) {
     lends(&rt, &digest_text(&[0x0C; 32]), upper);
     lends(&rt, &prefixed_digest_text(&[0x0C; 32]), lower);
     lends(&rt, &empty_text(), "0x");
-}
-
-fn lends<const N: usize, const PREFIX: bool, const LEN: usize>(
-    rt: &impl Testing,
-    buffer: &Buffer<N, PREFIX, LEN>,
-    text: &str,
-) {
-    same!(rt, "as_str", N; buffer.as_str(), text);
-    same_bytes!(rt, "as_bytes", N; buffer.as_bytes(), text);
-    same_bytes!(rt, "as_byte_array", N; buffer.as_byte_array(), text);
 }
 
 #[test]
