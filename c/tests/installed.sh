@@ -255,6 +255,17 @@ uninstalls() {
     c/install --prefix "$room/usr" --uninstall && [ -z "$(listed "$room/usr")" ]
 }
 
+unstages() {
+    DESTDIR=$room/stage c/install --prefix /usr --uninstall && [ -z "$(listed "$room/stage")" ]
+}
+
+# Whether a file that cannot be taken away is told.
+tells_what_stays() {
+    mkdir -p "$room/usr/lib/libconst_hex.a/in" &&
+        ! c/install --prefix "$room/usr" --uninstall 2> "$room/complaint" &&
+        grep -q '^c/install: .*/lib/libconst_hex.a is still there' "$room/complaint"
+}
+
 test_install() {
     local compiler static
     does "c/install" installs
@@ -270,6 +281,7 @@ test_install() {
     has 1 "the manual by name" man && does "the manual by name" is_found_by_man
     test_build_systems
     does "c/install for a package" staged
+    does "c/install --uninstall for a package" unstages
     if has 18 "pkg-config" pkg-config; then
         does "a prefix with a blank" has_blank
         does "its version" [ "$(package --modversion)" = 1.1.0 ]
@@ -282,4 +294,5 @@ test_install() {
         done
     fi
     does "c/install --uninstall" uninstalls
+    does "c/install --uninstall of what stays" tells_what_stays
 }

@@ -24,11 +24,14 @@
 #define VALGRIND_MAKE_MEM_UNDEFINED(address, length) ((void)(address), (void)(length))
 #endif
 
-enum { LONGEST = 256, RANDOM = 200, CHOSEN = 5, PARTS = 4 };
+enum { LONGEST = 256, RANDOM = 60, CHOSEN = 5, PARTS = 4 };
 
-static const size_t LENGTHS[] = {1,  2,  3,  4,  7,  8,  9,  12, 15, 16, 17,  20,
-                                 24, 31, 32, 33, 47, 48, 63, 64, 65, 96, 128, 256};
-enum { COUNT = sizeof LENGTHS / sizeof LENGTHS[0] };
+/* All lengths up to 65 bytes, and some beyond. */
+enum { SHORT = 65 };
+static const size_t LONG[] = {95, 96, 97, 127, 128, 129, 256};
+enum { COUNT = SHORT + sizeof LONG / sizeof LONG[0] };
+
+static size_t length_at(size_t at) { return at < SHORT ? at + 1 : LONG[at - SHORT]; }
 
 static const struct build *build;
 
@@ -186,7 +189,7 @@ static int paths(size_t part) {
     for (size_t which = 1; which < builds; which++) {
         build = &BUILDS[which];
         for (size_t at = part; at < ROW_COUNT * COUNT; at += PARTS) {
-            bool is_one = has_one_path(&ROWS[at / COUNT], LENGTHS[at % COUNT]);
+            bool is_one = has_one_path(&ROWS[at / COUNT], length_at(at % COUNT));
             passed += is_one;
             failed += !is_one;
         }
@@ -203,7 +206,7 @@ static int undefined(bool encodes) {
         build = &BUILDS[which];
         for (size_t at = 0; at < ROW_COUNT * COUNT; at++) {
             const struct row *row = &ROWS[at / COUNT];
-            size_t length = LENGTHS[at % COUNT];
+            size_t length = length_at(at % COUNT);
             if (row->encodes == encodes) {
                 fill(row, length, CHOSEN + 1);
                 if (!run(row, length)) {

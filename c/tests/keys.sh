@@ -13,11 +13,12 @@ reports() { grep -c "== $2 uninitialised value" "$room/memcheck.$1"; }
 # Encoding has no jump and no address that depends on a byte.
 encodes_blindly() { watched encode && grep -q 'ERROR SUMMARY: 0 errors ' "$room/memcheck.encode"; }
 
-# Decoding and checking have only jumps.
+# Decoding and checking have only jumps, and few: a call that jumped by each digit alone would make 6,000 more.
 only_jumps() {
-    local jumps
+    local jumps all
     watched decode && jumps=$(reports decode 'Conditional jump or move depends on') &&
-        grep -q "ERROR SUMMARY: .* from $jumps contexts" "$room/memcheck.decode"
+        all=$(sed -n "s/.*ERROR SUMMARY: \([0-9]*\) errors from $jumps contexts.*/\1/p" "$room/memcheck.decode") &&
+        [ "${all:-99999}" -le 4500 ]
 }
 
 # A look-up by a byte is reported.

@@ -192,7 +192,7 @@ compiled_with_musl() {
 # Both libraries in programs with another libc.
 test_musl() {
     local name how
-    has 40 musl musl-gcc || return
+    has 37 musl musl-gcc || return
     does "check.c with musl" compiled_with_musl musl-check c/tests/check.c -static "$archive"
     starts "check.c with musl" "$room/musl-check" 32
     for how in "-static $archive" "$archive" "$shared -Wl,-rpath,$room/both"; do

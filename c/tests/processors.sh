@@ -23,12 +23,23 @@ build_here() {
 # Whether each call picks the build $1 on the processor $2.
 picks() { qemu-x86_64 -cpu "$2" "$room/picks" "$1" > "$room/said" 2> "$room/complaint"; }
 
+# Whether each call picks the build $2 if the system keeps the registers of the bits $1: 2 are those of SSE, 4
+# those of AVX.
+picks_by_kept() {
+    cc -std=gnu99 -O2 -Ic -include c/tests/kept.h -DKEPT="$1" -c c/dispatch.c -o "$room/kept.o" &&
+        compiled kept c/tests/picks.c "$room/kept.o" && "$room/kept" "$2" > "$room/said"
+}
+
 test_processors() {
     local row
     # With the choice as the archive has it.
     does "picks.c" compiled picks c/tests/picks.c "$room/dispatch.o"
     starts "each call picks the build for this processor" "$room/picks" "$(build_here)"
-    has $((${#emulated[@]} + 32)) "other processors" qemu-x86_64 || return
+    does "the choice if the system keeps all registers" picks_by_kept 7 "$(build_here)"
+    for row in 1 3 5; do
+        does "the choice if the system keeps the registers of $row" picks_by_kept "$row" default
+    done
+    has $((${#emulated[@]} + 30)) "other processors" qemu-x86_64 || return
     for row in "${emulated[@]}"; do
         does "${row% *} picks the build ${row#* }" picks "${row#* }" "${row% *}"
     done
@@ -50,7 +61,7 @@ compiled_for_arm() {
 test_arm() {
     local name kernel=const_hex_arch::arch::lanes32::Lanes32Kernel
     local code=(aarch64-linux-gnu-objdump "$room/aarch64/libconst_hex.a")
-    has 33 ARM qemu-aarch64 aarch64-linux-gnu-gcc aarch64-linux-gnu-objdump || return
+    has 27 ARM qemu-aarch64 aarch64-linux-gnu-gcc aarch64-linux-gnu-objdump || return
     does "the build for ARM looks up in lanes" has_instruction "${code[@]}" 'tbl[[:space:]]' \
         const_hex_{encode,decode,decode_front} "$kernel::check" "$piece_digits"
     # There the checks hold none of the kernel's code.

@@ -9,7 +9,7 @@
 #![deny(unsafe_code)]
 
 #[macro_use]
-#[path = "../../rust/tests/table/lines.rs"]
+#[path = "../../rust/tests/shared/lines.rs"]
 pub mod lines;
 
 pub mod bench;

@@ -2,14 +2,14 @@
 
 use crate::lines::{self, Line};
 
-#[path = "../../rust/tests/table/calls.rs"]
+#[path = "../../rust/tests/shared/calls.rs"]
 pub mod calls;
-#[path = "../../rust/const-hex/tests/table/json.rs"]
+#[path = "../../rust/const-hex/tests/shared/json.rs"]
 mod json;
-#[path = "../../rust/const-hex/tests/table/own_calls.rs"]
+#[path = "../../rust/const-hex/tests/shared/own_calls.rs"]
 mod own_calls;
 
-#[path = "../../rust/tests/table/pieces.rs"]
+#[path = "../../rust/tests/shared/pieces.rs"]
 mod pieces;
 
 /// The calls of both packages.

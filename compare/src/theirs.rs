@@ -6,11 +6,11 @@ use const_hex as codec;
 use const_hex::{check, decode_to_slice, FromHexError::InvalidHexCharacter};
 use serde_json::Value;
 
-#[path = "../../rust/tests/table/calls.rs"]
+#[path = "../../rust/tests/shared/calls.rs"]
 pub mod calls;
-#[path = "../../rust/const-hex/tests/table/json.rs"]
+#[path = "../../rust/const-hex/tests/shared/json.rs"]
 mod json;
-#[path = "../../rust/const-hex/tests/table/own_calls.rs"]
+#[path = "../../rust/const-hex/tests/shared/own_calls.rs"]
 mod own_calls;
 
 use calls::{bytes, error, filled, message, Answers};

@@ -4,8 +4,8 @@ import { spawnSync } from 'node:child_process';
 import { readFileSync } from 'node:fs';
 import test from 'node:test';
 import { fileURLToPath } from 'node:url';
-import { decode, decodeInto, decoder, encode, isHex } from '../const_hex.js';
-import { randomOf, randomText, thrown } from './rows.js';
+import { decode, decodeInto, decoder, encode, isHex, version } from '../const_hex.js';
+import { answer, randomOf, randomText, thrown } from './rows.js';
 import { askTable } from './table.js';
 
 const TOP = new URL('../../', import.meta.url);

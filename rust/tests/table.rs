@@ -5,11 +5,11 @@
 use const_hex_proved as codec;
 
 #[macro_use]
-#[path = "table/lines.rs"]
+#[path = "shared/lines.rs"]
 mod lines;
-#[path = "table/calls.rs"]
+#[path = "shared/calls.rs"]
 mod calls;
-#[path = "table/pieces.rs"]
+#[path = "shared/pieces.rs"]
 mod pieces;
 
 #[test]

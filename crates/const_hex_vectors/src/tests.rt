@@ -2,15 +2,19 @@
 //! [`hex_testing::same_bytes`] call `check` and `check_bytes`.
 
 mod buffers;
+mod callers;
 mod decoding;
 mod encoding;
 mod errors;
 mod exhausted;
+mod hashes;
+mod hosts;
 mod kernels;
 mod lanes;
 mod long;
 mod pieces;
 mod printed;
+mod runs;
 mod sinks;
 mod streaming;
 mod tables;

@@ -5,14 +5,14 @@
 use const_hex as codec;
 
 #[macro_use]
-#[path = "../../tests/table/lines.rs"]
+#[path = "../../tests/shared/lines.rs"]
 mod lines;
-#[path = "../../tests/table/calls.rs"]
+#[path = "../../tests/shared/calls.rs"]
 mod calls;
 #[cfg(feature = "serde")]
-#[path = "table/json.rs"]
+#[path = "shared/json.rs"]
 mod json;
-#[path = "table/own_calls.rs"]
+#[path = "shared/own_calls.rs"]
 mod own_calls;
 
 #[test]

@@ -1,10 +1,9 @@
 //! Every call that writes text, on worked examples.
 
-use crate::tests::decoding::each_call_answers;
 use crate::tests::texts::{bytes, printed};
 use const_hex::serde::no_prefix;
 use const_hex::{
-    BytesToHexChars, FromHexError, Plain, ToHex, ToHexExt, encode, encode_full_to_slice,
+    BytesToHexChars, FromHexError, Plain, ToHex, ToHexExt, decode, encode, encode_full_to_slice,
     encode_prefixed, encode_to_slice, encode_to_slice_upper, encode_to_str, encode_to_str_upper,
     encode_upper, encode_upper_prefixed, fill_text, serialize, serialize_upper, text_length,
 };
@@ -96,17 +95,10 @@ const HELLO: Row<'_> = (
     "48656C6C6F20776F726C6421",
 );
 
-const ROWS: [Row<'_>; 5] = [
-    (b"", "", ""),
-    (b"kiwi", "6b697769", "6B697769"),
-    HELLO,
-    (&[1, 2, 3, 15, 16], "0102030f10", "0102030F10"),
-    (&[0xDE, 0xAD], "dead", "DEAD"),
-];
-
 #[test]
 fn owned_texts(rt: HostRuntime) -> Result<(), AllocError> {
-    for row in ROWS {
+    let numbers: Row<'_> = (&[1, 2, 3, 15, 16], "0102030f10", "0102030F10");
+    for row in [(b"".as_slice(), "", ""), HELLO, numbers] {
         Written::new(rt.alloc(), row)?.each_call_writes(&rt);
     }
     let want = Written::new(rt.alloc(), HELLO)?;
@@ -118,75 +110,65 @@ fn owned_texts(rt: HostRuntime) -> Result<(), AllocError> {
 // The Rust crate's own tests try these counts of bytes.
 #[test]
 fn there_and_back(rt: HostRuntime) -> Result<(), AllocError> {
-    let alloc = rt.alloc();
     for count in [1, 8, 20, 32, 64, 128] {
-        let bytes = bytes(alloc, count)?;
-        let lower = printed(alloc, &bytes, false, false)?;
-        let upper = printed(alloc, &bytes, false, true)?;
-        let want = Written::new(alloc, (&bytes, &lower, &upper))?;
-        want.each_call_writes(&rt);
-        each_call_answers(&rt, lower.as_bytes(), Ok(&bytes))?;
+        let bytes = bytes(rt.alloc(), count)?;
+        let text = printed(rt.alloc(), &bytes, false, false)?;
+        same_read!(&rt, "encode", count; encode(rt.alloc(), &bytes), Ok(text.as_bytes()));
+        same_read!(&rt, "decode", count; decode(rt.alloc(), text.as_bytes()), Ok(&bytes));
     }
     Ok(())
 }
 
-/// The longest output that is tried.
-const ROOM: usize = 26;
-
-// An output of another length than the text is refused, and stays unchanged.
 #[test]
-fn texts_in_slices(rt: HostRuntime) -> Result<(), AllocError> {
-    for (bytes, lower, upper) in ROWS {
-        for (is_upper, text) in [(false, lower), (true, upper)] {
-            let prefixed = ["0x", text].concat(rt.alloc())?;
-            for length in 0..=ROOM {
-                fills(&rt, bytes, text, (false, is_upper), length);
-                fills(&rt, bytes, &prefixed, (true, is_upper), length);
-            }
-        }
+fn texts_in_slices(rt: HostRuntime) {
+    let mut output = [0xEE; 8];
+    same!(&rt; encode_to_slice(b"kiwi", &mut output), Ok(()));
+    same!(&rt; Text(&output), Text(b"6b697769"));
+    same!(&rt; encode_to_slice_upper(b"kiwi", &mut output), Ok(()));
+    same!(&rt; Text(&output), Text(b"6B697769"));
+    same!(&rt; encode_to_str(b"kiwi", &mut output), Ok("6b697769"));
+    same!(&rt; encode_to_str_upper(b"kiwi", &mut output), Ok("6B697769"));
+    same!(&rt; encode_to_slice(b"", &mut []), Ok(()));
+}
+
+// An output of another length than the full text is refused, and stays unchanged.
+#[test]
+fn full_texts_in_slices(rt: HostRuntime) -> Result<(), AllocError> {
+    for length in 0..=26usize {
+        fills(
+            &rt,
+            (b"Hello world!", true, true),
+            "0x48656C6C6F20776F726C6421",
+            length,
+        )?;
+        fills(&rt, (b"kiwi", true, false), "0x6b697769", length)?;
+        fills(&rt, (b"kiwi", false, true), "6B697769", length)?;
+        fills(&rt, (b"", true, false), "0x", length)?;
     }
     Ok(())
 }
 
-/// Each call that writes text into a slice fills an output of that length; or it is an error, and the
-/// output stays unchanged.
+/// `encode_full_to_slice` fills an output of that length; or it is an error, and the output stays
+/// unchanged.
 fn fills(
     rt: &impl Testing,
-    bytes: &[u8],
+    (bytes, prefix, upper): (&[u8], bool, bool),
     text: &str,
-    (prefix, upper): (bool, bool),
     length: usize,
-) {
-    assert!(rt; length <= ROOM);
-    let row = (text, upper, length);
+) -> Result<(), AllocError> {
+    let row = (text, length);
     same!(rt, "text_length", row; text_length(prefix, bytes.len()), text.len());
-    let (mut left, mut want) = ([0xEE; ROOM], Err(FromHexError::InvalidStringLength));
+    let mut output = vec![in rt.alloc(); 0xEEu8; length]?;
+    let answer = encode_full_to_slice(bytes, prefix, upper, &mut output);
     if text.len() == length {
-        left[..length].copy_from_slice(text.as_bytes());
-        want = Ok(text);
+        same!(rt, "encode_full_to_slice", row; answer, Ok(()));
+        same_bytes!(rt, "what encode_full_to_slice leaves", row; output, text);
+    } else {
+        let left = vec![in rt.alloc(); 0xEEu8; length]?;
+        same!(rt, "encode_full_to_slice", row; answer, Err(FromHexError::InvalidStringLength));
+        same_bytes!(rt, "what encode_full_to_slice leaves", row; output, left);
     }
-    let mut output = [0xEE; ROOM];
-    let filled = encode_full_to_slice(bytes, prefix, upper, &mut output[..length]);
-    same!(rt, "encode_full_to_slice", row; filled, want.map(|_| ()));
-    same_bytes!(rt, "what encode_full_to_slice leaves", row; output, left);
-    if prefix {
-        return;
-    }
-    let (mut output, mut lender) = ([0xEE; ROOM], [0xEE; ROOM]);
-    let (filled, lent) = match upper {
-        false => (
-            encode_to_slice(bytes, &mut output[..length]),
-            encode_to_str(bytes, &mut lender[..length]),
-        ),
-        true => (
-            encode_to_slice_upper(bytes, &mut output[..length]),
-            encode_to_str_upper(bytes, &mut lender[..length]),
-        ),
-    };
-    same!(rt, "encode_to_slice(_upper)", row; filled, want.map(|_| ()));
-    same!(rt, "encode_to_str(_upper)", row; lent, want);
-    same_bytes!(rt, "what encode_to_slice(_upper) leaves", row; output, left);
-    same_bytes!(rt, "what encode_to_str(_upper) leaves", row; lender, left);
+    Ok(())
 }
 
 #[test]

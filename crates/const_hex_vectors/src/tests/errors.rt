@@ -38,27 +38,9 @@ fn debug_forms(rt: HostRuntime) {
     same!(&rt; texts.as_deref(), Ok(want));
 }
 
-// The character is printed in Rust's debug form. Places have one to eight figures.
+// Places have one to eight figures.
 #[test]
 fn printed_places(rt: HostRuntime) -> Result<(), AllocError> {
-    let rows: [(u8, &str); 13] = [
-        (b'\n', "invalid character '\\n' at position 5"),
-        (b'\'', "invalid character '\\'' at position 5"),
-        (b'"', "invalid character '\"' at position 5"),
-        (b'\\', "invalid character '\\\\' at position 5"),
-        (b' ', "invalid character ' ' at position 5"),
-        (b'z', "invalid character 'z' at position 5"),
-        (0x00, "invalid character '\\0' at position 5"),
-        (0x7F, "invalid character '\\u{7f}' at position 5"),
-        (0x80, "invalid character '\\u{80}' at position 5"),
-        (0x85, "invalid character '\\u{85}' at position 5"),
-        (0xA0, "invalid character '\\u{a0}' at position 5"),
-        (0xAD, "invalid character '\\u{ad}' at position 5"),
-        (0xFF, "invalid character '\u{FF}' at position 5"),
-    ];
-    for (byte, want) in rows {
-        prints(&rt, bad(byte, 5), want);
-    }
     let places = [
         (0, "0"),
         (7, "7"),

@@ -33,8 +33,16 @@ macro_rules! worked {
 #[test]
 fn worked_values(rt: HostRuntime) {
     worked!(rt, u8x16, lanes16);
+}
+
+#[test]
+fn worked_values_of_32_lanes(rt: HostRuntime) {
     worked!(rt, u8x32, lanes32);
-    // The first 16 bytes side by side, once and twice.
+}
+
+// The first 16 bytes side by side, once and twice.
+#[test]
+fn worked_values_side_by_side(rt: HostRuntime) {
     let values = lanes16::nibbles(u8x16::from_slice(&BYTES)).to_array();
     same_bytes!(&rt, "lanes16::nibbles", "the first 16"; values, &VALUES[..16]);
     let mut bytes = [0; 32];

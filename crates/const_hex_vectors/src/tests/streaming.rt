@@ -68,7 +68,7 @@ fn is_kept(alloc: Global, texts: &mut Vec<String>, text: &str) -> bool {
 // writes one or two digits at once, by 16 lanes, and by 32.
 type Row = (usize, bool, [&'static [usize]; 3]);
 
-const ROWS: [Row; 17] = [
+const ROWS: [Row; 21] = [
     (0, false, [&[]; 3]),
     (0, true, [&[2]; 3]),
     (1, false, [&[2]; 3]),
@@ -82,7 +82,18 @@ const ROWS: [Row; 17] = [
     (2047, true, [&[4096]; 3]),
     (2048, false, [&[4096]; 3]),
     (2048, true, [&[4096, 2], &[4066, 32], &[4034, 64]]),
+    (4095, false, [&[4096, 4094]; 3]),
+    (
+        4095,
+        true,
+        [&[4096, 4096], &[4066, 4096, 30], &[4034, 4096, 62]],
+    ),
     (4096, false, [&[4096, 4096]; 3]),
+    (
+        4096,
+        true,
+        [&[4096, 4096, 2], &[4066, 4096, 32], &[4034, 4096, 64]],
+    ),
     (4097, false, [&[4096, 4096, 2]; 3]),
     (
         4097,
@@ -94,24 +105,28 @@ const ROWS: [Row; 17] = [
         true,
         [&[4096, 4096, 64], &[4066, 4096, 94], &[4034, 4096, 126]],
     ),
+    (6171, false, [&[4096, 4096, 4096, 54]; 3]),
 ];
 
 #[test]
 fn calls_in_each_way(rt: HostRuntime) -> Result<(), AllocError> {
     for (count, prefix, sizes) in ROWS {
-        let data = &bytes(rt.alloc(), count)?;
+        let data = bytes(rt.alloc(), count)?;
         match prefix {
-            false => {
-                Stream::<false, false> { data, sizes }.in_each_way(&rt)?;
-                Stream::<true, false> { data, sizes }.in_each_way(&rt)?;
-            }
-            true => {
-                Stream::<false, true> { data, sizes }.in_each_way(&rt)?;
-                Stream::<true, true> { data, sizes }.in_each_way(&rt)?;
-            }
+            false => in_each_way::<false>(&rt, &data, sizes)?,
+            true => in_each_way::<true>(&rt, &data, sizes)?,
         }
     }
     Ok(())
+}
+
+fn in_each_way<const PREFIX: bool>(
+    rt: &impl Testing,
+    data: &[u8],
+    sizes: [&'static [usize]; 3],
+) -> Result<(), AllocError> {
+    Stream::<false, PREFIX> { data, sizes }.in_each_way(rt)?;
+    Stream::<true, PREFIX> { data, sizes }.in_each_way(rt)
 }
 
 /// Bytes, and the sizes of the calls that bring their text, as in a row.

@@ -8,13 +8,20 @@ const DIGITS: &[u8; 22] = b"0123456789abcdefABCDEF";
 
 /// A text of that length, of digits in either case.
 pub(crate) fn digits(alloc: Global, length: usize) -> Result<Vec<u8>, AllocError> {
-    (0..length).map(|i| DIGITS[i % 22 * 7 % 22]).collect(alloc)
+    let mut text = Vec::new(alloc);
+    for i in 0..length {
+        text.push(DIGITS[i % 22 * 7 % 22])?;
+    }
+    Ok(text)
 }
 
 /// That many bytes, of all values in turn.
 pub(crate) fn bytes(alloc: Global, count: usize) -> Result<Vec<u8>, AllocError> {
-    let value = |i: usize| ((i % 256 * 37 + 11) % 256) as u8;
-    (0..count).map(value).collect(alloc)
+    let mut bytes = Vec::new(alloc);
+    for i in 0..count {
+        bytes.push(((i % 256 * 37 + 11) % 256) as u8)?;
+    }
+    Ok(bytes)
 }
 
 pub(crate) const PREFIXES: [&str; 3] = ["", "0x", "0X"];
@@ -58,21 +65,25 @@ pub(crate) fn printed(
 
 /// The bytes that std reads from digits.
 pub(crate) fn read(alloc: Global, digits: &[u8]) -> Result<Vec<u8>, AllocError> {
-    let value = |digit: u8| char::from(digit).to_digit(16).unwrap_or(0) as u8;
-    let pairs = digits.as_chunks::<2>().0.iter();
-    let bytes = pairs.map(|pair| value(pair[0]) << 4 | value(pair[1]));
-    bytes.collect(alloc)
+    let mut bytes = Vec::new(alloc);
+    for [high, low] in digits.as_chunks::<2>().0 {
+        bytes.push(value(*high) << 4 | value(*low))?;
+    }
+    Ok(bytes)
 }
 
-/// Cuts a text into pieces of these sizes. A size that is longer than the rest gives no piece.
+fn value(digit: u8) -> u8 {
+    char::from(digit).to_digit(16).unwrap_or(0) as u8
+}
+
+/// Cuts a text into pieces of these sizes. A size that is longer than the rest gives an empty piece.
 pub(crate) fn cut(alloc: Global, text: &str, sizes: &[usize]) -> Result<Vec<String>, AllocError> {
     let mut pieces = Vec::new(alloc);
-    let mut rest = text;
+    let mut start = 0usize;
     for size in sizes {
-        if let Some((piece, after)) = rest.split_at_checked(*size) {
-            pieces.push(piece.to_string(alloc)?)?;
-            rest = after;
-        }
+        let end = start.saturating_add(*size);
+        pieces.push(text.get(start..end).unwrap_or("").to_string(alloc)?)?;
+        start = end;
     }
     Ok(pieces)
 }

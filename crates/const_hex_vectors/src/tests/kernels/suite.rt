@@ -168,13 +168,11 @@ fn prefixed_or_refused<K: Kernel>(
     (prefix, body, place): (&str, &[u8], usize),
     bytes: &[u8],
 ) -> Result<(), AllocError> {
-    match body {
-        [b'0', b'x' | b'X', rest @ ..] if prefix.is_empty() => {
-            let bytes = read(rt.alloc(), rest)?;
-            answers::<K>(rt, kernel, body, Ok(&bytes), &bytes)
-        }
-        _ => refuses::<K>(rt, kernel, (prefix, body, place), bytes),
+    if prefix.is_empty() && (body.starts_with(b"0x") || body.starts_with(b"0X")) {
+        let bytes = read(rt.alloc(), body.get(2..).unwrap_or(&[]))?;
+        return answers::<K>(rt, kernel, body, Ok(&bytes), &bytes);
     }
+    refuses::<K>(rt, kernel, (prefix, body, place), bytes)
 }
 
 /// Each byte at each place of a body of letters. The bad bytes are next to a range of digits, or

@@ -1,6 +1,4 @@
 use Rattle.std.proofs.Common.{arith}
-use Rattle.std.proofs.lemmas.List.{take_all}
-use Rattle.std.proofs.lemmas.Simd.{put_chunk_whole}
 use Rattle.const_hex_arch.proofs.lemmas.LaneBytes.{stored_in_two}
 use Rattle.const_hex_arch.proofs.output.slice.copy_over.Goals as goal
 
@@ -8,7 +6,3 @@ pub returns-then-bytes-eq64 : goal.returns-then-bytes-eq64
 returns-then-bytes-eq64 c =
     let parts = c.split_at_mut-front in
     stored_in_two 32 c.args.place.now c.args.bytes.now _ _ c.requires (omega arith) parts.ensures.front parts.ensures.back
-
-pub returns-then-bytes-eq32 : goal.returns-then-bytes-eq32
-returns-then-bytes-eq32 c =
-    rw (take_all 32 c.args.bytes.now (omega arith)) (put_chunk_whole c.args.place.now c.args.bytes.now c.requires)
