@@ -46,7 +46,8 @@
  * only on the call, the lengths, the prefix, and upper. No address that it reads or writes depends
  * on a byte or a digit. This is tested for both builds on x86-64, and not proved. It is not said of
  * a text that is refused: the refusal names the position of the bad character, and the time shows it
- * too. How long an instruction takes is up to the processor. No memory is wiped. libsodium has sodium_bin2hex and sodium_hex2bin, made for keys.
+ * too. How long an instruction takes is up to the processor. No memory is wiped. libsodium has
+ * sodium_bin2hex and sodium_hex2bin, made for keys.
  *
  * TEXTS IN PIECES
  *
