@@ -26,8 +26,8 @@ has_instruction() {
     done
 }
 
-# What decodes the digits of a piece.
-piece_digits=const_hex::codec::decoder::decode_digits
+# What decodes the digits of a piece behind a digit that waits.
+piece_digits=const_hex::codec::decoder::decode_behind
 
 decodes_pieces() {
     local build
@@ -42,10 +42,10 @@ test_code() {
     does "the build for x86-64-v3 has its lanes" wide
     does "the default build goes without them" narrow
     does "the default build looks up in 16 lanes" has_instruction objdump "$room/const_hex_default.o" \
-        'pshufb ' const_hex_{encode,decode,decode_front,check,check_raw}_default "$piece_digits"
+        'pshufb ' const_hex_{encode,decode,decode_front,decode_piece,check,check_raw}_default "$piece_digits"
     does "the build for x86-64-v3 looks up in 32 lanes" has_instruction objdump "$room/const_hex_v3.o" \
-        'vpshufb .*%ymm' const_hex_{encode,decode,decode_front,check,check_raw}_v3 "$piece_digits"
-    does "the digits of a piece are decoded there" decodes_pieces
+        'vpshufb .*%ymm' const_hex_{encode,decode,decode_front,decode_piece,check,check_raw}_v3 "$piece_digits"
+    does "the digits of a piece are decoded there, also behind one that waits" decodes_pieces
 }
 
 # Whether the shared object exports the calls of the header, and nothing else.

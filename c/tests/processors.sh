@@ -63,7 +63,7 @@ test_arm() {
     local code=(aarch64-linux-gnu-objdump "$room/aarch64/libconst_hex.a")
     has 27 ARM qemu-aarch64 aarch64-linux-gnu-gcc aarch64-linux-gnu-objdump || return
     does "the build for ARM looks up in lanes" has_instruction "${code[@]}" 'tbl[[:space:]]' \
-        const_hex_{encode,decode,decode_front} "$kernel::check" "$piece_digits"
+        const_hex_{encode,decode,decode_front,decode_piece} "$kernel::check" "$piece_digits"
     # There the checks hold none of the kernel's code.
     does "the checks for ARM call that kernel" has_instruction "${code[@]}" \
         "R_AARCH64_CALL26.*$kernel::check" const_hex_check{,_raw}

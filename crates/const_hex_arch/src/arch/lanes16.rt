@@ -70,7 +70,7 @@ pub fn encode_chunk<const UPPER: bool>(v: u8x16) -> [u8x16; 2]
     ensures text { concat result ≡ hex_text UPPER v }
     ensures lanes { map length result ≡ 16 ∷ 16 ∷ [] }
 {
-    encoded(v, UPPER, false)
+    text_vectors(v, UPPER, false)
 }
 
 /// Whether every lane is a digit.
@@ -181,7 +181,7 @@ impl Vectors<16> for Lanes16 {
         ensures text { concat result ≡ hex_text upper v }
         ensures lanes { map length result ≡ 16 ∷ 16 ∷ [] }
     {
-        encoded(v, upper, twin)
+        text_vectors(v, upper, twin)
     }
 
     #[inline(always)]
@@ -203,7 +203,7 @@ impl Vectors<16> for Lanes16 {
     fn merge(first: u8x16, second: u8x16, twin: bool) -> u8x16
         ensures { AllNibbles (first ++ second) → result ≡ byte_pairs (first ++ second) }
     {
-        packed(join(first, second), twin)
+        pack(join(first, second), twin)
     }
 
     ghost use Rattle.std.proofs.Common.{arith};
@@ -224,7 +224,7 @@ pub(crate) fn limits(v: u8x16) -> u8x16
 
 /// The text of 16 lanes, in two vectors.
 #[inline(always)]
-fn encoded(v: u8x16, upper: bool, twin: bool) -> [u8x16; 2]
+fn text_vectors(v: u8x16, upper: bool, twin: bool) -> [u8x16; 2]
     ensures text { concat result ≡ hex_text upper v }
     ensures lanes { map length result ≡ 16 ∷ 16 ∷ [] }
 {
@@ -293,7 +293,7 @@ pub(crate) fn join(first: u8x16, second: u8x16) -> u8x32
 /// One byte for each two lanes, which must be values.
 // Two lanes make one of 16 bits, high + 256 * low. Times 4097, its upper byte is 16 * high + low.
 #[inline(always)]
-fn packed(nibbles: u8x32, twin: bool) -> u8x16
+fn pack(nibbles: u8x32, twin: bool) -> u8x16
     ensures { AllNibbles nibbles → result ≡ byte_pairs nibbles }
 {
     let pairs = u16x16::from_le_bytes(nibbles);

@@ -27,7 +27,7 @@ pub fn encode_chunk<const UPPER: bool>(v: u8x32) -> [u8x32; 2]
     ensures text { concat result ≡ hex_text UPPER v }
     ensures lanes { map length result ≡ 32 ∷ 32 ∷ [] }
 {
-    encoded(v, UPPER, false)
+    text_vectors(v, UPPER, false)
 }
 
 /// Whether every lane is a digit.
@@ -138,7 +138,7 @@ impl Vectors<32> for Lanes32 {
         ensures text { concat result ≡ hex_text upper v }
         ensures lanes { map length result ≡ 32 ∷ 32 ∷ [] }
     {
-        encoded(v, upper, twin)
+        text_vectors(v, upper, twin)
     }
 
     #[inline(always)]
@@ -160,7 +160,7 @@ impl Vectors<32> for Lanes32 {
     fn merge(first: u8x32, second: u8x32, twin: bool) -> u8x32
         ensures { AllNibbles (first ++ second) → result ≡ byte_pairs (first ++ second) }
     {
-        packed(join(first, second), twin)
+        pack(join(first, second), twin)
     }
 
     ghost use Rattle.std.proofs.Common.{arith};
@@ -182,7 +182,7 @@ fn limits(v: u8x32) -> u8x32
 
 /// The text of 32 lanes, in two vectors.
 #[inline(always)]
-fn encoded(v: u8x32, upper: bool, twin: bool) -> [u8x32; 2]
+fn text_vectors(v: u8x32, upper: bool, twin: bool) -> [u8x32; 2]
     ensures text { concat result ≡ hex_text upper v }
     ensures lanes { map length result ≡ 32 ∷ 32 ∷ [] }
 {
@@ -222,7 +222,7 @@ fn join(first: u8x32, second: u8x32) -> u8x64
 /// One byte for each two lanes, which must be values.
 // Two lanes make one of 16 bits, high + 256 * low. Times 4097, its upper byte is 16 * high + low.
 #[inline(always)]
-fn packed(nibbles: u8x64, twin: bool) -> u8x32
+fn pack(nibbles: u8x64, twin: bool) -> u8x32
     ensures { AllNibbles nibbles → result ≡ byte_pairs nibbles }
 {
     let pairs = u16x32::from_le_bytes(nibbles);

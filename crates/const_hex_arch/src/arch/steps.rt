@@ -304,7 +304,7 @@ pub(crate) fn decode_step<const N: usize, V: Vectors<N>>(
 {
     let are_digits = check_two_steps::<N, V>(text);
     if are_digits {
-        decoded::<N, V>(text, twin).copy_to_slice(output);
+        decode_vector::<N, V>(text, twin).copy_to_slice(output);
     }
     are_digits
 }
@@ -326,8 +326,8 @@ fn decode_two_steps<const N: usize, V: Vectors<N>>(
     let are_digits = check_four_steps::<N, V>(text);
     if are_digits {
         let (text, next) = text.split_at(2 * N);
-        let first = decoded::<N, V>(text, twin);
-        let second = decoded::<N, V>(next, twin);
+        let first = decode_vector::<N, V>(text, twin);
+        let second = decode_vector::<N, V>(next, twin);
         let (front, back) = output.split_at_mut(N);
         first.copy_to_slice(front);
         second.copy_to_slice(back);
@@ -339,7 +339,7 @@ fn decode_two_steps<const N: usize, V: Vectors<N>>(
 // The values are computed again here. The compiler reuses the test's values.
 #[inline(always)]
 #[tactic(auto, using(crate::proofs::lemmas::LaneBytes::in_two))]
-fn decoded<const N: usize, V: Vectors<N>>(text: &[u8], twin: bool) -> Simd<u8, N>
+fn decode_vector<const N: usize, V: Vectors<N>>(text: &[u8], twin: bool) -> Simd<u8, N>
     requires text { length text.now ≡ 2 * N }
     requires digits { AllDigits text.now }
     ensures { Spells text.now result }

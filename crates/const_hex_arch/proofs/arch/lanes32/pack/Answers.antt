@@ -1,5 +1,5 @@
 use Rattle.const_hex_arch.proofs.lemmas.LaneBytes.{merge_all}
-use Rattle.const_hex_arch.proofs.arch.lanes32.packed.Goals as goal
+use Rattle.const_hex_arch.proofs.arch.lanes32.pack.Goals as goal
 
 pub returns : goal.returns
 returns c =
