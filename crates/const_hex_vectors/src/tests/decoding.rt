@@ -11,7 +11,9 @@ use hex_testing::{Testing, Text, same, same_bytes, same_read};
 use serde_json::Value;
 use std::alloc::{AllocError, Global};
 use std::boxed::BoxedSlice;
+use std::convert::AsSlice;
 use std::rc::Rc;
+use std::test::Fail;
 
 const ODD: FromHexError = FromHexError::OddLength;
 
@@ -42,7 +44,7 @@ pub(crate) fn each_call_answers(
     same_read!(rt, "decode", row; decode(alloc, text), want);
     same_read!(rt, "from_hex of Vec<u8>", row; <Vec<u8>>::from_hex(alloc, text), want);
     same_read!(rt, "from_hex of BoxedSlice<u8>", row; <BoxedSlice<u8>>::from_hex(alloc, text), want);
-    same_read!(rt, "from_hex of Vec<i8>", row; bits(alloc, text), want);
+    same_read!(rt, "from_hex of BoxedSlice<i8>", row; bits(alloc, text), want);
     if let Ok(string) = str::from_utf8(text) {
         let value = Value::String(string.to_string(alloc)?);
         same_read!(rt, "deserialize", row; of_json(alloc, &value), want);
@@ -52,9 +54,9 @@ pub(crate) fn each_call_answers(
 
 /// The bits of the signed numbers that a text spells.
 fn bits(alloc: Global, text: &[u8]) -> Result<Vec<u8>, FromHexError> {
-    let numbers = <Vec<i8>>::from_hex(alloc, text)?;
+    let numbers = <BoxedSlice<i8>>::from_hex(alloc, text)?;
     let mut bytes = Vec::new(alloc);
-    for number in &numbers {
+    for number in numbers.as_slice() {
         bytes.push(number.cast_unsigned())?;
     }
     Ok(bytes)
@@ -99,23 +101,23 @@ fn fills<const N: usize>(rt: &impl Testing, text: &[u8], answer: Checked, left: 
     same_bytes!(rt, "what decode_to_slice leaves", row; output, left);
 }
 
-/// Calls that read arrays answer this. The array shows that its size fits.
-fn arrays<const N: usize>(rt: &impl Testing, text: &[u8], want: Result<[u8; N], FromHexError>) {
-    let row = (N, Text(text));
-    same!(rt, "decode_to_array", row; decode_to_array::<N>(text), want);
-    same!(rt, "const_decode_to_array", row; const_decode_to_array::<N>(text), want);
-    same!(rt, "from_hex", row; <[u8; N]>::from_hex(rt.alloc(), text), want);
+/// Calls that read arrays answer this: these bytes, or an error.
+fn arrays<const N: usize>(rt: &impl Testing, text: &[u8], answer: Checked, bytes: [u8; N]) {
+    let (row, want) = ((N, Text(text)), answer.and(Ok(bytes.as_slice())));
+    same_read!(rt, "decode_to_array", row; decode_to_array::<N>(text), want);
+    same_read!(rt, "const_decode_to_array", row; const_decode_to_array::<N>(text), want);
+    same_read!(rt, "from_hex", row; <[u8; N]>::from_hex(rt.alloc(), text), want);
 }
 
 #[test]
 fn sized_texts(rt: HostRuntime) {
-    arrays(&rt, b"0X", Ok([]));
-    arrays::<1>(&rt, b"0xzz", Err(bad(b'z', 2)));
-    arrays::<1>(&rt, b"zz", Err(bad(b'z', 0)));
-    arrays(&rt, b"6b697769", Ok(*b"kiwi"));
-    arrays(&rt, b"0x6b697769", Ok(*b"kiwi"));
-    arrays::<3>(&rt, b"6b697769", Err(OTHER_LENGTH));
-    arrays(&rt, HELLO, Ok(*b"Hello world!"));
+    arrays(&rt, b"0X", Ok(()), []);
+    arrays(&rt, b"0xzz", Err(bad(b'z', 2)), [0]);
+    arrays(&rt, b"zz", Err(bad(b'z', 0)), [0]);
+    arrays(&rt, b"6b697769", Ok(()), *b"kiwi");
+    arrays(&rt, b"0x6b697769", Ok(()), *b"kiwi");
+    arrays(&rt, b"6b697769", Err(OTHER_LENGTH), [0; 3]);
+    arrays(&rt, HELLO, Ok(()), *b"Hello world!");
     let shared = <Rc<[u8; 1]>>::from_hex(rt.alloc(), b"0x0");
     same!(&rt, "<Rc<[u8; 1]>>::from_hex", "0x0"; shared.err(), Some(ODD));
 }
@@ -123,11 +125,30 @@ fn sized_texts(rt: HostRuntime) {
 #[test]
 fn filled_slices(rt: HostRuntime) {
     fills(&rt, b"0x", Ok(()), []);
+    fills(&rt, b"ff", Err(OTHER_LENGTH), []);
     fills(&rt, b"0x", Err(OTHER_LENGTH), [0xEE]);
     fills(&rt, b"6b697769", Ok(()), *b"kiwi");
     fills(&rt, b"0x6b697769", Ok(()), *b"kiwi");
-    fills(&rt, b"6bzz", Err(bad(b'z', 2)), [0x6B, 0xEE]);
-    fills(&rt, b"0xffg0", Err(bad(b'g', 4)), [255, 0xEE]);
+    fills(&rt, b"0X6B697769", Err(OTHER_LENGTH), [0xEE; 3]);
+}
+
+#[test]
+fn slices_of_two_bytes(rt: HostRuntime) {
+    let rows: [(&[u8], Checked, [u8; 2]); 10] = [
+        (b"0xff80", Ok(()), [255, 128]),
+        (b"0XFF80", Ok(()), [255, 128]),
+        (b"ff8", Err(ODD), [0xEE; 2]),
+        (b"ff", Err(OTHER_LENGTH), [0xEE; 2]),
+        (b"zz", Err(OTHER_LENGTH), [0xEE; 2]),
+        (b"0xff8012", Err(OTHER_LENGTH), [0xEE; 2]),
+        (b"zzzzz", Err(ODD), [0xEE; 2]),
+        (b"6bzz", Err(bad(b'z', 2)), [0x6B, 0xEE]),
+        (b"ffg0", Err(bad(b'g', 2)), [255, 0xEE]),
+        (b"0xffg0", Err(bad(b'g', 4)), [255, 0xEE]),
+    ];
+    for (text, answer, left) in rows {
+        fills(&rt, text, answer, left);
+    }
 }
 
 // The fixed kernel leaves the front that its whole steps have decoded.
@@ -208,17 +229,22 @@ fn raw_checks(rt: HostRuntime) -> Result<(), AllocError> {
 }
 
 #[test]
-fn json_values_that_are_no_text(rt: HostRuntime) {
-    let not_text = Some(JsonError::NotText);
-    same!(&rt; deserialize::<Vec<u8>>(rt.alloc(), &Value::Null).err(), not_text);
-    let not_text = Some(JsonError::NotText);
-    same!(&rt; no_prefix::deserialize::<Vec<u8>>(rt.alloc(), &Value::Bool(true)).err(), not_text);
+fn json_values_that_are_no_text(rt: HostRuntime) -> Result<(), Fail> {
+    let list = Value::from_str(rt.alloc(), "[null, true, -1, [], {}]")?;
+    for place in 0..5usize {
+        let value = list.get(place).ok_or("a value is missing")?;
+        let error = deserialize::<Vec<u8>>(rt.alloc(), value).err();
+        same!(&rt, "deserialize", value; error, Some(JsonError::NotText));
+    }
+    Ok(())
 }
 
 #[test]
 fn json_there_and_back(rt: HostRuntime) -> Result<(), AllocError> {
     let text = serialize(rt.alloc(), b"Hello world!")?;
     same!(&rt; deserialize::<[u8; 12]>(rt.alloc(), &text), Ok(*b"Hello world!"));
+    let text = Value::String("0xFF".to_string(rt.alloc())?);
+    same!(&rt; no_prefix::deserialize::<[u8; 1]>(rt.alloc(), &text), Ok([255]));
     let error = Err(JsonError::Hex(OTHER_LENGTH));
     same!(&rt; deserialize::<[u8; 2]>(rt.alloc(), &text), error);
     Ok(())

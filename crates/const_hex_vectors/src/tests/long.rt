@@ -124,7 +124,8 @@ fn large_buffers(rt: HostRuntime) -> Result<(), AllocError> {
 #[test]
 fn large_arrays(rt: HostRuntime) -> Result<(), AllocError> {
     let (bytes, alloc) = ([0xAB; 50_000], rt.alloc());
-    let prefixed = ["0x", &"ab".repeat(alloc, 50_000)?].concat(alloc)?;
+    let lower = "ab".repeat(alloc, 50_000)?;
+    let prefixed = ["0x", &lower].concat(alloc)?;
     let full = const_encode::<50_000, true, 100_002>(&bytes);
     same_bytes!(&rt, "const_encode", (); full.as_str(), &prefixed);
     let text = bytes.encode_hex_with_prefix(alloc);
