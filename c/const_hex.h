@@ -1,11 +1,13 @@
 /*
  * const_hex: hexadecimal text, proved.
  *
- * Every call is a function of the Rattle crate const_hex_c. It is proved that each call is safe,
- * returns, and meets its contract for every input. This header says in prose what the contracts
- * say. No proof compares the two; reading and tests do. Only tests show that the message of a
- * refusal is written, and what it says of a bad character. No call allocates or keeps anything
- * between calls. Any number of threads may call at once.
+ * The work of every call is a function of the Rattle crate const_hex_c. It is proved that each is safe,
+ * returns, and meets its contract for every input. On x86-64 the library has two builds of each, and the
+ * call itself is C that picks one, which is tested and not proved. This header says in prose what the
+ * contracts say. No proof compares the two; reading and tests do. Only tests show that the message of a
+ * refusal is written, and what it says of a bad character. No call allocates. Nothing is kept between
+ * calls, but on x86-64 one byte that says which build the processor can run. Any number of threads may
+ * call at once.
  *
  * THE CALLER'S PART
  *
@@ -43,9 +45,9 @@
  * If a text is valid, and for all bytes that are encoded, the instructions that a call runs depend
  * only on the call, the lengths, the prefix, and upper. No address that it reads or writes depends
  * on a byte or a digit. This is tested for both builds on x86-64, and not proved. It is not said of
- * a text that is refused: the refusal names the place of the bad character, and the time shows it
- * too. How long an instruction takes is up to the
- * processor. No memory is wiped. libsodium has sodium_bin2hex and sodium_hex2bin, made for keys.
+ * a text that is refused: the refusal names the position of the bad character, and the time shows it
+ * too. How long an instruction takes is up to the processor. No memory is wiped. libsodium has
+ * sodium_bin2hex and sodium_hex2bin, made for keys.
  *
  * TEXTS IN PIECES
  *
@@ -114,16 +116,16 @@ enum {
     CONST_HEX_ODD_LENGTH = 1,
     /* The text spells another number of bytes than is wanted, or more than there is room for. */
     CONST_HEX_INVALID_LENGTH = 2,
-    /* A byte behind the prefix is not a digit: the first such byte, and its place. */
+    /* A byte behind the prefix is not a digit: the first such byte, and its position. */
     CONST_HEX_INVALID_CHARACTER = 3,
     /* Out of memory. No call here allocates, so none gives this kind. */
     CONST_HEX_NO_MEMORY = 4
 };
 
 /*
- * A refusal. If kind is CONST_HEX_INVALID_CHARACTER, byte is the first byte that is not a digit (0
- * to 255), and index is its place, counted from 0 at the start of the whole text, prefix included.
- * For any other kind both are 0.
+ * A refusal: the error of a text. If kind is CONST_HEX_INVALID_CHARACTER, byte is the first byte that is
+ * not a digit (0 to 255), and index is its position, counted from 0 at the start of the whole text, prefix
+ * included. For any other kind both are 0.
  */
 struct const_hex_refusal {
     uint32_t kind;
@@ -202,7 +204,7 @@ struct const_hex_decoder {
  * Returns false if not. Then *count is unchanged, and refusal has one of these:
  *  - CONST_HEX_INVALID_LENGTH, if there are more than bytes_length bytes. decoder and bytes are
  *    unchanged: call again with the same piece and more room, or with less of the piece;
- *  - CONST_HEX_INVALID_CHARACTER, with the place of the bad byte in the whole text, up to SIZE_MAX. A
+ *  - CONST_HEX_INVALID_CHARACTER, with the position of the bad byte in the whole text, up to SIZE_MAX. A
  *    front of bytes may be decoded, and the rest is unchanged. Each later call for this decoder gives
  *    the same refusal, and changes nothing else.
  */
@@ -214,7 +216,7 @@ bool const_hex_decode_piece(struct const_hex_decoder *decoder, const char *text,
 /*
  * Whether the pieces that a decoder was given are a whole text. Then they spell the bytes that were
  * given, and refusal is unchanged. If not, refusal has one of these:
- *  - CONST_HEX_INVALID_CHARACTER, if a piece was refused for it, with the same place;
+ *  - CONST_HEX_INVALID_CHARACTER, if a piece was refused for it, with the same position;
  *  - CONST_HEX_ODD_LENGTH, if a digit is left over. A whole text in one piece is refused for its odd
  *    length first.
  */
@@ -230,7 +232,8 @@ CONST_HEX_ANSWER
 bool const_hex_check(const char *text, size_t text_length, struct const_hex_refusal *refusal);
 
 /*
- * Whether every byte of text is a digit. No prefix is allowed, and the length does not matter.
+ * Whether every byte of text is a digit. No prefix is allowed, and the length does not matter: a single
+ * digit and an empty text are accepted.
  */
 CONST_HEX_ANSWER
 bool const_hex_check_raw(const char *text, size_t text_length);
