@@ -32,6 +32,7 @@ macro_rules! each_lends {
 }
 
 pub(crate) fn write(line: &mut Line<'_>) -> Result<(), AllocError> {
+    write_into(line, line.answer.len())?;
     let (alloc, lower) = (line.alloc, line.answer);
     let upper = lower.to_ascii_uppercase(alloc)?;
     let full = ["0x", lower].concat(alloc)?;
