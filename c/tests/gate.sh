@@ -51,6 +51,14 @@ adds_part() {
         [ "$(tail -n 1 "$room/said")" = "$wanted" ]
 }
 
+# Whether the gate fails if an edit no longer compiles, which rt ci passes.
+fails_on_bad_edits() {
+    stand_in_for_all && stands_in "$room/gate/bin/rt" 'echo "rt: note: bad must-fail edits, as told above: 1"
+        echo "1 passed, 0 failed"' || return 1
+    ! runs_gate && grep -q '^test: FAILED: a must-fail edit ' "$room/said" &&
+        [ "$(tail -n 1 "$room/said")" = "6 passed, 1 failed" ]
+}
+
 # Whether the gate says how many edits were tried.
 tells_progress() {
     stand_in_for_all && stands_in "$room/gate/bin/rt" '[ "$1" = ci ] || exit
@@ -101,6 +109,7 @@ test_gate() {
     for row in "${gate_rows[@]}"; do
         does "the gate over $row" adds_part "$row"
     done
+    does "./test fails if an edit no longer compiles" fails_on_bad_edits
     does "./test tells how far it is" tells_progress
     does "./test without its tools" needs_tools
     for row in "${edit_rows[@]}"; do
