@@ -4,7 +4,7 @@ ghost use Rattle.std.specs.Prelude.{◌≡◌, Some, IfOk};
 ghost use Rattle.const_hex_arch.specs.Texts.{full_text};
 ghost use Rattle.const_hex.specs.Reserved.{ReservedStep, spare_room};
 
-use const_hex_arch::{Kernel, Output, encode_full, text_length};
+use const_hex_arch::{Kernel, Output, encode_full};
 use std::alloc::{AllocError, Global};
 
 /// Puts each piece behind what a vector holds, into its spare room.
@@ -46,7 +46,8 @@ impl Output for ReservedOutput {
     ghost shrinks = { λ s piece t h. Prim.grind (arith) };
 }
 
-/// The bytes of the text, behind `0x` if `prefix` is true. Allocates once, for exactly the text.
+/// The bytes of the text, behind `0x` if `prefix` is true. Allocates once, for exactly the text; for no
+/// text, not at all.
 #[inline(always)]
 #[tactic(auto, using(const_hex_arch::proofs::lemmas::Texts::full_text_size))]
 pub(crate) fn reserved_bytes<K: Kernel>(
@@ -57,8 +58,13 @@ pub(crate) fn reserved_bytes<K: Kernel>(
 ) -> Result<Vec<u8>, AllocError>
     ensures { IfOk result (λ v. v.items ≡ full_text prefix upper input.now) }
 {
+    let length = (2 * input.len()).saturating_add(if prefix { 2 } else { 0 });
+    // Apart, so that below there is a block for certain. A call then takes some ten instructions less.
+    if length == 0 {
+        return Ok(Vec::new(alloc));
+    }
     let mut output = ReservedOutput {
-        bytes: Vec::with_capacity(alloc, text_length(prefix, input.len()))?,
+        bytes: Vec::with_capacity(alloc, length)?,
     };
     encode_full::<K, ReservedOutput>(input, prefix, upper, &mut output);
     let ReservedOutput { bytes } = output;

@@ -69,7 +69,7 @@ pub fn decode_with<K: Kernel>(alloc: Global, input: &[u8]) -> Result<Vec<u8>, Fr
     decode_owned::<K>(alloc, input)
 }
 
-/// The bytes that a text spells. Allocates once, for exactly these bytes.
+/// The bytes that a text spells. Allocates once, for exactly these bytes; for none, not at all.
 #[inline(always)]
 fn decode_owned<K: Kernel>(alloc: Global, input: &[u8]) -> Result<Vec<u8>, FromHexError>
     ensures ok { IfOk result (λ v. Reads input.now (Ok v.items)) }
@@ -77,6 +77,9 @@ fn decode_owned<K: Kernel>(alloc: Global, input: &[u8]) -> Result<Vec<u8>, FromH
     ensures odd { (result ≡ Err OddLength) ↔ IsOdd (length input.now) }
 {
     let body = even_body(input)?;
+    if body.is_empty() {
+        return Ok(Vec::new(alloc));
+    }
     let mut bytes = vec![in alloc; 0u8; body.len() / 2]?;
     if !decode_body::<K>(body, &mut bytes) {
         return Err(bad_character(input));

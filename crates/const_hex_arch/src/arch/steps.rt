@@ -29,8 +29,8 @@ pub(crate) fn encode<const H: usize, const N: usize, V: Vectors<N>, W: Vectors<1
     while rest.len() >= 2 * N {
         let (first, behind) = rest.split_at(N);
         let (second, behind) = behind.split_at(N);
-        // Any bit that is known only at run time.
-        let twin = input.len() % 2 == 1;
+        // Any bit that is known only at run time. Bit 6 is the twin's offset, since two rows have 64 bytes.
+        let twin = input.len() / 64 % 2 == 1;
         encode_step::<N, V, O>(first, upper, twin, output);
         encode_step::<N, V, O>(second, upper, twin, output);
         rest = behind;
@@ -172,7 +172,7 @@ pub(crate) fn decode_checked<const N: usize, V: Vectors<N>, W: Vectors<16>>(
     let mut at = 0;
     while output.len() - at >= 2 * N {
         let end = at + 2 * N;
-        let twin = output.len() % 2 == 1;
+        let twin = output.len() / 64 % 2 == 1;
         if !decode_two_steps::<N, V>(&input[2 * at..2 * end], &mut output[at..end], twin) {
             break;
         }
@@ -220,7 +220,7 @@ pub(crate) fn decode_unchecked<const N: usize, V: Vectors<N>, W: Vectors<16>>(
     let mut at = 0;
     while output.len() - at >= N {
         let end = at + N;
-        let twin = output.len() % 2 == 1;
+        let twin = output.len() / 64 % 2 == 1;
         decode_digits_step::<N, V>(&input[2 * at..2 * end], &mut output[at..end], twin);
         at = end;
     }
