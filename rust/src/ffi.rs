@@ -78,7 +78,7 @@ extern "C" {
 impl Refusal {
     /// Returns the error that a call has filled in.
     #[cold]
-    fn error(self) -> FromHexError {
+    fn error(&self) -> FromHexError {
         match self.kind {
             ODD_LENGTH => FromHexError::OddLength,
             INVALID_LENGTH => FromHexError::InvalidStringLength,
@@ -93,7 +93,7 @@ impl Refusal {
 
     /// Returns the error if the text was refused.
     #[inline]
-    fn unless(self, is_accepted: bool) -> Result<(), FromHexError> {
+    fn unless(&self, is_accepted: bool) -> Result<(), FromHexError> {
         if is_accepted {
             Ok(())
         } else {
@@ -176,6 +176,7 @@ pub fn decode(text: &[u8], bytes: &mut [u8]) -> Result<(), FromHexError> {
 
 /// Returns the bytes that `text` spells.
 #[cfg(feature = "alloc")]
+#[inline]
 pub fn decoded(text: &[u8]) -> Result<alloc::vec::Vec<u8>, FromHexError> {
     let mut bytes = alloc::vec::Vec::with_capacity(text.len() / 2);
     let (mut count, mut refusal) = (0, Refusal::default());

@@ -210,7 +210,7 @@ pub fn encode_full_to_slice_with<K: Kernel>(
     ensures unchanged { OnErr result (output.new ≡ output.old) }
 {
     let digits = output.len().checked_sub(if prefix { 2 } else { 0 });
-    if !digits.is_some_and(|digits| two_per_byte(input.len(), digits)) {
+    if digits != Some(2 * input.len()) {
         return Err(FromHexError::InvalidStringLength);
     }
     fill_text::<K>(input, prefix, upper, output);
