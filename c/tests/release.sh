@@ -154,6 +154,15 @@ ends_with_build() {
     [ $? -eq 1 ] && [ -z "$(ls -A "$room/released/made")" ]
 }
 
+# Whether both packages for Rust name the repository that c/release was given.
+names_repository() {
+    local copy=$room/released url=https://example.org/hex
+    REPOSITORY=$url "$copy/c/release" "$copy/named" "$copy/libraries" > "$room/said" && mkdir "$room/named" &&
+        tar xzf "$copy/named/const_hex-1.1.0-linux-x86_64.tar.gz" --strip-components=1 -C "$room/named" &&
+        [ "$(grep -c "^repository = \"$url\"$" "$room"/named/rust/{,const-hex/}Cargo.toml | grep -c ':1$')" -eq 2 ] &&
+        ! REPOSITORY='a"b' "$copy/c/release" "$copy/named" "$copy/libraries" 2> "$room/complaint"
+}
+
 # What is broken in the copy. Then nothing is made.
 broken_rows=(
     "rm NOTICE"
@@ -188,6 +197,7 @@ test_release() {
     does "c/release in another folder" releases_again
     does "c/release builds all" builds_all
     does "c/release ends if c/build does" ends_with_build
+    does "c/release names the repository" names_repository
     for row in "${broken_rows[@]}"; do
         does "c/release makes nothing: $row" makes_no_release "$row"
     done
