@@ -111,7 +111,7 @@ pub fn encode_with<K: Kernel, const UPPER: bool>(
 fn two_per_byte(bytes: usize, digits: usize) -> bool
     ensures { IsTrue result ↔ (digits ≡ 2 * bytes) }
 {
-    digits % 2 == 0 && digits / 2 == bytes
+    bytes <= digits && digits - bytes == bytes
 }
 
 /// Fills an output of the text's length with the text, and returns it.
@@ -210,7 +210,7 @@ pub fn encode_full_to_slice_with<K: Kernel>(
     ensures unchanged { OnErr result (output.new ≡ output.old) }
 {
     let digits = output.len().checked_sub(if prefix { 2 } else { 0 });
-    if digits != Some(2 * input.len()) {
+    if !digits.is_some_and(|digits| two_per_byte(input.len(), digits)) {
         return Err(FromHexError::InvalidStringLength);
     }
     fill_text::<K>(input, prefix, upper, output);
