@@ -2,9 +2,9 @@
 
 ghost use Rattle.std.specs.Prelude.{IsTrue};
 
-use crate::tests::texts::bad;
 use const_hex::FromHexError::{self, InvalidStringLength, NoMemory, OddLength};
 use const_hex::{HexFault, JsonError, SinkError};
+use hex_testing::texts::bad;
 use hex_testing::{Testing, same};
 use std::alloc::AllocError;
 

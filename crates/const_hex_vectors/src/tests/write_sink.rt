@@ -1,7 +1,7 @@
 //! `WriteSink`, over writers that fail, accept few bytes per call, or come back.
 
-use crate::tests::texts::{bytes, printed};
 use const_hex::{BufferedHex, Plain, Sink, WriteSink};
+use hex_testing::texts::{bytes, printed};
 use hex_testing::{Fault, Target, Testing, Text, same, same_bytes};
 use std::alloc::AllocError;
 use std::io::{self, ErrorKind};
