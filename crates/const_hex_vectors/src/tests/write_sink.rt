@@ -15,8 +15,8 @@ fn writers_that_fail_at_each_call(rt: HostRuntime) -> Result<(), AllocError> {
     let bytes = bytes(rt.alloc(), 3000)?;
     let text = printed(rt.alloc(), &bytes, true, false)?;
     let case = (bytes.as_slice(), text.as_bytes());
-    for (before, taken) in TAKEN.into_iter().enumerate() {
-        at_call(&rt, (before.saturating_add(1), taken), case);
+    for before in 0..TAKEN.len() {
+        at_call(&rt, (before + 1, TAKEN[before]), case);
     }
     Ok(())
 }
