@@ -18,7 +18,6 @@ mod runs;
 mod sinks;
 mod streaming;
 mod tables;
-mod texts;
 mod write_sink;
 
 use hex_testing::{Rest, Text, rests, shown};

@@ -1,6 +1,6 @@
 //! What the crates of tests share: a row that prints what was called, what was wanted and what came;
-//! readers, writers and sinks that count their calls and fail at one of them; and the list of the
-//! kernels.
+//! texts, and what std makes of them; readers, writers and sinks that count their calls and fail at one
+//! of them; and the list of the kernels.
 #![tactic(auto)]
 
 mod counting;
@@ -8,6 +8,7 @@ mod devices;
 mod formatted;
 mod kernels;
 mod rows;
+pub mod texts;
 
 pub use crate::counting::Counting;
 pub use crate::devices::{Endless, Fault, Source, Target};

@@ -3,8 +3,8 @@
 ghost use Rattle.std.specs.Prelude.{◌≡◌};
 ghost use Rattle.const_hex.specs.Texts.{text_length};
 
-use crate::tests::texts::printed;
 use const_hex::{Buffer, const_decode_to_array, const_encode, decode_to_array};
+use hex_testing::texts::printed;
 use hex_testing::{Testing, same, same_bytes, same_read};
 use std::alloc::AllocError;
 

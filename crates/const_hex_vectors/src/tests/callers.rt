@@ -1,7 +1,8 @@
 //! What the small callers of `const_hex_uses` answer.
 
 use crate::tests::buffers::lends;
-use const_hex::{FromHexError, JsonError, PieceSink, SliceOutput, bytes_of};
+use crate::tests::sinks::has_pieces;
+use const_hex::{FromHex, FromHexError, JsonError, PieceSink, SinkError, SliceOutput, bytes_of};
 use const_hex_uses::accounts::is_same_account;
 use const_hex_uses::addresses::{address_text, digest_text, empty_text, prefixed_digest_text};
 use const_hex_uses::constants::{transfer, wrapped_ether};
@@ -19,6 +20,7 @@ use serde_json::json;
 use std::alloc::AllocError;
 use std::boxed::BoxedSlice;
 use std::collections::HashMap;
+use std::fmt::Debug;
 use std::io::ErrorKind;
 use std::rc::Rc;
 use std::test::Fail;
@@ -55,17 +57,31 @@ const LOWER: &[u8] = b"ff80";
 
 const UPPER: &[u8] = b"0XFF80";
 
-/// The two texts are read as the same value of each type.
-macro_rules! agree {
-    ($rt:ident: $($type:ty),+) => {$(
-        let (one, two) = read_both::<$type>($rt.alloc(), LOWER, UPPER)?;
-        same!(&$rt, "read_both", stringify!($type); one.as_slice(), two.as_slice());
-    )+};
+/// The two texts are read as the same value of a type.
+fn agree<T>(rt: &impl Testing, name: &str)
+where
+    T: FromHex + Debug + PartialEq + Drop,
+    T::Error: Debug + Drop,
+{
+    match read_both::<T>(rt.alloc(), LOWER, UPPER) {
+        Ok((one, two)) => same!(rt, "read_both", name; one, two),
+        Err(error) => panic!(rt; "{name}: {error:?}"),
+    }
 }
 
 #[test]
-fn two_texts(rt: HostRuntime) -> Result<(), FromHexError> {
-    agree!(rt: Vec<u8>, Vec<i8>, BoxedSlice<u8>, BoxedSlice<i8>, [u8; 2], [i8; 2], Box<[u8; 2]>);
+fn two_texts(rt: HostRuntime) {
+    agree::<Vec<u8>>(&rt, "Vec<u8>");
+    agree::<Vec<i8>>(&rt, "Vec<i8>");
+    agree::<BoxedSlice<u8>>(&rt, "BoxedSlice<u8>");
+    agree::<BoxedSlice<i8>>(&rt, "BoxedSlice<i8>");
+    agree::<[u8; 2]>(&rt, "[u8; 2]");
+    agree::<[i8; 2]>(&rt, "[i8; 2]");
+    agree::<Box<[u8; 2]>>(&rt, "Box<[u8; 2]>");
+}
+
+#[test]
+fn a_text_of_two_types(rt: HostRuntime) -> Result<(), FromHexError> {
     let (one, two) = read_both::<Rc<Vec<u8>>>(rt.alloc(), LOWER, b"ff81")?;
     assert!(rt; *one != *two);
     let (list, array) = read_twice::<2>(rt.alloc(), UPPER)?;
@@ -114,24 +130,23 @@ fn store(rt: HostRuntime) {
 }
 
 #[test]
-fn files_and_sinks(rt: HostRuntime) -> Result<(), Fail> {
+fn files(rt: HostRuntime) {
     let mut file = Vec::new(rt.alloc());
-    write_line(b"", &mut file)?;
-    write_text(b"kiwi", &mut file)?;
+    assert!(rt; write_line(b"", &mut file).is_ok());
+    assert!(rt; write_text(b"kiwi", &mut file).is_ok());
     same_bytes!(&rt, "write_line, write_text", "kiwi"; file, "0x\n0x6b697769");
     let mut text = [0; 8];
     write_pieces(b"kiwi", &mut SliceOutput::new(&mut text));
     same_bytes!(&rt, "write_pieces", "kiwi"; text, "6b697769");
+}
+
+#[test]
+fn sinks(rt: HostRuntime) -> Result<(), SinkError> {
     let mut sink = PieceSink::new(rt.alloc(), 0);
     send(b"kiwi", &mut sink)?;
     send_json(b"kiwi", &mut sink)?;
-    let texts = [
-        "0x6b697769".to_string(rt.alloc())?,
-        "0x6b697769".to_string(rt.alloc())?,
-    ];
-    same!(&rt, "send", "kiwi"; sink.pieces(), texts.as_slice());
-    let alone = first_alone(rt.alloc(), "0x", "6b");
-    same!(&rt; alone.pieces(), ["0x".to_string(rt.alloc())?].as_slice());
+    has_pieces(&rt, 2, &sink, &["0x6b697769", "0x6b697769"]);
+    has_pieces(&rt, 1, &first_alone(rt.alloc(), "0x", "6b"), &["0x"]);
     Ok(())
 }
 

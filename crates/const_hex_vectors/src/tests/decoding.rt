@@ -1,12 +1,12 @@
 //! Calls that check or read a text, on worked examples. `const_hex_table` asks many more.
 
-use crate::tests::texts::{bad, digits};
 use const_hex::serde::{JsonError, no_prefix};
 use const_hex::{
     FromHex, FromHexError, Plain, check, check_raw, const_check, const_check_raw,
     const_decode_to_array, decode, decode_to_array, decode_to_front, decode_to_slice,
     decode_to_slice_with, deserialize, serialize,
 };
+use hex_testing::texts::{bad, digits};
 use hex_testing::{Testing, Text, same, same_bytes, same_read};
 use serde_json::Value;
 use std::alloc::{AllocError, Global};

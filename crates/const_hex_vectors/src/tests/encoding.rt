@@ -1,12 +1,12 @@
 //! Every call that writes text, on worked examples.
 
-use crate::tests::texts::{bytes, printed};
 use const_hex::serde::no_prefix;
 use const_hex::{
     BytesToHexChars, FromHexError, Plain, ToHex, ToHexExt, decode, encode, encode_full_to_slice,
     encode_prefixed, encode_to_slice, encode_to_slice_upper, encode_to_str, encode_to_str_upper,
     encode_upper, encode_upper_prefixed, fill_text, serialize, serialize_upper, text_length,
 };
+use hex_testing::texts::{bytes, printed};
 use hex_testing::{Testing, Text, same, same_bytes, same_read};
 use serde_json::Value;
 use std::alloc::{AllocError, Global};

@@ -2,9 +2,9 @@
 
 ghost use Rattle.std.specs.Prelude.{IsTrue};
 
-use crate::tests::texts::bad;
 use const_hex::FromHexError::{self, InvalidStringLength, NoMemory, OddLength};
 use const_hex::{HexFault, JsonError, SinkError};
+use hex_testing::texts::bad;
 use hex_testing::{Testing, same};
 use std::alloc::AllocError;
 
@@ -77,13 +77,15 @@ fn compared(rt: HostRuntime) {
         InvalidStringLength,
         NoMemory,
     ];
-    for (i, one) in errors.into_iter().enumerate() {
+    for i in 0..errors.len() {
+        let one = errors[i];
         let answers = [
             JsonError::Hex(one) == NOT_TEXT,
             NOT_TEXT == JsonError::Hex(one),
         ];
         same!(&rt, "== NotText", one; answers, [false; 2]);
-        for (j, other) in errors.into_iter().enumerate() {
+        for j in 0..errors.len() {
+            let other = errors[j];
             let are_equal = [one == other, JsonError::Hex(one) == JsonError::Hex(other)];
             same!(&rt, "==", (one, other); are_equal, [i == j; 2]);
         }

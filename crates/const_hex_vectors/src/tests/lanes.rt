@@ -18,7 +18,8 @@ const VALUES: [u8; 17] = [
 /// Checks each worked value, with the same byte in each lane.
 macro_rules! worked {
     ($rt:ident, $vector:ident, $lanes:ident) => {
-        for (byte, value) in BYTES.into_iter().zip(VALUES) {
+        for place in 0..BYTES.len() {
+            let (byte, value) = (BYTES[place], VALUES[place]);
             let lanes = $vector::splat(byte);
             let values = $vector::splat(value).to_array();
             same!(&$rt, "nibbles", byte; $lanes::nibbles(lanes).to_array(), values);

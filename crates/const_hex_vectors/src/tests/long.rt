@@ -3,8 +3,8 @@
 use crate::tests::decoding::each_call_answers;
 use crate::tests::encoding::Written;
 use crate::tests::kernels::{KernelTest, answers, refuses};
-use crate::tests::texts::{bad, behind, bytes, printed, with_g};
 use const_hex::{Buffer, Kernel, ToHex, ToHexExt, const_encode, decode_to_slice, encode_with};
+use hex_testing::texts::{bad, behind, bytes, printed, with_g};
 use hex_testing::{KernelCase, Testing, Text, same, same_bytes, same_read};
 use std::alloc::{AllocError, Global};
 

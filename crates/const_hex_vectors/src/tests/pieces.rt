@@ -2,8 +2,8 @@
 
 use crate::tests::decoding::Read;
 use crate::tests::kernels::KernelTest;
-use crate::tests::texts::{PREFIXES, bad, behind, digits, read};
 use const_hex::{Decoder, FromHexError, Kernel};
+use hex_testing::texts::{PREFIXES, bad, behind, digits, read};
 use hex_testing::{KernelCase, Testing, Text, same, same_bytes, same_read};
 use std::alloc::{AllocError, Global};
 

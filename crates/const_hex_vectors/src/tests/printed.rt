@@ -1,7 +1,7 @@
 //! What `display` prints.
 
-use crate::tests::texts::{bytes, printed};
 use const_hex::{BufferedHex, FormatterSink, Lanes16, Sink, display};
+use hex_testing::texts::{bytes, printed};
 use hex_testing::{Counting, InHex, Testing, same, same_bytes};
 use std::alloc::{AllocError, Global};
 use std::fmt::{self, Write};

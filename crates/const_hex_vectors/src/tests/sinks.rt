@@ -3,10 +3,10 @@
 ghost use Rattle.std.specs.Prelude.{◌<◌};
 
 use crate::tests::kernels::KernelTest;
-use crate::tests::texts::{bytes, printed};
 use const_hex::{
     BufferedHex, BufferedOutput, Kernel, Output, PieceSink, Sink, SinkOutput, SliceOutput,
 };
+use hex_testing::texts::{bytes, printed};
 use hex_testing::{KernelCase, Testing, same, same_bytes};
 use std::alloc::AllocError;
 

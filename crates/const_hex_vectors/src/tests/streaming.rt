@@ -4,9 +4,9 @@ ghost use Rattle.std.specs.Prelude.{◌≡◌, false, None, refl};
 
 use crate::tests::kernels::KernelTest;
 use crate::tests::sinks::has_pieces;
-use crate::tests::texts::{bytes, cut, printed};
 use const_hex::serde::serialize_inner;
 use const_hex::{BufferedHex, Kernel, Output, PieceSink, Plain, Sink, SinkError, SinkOutput};
+use hex_testing::texts::{bytes, cut, printed};
 use hex_testing::{KernelCase, Testing, same};
 use std::alloc::{AllocError, Global};
 

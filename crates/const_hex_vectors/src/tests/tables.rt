@@ -22,8 +22,8 @@ fn values_of_digits(rt: HostRuntime) {
     let mut digits = 0u32;
     for b in 0..=255u8 {
         let want = char::from(b).to_digit(16).unwrap_or(255);
-        let values = [HEX_DECODE_LUT[b as usize], value_at(b)];
-        same!(&rt, "the table, value_at", b; values.map(u32::from), [want; 2]);
+        same!(&rt, "the table", b; u32::from(HEX_DECODE_LUT[b as usize]), want);
+        same!(&rt, "value_at", b; u32::from(value_at(b)), want);
         if want < 16 {
             digits = digits.wrapping_add(1);
         }

@@ -1,7 +1,7 @@
 //! `WriteSink`, over writers that fail, accept few bytes per call, or come back.
 
-use crate::tests::texts::{bytes, printed};
 use const_hex::{BufferedHex, Plain, Sink, WriteSink};
+use hex_testing::texts::{bytes, printed};
 use hex_testing::{Fault, Target, Testing, Text, same, same_bytes};
 use std::alloc::AllocError;
 use std::io::{self, ErrorKind};
@@ -15,8 +15,8 @@ fn writers_that_fail_at_each_call(rt: HostRuntime) -> Result<(), AllocError> {
     let bytes = bytes(rt.alloc(), 3000)?;
     let text = printed(rt.alloc(), &bytes, true, false)?;
     let case = (bytes.as_slice(), text.as_bytes());
-    for (before, taken) in TAKEN.into_iter().enumerate() {
-        at_call(&rt, (before.saturating_add(1), taken), case);
+    for before in 0..TAKEN.len() {
+        at_call(&rt, (before + 1, TAKEN[before]), case);
     }
     Ok(())
 }

@@ -1,19 +1,28 @@
 //! What is tried with each kernel on short texts.
 
 use crate::tests::kernels::{KernelTest, answers, refuses};
-use crate::tests::texts::{PREFIXES, behind, bytes, cut, digits, printed, read};
 use const_hex::{
     FromHexError, Kernel, PieceSink, SinkOutput, SliceOutput, check_raw, decode_to_front_with,
     encode_full_to_slice_with, encode_with,
 };
+use hex_testing::texts::{PREFIXES, behind, bytes, cut, digits, printed, read};
 use hex_testing::{KernelCase, Testing, Text, same, same_bytes};
 use std::alloc::AllocError;
 
 // Counts of the bytes 0, 1, 2 and on, near the steps of each kernel, and how their text ends.
-const COUNTS: [usize; 12] = [15, 16, 17, 31, 32, 33, 47, 48, 49, 63, 64, 65];
-
-const ENDS: [&str; 12] = [
-    "0e", "0f", "10", "1e", "1f", "20", "2e", "2f", "30", "3e", "3f", "40",
+const ENDS: [(usize, &str); 12] = [
+    (15, "0e"),
+    (16, "0f"),
+    (17, "10"),
+    (31, "1e"),
+    (32, "1f"),
+    (33, "20"),
+    (47, "2e"),
+    (48, "2f"),
+    (49, "30"),
+    (63, "3e"),
+    (64, "3f"),
+    (65, "40"),
 ];
 
 /// Texts of each length to 130, and up to 200 bytes there and back.
@@ -30,7 +39,7 @@ impl KernelTest for Lengths {
         for count in 0..=200usize {
             there_and_back::<K>(rt, kernel, &bytes(rt.alloc(), count)?)?;
         }
-        for (count, end) in COUNTS.into_iter().zip(ENDS) {
+        for (count, end) in ENDS {
             ends_in::<K>(rt, kernel, count, end)?;
         }
         own_calls::<K>(rt, kernel)

@@ -7,7 +7,7 @@ use std::fmt::Write;
 const DIGITS: &[u8; 22] = b"0123456789abcdefABCDEF";
 
 /// A text of that length, of digits in either case.
-pub(crate) fn digits(alloc: Global, length: usize) -> Result<Vec<u8>, AllocError> {
+pub fn digits(alloc: Global, length: usize) -> Result<Vec<u8>, AllocError> {
     let mut text = Vec::new(alloc);
     for i in 0..length {
         text.push(DIGITS[i % 22 * 7 % 22])?;
@@ -16,7 +16,7 @@ pub(crate) fn digits(alloc: Global, length: usize) -> Result<Vec<u8>, AllocError
 }
 
 /// That many bytes, of all values in turn.
-pub(crate) fn bytes(alloc: Global, count: usize) -> Result<Vec<u8>, AllocError> {
+pub fn bytes(alloc: Global, count: usize) -> Result<Vec<u8>, AllocError> {
     let mut bytes = Vec::new(alloc);
     for i in 0..count {
         bytes.push(((i % 256 * 37 + 11) % 256) as u8)?;
@@ -24,15 +24,15 @@ pub(crate) fn bytes(alloc: Global, count: usize) -> Result<Vec<u8>, AllocError> 
     Ok(bytes)
 }
 
-pub(crate) const PREFIXES: [&str; 3] = ["", "0x", "0X"];
+pub const PREFIXES: [&str; 3] = ["", "0x", "0X"];
 
 /// A body behind a prefix.
-pub(crate) fn behind(alloc: Global, prefix: &str, body: &[u8]) -> Result<Vec<u8>, AllocError> {
+pub fn behind(alloc: Global, prefix: &str, body: &[u8]) -> Result<Vec<u8>, AllocError> {
     [prefix.as_bytes(), body].concat(alloc)
 }
 
 /// A body with `g` at a place.
-pub(crate) fn with_g(alloc: Global, body: &[u8], place: usize) -> Result<Vec<u8>, AllocError> {
+pub fn with_g(alloc: Global, body: &[u8], place: usize) -> Result<Vec<u8>, AllocError> {
     let mut body = body.to_vec(alloc)?;
     if let Some(byte) = body.get_mut(place) {
         *byte = b'g';
@@ -41,13 +41,13 @@ pub(crate) fn with_g(alloc: Global, body: &[u8], place: usize) -> Result<Vec<u8>
 }
 
 /// The error that names a byte and its place in the text.
-pub(crate) fn bad(byte: u8, index: usize) -> FromHexError {
+pub fn bad(byte: u8, index: usize) -> FromHexError {
     let c = char::from(byte);
     FromHexError::InvalidHexCharacter { c, index }
 }
 
 /// `0x` if a prefix is wanted, and what std prints for each byte with two digits.
-pub(crate) fn printed(
+pub fn printed(
     alloc: Global,
     bytes: &[u8],
     prefix: bool,
@@ -64,7 +64,7 @@ pub(crate) fn printed(
 }
 
 /// The bytes that std reads from digits.
-pub(crate) fn read(alloc: Global, digits: &[u8]) -> Result<Vec<u8>, AllocError> {
+pub fn read(alloc: Global, digits: &[u8]) -> Result<Vec<u8>, AllocError> {
     let mut bytes = Vec::new(alloc);
     for [high, low] in digits.as_chunks::<2>().0 {
         bytes.push(value(*high) << 4 | value(*low))?;
@@ -77,7 +77,7 @@ fn value(digit: u8) -> u8 {
 }
 
 /// Cuts a text into pieces of these sizes. A size that is longer than the rest gives an empty piece.
-pub(crate) fn cut(alloc: Global, text: &str, sizes: &[usize]) -> Result<Vec<String>, AllocError> {
+pub fn cut(alloc: Global, text: &str, sizes: &[usize]) -> Result<Vec<String>, AllocError> {
     let mut pieces = Vec::new(alloc);
     let mut start = 0usize;
     for size in sizes {
