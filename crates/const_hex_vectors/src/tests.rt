@@ -1,24 +1,14 @@
 //! The tests, and what a row that fails prints. [`hex_testing::same`] and
 //! [`hex_testing::same_bytes`] call `check` and `check_bytes`.
 
-mod buffers;
-mod callers;
 mod decoding;
 mod encoding;
-mod errors;
-mod exhausted;
-mod hashes;
-mod hosts;
 mod kernels;
 mod lanes;
 mod long;
 mod pieces;
-mod printed;
-mod runs;
 mod sinks;
 mod streaming;
-mod tables;
-mod write_sink;
 
 use hex_testing::{Rest, Text, rests, shown};
 use std::alloc::AllocError;
@@ -37,13 +27,11 @@ where
     );
 }
 
-fn check_bytes<R, B, W>(rt: &impl Abort, call: &str, row: R, bytes: B, want: W)
+fn check_bytes<R>(rt: &impl Abort, call: &str, row: R, bytes: &[u8], want: &[u8])
 where
     R: Debug + Drop,
-    B: AsSlice<u8> + Drop,
-    W: AsSlice<u8> + Drop,
 {
-    let [bytes, want] = rests(bytes.as_slice(), want.as_slice());
+    let [bytes, want] = rests(bytes, want);
     check(rt, call, row, bytes, want);
 }
 
@@ -61,7 +49,7 @@ where
     E: Debug + PartialEq + Drop,
 {
     match (&read, want) {
-        (Ok(bytes), Ok(want)) => check_bytes(rt, call, row, bytes, want),
+        (Ok(bytes), Ok(want)) => check_bytes(rt, call, row, bytes.as_slice(), want),
         (read, want) => check(rt, call, row, shown(read), shown(&want)),
     }
 }
@@ -81,7 +69,7 @@ fn an_expression_that_fails(rt: HostRuntime) {
 #[test]
 #[should_panic(expected = "encode at 5: Rest { from_byte: 1, text: \"12345678!\" }, but wanted Rest { from_byte: 1, text: \"12345678a\" }")]
 fn bytes_that_differ(rt: HostRuntime) {
-    check_bytes(&rt, "encode", 5, "012345678!", "012345678a");
+    hex_testing::same_bytes!(&rt, "encode", 5; "012345678!", "012345678a");
 }
 
 #[test]

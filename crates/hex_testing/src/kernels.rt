@@ -37,33 +37,32 @@ impl KernelCase {
     }
 }
 
-/// Calls a function or a method with each kernel, by itself and behind `CheckFirst`, and gives the
-/// array of their results. The last argument is the kernel's case. The last kernel is `Backward` of
-/// `const_hex_uses`.
+/// Calls a function or a method with each kernel, by itself and behind `CheckFirst`. The last argument
+/// is the kernel's case. The last kernel is `Backward` of `const_hex_uses`.
 #[macro_export]
 macro_rules! by_each_kernel {
     ($($call:ident).+($($argument:expr),*)) => {
-        [
+        {
             $($call).+::<const_hex::Plain>($($argument,)*
-                $crate::KernelCase { name: "Plain", number: 0, reads: &[2], writes: 1 }),
+                $crate::KernelCase { name: "Plain", number: 0, reads: &[2], writes: 1 });
             $($call).+::<const_hex::CheckFirst<const_hex::Plain>>($($argument,)*
-                $crate::KernelCase { name: "CheckFirst<Plain>", number: 0, reads: &[], writes: 1 }),
+                $crate::KernelCase { name: "CheckFirst<Plain>", number: 0, reads: &[], writes: 1 });
             $($call).+::<const_hex::Lanes16>($($argument,)*
-                $crate::KernelCase { name: "Lanes16", number: 1, reads: &[32, 2], writes: 32 }),
+                $crate::KernelCase { name: "Lanes16", number: 1, reads: &[32, 2], writes: 32 });
             $($call).+::<const_hex::CheckFirst<const_hex::Lanes16>>($($argument,)*
-                $crate::KernelCase { name: "CheckFirst<Lanes16>", number: 1, reads: &[], writes: 32 }),
+                $crate::KernelCase { name: "CheckFirst<Lanes16>", number: 1, reads: &[], writes: 32 });
             $($call).+::<const_hex::Arithmetic16>($($argument,)*
-                $crate::KernelCase { name: "Arithmetic16", number: 1, reads: &[32, 2], writes: 32 }),
+                $crate::KernelCase { name: "Arithmetic16", number: 1, reads: &[32, 2], writes: 32 });
             $($call).+::<const_hex::CheckFirst<const_hex::Arithmetic16>>($($argument,)*
-                $crate::KernelCase { name: "CheckFirst<Arithmetic16>", number: 1, reads: &[], writes: 32 }),
+                $crate::KernelCase { name: "CheckFirst<Arithmetic16>", number: 1, reads: &[], writes: 32 });
             $($call).+::<const_hex::Lanes32>($($argument,)*
-                $crate::KernelCase { name: "Lanes32", number: 2, reads: &[64, 32, 2], writes: 64 }),
+                $crate::KernelCase { name: "Lanes32", number: 2, reads: &[64, 32, 2], writes: 64 });
             $($call).+::<const_hex::CheckFirst<const_hex::Lanes32>>($($argument,)*
-                $crate::KernelCase { name: "CheckFirst<Lanes32>", number: 2, reads: &[], writes: 64 }),
+                $crate::KernelCase { name: "CheckFirst<Lanes32>", number: 2, reads: &[], writes: 64 });
             $($call).+::<const_hex_uses::own_kernel::Backward>($($argument,)*
-                $crate::KernelCase { name: "Backward", number: 3, reads: &[], writes: 2 }),
+                $crate::KernelCase { name: "Backward", number: 3, reads: &[], writes: 2 });
             $($call).+::<const_hex::CheckFirst<const_hex_uses::own_kernel::Backward>>($($argument,)*
-                $crate::KernelCase { name: "CheckFirst<Backward>", number: 3, reads: &[], writes: 2 }),
-        ]
+                $crate::KernelCase { name: "CheckFirst<Backward>", number: 3, reads: &[], writes: 2 });
+        }
     };
 }

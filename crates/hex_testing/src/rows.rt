@@ -75,7 +75,13 @@ macro_rules! same {
 #[macro_export]
 macro_rules! same_bytes {
     ($rt:expr, $call:expr, $row:expr; $bytes:expr, $want:expr) => {
-        crate::tests::check_bytes($rt, $call, $row, $bytes, $want)
+        crate::tests::check_bytes(
+            $rt,
+            $call,
+            $row,
+            std::convert::AsSlice::as_slice(&$bytes),
+            std::convert::AsSlice::as_slice(&$want),
+        )
     };
 }
 

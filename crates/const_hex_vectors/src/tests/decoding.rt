@@ -9,11 +9,10 @@ use const_hex::{
 use hex_testing::texts::{bad, digits};
 use hex_testing::{Testing, Text, same, same_bytes, same_read};
 use serde_json::Value;
-use std::alloc::{AllocError, Global};
+use std::alloc::Global;
 use std::boxed::BoxedSlice;
 use std::convert::AsSlice;
 use std::rc::Rc;
-use std::test::Fail;
 
 const ODD: FromHexError = FromHexError::OddLength;
 
@@ -33,31 +32,26 @@ pub(crate) fn checked(want: Read<'_>) -> Checked {
 }
 
 /// Calls that read any count of bytes answer this. If the text is not UTF-8, no JSON value has it.
-pub(crate) fn each_call_answers(
-    rt: &impl Testing,
-    text: &[u8],
-    want: Read<'_>,
-) -> Result<(), AllocError> {
+pub(crate) fn each_call_answers(rt: &impl Testing, text: &[u8], want: Read<'_>) {
     let (row, alloc) = (Text(text), rt.alloc());
     same!(rt, "check", row; check(text), checked(want));
     same!(rt, "const_check", row; const_check(text), checked(want));
     same_read!(rt, "decode", row; decode(alloc, text), want);
     same_read!(rt, "from_hex of Vec<u8>", row; <Vec<u8>>::from_hex(alloc, text), want);
     same_read!(rt, "from_hex of BoxedSlice<u8>", row; <BoxedSlice<u8>>::from_hex(alloc, text), want);
-    same_read!(rt, "from_hex of BoxedSlice<i8>", row; bits(alloc, text), want);
+    same_read!(rt, "from_hex of BoxedSlice<i8>", row; bits(rt, text), want);
     if let Ok(string) = str::from_utf8(text) {
-        let value = Value::String(string.to_string(alloc)?);
+        let value = Value::String(string.to_string(alloc).expect(rt, "memory"));
         same_read!(rt, "deserialize", row; of_json(alloc, &value), want);
     }
-    Ok(())
 }
 
 /// The bits of the signed numbers that a text spells.
-fn bits(alloc: Global, text: &[u8]) -> Result<Vec<u8>, FromHexError> {
-    let numbers = <BoxedSlice<i8>>::from_hex(alloc, text)?;
-    let mut bytes = Vec::new(alloc);
+fn bits(rt: &impl Testing, text: &[u8]) -> Result<Vec<u8>, FromHexError> {
+    let numbers = <BoxedSlice<i8>>::from_hex(rt.alloc(), text)?;
+    let mut bytes = Vec::new(rt.alloc());
     for number in numbers.as_slice() {
-        bytes.push(number.cast_unsigned())?;
+        bytes.push(number.cast_unsigned()).expect(rt, "memory");
     }
     Ok(bytes)
 }
@@ -72,7 +66,7 @@ fn of_json(alloc: Global, value: &Value) -> Result<Vec<u8>, FromHexError> {
 }
 
 #[test]
-fn accepted_and_refused_texts(rt: HostRuntime) -> Result<(), AllocError> {
+fn accepted_and_refused_texts(rt: HostRuntime) {
     let rows: [(&[u8], Read<'_>); 13] = [
         (b"", Ok(b"")),
         (b"0x", Ok(b"")),
@@ -89,9 +83,8 @@ fn accepted_and_refused_texts(rt: HostRuntime) -> Result<(), AllocError> {
         (b"zz", Err(bad(b'z', 0))),
     ];
     for (text, want) in rows {
-        each_call_answers(&rt, text, want)?;
+        each_call_answers(&rt, text, want);
     }
-    Ok(())
 }
 
 /// A slice of bytes 0xEE is filled, or refused with that error, and then holds `left`.
@@ -180,7 +173,7 @@ fn slices_by_the_plain_kernel(rt: HostRuntime) {
 
 // A text, how many bytes are decoded, and what the output then holds.
 #[test]
-fn fronts_of_outputs(rt: HostRuntime) -> Result<(), AllocError> {
+fn fronts_of_outputs(rt: HostRuntime) {
     let rows: [(&[u8], Result<usize, FromHexError>, &[u8]); 14] = [
         (b"", Ok(0), b""),
         (b"0x", Ok(0), &[0xEE; 3]),
@@ -202,50 +195,46 @@ fn fronts_of_outputs(rt: HostRuntime) -> Result<(), AllocError> {
         (&[0xFF, 0x30], Err(bad(0xFF, 0)), &[0xEE; 5]),
     ];
     for (text, want, left) in rows {
-        let mut output = vec![in rt.alloc(); 0xEEu8; left.len()]?;
+        let mut output = vec![in rt.alloc(); 0xEEu8; left.len()].expect(&rt, "memory");
         let answer = decode_to_front(text, &mut output);
         let row = (Text(text), left.len());
         same!(&rt, "decode_to_front", row; answer, want);
         same_bytes!(&rt, "what it leaves", row; output, left);
     }
-    Ok(())
 }
 
 #[test]
-fn raw_checks(rt: HostRuntime) -> Result<(), AllocError> {
+fn raw_checks(rt: HostRuntime) {
     for (text, want) in [(HELLO, true), (b"Hello world!", false)] {
         let checks = [check_raw(text), const_check_raw(text)];
         same!(&rt, "check_raw, const_check_raw", Text(text); checks, [want; 2]);
     }
     for length in 1..=130usize {
-        let text = digits(rt.alloc(), length)?;
+        let text = digits(rt.alloc(), length).expect(&rt, "memory");
         let answer = if length % 2 == 0 { Ok(()) } else { Err(ODD) };
         let checks = [check(&text), const_check(&text)];
         same!(&rt, "check, const_check", length; checks, [answer; 2]);
         let checks = [check_raw(&text), const_check_raw(&text)];
         same!(&rt, "check_raw, const_check_raw", length; checks, [true; 2]);
     }
-    Ok(())
 }
 
 #[test]
-fn json_values_that_are_no_text(rt: HostRuntime) -> Result<(), Fail> {
-    let list = Value::from_str(rt.alloc(), "[null, true, -1, [], {}]")?;
+fn json_values_that_are_no_text(rt: HostRuntime) {
+    let list = Value::from_str(rt.alloc(), "[null, true, -1, [], {}]").expect(&rt, "a list");
     for place in 0..5usize {
-        let value = list.get(place).ok_or("a value is missing")?;
+        let value = list.get(place).expect(&rt, "a value");
         let error = deserialize::<Vec<u8>>(rt.alloc(), value).err();
         same!(&rt, "deserialize", value; error, Some(JsonError::NotText));
     }
-    Ok(())
 }
 
 #[test]
-fn json_there_and_back(rt: HostRuntime) -> Result<(), AllocError> {
-    let text = serialize(rt.alloc(), b"Hello world!")?;
+fn json_there_and_back(rt: HostRuntime) {
+    let text = serialize(rt.alloc(), b"Hello world!").expect(&rt, "memory");
     same!(&rt; deserialize::<[u8; 12]>(rt.alloc(), &text), Ok(*b"Hello world!"));
-    let text = Value::String("0xFF".to_string(rt.alloc())?);
+    let text = Value::String("0xFF".to_string(rt.alloc()).expect(&rt, "memory"));
     same!(&rt; no_prefix::deserialize::<[u8; 1]>(rt.alloc(), &text), Ok([255]));
     let error = Err(JsonError::Hex(OTHER_LENGTH));
     same!(&rt; deserialize::<[u8; 2]>(rt.alloc(), &text), error);
-    Ok(())
 }

@@ -9,7 +9,7 @@ use const_hex::{
 use hex_testing::texts::{bytes, printed};
 use hex_testing::{Testing, Text, same, same_bytes, same_read};
 use serde_json::Value;
-use std::alloc::{AllocError, Global};
+use std::alloc::AllocError;
 
 /// Bytes, and their text in lowercase and in uppercase.
 type Row<'a> = (&'a [u8], &'a str, &'a str);
@@ -29,15 +29,16 @@ pub(crate) struct Written {
 }
 
 impl Written {
-    pub(crate) fn new(alloc: Global, (bytes, lower, upper): Row<'_>) -> Result<Self, AllocError> {
-        let texts = [
-            lower.to_string(alloc)?,
-            upper.to_string(alloc)?,
-            ["0x", lower].concat(alloc)?,
-            ["0x", upper].concat(alloc)?,
-        ];
-        let bytes = bytes.to_vec(alloc)?;
-        Ok(Written { bytes, texts })
+    /// The bytes and the texts of a row that many times.
+    pub(crate) fn new(rt: &impl Testing, (bytes, lower, upper): Row<'_>, times: usize) -> Self {
+        let lower = lower.repeat(rt.alloc(), times).expect(rt, "memory");
+        let upper = upper.repeat(rt.alloc(), times).expect(rt, "memory");
+        let prefixed_lower = ["0x", &lower].concat(rt.alloc()).expect(rt, "memory");
+        let prefixed_upper = ["0x", &upper].concat(rt.alloc()).expect(rt, "memory");
+        Written {
+            bytes: bytes.repeat(rt.alloc(), times).expect(rt, "memory"),
+            texts: [lower, upper, prefixed_lower, prefixed_upper],
+        }
     }
 
     /// Each call that makes a text of the bytes makes these.
@@ -96,27 +97,28 @@ const HELLO: Row<'_> = (
 );
 
 #[test]
-fn owned_texts(rt: HostRuntime) -> Result<(), AllocError> {
+fn owned_texts(rt: HostRuntime) {
     let numbers: Row<'_> = (&[1, 2, 3, 15, 16], "0102030f10", "0102030F10");
     for row in [(b"".as_slice(), "", ""), HELLO, numbers] {
-        Written::new(rt.alloc(), row)?.each_call_writes(&rt);
+        Written::new(&rt, row, 1).each_call_writes(&rt);
     }
-    let want = Written::new(rt.alloc(), HELLO)?;
+    let want = Written::new(&rt, HELLO, 1);
     want.traits_write(&rt, b"Hello world!");
-    want.traits_write(&rt, &"Hello world!".to_string(rt.alloc())?);
-    Ok(())
+    want.traits_write(
+        &rt,
+        &"Hello world!".to_string(rt.alloc()).expect(&rt, "memory"),
+    );
 }
 
 // The Rust crate's own tests try these counts of bytes.
 #[test]
-fn there_and_back(rt: HostRuntime) -> Result<(), AllocError> {
+fn there_and_back(rt: HostRuntime) {
     for count in [1, 8, 20, 32, 64, 128] {
-        let bytes = bytes(rt.alloc(), count)?;
-        let text = printed(rt.alloc(), &bytes, false, false)?;
+        let bytes = bytes(rt.alloc(), count).expect(&rt, "memory");
+        let text = printed(rt.alloc(), &bytes, false, false).expect(&rt, "memory");
         same_read!(&rt, "encode", count; encode(rt.alloc(), &bytes), Ok(text.as_bytes()));
         same_read!(&rt, "decode", count; decode(rt.alloc(), text.as_bytes()), Ok(&bytes));
     }
-    Ok(())
 }
 
 #[test]
@@ -133,19 +135,18 @@ fn texts_in_slices(rt: HostRuntime) {
 
 // An output of another length than the full text is refused, and stays unchanged.
 #[test]
-fn full_texts_in_slices(rt: HostRuntime) -> Result<(), AllocError> {
+fn full_texts_in_slices(rt: HostRuntime) {
     for length in 0..=26usize {
         fills(
             &rt,
             (b"Hello world!", true, true),
             "0x48656C6C6F20776F726C6421",
             length,
-        )?;
-        fills(&rt, (b"kiwi", true, false), "0x6b697769", length)?;
-        fills(&rt, (b"kiwi", false, true), "6B697769", length)?;
-        fills(&rt, (b"", true, false), "0x", length)?;
+        );
+        fills(&rt, (b"kiwi", true, false), "0x6b697769", length);
+        fills(&rt, (b"kiwi", false, true), "6B697769", length);
+        fills(&rt, (b"", true, false), "0x", length);
     }
-    Ok(())
 }
 
 /// `encode_full_to_slice` fills an output of that length; or it is an error, and the output stays
@@ -155,20 +156,19 @@ fn fills(
     (bytes, prefix, upper): (&[u8], bool, bool),
     text: &str,
     length: usize,
-) -> Result<(), AllocError> {
+) {
     let row = (text, length);
     same!(rt, "text_length", row; text_length(prefix, bytes.len()), text.len());
-    let mut output = vec![in rt.alloc(); 0xEEu8; length]?;
+    let mut output = vec![in rt.alloc(); 0xEEu8; length].expect(rt, "memory");
     let answer = encode_full_to_slice(bytes, prefix, upper, &mut output);
     if text.len() == length {
         same!(rt, "encode_full_to_slice", row; answer, Ok(()));
         same_bytes!(rt, "what encode_full_to_slice leaves", row; output, text);
     } else {
-        let left = vec![in rt.alloc(); 0xEEu8; length]?;
+        let left = vec![in rt.alloc(); 0xEEu8; length].expect(rt, "memory");
         same!(rt, "encode_full_to_slice", row; answer, Err(FromHexError::InvalidStringLength));
         same_bytes!(rt, "what encode_full_to_slice leaves", row; output, left);
     }
-    Ok(())
 }
 
 #[test]

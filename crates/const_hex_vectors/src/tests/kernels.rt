@@ -6,20 +6,16 @@ use crate::tests::decoding::{Read, checked};
 use const_hex::{Kernel, PieceSink, SinkOutput, check_with, decode_to_slice_with, decode_with};
 use hex_testing::texts::{bad, behind, with_g};
 use hex_testing::{KernelCase, Testing, Text, by_each_kernel, same, same_bytes, same_read};
-use std::alloc::AllocError;
 
 /// A figure for each kernel.
 type Figures = [usize; 4];
 
 /// What is tried with each kernel, by itself and behind `CheckFirst`.
 pub(crate) trait KernelTest {
-    fn run<K: Kernel>(&self, rt: &impl Testing, kernel: KernelCase) -> Result<(), AllocError>;
+    fn run<K: Kernel>(&self, rt: &impl Testing, kernel: KernelCase);
 
-    final fn with_each_kernel(&self, rt: &impl Testing) -> Result<(), AllocError> {
-        for done in by_each_kernel!(self.run(rt)) {
-            done?;
-        }
-        Ok(())
+    final fn with_each_kernel(&self, rt: &impl Testing) {
+        by_each_kernel!(self.run(rt));
     }
 }
 
@@ -30,15 +26,14 @@ pub(crate) fn answers<K: Kernel>(
     text: &[u8],
     want: Read<'_>,
     left: &[u8],
-) -> Result<(), AllocError> {
+) {
     let row = (kernel, Text(text), want.err());
     same!(rt, "check_with", row; check_with::<K>(text), checked(want));
-    let mut output = vec![in rt.alloc(); 0xEEu8; left.len()]?;
+    let mut output = vec![in rt.alloc(); 0xEEu8; left.len()].expect(rt, "memory");
     let filled = decode_to_slice_with::<K>(text, &mut output);
     same!(rt, "decode_to_slice_with", row; filled, checked(want));
     same_bytes!(rt, "what decode_to_slice_with leaves", row; output, left);
     same_read!(rt, "decode_with", row; decode_with::<K>(rt.alloc(), text), want);
-    Ok(())
 }
 
 /// Each of these calls refuses a body behind a prefix, for its byte at that place. Before that place
@@ -48,35 +43,35 @@ pub(crate) fn refuses<K: Kernel>(
     kernel: KernelCase,
     (prefix, body, place): (&str, &[u8], usize),
     bytes: &[u8],
-) -> Result<(), AllocError> {
+) {
     let byte = body.get(place).copied().unwrap_or(0);
     let error = bad(byte, prefix.len().saturating_add(place));
-    let mut left = bytes.to_vec(rt.alloc())?;
+    let mut left = bytes.to_vec(rt.alloc()).expect(rt, "memory");
     let decoded = kernel.decoded(body.len(), place);
     if decoded <= left.len() {
         left[decoded..].fill(0xEE);
     }
-    let text = behind(rt.alloc(), prefix, body)?;
+    let text = behind(rt.alloc(), prefix, body).expect(rt, "memory");
     answers::<K>(rt, kernel, &text, Err(error), &left)
 }
 
 #[test]
-fn each_length(rt: HostRuntime) -> Result<(), AllocError> {
+fn each_length(rt: HostRuntime) {
     suite::Lengths.with_each_kernel(&rt)
 }
 
 #[test]
-fn each_place(rt: HostRuntime) -> Result<(), AllocError> {
+fn each_place(rt: HostRuntime) {
     suite::Places(&[0x10, b'G', b'g', 0xC1]).with_each_kernel(&rt)
 }
 
 #[test]
-fn each_place_of_an_x(rt: HostRuntime) -> Result<(), AllocError> {
+fn each_place_of_an_x(rt: HostRuntime) {
     suite::Places(b"xX").with_each_kernel(&rt)
 }
 
 #[test]
-fn each_byte(rt: HostRuntime) -> Result<(), AllocError> {
+fn each_byte(rt: HostRuntime) {
     suite::Letters.with_each_kernel(&rt)
 }
 
@@ -85,14 +80,19 @@ fn each_byte(rt: HostRuntime) -> Result<(), AllocError> {
 struct Front(&'static str, usize, usize, Figures);
 
 impl KernelTest for Front {
-    fn run<K: Kernel>(&self, rt: &impl Testing, kernel: KernelCase) -> Result<(), AllocError> {
+    fn run<K: Kernel>(&self, rt: &impl Testing, kernel: KernelCase) {
         let Front(prefix, length, place, counts) = self;
         let count = match kernel.name.starts_with("CheckFirst") {
             true => Some(0),
             false => counts.get(kernel.number).copied(),
         };
-        let body = with_g(rt.alloc(), &vec![in rt.alloc(); b'a'; *length]?, *place)?;
-        let bytes = vec![in rt.alloc(); 0xAAu8; *length / 2]?;
+        let body = with_g(
+            rt.alloc(),
+            &vec![in rt.alloc(); b'a'; *length].expect(rt, "memory"),
+            *place,
+        )
+        .expect(rt, "memory");
+        let bytes = vec![in rt.alloc(); 0xAAu8; *length / 2].expect(rt, "memory");
         let decoded = kernel.decoded(*length, *place);
         same!(rt, "the figure", (kernel, Text(&body)); Some(decoded), count);
         refuses::<K>(rt, kernel, (prefix, &body, *place), &bytes)
@@ -100,7 +100,7 @@ impl KernelTest for Front {
 }
 
 #[test]
-fn worked_fronts(rt: HostRuntime) -> Result<(), AllocError> {
+fn worked_fronts(rt: HostRuntime) {
     let rows = [
         Front("", 64, 31, [15, 0, 0, 0]),
         Front("", 64, 32, [16, 16, 0, 0]),
@@ -110,9 +110,8 @@ fn worked_fronts(rt: HostRuntime) -> Result<(), AllocError> {
         Front("", 96, 70, [35, 32, 32, 0]),
     ];
     for row in &rows {
-        row.with_each_kernel(&rt)?;
+        row.with_each_kernel(&rt);
     }
-    Ok(())
 }
 
 /// How many pieces each kernel makes of the text of 49 bytes.
@@ -120,17 +119,16 @@ fn worked_fronts(rt: HostRuntime) -> Result<(), AllocError> {
 struct Pieces(Figures);
 
 impl KernelTest for Pieces {
-    fn run<K: Kernel>(&self, rt: &impl Testing, kernel: KernelCase) -> Result<(), AllocError> {
+    fn run<K: Kernel>(&self, rt: &impl Testing, kernel: KernelCase) {
         let mut sink = PieceSink::new(rt.alloc(), 0);
         K::encode(&[0xAB; 49], false, &mut SinkOutput::new(&mut sink));
         let figure = self.0.get(kernel.number).copied();
         same!(rt, "pieces", kernel; Some(sink.pieces().len()), figure);
-        same!(rt, "the figure", kernel; Some(kernel.pieces(rt.alloc(), 98)?.len()), figure);
-        Ok(())
+        same!(rt, "the figure", kernel; Some(kernel.pieces(rt.alloc(), 98).expect(rt, "memory").len()), figure);
     }
 }
 
 #[test]
-fn worked_pieces(rt: HostRuntime) -> Result<(), AllocError> {
+fn worked_pieces(rt: HostRuntime) {
     Pieces([98, 4, 2, 49]).with_each_kernel(&rt)
 }

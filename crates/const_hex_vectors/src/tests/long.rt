@@ -6,7 +6,6 @@ use crate::tests::kernels::{KernelTest, answers, refuses};
 use const_hex::{Buffer, Kernel, ToHex, ToHexExt, const_encode, decode_to_slice, encode_with};
 use hex_testing::texts::{bad, behind, bytes, printed, with_g};
 use hex_testing::{KernelCase, Testing, Text, same, same_bytes, same_read};
-use std::alloc::{AllocError, Global};
 
 /// Counts of blocks of 256 bytes: for 768 bytes, 1 MiB and 3 MiB.
 const SHORT: usize = 3;
@@ -16,84 +15,76 @@ const LONG: usize = 4096;
 const LONGEST: usize = 12_288;
 
 /// That many times the 256 bytes.
-fn long_text(alloc: Global, blocks: usize) -> Result<Written, AllocError> {
-    let block = bytes(alloc, 256)?;
-    let lower = printed(alloc, &block, false, false)?.repeat(alloc, blocks)?;
-    let upper = printed(alloc, &block, false, true)?.repeat(alloc, blocks)?;
-    Written::new(alloc, (&block.repeat(alloc, blocks)?, &lower, &upper))
+fn long_text(rt: &impl Testing, blocks: usize) -> Written {
+    let block = bytes(rt.alloc(), 256).expect(rt, "memory");
+    let lower = printed(rt.alloc(), &block, false, false).expect(rt, "memory");
+    let upper = printed(rt.alloc(), &block, false, true).expect(rt, "memory");
+    Written::new(rt, (&block, &lower, &upper), blocks)
 }
 
 #[test]
-fn owned_texts(rt: HostRuntime) -> Result<(), AllocError> {
+fn owned_texts(rt: HostRuntime) {
     for blocks in [SHORT, LONG, LONGEST] {
-        long_text(rt.alloc(), blocks)?.each_call_writes(&rt);
+        long_text(&rt, blocks).each_call_writes(&rt);
     }
-    Ok(())
 }
 
 #[test]
-fn owned_bytes(rt: HostRuntime) -> Result<(), AllocError> {
+fn owned_bytes(rt: HostRuntime) {
     for blocks in [SHORT, LONG, LONGEST] {
-        let Written { bytes, texts } = long_text(rt.alloc(), blocks)?;
+        let Written { bytes, texts } = long_text(&rt, blocks);
         let [lower, _, _, prefixed_upper] = texts;
         for text in [lower, prefixed_upper] {
-            each_call_answers(&rt, text.as_bytes(), Ok(&bytes))?;
+            each_call_answers(&rt, text.as_bytes(), Ok(&bytes));
         }
     }
-    Ok(())
 }
 
 #[test]
-fn late_bad_bytes(rt: HostRuntime) -> Result<(), AllocError> {
-    late_bad_bytes_of(&rt, SHORT)?;
+fn late_bad_bytes(rt: HostRuntime) {
+    late_bad_bytes_of(&rt, SHORT);
     late_bad_bytes_of(&rt, LONG)
 }
 
 #[test]
-fn late_bad_bytes_of_the_longest(rt: HostRuntime) -> Result<(), AllocError> {
+fn late_bad_bytes_of_the_longest(rt: HostRuntime) {
     late_bad_bytes_of(&rt, LONGEST)
 }
 
 /// Each decoder names a bad byte in the middle and at the end of a body, with a prefix and without.
-fn late_bad_bytes_of(rt: &impl Testing, blocks: usize) -> Result<(), AllocError> {
-    let written = long_text(rt.alloc(), blocks)?;
+fn late_bad_bytes_of(rt: &impl Testing, blocks: usize) {
+    let written = long_text(rt, blocks);
     let lower = written.texts[0].as_bytes();
     for place in [lower.len() / 2, lower.len().saturating_sub(1)] {
-        let body = with_g(rt.alloc(), lower, place)?;
-        late_bad_byte(rt, "", &body, place)?;
-        late_bad_byte(rt, "0X", &body, place)?;
+        let body = with_g(rt.alloc(), lower, place).expect(rt, "memory");
+        late_bad_byte(rt, "", &body, place);
+        late_bad_byte(rt, "0X", &body, place);
     }
-    Ok(())
 }
 
-fn late_bad_byte(
-    rt: &impl Testing,
-    prefix: &str,
-    body: &[u8],
-    place: usize,
-) -> Result<(), AllocError> {
-    let text = behind(rt.alloc(), prefix, body)?;
+fn late_bad_byte(rt: &impl Testing, prefix: &str, body: &[u8], place: usize) {
+    let text = behind(rt.alloc(), prefix, body).expect(rt, "memory");
     let error = bad(b'g', prefix.len().saturating_add(place));
-    let mut output = vec![in rt.alloc(); 0u8; body.len() / 2]?;
+    let mut output = vec![in rt.alloc(); 0u8; body.len() / 2].expect(rt, "memory");
     let answer = decode_to_slice(&text, &mut output);
     same!(rt, "decode_to_slice", Text(&text); answer, Err(error));
     each_call_answers(rt, &text, Err(error))
 }
 
 #[test]
-fn kernels(rt: HostRuntime) -> Result<(), AllocError> {
-    long_text(rt.alloc(), SHORT)?.with_each_kernel(&rt)?;
-    long_text(rt.alloc(), LONG)?.with_each_kernel(&rt)
+fn kernels(rt: HostRuntime) {
+    long_text(&rt, SHORT).with_each_kernel(&rt);
+    long_text(&rt, LONG).with_each_kernel(&rt);
 }
 
 #[test]
-fn kernels_on_the_longest(rt: HostRuntime) -> Result<(), AllocError> {
-    long_text(rt.alloc(), LONGEST)?.with_each_kernel(&rt)
+fn kernels_on_the_longest(rt: HostRuntime) {
+    long_text(&rt, LONGEST).with_each_kernel(&rt);
 }
 
 impl KernelTest for Written {
     /// Writes the text in both cases, and reads it, also with a bad byte at the end.
-    fn run<K: Kernel>(&self, rt: &impl Testing, kernel: KernelCase) -> Result<(), AllocError> {
+    fn run<K: Kernel>(&self, rt: &impl Testing, kernel: KernelCase) {
         let (bytes, row) = (self.bytes.as_slice(), (kernel, Text(&self.bytes)));
         let [lower, upper, _, prefixed_upper] = &self.texts;
         let encoded = encode_with::<K, false>(rt.alloc(), bytes);
@@ -101,43 +92,40 @@ impl KernelTest for Written {
         let encoded = encode_with::<K, true>(rt.alloc(), bytes);
         same_read!(rt, "encode_with, upper", row; encoded, Ok(upper.as_bytes()));
         for text in [lower, prefixed_upper] {
-            answers::<K>(rt, kernel, text.as_bytes(), Ok(bytes), bytes)?;
+            answers::<K>(rt, kernel, text.as_bytes(), Ok(bytes), bytes);
         }
         let place = lower.len().saturating_sub(1);
-        let body = with_g(rt.alloc(), lower.as_bytes(), place)?;
+        let body = with_g(rt.alloc(), lower.as_bytes(), place).expect(rt, "memory");
         refuses::<K>(rt, kernel, ("0x", &body, place), bytes)
     }
 }
 
 // Arrays stand on the stack, so they are shorter.
 #[test]
-fn large_buffers(rt: HostRuntime) -> Result<(), AllocError> {
+fn large_buffers(rt: HostRuntime) {
     let (bytes, alloc) = ([0xAB; 50_000], rt.alloc());
-    let lower = "ab".repeat(alloc, 50_000)?;
+    let lower = "ab".repeat(alloc, 50_000).expect(&rt, "memory");
     let mut buffer = Buffer::<50_000, false, 100_000>::new();
     same_bytes!(&rt, "format", (); buffer.format(&bytes), &lower);
     same_read!(&rt, "to_string", (); buffer.to_string(alloc), Ok(lower.as_bytes()));
     same_read!(&rt, "to_vec", (); buffer.to_vec(alloc), Ok(lower.as_bytes()));
-    Ok(())
 }
 
 #[test]
-fn large_arrays(rt: HostRuntime) -> Result<(), AllocError> {
+fn large_arrays(rt: HostRuntime) {
     let (bytes, alloc) = ([0xAB; 50_000], rt.alloc());
-    let lower = "ab".repeat(alloc, 50_000)?;
-    let prefixed = ["0x", &lower].concat(alloc)?;
+    let lower = "ab".repeat(alloc, 50_000).expect(&rt, "memory");
+    let prefixed = ["0x", &lower].concat(alloc).expect(&rt, "memory");
     let full = const_encode::<50_000, true, 100_002>(&bytes);
     same_bytes!(&rt, "const_encode", (); full.as_str(), &prefixed);
     let text = bytes.encode_hex_with_prefix(alloc);
     same_read!(&rt, "encode_hex_with_prefix", (); text, Ok(prefixed.as_bytes()));
-    Ok(())
 }
 
 #[test]
-fn a_large_string(rt: HostRuntime) -> Result<(), AllocError> {
+fn a_large_string(rt: HostRuntime) {
     let alloc = rt.alloc();
-    let text = ToHex::encode_hex(&"ab".repeat(alloc, 50_000)?, alloc);
-    let want = "6162".repeat(alloc, 50_000)?;
+    let text = ToHex::encode_hex(&"ab".repeat(alloc, 50_000).expect(&rt, "memory"), alloc);
+    let want = "6162".repeat(alloc, 50_000).expect(&rt, "memory");
     same_read!(&rt, "encode_hex of a string", (); text, Ok(want.as_bytes()));
-    Ok(())
 }

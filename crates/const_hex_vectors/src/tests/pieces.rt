@@ -5,7 +5,6 @@ use crate::tests::kernels::KernelTest;
 use const_hex::{Decoder, FromHexError, Kernel};
 use hex_testing::texts::{PREFIXES, bad, behind, digits, read};
 use hex_testing::{KernelCase, Testing, Text, same, same_bytes, same_read};
-use std::alloc::{AllocError, Global};
 
 /// Texts and their answers. An odd length is found last.
 const ROWS: [(&[u8], Read<'static>); 16] = [
@@ -51,17 +50,15 @@ const ROWS: [(&[u8], Read<'static>); 16] = [
     ),
 ];
 
-/// What a decoder gives for these pieces.
-fn in_pieces<K: Kernel>(alloc: Global, pieces: &[&[u8]]) -> Result<Vec<u8>, FromHexError> {
+/// Adds to a list what a decoder gives for these pieces.
+fn in_pieces<K: Kernel>(pieces: &[&[u8]], all: &mut Vec<u8>) -> Result<(), FromHexError> {
     let mut decoder = Decoder::new();
-    let mut all = Vec::new(alloc);
     for piece in pieces {
         let mut bytes = [0; 128];
         let count = decoder.decode_with::<K>(piece, &mut bytes)?;
         all.extend_from_slice(&bytes[..count])?;
     }
-    decoder.finish()?;
-    Ok(all)
+    decoder.finish()
 }
 
 /// A text and its answer.
@@ -73,38 +70,34 @@ struct Row<'a> {
 
 impl KernelTest for Row<'_> {
     /// Every cut of the text into three pieces has the answer of the text.
-    fn run<K: Kernel>(&self, rt: &impl Testing, kernel: KernelCase) -> Result<(), AllocError> {
+    fn run<K: Kernel>(&self, rt: &impl Testing, kernel: KernelCase) {
         for end in 0..=self.text.len() {
             let (front, last) = self.text.split_at(end);
             for cut in 0..=end {
                 let (first, middle) = front.split_at(cut);
                 let row = (Text(self.text), cut, end);
-                match in_pieces::<K>(rt.alloc(), &[first, middle, last]) {
-                    Ok(bytes) => same!(rt, kernel.name, row; Ok(bytes.as_slice()), self.want),
-                    Err(error) => same!(rt, kernel.name, row; Err(error), self.want),
-                }
+                let mut bytes = Vec::new(rt.alloc());
+                let answer = in_pieces::<K>(&[first, middle, last], &mut bytes);
+                same!(rt, kernel.name, row; answer.and(Ok(bytes.as_slice())), self.want);
             }
         }
-        Ok(())
     }
 }
 
 #[test]
-fn rows_at_every_cut(rt: HostRuntime) -> Result<(), AllocError> {
+fn rows_at_every_cut(rt: HostRuntime) {
     for (text, want) in ROWS {
-        Row { text, want }.with_each_kernel(&rt)?;
+        Row { text, want }.with_each_kernel(&rt);
     }
-    Ok(())
 }
 
-/// What a decoder gives for a text that is cut at random, into pieces of up to 31 bytes.
+/// Adds to a list what a decoder gives for a text that is cut at random, into pieces of up to 31 bytes.
 fn at_random<K: Kernel>(
-    alloc: Global,
     text: &[u8],
     seed: &mut u64,
-) -> Result<Vec<u8>, FromHexError> {
+    all: &mut Vec<u8>,
+) -> Result<(), FromHexError> {
     let mut decoder = Decoder::new();
-    let mut all = Vec::new(alloc);
     let mut rest = text;
     for turn in 0..=text.len() {
         *seed = seed.wrapping_mul(6_364_136_223_846_793_005).wrapping_add(1);
@@ -118,8 +111,20 @@ fn at_random<K: Kernel>(
         all.extend_from_slice(&bytes[..decoded])?;
         rest = behind;
     }
-    decoder.finish()?;
-    Ok(all)
+    decoder.finish()
+}
+
+/// A text that is cut at random has this answer.
+fn has_answer<K: Kernel>(
+    rt: &impl Testing,
+    kernel: KernelCase,
+    text: &[u8],
+    seed: &mut u64,
+    want: Read<'_>,
+) {
+    let mut bytes = Vec::new(rt.alloc());
+    let answer = at_random::<K>(text, seed, &mut bytes).and(Ok(bytes.as_slice()));
+    same_read!(rt, "at random cuts", (kernel, Text(text)); answer, want);
 }
 
 /// Texts of up to 64 bytes at random cuts, whole and with a bad byte at each place.
@@ -127,32 +132,29 @@ fn at_random<K: Kernel>(
 struct RandomCuts;
 
 impl KernelTest for RandomCuts {
-    fn run<K: Kernel>(&self, rt: &impl Testing, kernel: KernelCase) -> Result<(), AllocError> {
+    fn run<K: Kernel>(&self, rt: &impl Testing, kernel: KernelCase) {
         let mut seed = 1;
         for half in 0..=64usize {
-            let mut body = digits(rt.alloc(), 2 * half)?;
-            let bytes = read(rt.alloc(), &body)?;
+            let mut body = digits(rt.alloc(), 2 * half).expect(rt, "memory");
+            let bytes = read(rt.alloc(), &body).expect(rt, "memory");
             for prefix in PREFIXES {
-                let text = behind(rt.alloc(), prefix, &body)?;
-                let given = at_random::<K>(rt.alloc(), &text, &mut seed);
-                same_read!(rt, "at random cuts", (kernel, Text(&text)); given, Ok(&bytes));
+                let text = behind(rt.alloc(), prefix, &body).expect(rt, "memory");
+                has_answer::<K>(rt, kernel, &text, &mut seed, Ok(&bytes));
                 for place in 0..body.len() {
                     let digit = body[place];
                     body[place] = b'g';
-                    let text = behind(rt.alloc(), prefix, &body)?;
-                    let given = at_random::<K>(rt.alloc(), &text, &mut seed);
+                    let text = behind(rt.alloc(), prefix, &body).expect(rt, "memory");
                     let error = bad(b'g', prefix.len().saturating_add(place));
-                    same_read!(rt, "at random cuts", (kernel, Text(&text)); given, Err(error));
+                    has_answer::<K>(rt, kernel, &text, &mut seed, Err(error));
                     body[place] = digit;
                 }
             }
         }
-        Ok(())
     }
 }
 
 #[test]
-fn random_cuts(rt: HostRuntime) -> Result<(), AllocError> {
+fn random_cuts(rt: HostRuntime) {
     RandomCuts.with_each_kernel(&rt)
 }
 

@@ -8,7 +8,6 @@ use const_hex::{
 };
 use hex_testing::texts::{bytes, printed};
 use hex_testing::{KernelCase, Testing, same, same_bytes};
-use std::alloc::AllocError;
 
 type ToSink<'a, const N: usize> = BufferedOutput<SinkOutput<'a, PieceSink>, N>;
 
@@ -16,9 +15,15 @@ type ToSlice<'a, const N: usize> = BufferedOutput<SliceOutput<'a>, N>;
 
 // The pieces have 8 MB, and no call is refused.
 #[test]
-fn pieces_of_each_size(rt: HostRuntime) -> Result<(), AllocError> {
+fn pieces_of_each_size(rt: HostRuntime) {
     let alloc = rt.alloc();
-    let text = printed(alloc, &bytes(alloc, 2048)?, false, false)?;
+    let text = printed(
+        alloc,
+        &bytes(alloc, 2048).expect(&rt, "memory"),
+        false,
+        false,
+    )
+    .expect(&rt, "memory");
     let mut sink = PieceSink::new(alloc, 0);
     same!(&rt; text.len(), 4096);
     for size in 1..=4096usize {
@@ -32,7 +37,6 @@ fn pieces_of_each_size(rt: HostRuntime) -> Result<(), AllocError> {
         let want = text.get(..place + 1).unwrap_or("");
         same_bytes!(&rt, "write_str", place; piece, want);
     }
-    Ok(())
 }
 
 /// Bytes, and their text behind a prefix.
@@ -44,7 +48,7 @@ struct Stream<'a> {
 
 impl KernelTest for Stream<'_> {
     /// The pieces are the text, and each but the last has 4033 to 4096 bytes.
-    fn run<K: Kernel>(&self, rt: &impl Testing, kernel: KernelCase) -> Result<(), AllocError> {
+    fn run<K: Kernel>(&self, rt: &impl Testing, kernel: KernelCase) {
         let mut sink = PieceSink::new(rt.alloc(), 0);
         let answer = BufferedHex::<false, true>::new(self.data).write_with::<K, _>(&mut sink);
         same!(rt, "write_with", kernel; answer, Ok(()));
@@ -58,14 +62,13 @@ impl KernelTest for Stream<'_> {
             rest = after;
         }
         same!(rt, "what write_with left out", kernel; rest.len(), 0);
-        Ok(())
     }
 }
 
 #[test]
-fn long_streams(rt: HostRuntime) -> Result<(), AllocError> {
-    let data = &bytes(rt.alloc(), 100_000)?;
-    let text = &printed(rt.alloc(), data, true, false)?;
+fn long_streams(rt: HostRuntime) {
+    let data = &bytes(rt.alloc(), 100_000).expect(&rt, "memory");
+    let text = &printed(rt.alloc(), data, true, false).expect(&rt, "memory");
     Stream { data, text }.with_each_kernel(&rt)
 }
 

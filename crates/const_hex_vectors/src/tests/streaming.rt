@@ -109,23 +109,18 @@ const ROWS: [Row; 21] = [
 ];
 
 #[test]
-fn calls_in_each_way(rt: HostRuntime) -> Result<(), AllocError> {
+fn calls_in_each_way(rt: HostRuntime) {
     for (count, prefix, sizes) in ROWS {
-        let data = bytes(rt.alloc(), count)?;
+        let data = bytes(rt.alloc(), count).expect(&rt, "memory");
         match prefix {
-            false => in_each_way::<false>(&rt, &data, sizes)?,
-            true => in_each_way::<true>(&rt, &data, sizes)?,
+            false => in_each_way::<false>(&rt, &data, sizes),
+            true => in_each_way::<true>(&rt, &data, sizes),
         }
     }
-    Ok(())
 }
 
-fn in_each_way<const PREFIX: bool>(
-    rt: &impl Testing,
-    data: &[u8],
-    sizes: [&'static [usize]; 3],
-) -> Result<(), AllocError> {
-    Stream::<false, PREFIX> { data, sizes }.in_each_way(rt)?;
+fn in_each_way<const PREFIX: bool>(rt: &impl Testing, data: &[u8], sizes: [&'static [usize]; 3]) {
+    Stream::<false, PREFIX> { data, sizes }.in_each_way(rt);
     Stream::<true, PREFIX> { data, sizes }.in_each_way(rt)
 }
 
@@ -146,22 +141,22 @@ enum Way {
 }
 
 impl<const UPPER: bool, const PREFIX: bool> KernelTest for Stream<'_, UPPER, PREFIX> {
-    fn run<K: Kernel>(&self, rt: &impl Testing, kernel: KernelCase) -> Result<(), AllocError> {
+    fn run<K: Kernel>(&self, rt: &impl Testing, kernel: KernelCase) {
         self.calls::<K>(rt, Way::ByKernel(kernel))
     }
 }
 
 impl<const UPPER: bool, const PREFIX: bool> Stream<'_, UPPER, PREFIX> {
-    fn in_each_way(&self, rt: &impl Testing) -> Result<(), AllocError> {
-        self.with_each_kernel(rt)?;
-        self.calls::<Plain>(rt, Way::ByFixedKernel)?;
+    fn in_each_way(&self, rt: &impl Testing) {
+        self.with_each_kernel(rt);
+        self.calls::<Plain>(rt, Way::ByFixedKernel);
         self.calls::<Plain>(rt, Way::AsJson)
     }
 
     /// Tries sinks that never refuse, that refuse each call in turn, and that would refuse the call
     /// after the last. Only `Way::ByKernel` uses K. The fixed kernel has 32 lanes. In a JSON text, an
     /// empty text has a call too.
-    fn calls<K: Kernel>(&self, rt: &impl Testing, way: Way) -> Result<(), AllocError> {
+    fn calls<K: Kernel>(&self, rt: &impl Testing, way: Way) {
         let [by_digits, by_lanes16, by_lanes32] = self.sizes;
         let sizes = match way {
             Way::ByKernel(kernel) if kernel.writes < 32 => by_digits,
@@ -169,8 +164,8 @@ impl<const UPPER: bool, const PREFIX: bool> Stream<'_, UPPER, PREFIX> {
             Way::AsJson if by_lanes32.is_empty() => &[0],
             _ => by_lanes32,
         };
-        let text = printed(rt.alloc(), self.data, PREFIX, UPPER)?;
-        let pieces = cut(rt.alloc(), &text, sizes)?;
+        let text = printed(rt.alloc(), self.data, PREFIX, UPPER).expect(rt, "memory");
+        let pieces = cut(rt.alloc(), &text, sizes).expect(rt, "memory");
         let row = (way, self.data.len(), sizes);
         same!(rt, "the row's sizes", row; pieces.len(), sizes.len());
         for refuse_at in 0..pieces.len() + 2 {
@@ -178,7 +173,6 @@ impl<const UPPER: bool, const PREFIX: bool> Stream<'_, UPPER, PREFIX> {
             self.noted::<K>(rt, row, calls);
             self.kept::<K>(rt, row, calls);
         }
-        Ok(())
     }
 
     /// A noting sink that refuses the call of that number has these calls and accepted pieces.
@@ -237,17 +231,20 @@ fn until(pieces: &[String], refuse_at: usize) -> (&[String], &[String]) {
 }
 
 #[test]
-fn two_texts_into_one_sink(rt: HostRuntime) -> Result<(), SinkError> {
+fn two_texts_into_one_sink(rt: HostRuntime) {
     let mut sink = PieceSink::new(rt.alloc(), 0);
-    BufferedHex::<false, true>::new(b"kiwi").write_to(&mut sink)?;
-    BufferedHex::<true, false>::new(b"kiwi").write_to(&mut sink)?;
+    BufferedHex::<false, true>::new(b"kiwi")
+        .write_to(&mut sink)
+        .expect(&rt, "write_to");
+    BufferedHex::<true, false>::new(b"kiwi")
+        .write_to(&mut sink)
+        .expect(&rt, "write_to");
     has_pieces(&rt, 2, &sink, &["0x6b697769", "6B697769"]);
-    Ok(())
 }
 
 #[test]
-fn writes_after_an_error(rt: HostRuntime) -> Result<(), AllocError> {
-    let pieces = cut(rt.alloc(), "onetwo", &[3, 3])?;
+fn writes_after_an_error(rt: HostRuntime) {
+    let pieces = cut(rt.alloc(), "onetwo", &[3, 3]).expect(&rt, "memory");
     for refuse_at in 1..3usize {
         let mut sink = NotingSink::new(rt.alloc(), refuse_at);
         let mut output = SinkOutput::new(&mut sink);
@@ -259,5 +256,4 @@ fn writes_after_an_error(rt: HostRuntime) -> Result<(), AllocError> {
         same!(&rt, "the noting sink's calls", refuse_at; sink.noted.as_slice(), noted);
         same!(&rt, "its accepted pieces", refuse_at; sink.accepted.as_slice(), accepted);
     }
-    Ok(())
 }

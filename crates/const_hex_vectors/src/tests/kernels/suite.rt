@@ -7,7 +7,6 @@ use const_hex::{
 };
 use hex_testing::texts::{PREFIXES, behind, bytes, cut, digits, printed, read};
 use hex_testing::{KernelCase, Testing, Text, same, same_bytes};
-use std::alloc::AllocError;
 
 // Counts of the bytes 0, 1, 2 and on, near the steps of each kernel, and how their text ends.
 const ENDS: [(usize, &str); 12] = [
@@ -30,75 +29,66 @@ const ENDS: [(usize, &str); 12] = [
 pub(crate) struct Lengths;
 
 impl KernelTest for Lengths {
-    fn run<K: Kernel>(&self, rt: &impl Testing, kernel: KernelCase) -> Result<(), AllocError> {
+    fn run<K: Kernel>(&self, rt: &impl Testing, kernel: KernelCase) {
         for length in 0..=130usize {
             for prefix in PREFIXES {
-                behind_prefix::<K>(rt, kernel, prefix, length)?;
+                behind_prefix::<K>(rt, kernel, prefix, length);
             }
         }
         for count in 0..=200usize {
-            there_and_back::<K>(rt, kernel, &bytes(rt.alloc(), count)?)?;
+            there_and_back::<K>(rt, kernel, &bytes(rt.alloc(), count).expect(rt, "memory"));
         }
         for (count, end) in ENDS {
-            ends_in::<K>(rt, kernel, count, end)?;
+            ends_in::<K>(rt, kernel, count, end);
         }
-        own_calls::<K>(rt, kernel)
+        own_calls::<K>(rt, kernel);
+        calls_behind_prefix::<K>(rt, kernel);
+        let bytes = [0, 1, 2, 3, 4, 5, 6, 7, 8, 9, 10, 11, 12, 13, 14, 15, 16];
+        let text = encode_with::<K, false>(rt.alloc(), &bytes).expect(rt, "memory");
+        same_bytes!(rt, "encode_with", kernel; text, "000102030405060708090a0b0c0d0e0f10");
     }
 }
 
 /// A kernel writes the bytes 0, 1, 2 and on as a text that ends so, and reads it again.
-fn ends_in<K: Kernel>(
-    rt: &impl Testing,
-    kernel: KernelCase,
-    count: usize,
-    end: &str,
-) -> Result<(), AllocError> {
-    let bytes: Vec<u8> = (0..count).map(|i| (i % 256) as u8).collect(rt.alloc())?;
-    there_and_back::<K>(rt, kernel, &bytes)?;
-    let text = encode_with::<K, false>(rt.alloc(), &bytes)?;
+fn ends_in<K: Kernel>(rt: &impl Testing, kernel: KernelCase, count: usize, end: &str) {
+    let bytes: Vec<u8> = (0..count)
+        .map(|i| (i % 256) as u8)
+        .collect(rt.alloc())
+        .expect(rt, "memory");
+    there_and_back::<K>(rt, kernel, &bytes);
+    let text = encode_with::<K, false>(rt.alloc(), &bytes).expect(rt, "memory");
     let last = text.get(text.len().saturating_sub(2)..);
     same!(rt, "encode_with", (kernel, count); last, Some(end));
-    Ok(())
 }
 
 /// A kernel reads digits behind a prefix as std does, and writes them in lowercase.
-fn behind_prefix<K: Kernel>(
-    rt: &impl Testing,
-    kernel: KernelCase,
-    prefix: &str,
-    length: usize,
-) -> Result<(), AllocError> {
-    let body = digits(rt.alloc(), length)?;
-    let text = behind(rt.alloc(), prefix, &body)?;
+fn behind_prefix<K: Kernel>(rt: &impl Testing, kernel: KernelCase, prefix: &str, length: usize) {
+    let body = digits(rt.alloc(), length).expect(rt, "memory");
+    let text = behind(rt.alloc(), prefix, &body).expect(rt, "memory");
     if length % 2 == 1 {
         let odd = Err(FromHexError::OddLength);
         return answers::<K>(rt, kernel, &text, odd, &[0xEE; 65]);
     }
-    let bytes = read(rt.alloc(), &body)?;
-    let lower = encode_with::<K, false>(rt.alloc(), &bytes)?;
-    let want = body.to_ascii_lowercase(rt.alloc())?;
+    let bytes = read(rt.alloc(), &body).expect(rt, "memory");
+    let lower = encode_with::<K, false>(rt.alloc(), &bytes).expect(rt, "memory");
+    let want = body.to_ascii_lowercase(rt.alloc()).expect(rt, "memory");
     same_bytes!(rt, "encode_with", (kernel, Text(&bytes)); lower, want);
     answers::<K>(rt, kernel, &text, Ok(&bytes), &bytes)
 }
 
 /// A kernel writes bytes as std prints them, owned and in pieces, and reads them again.
-fn there_and_back<K: Kernel>(
-    rt: &impl Testing,
-    kernel: KernelCase,
-    bytes: &[u8],
-) -> Result<(), AllocError> {
-    let lower = encode_with::<K, false>(rt.alloc(), bytes)?;
-    let upper = encode_with::<K, true>(rt.alloc(), bytes)?;
+fn there_and_back<K: Kernel>(rt: &impl Testing, kernel: KernelCase, bytes: &[u8]) {
+    let lower = encode_with::<K, false>(rt.alloc(), bytes).expect(rt, "memory");
+    let upper = encode_with::<K, true>(rt.alloc(), bytes).expect(rt, "memory");
     for (is_upper, owned) in [(false, &lower), (true, &upper)] {
-        let text = printed(rt.alloc(), bytes, false, is_upper)?;
+        let text = printed(rt.alloc(), bytes, false, is_upper).expect(rt, "memory");
         same_bytes!(rt, "encode_with", (kernel, Text(bytes)); owned, &text);
-        in_pieces::<K>(rt, kernel, bytes, (is_upper, &text))?;
+        in_pieces::<K>(rt, kernel, bytes, (is_upper, &text));
         for prefix in ["", "0x"] {
-            let text = behind(rt.alloc(), prefix, text.as_bytes())?;
-            answers::<K>(rt, kernel, &text, Ok(bytes), bytes)?;
+            let text = behind(rt.alloc(), prefix, text.as_bytes()).expect(rt, "memory");
+            answers::<K>(rt, kernel, &text, Ok(bytes), bytes);
         }
     }
-    Ok(())
 }
 
 /// A kernel writes this text in its pieces.
@@ -107,41 +97,42 @@ fn in_pieces<K: Kernel>(
     kernel: KernelCase,
     bytes: &[u8],
     (is_upper, text): (bool, &str),
-) -> Result<(), AllocError> {
-    let sizes = kernel.pieces(rt.alloc(), text.len())?;
+) {
+    let sizes = kernel.pieces(rt.alloc(), text.len()).expect(rt, "memory");
     let mut sink = PieceSink::new(rt.alloc(), 0);
     K::encode(bytes, is_upper, &mut SinkOutput::new(&mut sink));
     let row = (kernel, Text(bytes));
     same!(rt, "calls of encode", row; sink.calls(), sizes.len());
-    same!(rt, "encode", row; sink.pieces(), cut(rt.alloc(), text, &sizes)?.as_slice());
-    Ok(())
+    same!(rt, "encode", row; sink.pieces(), cut(rt.alloc(), text, &sizes).expect(rt, "memory").as_slice());
 }
 
-/// The kernel's own calls on 49 bytes, and the text of 17.
-fn own_calls<K: Kernel>(rt: &impl Testing, kernel: KernelCase) -> Result<(), AllocError> {
-    let bytes = *b"jklmnopqrstuvwxyz{|}~@[JKLMNOPQRSTUVWXYZ][0123456";
+const BYTES: &[u8; 49] = b"jklmnopqrstuvwxyz{|}~@[JKLMNOPQRSTUVWXYZ][0123456";
+
+/// The kernel's own calls on 49 bytes.
+fn own_calls<K: Kernel>(rt: &impl Testing, kernel: KernelCase) {
     let mut text = [0; 98];
-    K::encode(&bytes, true, &mut SliceOutput::new(&mut text));
-    let printed = printed(rt.alloc(), &bytes, false, true)?;
+    K::encode(BYTES, true, &mut SliceOutput::new(&mut text));
+    let printed = printed(rt.alloc(), BYTES, false, true).expect(rt, "memory");
     same_bytes!(rt, "encode", kernel; text, printed);
     assert!(rt; K::check(&text));
     let mut back = [0; 49];
     same!(rt, "decode_checked", kernel; K::decode_checked(&text, &mut back), true);
-    same_bytes!(rt, "decode_checked", kernel; back, bytes);
+    same_bytes!(rt, "decode_checked", kernel; back, BYTES);
     let mut back = [0; 49];
     K::decode_unchecked(&text, &mut back);
-    same_bytes!(rt, "decode_unchecked", kernel; back, bytes);
+    same_bytes!(rt, "decode_unchecked", kernel; back, BYTES);
+}
+
+/// A kernel writes the same bytes behind a prefix, and reads them again.
+fn calls_behind_prefix<K: Kernel>(rt: &impl Testing, kernel: KernelCase) {
     let mut full = [0; 100];
-    let filled = encode_full_to_slice_with::<K>(&bytes, true, true, &mut full);
+    let filled = encode_full_to_slice_with::<K>(BYTES, true, true, &mut full);
     same!(rt, "encode_full_to_slice_with", kernel; filled, Ok(()));
-    same_bytes!(rt, "encode_full_to_slice_with", kernel; &full[2..], text);
+    let text = printed(rt.alloc(), BYTES, true, true).expect(rt, "memory");
+    same_bytes!(rt, "encode_full_to_slice_with", kernel; full, text);
     let mut back = [0; 49];
     same!(rt, "decode_to_front_with", kernel; decode_to_front_with::<K>(&full, &mut back), Ok(49));
-    same_bytes!(rt, "decode_to_front_with", kernel; back, bytes);
-    let bytes_to_16 = [0, 1, 2, 3, 4, 5, 6, 7, 8, 9, 10, 11, 12, 13, 14, 15, 16];
-    let text = encode_with::<K, false>(rt.alloc(), &bytes_to_16);
-    same!(rt, "encode_with", kernel; text.as_deref(), Ok("000102030405060708090a0b0c0d0e0f10"));
-    Ok(())
+    same_bytes!(rt, "decode_to_front_with", kernel; back, BYTES);
 }
 
 /// Each of these bad bytes at each place of texts of up to 130 bytes.
@@ -149,23 +140,22 @@ fn own_calls<K: Kernel>(rt: &impl Testing, kernel: KernelCase) -> Result<(), All
 pub(crate) struct Places<'a>(pub(crate) &'a [u8]);
 
 impl KernelTest for Places<'_> {
-    fn run<K: Kernel>(&self, rt: &impl Testing, kernel: KernelCase) -> Result<(), AllocError> {
+    fn run<K: Kernel>(&self, rt: &impl Testing, kernel: KernelCase) {
         for half in 0..=65usize {
-            let mut body = digits(rt.alloc(), 2 * half)?;
-            let bytes = read(rt.alloc(), &body)?;
+            let mut body = digits(rt.alloc(), 2 * half).expect(rt, "memory");
+            let bytes = read(rt.alloc(), &body).expect(rt, "memory");
             for place in 0..body.len() {
                 let digit = body[place];
                 for byte in self.0 {
                     body[place] = *byte;
                     for prefix in PREFIXES {
                         let row = (prefix, body.as_slice(), place);
-                        prefixed_or_refused::<K>(rt, kernel, row, &bytes)?;
+                        prefixed_or_refused::<K>(rt, kernel, row, &bytes);
                     }
                 }
                 body[place] = digit;
             }
         }
-        Ok(())
     }
 }
 
@@ -176,9 +166,9 @@ fn prefixed_or_refused<K: Kernel>(
     kernel: KernelCase,
     (prefix, body, place): (&str, &[u8], usize),
     bytes: &[u8],
-) -> Result<(), AllocError> {
+) {
     if prefix.is_empty() && (body.starts_with(b"0x") || body.starts_with(b"0X")) {
-        let bytes = read(rt.alloc(), body.get(2..).unwrap_or(&[]))?;
+        let bytes = read(rt.alloc(), body.get(2..).unwrap_or(&[])).expect(rt, "memory");
         return answers::<K>(rt, kernel, body, Ok(&bytes), &bytes);
     }
     refuses::<K>(rt, kernel, (prefix, body, place), bytes)
@@ -190,7 +180,7 @@ fn prefixed_or_refused<K: Kernel>(
 pub(crate) struct Letters;
 
 impl KernelTest for Letters {
-    fn run<K: Kernel>(&self, rt: &impl Testing, kernel: KernelCase) -> Result<(), AllocError> {
+    fn run<K: Kernel>(&self, rt: &impl Testing, kernel: KernelCase) {
         let mut body = [b'a'; 64];
         for place in 0..64 {
             for byte in 0..=255u8 {
@@ -200,11 +190,10 @@ impl KernelTest for Letters {
             }
             for byte in [0x10, 0x2F, 0x3A, 0x40, 0x47, 0x60, 0x67, 0xC1, 0xE1] {
                 body[place] = byte;
-                refuses::<K>(rt, kernel, ("", &body, place), &[0xAA; 32])?;
+                refuses::<K>(rt, kernel, ("", &body, place), &[0xAA; 32]);
                 same!(rt, "check_raw", (byte, place); check_raw(&body), false);
             }
             body[place] = b'a';
         }
-        Ok(())
     }
 }

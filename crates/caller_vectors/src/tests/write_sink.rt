@@ -3,7 +3,6 @@
 use const_hex::{BufferedHex, Plain, Sink, WriteSink};
 use hex_testing::texts::{bytes, printed};
 use hex_testing::{Fault, Target, Testing, Text, same, same_bytes};
-use std::alloc::AllocError;
 use std::io::{self, ErrorKind};
 
 // A text of 6002 bytes comes in pieces of 4096 and 1906. A writer that accepts 1000 per call gets
@@ -11,14 +10,13 @@ use std::io::{self, ErrorKind};
 const TAKEN: [usize; 8] = [0, 1000, 2000, 3000, 4000, 4096, 5096, 6002];
 
 #[test]
-fn writers_that_fail_at_each_call(rt: HostRuntime) -> Result<(), AllocError> {
-    let bytes = bytes(rt.alloc(), 3000)?;
-    let text = printed(rt.alloc(), &bytes, true, false)?;
+fn writers_that_fail_at_each_call(rt: HostRuntime) {
+    let bytes = bytes(rt.alloc(), 3000).expect(&rt, "memory");
+    let text = printed(rt.alloc(), &bytes, true, false).expect(&rt, "memory");
     let case = (bytes.as_slice(), text.as_bytes());
     for before in 0..TAKEN.len() {
         at_call(&rt, (before + 1, TAKEN[before]), case);
     }
-    Ok(())
 }
 
 /// A writer has accepted so many bytes before that call. The call fails, or accepts no bytes; or a
@@ -63,17 +61,16 @@ fn kind_of(error: Option<&io::Error>) -> Option<ErrorKind> {
 
 // A writer that accepts one byte per call is called once per byte, and not for an empty piece.
 #[test]
-fn a_byte_a_call(rt: HostRuntime) -> io::Result<()> {
-    let text = "01234".repeat(rt.alloc(), 1000)?;
+fn a_byte_a_call(rt: HostRuntime) {
+    let text = "01234".repeat(rt.alloc(), 1000).expect(&rt, "memory");
     let mut target = Target::new(rt.alloc(), 1, Fault::Nothing);
     let mut sink = WriteSink::new(&mut target);
     assert!(rt; sink.write_str("").is_ok());
     assert!(rt; !sink.refused());
     assert!(rt; sink.write_str(&text).is_ok());
-    sink.finish()?;
+    sink.finish().expect(&rt, "finish");
     same!(&rt; Text(&target.taken), Text(text.as_bytes()));
     same!(&rt; (target.writes, target.flushes), (5000, 0));
-    Ok(())
 }
 
 // After an error `write_hex` calls nothing, and returns the error again.
@@ -91,32 +88,30 @@ fn writing_goes_on_after_an_error(rt: HostRuntime) {
 }
 
 #[test]
-fn no_call_flushes(rt: HostRuntime) -> io::Result<()> {
+fn no_call_flushes(rt: HostRuntime) {
     let mut target = Target::new(rt.alloc(), 4, Fault::Nothing);
     let mut sink = WriteSink::new(&mut target);
     same!(&rt; sink.write_hex::<false, false>(&[0xab]), Ok(()));
     same!(&rt; sink.write_hex::<true, false>(&[0xab]), Ok(()));
     same!(&rt; sink.write_hex::<false, true>(&[0xab]), Ok(()));
     same!(&rt; sink.write_hex::<true, true>(&[0xab]), Ok(()));
-    sink.finish()?;
+    sink.finish().expect(&rt, "finish");
     same!(&rt; Text(&target.taken), Text(b"abAB0xab0xAB"));
     same!(&rt; target.flushes, 0);
-    Ok(())
 }
 
 #[test]
-fn a_writer_comes_back(rt: HostRuntime) -> io::Result<()> {
+fn a_writer_comes_back(rt: HostRuntime) {
     let mut file = Vec::new(rt.alloc());
     let mut sink = WriteSink::new(&mut file);
     same!(&rt; sink.write_hex::<true, false>(&[0xab]), Ok(()));
     let (writer, error) = sink.into_parts();
     assert!(rt; error.is_none());
-    writer.push(b'!')?;
+    writer.push(b'!').expect(&rt, "memory");
     same!(&rt; Text(&file), Text(b"AB!"));
     let mut sink = WriteSink::new(&mut file);
     same!(&rt; sink.write_hex::<false, true>(b"kiwi"), Ok(()));
     assert!(rt; sink.error().is_none());
-    sink.finish()?;
+    sink.finish().expect(&rt, "finish");
     same!(&rt; Text(&file), Text(b"AB!0x6b697769"));
-    Ok(())
 }

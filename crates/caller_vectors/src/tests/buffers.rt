@@ -6,7 +6,6 @@ ghost use Rattle.const_hex.specs.Texts.{text_length};
 use const_hex::{Buffer, const_decode_to_array, const_encode, decode_to_array};
 use hex_testing::texts::printed;
 use hex_testing::{Testing, same, same_bytes, same_read};
-use std::alloc::AllocError;
 
 /// Each call that lends the text of a buffer lends this one.
 pub(crate) fn lends<const N: usize, const PREFIX: bool, const LEN: usize>(
@@ -43,14 +42,14 @@ fn formats<const N: usize, const PREFIX: bool, const LEN: usize>(
 fn agrees_with_std<const N: usize, const PREFIX: bool, const LEN: usize>(
     rt: &impl Testing,
     mut buffer: Buffer<N, PREFIX, LEN>,
-) -> Result<(), AllocError>
+)
     requires { LEN ≡ text_length PREFIX N }
 {
     let mut bytes = [0; N];
     for i in 0..N {
         bytes[i] = ((i % 256) as u8).wrapping_mul(37).wrapping_add(11);
     }
-    let text = printed(rt.alloc(), &bytes, PREFIX, false)?;
+    let text = printed(rt.alloc(), &bytes, PREFIX, false).expect(rt, "memory");
     same!(rt, "LEN", N; Buffer::<N, PREFIX, LEN>::LEN, text.len());
     same!(rt, "format", N; buffer.format(&bytes), text.as_str());
     lends(rt, &buffer, &text);
@@ -59,8 +58,7 @@ fn agrees_with_std<const N: usize, const PREFIX: bool, const LEN: usize>(
     let list = buffer.as_bytes();
     same_read!(rt, "decode_to_array", N; decode_to_array::<N>(list), Ok(&bytes));
     same_read!(rt, "const_decode_to_array", N; const_decode_to_array::<N>(list), Ok(&bytes));
-    lends(rt, &buffer.clone()?, &text);
-    Ok(())
+    lends(rt, &buffer.clone().expect(rt, "memory"), &text);
 }
 
 #[test]
@@ -96,28 +94,29 @@ fn made_at_once(rt: HostRuntime) {
 #[test]
 fn debug_form(rt: HostRuntime) {
     let mut buffer = Buffer::<1, false, 2>::new();
-    same!(&rt; format!(in rt.alloc(); "{buffer:?}").as_deref(), Ok("Buffer(\"\\0\\0\")"));
+    let form = format!(in rt.alloc(); "{buffer:?}").expect(&rt, "memory");
+    same_bytes!(&rt, "{:?}", "zeros"; form, "Buffer(\"\\0\\0\")");
     buffer.format(&[0xAB]);
-    let forms = format!(in rt.alloc(); "{buffer:?} {buffer:#?}");
-    same!(&rt; forms.as_deref(), Ok("Buffer(\"ab\") Buffer(\n    \"ab\",\n)"));
+    let forms = format!(in rt.alloc(); "{buffer:?} {buffer:#?}").expect(&rt, "memory");
+    same_bytes!(&rt, "{:?} {:#?}", "ab"; forms, "Buffer(\"ab\") Buffer(\n    \"ab\",\n)");
 }
 
 #[test]
-fn many_sizes(rt: HostRuntime) -> Result<(), AllocError> {
+fn many_sizes(rt: HostRuntime) {
     let empty = const_encode::<0, true, 2>(&[]);
     same_read!(&rt, "to_vec", 0; empty.to_vec(rt.alloc()), Ok(&[48, 120]));
-    agrees_with_std(&rt, Buffer::<8, false, 16>::new())?;
-    agrees_with_std(&rt, Buffer::<8, true, 18>::new())?;
-    agrees_with_std(&rt, Buffer::<20, false, 40>::new())?;
-    agrees_with_std(&rt, Buffer::<20, true, 42>::new())?;
-    agrees_with_std(&rt, Buffer::<32, false, 64>::new())?;
+    agrees_with_std(&rt, Buffer::<8, false, 16>::new());
+    agrees_with_std(&rt, Buffer::<8, true, 18>::new());
+    agrees_with_std(&rt, Buffer::<20, false, 40>::new());
+    agrees_with_std(&rt, Buffer::<20, true, 42>::new());
+    agrees_with_std(&rt, Buffer::<32, false, 64>::new());
     agrees_with_std(&rt, Buffer::<32, true, 66>::new())
 }
 
 #[test]
-fn large_sizes(rt: HostRuntime) -> Result<(), AllocError> {
-    agrees_with_std(&rt, Buffer::<64, false, 128>::new())?;
-    agrees_with_std(&rt, Buffer::<64, true, 130>::new())?;
-    agrees_with_std(&rt, Buffer::<128, false, 256>::new())?;
+fn large_sizes(rt: HostRuntime) {
+    agrees_with_std(&rt, Buffer::<64, false, 128>::new());
+    agrees_with_std(&rt, Buffer::<64, true, 130>::new());
+    agrees_with_std(&rt, Buffer::<128, false, 256>::new());
     agrees_with_std(&rt, Buffer::<128, true, 258>::new())
 }

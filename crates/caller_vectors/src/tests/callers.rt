@@ -1,8 +1,7 @@
 //! What the small callers of `const_hex_uses` answer.
 
 use crate::tests::buffers::lends;
-use crate::tests::sinks::has_pieces;
-use const_hex::{FromHex, FromHexError, JsonError, PieceSink, SinkError, SliceOutput, bytes_of};
+use const_hex::{FromHex, FromHexError, JsonError, PieceSink, SliceOutput, bytes_of};
 use const_hex_uses::accounts::is_same_account;
 use const_hex_uses::addresses::{address_text, digest_text, empty_text, prefixed_digest_text};
 use const_hex_uses::constants::{transfer, wrapped_ether};
@@ -15,6 +14,7 @@ use const_hex_uses::sinks::{first_alone, packets, send, send_json};
 use const_hex_uses::store::{find, find_hash, put, put_hash};
 use const_hex_uses::writers::{array_text, joined_text, string_text, vector_text};
 use hash_hex::Hash32;
+use hex_testing::texts::cut;
 use hex_testing::{Source, Testing, Text, same, same_bytes};
 use serde_json::json;
 use std::alloc::AllocError;
@@ -23,7 +23,6 @@ use std::collections::HashMap;
 use std::fmt::Debug;
 use std::io::ErrorKind;
 use std::rc::Rc;
-use std::test::Fail;
 
 #[test]
 fn texts_without_memory(rt: HostRuntime) {
@@ -37,20 +36,30 @@ fn texts_without_memory(rt: HostRuntime) {
 }
 
 #[test]
-fn texts_of_each_type(rt: HostRuntime) -> Result<(), AllocError> {
+fn texts_of_each_type(rt: HostRuntime) {
     let alloc = rt.alloc();
-    let (vector, string) = (b"kiwi".to_vec(alloc)?, "jolly".to_string(alloc)?);
-    let rows = [
-        ("vector_text", vector_text(alloc, &vector), "6b697769"),
-        ("string_text", string_text(alloc, &string), "6A6F6C6C79"),
-        ("array_text", array_text(alloc, b"kiwi"), "0x6b697769"),
-        ("array_text", array_text(alloc, &[]), "0x"),
-        ("joined_text", joined_text(alloc, b"ki", b"wi"), "6b697769"),
-    ];
-    for (call, text, want) in &rows {
-        same!(&rt, call, *want; text.as_deref(), Ok(*want));
-    }
-    Ok(())
+    let vector = b"kiwi".to_vec(alloc).expect(&rt, "memory");
+    gives(&rt, "vector_text", vector_text(alloc, &vector), "6b697769");
+    let string = "jolly".to_string(alloc).expect(&rt, "memory");
+    gives(
+        &rt,
+        "string_text",
+        string_text(alloc, &string),
+        "6A6F6C6C79",
+    );
+    gives(&rt, "array_text", array_text(alloc, b"kiwi"), "0x6b697769");
+    gives(&rt, "array_text", array_text(alloc, &[]), "0x");
+    gives(
+        &rt,
+        "joined_text",
+        joined_text(alloc, b"ki", b"wi"),
+        "6b697769",
+    );
+}
+
+/// A call that makes a text made this one.
+fn gives(rt: &impl Testing, call: &str, text: Result<String, AllocError>, want: &str) {
+    same_bytes!(rt, call, want; text.expect(rt, "memory"), want);
 }
 
 const LOWER: &[u8] = b"ff80";
@@ -81,16 +90,15 @@ fn two_texts(rt: HostRuntime) {
 }
 
 #[test]
-fn a_text_of_two_types(rt: HostRuntime) -> Result<(), FromHexError> {
-    let (one, two) = read_both::<Rc<Vec<u8>>>(rt.alloc(), LOWER, b"ff81")?;
+fn a_text_of_two_types(rt: HostRuntime) {
+    let (one, two) = read_both::<Rc<Vec<u8>>>(rt.alloc(), LOWER, b"ff81").expect(&rt, "two lists");
     assert!(rt; *one != *two);
-    let (list, array) = read_twice::<2>(rt.alloc(), UPPER)?;
+    let (list, array) = read_twice::<2>(rt.alloc(), UPPER).expect(&rt, "a list and an array");
     same_bytes!(&rt, "read_twice", Text(UPPER); list, array);
     let refusal = FromHexError::InvalidStringLength;
     same!(&rt; read_twice::<3>(rt.alloc(), UPPER).err(), Some(refusal));
-    let shared = read_shared(rt.alloc(), UPPER)?;
+    let shared = read_shared(rt.alloc(), UPPER).expect(&rt, "a list");
     same_bytes!(&rt, "read_shared", Text(UPPER); shared.as_slice(), [0xFF, 0x80]);
-    Ok(())
 }
 
 #[test]
@@ -141,40 +149,43 @@ fn files(rt: HostRuntime) {
 }
 
 #[test]
-fn sinks(rt: HostRuntime) -> Result<(), SinkError> {
+fn sinks(rt: HostRuntime) {
     let mut sink = PieceSink::new(rt.alloc(), 0);
-    send(b"kiwi", &mut sink)?;
-    send_json(b"kiwi", &mut sink)?;
-    has_pieces(&rt, 2, &sink, &["0x6b697769", "0x6b697769"]);
-    has_pieces(&rt, 1, &first_alone(rt.alloc(), "0x", "6b"), &["0x"]);
-    Ok(())
+    send(b"kiwi", &mut sink).expect(&rt, "send");
+    send_json(b"kiwi", &mut sink).expect(&rt, "send_json");
+    has_pieces(&rt, &sink, "0x6b6977690x6b697769", &[10, 10]);
+    has_pieces(&rt, &first_alone(rt.alloc(), "0x", "6b"), "0x", &[2]);
+}
+
+/// A sink has accepted this text, in pieces of these sizes.
+fn has_pieces(rt: &impl Testing, sink: &PieceSink, text: &str, sizes: &[usize]) {
+    let pieces = cut(rt.alloc(), text, sizes).expect(rt, "memory");
+    same!(rt, "pieces", text; sink.pieces(), pieces.as_slice());
 }
 
 #[test]
-fn pieces(rt: HostRuntime) -> Result<(), Fail> {
+fn pieces(rt: HostRuntime) {
     let bytes = [0xAB; 10_000];
     let rows: [(usize, &[usize]); 2] = [
         (5000, &[4034, 4096, 1872]),
         (10_000, &[4034, 4096, 4096, 4096, 3680]),
     ];
     for (count, lengths) in rows {
-        let sink = packets(rt.alloc(), bytes.get(..count).unwrap_or(&[]))?;
+        let sink = packets(rt.alloc(), bytes.get(..count).unwrap_or(&[])).expect(&rt, "packets");
         let pieces = sink.pieces().iter().map(|piece| piece.len());
-        let pieces: Vec<usize> = pieces.collect(rt.alloc())?;
+        let pieces: Vec<usize> = pieces.collect(rt.alloc()).expect(&rt, "memory");
         same!(&rt, "packets", count; pieces.as_slice(), lengths);
     }
-    Ok(())
 }
 
 #[test]
-fn lines_of_a_reader(rt: HostRuntime) -> Result<(), Fail> {
+fn lines_of_a_reader(rt: HostRuntime) {
     let mut file = Vec::new(rt.alloc());
-    dump(&mut b"0123456789abcdefgh".as_slice(), &mut file)?;
+    dump(&mut b"0123456789abcdefgh".as_slice(), &mut file).expect(&rt, "dump");
     same_bytes!(&rt, "dump", "18 bytes"; file, "30313233343536373839616263646566\n6768\n");
     let mut room = [0u8; 5];
     assert!(rt; dump(&mut b"kiwi".as_slice(), &mut room.as_mut_slice()).is_err());
     same_bytes!(&rt, "dump", "a full room"; room, "6b697");
-    Ok(())
 }
 
 // The reader hands out one byte per call. One call fails, or none if its number is 0.
@@ -227,23 +238,22 @@ fn settings(rt: HostRuntime) {
 }
 
 #[test]
-fn requests(rt: HostRuntime) -> Result<(), AllocError> {
-    let request = code_request(rt.alloc(), &[0xab; 20])?;
+fn requests(rt: HostRuntime) {
+    let request = code_request(rt.alloc(), &[0xab; 20]).expect(&rt, "memory");
     let text = "{\"id\":1,\"jsonrpc\":\"2.0\",\"method\":\"eth_getCode\",\
         \"params\":[\"0xabababababababababababababababababababab\",\"latest\"]}";
-    same!(&rt; request.to_string(rt.alloc()).as_deref(), Ok(text));
+    gives(&rt, "code_request", request.to_string(rt.alloc()), text);
     let shown = explained(rt.alloc(), "0xzz", const_hex::check(b"0xzz").unwrap_err());
-    same!(&rt; shown.as_deref(), Ok("0xzz\n  ^"));
-    Ok(())
+    gives(&rt, "explained", shown, "0xzz\n  ^");
 }
 
 #[test]
-fn answers(rt: HostRuntime) -> Result<(), AllocError> {
-    let answer = json!(in rt.alloc(); {"id": 1, "result": "0x6001"})?;
-    same!(&rt; code_of(rt.alloc(), &answer).as_deref(), Ok([0x60, 1].as_slice()));
-    let answer = json!(in rt.alloc(); {"id": 1})?;
+fn answers(rt: HostRuntime) {
+    let answer = json!(in rt.alloc(); {"id": 1, "result": "0x6001"}).expect(&rt, "memory");
+    let code = code_of(rt.alloc(), &answer).expect(&rt, "code_of");
+    same_bytes!(&rt, "code_of", "0x6001"; code, b"\x60\x01");
+    let answer = json!(in rt.alloc(); {"id": 1}).expect(&rt, "memory");
     same!(&rt; code_of(rt.alloc(), &answer).err(), Some(JsonError::NotText));
     let shown = reason(rt.alloc(), &JsonError::NotText);
-    same!(&rt; shown.as_deref(), Ok("expected a hex encoded string"));
-    Ok(())
+    gives(&rt, "reason", shown, "expected a hex encoded string");
 }

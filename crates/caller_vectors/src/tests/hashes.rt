@@ -2,9 +2,8 @@
 
 use const_hex::{FromHex, FromHexError, JsonError};
 use hash_hex::{Address20, FixedBytes, Hash32};
-use hex_testing::{Testing, Text, same};
+use hex_testing::{Testing, Text, same, same_bytes};
 use serde_json::{Number, Value};
-use std::alloc::AllocError;
 use std::cmp::Ordering;
 use std::collections::HashSet;
 use std::fmt;
@@ -22,12 +21,14 @@ fn counted() -> [u8; 32] {
 
 /// The value prints that text by `{}`.
 fn prints<D: fmt::Display>(rt: &impl Testing, value: &D, want: &str) {
-    same!(rt, "{}", want; value.to_string(rt.alloc()).as_deref(), Ok(want));
+    let text = value.to_string(rt.alloc()).expect(rt, "memory");
+    same_bytes!(rt, "{}", want; text, want);
 }
 
 /// The value prints that text by `{:?}`.
 fn shows<D: fmt::Debug>(rt: &impl Testing, value: &D, want: &str) {
-    same!(rt, "{:?}", want; format!(in rt.alloc(); "{value:?}").as_deref(), Ok(want));
+    let text = format!(in rt.alloc(); "{value:?}").expect(rt, "memory");
+    same_bytes!(rt, "{:?}", want; text, want);
 }
 
 #[test]
@@ -64,8 +65,11 @@ fn refused_texts(rt: HostRuntime) {
 
 // The first example of EIP-55. Its checksum, the case of letters, does not matter here.
 #[test]
-fn texts_of_addresses(rt: HostRuntime) -> Result<(), FromHexError> {
-    let address = Address20::from_hex(rt.alloc(), b"0x5aAeb6053F3E94C9b9A09f33669435E7Ef1BeAed")?;
+fn texts_of_addresses(rt: HostRuntime) {
+    let address = Address20::from_hex(
+        rt.alloc(),
+        b"0x5aAeb6053F3E94C9b9A09f33669435E7Ef1BeAed",
+    ).expect(&rt, "an address");
     let lower = "0x5aaeb6053f3e94c9b9a09f33669435e7ef1beaed";
     let shown = "Address20(0x5aaeb6053f3e94c9b9a09f33669435e7ef1beaed)";
     prints(&rt, &address, lower);
@@ -75,7 +79,6 @@ fn texts_of_addresses(rt: HostRuntime) -> Result<(), FromHexError> {
         let read = Address20::from_hex(rt.alloc(), text.as_bytes());
         same!(&rt, "from_hex", text; read, Ok(address));
     }
-    Ok(())
 }
 
 #[test]
@@ -106,26 +109,27 @@ fn ordered<T: Ord + Copy + fmt::Debug>(rt: &impl Testing, low: T, high: T) {
 }
 
 #[test]
-fn sets_of_values(rt: HostRuntime) -> Result<(), FromHexError> {
+fn sets_of_values(rt: HostRuntime) {
     let mut seen = HashSet::new(rt.alloc());
-    let address = Address20::from_hex(rt.alloc(), b"aBaBaBaBaBaBaBaBaBaBaBaBaBaBaBaBaBaBaBaB")?;
+    let address = Address20::from_hex(
+        rt.alloc(),
+        b"aBaBaBaBaBaBaBaBaBaBaBaBaBaBaBaBaBaBaBaB",
+    ).expect(&rt, "an address");
     same!(&rt; seen.insert(Address20::from([0xAB; 20])).ok(), Some(true));
     same!(&rt; seen.insert(address).ok(), Some(false));
     same!(&rt; seen.contains(&Address20::from([0xAC; 20])), false);
-    Ok(())
 }
 
 #[test]
-fn json_values(rt: HostRuntime) -> Result<(), AllocError> {
+fn json_values(rt: HostRuntime) {
     let (hash, address) = (Hash32::from(counted()), Address20::from([7; 20]));
-    let value = hash.to_value(rt.alloc())?;
+    let value = hash.to_value(rt.alloc()).expect(&rt, "memory");
     same!(&rt; value.as_str(), Some(COUNTED));
     same!(&rt; Hash32::from_value(rt.alloc(), &value), Ok(hash));
-    let value = address.to_value(rt.alloc())?;
+    let value = address.to_value(rt.alloc()).expect(&rt, "memory");
     same!(&rt; Address20::from_value(rt.alloc(), &value), Ok(address));
     let other_length = JsonError::Hex(FromHexError::InvalidStringLength);
     same!(&rt; Hash32::from_value(rt.alloc(), &value), Err(other_length));
-    Ok(())
 }
 
 #[test]

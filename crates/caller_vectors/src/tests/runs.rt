@@ -3,9 +3,8 @@
 use const_hex::FromHexError;
 use consthex_modes::{Mode, RunError, answer, run};
 use hex_testing::{Endless, Fault, Source, Target, Testing, Text, same, same_bytes, shown};
-use std::alloc::{AllocError, Global};
+use std::alloc::Global;
 use std::io::{self, ErrorKind, Read};
-use std::test::Fail;
 
 /// A mode, an input, and the answer to it.
 type Answered<'a> = (Mode, &'a [u8], &'a [u8]);
@@ -69,7 +68,7 @@ fn names_oddness(rt: HostRuntime) {
 }
 
 #[test]
-fn names_the_first_bad_byte(rt: HostRuntime) -> Result<(), AllocError> {
+fn names_the_first_bad_byte(rt: HostRuntime) {
     let rows: [(Mode, &[u8], char, usize, &str); 7] = [
         (Mode::Decode, b"zz", 'z', 0, "'z' at position 0"),
         (Mode::Check, b"zz", 'z', 0, "'z' at position 0"),
@@ -81,10 +80,11 @@ fn names_the_first_bad_byte(rt: HostRuntime) -> Result<(), AllocError> {
     ];
     for (mode, input, c, index, named) in rows {
         let error = FromHexError::InvalidHexCharacter { c, index };
-        let line = ["invalid character ", named].concat(rt.alloc())?;
+        let line = ["invalid character ", named]
+            .concat(rt.alloc())
+            .expect(&rt, "memory");
         refuses(&rt, (mode, input), error, &line);
     }
-    Ok(())
 }
 
 /// An input is refused with that error, which prints that line and has the status 1.
@@ -96,7 +96,8 @@ fn refuses(rt: &impl Testing, row: (Mode, &[u8]), error: FromHexError, line: &st
 /// An error has that status, and prints that line.
 fn prints(rt: &impl Testing, error: RunError, status: u8, line: &str) {
     same!(rt, "status", error; error.status(), status);
-    same!(rt, "message", error; error.to_string(rt.alloc()).as_deref(), Ok(line));
+    let text = error.to_string(rt.alloc()).expect(rt, "memory");
+    same_bytes!(rt, "message", line; text, line);
 }
 
 #[test]
@@ -117,31 +118,29 @@ const TEXT: &str = "000102030405060708090a0b0c0d0e0f101112131415161718191a1b1c1d
                     202122232425262728292a2b2c2d2e2f303132333435363738393a3b3c3d3e3f40";
 
 #[test]
-fn handles_lengths_round_the_lanes(rt: HostRuntime) -> Result<(), AllocError> {
+fn handles_lengths_round_the_lanes(rt: HostRuntime) {
     // The bytes below `count` are written as the front of `TEXT`, and read from it.
     for count in [15u8, 16, 17, 31, 32, 33, 47, 48, 49, 63, 64, 65] {
-        let bytes: Vec<u8> = (0..count).collect(rt.alloc())?;
+        let bytes: Vec<u8> = (0..count).collect(rt.alloc()).expect(&rt, "memory");
         let digits = TEXT.get(..2 * usize::from(count)).unwrap_or("");
-        let text = [digits, "\n"].concat(rt.alloc())?;
+        let text = [digits, "\n"].concat(rt.alloc()).expect(&rt, "memory");
         answers(&rt, (Mode::Encode, &bytes), Ok(text.as_bytes()));
         answers(&rt, (Mode::Decode, text.as_bytes()), Ok(&bytes));
     }
-    Ok(())
 }
 
 #[test]
-fn accepts_1048576_bytes_and_no_more(rt: HostRuntime) -> Result<(), Fail> {
+fn accepts_1048576_bytes_and_no_more(rt: HostRuntime) {
     let mut text = Vec::new(rt.alloc());
     let mut zeros = io::repeat(0).take(1_048_576);
-    run(rt.alloc(), Mode::Encode, &mut zeros, &mut text)?;
+    run(rt.alloc(), Mode::Encode, &mut zeros, &mut text).expect(&rt, "run");
     same!(&rt; text.pop(), Some(b'\n'));
-    same_bytes!(&rt, "run", 1_048_576; text, vec![in rt.alloc(); b'0'; 2_097_152]?);
+    same_bytes!(&rt, "run", 1_048_576; text, vec![in rt.alloc(); b'0'; 2_097_152].expect(&rt, "memory"));
     let mut nothing = Vec::new(rt.alloc());
     let mut zeros = io::repeat(0).take(1_048_577);
     let outcome = run(rt.alloc(), Mode::Encode, &mut zeros, &mut nothing);
     same!(&rt, "run", 1_048_577; outcome, Err(RunError::TooLong));
     assert!(rt; nothing.is_empty());
-    Ok(())
 }
 
 const KINDS: [ErrorKind; 2] = [ErrorKind::Interrupted, ErrorKind::Other];

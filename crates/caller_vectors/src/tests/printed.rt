@@ -3,7 +3,6 @@
 use const_hex::{BufferedHex, FormatterSink, Lanes16, Sink, display};
 use hex_testing::texts::{bytes, printed};
 use hex_testing::{Counting, InHex, Testing, same, same_bytes};
-use std::alloc::{AllocError, Global};
 use std::fmt::{self, Write};
 
 /// Prints the uppercase text by 16 lanes, through the library's sink over a formatter.
@@ -34,8 +33,9 @@ impl fmt::Display for EmptyPiece {
 }
 
 /// Width, fill and alignment change nothing. A `#` as the fill makes no prefix.
-fn forms<D: fmt::Display>(alloc: Global, v: &D) -> Result<String, AllocError> {
-    format!(in alloc; "{v} {v:#} {v:*^20} {v:#020} {v:#<20} {v:*<20} {v:*>20}")
+fn has_forms<D: fmt::Display>(rt: &impl Testing, v: &D, want: &str) {
+    let forms = format!(in rt.alloc(); "{v} {v:#} {v:*^20} {v:#020} {v:#<20} {v:*<20} {v:*>20}");
+    same_bytes!(rt, "forms", want; forms.expect(rt, "memory"), want);
 }
 
 #[test]
@@ -44,29 +44,33 @@ fn printed_forms(rt: HostRuntime) {
     let bytes = [0xDE, 0xAD, 0xBE, 0xEF];
     let lower = "deadbeef 0xdeadbeef deadbeef 0xdeadbeef deadbeef deadbeef deadbeef";
     let upper = "DEADBEEF 0xDEADBEEF DEADBEEF 0xDEADBEEF DEADBEEF DEADBEEF DEADBEEF";
-    same!(&rt; forms(alloc, &display(&bytes)).as_deref(), Ok(lower));
-    same!(&rt; forms(alloc, &InHex::<false>(&bytes)).as_deref(), Ok(lower));
-    same!(&rt; forms(alloc, &InHex::<true>(&bytes)).as_deref(), Ok(upper));
-    same!(&rt; ByLanes(&bytes).to_string(alloc).as_deref(), Ok("DEADBEEF"));
-    same!(&rt; EmptyPiece.to_string(alloc).as_deref(), Ok("true"));
+    has_forms(&rt, &display(&bytes), lower);
+    has_forms(&rt, &InHex::<false>(&bytes), lower);
+    has_forms(&rt, &InHex::<true>(&bytes), upper);
+    let text = ByLanes(&bytes).to_string(alloc).expect(&rt, "memory");
+    same_bytes!(&rt, "ByLanes", bytes; text, "DEADBEEF");
+    let text = EmptyPiece.to_string(alloc).expect(&rt, "memory");
+    same_bytes!(&rt, "EmptyPiece", (); text, "true");
 }
 
 #[test]
-fn printed_bytes(rt: HostRuntime) -> Result<(), AllocError> {
-    let data = bytes(rt.alloc(), 100_000)?;
-    let lower = printed(rt.alloc(), &data, false, false)?;
-    prints(&rt, &display(&data), &lower)?;
-    let upper = printed(rt.alloc(), &data, false, true)?;
+fn printed_bytes(rt: HostRuntime) {
+    let data = bytes(rt.alloc(), 100_000).expect(&rt, "memory");
+    let lower = printed(rt.alloc(), &data, false, false).expect(&rt, "memory");
+    prints(&rt, &display(&data), &lower);
+    let upper = printed(rt.alloc(), &data, false, true).expect(&rt, "memory");
     prints(&rt, &InHex::<true>(&data), &upper)
 }
 
 /// A value prints this text, and with `#` the prefix and this text.
-fn prints<D: fmt::Display>(rt: &impl Testing, v: &D, want: &str) -> Result<(), AllocError> {
-    let texts = [v.to_string(rt.alloc())?, format!(in rt.alloc(); "{v:#}")?];
-    let prefixed = ["0x", want].concat(rt.alloc())?;
+fn prints<D: fmt::Display>(rt: &impl Testing, v: &D, want: &str) {
+    let texts = [
+        v.to_string(rt.alloc()).expect(rt, "memory"),
+        format!(in rt.alloc(); "{v:#}").expect(rt, "memory"),
+    ];
+    let prefixed = ["0x", want].concat(rt.alloc()).expect(rt, "memory");
     same_bytes!(rt, "{}", want.len(); &texts[0], want);
     same_bytes!(rt, "{:#}", want.len(); &texts[1], &prefixed);
-    Ok(())
 }
 
 #[test]

@@ -2,7 +2,6 @@
 
 use consthex_modes::{Mode, USAGE, mode_of, program};
 use hex_testing::{Endless, Fault, Source, Target, Testing, Text, same, same_bytes};
-use std::alloc::AllocError;
 use std::cell::Cell;
 use std::env::{Env, FillError};
 use std::fmt::{self, Debug, Display};
@@ -198,7 +197,7 @@ fn statuses_of_failed_writes(rt: HostRuntime) {
 }
 
 #[test]
-fn six_words_name_a_mode(rt: HostRuntime) -> Result<(), AllocError> {
+fn six_words_name_a_mode(rt: HostRuntime) {
     let rows = [
         ("encode", Mode::Encode),
         ("encode-upper", Mode::EncodeUpper),
@@ -208,29 +207,29 @@ fn six_words_name_a_mode(rt: HostRuntime) -> Result<(), AllocError> {
         ("check", Mode::Check),
     ];
     for (word, mode) in rows {
-        name(&rt, &[word], Some(mode))?;
-        name(&rt, &[word, word], None)?;
+        name(&rt, &[word], Some(mode));
+        name(&rt, &[word, word], None);
     }
-    Ok(())
 }
 
 #[test]
-fn other_words_name_none(rt: HostRuntime) -> Result<(), AllocError> {
+fn other_words_name_none(rt: HostRuntime) {
     for word in "|ENCODE|Decode|encode |encodes|--check|upper".split('|') {
-        name(&rt, &[word], None)?;
+        name(&rt, &[word], None);
     }
-    name(&rt, &[], None)?;
+    name(&rt, &[], None);
     name(&rt, &["encode", "-upper"], None)
 }
 
 /// These arguments name that mode, or none.
-fn name(rt: &impl Testing, words: &[&str], mode: Option<Mode>) -> Result<(), AllocError> {
+fn name(rt: &impl Testing, words: &[&str], mode: Option<Mode>) {
     let mut strings = Vec::new(rt.alloc());
     for word in words {
-        strings.push(word.to_string(rt.alloc())?)?;
+        strings
+            .push(word.to_string(rt.alloc()).expect(rt, "memory"))
+            .expect(rt, "memory");
     }
     same!(rt, "mode_of", words; mode_of(&strings), mode);
-    Ok(())
 }
 
 #[test]

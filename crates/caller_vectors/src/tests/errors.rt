@@ -5,18 +5,17 @@ ghost use Rattle.std.specs.Prelude.{IsTrue};
 use const_hex::FromHexError::{self, InvalidStringLength, NoMemory, OddLength};
 use const_hex::{HexFault, JsonError, SinkError};
 use hex_testing::texts::bad;
-use hex_testing::{Testing, same};
+use hex_testing::{Testing, same, same_bytes};
 use std::alloc::AllocError;
 
 const NOT_TEXT: JsonError<FromHexError> = JsonError::NotText;
 
 /// The message of an error is this, also as the error of a JSON value.
 fn prints(rt: &impl Testing, error: FromHexError, want: &str) {
-    let want = Ok(want);
-    let text = error.to_string(rt.alloc());
+    let text = error.to_string(rt.alloc()).expect(rt, "memory");
+    same_bytes!(rt, "message", want; text, want);
     let in_json = JsonError::Hex(error).to_string(rt.alloc());
-    same!(rt, "message", error; text.as_deref(), want);
-    same!(rt, "message in JSON", error; in_json.as_deref(), want);
+    same_bytes!(rt, "message in JSON", want; in_json.expect(rt, "memory"), want);
 }
 
 #[test]
@@ -24,23 +23,23 @@ fn printed(rt: HostRuntime) {
     prints(&rt, OddLength, "odd number of digits");
     prints(&rt, InvalidStringLength, "invalid string length");
     prints(&rt, NoMemory, "out of memory");
-    let texts = format!(in rt.alloc(); "{NOT_TEXT}, {SinkError}");
-    same!(&rt; texts.as_deref(), Ok("expected a hex encoded string, sink refused"));
+    let texts = format!(in rt.alloc(); "{NOT_TEXT}, {SinkError}").expect(&rt, "memory");
+    same_bytes!(&rt, "{}", "others"; texts, "expected a hex encoded string, sink refused");
 }
 
 #[test]
 fn debug_forms(rt: HostRuntime) {
     let errors = (OddLength, bad(b'z', 5));
     let others = (JsonError::Hex(OddLength), NOT_TEXT, SinkError);
-    let texts = format!(in rt.alloc(); "{errors:?}, {others:?}");
+    let texts = format!(in rt.alloc(); "{errors:?}, {others:?}").expect(&rt, "memory");
     let want = "(OddLength, InvalidHexCharacter { c: 'z', index: 5 }), \
                 (Hex(OddLength), NotText, SinkError)";
-    same!(&rt; texts.as_deref(), Ok(want));
+    same_bytes!(&rt, "{:?}", "errors"; texts, want);
 }
 
 // Places have one to eight figures.
 #[test]
-fn printed_places(rt: HostRuntime) -> Result<(), AllocError> {
+fn printed_places(rt: HostRuntime) {
     let places = [
         (0, "0"),
         (7, "7"),
@@ -54,10 +53,11 @@ fn printed_places(rt: HostRuntime) -> Result<(), AllocError> {
         (87_654_321, "87654321"),
     ];
     for (place, figures) in places {
-        let want = ["invalid character 'z' at position ", figures].concat(rt.alloc())?;
+        let want = ["invalid character 'z' at position ", figures]
+            .concat(rt.alloc())
+            .expect(&rt, "memory");
         prints(&rt, bad(b'z', place), &want);
     }
-    Ok(())
 }
 
 fn are_equal(a: SinkError, b: SinkError) -> bool

@@ -2,18 +2,16 @@
 
 use const_hex::{HEX_CHARS_LOWER, HEX_CHARS_UPPER, HEX_DECODE_LUT, NIL, digit_at, value_at};
 use hex_testing::{same, same_bytes};
-use std::alloc::AllocError;
 
 #[test]
-fn digits_of_values(rt: HostRuntime) -> Result<(), AllocError> {
+fn digits_of_values(rt: HostRuntime) {
     same!(&rt; HEX_CHARS_LOWER, b"0123456789abcdef");
     same!(&rt; HEX_CHARS_UPPER, b"0123456789ABCDEF");
     for v in 0..16u8 {
-        let texts = format!(in rt.alloc(); "{v:x}{v:X}")?;
+        let texts = format!(in rt.alloc(); "{v:x}{v:X}").expect(&rt, "memory");
         let digits = [digit_at(false, v), digit_at(true, v)];
         same_bytes!(&rt, "digit_at", v; digits, texts);
     }
-    Ok(())
 }
 
 #[test]
