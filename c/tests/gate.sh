@@ -59,6 +59,13 @@ fails_on_bad_edits() {
         [ "$(tail -n 1 "$room/said")" = "6 passed, 1 failed" ]
 }
 
+# Whether the gate says why the libraries were not built.
+tells_of_build() {
+    stand_in_for_all && stands_in "$room/gate/c/build" 'echo no room; exit 1' || return 1
+    runs_gate
+    grep -q ' min: no room$' "$room/said"
+}
+
 # Whether the gate says how many edits were tried.
 tells_progress() {
     stand_in_for_all && stands_in "$room/gate/bin/rt" '[ "$1" = ci ] || exit
@@ -110,6 +117,7 @@ test_gate() {
         does "the gate over $row" adds_part "$row"
     done
     does "./test fails if an edit no longer compiles" fails_on_bad_edits
+    does "./test tells why no library was built" tells_of_build
     does "./test tells how far it is" tells_progress
     does "./test without its tools" needs_tools
     for row in "${edit_rows[@]}"; do

@@ -71,7 +71,7 @@ fn the_version() {
 #[test]
 fn an_error_of_std() {
     let error: Box<dyn std::error::Error> = Box::new(check("6").unwrap_err());
-    assert_eq!(error.to_string(), "odd number of digits");
+    assert_eq!(error.to_string(), FromHexError::OddLength.to_string());
 }
 
 #[cfg(feature = "alloc")]

@@ -1,5 +1,6 @@
 //! What both packages hand to `serde`, and read from it, over the traits that stand in for it.
 
+use const_hex_proved::FromHexError;
 use serde::de::{Deserializer, Error, Visitor};
 use serde::Serializer;
 use std::fmt::{self, Display, Formatter};
@@ -97,15 +98,13 @@ fn read() {
             assert_eq!(read(Reader::Text(text)), Ok(*b"ki"));
             assert_eq!(read(Reader::Bytes(text)), Ok(*b"ki"));
         }
+        let bad = FromHexError::InvalidHexCharacter { c: 'g', index: 5 };
         for (reader, message) in [
-            (
-                Reader::Text("0x6b6g"),
-                "invalid character 'g' at position 5",
-            ),
-            (Reader::Bytes("6b6"), "odd number of digits"),
-            (Reader::Nothing, "a hex encoded string"),
+            (Reader::Text("0x6b6g"), bad.to_string()),
+            (Reader::Bytes("6b6"), FromHexError::OddLength.to_string()),
+            (Reader::Nothing, "a hex encoded string".to_string()),
         ] {
-            assert_eq!(read(reader), Err(Message(message.to_string())));
+            assert_eq!(read(reader), Err(Message(message)));
         }
     }
 }
