@@ -1,14 +1,24 @@
 //! The tests, and what a row that fails prints. [`hex_testing::same`] and
 //! [`hex_testing::same_bytes`] call `check` and `check_bytes`.
 
+mod buffers;
+mod callers;
 mod decoding;
 mod encoding;
+mod errors;
+mod exhausted;
+mod hashes;
+mod hosts;
 mod kernels;
 mod lanes;
 mod long;
 mod pieces;
+mod printed;
+mod runs;
 mod sinks;
 mod streaming;
+mod tables;
+mod write_sink;
 
 use hex_testing::{Rest, Text, rests, shown};
 use std::alloc::AllocError;

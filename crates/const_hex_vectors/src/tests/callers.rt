@@ -1,6 +1,7 @@
 //! What the small callers of `const_hex_uses` answer.
 
 use crate::tests::buffers::lends;
+use crate::tests::sinks::has_pieces;
 use const_hex::{FromHex, FromHexError, JsonError, PieceSink, SliceOutput, bytes_of};
 use const_hex_uses::accounts::is_same_account;
 use const_hex_uses::addresses::{address_text, digest_text, empty_text, prefixed_digest_text};
@@ -14,7 +15,6 @@ use const_hex_uses::sinks::{first_alone, packets, send, send_json};
 use const_hex_uses::store::{find, find_hash, put, put_hash};
 use const_hex_uses::writers::{array_text, joined_text, string_text, vector_text};
 use hash_hex::Hash32;
-use hex_testing::texts::cut;
 use hex_testing::{Source, Testing, Text, same, same_bytes};
 use serde_json::json;
 use std::alloc::AllocError;
@@ -153,14 +153,8 @@ fn sinks(rt: HostRuntime) {
     let mut sink = PieceSink::new(rt.alloc(), 0);
     send(b"kiwi", &mut sink).expect(&rt, "send");
     send_json(b"kiwi", &mut sink).expect(&rt, "send_json");
-    has_pieces(&rt, &sink, "0x6b6977690x6b697769", &[10, 10]);
-    has_pieces(&rt, &first_alone(rt.alloc(), "0x", "6b"), "0x", &[2]);
-}
-
-/// A sink has accepted this text, in pieces of these sizes.
-fn has_pieces(rt: &impl Testing, sink: &PieceSink, text: &str, sizes: &[usize]) {
-    let pieces = cut(rt.alloc(), text, sizes).expect(rt, "memory");
-    same!(rt, "pieces", text; sink.pieces(), pieces.as_slice());
+    has_pieces(&rt, 2, &sink, &["0x6b697769", "0x6b697769"]);
+    has_pieces(&rt, 1, &first_alone(rt.alloc(), "0x", "6b"), &["0x"]);
 }
 
 #[test]
