@@ -33,7 +33,9 @@
  * On x86-64 the library needs a processor with x86-64-v2 (SSE4.2 and what came with it, since about
  * 2009). On an older one a call may stop the program with an illegal instruction.
  *
- * On x86-64 the library is tested with glibc and with musl.
+ * On x86-64 the library is tested with glibc and with musl, on ARM only under qemu.
+ *
+ * A call needs less than 2 KB of stack.
  *
  * The objects have no unwind tables. A debugger or a profiler that stops inside a call may not find the
  * caller.

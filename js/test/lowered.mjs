@@ -12,7 +12,7 @@ const all = (exports) => Buffer.from(exports.memory.buffer);
 let memories = [all(wide), all(narrow)];
 const END = memories[0].length;
 const REFUSAL = 16 * Math.ceil(Number(wide.__heap_base.value) / 16);
-const [COUNT, WORDS, OUTPUT] = [REFUSAL + 16, REFUSAL + 32, REFUSAL + 128];
+const [COUNT, WORDS, DECODER, OUTPUT] = [REFUSAL + 16, REFUSAL + 32, REFUSAL + 96, REFUSAL + 128];
 
 /** Makes a call in both modules. An array holds a number of 64 bits; any other is a boolean. */
 function same(name, ...values) {
@@ -40,6 +40,12 @@ function ask(bytes, address, room) {
         }
     }
     same('check_raw', ...input);
+    put(new Uint8Array(16), DECODER);
+    const half = bytes.length >> 1;
+    for (const [start, end] of [[0, half], [half, bytes.length]]) {
+        same('decode_piece', [DECODER], [address + start], [end - start], [OUTPUT], [room], [COUNT], [REFUSAL]);
+    }
+    same('decode_end', [DECODER], [REFUSAL]);
     for (const accepted of [
         same('check', ...input, [REFUSAL]),
         same('decode', ...input, [OUTPUT], [room], [REFUSAL]),

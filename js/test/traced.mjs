@@ -38,6 +38,11 @@ function ways(bytes, prefix) {
     ways.check = taken('check', INPUT, count, REFUSAL);
     ways.decode = taken('decode', INPUT, count, OUTPUT, length, REFUSAL);
     ways.decode_front = taken('decode_front', INPUT, count, OUTPUT, length + 3, COUNT, REFUSAL);
+    const [decoder, half] = [INPUT + 8000, (count >> 1) | 1];
+    memory.fill(0, decoder, decoder + 16);
+    ways.first_piece = taken('decode_piece', decoder, INPUT, half, OUTPUT, 4096, COUNT, REFUSAL);
+    ways.last_piece = taken('decode_piece', decoder, INPUT + half, count - half, OUTPUT + 4096, 4096, COUNT, REFUSAL);
+    ways.decode_end = taken('decode_end', decoder, REFUSAL);
     return ways;
 }
 

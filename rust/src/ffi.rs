@@ -1,4 +1,4 @@
-//! The calls of `c/const_hex.h`, each behind a safe function, and the only `unsafe` of this package.
+//! The calls of `c/const_hex.h`, each behind a safe function.
 //!
 //! The header asks of its caller what slices ensure: a pointer and a length that belong together, and
 //! nothing else that uses what a call writes. It also allows the pointer of an empty slice.

@@ -22,7 +22,7 @@ status_of WriteFailed = 3
 status_of TooLong = 3
 status_of NoMemory = 4
 
--- a text is refused, and not because of memory
+-- the error of the program for an error of a call
 abbrev pub refusal_of : FromHexError → RunError
 refusal_of OddLength = Text OddLength
 refusal_of InvalidStringLength = Text InvalidStringLength

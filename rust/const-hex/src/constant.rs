@@ -1,4 +1,5 @@
-//! Not the proved code: calls for constants, which cannot call C, in plain safe Rust.
+//! Not the proved code: calls for constants, which cannot call C, in plain safe Rust. They look digits up
+//! in tables, so they are not for keys.
 //!
 //! Tests compare them with the proved library: on the table of answers, and on every pair of bytes at
 //! each place of a text of at most 8 digits.
