@@ -230,11 +230,11 @@ static int table(void) {
     return 0;
 }
 
-int main(int arguments, char **words) {
-    const char *word = arguments > 1 ? words[1] : "";
+int main(int count, char **arguments) {
+    const char *word = count > 1 ? arguments[1] : "";
 #ifdef __x86_64__
     if (strcmp(word, "paths") == 0 && arguments == 3) {
-        return paths(strtoul(words[2], NULL, 10));
+        return paths(strtoul(arguments[2], NULL, 10));
     }
 #endif
     if (strcmp(word, "table") == 0) {

@@ -209,12 +209,12 @@ test_musl() {
 # Whether a script shows its own usage, and its status is 2.
 misused() { "$@" 2> "$room/complaint"; [ $? -eq 2 ] && grep -q "^usage: $1 " "$room/complaint"; }
 
-test_words_of_build() {
-    local words
-    for words in --bogus --help "--target riscv" --target "a b" "--single a b"; do
+test_arguments_of_build() {
+    local arguments
+    for arguments in --bogus --help "--target riscv" --target "a b" "--single a b"; do
         # Each row is one line of arguments.
         # shellcheck disable=SC2086
-        does "c/build $words" misused c/build $words
+        does "c/build $arguments" misused c/build $arguments
     done
     does "c/install --bogus" misused c/install --bogus
     does "c/install --prefix with no folder" misused c/install --prefix

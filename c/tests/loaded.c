@@ -22,9 +22,9 @@ static bool encodes(void *library) {
            memcmp(text, "0x6b697769", sizeof text) == 0;
 }
 
-int main(int count, char **words) {
+int main(int count, char **arguments) {
     for (int turn = 0; turn < TURNS; turn++) {
-        void *library = count > 1 ? dlopen(words[1], RTLD_NOW) : NULL;
+        void *library = count > 1 ? dlopen(arguments[1], RTLD_NOW) : NULL;
         if (library == NULL || !encodes(library)) {
             fprintf(stderr, "loaded: %s\n", library == NULL ? dlerror() : "a wrong answer");
             return 1;

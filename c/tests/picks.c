@@ -113,10 +113,10 @@ static void *thread(void *number) {
     return wrong_from((size_t)number) == 0 ? NULL : number;
 }
 
-int main(int arguments, char **words) {
+int main(int count, char **arguments) {
     pthread_t threads[THREADS];
     unsigned failed = 0;
-    wanted = arguments > 1 ? words[1] : "";
+    wanted = count > 1 ? arguments[1] : "";
     pthread_barrier_init(&start, NULL, THREADS);
     for (size_t at = 0; at < THREADS; at++) {
         if (pthread_create(&threads[at], NULL, thread, (void *)(at + 1)) != 0) {

@@ -136,17 +136,17 @@ has_pages() {
     done
 }
 
-# Runs c/release of the copy, without libraries. Its c/build notes its words, copies the libraries and ends with
+# Runs c/release of the copy, without libraries. Its c/build notes its arguments, copies the libraries and ends with
 # the status $1.
 releases_after_build() {
-    rm -rf "$room/released/made" && stands_in "$room/released/c/build" "echo \"\${*//\$2/FOLDER}\" > '$room/words'
+    rm -rf "$room/released/made" && stands_in "$room/released/c/build" "echo \"\${*//\$2/FOLDER}\" > '$room/arguments'
         cp -R '$room/released/libraries' \"\$2\"
         exit $1" || return 1
     "$room/released/c/release" "$room/released/made" > "$room/said" 2> "$room/complaint"
 }
 
 builds_all() {
-    releases_after_build 0 && [ "$(cat "$room/words")" = "--all FOLDER" ] && diff -r "$room/release" "$room/released/made"
+    releases_after_build 0 && [ "$(cat "$room/arguments")" = "--all FOLDER" ] && diff -r "$room/release" "$room/released/made"
 }
 
 ends_with_build() {

@@ -84,7 +84,7 @@ takes_proved() {
         grep -q 'rt ci left no library of const_hex_arch' "$room/complaint"
 }
 
-# An rt that makes an archive with all calls, and a module. Each object has rt's words.
+# An rt that makes an archive with all calls, and a module. Each object has rt's arguments.
 plant_maker() {
     plant_rt 'case $PWD in */const_hex_c) ;; *) exit ;; esac
         mkdir -p out && cd out && echo "<$*>" > const_hex_c.wasm || exit 1
@@ -92,7 +92,7 @@ plant_maker() {
             cc -fPIC -x c -c - -o const_hex_c.o && rm -f libconst_hex_c.a && ar rc libconst_hex_c.a const_hex_c.o'
 }
 
-# Words of c/build, and behind each file that it makes the words that rt got for each object in it, in order.
+# Arguments of c/build, and behind each file that it makes the arguments that rt got for each object in it, in order.
 build_rows=(
     "|./libconst_hex.a <lib --jobs 3> <lib --jobs 3 --cpu=x86-64-v3>"
     "|./libconst_hex.so.1 <lib --jobs 3> <lib --jobs 3 --cpu=x86-64-v3>"
@@ -107,10 +107,10 @@ build_rows=(
     "--all|./wasm64/const_hex.wasm <lib --jobs 3>"
 )
 
-# Whether c/build makes all files that the rows for its words $1 name, and no other.
+# Whether c/build makes all files that the rows for its arguments $1 name, and no other.
 makes_rows() {
     local file
-    # The words are several arguments, or none.
+    # They are several, or none.
     # shellcheck disable=SC2086
     builds $1 || return 1
     (cd "$room/made" && find . -type f | sort | while IFS= read -r file; do
@@ -141,7 +141,7 @@ wait_for_each_other() {
 }
 
 test_scripts() {
-    local signal words crate
+    local signal arguments crate
     does "a copy of the repository" plant
     does "c/build proves without what stands in out/" finds_out no --single
     does "c/build --again says that it trusts out/" trusts
@@ -150,14 +150,14 @@ test_scripts() {
         does "c/build that $signal ends leaves nothing running" ends "$signal"
     done
     does "an rt that makes archives" plant_maker
-    for words in "" --single "--target aarch64" "--target wasm64" --all; do
-        does "c/build $words makes its files" makes_rows "$words"
+    for arguments in "" --single "--target aarch64" "--target wasm64" --all; do
+        does "c/build $arguments makes its files" makes_rows "$arguments"
     done
     does "c/build --again makes its files" builds --again --single
     for crate in const_hex const_hex_c; do
-        for words in "--single" "--again --all" "--again --target wasm64"; do
+        for arguments in "--single" "--again --all" "--again --target wasm64"; do
             # shellcheck disable=SC2086
-            does "c/build $words makes nothing if $crate is not proved" makes_nothing "$crate" $words
+            does "c/build $arguments makes nothing if $crate is not proved" makes_nothing "$crate" $arguments
         done
     done
     does "c/build --again waits for another" wait_for_each_other

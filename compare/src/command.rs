@@ -31,9 +31,9 @@ pub enum Command {
 
 impl Command {
     /// The command of these arguments.
-    pub fn of(words: &[String]) -> Option<Command> {
-        let words: Vec<&str> = words.iter().map(String::as_str).collect();
-        match words.as_slice() {
+    pub fn of(arguments: &[String]) -> Option<Command> {
+        let arguments: Vec<&str> = arguments.iter().map(String::as_str).collect();
+        match arguments.as_slice() {
             ["table"] => Some(Command::Table),
             ["questions", numbers @ ..] => asked(numbers).map(Command::Questions),
             ["differ", numbers @ ..] => asked(numbers).map(Command::Differ),
@@ -98,8 +98,8 @@ mod tests {
             ("count 1", false),
         ];
         for (line, known) in rows {
-            let words: Vec<String> = line.split_whitespace().map(String::from).collect();
-            assert_eq!(Command::of(&words).is_some(), known, "{line}");
+            let arguments: Vec<String> = line.split_whitespace().map(String::from).collect();
+            assert_eq!(Command::of(&arguments).is_some(), known, "{line}");
         }
     }
 }

@@ -12,8 +12,8 @@ use std::process::ExitCode;
 use std::time::Instant;
 
 fn main() -> ExitCode {
-    let words: Vec<String> = std::env::args().skip(1).collect();
-    let Some(command) = Command::of(&words) else {
+    let arguments: Vec<String> = std::env::args().skip(1).collect();
+    let Some(command) = Command::of(&arguments) else {
         eprintln!("{USAGE}");
         return ExitCode::from(2);
     };

@@ -39,14 +39,14 @@ pub const USAGE: &str = "usage: consthex \
 /// compared byte for byte.
 ///
 /// ```rust
-/// let words = [String::from_str(rt.alloc(), "decode")?];
-/// assert_eq!(rt; mode_of(&words), Some(Mode::Decode));
+/// let arguments = [String::from_str(rt.alloc(), "decode")?];
+/// assert_eq!(rt; mode_of(&arguments), Some(Mode::Decode));
 /// assert_eq!(rt; mode_of(&[]), None);
 /// ```
-pub fn mode_of(words: &[String]) -> Option<Mode>
-    ensures { (m : Mode) → (result ≡ Some m) ↔ (map string_bytes words.now ≡ word_of m ∷ []) }
+pub fn mode_of(arguments: &[String]) -> Option<Mode>
+    ensures { (m : Mode) → (result ≡ Some m) ↔ (map string_bytes arguments.now ≡ word_of m ∷ []) }
 {
-    let [word] = words else {
+    let [word] = arguments else {
         return None;
     };
     match word.as_str() {

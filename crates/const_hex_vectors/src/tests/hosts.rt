@@ -12,15 +12,15 @@ use std::process::ExitCode;
 /// that were printed, and how many were printed.
 #[derive(Drop)]
 struct Host<'a> {
-    words: &'a [&'a [u8]],
+    arguments: &'a [&'a [u8]],
     printed: Cell<([u8; 128], usize)>,
     can_print: bool,
 }
 
 impl<'a> Host<'a> {
-    fn new(words: &'a [&'a [u8]], can_print: bool) -> Host<'a> {
+    fn new(arguments: &'a [&'a [u8]], can_print: bool) -> Host<'a> {
         Host {
-            words,
+            arguments,
             printed: Cell::new(([0; 128], 0)),
             can_print,
         }
@@ -29,10 +29,10 @@ impl<'a> Host<'a> {
 
 impl Env for Host<'_> {
     fn arg(&self, i: usize, buf: &mut [u8]) -> Result<usize, FillError> {
-        if i >= self.words.len() {
+        if i >= self.arguments.len() {
             return Err(FillError::NotPresent);
         }
-        let word = self.words[i];
+        let word = self.arguments[i];
         if word.len() > buf.len() {
             return Err(FillError::TooLong);
         }
@@ -80,9 +80,9 @@ const ENCODE_UPPER_PREFIXED: &[&[u8]] = &[b"consthex", b"encode-upper-prefixed"]
 
 /// Arguments that print as texts.
 #[derive(Drop)]
-struct Words<'a>(&'a [&'a [u8]]);
+struct Shown<'a>(&'a [&'a [u8]]);
 
-impl Debug for Words<'_> {
+impl Debug for Shown<'_> {
     fn fmt<W: fmt::Write>(&self, f: &mut fmt::Formatter<W>) -> fmt::Result {
         for word in self.0 {
             write!(f, "{:?} ", Text(word))?;
@@ -100,13 +100,13 @@ fn ends<R: Read>(
     (status, line): (u8, &str),
 ) {
     let code = program(&(&host, rt.alloc()), input, output);
-    same!(rt, "program", Words(host.words); code, ExitCode::from(status));
+    same!(rt, "program", Shown(host.arguments); code, ExitCode::from(status));
     let (bytes, count) = host.printed.get();
     let printed = &bytes[..count.min(128)];
     let line = (status != 0).then_some(Text(line.as_bytes()));
     let shown = printed.strip_suffix(b"\n").map(|line| Text(line));
-    same!(rt, "standard error", Words(host.words); shown, line);
-    same!(rt, "standard error", Words(host.words); printed.is_empty(), (status == 0));
+    same!(rt, "standard error", Shown(host.arguments); shown, line);
+    same!(rt, "standard error", Shown(host.arguments); printed.is_empty(), (status == 0));
 }
 
 // The name of the program does not matter.
@@ -124,16 +124,16 @@ fn words_that_name_a_mode(rt: HostRuntime) {
         (&[b"consthex", b"decode"], b"6b697769\n", b"kiwi"),
         (&[b"consthex", b"check"], b"6b697769\n", b"ok\n"),
     ];
-    for (words, input, answer) in rows {
+    for (arguments, input, answer) in rows {
         let (mut input, mut output) = (input, Target::new(rt.alloc(), 1, Fault::Nothing));
         ends(
             &rt,
-            Host::new(words, true),
+            Host::new(arguments, true),
             &mut input,
             &mut output,
             (0, ""),
         );
-        same_bytes!(&rt, "program", Words(words); output.taken, answer);
+        same_bytes!(&rt, "program", Shown(arguments); output.taken, answer);
     }
 }
 
@@ -156,13 +156,13 @@ fn words_that_name_none(rt: HostRuntime) {
         (&[b"consthex", b"encode\xff"], true),
         (&[b"consthex", LONG_WORD], true),
     ];
-    for (words, can_print) in rows {
+    for (arguments, can_print) in rows {
         let mut input = b"kiwi".as_slice();
         let mut output = Target::new(rt.alloc(), 1, Fault::Nothing);
-        let host = Host::new(words, can_print);
+        let host = Host::new(arguments, can_print);
         ends(&rt, host, &mut input, &mut output, (2, USAGE));
-        same_bytes!(&rt, "what is left to read", Words(words); input, "kiwi");
-        same!(&rt, "writes, flushes", Words(words); (output.writes, output.flushes), (0, 0));
+        same_bytes!(&rt, "what is left to read", Shown(arguments); input, "kiwi");
+        same!(&rt, "writes, flushes", Shown(arguments); (output.writes, output.flushes), (0, 0));
     }
 }
 
@@ -222,14 +222,14 @@ fn other_words_name_none(rt: HostRuntime) {
 }
 
 /// These arguments name that mode, or none.
-fn name(rt: &impl Testing, words: &[&str], mode: Option<Mode>) {
+fn name(rt: &impl Testing, arguments: &[&str], mode: Option<Mode>) {
     let mut strings = Vec::new(rt.alloc());
-    for word in words {
+    for word in arguments {
         strings
             .push(word.to_string(rt.alloc()).expect(rt, "memory"))
             .expect(rt, "memory");
     }
-    same!(rt, "mode_of", words; mode_of(&strings), mode);
+    same!(rt, "mode_of", arguments; mode_of(&strings), mode);
 }
 
 #[test]
