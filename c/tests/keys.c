@@ -233,7 +233,7 @@ static int table(void) {
 int main(int count, char **arguments) {
     const char *word = count > 1 ? arguments[1] : "";
 #ifdef __x86_64__
-    if (strcmp(word, "paths") == 0 && arguments == 3) {
+    if (strcmp(word, "paths") == 0 && count == 3) {
         return paths(strtoul(arguments[2], NULL, 10));
     }
 #endif
