@@ -2,7 +2,7 @@
 
 ghost use Rattle.std.specs.Prelude.{◌≡◌, Some, IfOk};
 ghost use Rattle.const_hex_arch.specs.Texts.{full_text};
-ghost use Rattle.const_hex.specs.Reserved.{ReservedStep, spare_room};
+ghost use Rattle.const_hex.specs.Buffers.{ReservedStep, spare_room};
 
 use const_hex_arch::{Kernel, Output, encode_full};
 use std::alloc::{AllocError, Global};

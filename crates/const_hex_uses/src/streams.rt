@@ -1,8 +1,7 @@
 //! A text that comes from a file or a socket in pieces.
 
 ghost use Rattle.std.specs.Prelude.{◌≡◌, ◌≢◌, ◌/◌, ◌<◌, ◌↔◌, length, take, IfOk, IfErr, Ok, Err};
-ghost use Rattle.const_hex.specs.Answers.{IsOdd, Reads};
-ghost use Rattle.const_hex.specs.Bodies.{NamesFirstBad, body_of};
+ghost use Rattle.const_hex.specs.Results.{IsOdd, Reads, NamesFirstBad, body_of};
 ghost use Rattle.const_hex.specs.Texts.{AllDigits};
 ghost use Rattle.const_hex.specs.declared.error.FromHexError.TheVariants.{InvalidStringLength, OddLength};
 ghost use Rattle.const_hex_uses.specs.Decoded.{Decoded};

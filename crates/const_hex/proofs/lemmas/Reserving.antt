@@ -3,8 +3,8 @@ use Rattle.std.proofs.Common.{◌≡◌, ℕ, ◌+◌, ◌<◌, ◌≤◌, List,
 use Rattle.std.proofs.lemmas.List.{append-nil, append_assoc, take_all, take_more}
 use Rattle.std.specs.Prelude.{vec_len, vec_capacity}
 use Rattle.std.specs.List.{FoldsTo, concat}
-use Rattle.const_hex_arch.specs.Runs.{Writes}
-use Rattle.const_hex.specs.Reserved.{ReservedStep, spare_room}
+use Rattle.const_hex_arch.specs.Outputs.{Writes}
+use Rattle.const_hex.specs.Buffers.{ReservedStep, spare_room}
 use Rattle.const_hex.specs.declared.reserved.ReservedOutput.{ReservedOutput}
 
 -- ---- the first bytes of a piece are put

@@ -1,7 +1,6 @@
 -- What an error leaves of a key.
 use Rattle.std.proofs.Common.{◌≡◌, ℕ, ◌*◌, List, drop, take}
-use Rattle.const_hex.specs.Answers.{Leaves}
-use Rattle.const_hex.specs.Bodies.{body_of}
+use Rattle.const_hex.specs.Results.{Leaves, body_of}
 use Rattle.const_hex.specs.Texts.{Spells}
 use Rattle.const_hex.specs.declared.error.FromHexError.{FromHexError}
 use Rattle.const_hex.specs.declared.error.FromHexError.TheVariants.{OddLength, InvalidStringLength, InvalidHexCharacter, NoMemory}

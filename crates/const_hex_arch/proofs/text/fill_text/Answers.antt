@@ -1,5 +1,5 @@
 use Rattle.std.proofs.Common.{rules, ◌≡◌, sym, ◌∙◌, arith}
-use Rattle.const_hex_arch.specs.SliceOutputs.{slice_bytes}
+use Rattle.const_hex_arch.specs.Outputs.{slice_bytes}
 use Rattle.const_hex_arch.specs.Texts.{full_text}
 use Rattle.const_hex_arch.proofs.lemmas.SliceRuns.{SliceStep-run, Placed-whole}
 use Rattle.const_hex_arch.proofs.lemmas.Texts.{full_text_size, IsAscii-full_text}
