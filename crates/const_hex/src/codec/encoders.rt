@@ -9,7 +9,7 @@ ghost use Rattle.const_hex.specs.declared.error.FromHexError.TheVariants.{Invali
 
 use crate::error::FromHexError;
 use crate::reserved::reserved_bytes;
-use const_hex_arch::{FixedKernel, Kernel, ascii_text, fill_text};
+use const_hex_arch::{FixedKernel, Kernel, ascii_text, fill_text, text_length};
 use std::alloc::{AllocError, Global};
 
 /// The text, as a `String`.
@@ -106,12 +106,13 @@ pub fn encode_with<K: Kernel, const UPPER: bool>(
     encode_owned::<K>(alloc, input, false, UPPER)
 }
 
-/// Whether there are exactly two digits for each byte. No length is too large for this test.
+/// Whether there are exactly two digits for each byte.
 #[inline(always)]
 fn two_per_byte(bytes: usize, digits: usize) -> bool
     ensures { IsTrue result ↔ (digits ≡ 2 * bytes) }
 {
-    bytes <= digits && digits - bytes == bytes
+    // `text_length` stops at the greatest number, which is odd.
+    digits % 2 == 0 && digits == text_length(false, bytes)
 }
 
 /// Fills an output of the text's length with the text, and returns it.
@@ -209,8 +210,7 @@ pub fn encode_full_to_slice_with<K: Kernel>(
     ensures refusal { OnErr result (result ≡ Err InvalidStringLength) }
     ensures unchanged { OnErr result (output.new ≡ output.old) }
 {
-    let digits = output.len().checked_sub(if prefix { 2 } else { 0 });
-    if !digits.is_some_and(|digits| two_per_byte(input.len(), digits)) {
+    if output.len() != text_length(prefix, input.len()) {
         return Err(FromHexError::InvalidStringLength);
     }
     fill_text::<K>(input, prefix, upper, output);
