@@ -1,6 +1,6 @@
 //! Texts that come in pieces.
 
-use crate::{ffi, FromHexError};
+use crate::{codec, FromHexError};
 
 /// Decodes a text that comes in pieces, as from a file or a socket. Does not allocate.
 ///
@@ -22,7 +22,7 @@ use crate::{ffi, FromHexError};
 /// # Ok::<(), const_hex_proved::FromHexError>(())
 /// ```
 #[derive(Clone, Debug, Default)]
-pub struct Decoder(ffi::Decoder);
+pub struct Decoder(codec::Decoder);
 
 impl Decoder {
     /// Returns a decoder that has read nothing.
@@ -56,7 +56,7 @@ impl Decoder {
         piece: T,
         output: &mut [u8],
     ) -> Result<usize, FromHexError> {
-        ffi::decode_piece(&mut self.0, piece.as_ref(), output)
+        codec::decode_piece(&mut self.0, piece.as_ref(), output)
     }
 
     /// Returns `Ok` if the pieces are a whole text. They then spell the bytes that were returned.
@@ -73,7 +73,7 @@ impl Decoder {
     /// assert_eq!(decoder.finish(), Err(FromHexError::OddLength));
     /// ```
     pub fn finish(self) -> Result<(), FromHexError> {
-        ffi::decode_end(&self.0)
+        codec::decode_end(&self.0)
     }
 }
 

@@ -10,7 +10,6 @@
 //! assert_eq!(const_hex_proved::decode_to_array("0x6B697769"), Ok(*b"kiwi"));
 //! ```
 #![no_std]
-#![deny(unsafe_code)]
 #![warn(missing_docs)]
 
 #[cfg(feature = "alloc")]
@@ -19,8 +18,15 @@ extern crate alloc;
 extern crate std;
 
 mod decoder;
-mod error;
-mod ffi;
+#[cfg(target_arch = "x86_64")]
+#[allow(dead_code, unused_imports, unused_labels)]
+mod avx2;
+mod codec;
+mod detected;
+#[allow(dead_code, unreachable_code, unused_imports, unused_labels)]
+mod proved;
+#[allow(dead_code, unused_imports)]
+mod rattle;
 #[cfg(feature = "serde")]
 pub mod serde;
 #[cfg(feature = "alloc")]
@@ -30,7 +36,7 @@ mod traits;
 #[cfg(feature = "std")]
 pub use crate::decoder::DecodeReader;
 pub use crate::decoder::Decoder;
-pub use crate::error::FromHexError;
+pub use crate::proved::FromHexError;
 #[cfg(feature = "serde")]
 pub use crate::serde::deserialize;
 #[cfg(all(feature = "alloc", feature = "serde"))]
@@ -47,7 +53,7 @@ use alloc::{string::String, vec::Vec};
 #[cfg(feature = "alloc")]
 #[must_use]
 pub fn encode<T: AsRef<[u8]>>(data: T) -> String {
-    ffi::encoded(data.as_ref(), false, false)
+    codec::encoded(data.as_ref(), false, false)
 }
 
 /// Returns two uppercase digits per byte, in order. Allocates.
@@ -58,7 +64,7 @@ pub fn encode<T: AsRef<[u8]>>(data: T) -> String {
 #[cfg(feature = "alloc")]
 #[must_use]
 pub fn encode_upper<T: AsRef<[u8]>>(data: T) -> String {
-    ffi::encoded(data.as_ref(), false, true)
+    codec::encoded(data.as_ref(), false, true)
 }
 
 /// Returns `0x`, and then two lowercase digits per byte. Allocates.
@@ -69,7 +75,7 @@ pub fn encode_upper<T: AsRef<[u8]>>(data: T) -> String {
 #[cfg(feature = "alloc")]
 #[must_use]
 pub fn encode_prefixed<T: AsRef<[u8]>>(data: T) -> String {
-    ffi::encoded(data.as_ref(), true, false)
+    codec::encoded(data.as_ref(), true, false)
 }
 
 /// Returns `0x`, and then two uppercase digits per byte. Allocates.
@@ -80,7 +86,7 @@ pub fn encode_prefixed<T: AsRef<[u8]>>(data: T) -> String {
 #[cfg(feature = "alloc")]
 #[must_use]
 pub fn encode_upper_prefixed<T: AsRef<[u8]>>(data: T) -> String {
-    ffi::encoded(data.as_ref(), true, true)
+    codec::encoded(data.as_ref(), true, true)
 }
 
 /// Fills `output` with two lowercase digits per byte. Does not allocate.
@@ -96,6 +102,7 @@ pub fn encode_upper_prefixed<T: AsRef<[u8]>>(data: T) -> String {
 /// assert_eq!(&text, b"6b697769");
 /// # Ok::<(), const_hex_proved::FromHexError>(())
 /// ```
+#[inline]
 pub fn encode_to_slice<T: AsRef<[u8]>>(input: T, output: &mut [u8]) -> Result<(), FromHexError> {
     encode_to_str(input, output).map(|_| ())
 }
@@ -112,6 +119,7 @@ pub fn encode_to_slice<T: AsRef<[u8]>>(input: T, output: &mut [u8]) -> Result<()
 /// assert_eq!(&text, b"6B697769");
 /// # Ok::<(), const_hex_proved::FromHexError>(())
 /// ```
+#[inline]
 pub fn encode_to_slice_upper<T: AsRef<[u8]>>(
     input: T,
     output: &mut [u8],
@@ -130,11 +138,12 @@ pub fn encode_to_slice_upper<T: AsRef<[u8]>>(
 /// assert_eq!(const_hex_proved::encode_to_str("kiwi", &mut text)?, "6b697769");
 /// # Ok::<(), const_hex_proved::FromHexError>(())
 /// ```
+#[inline]
 pub fn encode_to_str<T: AsRef<[u8]>>(
     input: T,
     output: &mut [u8],
 ) -> Result<&mut str, FromHexError> {
-    ffi::encode(input.as_ref(), false, false, output).ok_or(FromHexError::InvalidStringLength)
+    codec::encode(input.as_ref(), false, false, output).ok_or(FromHexError::InvalidStringLength)
 }
 
 /// Does the same as [`encode_to_slice_upper`], and returns the output as `str`. Does not allocate.
@@ -148,11 +157,12 @@ pub fn encode_to_str<T: AsRef<[u8]>>(
 /// assert_eq!(const_hex_proved::encode_to_str_upper("kiwi", &mut text)?, "6B697769");
 /// # Ok::<(), const_hex_proved::FromHexError>(())
 /// ```
+#[inline]
 pub fn encode_to_str_upper<T: AsRef<[u8]>>(
     input: T,
     output: &mut [u8],
 ) -> Result<&mut str, FromHexError> {
-    ffi::encode(input.as_ref(), false, true, output).ok_or(FromHexError::InvalidStringLength)
+    codec::encode(input.as_ref(), false, true, output).ok_or(FromHexError::InvalidStringLength)
 }
 
 /// Returns the bytes that a text spells. Allocates, also for a text that is refused.
@@ -169,7 +179,7 @@ pub fn encode_to_str_upper<T: AsRef<[u8]>>(
 /// ```
 #[cfg(feature = "alloc")]
 pub fn decode<T: AsRef<[u8]>>(data: T) -> Result<Vec<u8>, FromHexError> {
-    ffi::decoded(data.as_ref())
+    codec::decoded(data.as_ref())
 }
 
 /// Fills `out` with the bytes that a text spells. Does not allocate.
@@ -186,8 +196,9 @@ pub fn decode<T: AsRef<[u8]>>(data: T) -> Result<Vec<u8>, FromHexError> {
 /// assert_eq!(&bytes, b"kiwi");
 /// # Ok::<(), const_hex_proved::FromHexError>(())
 /// ```
+#[inline]
 pub fn decode_to_slice<T: AsRef<[u8]>>(data: T, out: &mut [u8]) -> Result<(), FromHexError> {
-    ffi::decode(data.as_ref(), out)
+    codec::decode(data.as_ref(), out)
 }
 
 /// Returns the `N` bytes that a text spells. Does not allocate.
@@ -199,6 +210,7 @@ pub fn decode_to_slice<T: AsRef<[u8]>>(data: T, out: &mut [u8]) -> Result<(), Fr
 /// ```
 /// assert_eq!(const_hex_proved::decode_to_array("6b697769"), Ok(*b"kiwi"));
 /// ```
+#[inline]
 pub fn decode_to_array<T: AsRef<[u8]>, const N: usize>(input: T) -> Result<[u8; N], FromHexError> {
     FromHex::from_hex(input)
 }
@@ -212,8 +224,9 @@ pub fn decode_to_array<T: AsRef<[u8]>, const N: usize>(input: T) -> Result<[u8; 
 /// ```
 /// assert!(const_hex_proved::check("0x6b").is_ok());
 /// ```
+#[inline]
 pub fn check<T: AsRef<[u8]>>(input: T) -> Result<(), FromHexError> {
-    ffi::check(input.as_ref())
+    codec::check(input.as_ref())
 }
 
 /// Returns whether every byte of a text is a digit. No prefix is allowed, and the length does not
@@ -224,8 +237,9 @@ pub fn check<T: AsRef<[u8]>>(input: T) -> Result<(), FromHexError> {
 /// assert!(!const_hex_proved::check_raw("0x6b"));
 /// ```
 #[must_use]
+#[inline]
 pub fn check_raw<T: AsRef<[u8]>>(input: T) -> bool {
-    ffi::check_raw(input.as_ref())
+    codec::check_raw(input.as_ref())
 }
 
 /// Returns the version of the library: 10000 times the major one, 100 times the minor one, and the
@@ -236,5 +250,5 @@ pub fn check_raw<T: AsRef<[u8]>>(input: T) -> bool {
 /// ```
 #[must_use]
 pub fn version() -> u32 {
-    ffi::version()
+    codec::version()
 }

@@ -81,7 +81,7 @@ where
 pub mod prefixed {
     pub use super::deserialize;
     #[cfg(feature = "alloc")]
-    use crate::ffi;
+    use crate::codec;
     #[cfg(feature = "alloc")]
     use ::serde::Serializer;
 
@@ -96,7 +96,7 @@ pub mod prefixed {
         S: Serializer,
         T: AsRef<[u8]>,
     {
-        ffi::lent(data.as_ref(), true, false, |text| {
+        codec::lent(data.as_ref(), true, false, |text| {
             serializer.serialize_str(text)
         })
     }
@@ -112,7 +112,7 @@ pub mod prefixed {
         S: Serializer,
         T: AsRef<[u8]>,
     {
-        ffi::lent(data.as_ref(), true, true, |text| {
+        codec::lent(data.as_ref(), true, true, |text| {
             serializer.serialize_str(text)
         })
     }

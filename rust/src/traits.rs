@@ -2,7 +2,7 @@
 
 #[cfg(feature = "alloc")]
 use crate::string;
-use crate::{ffi, FromHexError};
+use crate::{codec, FromHexError};
 #[cfg(all(feature = "alloc", target_has_atomic = "ptr"))]
 use alloc::sync::Arc;
 #[cfg(feature = "alloc")]
@@ -56,7 +56,7 @@ impl<B: AsRef<[u8]>> ToHex for B {
     #[cfg(all(feature = "alloc", feature = "serde"))]
     #[inline]
     fn lend_hex<R>(&self, upper: bool, user: impl FnOnce(&str) -> R) -> R {
-        ffi::lent(self.as_ref(), false, upper, user)
+        codec::lent(self.as_ref(), false, upper, user)
     }
 }
 
@@ -65,12 +65,12 @@ impl<B: AsRef<[u8]>> ToHex for B {
 fn collected<T: FromIterator<char>>(bytes: &[u8], upper: bool) -> T {
     let digits = bytes.chunks(32).flat_map(move |piece| {
         let (mut text, length) = ([0; 64], 2 * piece.len());
-        ffi::encode(piece, false, upper, &mut text[..length])
+        codec::encode(piece, false, upper, &mut text[..length])
             .expect("the room has the text's length");
         text.into_iter().take(length).map(char::from)
     });
     #[cfg(feature = "alloc")]
-    return string::made(|| ffi::encoded(bytes, false, upper), || digits.collect());
+    return string::made(|| codec::encoded(bytes, false, upper), || digits.collect());
     #[cfg(not(feature = "alloc"))]
     digits.collect()
 }
@@ -102,7 +102,7 @@ impl<const N: usize> FromHex for [u8; N] {
     #[inline]
     fn from_hex<T: AsRef<[u8]>>(hex: T) -> Result<Self, FromHexError> {
         let mut bytes = [0; N];
-        ffi::decode(hex.as_ref(), &mut bytes)?;
+        codec::decode(hex.as_ref(), &mut bytes)?;
         Ok(bytes)
     }
 }
@@ -123,7 +123,7 @@ impl FromHex for Vec<u8> {
 
     #[inline]
     fn from_hex<T: AsRef<[u8]>>(hex: T) -> Result<Self, FromHexError> {
-        ffi::decoded(hex.as_ref())
+        codec::decoded(hex.as_ref())
     }
 }
 
@@ -133,7 +133,7 @@ impl FromHex for Vec<i8> {
     type Error = FromHexError;
 
     fn from_hex<T: AsRef<[u8]>>(hex: T) -> Result<Self, FromHexError> {
-        let bytes = ffi::decoded(hex.as_ref())?;
+        let bytes = codec::decoded(hex.as_ref())?;
         Ok(bytes.into_iter().map(|byte| byte as i8).collect())
     }
 }

@@ -2,7 +2,6 @@
 #![cfg(all(feature = "alloc", feature = "serde"))]
 
 use const_hex_proved::{FromHexError, ToHex};
-use proptest::prelude::*;
 use serde::{Deserialize, Serialize};
 
 #[derive(Debug, Deserialize, PartialEq, Serialize)]
@@ -98,12 +97,3 @@ fn from_bytes() {
     assert_eq!(const_hex_proved::deserialize(text), Ok(*b"ki"));
 }
 
-proptest! {
-    #[test]
-    fn as_hex(bytes in proptest::collection::vec(any::<u8>(), 0..200)) {
-        let text = serde_json::to_string(&Ours(bytes.clone())).unwrap();
-        prop_assert_eq!(&text, &serde_json::to_string(&Theirs(bytes.clone())).unwrap());
-        prop_assert_eq!(&serde_json::from_str::<Ours>(&text).unwrap().0, &bytes);
-        prop_assert_eq!(&serde_json::from_str::<Theirs>(&text).unwrap().0, &bytes);
-    }
-}

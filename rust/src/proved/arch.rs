@@ -1,0 +1,67 @@
+//! Kernels, which turn bytes into digits, and digits into bytes.
+
+pub mod arithmetic16;
+pub mod check_first;
+mod lanes;
+pub mod lanes16;
+pub mod lanes32;
+pub mod plain;
+mod short;
+mod steps;
+
+use crate::proved::arch::lanes32::Lanes32;
+use crate::proved::output::Output;
+
+/// The kernel of every call that does not name one. It is named here and nowhere else.
+///
+pub type FixedKernel = crate::detected::Detected;
+
+/// Turns bytes into digits, and digits into bytes.
+///
+/// The codec relies only on the contracts of these four calls, so it runs over any type that meets
+/// them. None of them allocates.
+///
+pub trait Kernel {
+
+    /// Whether decoders check a text before they decode it by this kernel. If so, an error leaves
+    /// their output unchanged.
+    const USE_CHECK_FN: bool;
+
+    /// Writes two digits for each byte, in order, in pieces of 1 to 64 bytes. The output must have
+    /// room for them.
+    ///
+    fn encode<O: Output>(input: &[u8], upper: bool, output: &mut O);
+
+    /// Whether every byte is a digit.
+    ///
+    fn check(input: &[u8]) -> bool;
+
+    /// Fills the output with the bytes that the input spells, and returns true. Returns false if
+    /// some byte is not a digit. Then a front of the output may be decoded, no longer than the
+    /// pairs before the bad byte, and the rest is unchanged. If the kernel checks first, the whole
+    /// output is unchanged. The input must have two bytes for each byte of the output.
+    ///
+    fn decode_checked(input: &[u8], output: &mut [u8]) -> bool;
+
+    /// Fills the output with the bytes that the input spells. The input must have two bytes for
+    /// each byte of the output, and only digits.
+    ///
+    fn decode_unchecked(input: &[u8], output: &mut [u8]);
+}
+
+/// Writes `0x` if `prefix` is true, and then two digits for each byte, by the kernel `K`. The
+/// output must have room for them. Allocates only what the output allocates.
+///
+#[inline(always)]
+pub fn encode_full<K: Kernel, O: Output>(input: &[u8], prefix: bool, upper: bool, output: &mut O) {
+    write_prefix(prefix, output);
+    K::encode(input, upper, output);
+}
+
+/// Writes `0x` if `prefix` is true.
+#[inline(always)]
+fn write_prefix<O: Output>(prefix: bool, output: &mut O) {
+    if prefix {
+        output.write(b"0x");
+    }
+}

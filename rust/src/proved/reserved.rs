@@ -1,0 +1,57 @@
+//! The text of bytes, in a vector with room for exactly that text.
+
+use crate::rattle::prelude::*;
+use crate::proved::{Kernel, Output, encode_full};
+use crate::rattle::alloc::{AllocError, Global};
+
+/// Puts each piece behind what a vector holds, into its spare room.
+struct ReservedOutput {
+    bytes: Vec<u8>,
+}
+
+impl Output for ReservedOutput {
+
+    #[inline(always)]
+    fn remaining(&self) -> Option<usize> {
+        Some(self.bytes.capacity().saturating_sub(self.bytes.len()))
+    }
+
+    // The length of a kernel's piece is known at compile time, so the machine stores it whole.
+    #[inline(always)]
+    fn write(&mut self, bytes: &[u8]) {
+        for byte in bytes {
+            self.bytes.push_reserved(*byte);
+        }
+    }
+
+    // Both ends are stored whole, and the first is cut where the last begins.
+    #[inline(always)]
+    fn write_ends(&mut self, first: &[u8], last: &[u8], count: usize) {
+        let start = self.bytes.len() + count - last.len();
+        self.write(first);
+        self.bytes.truncate(start);
+        self.write(last);
+    }
+}
+
+/// The bytes of the text, behind `0x` if `prefix` is true. Allocates once, for exactly the text; for no
+/// text, not at all.
+#[inline(always)]
+pub(crate) fn reserved_bytes<K: Kernel>(
+    alloc: Global,
+    input: &[u8],
+    prefix: bool,
+    upper: bool,
+) -> Result<Vec<u8>, AllocError> {
+    let length = (2 * input.len()).saturating_add(if prefix { 2 } else { 0 });
+    // Apart, so that below there is a block for certain. A call then takes some ten instructions less.
+    if length == 0 {
+        return Ok(Vec::new(alloc));
+    }
+    let mut output = ReservedOutput {
+        bytes: Vec::with_capacity(alloc, length)?,
+    };
+    encode_full::<K, ReservedOutput>(input, prefix, upper, &mut output);
+    let ReservedOutput { bytes } = output;
+    Ok(bytes)
+}

@@ -1,0 +1,30 @@
+//! The whole text of bytes, in a slice of exactly its length.
+
+use crate::proved::arch::{Kernel, encode_full};
+use crate::proved::output::slice::SliceOutput;
+
+/// The length of the text of `count` bytes, behind `0x` if `prefix` is true. If that does not fit
+/// into a `usize`, the answer is the greatest one, and no text has that length.
+///
+#[inline(always)]
+pub fn text_length(prefix: bool, count: usize) -> usize {
+    count
+        .saturating_mul(2)
+        .saturating_add(if prefix { 2 } else { 0 })
+}
+
+/// Fills the output with the text of the input, by the kernel `K`, behind `0x` if `prefix` is true.
+/// The output must have exactly the length of that text. Does not allocate.
+///
+#[inline(always)]
+pub fn fill_text<K: Kernel>(input: &[u8], prefix: bool, upper: bool, output: &mut [u8]) {
+    let mut written = SliceOutput::new(output);
+    encode_full::<K, SliceOutput>(input, prefix, upper, &mut written);
+}
+
+/// ASCII bytes as text, without a copy or a test at run time. Does not allocate.
+///
+#[inline(always)]
+pub fn ascii_text(bytes: &[u8]) -> &str {
+    unsafe { core::str::from_utf8_unchecked(bytes) }
+}
