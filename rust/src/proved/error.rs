@@ -1,5 +1,7 @@
+// Made by rust/erase from crates/const_hex/src/error.rt. Do not edit.
 //! Why a text is refused.
 
+use crate::rattle::prelude::*;
 use crate::rattle::alloc::{AllocError, AllocFailed};
 use crate::rattle::{error, fmt};
 
@@ -7,7 +9,6 @@ use crate::rattle::{error, fmt};
 ///
 /// A text is judged in this order: an odd length, then the length that a sized call needs, then the
 /// characters.
-///
 #[derive(Clone, Copy, PartialEq, Eq, Debug)]
 pub enum FromHexError {
     /// The text, its prefix included, has an odd number of bytes.
@@ -25,7 +26,6 @@ pub enum FromHexError {
 }
 
 impl fmt::Display for FromHexError {
-
     fn fmt(&self, f: &mut fmt::Formatter<'_>) -> fmt::Result {
         match *self {
             FromHexError::OddLength => f.write_str("odd number of digits"),
@@ -40,14 +40,12 @@ impl fmt::Display for FromHexError {
 impl error::Error for FromHexError {}
 
 impl From<AllocError> for FromHexError {
-
     fn from(_refused: AllocError) -> FromHexError {
         match AllocError::from(_refused) {}
     }
 }
 
 impl<T> From<AllocFailed<T>> for FromHexError {
-
     fn from(_refused: AllocFailed<T>) -> FromHexError {
         match AllocError::from(_refused) {}
     }

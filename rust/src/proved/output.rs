@@ -1,4 +1,7 @@
+// Made by rust/erase from crates/const_hex_arch/src/output.rt. Do not edit.
 //! Outputs, which text is written to.
+
+use crate::rattle::prelude::*;
 
 pub mod buffered;
 pub mod slice;
@@ -7,19 +10,14 @@ pub mod slice;
 ///
 /// Each type says by its `step` what a write does. A caller writes only ASCII, and no more than
 /// [`remaining`](Output::remaining) says.
-///
 pub trait Output {
-
     /// How many bytes it still takes, or `None` if there is no limit.
-    ///
     fn remaining(&self) -> Option<usize>;
 
     /// Writes a piece of ASCII text that fits.
-    ///
     fn write(&mut self, bytes: &[u8]);
 
     /// Writes a piece of one byte.
-    ///
     #[inline(always)]
     fn write_byte(&mut self, byte: u8) {
         self.write(&[byte])
@@ -28,11 +26,11 @@ pub trait Output {
     /// Writes the piece of `count` bytes, at most 64, that begins with `first` and ends with `last`.
     /// Both have the same length, and together they cover the piece. Where they overlap, the bytes
     /// of `last` are written.
-    ///
     #[inline(always)]
     fn write_ends(&mut self, first: &[u8], last: &[u8], count: usize) {
         self.write(&join_ends(first, last, count)[..count])
     }
+
 }
 
 /// An array that begins with the piece that has these ends.

@@ -1,6 +1,11 @@
-//! The text of bytes, in a vector with room for exactly that text.
+// Made by rust/erase from crates/const_hex/src/reserved.rt. Do not edit.
+//! Owned text and owned bytes, in a vector with room for exactly these.
 
 use crate::rattle::prelude::*;
+
+mod decoding;
+
+pub(crate) use crate::proved::reserved::decoding::decode_reserved;
 use crate::proved::{Kernel, Output, encode_full};
 use crate::rattle::alloc::{AllocError, Global};
 
@@ -9,19 +14,25 @@ struct ReservedOutput {
     bytes: Vec<u8>,
 }
 
-impl Output for ReservedOutput {
+impl ReservedOutput {
+    /// Puts bytes behind what the vector holds.
+    // Where their number is known at compile time, the machine stores them whole.
+    #[inline(always)]
+    
+    fn put(&mut self, bytes: &[u8]) {
+        self.bytes.extend_reserved(bytes);
+    }
+}
 
+impl Output for ReservedOutput {
     #[inline(always)]
     fn remaining(&self) -> Option<usize> {
         Some(self.bytes.capacity().saturating_sub(self.bytes.len()))
     }
 
-    // The length of a kernel's piece is known at compile time, so the machine stores it whole.
     #[inline(always)]
     fn write(&mut self, bytes: &[u8]) {
-        for byte in bytes {
-            self.bytes.push_reserved(*byte);
-        }
+        self.put(bytes);
     }
 
     // Both ends are stored whole, and the first is cut where the last begins.
@@ -32,6 +43,7 @@ impl Output for ReservedOutput {
         self.bytes.truncate(start);
         self.write(last);
     }
+
 }
 
 /// The bytes of the text, behind `0x` if `prefix` is true. Allocates once, for exactly the text; for no

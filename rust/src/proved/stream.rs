@@ -1,5 +1,7 @@
+// Made by rust/erase from crates/const_hex_arch/src/stream.rt. Do not edit.
 //! The text of bytes, handed to a sink in large pieces.
 
+use crate::rattle::prelude::*;
 use crate::proved::arch::{FixedKernel, Kernel, encode_full};
 use crate::proved::output::buffered::BufferedOutput;
 use crate::proved::sink::output::SinkOutput;
@@ -20,14 +22,12 @@ const MIDDLE: usize = 1024;
 ///
 /// Each piece has at most 4096 bytes, and each but the last at least 4033. No call follows an
 /// error. An empty text makes no call. Only the sink allocates.
-///
 pub struct BufferedHex<'a, const UPPER: bool, const PREFIX: bool> {
     bytes: &'a [u8],
 }
 
 impl<'a, const UPPER: bool, const PREFIX: bool> BufferedHex<'a, UPPER, PREFIX> {
     /// These bytes, to be written as text.
-    ///
     #[inline(always)]
     pub fn new(bytes: &'a [u8]) -> BufferedHex<'a, UPPER, PREFIX> {
         BufferedHex { bytes }
@@ -35,13 +35,11 @@ impl<'a, const UPPER: bool, const PREFIX: bool> BufferedHex<'a, UPPER, PREFIX> {
 
     /// Writes the text by the fixed kernel to a sink that has not refused. Returns `Ok` if the sink
     /// accepted all of it, and an error if it refused a piece.
-    ///
     pub fn write_to<S: Sink>(&self, sink: &mut S) -> Result<(), SinkError> {
         self.write_with::<FixedKernel, S>(sink)
     }
 
     /// As [`write_to`](Self::write_to), by a kernel of the caller's choice.
-    ///
     pub fn write_with<K: Kernel, S: Sink>(&self, sink: &mut S) -> Result<(), SinkError> {
         let size = text_length(PREFIX, self.bytes.len());
         if size <= SHORT {

@@ -1,19 +1,19 @@
+// Made by rust/erase from crates/const_hex_arch/src/arch/arithmetic16.rt. Do not edit.
 //! The kernel of 16 lanes that looks up no digit of a valid text.
 
+use crate::rattle::prelude::*;
 use super::lanes::{self, Vectors};
 use super::lanes16::{self, Lanes16};
 use super::{Kernel, short, steps};
 use crate::proved::output::Output;
-use super::super::rattle::simd::prelude::*;
+use super::simd::prelude::*;
 
 /// Works in the steps of [`Lanes16`], and computes digits, their values and the tests. It is for
 /// targets for which the compiler makes loads of a look-up in a vector, as for WebAssembly. There a
 /// look-up by a digit of a key would show in the caches. Only a text with a bad byte is looked up.
-///
 pub struct Arithmetic16;
 
 impl Kernel for Arithmetic16 {
-
     const USE_CHECK_FN: bool = false;
 
     #[inline(always)]
@@ -61,4 +61,5 @@ impl Vectors<16> for Arithmetic16 {
     fn merge(first: u8x16, second: u8x16, twin: bool) -> u8x16 {
         Lanes16::merge(first, second, twin)
     }
+
 }

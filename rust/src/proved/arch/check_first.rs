@@ -1,12 +1,13 @@
+// Made by rust/erase from crates/const_hex_arch/src/arch/check_first.rt. Do not edit.
 //! A kernel that checks a text before it decodes.
 
+use crate::rattle::prelude::*;
 use super::Kernel;
 use crate::proved::output::Output;
 use crate::rattle::marker::PhantomData;
 
 /// The kernel `K`, but it decodes a text only after it has checked all of it. So an error leaves
 /// the output unchanged.
-///
 pub struct CheckFirst<K> {
     kernel: PhantomData<K>,
 }
@@ -14,7 +15,6 @@ pub struct CheckFirst<K> {
 // No contract or test fixes that it checks by `K`, since every kernel gives the same answers. It
 // was read.
 impl<K: Kernel> Kernel for CheckFirst<K> {
-
     const USE_CHECK_FN: bool = true;
 
     #[inline(always)]

@@ -1,7 +1,8 @@
+// Made by rust/erase from crates/const_hex_arch/src/arch/lanes.rt. Do not edit.
 //! The values of digits and the tests of lanes, for vectors of any number of lanes.
 
-use crate::rattle::parts::*;
-use super::super::rattle::simd::prelude::*;
+use crate::rattle::prelude::*;
+use super::simd::prelude::*;
 
 /// What differs between vectors of different `N`. The rest of a kernel is the same for every `N`.
 /// Calls that take `twin` do the same for both values, by [`lanes16::row`](super::lanes16::row).
@@ -18,6 +19,7 @@ pub(crate) trait Vectors<const N: usize> {
 
     /// One byte for each two values, the higher half first.
     fn merge(first: Simd<u8, N>, second: Simd<u8, N>, twin: bool) -> Simd<u8, N>;
+
 }
 
 /// The value of each lane that is a digit, and more than 15 for every other lane.
@@ -115,8 +117,8 @@ pub(crate) fn decode_digits<const N: usize, V: Vectors<N>>(
 #[inline(always)]
 pub(crate) fn ends<const H: usize, const N: usize>(bytes: &[u8], fill: u8) -> [u8; N] {
     let mut step = [fill; N];
-    let lanes = step.part_mut(..);
-    lanes[..H].copy_from_slice(bytes.part(..H));
-    lanes[H..2 * H].copy_from_slice(bytes.part(bytes.len() - H..));
+    let lanes = step.within_mut(..);
+    lanes[..H].copy_from_slice(bytes.within(..H));
+    lanes[H..2 * H].copy_from_slice(bytes.within(bytes.len() - H..));
     step
 }

@@ -1,12 +1,14 @@
+// Made by rust/erase from crates/const_hex_arch/src/arch/lanes16.rt. Do not edit.
 //! The kernel of 16 lanes, one byte per lane, and its calls on vectors.
 //!
 //! Each of these calls has a contract for every vector: [`encode_chunk`], [`check_chunk`],
 //! [`decode_chunk`], [`nibbles`] and [`unhex`].
 
+use crate::rattle::prelude::*;
 use super::lanes::{self, Vectors};
 use super::{Kernel, short, steps};
 use crate::proved::output::Output;
-use super::super::rattle::simd::prelude::*;
+use super::simd::prelude::*;
 
 /// The limit for each low half of a byte: no digit with this low half has a greater value.
 // A byte less 48 is the value of `0` to `9`, and more than the value of a letter. So the value of a
@@ -49,14 +51,12 @@ pub(crate) fn in_both_halves(lanes: [u8; 16]) -> u8x32 {
 }
 
 /// Two digits for each lane, in order: the text of the first 8 lanes, and the text of the last 8.
-///
 #[inline(always)]
 pub fn encode_chunk<const UPPER: bool>(v: u8x16) -> [u8x16; 2] {
     text_vectors(v, UPPER, false)
 }
 
 /// Whether every lane is a digit.
-///
 #[inline(always)]
 pub fn check_chunk(v: u8x16) -> bool {
     lanes::are_digits::<16, Lanes16>(v)
@@ -65,14 +65,12 @@ pub fn check_chunk(v: u8x16) -> bool {
 /// The value of each lane that is a digit, and more than 15 for every other lane.
 ///
 /// This is algorithm 3 of Wojciech Muła and Geoff Langdale, "Validating hexadecimal", 2022-01-17.
-///
 #[inline(always)]
 pub fn nibbles(v: u8x16) -> u8x16 {
     lanes::nibbles(v)
 }
 
 /// The bytes that the lanes of a text spell, or `None` if one of these lanes is not a digit.
-///
 #[inline(always)]
 pub fn decode_chunk(text: [u8x16; 2]) -> Option<u8x16> {
     let (bytes, are_digits) = decode_flagged(text);
@@ -80,7 +78,6 @@ pub fn decode_chunk(text: [u8x16; 2]) -> Option<u8x16> {
 }
 
 /// The value of each lane that is a digit. Any other lane gets any value.
-///
 #[inline(always)]
 pub fn unhex(v: u8x16) -> u8x16 {
     lanes::unhex(v)
@@ -89,13 +86,11 @@ pub fn unhex(v: u8x16) -> u8x16 {
 /// Works in steps of 16 bytes, and decodes in steps of 32 bytes of text. What follows the last
 /// whole step is encoded as one piece, and is checked and decoded with the last bytes before it. If
 /// it has a bad byte, the pairs before that byte are decoded.
-///
 pub struct Lanes16;
 
 // No contract or test fixes that `check` and `decode_unchecked` run these steps, since other steps
 // give the same answers. They were read against the table of steps in docs/DESIGN.md.
 impl Kernel for Lanes16 {
-
     const USE_CHECK_FN: bool = false;
 
     #[inline(always)]
@@ -131,6 +126,7 @@ impl Vectors<16> for Lanes16 {
     }
 
     #[inline(always)]
+    
     fn values(v: u8x16) -> u8x16 {
         lanes::values_within(v, limits(v))
     }
@@ -144,6 +140,7 @@ impl Vectors<16> for Lanes16 {
     fn merge(first: u8x16, second: u8x16, twin: bool) -> u8x16 {
         pack(join(first, second), twin)
     }
+
 }
 
 /// The limit of each lane. If the lane is a digit, its value is at most the limit.

@@ -1,23 +1,23 @@
+// Made by rust/erase from crates/const_hex_arch/src/arch/lanes32.rt. Do not edit.
 //! The kernel of 32 lanes, one byte per lane, and its calls on vectors.
 //!
 //! Each of these calls has a contract for every vector: [`encode_chunk`], [`check_chunk`],
 //! [`decode_chunk`], [`nibbles`] and [`unhex`].
 
+use crate::rattle::prelude::*;
 use super::lanes::{self, Vectors};
 use super::lanes16::{self, Lanes16};
 use super::{Kernel, steps};
 use crate::proved::output::Output;
-use super::super::rattle::simd::prelude::*;
+use super::simd::prelude::*;
 
 /// Two digits for each lane, in order: the text of the first 16 lanes, and the text of the last 16.
-///
 #[inline(always)]
 pub fn encode_chunk<const UPPER: bool>(v: u8x32) -> [u8x32; 2] {
     text_vectors(v, UPPER, false)
 }
 
 /// Whether every lane is a digit.
-///
 #[inline(always)]
 pub fn check_chunk(v: u8x32) -> bool {
     lanes::are_digits::<32, Lanes32>(v)
@@ -26,14 +26,12 @@ pub fn check_chunk(v: u8x32) -> bool {
 /// The value of each lane that is a digit, and more than 15 for every other lane.
 ///
 /// This is algorithm 3 of Wojciech Muła and Geoff Langdale, "Validating hexadecimal", 2022-01-17.
-///
 #[inline(always)]
 pub fn nibbles(v: u8x32) -> u8x32 {
     lanes::nibbles(v)
 }
 
 /// The bytes that the lanes of a text spell, or `None` if one of these lanes is not a digit.
-///
 #[inline(always)]
 pub fn decode_chunk(text: [u8x32; 2]) -> Option<u8x32> {
     let (bytes, are_digits) = decode_flagged(text);
@@ -41,7 +39,6 @@ pub fn decode_chunk(text: [u8x32; 2]) -> Option<u8x32> {
 }
 
 /// The value of each lane that is a digit. Any other lane gets any value.
-///
 #[inline(always)]
 pub fn unhex(v: u8x32) -> u8x32 {
     lanes::unhex(v)
@@ -50,13 +47,11 @@ pub fn unhex(v: u8x32) -> u8x32 {
 /// Works in steps of 32 bytes, and decodes in steps of 64 bytes of text. What follows the last
 /// whole step is encoded as one piece, and is checked with the last bytes before it. Decoding takes
 /// at most one step of half that size, by 16 lanes, and then goes on as [`Lanes16`].
-///
 pub struct Lanes32;
 
 // No contract or test fixes that `check` and `decode_unchecked` run these steps, since other steps
 // give the same answers. They were read against the table of steps in docs/DESIGN.md.
 impl Kernel for Lanes32 {
-
     const USE_CHECK_FN: bool = false;
 
     #[inline(always)]
@@ -80,6 +75,11 @@ impl Kernel for Lanes32 {
     }
 
     #[inline(always)]
+    fn decode_part(input: &[u8], start: usize, output: &mut [u8]) -> bool {
+        steps::decode_part::<32, Lanes32, Lanes16>(input, start, output)
+    }
+
+    #[inline(always)]
     fn decode_unchecked(input: &[u8], output: &mut [u8]) {
         steps::decode_unchecked::<32, Lanes32, Lanes16>(input, output);
     }
@@ -92,6 +92,7 @@ impl Vectors<32> for Lanes32 {
     }
 
     #[inline(always)]
+    
     fn values(v: u8x32) -> u8x32 {
         lanes::values_within(v, limits(v))
     }
@@ -105,6 +106,7 @@ impl Vectors<32> for Lanes32 {
     fn merge(first: u8x32, second: u8x32, twin: bool) -> u8x32 {
         pack(join(first, second), twin)
     }
+
 }
 
 /// The limit of each lane. If the lane is a digit, its value is at most the limit.

@@ -1,15 +1,15 @@
+// Made by rust/erase from crates/const_hex_arch/src/arch/plain.rt. Do not edit.
 //! The kernel that goes byte by byte.
 
+use crate::rattle::prelude::*;
 use super::Kernel;
 use crate::proved::output::Output;
 use crate::proved::tables::{NIL, digit_at, value_at};
 
 /// Works byte by byte, with the tables.
-///
 pub struct Plain;
 
 impl Kernel for Plain {
-
     const USE_CHECK_FN: bool = false;
 
     #[inline(always)]
@@ -21,6 +21,7 @@ impl Kernel for Plain {
     }
 
     #[inline(always)]
+    
     fn check(input: &[u8]) -> bool {
         for b in input {
             if value_at(*b) == NIL {

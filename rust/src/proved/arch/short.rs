@@ -1,10 +1,11 @@
+// Made by rust/erase from crates/const_hex_arch/src/arch/short.rt. Do not edit.
 //! Checks and decodes a short text, by its first and its last digits at once.
 
-use crate::rattle::parts::*;
+use crate::rattle::prelude::*;
 use super::lanes::Vectors;
 use super::plain::Plain;
 use super::{Kernel, lanes, steps};
-use super::super::rattle::simd::prelude::*;
+use super::simd::prelude::*;
 
 /// Whether every byte of a text of at most 16 bytes is a digit.
 #[inline(always)]
@@ -61,7 +62,7 @@ fn decode_ends<const H: usize, const D: usize, W: Vectors<16>>(
     if are_digits {
         put::<H>(
             Simd::from_slice(&bytes),
-            Simd::from_slice(bytes.part(H..)),
+            Simd::from_slice(bytes.within(H..)),
             output,
         );
     }
@@ -73,5 +74,5 @@ fn decode_ends<const H: usize, const D: usize, W: Vectors<16>>(
 fn put<const H: usize>(first: Simd<u8, H>, last: Simd<u8, H>, output: &mut [u8]) {
     let start = output.len() - H;
     first.copy_to_slice(output);
-    last.copy_to_slice(output.part_mut(start..));
+    last.copy_to_slice(output.within_mut(start..));
 }

@@ -1,12 +1,13 @@
+// Made by rust/erase from crates/const_hex_arch/src/arch/steps.rt. Do not edit.
 //! Kernels that work in steps of lanes, and then do the remainder.
 //!
 //! `V` has the lanes of a step: `N`, which is twice `H`. `W` has the 16 lanes of what is shorter.
 
-use crate::rattle::parts::*;
+use crate::rattle::prelude::*;
 use super::lanes::{self, Vectors};
 use super::short;
 use crate::proved::output::Output;
-use super::super::rattle::simd::prelude::*;
+use super::simd::prelude::*;
 
 /// Encodes two steps in each turn of the loop, then one more step if the input has one, and then the
 /// remainder, as one piece.
@@ -68,7 +69,7 @@ fn encode_ends<const H: usize, const N: usize, V: Vectors<N>, O: Output>(
     output: &mut O,
 ) {
     let text = &text_of::<N, V>(&lanes::ends::<H, N>(bytes, 0), upper, false)[..2 * N];
-    output.write_ends(text.part(..2 * H), text.part(2 * H..4 * H), 2 * bytes.len());
+    output.write_ends(text.within(..2 * H), text.within(2 * H..4 * H), 2 * bytes.len());
 }
 
 /// Writes two digits for each byte of a step, as one piece.
@@ -87,9 +88,9 @@ fn encode_step<const N: usize, V: Vectors<N>, O: Output>(
 fn text_of<const N: usize, V: Vectors<N>>(bytes: &[u8], upper: bool, twin: bool) -> [u8; 64] {
     let digits = V::encode(Simd::from_slice(bytes), upper, twin);
     let mut text = [0; 64];
-    let place = text.part_mut(..);
+    let place = text.within_mut(..);
     digits[0].copy_to_slice(place);
-    digits[1].copy_to_slice(place.part_mut(N..));
+    digits[1].copy_to_slice(place.within_mut(N..));
     text
 }
 
@@ -100,21 +101,21 @@ pub(crate) fn check<const N: usize, V: Vectors<N>>(input: &[u8]) -> bool {
     let mut at = 0;
     while input.len() - at > 4 * N {
         let end = at + 4 * N;
-        if !check_four_steps::<N, V>(input.part(at..end)) {
+        if !check_four_steps::<N, V>(input.within(at..end)) {
             return false;
         }
         at = end;
     }
     if input.len() - at > 2 * N {
         let end = at + 2 * N;
-        if !check_two_steps::<N, V>(input.part(at..end)) {
+        if !check_two_steps::<N, V>(input.within(at..end)) {
             return false;
         }
         at = end;
     }
-    let last = input.part(input.len() - N..);
+    let last = input.within(input.len() - N..);
     if input.len() - at > N {
-        check_pair::<N, V>(input.part(at..at + N), last)
+        check_pair::<N, V>(input.within(at..at + N), last)
     } else {
         check_step::<N, V>(last)
     }
@@ -136,21 +137,21 @@ pub(crate) fn decode_checked<const N: usize, V: Vectors<N>, W: Vectors<16>>(
     while output.len() - at >= 2 * N {
         let end = at + 2 * N;
         let twin = output.len() / 64 % 2 == 1;
-        if !decode_two_steps::<N, V>(input.part(2 * at..2 * end), output.part_mut(at..end), twin) {
+        if !decode_two_steps::<N, V>(input.within(2 * at..2 * end), output.within_mut(at..end), twin) {
             break;
         }
         at = end;
     }
     while output.len() - at >= N {
         let end = at + N;
-        if !decode_step::<N, V>(input.part(2 * at..2 * end), output.part_mut(at..end), false) {
+        if !decode_step::<N, V>(input.within(2 * at..2 * end), output.within_mut(at..end), false) {
             return false;
         }
         at = end;
     }
     if output.len() - at >= 16 {
         let end = at + 16;
-        if !decode_step::<16, W>(input.part(2 * at..2 * end), output.part_mut(at..end), false) {
+        if !decode_step::<16, W>(input.within(2 * at..2 * end), output.within_mut(at..end), false) {
             return false;
         }
         at = end;
@@ -159,10 +160,42 @@ pub(crate) fn decode_checked<const N: usize, V: Vectors<N>, W: Vectors<16>>(
         return true;
     }
     let start = output.len() - 16;
-    if decode_step::<16, W>(input.part(2 * start..), output.part_mut(start..), false) {
+    if decode_step::<16, W>(input.within(2 * start..), output.within_mut(start..), false) {
         return true;
     }
-    short::decode::<W>(input.part(2 * at..), output.part_mut(at..))
+    short::decode::<W>(input.within(2 * at..), output.within_mut(at..))
+}
+
+/// Decodes two steps, one step or 16 bytes by one test. A part of any other size goes the way of a
+/// whole text.
+#[inline(always)]
+pub(crate) fn decode_part<const N: usize, V: Vectors<N>, W: Vectors<16>>(
+    input: &[u8],
+    start: usize,
+    output: &mut [u8],
+) -> bool {
+    let end = start + output.len();
+    let text = input.within(2 * start..2 * end);
+    if output.len() == 2 * N {
+        let twin = input.len() / 128 % 2 == 1;
+        decode_two_steps::<N, V>(text, output, twin)
+    } else if output.len() == N {
+        decode_step::<N, V>(text, output, false)
+    } else if output.len() == 16 {
+        decode_step::<16, W>(text, output, false)
+    } else {
+        decode_any_part::<N, V, W>(text, output)
+    }
+}
+
+/// As `decode_checked`.
+// A call of its own: with its body, `decode_part` would be too large to be inlined.
+#[inline(always)]
+fn decode_any_part<const N: usize, V: Vectors<N>, W: Vectors<16>>(
+    text: &[u8],
+    output: &mut [u8],
+) -> bool {
+    decode_checked::<N, V, W>(text, output)
 }
 
 /// Decodes digits in steps, and then by the last 16 bytes, some of them again. A text of less than 16
@@ -180,17 +213,17 @@ pub(crate) fn decode_unchecked<const N: usize, V: Vectors<N>, W: Vectors<16>>(
     while output.len() - at >= N {
         let end = at + N;
         let twin = output.len() / 64 % 2 == 1;
-        decode_digits_step::<N, V>(input.part(2 * at..2 * end), output.part_mut(at..end), twin);
+        decode_digits_step::<N, V>(input.within(2 * at..2 * end), output.within_mut(at..end), twin);
         at = end;
     }
     if output.len() - at >= 16 {
         let end = at + 16;
-        decode_digits_step::<16, W>(input.part(2 * at..2 * end), output.part_mut(at..end), false);
+        decode_digits_step::<16, W>(input.within(2 * at..2 * end), output.within_mut(at..end), false);
         at = end;
     }
     if at < output.len() {
         let start = output.len() - 16;
-        decode_digits_step::<16, W>(input.part(2 * start..), output.part_mut(start..), false);
+        decode_digits_step::<16, W>(input.within(2 * start..), output.within_mut(start..), false);
     }
 }
 
@@ -223,7 +256,7 @@ fn check_four_steps<const N: usize, V: Vectors<N>>(text: &[u8]) -> bool {
 /// Marks of the text of two steps: there are none exactly if each byte is a digit.
 #[inline(always)]
 fn marks_of_two_steps<const N: usize, V: Vectors<N>>(text: &[u8]) -> Simd<u8, N> {
-    lanes::joint_marks::<N, V>(Simd::from_slice(text), Simd::from_slice(text.part(N..)))
+    lanes::joint_marks::<N, V>(Simd::from_slice(text), Simd::from_slice(text.within(N..)))
 }
 
 /// Fills the output with the bytes that the text of a step spells, and returns true. If some byte
@@ -264,12 +297,12 @@ fn decode_two_steps<const N: usize, V: Vectors<N>>(
 // The values are computed again here. The compiler reuses the test's values.
 #[inline(always)]
 fn decode_vector<const N: usize, V: Vectors<N>>(text: &[u8], twin: bool) -> Simd<u8, N> {
-    lanes::decode::<N, V>(Simd::from_slice(text), Simd::from_slice(text.part(N..)), twin)
+    lanes::decode::<N, V>(Simd::from_slice(text), Simd::from_slice(text.within(N..)), twin)
 }
 
 /// Fills the output with the bytes that the digits of a step spell.
 #[inline(always)]
 fn decode_digits_step<const N: usize, V: Vectors<N>>(text: &[u8], output: &mut [u8], twin: bool) {
     let first = Simd::from_slice(text);
-    lanes::decode_digits::<N, V>(first, Simd::from_slice(text.part(N..)), twin).copy_to_slice(output);
+    lanes::decode_digits::<N, V>(first, Simd::from_slice(text.within(N..)), twin).copy_to_slice(output);
 }

@@ -1,11 +1,13 @@
+// Made by rust/erase from crates/const_hex/src/codec/body.rt. Do not edit.
 //! The body of a text: the prefix rule, the first bad byte, and decoding by a kernel.
 
+use crate::rattle::prelude::*;
 use crate::proved::error::FromHexError;
 use crate::proved::{CheckFirst, Kernel, NIL, value_at};
 
 /// The text without its prefix.
 #[inline(always)]
-pub(crate) fn strip_prefix(text: &[u8]) -> &[u8] {
+pub(crate) const fn strip_prefix(text: &[u8]) -> &[u8] {
     match text {
         [first, second, rest @ ..] if is_prefix(*first, *second) => rest,
         _ => text,
@@ -14,7 +16,7 @@ pub(crate) fn strip_prefix(text: &[u8]) -> &[u8] {
 
 /// The text without its prefix, or [`FromHexError::OddLength`].
 #[inline(always)]
-pub(crate) fn even_body(text: &[u8]) -> Result<&[u8], FromHexError> {
+pub(crate) const fn even_body(text: &[u8]) -> Result<&[u8], FromHexError> {
     if text.len() % 2 != 0 {
         return Err(FromHexError::OddLength);
     }
@@ -24,7 +26,7 @@ pub(crate) fn even_body(text: &[u8]) -> Result<&[u8], FromHexError> {
 /// Whether two bytes are `0x` or `0X`.
 // Both are compared at once: byte by byte, a text that begins with `0` would run a path of its own.
 #[inline(always)]
-pub(crate) fn is_prefix(first: u8, second: u8) -> bool {
+pub(crate) const fn is_prefix(first: u8, second: u8) -> bool {
     let pair = u16::from_le_bytes([first, second]);
     pair == u16::from_le_bytes(*b"0x") || pair == u16::from_le_bytes(*b"0X")
 }
@@ -32,11 +34,11 @@ pub(crate) fn is_prefix(first: u8, second: u8) -> bool {
 /// The error that names the first byte behind the prefix that is not a digit, and its place in the
 /// whole text. There must be such a byte.
 #[cold]
-pub(crate) fn bad_character(text: &[u8]) -> FromHexError {
+pub(crate) const fn bad_character(text: &[u8]) -> FromHexError {
     let body = strip_prefix(text);
     let (byte, place) = first_bad(body);
     FromHexError::InvalidHexCharacter {
-        c: char::from(byte),
+        c: byte as char,
         index: text.len() - body.len() + place,
     }
 }
@@ -45,12 +47,14 @@ pub(crate) fn bad_character(text: &[u8]) -> FromHexError {
 // If there is none, as when another process changes the text meanwhile, this names a NUL behind the
 // last byte.
 #[cold]
-pub(crate) fn first_bad(digits: &[u8]) -> (u8, usize) {
-    'digits: for place in 0..digits.len() {
-        let byte = digits[place];
+pub(crate) const fn first_bad(digits: &[u8]) -> (u8, usize) {
+    let mut index = 0;
+    'digits: while index < digits.len() {
+        let byte = digits[index];
         if value_at(byte) == NIL {
-            return (byte, place);
+            return (byte, index);
         }
+        index += 1;
     }
     (0, digits.len())
 }

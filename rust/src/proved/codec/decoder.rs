@@ -1,5 +1,7 @@
+// Made by rust/erase from crates/const_hex/src/codec/decoder.rt. Do not edit.
 //! From a text in pieces to bytes.
 
+use crate::rattle::prelude::*;
 use crate::proved::codec::body::{decode_body, first_bad, is_prefix, strip_prefix};
 use crate::proved::error::FromHexError;
 use crate::proved::{FixedKernel, Kernel};
@@ -19,7 +21,6 @@ const REFUSED: u8 = 2;
 /// Hand each piece to [`decode`](Decoder::decode), and call [`finish`](Decoder::finish) at the end
 /// of the text. [`decode`](crate::decode) names an odd length before any bad byte. A decoder cannot:
 /// it names the first bad byte at once, and an odd length at the end.
-///
 // Calls for C take this struct as it is. Its bytes may then have any values, and if all are zero it
 // is a new decoder.
 #[repr(C)]
@@ -34,7 +35,6 @@ pub struct Decoder {
 
 impl Decoder {
     /// A decoder that has read nothing. Does not allocate.
-    ///
     #[inline(always)]
     pub fn new() -> Decoder {
         Decoder {
@@ -60,7 +60,6 @@ impl Decoder {
     ///   unchanged.
     ///
     /// Does not allocate.
-    ///
     #[inline(always)]
     pub fn decode(&mut self, piece: &[u8], output: &mut [u8]) -> Result<usize, FromHexError> {
         self.decode_with::<FixedKernel>(piece, output)
@@ -68,7 +67,6 @@ impl Decoder {
 
     /// As [`decode`](Decoder::decode), by a kernel of the caller's choice. Each piece may have
     /// another. Does not allocate.
-    ///
     #[inline(always)]
     pub fn decode_with<K: Kernel>(
         &mut self,
@@ -95,7 +93,6 @@ impl Decoder {
     ///
     /// Returns [`FromHexError::OddLength`] if the text has an odd number of bytes and no bad one, so
     /// also for a lone `0`. If a piece had a bad byte, returns its error again. Does not allocate.
-    ///
     #[inline(always)]
     pub fn finish(self) -> Result<(), FromHexError> {
         if let Some(error) = self.error() {
@@ -109,7 +106,6 @@ impl Decoder {
 
     /// How many bytes of the text were read, or `usize::MAX` if they were more. After a bad byte, its
     /// place. Does not allocate.
-    ///
     #[inline(always)]
     pub fn position(&self) -> usize {
         self.place
@@ -214,11 +210,13 @@ fn decode_next<K: Kernel>(waiting: Option<u8>, digits: &[u8], output: &mut [u8])
 // A call of its own: with its body too, `decode_with` would be too large to be inlined.
 #[inline(always)]
 fn decode_behind<K: Kernel>(high: u8, digits: &[u8], output: &mut [u8]) -> bool {
-    let [low, rest @ ..] = digits else {
-        return true;
-    };
-    let (first, others) = output.split_at_mut(1);
-    decode_body::<K>(&[high, *low], first) && decode_digits::<K>(rest, others)
+    match digits {
+        [low, rest @ ..] => {
+            let (first, others) = output.split_at_mut(1);
+            decode_body::<K>(&[high, *low], first) && decode_digits::<K>(rest, others)
+        }
+        [] => true,
+    }
 }
 
 /// Fills the output with the bytes that the digits spell, and returns true. A last digit without

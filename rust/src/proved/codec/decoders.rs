@@ -1,8 +1,11 @@
+// Made by rust/erase from crates/const_hex/src/codec/decoders.rt. Do not edit.
 //! From text to bytes.
 
 use crate::rattle::prelude::*;
 use crate::proved::codec::body::{bad_character, decode_body, even_body};
 use crate::proved::error::FromHexError;
+#[cfg(feature = "alloc")]
+use crate::proved::reserved::decode_reserved;
 use crate::proved::{FixedKernel, Kernel};
 use crate::rattle::alloc::Global;
 
@@ -14,31 +17,27 @@ use crate::rattle::alloc::Global;
 /// - [`FromHexError::NoMemory`], if memory cannot be allocated;
 /// - [`FromHexError::InvalidHexCharacter`], with the first byte behind the prefix that is not a
 ///   digit.
-///
+#[cfg(feature = "alloc")]
 pub fn decode(alloc: Global, input: &[u8]) -> Result<Vec<u8>, FromHexError> {
     decode_with::<FixedKernel>(alloc, input)
 }
 
 /// As [`decode`], by a kernel of the caller's choice. The errors are the same,
 /// [`FromHexError::NoMemory`] included.
-///
 #[inline(always)]
+#[cfg(feature = "alloc")]
 pub fn decode_with<K: Kernel>(alloc: Global, input: &[u8]) -> Result<Vec<u8>, FromHexError> {
     decode_owned::<K>(alloc, input)
 }
 
 /// The bytes that a text spells. Allocates once, for exactly these bytes; for none, not at all.
 #[inline(always)]
+#[cfg(feature = "alloc")]
 fn decode_owned<K: Kernel>(alloc: Global, input: &[u8]) -> Result<Vec<u8>, FromHexError> {
-    let body = even_body(input)?;
-    if body.is_empty() {
-        return Ok(Vec::new(alloc));
+    match decode_reserved::<K>(alloc, even_body(input)?)? {
+        Some(bytes) => Ok(bytes),
+        None => Err(bad_character(input)),
     }
-    let mut bytes = vec![in alloc; 0u8; body.len() / 2]?;
-    if !decode_body::<K>(body, &mut bytes) {
-        return Err(bad_character(input));
-    }
-    Ok(bytes)
 }
 
 /// Fills the output with the bytes that a text spells, with or without a prefix, in either case.
@@ -52,7 +51,6 @@ fn decode_owned<K: Kernel>(alloc: Global, input: &[u8]) -> Result<Vec<u8>, FromH
 ///   the pairs before the bad byte, and the rest is unchanged.
 ///
 /// Does not allocate.
-///
 #[inline(always)]
 pub fn decode_to_slice(input: &[u8], output: &mut [u8]) -> Result<(), FromHexError> {
     decode_to_slice_with::<FixedKernel>(input, output)
@@ -60,7 +58,6 @@ pub fn decode_to_slice(input: &[u8], output: &mut [u8]) -> Result<(), FromHexErr
 
 /// As [`decode_to_slice`], by a kernel of the caller's choice. If the kernel checks a text before
 /// it decodes, every error leaves the output unchanged. Does not allocate.
-///
 #[inline(always)]
 pub fn decode_to_slice_with<K: Kernel>(input: &[u8], output: &mut [u8]) -> Result<(), FromHexError> {
     let body = even_body(input)?;
@@ -88,14 +85,12 @@ pub fn decode_to_slice_with<K: Kernel>(input: &[u8], output: &mut [u8]) -> Resul
 ///   the pairs before the bad byte, and the rest is unchanged.
 ///
 /// Does not allocate.
-///
 #[inline(always)]
 pub fn decode_to_front(input: &[u8], output: &mut [u8]) -> Result<usize, FromHexError> {
     decode_to_front_with::<FixedKernel>(input, output)
 }
 
 /// As [`decode_to_front`], by a kernel of the caller's choice. Does not allocate.
-///
 #[inline(always)]
 pub fn decode_to_front_with<K: Kernel>(
     input: &[u8],
@@ -117,7 +112,6 @@ pub fn decode_to_front_with<K: Kernel>(
 /// The first of these errors is returned: [`FromHexError::OddLength`];
 /// [`FromHexError::InvalidStringLength`], if the text behind the prefix does not have 2 * N bytes;
 /// [`FromHexError::InvalidHexCharacter`]. Does not allocate.
-///
 #[inline(always)]
 pub fn decode_to_array<const N: usize>(input: &[u8]) -> Result<[u8; N], FromHexError> {
     read_array(input)
@@ -132,7 +126,6 @@ fn read_array<const N: usize>(input: &[u8]) -> Result<[u8; N], FromHexError> {
 }
 
 /// As [`decode_to_array`], with the same answer on every text. Does not allocate.
-///
 #[inline(always)]
 pub fn const_decode_to_array<const N: usize>(input: &[u8]) -> Result<[u8; N], FromHexError> {
     decode_to_array(input)
@@ -142,7 +135,6 @@ pub fn const_decode_to_array<const N: usize>(input: &[u8]) -> Result<[u8; N], Fr
 ///
 /// The text must be 2 * N digits, with or without a prefix. If a digit is wrong, or the length, the
 /// check refuses the program, and it never runs. Does not allocate.
-///
 #[inline(always)]
 pub fn bytes_of<const N: usize>(text: &[u8]) -> [u8; N] {
     decode_to_array(text).unwrap()

@@ -1,13 +1,16 @@
+// Made by rust/erase from crates/const_hex/src/codec/encoders.rt. Do not edit.
 //! From bytes to text.
 
 use crate::rattle::prelude::*;
 use crate::proved::error::FromHexError;
+#[cfg(feature = "alloc")]
 use crate::proved::reserved::reserved_bytes;
-use crate::proved::{FixedKernel, Kernel, ascii_text, fill_text};
+use crate::proved::{FixedKernel, Kernel, ascii_text, fill_text, text_length};
 use crate::rattle::alloc::{AllocError, Global};
 
 /// The text, as a `String`.
 #[inline(always)]
+#[cfg(feature = "alloc")]
 fn encode_owned<K: Kernel>(
     alloc: Global,
     input: &[u8],
@@ -21,7 +24,7 @@ fn encode_owned<K: Kernel>(
 /// Two digits for each byte, in order, in lowercase.
 ///
 /// Returns `AllocError` if memory cannot be allocated.
-///
+#[cfg(feature = "alloc")]
 pub fn encode(alloc: Global, input: &[u8]) -> Result<String, AllocError> {
     encode_with::<FixedKernel, false>(alloc, input)
 }
@@ -29,7 +32,7 @@ pub fn encode(alloc: Global, input: &[u8]) -> Result<String, AllocError> {
 /// As [`encode`], in uppercase.
 ///
 /// Returns `AllocError` if memory cannot be allocated.
-///
+#[cfg(feature = "alloc")]
 pub fn encode_upper(alloc: Global, input: &[u8]) -> Result<String, AllocError> {
     encode_with::<FixedKernel, true>(alloc, input)
 }
@@ -37,7 +40,7 @@ pub fn encode_upper(alloc: Global, input: &[u8]) -> Result<String, AllocError> {
 /// `0x`, and then the text of [`encode`].
 ///
 /// Returns `AllocError` if memory cannot be allocated.
-///
+#[cfg(feature = "alloc")]
 pub fn encode_prefixed(alloc: Global, input: &[u8]) -> Result<String, AllocError> {
     encode_owned::<FixedKernel>(alloc, input, true, false)
 }
@@ -45,7 +48,7 @@ pub fn encode_prefixed(alloc: Global, input: &[u8]) -> Result<String, AllocError
 /// `0x`, and then the text of [`encode_upper`].
 ///
 /// Returns `AllocError` if memory cannot be allocated.
-///
+#[cfg(feature = "alloc")]
 pub fn encode_upper_prefixed(alloc: Global, input: &[u8]) -> Result<String, AllocError> {
     encode_owned::<FixedKernel>(alloc, input, true, true)
 }
@@ -53,8 +56,8 @@ pub fn encode_upper_prefixed(alloc: Global, input: &[u8]) -> Result<String, Allo
 /// As [`encode`] or [`encode_upper`], by a kernel of the caller's choice.
 ///
 /// Returns `AllocError` if memory cannot be allocated.
-///
 #[inline(always)]
+#[cfg(feature = "alloc")]
 pub fn encode_with<K: Kernel, const UPPER: bool>(
     alloc: Global,
     input: &[u8],
@@ -79,14 +82,12 @@ fn encode_into<'a>(input: &[u8], upper: bool, output: &'a mut [u8]) -> &'a mut [
 ///
 /// The output must have exactly two bytes for each byte of the input. Otherwise returns
 /// [`FromHexError::InvalidStringLength`], and the output is unchanged. Does not allocate.
-///
 #[inline(always)]
 pub fn encode_to_slice(input: &[u8], output: &mut [u8]) -> Result<(), FromHexError> {
     encode_full_to_slice(input, false, false, output)
 }
 
 /// As [`encode_to_slice`], in uppercase. Does not allocate.
-///
 #[inline(always)]
 pub fn encode_to_slice_upper(input: &[u8], output: &mut [u8]) -> Result<(), FromHexError> {
     encode_full_to_slice(input, false, true, output)
@@ -98,7 +99,6 @@ pub fn encode_to_slice_upper(input: &[u8], output: &mut [u8]) -> Result<(), From
 /// The output must have exactly two bytes for each byte of the input, and two more for a prefix.
 /// Otherwise returns [`FromHexError::InvalidStringLength`], and the output is unchanged. Does not
 /// allocate.
-///
 #[inline(always)]
 pub fn encode_full_to_slice(
     input: &[u8],
@@ -110,7 +110,6 @@ pub fn encode_full_to_slice(
 }
 
 /// As [`encode_full_to_slice`], by a kernel of the caller's choice. Does not allocate.
-///
 #[inline(always)]
 pub fn encode_full_to_slice_with<K: Kernel>(
     input: &[u8],
@@ -118,8 +117,7 @@ pub fn encode_full_to_slice_with<K: Kernel>(
     upper: bool,
     output: &mut [u8],
 ) -> Result<(), FromHexError> {
-    let digits = output.len().checked_sub(if prefix { 2 } else { 0 });
-    if !digits.is_some_and(|digits| two_per_byte(input.len(), digits)) {
+    if output.len() != text_length(prefix, input.len()) {
         return Err(FromHexError::InvalidStringLength);
     }
     fill_text::<K>(input, prefix, upper, output);
@@ -130,7 +128,6 @@ pub fn encode_full_to_slice_with<K: Kernel>(
 ///
 /// The output must have exactly two bytes for each byte of the input. Otherwise returns
 /// [`FromHexError::InvalidStringLength`], and the output is unchanged. Does not allocate.
-///
 #[inline(always)]
 pub fn encode_to_str<'a>(input: &[u8], output: &'a mut [u8]) -> Result<&'a str, FromHexError> {
     if !two_per_byte(input.len(), output.len()) {
@@ -140,7 +137,6 @@ pub fn encode_to_str<'a>(input: &[u8], output: &'a mut [u8]) -> Result<&'a str, 
 }
 
 /// As [`encode_to_str`], in uppercase. Does not allocate.
-///
 #[inline(always)]
 pub fn encode_to_str_upper<'a>(input: &[u8], output: &'a mut [u8]) -> Result<&'a str, FromHexError> {
     if !two_per_byte(input.len(), output.len()) {

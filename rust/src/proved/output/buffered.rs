@@ -1,5 +1,7 @@
+// Made by rust/erase from crates/const_hex_arch/src/output/buffered.rt. Do not edit.
 //! An output that gathers small pieces into large ones.
 
+use crate::rattle::prelude::*;
 use crate::proved::output::Output;
 
 /// Gathers up to `N` bytes before it hands them on to an output.
@@ -9,7 +11,6 @@ use crate::proved::output::Output;
 /// once, and a shorter piece becomes pending. An empty pending text is never handed on. If the
 /// `BufferedOutput` is dropped without [`finish`](BufferedOutput::finish), the pending text is
 /// lost.
-///
 pub struct BufferedOutput<O: Output, const N: usize> {
     output: O,
     buffer: [u8; N],
@@ -18,7 +19,6 @@ pub struct BufferedOutput<O: Output, const N: usize> {
 
 impl<O: Output, const N: usize> BufferedOutput<O, N> {
     /// Gathers for the given output, with nothing pending. N must not be 0.
-    ///
     #[inline(always)]
     pub fn new(output: O) -> BufferedOutput<O, N> {
         BufferedOutput {
@@ -29,7 +29,6 @@ impl<O: Output, const N: usize> BufferedOutput<O, N> {
     }
 
     /// Hands on the pending text, if there is any, and returns the output.
-    ///
     #[inline(always)]
     pub fn finish(self) -> O {
         let mut this = self;
@@ -75,7 +74,6 @@ impl<O: Output, const N: usize> BufferedOutput<O, N> {
 }
 
 impl<O: Output, const N: usize> Output for BufferedOutput<O, N> {
-
     /// The room of the output, less the pending bytes.
     #[inline(always)]
     fn remaining(&self) -> Option<usize> {
@@ -104,4 +102,5 @@ impl<O: Output, const N: usize> Output for BufferedOutput<O, N> {
         }
         self.keep(&[byte]);
     }
+
 }

@@ -1,13 +1,13 @@
+// Made by rust/erase from crates/const_hex_arch/src/output/slice.rt. Do not edit.
 //! An output into a slice.
 
-use crate::rattle::parts::*;
+use crate::rattle::prelude::*;
 use crate::proved::output::Output;
 use crate::rattle::simd::prelude::*;
 
 /// Writes into a slice, from its start.
 ///
 /// A write puts the piece behind what was written, and leaves the rest of the slice unchanged.
-///
 pub struct SliceOutput<'a> {
     slice: &'a mut [u8],
     count: usize,
@@ -15,7 +15,6 @@ pub struct SliceOutput<'a> {
 
 impl<'a> SliceOutput<'a> {
     /// An output into the given slice, with nothing written yet.
-    ///
     #[inline(always)]
     pub fn new(slice: &'a mut [u8]) -> SliceOutput<'a> {
         SliceOutput { slice, count: 0 }
@@ -23,7 +22,6 @@ impl<'a> SliceOutput<'a> {
 }
 
 impl Output for SliceOutput<'_> {
-
     /// How many bytes of the slice are not written yet.
     #[inline(always)]
     fn remaining(&self) -> Option<usize> {
@@ -37,7 +35,7 @@ impl Output for SliceOutput<'_> {
         }
         let end = self.count + bytes.len();
         let slice = &mut *self.slice;
-        copy_over(slice.part_mut(self.count..end), bytes);
+        copy_over(slice.within_mut(self.count..end), bytes);
         self.count = end;
     }
 
@@ -47,6 +45,7 @@ impl Output for SliceOutput<'_> {
         self.count -= first.len() + last.len() - count;
         self.write(last);
     }
+
 }
 
 /// Puts bytes in the place of as many others.
@@ -57,7 +56,7 @@ fn copy_over(place: &mut [u8], bytes: &[u8]) {
     if bytes.len() == 64 {
         let (front, back) = place.split_at_mut(32);
         u8x32::from_slice(bytes).copy_to_slice(front);
-        u8x32::from_slice(bytes.part(32..)).copy_to_slice(back);
+        u8x32::from_slice(bytes.within(32..)).copy_to_slice(back);
     } else if bytes.len() == 32 {
         copy_lanes::<32>(place, bytes);
     } else if bytes.len() == 16 {

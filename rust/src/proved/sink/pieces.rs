@@ -1,3 +1,4 @@
+// Made by rust/erase from crates/const_hex_arch/src/sink/pieces.rt. Do not edit.
 //! A sink that keeps its pieces.
 
 use crate::rattle::prelude::*;
@@ -8,7 +9,6 @@ use crate::rattle::alloc::{AllocError, Global};
 /// allocate.
 ///
 /// Contracts see it as the pieces that it accepted, the number, and whether it has refused.
-///
 pub struct PieceSink {
     alloc: Global,
     pieces: Vec<String>,
@@ -20,7 +20,7 @@ impl PieceSink {
     /// A sink with no pieces, which refuses the call with the number `refuse_at`. The first call
     /// has the number 1; for 0 it refuses none. It does not allocate, and keeps the allocator for
     /// the pieces.
-    ///
+    #[cfg(feature = "alloc")]
     pub fn new(alloc: Global, refuse_at: usize) -> PieceSink {
         PieceSink {
             alloc,
@@ -31,19 +31,16 @@ impl PieceSink {
     }
 
     /// The pieces that it accepted, in order.
-    ///
     pub fn pieces(&self) -> &[String] {
         self.pieces.as_slice()
     }
 
     /// How many calls there were: one for each piece, and the refused one.
-    ///
     pub fn calls(&self) -> usize {
         self.pieces.len() + usize::from(self.refused)
     }
 
     /// Whether it refused because it could not allocate, and not because of the number of the call.
-    ///
     pub fn no_memory(&self) -> bool {
         self.refused && self.calls() != self.refuse_at
     }
@@ -57,7 +54,6 @@ impl PieceSink {
 }
 
 impl Sink for PieceSink {
-
     fn refused(&self) -> bool {
         self.refused
     }
@@ -69,4 +65,5 @@ impl Sink for PieceSink {
         }
         Ok(())
     }
+
 }

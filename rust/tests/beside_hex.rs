@@ -1,0 +1,122 @@
+//! The same inputs to this package and to the crate `hex`. Every result is equal but for what the README
+//! of the package `hex` lists.
+#![cfg(feature = "alloc")]
+
+use const_hex_proved as proved;
+use proved::FromHexError::{InvalidHexCharacter, InvalidStringLength, OddLength};
+
+/// Numbers without a pattern, the same in each run.
+struct Random(u64);
+
+impl Random {
+    fn below(&mut self, limit: usize) -> usize {
+        self.0 ^= self.0 << 13;
+        self.0 ^= self.0 >> 7;
+        self.0 ^= self.0 << 17;
+        (self.0.wrapping_mul(0x2545_F491_4F6C_DD1D) >> 16) as usize % limit
+    }
+
+    /// Bytes of a length that short kernels and long ones see.
+    fn bytes(&mut self) -> Vec<u8> {
+        let limit = [40, 40, 400][self.below(3)];
+        (0..self.below(limit))
+            .map(|_| self.below(256) as u8)
+            .collect()
+    }
+
+    /// A text in both cases, with or without a prefix, sometimes with an invalid character or an odd length.
+    fn text(&mut self) -> Vec<u8> {
+        if self.below(8) == 0 {
+            return self.bytes();
+        }
+        let mut text = ["", "", "0x", "0X"][self.below(4)].as_bytes().to_vec();
+        text.extend(hex::encode(self.bytes()).bytes());
+        text.iter_mut()
+            .filter(|_| self.below(2) == 0)
+            .for_each(|byte| byte.make_ascii_uppercase());
+        if self.below(2) == 0 && !text.is_empty() {
+            let position = self.below(text.len());
+            text[position] = [
+                b'g',
+                b'/',
+                b':',
+                b'@',
+                b'G',
+                b'`',
+                b'x',
+                self.below(256) as u8,
+            ][self.below(8)];
+        }
+        if self.below(8) == 0 {
+            text.pop();
+        }
+        text
+    }
+}
+
+/// What `hex` returns for the text without its prefix, as this package has it: with a position in the text.
+fn by_hex<'a, T>(
+    text: &'a [u8],
+    call: impl FnOnce(&'a [u8]) -> Result<T, hex::FromHexError>,
+) -> Result<T, proved::FromHexError> {
+    let prefix = 2 * usize::from(text.starts_with(b"0x") || text.starts_with(b"0X"));
+    call(&text[prefix..]).map_err(|error| match error {
+        hex::FromHexError::OddLength => OddLength,
+        hex::FromHexError::InvalidStringLength => InvalidStringLength,
+        hex::FromHexError::InvalidHexCharacter { c, index } => InvalidHexCharacter {
+            c,
+            index: index + prefix,
+        },
+    })
+}
+
+#[test]
+fn encoding() {
+    let mut random = Random(88172645463325252);
+    for _ in 0..20_000 {
+        let bytes = random.bytes();
+        assert_eq!(proved::encode(&bytes), hex::encode(&bytes));
+        assert_eq!(proved::encode_upper(&bytes), hex::encode_upper(&bytes));
+        let text = hex::ToHex::encode_hex_upper::<Vec<char>>(&bytes);
+        assert_eq!(proved::ToHex::encode_hex_upper::<Vec<char>>(&bytes), text);
+        for length in [2 * bytes.len(), random.below(900)] {
+            let (mut ours, mut theirs) = (vec![0xEE; length], vec![0xEE; length]);
+            let encoded = proved::encode_to_slice(&bytes, &mut ours);
+            let wanted = hex::encode_to_slice(&bytes, &mut theirs);
+            assert_eq!(encoded, wanted.map_err(|_| InvalidStringLength));
+            assert_eq!(ours, theirs);
+        }
+    }
+}
+
+#[test]
+fn decoding() {
+    let mut random = Random(88172645463325252);
+    for _ in 0..20_000 {
+        let text = random.text();
+        let bytes = by_hex(&text, hex::decode::<&[u8]>);
+        assert_eq!(proved::decode(&text), bytes);
+        assert_eq!(proved::FromHex::from_hex(&text), bytes);
+        assert_eq!(proved::check(&text), bytes.clone().map(drop));
+        if let (false, Err(error)) = (text.starts_with(b"0"), hex::decode(&text)) {
+            let error = error.to_string();
+            let (first, rest) = error.split_at(1);
+            let message = first.to_lowercase() + rest;
+            assert_eq!(proved::decode(&text).unwrap_err().to_string(), message);
+        }
+        for length in [
+            text.len() / 2,
+            text.len().saturating_sub(2) / 2,
+            random.below(200),
+        ] {
+            let (mut ours, mut theirs) = (vec![0xEE; length], vec![0xEE; length]);
+            let decoded = proved::decode_to_slice(&text, &mut ours);
+            let wanted = by_hex(&text, |text| hex::decode_to_slice(text, &mut theirs));
+            assert_eq!(decoded, wanted);
+            // After an invalid character each leaves what it has decoded so far.
+            if !matches!(decoded, Err(InvalidHexCharacter { .. })) {
+                assert_eq!(ours, theirs);
+            }
+        }
+    }
+}
