@@ -12,6 +12,7 @@ mod hosts;
 mod kernels;
 mod lanes;
 mod long;
+mod owned;
 mod pieces;
 mod printed;
 mod runs;

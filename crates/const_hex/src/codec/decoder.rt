@@ -343,11 +343,13 @@ fn decode_behind<K: Kernel>(high: u8, digits: &[u8], output: &mut [u8]) -> bool
         → Spells (take (2 * length output.old) (high ∷ digits.now)) output.new }
     ensures refused { result ≡ false → Partial output.old (high ∷ digits.now) output.new }
 {
-    let [low, rest @ ..] = digits else {
-        return true;
-    };
-    let (first, others) = output.split_at_mut(1);
-    decode_body::<K>(&[high, *low], first) && decode_digits::<K>(rest, others)
+    match digits {
+        [low, rest @ ..] => {
+            let (first, others) = output.split_at_mut(1);
+            decode_body::<K>(&[high, *low], first) && decode_digits::<K>(rest, others)
+        }
+        [] => true,
+    }
 }
 
 /// Fills the output with the bytes that the digits spell, and returns true. A last digit without

@@ -9,6 +9,7 @@ ghost use Rattle.const_hex.specs.declared.error.FromHexError.TheVariants.{OddLen
 
 use crate::codec::body::{bad_character, decode_body, even_body};
 use crate::error::FromHexError;
+use crate::reserved::decode_reserved;
 use const_hex_arch::{FixedKernel, Kernel};
 use std::alloc::Global;
 
@@ -76,15 +77,10 @@ fn decode_owned<K: Kernel>(alloc: Global, input: &[u8]) -> Result<Vec<u8>, FromH
     ensures err { IfErr result (λ e. e ≢ NoMemory → Reads input.now (Err e)) }
     ensures odd { (result ≡ Err OddLength) ↔ IsOdd (length input.now) }
 {
-    let body = even_body(input)?;
-    if body.is_empty() {
-        return Ok(Vec::new(alloc));
+    match decode_reserved::<K>(alloc, even_body(input)?)? {
+        Some(bytes) => Ok(bytes),
+        None => Err(bad_character(input)),
     }
-    let mut bytes = vec![in alloc; 0u8; body.len() / 2]?;
-    if !decode_body::<K>(body, &mut bytes) {
-        return Err(bad_character(input));
-    }
-    Ok(bytes)
 }
 
 /// Fills the output with the bytes that a text spells, with or without a prefix, in either case.

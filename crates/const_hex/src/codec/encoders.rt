@@ -9,7 +9,7 @@ ghost use Rattle.const_hex.specs.declared.error.FromHexError.TheVariants.{Invali
 
 use crate::error::FromHexError;
 use crate::reserved::reserved_bytes;
-use const_hex_arch::{FixedKernel, Kernel, ascii_text, fill_text};
+use const_hex_arch::{FixedKernel, Kernel, ascii_text, fill_text, text_length};
 use std::alloc::{AllocError, Global};
 
 /// The text, as a `String`.
@@ -209,8 +209,7 @@ pub fn encode_full_to_slice_with<K: Kernel>(
     ensures refusal { OnErr result (result ≡ Err InvalidStringLength) }
     ensures unchanged { OnErr result (output.new ≡ output.old) }
 {
-    let digits = output.len().checked_sub(if prefix { 2 } else { 0 });
-    if !digits.is_some_and(|digits| two_per_byte(input.len(), digits)) {
+    if output.len() != text_length(prefix, input.len()) {
         return Err(FromHexError::InvalidStringLength);
     }
     fill_text::<K>(input, prefix, upper, output);
