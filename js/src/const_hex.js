@@ -198,9 +198,7 @@ function decodeChunk(source, index) {
 }
 
 /** Returns whether the decoder in the memory has read a whole text. */
-function finishes() {
-    return const_hex_decoder_finish(DECODER, ERROR) === 1;
-}
+const finishes = () => const_hex_decoder_finish(DECODER, ERROR) === 1;
 
 function accepts(source) {
     loadDecoder(0, 0);
@@ -245,13 +243,8 @@ function textAsString(length) {
     return String.fromCharCode.apply(null, units);
 }
 
-function lengthIn(source) {
-    return typeof source === 'string' ? source.length : lengthOf.call(source);
-}
-
-function sourceOf(input) {
-    return typeof input === 'string' ? input : viewOf(input);
-}
+const lengthIn = (source) => (typeof source === 'string' ? source.length : lengthOf.call(source));
+const sourceOf = (input) => (typeof input === 'string' ? input : viewOf(input));
 
 /** Returns the bytes of a buffer or of a view. */
 function viewOf(value) {

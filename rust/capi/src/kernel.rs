@@ -7,6 +7,15 @@ pub use const_hex_proved::source::FixedKernel as Kernel;
 #[cfg(all(target_arch = "wasm32", target_os = "unknown"))]
 pub use module::Compact as Kernel;
 
+#[cfg(all(
+    target_arch = "wasm32",
+    target_os = "unknown",
+    not(target_feature = "simd128")
+))]
+compile_error!(
+    "the module needs SIMD: run cargo in this folder, whose .cargo/config.toml enables it"
+);
+
 #[cfg(all(target_arch = "wasm32", target_os = "unknown"))]
 mod module {
     use const_hex_proved::source::{Kernel, Lanes16, Output};
