@@ -61,6 +61,16 @@ mod rattle;
 pub mod serde;
 pub mod traits;
 
+/// What `capi` calls of the proved source.
+#[doc(hidden)]
+pub mod source {
+    pub use crate::proved::codec::checks::{check, check_raw};
+    pub use crate::proved::codec::decoder::Decoder;
+    pub use crate::proved::codec::decoders::{decode_to_front, decode_to_slice};
+    pub use crate::proved::codec::encoders::encode_full_to_slice_with;
+    pub use crate::proved::{FixedKernel, Kernel, Lanes16, Output};
+}
+
 pub use crate::buffer::Buffer;
 pub use crate::constants::{
     bytes_of, const_check, const_check_raw, const_decode_to_array, const_encode,
