@@ -39,80 +39,73 @@ mod x86_64 {
     use core::arch::x86_64::{__cpuid, __cpuid_count, _xgetbv};
     use core::sync::atomic::{AtomicU8, Ordering::Relaxed};
 
-    /// Calls the kernel over AVX2 if the processor has it, and otherwise the one over SSE2.
+    /// The body of a function that runs by the kernel `$k` over AVX2 if the processor has it, and otherwise by
+    /// the one over SSE2. Both are functions of their own, so that the code of a caller stays small.
+    macro_rules! by_kernel {
+        ([$($o:ident: $output:ident)?] ($($argument:ident: $type:ty),*) $(-> $result:ty)?, $k:ident => $body:expr) => {{
+            #[target_feature(enable = "avx2")]
+            #[inline(never)]
+            unsafe fn with_avx2$(<$o: $output>)?($($argument: $type),*) $(-> $result)? {
+                type $k = Lanes32;
+                $body
+            }
+            #[inline(never)]
+            fn without_avx2$(<$o: $output>)?($($argument: $type),*) $(-> $result)? {
+                type $k = Portable;
+                $body
+            }
+            #[cold]
+            #[inline(never)]
+            fn not_known$(<$o: $output>)?($($argument: $type),*) $(-> $result)? {
+                if has_avx2() {
+                    // SAFETY: the processor has AVX2.
+                    return unsafe { with_avx2($($argument),*) };
+                }
+                without_avx2($($argument),*)
+            }
+            if is_avx2_known() {
+                // SAFETY: the processor has AVX2.
+                return unsafe { with_avx2($($argument),*) };
+            }
+            not_known($($argument),*)
+        }};
+    }
+
+    /// The kernel for the processor.
     pub struct Native;
 
-    /// Each call of a kernel, and each call that chooses the kernel itself, as a function with AVX2 and one
-    /// without. Neither is inlined, so that the code of a caller stays small.
-    macro_rules! calls {
-        ($($name:ident $([$o:ident: $output:ident])? ($($argument:ident: $type:ty),*) $(-> $result:ty)?;)*) => {
+    macro_rules! kernel {
+        ($($name:ident [$($o:ident: $output:ident)?] ($($argument:ident: $type:ty),*) $(-> $result:ty)?;)*) => {
             impl Kernel for Native {
                 const USE_CHECK_FN: bool = false;
 
                 $(
                     #[inline(always)]
-                    fn $name $(<$o: $output>)? ($($argument: $type),*) $(-> $result)? {
-                        if has_avx2() {
-                            // SAFETY: the processor has AVX2.
-                            return unsafe { with_avx2::$name($($argument),*) };
-                        }
-                        without_avx2::$name($($argument),*)
-                    }
-                )*
-            }
-
-            mod with_avx2 {
-                use super::*;
-
-                $(
-                    #[target_feature(enable = "avx2")]
-                    #[inline(never)]
-                    pub unsafe fn $name $(<$o: $output>)? ($($argument: $type),*) $(-> $result)? {
-                        Lanes32::$name($($argument),*)
-                    }
-                )*
-            }
-
-            mod without_avx2 {
-                use super::*;
-
-                $(
-                    #[inline(never)]
-                    pub fn $name $(<$o: $output>)? ($($argument: $type),*) $(-> $result)? {
-                        Portable::$name($($argument),*)
+                    fn $name$(<$o: $output>)?($($argument: $type),*) $(-> $result)? {
+                        by_kernel!(
+                            [$($o: $output)?] ($($argument: $type),*) $(-> $result)?,
+                            K => K::$name($($argument),*)
+                        )
                     }
                 )*
             }
         };
     }
-    calls! {
+    kernel! {
         encode [O: Output] (input: &[u8], upper: bool, output: &mut O);
-        fill(input: &[u8], upper: bool, output: &mut [u8]);
-        check(input: &[u8]) -> bool;
-        decode_checked(input: &[u8], output: &mut [u8]) -> bool;
-        decode_part(input: &[u8], start: usize, output: &mut [u8]) -> bool;
-        decode_unchecked(input: &[u8], output: &mut [u8]);
+        fill [] (input: &[u8], upper: bool, output: &mut [u8]);
+        check [] (input: &[u8]) -> bool;
+        decode_checked [] (input: &[u8], output: &mut [u8]) -> bool;
+        decode_part [] (input: &[u8], start: usize, output: &mut [u8]) -> bool;
+        decode_unchecked [] (input: &[u8], output: &mut [u8]);
     }
 
     /// Returns the bytes that a text decodes to. The kernel is chosen before the whole call, since the source
-    /// calls it for many pieces.
+    /// calls it for many parts.
     #[cfg(feature = "alloc")]
     #[inline]
     pub fn decode(text: &[u8]) -> Result<Vec<u8>, FromHexError> {
-        #[target_feature(enable = "avx2")]
-        #[inline(never)]
-        unsafe fn with_avx2(text: &[u8]) -> Result<Vec<u8>, FromHexError> {
-            decode_by::<Lanes32>(text)
-        }
-        #[inline(never)]
-        fn without_avx2(text: &[u8]) -> Result<Vec<u8>, FromHexError> {
-            decode_by::<Portable>(text)
-        }
-        if has_avx2() {
-            // SAFETY: the processor has AVX2.
-            return unsafe { with_avx2(text) };
-        }
-        without_avx2(text)
+        by_kernel!([] (text: &[u8]) -> Result<Vec<u8>, FromHexError>, K => decode_by::<K>(text))
     }
 
     /// What is known of the processor: nothing yet, or that it has AVX2 or does not.
@@ -121,14 +114,15 @@ mod x86_64 {
     const ABSENT: u8 = 1;
     const PRESENT: u8 = 2;
 
-    /// Returns whether the processor has AVX2.
+    /// Returns whether it is known that the processor has AVX2.
     #[inline(always)]
+    fn is_avx2_known() -> bool {
+        cfg!(target_feature = "avx2") || AVX2.load(Relaxed) == PRESENT
+    }
+
+    /// Returns whether the processor has AVX2.
     pub fn has_avx2() -> bool {
-        if cfg!(target_feature = "avx2") {
-            return true;
-        }
-        let known = AVX2.load(Relaxed);
-        known == PRESENT || known == UNKNOWN && detect_avx2()
+        is_avx2_known() || AVX2.load(Relaxed) == UNKNOWN && detect_avx2()
     }
 
     /// Asks the processor whether it has AVX2, and whether the operating system keeps its registers.

@@ -176,7 +176,7 @@ fn what_is_erased() {
         ("const S: &str = \"ensures { x }\";", Ok("const S: &str = \"ensures { x }\";")),
         ("#[no_mangle]\nfn f() {}", Err("the attribute #[no_mangle]")),
         ("#[derive(Hash)]\nstruct S;", Err("the attribute #[derive(Hash)]")),
-        ("fn f()\n    requires x\n{}", Err("the clause requires x\n{")),
+        ("fn f()\n    requires x + 1\n{}", Err("the clause requires x +")),
         ("fn f() {\n    invariant { x };\n}", Err("the word invariant outside of a contract")),
         ("fn f() {\n    g(rt.alloc());\n}", Err("the word rt outside of a contract")),
         ("fn f(x: &[u8]) {\n    x.rotate_left(1);\n}", Err("the call rotate_left")),

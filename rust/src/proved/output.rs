@@ -30,7 +30,6 @@ pub trait Output {
     fn write_ends(&mut self, first: &[u8], last: &[u8], count: usize) {
         self.write(&join_ends(first, last, count)[..count])
     }
-
 }
 
 /// An array that begins with the piece that has these ends.

@@ -43,7 +43,6 @@ impl Output for ReservedOutput {
         self.bytes.truncate(start);
         self.write(last);
     }
-
 }
 
 /// The bytes of the text, behind `0x` if `prefix` is true. Allocates once, for exactly the text; for no

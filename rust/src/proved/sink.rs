@@ -32,7 +32,6 @@ pub trait Sink {
     /// Offers a piece. Returns `Ok` if the sink accepts it, and an error if it refuses. The sink
     /// must not have refused before.
     fn write_str(&mut self, s: &str) -> Result<(), SinkError>;
-
 }
 
 /// An error if the sink has refused.

@@ -33,5 +33,6 @@ fn put_prefix(prefix: bool, output: &mut [u8]) {
 /// ASCII bytes as text, without a copy or a test at run time. Does not allocate.
 #[inline(always)]
 pub fn ascii_text(bytes: &[u8]) -> &str {
+    // SAFETY: ASCII is UTF-8.
     unsafe { str::from_utf8_unchecked(bytes) }
 }

@@ -61,5 +61,4 @@ impl Vectors<16> for Arithmetic16 {
     fn merge(first: u8x16, second: u8x16, twin: bool) -> u8x16 {
         Lanes16::merge(first, second, twin)
     }
-
 }

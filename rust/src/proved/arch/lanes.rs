@@ -19,7 +19,6 @@ pub(crate) trait Vectors<const N: usize> {
 
     /// One byte for each two values, the higher half first.
     fn merge(first: Simd<u8, N>, second: Simd<u8, N>, twin: bool) -> Simd<u8, N>;
-
 }
 
 /// The value of each lane that is a digit, and more than 15 for every other lane.

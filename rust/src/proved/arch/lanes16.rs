@@ -140,7 +140,6 @@ impl Vectors<16> for Lanes16 {
     fn merge(first: u8x16, second: u8x16, twin: bool) -> u8x16 {
         pack(join(first, second), twin)
     }
-
 }
 
 /// The limit of each lane. If the lane is a digit, its value is at most the limit.

@@ -106,7 +106,6 @@ impl Vectors<32> for Lanes32 {
     fn merge(first: u8x32, second: u8x32, twin: bool) -> u8x32 {
         pack(join(first, second), twin)
     }
-
 }
 
 /// The limit of each lane. If the lane is a digit, its value is at most the limit.

@@ -18,6 +18,7 @@ fn encode_owned<K: Kernel>(
     upper: bool,
 ) -> Result<String, AllocError> {
     let text = reserved_bytes::<K>(alloc, input, prefix, upper)?;
+    // SAFETY: the text is ASCII.
     Ok(unsafe { String::from_utf8_unchecked(text) })
 }
 

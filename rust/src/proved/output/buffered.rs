@@ -102,5 +102,4 @@ impl<O: Output, const N: usize> Output for BufferedOutput<O, N> {
         }
         self.keep(&[byte]);
     }
-
 }

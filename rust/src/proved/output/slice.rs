@@ -45,7 +45,6 @@ impl Output for SliceOutput<'_> {
         self.count -= first.len() + last.len() - count;
         self.write(last);
     }
-
 }
 
 /// Puts bytes in the place of as many others.

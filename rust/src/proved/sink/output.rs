@@ -44,5 +44,4 @@ impl<S: Sink> Output for SinkOutput<'_, S> {
         }
         let _ = self.sink.write_str(ascii_text(bytes));
     }
-
 }

@@ -65,5 +65,4 @@ impl Sink for PieceSink {
         }
         Ok(())
     }
-
 }
