@@ -29,9 +29,8 @@ int main(int count, char **words) {
     for (int place = 0; place < 8; place++) {
         bytes[place] = (unsigned char)(hash >> (56 - 8 * place));
     }
-    /* The digits, and room for the NUL that puts wants: none is written behind them. */
-    char text[CONST_HEX_TEXT_LENGTH(sizeof bytes, false) + 1] = "";
-    if (!const_hex_encode(bytes, sizeof bytes, false, false, text, sizeof text - 1)) {
+    char text[CONST_HEX_ENCODED_SIZE(sizeof bytes, 0)];
+    if (!const_hex_encode(bytes, sizeof bytes, text, sizeof text, 0)) {
         return 1;
     }
     /* What is written may only fail once it leaves the program. */

@@ -54,16 +54,16 @@ int main(void) {
     struct line line = {NULL, 0, 0};
     int status = 0;
     for (unsigned long number = 1; read_line(&line); number++) {
-        struct const_hex_refusal refusal;
-        char message[CONST_HEX_WORDS];
-        if (const_hex_check(line.bytes, line.length, &refusal)) {
+        struct const_hex_error error;
+        char message[CONST_HEX_MESSAGE_SIZE];
+        if (const_hex_check(line.bytes, line.length, &error)) {
             continue;
         }
         status = 1;
-        const_hex_refusal_words(&refusal, message, sizeof message);
+        const_hex_error_message(&error, message, sizeof message);
         /* The mark stands under the bad character, or under the whole line if that is odd. */
-        bool bad = refusal.kind == CONST_HEX_INVALID_CHARACTER;
-        size_t place = bad ? refusal.index : 0;
+        bool bad = error.kind == CONST_HEX_INVALID_CHARACTER;
+        size_t place = bad ? error.index : 0;
         printf("%lu:%lu: %s\n", number, (unsigned long)place + 1, message);
         show(&line, place, bad ? 1 : line.length);
     }

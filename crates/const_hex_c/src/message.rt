@@ -1,4 +1,4 @@
-//! The message of an error, in room of its own.
+//! The message of an error, printed into an array.
 
 ghost use Rattle.std.specs.Prelude.{◌≡◌, ◌≤◌, ◌<◌, ◌++◌, take, IfSome};
 ghost use Rattle.const_hex.specs.Messages.{message_of};
@@ -6,36 +6,36 @@ ghost use Rattle.const_hex.specs.Messages.{message_of};
 use const_hex::FromHexError;
 use std::fmt;
 
-/// Room for the message of any refused text. The longest message has 59 bytes.
-const ROOM: usize = 64;
+/// The size of the array. The longest message has 59 bytes.
+const SIZE: usize = 64;
 
 /// A printed message.
 #[derive(Drop)]
-pub(crate) struct Words {
-    pub(crate) bytes: [u8; ROOM],
+pub(crate) struct Message {
+    pub(crate) bytes: [u8; SIZE],
     pub(crate) count: usize,
     ghost within: { count ≤ 64 },
 }
 
-impl Words {
+impl Message {
     /// An empty message.
-    pub(crate) fn none() -> Words
+    pub(crate) fn empty() -> Message
         ensures { result.count ≡ 0 }
     {
-        Words {
-            bytes: [0; ROOM],
+        Message {
+            bytes: [0; SIZE],
             count: 0,
         }
     }
 
     /// The message of an error, or an empty one if it could not be printed whole.
-    pub(crate) fn of(error: FromHexError) -> Words
+    pub(crate) fn of(error: FromHexError) -> Message
         ensures { IfSome (message_of error) (λ m. 0 < result.count → take result.count result.bytes ≡ m) }
     {
-        let mut words = Words::none();
-        match fmt::Write::write(&mut words, error) {
-            Ok(()) => words,
-            Err(_) => Words::none(),
+        let mut message = Message::empty();
+        match fmt::Write::write(&mut message, error) {
+            Ok(()) => message,
+            Err(_) => Message::empty(),
         }
     }
 
@@ -47,13 +47,13 @@ impl Words {
     }
 }
 
-impl fmt::Write for Words {
+impl fmt::Write for Message {
     ghost write_str_gives = { λ old text new.
         take new.count new.bytes ≡ take old.count old.bytes ++ text };
 
     /// An error if the message and this text together do not fit.
     fn write_str(&mut self, text: &str) -> fmt::Result {
-        if text.len() > ROOM - self.count {
+        if text.len() > SIZE - self.count {
             return Err(fmt::Error);
         }
         let end = self.count + text.len();
