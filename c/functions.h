@@ -1,9 +1,9 @@
 /*
- * The functions of const_hex.h, once each, for dispatch.c and the tests. It is not installed.
+ * The functions of const_hex.h, once each, for dispatch.c, the tests and CMakeLists.txt. It is not installed.
  *
- * FUNCTIONS(PLAIN, WITH_ERROR, suffix) writes PLAIN(suffix, result, name, parameters, arguments) for each function,
- * whose name has const_hex_ before it, and WITH_ERROR(..) for those whose parameter error may be NULL. Their builds
- * in Rattle need an error, and have _nonnull after the name.
+ * FUNCTIONS gives a macro the suffix and each function's result, name (without const_hex_), parameters and arguments:
+ * WITH_ERROR those of a function whose parameter error may be NULL, and PLAIN those of any other. What Rattle builds of
+ * the former needs an error, and has _nonnull after its name.
  */
 #ifndef CONST_HEX_FUNCTIONS_H
 #define CONST_HEX_FUNCTIONS_H

@@ -294,8 +294,7 @@ pub extern "C" fn const_hex_check_raw(text: &[u8]) -> bool
     CallsKernel::check(text)
 }
 
-/// Writes the message of an error and a NUL into the buffer, and returns the number of bytes before
-/// the NUL.
+/// Writes the message of an error and a NUL, and returns the number of bytes before the NUL.
 ///
 /// A message that does not fit is truncated. If the buffer is empty, nothing is written. A struct that
 /// is no error has an empty message. No contract says that a message is written, since printing
@@ -306,24 +305,24 @@ pub extern "C" fn const_hex_check_raw(text: &[u8]) -> bool
 /// size_t count = const_hex_error_message(&error, message, sizeof message);
 /// ```
 #[unsafe(no_mangle)]
-pub extern "C" fn const_hex_error_message(error: &HexError, buffer: &mut [u8]) -> usize
-    ensures within { 0 < length buffer.old → result < length buffer.old }
-    ensures none { length buffer.old ≡ 0 → result ≡ 0 }
-    ensures ended { 0 < length buffer.old → slice_index buffer.new result ≡ 0 }
-    ensures rest { drop (result + 1) buffer.new ≡ drop (result + 1) buffer.old }
-    ensures message { 0 < result → Says error.now (λ m. take result buffer.new ≡ take result m) }
+pub extern "C" fn const_hex_error_message(error: &HexError, message: &mut [u8]) -> usize
+    ensures within { 0 < length message.old → result < length message.old }
+    ensures none { length message.old ≡ 0 → result ≡ 0 }
+    ensures ended { 0 < length message.old → slice_index message.new result ≡ 0 }
+    ensures rest { drop (result + 1) message.new ≡ drop (result + 1) message.old }
+    ensures message { 0 < result → Says error.now (λ m. take result message.new ≡ take result m) }
     ensures whole { 0 < result
-        → Says error.now (λ m. result ≡ min (length m) (length buffer.old - 1)) }
+        → Says error.now (λ m. result ≡ min (length m) (length message.old - 1)) }
     ensures unknown { IsUnknown error.now → result ≡ 0 }
 {
-    if buffer.is_empty() {
+    if message.is_empty() {
         return 0;
     }
-    let message = error.message();
-    let message = message.as_bytes();
-    let count = message.len().min(buffer.len() - 1);
-    buffer[..count].copy_from_slice(&message[..count]);
-    buffer[count] = 0;
+    let printed = error.message();
+    let printed = printed.as_bytes();
+    let count = printed.len().min(message.len() - 1);
+    message[..count].copy_from_slice(&printed[..count]);
+    message[count] = 0;
     count
 }
 
