@@ -27,7 +27,7 @@ def main(library, name):
         digest = hashlib.sha256(file.read()).digest()
     text = ctypes.create_string_buffer(2 * len(digest) + 3)
     fits = encoder(library)(digest, len(digest), text, len(text), PREFIX)
-    assert fits, "the buffer has room for the prefix, the digits and a NUL"
+    assert fits, "the buffer has space for the prefix, the digits and a NUL"
     print(text.value.decode("ascii"))
 
 

@@ -85,19 +85,32 @@ static inline void judge_text(const char *text, size_t length, size_t by) {
     }
 }
 
+/* The model of a text for decoders, which find an invalid character first: with a digit more if the length is odd. */
+static inline const struct model *model_of_chunks(const char *text, size_t length) {
+    static char even[AREA];
+    memcpy(even, text, length);
+    even[length] = '0';
+    return model_of(even, length + length % 2);
+}
+
 /* The error of a decoder that has read the first `length` characters of the text, or no kind. */
 static inline struct const_hex_error error_so_far(const struct model *model, size_t length) {
     struct const_hex_error none = {0, 0, 0};
     return model->error.kind == CONST_HEX_INVALID_CHARACTER && model->error.index < length ? model->error : none;
 }
 
-/* Decodes one more chunk: first into a buffer that is too small, and then into one of the size. */
-static inline bool judge_chunk(const struct model *model, struct const_hex_decoder *decoder, const char *text,
-                               size_t from, size_t to, size_t done, size_t more) {
-    const char *chunk = (const char *)memmove(position(areas.text, to - from, 0), text + from, to - from);
-    struct const_hex_decoder before = *decoder;
+/* The number of bytes that the first `length` characters decode to. */
+static inline size_t count_so_far(const struct model *model, size_t length) {
+    return length < model->start ? 0 : (length - model->start) / 2;
+}
+
+/* Decodes a chunk: first into a buffer that is too small, and then into one with space for `more` bytes. */
+static inline void judge_chunk(const struct model *model, struct const_hex_decoder *decoder, const char *text,
+                               size_t from, size_t to, size_t more) {
+    const char *chunk = (const char *)memcpy(position(areas.text, to - from, 0), text + from, to - from);
+    const struct const_hex_decoder before = *decoder;
     struct const_hex_error too_small = {CONST_HEX_INVALID_LENGTH, 0, 0}, wanted = error_so_far(model, to), error = UNSET;
-    size_t written = 99, count = to >= model->start ? (to - model->start) / 2 - done : 0;
+    size_t written = 99, done = count_so_far(model, from), count = count_so_far(model, to) - done, size = count + more;
     if (count > 0) {
         unsigned char *small = marked(areas.decoded, count - 1, 0);
         bool result = build->decoder_update(decoder, chunk, to - from, small, count - 1, &written, &error);
@@ -106,46 +119,40 @@ static inline bool judge_chunk(const struct model *model, struct const_hex_decod
               "a chunk that does not fit", to, from);
         error = UNSET;
     }
-    unsigned char *buffer = marked(areas.decoded, count + more, 0);
-    bool result = build->decoder_update(decoder, chunk, to - from, buffer, count + more, &written, &error);
+    unsigned char *bytes = marked(areas.decoded, size, 0);
+    bool result = build->decoder_update(decoder, chunk, to - from, bytes, size, &written, &error);
     holds(agrees(result, error, wanted) && written == (result ? count : 0) &&
-              has_decoded(model, done, buffer, count + more, wanted, count),
+              has_decoded(model, done, bytes, size, wanted, count),
           "a chunk", to, from);
-    return result;
+}
+
+/* Ends a text that was decoded in chunks. After an invalid character each function returns it again. */
+static inline void judge_end(const struct model *model, const struct const_hex_decoder *decoder, size_t length) {
+    struct const_hex_error wanted = error_so_far(model, length), error = UNSET;
+    struct const_hex_decoder again = *decoder;
+    if (wanted.kind == CONST_HEX_INVALID_CHARACTER) {
+        size_t written = 99;
+        unsigned char *byte = marked(areas.decoded, 1, 0);
+        bool result = build->decoder_update(&again, "00", 2, byte, 1, &written, &error);
+        holds(agrees(result, error, wanted) && written == 0 && is_marked(byte, 1), "a chunk after an error", length, 0);
+        error = UNSET;
+    } else if (length % 2 == 1) {
+        wanted.kind = CONST_HEX_ODD_LENGTH;
+    }
+    bool result = build->decoder_finish(&again, &error);
+    holds(agrees(result, error, wanted), "decoder_finish", length, 0);
+    holds(memcmp(decoder, &again, sizeof again) == 0, "an unchanged decoder", length, 0);
 }
 
 /* The text in chunks that end at these positions, of which the last is its length. */
 static inline void judge_chunks(const char *text, size_t length, const size_t *ends, size_t chunks) {
-    struct model *model = (struct model *)model_of(text, length);
+    const struct model *model = model_of_chunks(text, length);
     struct const_hex_decoder decoder = {{0, 0}};
-    struct const_hex_error wanted = {0, 0, 0}, error = UNSET;
-    size_t done = 0, from = 0;
-    if (length % 2 == 1) {
-        /* With a digit more the model has the position of an invalid character, which a decoder finds first. */
-        static char even[AREA];
-        memcpy(even, text, length);
-        even[length] = '0';
-        model = (struct model *)model_of(even, length + 1);
-        wanted.kind = CONST_HEX_ODD_LENGTH;
-    }
+    size_t from = 0;
     for (size_t chunk = 0; chunk < chunks && error_so_far(model, from).kind == 0; from = ends[chunk++]) {
-        judge_chunk(model, &decoder, text, from, ends[chunk], done, chunk);
-        done = ends[chunk] >= model->start ? (ends[chunk] - model->start) / 2 : 0;
+        judge_chunk(model, &decoder, text, from, ends[chunk], chunk);
     }
-    if (error_so_far(model, length).kind != 0) {
-        wanted = model->error;
-    }
-    struct const_hex_decoder before = decoder;
-    bool result = build->decoder_finish(&decoder, &error);
-    holds(agrees(result, error, wanted), "decoder_finish", length, done);
-    if (wanted.kind == CONST_HEX_INVALID_CHARACTER) {
-        size_t written = 99;
-        error = UNSET;
-        result = build->decoder_update(&decoder, "00", 2, marked(areas.decoded, 1, 0), 1, &written, &error);
-        holds(agrees(result, error, wanted) && written == 0 && is_marked(position(areas.decoded, 1, 0), 1),
-              "a chunk after an error", length, 0);
-    }
-    holds(memcmp(&decoder, &before, sizeof before) == 0, "an unchanged decoder", length, done);
+    judge_end(model, &decoder, length);
 }
 
 #endif

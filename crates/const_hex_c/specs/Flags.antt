@@ -23,7 +23,7 @@ size_of flags n = text_length (has_prefix flags) n + (if has_nul flags then 1 el
 abbrev pub after_text : ℕ → ℕ → List ℕ → List ℕ
 after_text flags m old = if has_nul flags then 0 ∷ drop (m + 1) old else drop m old
 
--- the buffer with a NUL at its start, if it has room for one
+-- the buffer with a NUL at its start, if it has space for one
 abbrev ended : List ℕ → List ℕ
 ended [] = []
 ended (b ∷ bs) = 0 ∷ bs

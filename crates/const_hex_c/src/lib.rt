@@ -13,8 +13,7 @@
 
 ghost use Rattle.std.specs.Prelude.{◌≡◌, ◌↔◌, ◌*◌, ◌+◌, ◌-◌, ◌<◌, ◌≤◌, ◌≢◌, ◌++◌, ℕ, List, Some, IfSome, true, false, length, take, drop, min, slice_index, IsTrue, Ok, Err};
 ghost use Rattle.const_hex.specs.Texts.{full_text, text_length, AllDigits, Partial};
-ghost use Rattle.const_hex.specs.Answers.{IsOdd, Reads, ReadsSized, ReadsWithin, Leaves};
-ghost use Rattle.const_hex.specs.Bodies.{body_of};
+ghost use Rattle.const_hex.specs.Results.{IsOdd, Reads, ReadsSized, ReadsWithin, Leaves, body_of};
 ghost use Rattle.const_hex.specs.Decoding.{HasRead, ReadsOn, error_of};
 ghost use Rattle.const_hex.specs.declared.error.FromHexError.TheVariants.{OddLength, InvalidStringLength};
 ghost use Rattle.const_hex_c.specs.Errors.{StandsFor, Says, IsUnknown, struct_of};
@@ -23,13 +22,11 @@ ghost use Rattle.const_hex_c.specs.Flags.{AreFlags, is_upper, has_prefix, size_o
 mod callers;
 mod error;
 mod flags;
-mod kernel;
 mod message;
 
 use crate::error::HexError;
 use crate::flags::{are_flags, clear, end_text, has_prefix, is_upper, length_of, size_beside};
-use crate::kernel::CallsKernel;
-use const_hex::{Decoder, Kernel};
+use const_hex::{Decoder, FixedKernel, Kernel};
 
 /// Returns the size of the buffer that [`const_hex_encode`] needs: the text, and a NUL unless the flags
 /// leave it out. If that does not fit into a `usize`, or a flag is not known, the result is the
@@ -80,7 +77,7 @@ pub extern "C" fn const_hex_encode(bytes: &[u8], text: &mut [u8], flags: u32) ->
         return false;
     }
     let (prefix, upper) = (has_prefix(flags), is_upper(flags));
-    const_hex::fill_text::<CallsKernel>(bytes, prefix, upper, &mut text[..length]);
+    const_hex::fill_text::<FixedKernel>(bytes, prefix, upper, &mut text[..length]);
     true
 }
 
@@ -118,7 +115,7 @@ pub extern "C" fn const_hex_decode_nonnull(
         → StandsFor error.new (λ e. Leaves text.now bytes.old bytes.new e) }
     ensures none { result ≡ false → written.new ≡ 0 }
 {
-    match const_hex::decode_to_front_with::<CallsKernel>(text, bytes) {
+    match const_hex::decode_to_front_with::<FixedKernel>(text, bytes) {
         Ok(count) => {
             *written = count;
             true
@@ -153,7 +150,7 @@ pub extern "C" fn const_hex_decode_exact_nonnull(
     ensures after_error { result ≡ false
         → StandsFor error.new (λ e. Leaves text.now bytes.old bytes.new e) }
 {
-    match const_hex::decode_to_slice_with::<CallsKernel>(text, bytes) {
+    match const_hex::decode_to_slice_with::<FixedKernel>(text, bytes) {
         Ok(()) => true,
         Err(reason) => {
             *error = HexError::from(reason);
@@ -216,7 +213,7 @@ pub extern "C" fn const_hex_decoder_update_nonnull(
         × (decoder.new ≡ decoder.old) × (bytes.new ≡ bytes.old)) }
     ensures none { result ≡ false → written.new ≡ 0 }
 {
-    match decoder.decode_with::<CallsKernel>(text, bytes) {
+    match decoder.decode_with::<FixedKernel>(text, bytes) {
         Ok(more) => {
             *written = more;
             true
@@ -272,7 +269,7 @@ pub extern "C" fn const_hex_check_nonnull(text: &[u8], error: &mut HexError) -> 
     ensures kept { IsTrue result → error.new ≡ error.old }
     ensures err { result ≡ false → StandsFor error.new (λ e. Reads text.now (Err e)) }
 {
-    match const_hex::check_with::<CallsKernel>(text) {
+    match const_hex::check_with::<FixedKernel>(text) {
         Ok(()) => true,
         Err(reason) => {
             *error = HexError::from(reason);
@@ -291,7 +288,7 @@ pub extern "C" fn const_hex_check_nonnull(text: &[u8], error: &mut HexError) -> 
 pub extern "C" fn const_hex_check_raw(text: &[u8]) -> bool
     ensures { IsTrue result ↔ AllDigits text.now }
 {
-    CallsKernel::check(text)
+    FixedKernel::check(text)
 }
 
 /// Writes the message of an error and a NUL, and returns the number of bytes before the NUL.

@@ -2,7 +2,10 @@
 
 use crate::inputs::{BYTES, DATA, DIGITS, ODD, TEXT, bad_digits};
 use crate::line::tell_each;
-use const_hex::{BufferedHex, Kernel, SliceOutput, check_with, decode_to_slice_with, decode_with};
+use const_hex::{
+    BufferedHex, Decoder, Kernel, SliceOutput, check_with, decode_to_front_with,
+    decode_to_slice_with, decode_with, encode_full_to_slice_with,
+};
 use hex_testing::{Counting, KernelCase, by_each_kernel};
 use std::alloc::Global;
 
@@ -23,8 +26,27 @@ fn tell_kernel<K: Kernel>(rt: &impl Print, alloc: Global, kernel: KernelCase) {
         "decode_to_slice_with of a bad text by" =>
             decode_to_slice_with::<K>(&bad, &mut bytes),
     );
+    tell_parts::<K>(rt, kernel.name);
     tell_own::<K>(rt, kernel.name);
     tell_streams::<K>(rt, kernel.name);
+}
+
+/// Calls that fill the front of an output, decode a chunk, or write a prefix.
+fn tell_parts<K: Kernel>(rt: &impl Print, kernel: &str) {
+    let (bad, mut bytes, mut text) = (bad_digits(), [0; 58], [0; 116]);
+    let (mut decoder, mut other) = (Decoder::new(), Decoder::new());
+    tell_each!(rt, kernel;
+        "encode_full_to_slice_with by" =>
+            (encode_full_to_slice_with::<K>(&BYTES, true, false, &mut text), text),
+        "encode_full_to_slice_with, too short, by" =>
+            encode_full_to_slice_with::<K>(&BYTES, true, false, &mut text[1..]),
+        "decode_to_front_with by" => (decode_to_front_with::<K>(&text, &mut bytes), bytes),
+        "decode_to_front_with of a bad text by" => decode_to_front_with::<K>(&bad, &mut bytes),
+        "decode_to_front_with of a long text by" =>
+            decode_to_front_with::<K>(&text, &mut bytes[..56]),
+        "Decoder::decode_with by" => decoder.decode_with::<K>(&text, &mut bytes),
+        "Decoder::decode_with of a bad text by" => other.decode_with::<K>(&bad, &mut bytes),
+    );
 }
 
 /// The calls of the kernel itself.

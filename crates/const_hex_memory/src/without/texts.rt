@@ -4,10 +4,10 @@ use crate::inputs::{BAD, HASH, Inputs, KIWI, ODD, TEXT};
 use crate::line::{tell_each, tell_of};
 use const_hex::serde::no_prefix;
 use const_hex::{
-    FixedKernel, FromHex, ascii_text, bytes_of, check, check_raw, const_check, const_check_raw,
-    const_decode_to_array, decode, decode_to_array, decode_to_front, decode_to_slice, deserialize,
-    digit_at, encode_full_to_slice, encode_to_slice, encode_to_slice_upper, encode_to_str,
-    encode_to_str_upper, fill_text, text_length, value_at,
+    Decoder, FixedKernel, FromHex, ascii_text, bytes_of, check, check_raw, const_check,
+    const_check_raw, const_decode_to_array, decode, decode_to_array, decode_to_front,
+    decode_to_slice, deserialize, digit_at, encode_full_to_slice, encode_to_slice,
+    encode_to_slice_upper, encode_to_str, encode_to_str_upper, fill_text, text_length, value_at,
 };
 use hash_hex::{Address20, Hash32};
 use serde_json::{Number, Value};
@@ -21,6 +21,7 @@ pub(crate) fn tell_all(rt: &impl Print, alloc: Global, inputs: &Inputs) {
     tell_other_lengths(rt);
     tell_full_texts(rt);
     tell_read(rt, alloc);
+    tell_decoder(rt);
     tell_odd(rt, alloc);
     tell_no_texts(rt, alloc, inputs);
     tell_hashes(rt, alloc, inputs);
@@ -84,6 +85,20 @@ fn tell_read(rt: &impl Print, alloc: Global) {
             "const_decode_to_array of" => const_decode_to_array::<4>(bytes),
             "[u8; 4]::from_hex of" => <[u8; 4]>::from_hex(alloc, bytes),
             "[i8; 4]::from_hex of" => <[i8; 4]>::from_hex(alloc, bytes),
+        );
+    }
+}
+
+/// A text that comes in two chunks.
+fn tell_decoder(rt: &impl Print) {
+    for text in [TEXT, ODD, "0x6b6z"] {
+        let (first, second) = text.as_bytes().split_at(3);
+        let (mut decoder, mut bytes) = (Decoder::new(), [0; 4]);
+        tell_each!(rt, text;
+            "Decoder::decode of the first 3 bytes of" => decoder.decode(first, &mut bytes),
+            "Decoder::decode of what follows in" => (decoder.decode(second, &mut bytes), bytes),
+            "Decoder::position after" => decoder.position(),
+            "Decoder::finish of" => decoder.finish(),
         );
     }
 }
