@@ -1,0 +1,4 @@
+pub mod Encoded
+pub mod Errors
+pub mod Inputs
+pub mod Lines

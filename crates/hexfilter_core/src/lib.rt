@@ -1,0 +1,15 @@
+//! The program `hexfilter` as a library: a run over any reader and writer, and the whole program on
+//! any host.
+//!
+//! The terms of the contracts are defined in `specs/`. What a text decodes to is defined in
+//! `const_hex`.
+#![tactic(auto)]
+
+mod encoding;
+mod error;
+mod lines;
+mod mode;
+mod transfer;
+
+pub use crate::error::RunError;
+pub use crate::mode::Mode;
