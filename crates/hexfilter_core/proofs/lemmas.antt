@@ -1,2 +1,5 @@
+pub mod ChunkLines
 pub mod Encoding
+pub mod InputTexts
+pub mod InvalidCharacters
 pub mod LineBreaks

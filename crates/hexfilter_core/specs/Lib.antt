@@ -1,3 +1,4 @@
+pub mod Decoding
 pub mod Encoded
 pub mod Errors
 pub mod Inputs

@@ -7,6 +7,7 @@
 
 mod encoding;
 mod error;
+mod line_decoder;
 mod lines;
 mod mode;
 mod transfer;
