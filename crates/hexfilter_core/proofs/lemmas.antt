@@ -1,4 +1,5 @@
 pub mod ChunkLines
+pub mod DecodedInputs
 pub mod Encoding
 pub mod InputTexts
 pub mod InvalidCharacters

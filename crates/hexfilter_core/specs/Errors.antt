@@ -23,6 +23,12 @@ IsFailedWrite (Text e) = ⊥
 IsFailedWrite (Read e) = ⊥
 IsFailedWrite (Write e) = error_kind e ≢ Interrupted
 
+-- no call failed because a signal interrupted it
+abbrev pub IsNotInterrupted : RunError → Type 0
+IsNotInterrupted (Text e) = Unit {0}
+IsNotInterrupted (Read e) = error_kind e ≢ Interrupted
+IsNotInterrupted (Write e) = error_kind e ≢ Interrupted
+
 -- a read, a write or a flush failed, and no signal interrupted it
 abbrev pub IsFailedCall : RunError → Type 0
 IsFailedCall (Text e) = ⊥

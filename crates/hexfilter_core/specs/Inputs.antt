@@ -1,10 +1,10 @@
 -- An input that is read as a text.
-use Rattle.std.specs.Prelude.{◌≡◌, ℕ, ◌==◌, Bool, not, if◌then◌else◌, List, ◌∷◌, ◌++◌, length, filter, Option}
+use Rattle.std.specs.Prelude.{◌≡◌, ℕ, ◌*◌, ◌==◌, Bool, not, if◌then◌else◌, List, ◌∷◌, ◌++◌, length, take, filter, Option}
 use Rattle.std.specs.Io.KnownBytes.{Consumes, IsAtEnd}
 use Rattle.const_hex.specs.Answers.{IsOdd}
 use Rattle.const_hex.specs.Bodies.{NamesFirstBad, body_of}
 use Rattle.const_hex.specs.Decoding.{counted}
-use Rattle.const_hex.specs.Texts.{AllDigits}
+use Rattle.const_hex.specs.Texts.{AllDigits, Spells}
 use Rattle.const_hex.specs.declared.error.FromHexError.{FromHexError}
 use Rattle.const_hex.specs.declared.error.FromHexError.TheVariants.{OddLength, InvalidStringLength, InvalidHexCharacter, NoMemory}
 
@@ -39,3 +39,7 @@ Rejects ignores left x OddLength = IsAtEnd left × IsOdd (length (text_of ignore
 Rejects ignores left x InvalidStringLength = ⊥
 Rejects ignores left x (InvalidHexCharacter c i) = (rest : List ℕ) → NamesInvalid ignores (x ++ rest) (InvalidHexCharacter c i)
 Rejects ignores left x NoMemory = ⊥
+
+-- the first digits of the text of x, two for each byte of y, decode to y
+abbrev pub SpellsBeginning : Bool → List ℕ → List ℕ → Type 0
+SpellsBeginning ignores x y = Spells (take (2 * length y) (body_of (text_of ignores x))) y

@@ -3,3 +3,4 @@ pub mod Encoded
 pub mod Errors
 pub mod Inputs
 pub mod Lines
+pub mod Outcome

@@ -2,6 +2,7 @@
 
 ghost use Rattle.std.specs.Prelude.{◌≡◌};
 ghost use Rattle.hexfilter_core.specs.Errors.{status_of};
+ghost use Rattle.hexfilter_core.specs.declared.error.RunError.TheVariants.{Text};
 
 use const_hex::FromHexError;
 use std::io;
@@ -37,5 +38,13 @@ impl RunError {
             RunError::Text(_) => 1,
             RunError::Read(_) | RunError::Write(_) => 3,
         }
+    }
+}
+
+impl From<FromHexError> for RunError {
+    ghost from_gives = { λ error e. e ≡ Text error };
+
+    fn from(error: FromHexError) -> RunError {
+        RunError::Text(error)
     }
 }

@@ -5,12 +5,15 @@
 //! `const_hex`.
 #![tactic(auto)]
 
+mod decoding;
 mod encoding;
 mod error;
 mod line_decoder;
 mod lines;
 mod mode;
+mod runs;
 mod transfer;
 
 pub use crate::error::RunError;
 pub use crate::mode::Mode;
+pub use crate::runs::run;

@@ -4,12 +4,16 @@ use Rattle.std.proofs.KnownBytes.{Appends-trans}
 use Rattle.std.proofs.Math.Seq.{take-append-add, take-append_seam}
 use Rattle.std.proofs.lemmas.List.{append-nil, take-append-drop}
 use Rattle.std.specs.Io.KnownBytes.{Appends}
-use Rattle.std.specs.Prelude.{OnErr}
+use Rattle.std.specs.Prelude.{OnErr, OnOk}
 use Rattle.const_hex.specs.Texts.{full_text, hex_text, prefix_of}
 use Rattle.const_hex.specs.WriteSinks.{WritesBeginning}
 use Rattle.const_hex_arch.proofs.lemmas.Texts.{hex_text-append, hex_text-nil}
 use Rattle.hexfilter_core.specs.Encoded.{encoded}
 use Rattle.hexfilter_core.specs.Lines.{Begins, Lays, ended, laid_out, lines_from}
+
+pub if_ok : {T E P : Type 0} (r : Result T E) → P → OnOk r P
+if_ok (Ok v) p = p
+if_ok (Err e) p = tt
 
 pub if_err : {T E P : Type 0} (r : Result T E) → P → OnErr r P
 if_err (Ok v) p = tt
