@@ -33,11 +33,7 @@ impl LineDecoder {
 
     /// Decodes the next chunk into the front of the output, and returns the number of bytes there.
     /// An error names the first invalid character, and its position in the input.
-    pub(crate) fn decode(
-        &mut self,
-        chunk: &[u8],
-        output: &mut [u8],
-    ) -> Result<usize, FromHexError>
+    pub(crate) fn decode(&mut self, chunk: &[u8], output: &mut [u8]) -> Result<usize, FromHexError>
         requires { (length chunk.now + 1) / 2 ≤ length output.old }
         // `x` was read so far, and the bytes `bs` were returned.
         ensures ok { (x bs : List ℕ) → HasDecoded self.old x bs

@@ -37,7 +37,7 @@ returns-then-length-rest-clause-ok c = λ x bs has.
     let most : c.in_ok-count.field-0 ≤ (n + 1) / 2 = rw (length-take-le n rest c.line_length-length.ensures.within) at c.in_ok-count.ensures.most in
     let size = size_of_rest chunk c.lines.done n c.lines.invariant.within in
     let put = take_put c.lines.count (length c.lines.output - c.lines.count) c.in_ok-count.field-0 c.lines.output c.decode_line.new.output (omega arith)
-        (omega (arith, most, size, c.decode_line.auto.output)) in
+    (omega (arith, most, size, c.decode_line.auto.output)) in
     rw (whole, put, sym (append_assoc bs out more)) read
 
 pub lines-preserved : goal.lines-preserved
@@ -52,7 +52,7 @@ lines-preserved c =
     let size = size_of_rest chunk c.lines.done n c.lines.invariant.within in
     let short : n < length rest = omega (arith, c.line_length-length.ensures.within, c.if-length-rest.false) in
     let put = take_put c.lines.count (length c.lines.output - c.lines.count) c.in_ok-count.field-0 c.lines.output c.decode_line.new.output (omega arith)
-        (omega (arith, most, size, c.decode_line.auto.output)) in
+    (omega (arith, most, size, c.decode_line.auto.output)) in
     let ended = line_and_newline chunk c.lines.done n c.lines.invariant.within c.line_length-length.ensures.first short in record {
       within = omega (arith, short, size);
       room = omega (arith, most);
