@@ -4,3 +4,4 @@ pub mod Encoding
 pub mod InputTexts
 pub mod InvalidCharacters
 pub mod LineBreaks
+pub mod Arguments

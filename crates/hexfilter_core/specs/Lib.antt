@@ -4,3 +4,4 @@ pub mod Errors
 pub mod Inputs
 pub mod Lines
 pub mod Outcome
+pub mod Options

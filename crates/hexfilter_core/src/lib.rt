@@ -11,9 +11,13 @@ mod error;
 mod line_decoder;
 mod lines;
 mod mode;
+mod options;
+mod process;
 mod runs;
 mod transfer;
 
 pub use crate::error::RunError;
 pub use crate::mode::Mode;
+pub use crate::options::{Request, request_of};
+pub use crate::process::program;
 pub use crate::runs::run;
