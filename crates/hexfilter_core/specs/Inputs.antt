@@ -1,8 +1,7 @@
 -- An input that is read as a text.
 use Rattle.std.specs.Prelude.{◌≡◌, ℕ, ◌*◌, ◌==◌, Bool, not, if◌then◌else◌, List, ◌∷◌, ◌++◌, length, take, filter, Option}
 use Rattle.std.specs.Io.KnownBytes.{Consumes, IsAtEnd}
-use Rattle.const_hex.specs.Answers.{IsOdd}
-use Rattle.const_hex.specs.Bodies.{NamesFirstBad, body_of}
+use Rattle.const_hex.specs.Results.{IsOdd, NamesFirstBad, body_of}
 use Rattle.const_hex.specs.Decoding.{counted}
 use Rattle.const_hex.specs.Texts.{AllDigits, Spells}
 use Rattle.const_hex.specs.declared.error.FromHexError.{FromHexError}

@@ -2,7 +2,7 @@
 
 ghost use Rattle.std.specs.Prelude.{◌≡◌, ◌+◌, ◌/◌, ◌≤◌, ◌++◌, ◌∷◌, [], ◌↔◌, ◌==◌, ℕ, List, Ok, Err, true, length, take, IsOk, IfOk, IfErr, OnErr};
 ghost use Rattle.std.specs.List.{position_or_len};
-ghost use Rattle.const_hex.specs.Answers.{IsOdd, Reads};
+ghost use Rattle.const_hex.specs.Results.{IsOdd, Reads};
 ghost use Rattle.const_hex.specs.declared.error.FromHexError.TheVariants.{OddLength};
 ghost use Rattle.hexfilter_core.specs.Decoding.{HasDecoded, ignores, moved};
 ghost use Rattle.hexfilter_core.specs.Inputs.{NamesInvalid, text_of};
