@@ -1,112 +1,122 @@
-//! The kernel for the processor.
+//! The kernel for the processor, and the choice between two at run time.
 
-#[cfg(all(target_arch = "x86_64", test))]
-pub use x86_64::has_avx2;
 #[cfg(target_arch = "x86_64")]
-pub use x86_64::Native;
+use crate::avx2::lanes32::Lanes32;
+use crate::proved::{Kernel, Output};
+#[cfg(feature = "alloc")]
+use crate::FromHexError;
+#[cfg(feature = "alloc")]
+use alloc::vec::Vec;
+#[cfg(target_arch = "x86_64")]
+pub use avx2::has_avx2;
 
-/// The kernel that each processor of this architecture can run.
+/// The kernel that each processor of the architecture can run. On x86-64 it computes digits, since SSE2 has
+/// no instruction that looks them up in a register.
 #[cfg(target_arch = "x86_64")]
 type Portable = crate::proved::Arithmetic16;
-
-/// The kernel for the processor.
 #[cfg(any(
     all(target_arch = "aarch64", target_endian = "little"),
     all(target_arch = "wasm32", target_feature = "simd128"),
 ))]
-pub type Native = crate::proved::Lanes16;
-
-/// The kernel for the processor. It looks digits up in a table in memory, so the time that a call takes may
-/// tell something of the bytes.
+type Portable = crate::proved::Lanes16;
+/// The kernel for other processors. It looks digits up in memory, so the time that it takes may tell
+/// something of the bytes.
 #[cfg(not(any(
     target_arch = "x86_64",
     all(target_arch = "aarch64", target_endian = "little"),
     all(target_arch = "wasm32", target_feature = "simd128"),
 )))]
-pub type Native = crate::proved::Plain;
+type Portable = crate::proved::Plain;
 
-#[cfg(target_arch = "x86_64")]
-mod x86_64 {
-    #[cfg(feature = "alloc")]
-    use super::decode_by;
-    use super::Portable;
-    use crate::avx2::lanes32::Lanes32;
-    use crate::proved::{Kernel, Output};
-    #[cfg(feature = "alloc")]
-    use crate::FromHexError;
-    #[cfg(feature = "alloc")]
-    use alloc::vec::Vec;
-    use core::arch::x86_64::{__cpuid, __cpuid_count, _xgetbv};
-    use core::sync::atomic::{AtomicU8, Ordering::Relaxed};
-
-    /// The body of a function that runs by the kernel `$k` over AVX2 if the processor has it, and otherwise by
-    /// the one over SSE2. Both are functions of their own, so that the code of a caller stays small.
-    macro_rules! by_kernel {
-        ([$($o:ident: $output:ident)?] ($($argument:ident: $type:ty),*) $(-> $result:ty)?, $k:ident => $body:expr) => {{
-            #[target_feature(enable = "avx2")]
-            #[inline(never)]
-            unsafe fn with_avx2$(<$o: $output>)?($($argument: $type),*) $(-> $result)? {
-                type $k = Lanes32;
-                $body
-            }
-            #[inline(never)]
-            fn without_avx2$(<$o: $output>)?($($argument: $type),*) $(-> $result)? {
-                type $k = Portable;
-                $body
-            }
-            #[cold]
-            #[inline(never)]
-            fn not_known$(<$o: $output>)?($($argument: $type),*) $(-> $result)? {
-                if has_avx2() {
-                    // SAFETY: the processor has AVX2.
-                    return unsafe { with_avx2($($argument),*) };
-                }
-                without_avx2($($argument),*)
-            }
-            if is_avx2_known() {
+/// The body of a function that runs by the kernel `$k`: on x86-64 the one over AVX2 if the processor has it,
+/// and otherwise `Portable`. Each is a function of its own, so that the code of a caller stays small.
+macro_rules! by_kernel {
+    ([$($o:ident: $output:ident)?] ($($argument:ident: $type:ty),*) $(-> $result:ty)?, $k:ident => $body:expr) => {{
+        #[inline(never)]
+        fn portable$(<$o: $output>)?($($argument: $type),*) $(-> $result)? {
+            type $k = Portable;
+            $body
+        }
+        #[cfg(target_arch = "x86_64")]
+        #[target_feature(enable = "avx2")]
+        #[inline(never)]
+        unsafe fn with_avx2$(<$o: $output>)?($($argument: $type),*) $(-> $result)? {
+            type $k = Lanes32;
+            $body
+        }
+        #[cfg(target_arch = "x86_64")]
+        #[cold]
+        #[inline(never)]
+        fn otherwise$(<$o: $output>)?($($argument: $type),*) $(-> $result)? {
+            if has_avx2() {
                 // SAFETY: the processor has AVX2.
                 return unsafe { with_avx2($($argument),*) };
             }
-            not_known($($argument),*)
-        }};
-    }
+            portable($($argument),*)
+        }
+        #[cfg(target_arch = "x86_64")]
+        if avx2::is_known() {
+            // SAFETY: the processor has AVX2.
+            return unsafe { with_avx2($($argument),*) };
+        }
+        #[cfg(not(target_arch = "x86_64"))]
+        use portable as otherwise;
+        otherwise($($argument),*)
+    }};
+}
 
-    /// The kernel for the processor.
-    pub struct Native;
+/// The kernel for the processor.
+pub struct Native;
 
-    macro_rules! kernel {
-        ($($name:ident [$($o:ident: $output:ident)?] ($($argument:ident: $type:ty),*) $(-> $result:ty)?;)*) => {
-            impl Kernel for Native {
-                const USE_CHECK_FN: bool = false;
+/// Implements each function of `Kernel` for `Native`.
+macro_rules! kernel {
+    ($($name:ident [$($o:ident: $output:ident)?] ($($argument:ident: $type:ty),*) $(-> $result:ty)?;)*) => {
+        impl Kernel for Native {
+            const USE_CHECK_FN: bool = false;
 
-                $(
-                    #[inline(always)]
-                    fn $name$(<$o: $output>)?($($argument: $type),*) $(-> $result)? {
-                        by_kernel!(
-                            [$($o: $output)?] ($($argument: $type),*) $(-> $result)?,
-                            K => K::$name($($argument),*)
-                        )
-                    }
-                )*
-            }
-        };
-    }
-    kernel! {
-        encode [O: Output] (input: &[u8], upper: bool, output: &mut O);
-        fill [] (input: &[u8], upper: bool, output: &mut [u8]);
-        check [] (input: &[u8]) -> bool;
-        decode_checked [] (input: &[u8], output: &mut [u8]) -> bool;
-        decode_part [] (input: &[u8], start: usize, output: &mut [u8]) -> bool;
-        decode_unchecked [] (input: &[u8], output: &mut [u8]);
-    }
+            $(
+                #[inline(always)]
+                fn $name$(<$o: $output>)?($($argument: $type),*) $(-> $result)? {
+                    by_kernel!(
+                        [$($o: $output)?] ($($argument: $type),*) $(-> $result)?,
+                        K => K::$name($($argument),*)
+                    )
+                }
+            )*
+        }
+    };
+}
+kernel! {
+    encode [O: Output] (input: &[u8], upper: bool, output: &mut O);
+    fill [] (input: &[u8], upper: bool, output: &mut [u8]);
+    check [] (input: &[u8]) -> bool;
+    decode_checked [] (input: &[u8], output: &mut [u8]) -> bool;
+    decode_part [] (input: &[u8], start: usize, output: &mut [u8]) -> bool;
+    decode_unchecked [] (input: &[u8], output: &mut [u8]);
+}
 
-    /// Returns the bytes that a text decodes to. The kernel is chosen before the whole call, since the source
-    /// calls it for many parts.
-    #[cfg(feature = "alloc")]
-    #[inline]
-    pub fn decode(text: &[u8]) -> Result<Vec<u8>, FromHexError> {
-        by_kernel!([] (text: &[u8]) -> Result<Vec<u8>, FromHexError>, K => decode_by::<K>(text))
-    }
+/// Returns the bytes that a text decodes to. The kernel is chosen before the whole call, since the source
+/// calls it for many parts.
+#[cfg(feature = "alloc")]
+#[inline]
+pub fn decode(text: &[u8]) -> Result<Vec<u8>, FromHexError> {
+    by_kernel!([] (text: &[u8]) -> Result<Vec<u8>, FromHexError>, K => decode_by::<K>(text))
+}
+
+#[cfg(feature = "alloc")]
+#[inline(always)]
+fn decode_by<K: Kernel>(text: &[u8]) -> Result<Vec<u8>, FromHexError> {
+    use crate::proved::codec::decoders::decode_with;
+    use crate::rattle::alloc::Global;
+
+    decode_with::<K>(Global, text).map(|bytes| bytes.0)
+}
+
+/// Whether the processor has AVX2.
+#[cfg(target_arch = "x86_64")]
+mod avx2 {
+    use core::arch::x86_64::{__cpuid, __cpuid_count, _xgetbv};
+    use core::sync::atomic::{AtomicU8, Ordering::Relaxed};
 
     /// What is known of the processor: nothing yet, or that it has AVX2 or does not.
     static AVX2: AtomicU8 = AtomicU8::new(UNKNOWN);
@@ -116,18 +126,18 @@ mod x86_64 {
 
     /// Returns whether it is known that the processor has AVX2.
     #[inline(always)]
-    fn is_avx2_known() -> bool {
+    pub fn is_known() -> bool {
         cfg!(target_feature = "avx2") || AVX2.load(Relaxed) == PRESENT
     }
 
     /// Returns whether the processor has AVX2.
     pub fn has_avx2() -> bool {
-        is_avx2_known() || AVX2.load(Relaxed) == UNKNOWN && detect_avx2()
+        is_known() || AVX2.load(Relaxed) == UNKNOWN && detect()
     }
 
     /// Asks the processor whether it has AVX2, and whether the operating system keeps its registers.
     #[cold]
-    fn detect_avx2() -> bool {
+    fn detect() -> bool {
         #[target_feature(enable = "xsave")]
         unsafe fn kept_registers() -> u64 {
             // SAFETY: the processor has this instruction, and the operating system has enabled it.
@@ -147,24 +157,4 @@ mod x86_64 {
         AVX2.store(if is_present { PRESENT } else { ABSENT }, Relaxed);
         is_present
     }
-}
-
-/// Returns the bytes that a text decodes to.
-#[cfg(feature = "alloc")]
-#[inline]
-pub fn decode(text: &[u8]) -> Result<alloc::vec::Vec<u8>, crate::FromHexError> {
-    #[cfg(target_arch = "x86_64")]
-    return x86_64::decode(text);
-    #[cfg(not(target_arch = "x86_64"))]
-    decode_by::<Native>(text)
-}
-
-#[cfg(feature = "alloc")]
-#[inline(always)]
-fn decode_by<K: crate::proved::Kernel>(
-    text: &[u8],
-) -> Result<alloc::vec::Vec<u8>, crate::FromHexError> {
-    use crate::proved::codec::decoders::decode_with;
-
-    decode_with::<K>(crate::rattle::alloc::Global, text).map(|bytes| bytes.0)
 }

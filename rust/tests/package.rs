@@ -1,6 +1,6 @@
 //! What is promised of the package itself: its features and dependencies, where `unsafe` stands, and that
 //! `src/proved` is what the source becomes.
-#![cfg(all(feature = "std", feature = "serde"))]
+#![cfg(all(feature = "std", feature = "serde", not(target_family = "wasm")))]
 
 use serde_json::{json, Value};
 use std::collections::BTreeMap;

@@ -267,7 +267,7 @@ fn output_slice_new() -> Result<(), Box<dyn Error>> {
 #[test]
 fn output_output() -> Result<(), Box<dyn Error>> {
     fn greet<O: Output>(output: &mut O) {
-        if output.remaining().is_none_or(|room| room >= 3) {
+        if output.remaining().unwrap_or(usize::MAX) >= 3 {
             output.write(b"hi");
             output.write_byte(b'!');
         }

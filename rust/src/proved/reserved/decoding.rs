@@ -35,8 +35,14 @@ fn decode<K: Kernel>(digits: &[u8], output: ReservedOutput) -> Option<Vec<u8>> {
     if digits.len() < 32 {
         return decode_few::<K>(digits, output);
     }
-    let output = put_front::<K>(digits, output)?;
-    let output = put_rest::<K>(digits, output)?;
+    // The rest stands in both branches: in the first the compiler knows that it has less than 16 bytes.
+    let output = if digits.len() < 64 {
+        let output = put_part::<16, K>(digits, output)?;
+        put_rest::<K>(digits, output)?
+    } else {
+        let output = put_front::<K>(digits, output)?;
+        put_rest::<K>(digits, output)?
+    };
     let ReservedOutput { bytes } = output;
     Some(bytes)
 }
@@ -69,12 +75,9 @@ fn put_zeros(output: ReservedOutput, count: usize) -> ReservedOutput {
     output
 }
 
-/// Puts at least half of the bytes: 16, or 32, or 64 and again 64 while so many are left.
+/// Puts at least half of the bytes: 32, or 64 and again 64 while so many are left.
 #[inline(always)]
 fn put_front<K: Kernel>(digits: &[u8], output: ReservedOutput) -> Option<ReservedOutput> {
-    if digits.len() < 64 {
-        return put_part::<16, K>(digits, output);
-    }
     if digits.len() < 128 {
         return put_part::<32, K>(digits, output);
     }
