@@ -2,7 +2,7 @@ use Rattle.std.proofs.Common.{◌*◌, length}
 use Rattle.const_hex_arch.specs.Texts.{prefix_of}
 use Rattle.const_hex_arch.proofs.lemmas.Runs.{Writes-append, Writes_room}
 use Rattle.const_hex_arch.proofs.lemmas.Texts.{length-full_text}
-use Rattle.const_hex_arch.proofs.arch.encode_full.Goals as goal
+use Rattle.const_hex_arch.proofs.text.encode_full.Goals as goal
 
 pub encode-requires : goal.encode-requires
 encode-requires g c =

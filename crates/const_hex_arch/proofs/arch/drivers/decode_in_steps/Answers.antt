@@ -3,9 +3,9 @@ use Rattle.std.proofs.lemmas.List.{take_all}
 use borrow.Rule.Slice.PartMut.{put_mid}
 use Rattle.const_hex_arch.proofs.lemmas.Spelling.{false_is_true}
 use Rattle.const_hex_arch.proofs.lemmas.Steps.{IsDecoded, decoded_step, decoded_less, kept_step, refused_step, spells_rest, refused_rest}
-use Rattle.const_hex_arch.proofs.arch.steps.decode_checked.Given.{Over}
-use Rattle.const_hex_arch.proofs.arch.steps.decode_checked.Goals as goal
-use Rattle.const_hex_arch.proofs.arch.steps.decode_checked.Goals.{Joined-output-at-ge16, else-loop-output-test, then-loop-output-test+then-not-decode_two_steps, then-output-at-ge16+else-not-decode_step-2, else-output-at-ge16}
+use Rattle.const_hex_arch.proofs.arch.drivers.decode_in_steps.Given.{Over}
+use Rattle.const_hex_arch.proofs.arch.drivers.decode_in_steps.Goals as goal
+use Rattle.const_hex_arch.proofs.arch.drivers.decode_in_steps.Goals.{Joined-output-at-ge16, else-loop-output-test, then-loop-output-test+then-not-decode_two_steps, then-output-at-ge16+else-not-decode_step-2, else-output-at-ge16}
 
 pub loop-output-preserved : goal.loop-output-preserved
 loop-output-preserved g c =

@@ -1,9 +1,9 @@
 use Rattle.std.proofs.Common.{◌+◌, ◌-◌, ◌*◌, ◌≤◌, length, arith}
 use Rattle.std.proofs.lemmas.List.{take_all}
 use Rattle.const_hex_arch.proofs.lemmas.Steps.{IsDecoded, decoded_step, decoded_less, spells_rest}
-use Rattle.const_hex_arch.proofs.arch.steps.decode_unchecked.Given.{Over}
-use Rattle.const_hex_arch.proofs.arch.steps.decode_unchecked.Goals as goal
-use Rattle.const_hex_arch.proofs.arch.steps.decode_unchecked.Goals.{Joined-output-at-ge16, then-output-at-ge16, else-output-at-ge16}
+use Rattle.const_hex_arch.proofs.arch.drivers.decode_digits_in_steps.Given.{Over}
+use Rattle.const_hex_arch.proofs.arch.drivers.decode_digits_in_steps.Goals as goal
+use Rattle.const_hex_arch.proofs.arch.drivers.decode_digits_in_steps.Goals.{Joined-output-at-ge16, then-output-at-ge16, else-output-at-ge16}
 
 pub loop-output-preserved : goal.loop-output-preserved
 loop-output-preserved g c = decoded_step _ _ _ c.loop-output.invariant (omega arith) (omega arith) (omega arith) (omega arith) c.decode_digits_step.ensures

@@ -2,9 +2,9 @@ use Rattle.std.proofs.Common.{◌<◌, [], length, arith}
 use Rattle.std.proofs.lemmas.List.{append-nil, nil_from_length}
 use Rattle.const_hex_arch.proofs.lemmas.Runs.{HasRoom-fewer}
 use Rattle.const_hex_arch.proofs.lemmas.Steps.{IsWritten, none_written, written_step, all_written, parts}
-use Rattle.const_hex_arch.proofs.arch.steps.encode.Given.{Over}
-use Rattle.const_hex_arch.proofs.arch.steps.encode.Goals as goal
-use Rattle.const_hex_arch.proofs.arch.steps.encode.Goals.{After-encode_step, Joined-rest, then-rest, else-rest}
+use Rattle.const_hex_arch.proofs.arch.drivers.encode_in_steps.Given.{Over}
+use Rattle.const_hex_arch.proofs.arch.drivers.encode_in_steps.Goals as goal
+use Rattle.const_hex_arch.proofs.arch.drivers.encode_in_steps.Goals.{After-encode_step, Joined-rest, then-rest, else-rest}
 
 pub loop-rest-init : goal.loop-rest-init
 loop-rest-init g c = none_written g.met.O.Output.shrinks c.requires.room
@@ -47,15 +47,15 @@ written g c =
       | else-rest w ↦ rw (w.output-is, w.rest-is) (omega arith, c.loop-rest.invariant)
     ]
 
-pub encode_few-requires-clause-room : goal.encode_few-requires-clause-room
-encode_few-requires-clause-room g c = (written g (goal.at.encode_few-requires-clause-room g c).Joined-rest).1.has_room
+pub encode_remainder-requires-clause-room : goal.encode_remainder-requires-clause-room
+encode_remainder-requires-clause-room g c = (written g (goal.at.encode_remainder-requires-clause-room g c).Joined-rest).1.has_room
 
 pub returns-then-rest-gt0 : goal.returns-then-rest-gt0
 returns-then-rest-gt0 g c =
     let sizes = g.met.V.Vectors.sizes in
     let before = written g (goal.at.returns-then-rest-gt0 g c).Joined-rest in
     all_written g.met.O.Output.shrinks
-    (written_step g.met.O.Output.shrinks c.if-rest.rest.now [] before.1 (append-nil _) c.encode_few.ensures (omega arith, omega arith))
+    (written_step g.met.O.Output.shrinks c.if-rest.rest.now [] before.1 (append-nil _) c.encode_remainder.ensures (omega arith, omega arith))
 
 pub returns-else-rest-gt0 : goal.returns-else-rest-gt0
 returns-else-rest-gt0 g c =

@@ -4,9 +4,9 @@ use Rattle.const_hex_arch.specs.Digits.{IsDigit}
 use Rattle.const_hex_arch.specs.Texts.{AllDigits}
 use Rattle.const_hex_arch.proofs.lemmas.Spelling.{digits_append}
 use Rattle.const_hex_arch.proofs.lemmas.Steps.{digits_step, digits_last}
-use Rattle.const_hex_arch.proofs.arch.steps.check.Given.{Over}
-use Rattle.const_hex_arch.proofs.arch.steps.check.Goals as goal
-use Rattle.const_hex_arch.proofs.arch.steps.check.Goals.{Joined-input-at, then-input-at+else-not-check_two_steps, else-input-at}
+use Rattle.const_hex_arch.proofs.arch.drivers.check_in_steps.Given.{Over}
+use Rattle.const_hex_arch.proofs.arch.drivers.check_in_steps.Goals as goal
+use Rattle.const_hex_arch.proofs.arch.drivers.check_in_steps.Goals.{Joined-input-at, then-input-at+else-not-check_two_steps, else-input-at}
 
 pub loop-at-preserved : goal.loop-at-preserved
 loop-at-preserved g c = record {
