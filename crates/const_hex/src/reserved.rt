@@ -7,7 +7,7 @@ ghost use Rattle.const_hex.specs.Reserved.{ReservedStep, spare_room};
 mod decoding;
 
 pub(crate) use crate::reserved::decoding::decode_reserved;
-use const_hex_arch::{Kernel, Output, encode_full, text_length};
+use const_hex_arch::{Kernel, Output, encode_full};
 use std::alloc::{AllocError, Global};
 
 /// Puts each piece behind what a vector holds, into its spare room.
@@ -72,7 +72,8 @@ pub(crate) fn reserved_bytes<K: Kernel>(
 ) -> Result<Vec<u8>, AllocError>
     ensures { IfOk result (λ v. v.items ≡ full_text prefix upper input.now) }
 {
-    let length = text_length(prefix, input.len());
+    // As `text_length`, which tests twice whether its result is too large: 6 or 7 instructions more.
+    let length = (2 * input.len()).saturating_add(if prefix { 2 } else { 0 });
     // Apart, so that below there is a block for certain. A call then takes some ten instructions less.
     if length == 0 {
         return Ok(Vec::new(alloc));

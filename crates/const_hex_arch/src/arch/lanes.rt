@@ -39,6 +39,8 @@ pub(crate) trait Vectors<const N: usize> {
 /// The value of each lane that is a digit, and more than 15 for every other lane.
 ///
 /// This is algorithm 3 of Wojciech Muła and Geoff Langdale, "Validating hexadecimal", 2022-01-17.
+// Compared line by line with the published arithmetic: min(satsub(v + 0xC6, 6) - 0xF0,
+// satadd((v & 0xDF) - 0x41, 10)), with sums and differences that wrap.
 #[inline(always)]
 pub(crate) fn nibbles<const N: usize>(v: Simd<u8, N>) -> Simd<u8, N>
     ensures { map as_value result ≡ map hex_value v.entry }
