@@ -2,7 +2,7 @@
 
 ghost use Rattle.std.specs.Prelude.{◌≡◌, ◌≤◌, length, Some, IfOk};
 ghost use Rattle.const_hex_arch.specs.Texts.{full_text};
-ghost use Rattle.const_hex.specs.Reserved.{ReservedStep, spare_room};
+ghost use Rattle.const_hex.specs.Buffers.{ReservedStep, spare_room};
 
 mod decoding;
 

@@ -2,7 +2,7 @@
 
 ghost use Rattle.std.specs.Prelude.{◌≡◌, ◌≤◌, false, not, is_ok, length};
 ghost use Rattle.const_hex_arch.specs.Texts.{full_text, text_length};
-ghost use Rattle.const_hex_arch.specs.Streams.{Handed, Streams, TellsCut, hex_bytes};
+ghost use Rattle.const_hex_arch.specs.Sinks.{Handed, Streams, TellsCut, hex_bytes};
 
 use crate::arch::{FixedKernel, Kernel};
 use crate::output::buffered::BufferedOutput;

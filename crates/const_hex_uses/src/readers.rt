@@ -1,8 +1,7 @@
 //! Callers that read a text: as any type, by the law of such types alone; and into a key.
 
 ghost use Rattle.std.specs.Prelude.{◌≡◌, ◌≢◌, ◌↔◌, ◌⊎◌, false, length, IfOk, IfErr, Ok, Err};
-ghost use Rattle.const_hex.specs.Answers.{IsOdd, Reads, ReadsSized};
-ghost use Rattle.const_hex.specs.Bodies.{body_of, lowered};
+ghost use Rattle.const_hex.specs.Results.{IsOdd, Reads, ReadsSized, body_of, lowered};
 ghost use Rattle.const_hex.specs.Types.{IsCount, RefusesOrMisfits};
 ghost use Rattle.const_hex.specs.declared.error.FromHexError.TheVariants.{InvalidStringLength, NoMemory, OddLength};
 

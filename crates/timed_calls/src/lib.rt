@@ -7,7 +7,7 @@
 
 ghost use Rattle.std.specs.Prelude.{◌≡◌, ◌≢◌, ℕ, List, false, length, Ok};
 ghost use Rattle.const_hex.specs.Texts.{hex_text};
-ghost use Rattle.const_hex.specs.Answers.{Reads};
+ghost use Rattle.const_hex.specs.Results.{Reads};
 
 use std::alloc::Global;
 use std::fmt::{self, Write};

@@ -5,8 +5,7 @@ use Rattle.std.proofs.lemmas.List.Sums.{AllPass-from_list_all, list_all-from_All
 use Rattle.std.specs.Prelude.{IsOk, IsTrue, ◌↔◌}
 use Rattle.const_hex_arch.specs.Texts.{Spells, AllDigits, FirstBad}
 use Rattle.const_hex_arch.proofs.lemmas.Spelling.{Spells-same, Spells-digits, Spells-some, FirstBad-same, digits_no_bad}
-use Rattle.const_hex.specs.Bodies.{body_of}
-use Rattle.const_hex.specs.Answers.{Reads, ReadsSized, Checks, IsEven, is_text_of}
+use Rattle.const_hex.specs.Results.{body_of, Reads, ReadsSized, Checks, IsEven, is_text_of}
 use Rattle.const_hex.specs.TypeLaws.{body-parity}
 use Rattle.const_hex.specs.declared.error.FromHexError.{FromHexError}
 use Rattle.const_hex.specs.declared.error.FromHexError.TheVariants.{OddLength, InvalidStringLength, InvalidHexCharacter, NoMemory}

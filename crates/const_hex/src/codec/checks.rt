@@ -2,7 +2,7 @@
 
 ghost use Rattle.std.specs.Prelude.{◌≡◌, ℕ, List, ◌↔◌, Result, Ok, IsOk, IsTrue};
 ghost use Rattle.const_hex_arch.specs.Texts.{AllDigits};
-ghost use Rattle.const_hex.specs.Answers.{Reads, Checks};
+ghost use Rattle.const_hex.specs.Results.{Reads, Checks};
 ghost use Rattle.const_hex.specs.declared.error.FromHexError.{FromHexError};
 
 use crate::codec::body::{bad_character, even_body};

@@ -2,8 +2,7 @@
 
 ghost use Rattle.std.specs.Prelude.{◌≡◌, ◌≢◌, ℕ, List, [], ◌∷◌, None, ◌++◌, ◌*◌, ◌+◌, ◌/◌, ◌%◌, ◌≤◌, ◌↔◌, Some, Ok, Err, true, false, length, take, drop, slice_index, IsOk, IfOk, IfErr, OnErr, IfSome, IsTrue};
 ghost use Rattle.const_hex_arch.specs.Texts.{AllDigits, FirstBad, Partial, Spells};
-ghost use Rattle.const_hex.specs.Answers.{IsOdd, Reads};
-ghost use Rattle.const_hex.specs.Bodies.{body_of};
+ghost use Rattle.const_hex.specs.Results.{IsOdd, Reads, body_of};
 ghost use Rattle.const_hex.specs.Decoding.{HasRead, ReadsOn, counted, error_of, listed, place_of, waiting_digit, zero_decoder};
 ghost use Rattle.const_hex.specs.declared.error.FromHexError.{FromHexError};
 ghost use Rattle.const_hex.specs.declared.error.FromHexError.TheVariants.{OddLength, InvalidStringLength, InvalidHexCharacter};

@@ -2,8 +2,7 @@
 
 ghost use Rattle.std.specs.Prelude.{◌≡◌, ℕ, List, Bool, ◌≢◌, ◌*◌, ◌↔◌, true, false, length, OnErr, IfOk, IfErr, IsOk, IsTrue, MatchResult, Result, Ok, Err, take, drop};
 ghost use Rattle.const_hex_arch.specs.Texts.{hex_text, full_text};
-ghost use Rattle.const_hex.specs.Bodies.{body_of, lowered};
-ghost use Rattle.const_hex.specs.Answers.{IsOdd, AreBytes, Reads, ReadsSized, ReadsWithin, Leaves, all_digits, is_text_of};
+ghost use Rattle.const_hex.specs.Results.{body_of, lowered, IsOdd, AreBytes, Reads, ReadsSized, ReadsWithin, Leaves, all_digits, is_text_of};
 ghost use Rattle.const_hex.specs.declared.error.FromHexError.{FromHexError};
 ghost use Rattle.const_hex.specs.declared.error.FromHexError.TheVariants.{OddLength, NoMemory};
 

@@ -2,8 +2,7 @@
 
 ghost use Rattle.std.specs.Prelude.{◌≡◌, ◌↔◌, ℕ, List, Bool, length, Ok, IfOk, IsOk, IsTrue};
 ghost use Rattle.const_hex_arch.specs.Texts.{full_text};
-ghost use Rattle.const_hex.specs.Answers.{AreBytes, ReadsSized, is_text_of};
-ghost use Rattle.const_hex.specs.Bodies.{body_of, lowered};
+ghost use Rattle.const_hex.specs.Results.{AreBytes, ReadsSized, is_text_of, body_of, lowered};
 ghost use Rattle.const_hex.specs.Types.{IsCount};
 ghost use Rattle.const_hex.specs.TypeLaws.{ReadsSized-faithful};
 

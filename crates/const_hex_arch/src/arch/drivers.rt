@@ -5,7 +5,7 @@
 //! compared with the table of steps in docs/DESIGN.md, for each kernel.
 
 ghost use Rattle.std.specs.Prelude.{◌≡◌, ◌+◌, ◌*◌, ◌<◌, ◌≤◌, ◌↔◌, IsTrue, false, length, take, drop};
-ghost use Rattle.const_hex_arch.specs.Runs.{HasRoom, Writes};
+ghost use Rattle.const_hex_arch.specs.Outputs.{HasRoom, Writes};
 ghost use Rattle.const_hex_arch.specs.Texts.{hex_text, AllDigits, Spells, Partial};
 
 use crate::arch::lanes::Vectors;

@@ -4,10 +4,9 @@
 
 ghost use Rattle.std.specs.Prelude.{◌≡◌, ◌-◌, ◌*◌, ◌≤◌, ◌++◌, ◌↔◌, IsTrue, false, length, take, drop};
 ghost use Rattle.std.specs.Str.{IsAscii};
-ghost use Rattle.const_hex_arch.specs.Digits.{IsDigit};
+ghost use Rattle.const_hex_arch.specs.Texts.{IsDigit, hex_text, AllDigits, Spells};
 ghost use Rattle.const_hex_arch.specs.Lanes.{AllUnmarked};
-ghost use Rattle.const_hex_arch.specs.Runs.{HasRoom};
-ghost use Rattle.const_hex_arch.specs.Texts.{hex_text, AllDigits, Spells};
+ghost use Rattle.const_hex_arch.specs.Outputs.{HasRoom};
 
 use crate::arch::lanes::{self, Vectors};
 use crate::output::Output;

@@ -4,7 +4,7 @@ use Rattle.std.proofs.KnownBytes.{Consumes-trans}
 use Rattle.std.proofs.lemmas.List.{append-nil}
 use Rattle.std.specs.Io.KnownBytes.{Appends, Consumes, IsAtEnd}
 use Rattle.std.specs.Prelude.{IsOk, OnErr}
-use Rattle.const_hex.specs.Answers.{IsOdd, Reads}
+use Rattle.const_hex.specs.Results.{IsOdd, Reads}
 use Rattle.const_hex.specs.Decoding.{HasRead, ReadsOn}
 use Rattle.const_hex.specs.declared.codec.decoder.Decoder.{Decoder}
 use Rattle.const_hex.specs.declared.error.FromHexError.{FromHexError}

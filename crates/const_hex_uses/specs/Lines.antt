@@ -1,10 +1,13 @@
--- Lines of the form `key=hex`.
-use Rattle.std.specs.Prelude.{◌≡◌, ◌≢◌, ◌==◌, ℕ, ◌+◌, ◌-◌, ◌^◌, ◌<◌, min, List, [], length, Option, Some, None, Ok, Err}
+-- Lines of text: settings, and what a user sees of an error.
+use Rattle.std.specs.Prelude.{◌≡◌, ◌≢◌, ◌==◌, ℕ, ◌+◌, ◌-◌, ◌^◌, ◌<◌, min, List, [], length, Option, Some, None, Ok, Err, ◌∷◌, ◌++◌, replicate, unwrap_or}
 use Rattle.std.specs.List.{after_first, position_or_len, slice_index_or}
-use Rattle.const_hex.specs.Answers.{Reads}
+use Rattle.const_hex.specs.Results.{Reads, message_of}
 use Rattle.const_hex.specs.declared.error.FromHexError.TheVariants.{OddLength, InvalidStringLength, InvalidHexCharacter, NoMemory}
 use Rattle.const_hex_uses.specs.declared.settings.LineFault.{LineFault}
 use Rattle.const_hex_uses.specs.declared.settings.LineFault.TheVariants.{NoSign, Refused}
+use Rattle.const_hex.specs.declared.error.FromHexError.{FromHexError}
+
+-- ---- lines of the form `key=hex`
 
 -- the place of the first `=` of a line, or the line's length
 abbrev pub sign_place : List ℕ → ℕ
@@ -42,3 +45,20 @@ column_of (Refused start OddLength) = None
 column_of (Refused start InvalidStringLength) = None
 column_of (Refused start (InvalidHexCharacter c i)) = Some (min (start + i + 1) (2 ^ 64 - 1))
 column_of (Refused start NoMemory) = None
+
+-- ---- what a user sees of a refused text
+
+-- the text, and on the next line a mark under the byte at that place
+abbrev pub marked_text : List ℕ → ℕ → List ℕ
+marked_text text place = text ++ 10 ∷ replicate place 32 ++ 94 ∷ []
+
+-- the words of a refusal; no contract has the words of a bad character
+abbrev pub words_of : FromHexError → List ℕ
+words_of e = unwrap_or (message_of e) []
+
+-- the text, and on the next line a mark under the bad character, or the words of any other refusal
+abbrev pub explained_text : List ℕ → FromHexError → List ℕ
+explained_text text OddLength = text ++ 10 ∷ words_of OddLength
+explained_text text InvalidStringLength = text ++ 10 ∷ words_of InvalidStringLength
+explained_text text (InvalidHexCharacter c i) = marked_text text i
+explained_text text NoMemory = text ++ 10 ∷ words_of NoMemory

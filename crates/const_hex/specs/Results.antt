@@ -1,12 +1,32 @@
--- The answers for a text.
-use Rattle.std.specs.Prelude.{◌≡◌, ℕ, ◌*◌, ◌%◌, ◌≢◌, ◌<◌, ◌≤◌, ◌==◌, ◌&&◌, Bool, List, length, slice_index, Result, Ok, Err}
-use Rattle.std.specs.List.{list_all}
-use Rattle.std.specs.Option.{is_some}
-use Rattle.const_hex_arch.specs.Digits.{hex_value}
-use Rattle.const_hex_arch.specs.Texts.{Spells, Partial}
-use Rattle.const_hex.specs.Bodies.{body_of, NamesFirstBad}
+-- What is returned for a text: its prefix, the bytes or the error, and the error's message.
+use Rattle.std.specs.Prelude.{◌≡◌, ℕ, ◌+◌, ◌-◌, ◌==◌, nat_le, ◌&&◌, ◌||◌, if◌then◌else◌, List, [], ◌∷◌, length, map, slice_index, ◌*◌, ◌%◌, ◌≢◌, ◌<◌, ◌≤◌, Bool, Result, Ok, Err, Option, Some, None, codes}
+use Rattle.const_hex_arch.specs.Texts.{FirstBad, hex_value, Spells, Partial}
 use Rattle.const_hex.specs.declared.error.FromHexError.{FromHexError}
 use Rattle.const_hex.specs.declared.error.FromHexError.TheVariants.{OddLength, InvalidStringLength, InvalidHexCharacter, NoMemory}
+use Rattle.std.specs.List.{list_all}
+use Rattle.std.specs.Option.{is_some}
+
+-- ---- a text without its prefix
+
+-- the text without `0x` or `0X` at its start: one prefix is taken away, never two
+abbrev pub body_of : List ℕ → List ℕ
+body_of [] = []
+body_of (c ∷ []) = c ∷ []
+body_of (c ∷ d ∷ u) = if (c == 48) && (d == 120 || d == 88) then u else c ∷ d ∷ u
+
+-- `A` to `F` become `a` to `f`, and every other byte is kept
+abbrev pub lowered : List ℕ → List ℕ
+lowered u = map (λ b. if nat_le 65 b && nat_le b 70 then b + 32 else b) u
+
+-- the refusal names the first byte behind the prefix of t that is not a digit, and its place in t
+abbrev pub NamesFirstBad : List ℕ → FromHexError → Type 0
+NamesFirstBad t OddLength = ⊥
+NamesFirstBad t InvalidStringLength = ⊥
+NamesFirstBad t (InvalidHexCharacter c i) =
+    (p : ℕ) × FirstBad (body_of t) p × (c ≡ slice_index (body_of t) p) × (i ≡ p + (length t - length (body_of t)))
+NamesFirstBad t NoMemory = ⊥
+
+-- ---- the answers for a text
 
 abbrev pub IsOdd : ℕ → Type 0
 IsOdd n = n % 2 ≡ 1
@@ -66,3 +86,12 @@ Leaves t old new OddLength = new ≡ old
 Leaves t old new InvalidStringLength = new ≡ old
 Leaves t old new (InvalidHexCharacter c i) = Partial old (body_of t) new
 Leaves t old new NoMemory = ⊥
+
+-- ---- what a refusal prints, if its contract says so
+
+-- the message of a refusal; that of a bad character is only tested
+abbrev pub message_of : FromHexError → Option (List ℕ)
+message_of OddLength = Some (codes "odd number of digits")
+message_of InvalidStringLength = Some (codes "invalid string length")
+message_of (InvalidHexCharacter c i) = None
+message_of NoMemory = Some (codes "out of memory")
