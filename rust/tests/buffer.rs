@@ -1,6 +1,7 @@
 //! Buffers: what no line of the table asks.
 
 use const_hex_proved::Buffer;
+#[cfg(panic = "unwind")]
 use std::panic::{catch_unwind, AssertUnwindSafe};
 
 const BYTES: [u8; 4] = [0, 127, 128, 255];
@@ -42,6 +43,7 @@ fn views() {
 }
 
 /// A slice of another length panics, and leaves the buffer as it was.
+#[cfg(panic = "unwind")]
 #[test]
 fn a_slice_of_another_length() {
     let mut buffer = Buffer::<4, true>::new();
@@ -56,6 +58,7 @@ fn a_slice_of_another_length() {
     }
 }
 
+#[cfg(panic = "unwind")]
 #[test]
 #[should_panic(expected = "text's length")]
 fn an_array_of_another_length() {

@@ -94,6 +94,7 @@ fn in_constants() {
     assert_eq!(UPPER.as_str(), "ABCD");
 }
 
+#[cfg(panic = "unwind")]
 #[test]
 fn bytes_of_an_invalid_text() {
     for text in ["6b6", "6b", "6b697769", "zzzz"] {

@@ -11,9 +11,9 @@ const LONGEST: usize = 32;
 /// is not read.
 pub(crate) fn arguments(rt: &(impl Env + AllocGlobal)) -> Result<Vec<String>, AllocError> {
     let mut arguments = Vec::new(rt.alloc());
-    for place in 1..3 {
+    for index in 1..3 {
         let mut bytes = [0; LONGEST];
-        let length = match rt.arg(place, &mut bytes) {
+        let length = match rt.arg(index, &mut bytes) {
             Ok(length) => length,
             Err(FillError::TooLong) => 0,
             Err(FillError::NotPresent) => break,

@@ -35,8 +35,8 @@ pub fn program<R: Read, W: Write>(
     ensures done { exit_status result ≡ 0 → (m : Mode) × (bs : List ℕ)
         × Answers m (R.remaining input.old) (R.remaining input.new) (Ok bs)
         × Appends (W.contents output.old) (W.contents output.new) bs }
-    // The reader was read to its end, and a mode refuses all of it as a text.
-    ensures refused { exit_status result ≡ 1 → (m : Mode) × (e : FromHexError)
+    // The reader was read to its end, and a mode returns an error for all of it as a text.
+    ensures invalid { exit_status result ≡ 1 → (m : Mode) × (e : FromHexError)
         × Answers m (R.remaining input.old) (R.remaining input.new) (Err (Text e)) }
     // Nothing was read or written.
     ensures misused { exit_status result ≡ 2
@@ -51,12 +51,12 @@ pub fn program<R: Read, W: Write>(
     ensures statuses { exit_status result ≤ 4 }
 {
     let Ok(arguments) = arguments(rt) else {
-        return refused(rt, RunError::NoMemory);
+        return report(rt, RunError::NoMemory);
     };
     match mode_of(&arguments) {
         Some(mode) => match run(rt.alloc(), mode, input, output) {
             Ok(()) => ExitCode::SUCCESS,
-            Err(error) => refused(rt, error),
+            Err(error) => report(rt, error),
         },
         None => misused(rt),
     }
@@ -71,7 +71,7 @@ fn misused(rt: &impl Eprint) -> ExitCode
 }
 
 /// Prints the error, and returns its status. Ignores a failure of standard error.
-fn refused(rt: &impl Eprint, error: RunError) -> ExitCode
+fn report(rt: &impl Eprint, error: RunError) -> ExitCode
     ensures { exit_status result ≡ status_of error }
 {
     let _ = eprintln!(rt; "{error}");

@@ -51,5 +51,5 @@ pub use self::text::{ascii_text, fill_text, text_length};
 //   22  the allocator is a value
 //    1  the bytes of a slice are appended at once, and not one by one
 //    1  the kernel is chosen for the processor
-//    7  what a constant calls is constant
+//    4  what a constant calls is constant
 //   14  what allocates is there with the feature alloc

@@ -48,7 +48,7 @@ impl Output for ReservedOutput {
 /// The bytes of the text, behind `0x` if `prefix` is true. Allocates once, for exactly the text; for no
 /// text, not at all.
 #[inline(always)]
-pub(crate) fn reserved_bytes<K: Kernel>(
+pub(crate) fn encode_reserved<K: Kernel>(
     alloc: Global,
     input: &[u8],
     prefix: bool,

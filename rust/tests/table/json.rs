@@ -40,8 +40,9 @@ fn read(json: &[u8]) -> String {
         Ok(bytes) => return shown_answer(&bytes),
         Err(error) => error.to_string(),
     };
-    let Value::String(text) = value else {
-        return "!NotText".to_string();
+    let text = match value {
+        Value::String(text) => text,
+        _ => return "!NotText".to_string(),
     };
     let refusals = [decode(&text), check(&text).map(|()| Vec::new())];
     let named = refusals

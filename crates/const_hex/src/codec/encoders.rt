@@ -9,7 +9,7 @@ ghost use Rattle.const_hex.specs.Results.{Encodes, EncodesToSlice};
 ghost use Rattle.const_hex.specs.declared.error.FromHexError.TheVariants.{InvalidStringLength};
 
 use crate::error::FromHexError;
-use crate::reserved::reserved_bytes;
+use crate::reserved::encode_reserved;
 use const_hex_arch::{FixedKernel, Kernel, ascii_text, fill_text, text_length};
 use std::alloc::{AllocError, Global};
 
@@ -23,7 +23,7 @@ fn encode_owned<K: Kernel>(
 ) -> Result<String, AllocError>
     ensures { IfOk result (λ s. string_bytes s ≡ full_text prefix upper input.now) }
 {
-    let text = reserved_bytes::<K>(alloc, input, prefix, upper)?;
+    let text = encode_reserved::<K>(alloc, input, prefix, upper)?;
     // SAFETY: the text is ASCII.
     Ok(unsafe { String::from_utf8_unchecked(text) })
 }

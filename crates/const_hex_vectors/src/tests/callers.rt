@@ -2,6 +2,7 @@
 
 use crate::tests::buffers::lends;
 use crate::tests::sinks::has_pieces;
+use crate::tests::{same, same_bytes};
 use const_hex::{FromHex, FromHexError, JsonError, PieceSink, SliceOutput, bytes_of};
 use const_hex_uses::accounts::is_same_account;
 use const_hex_uses::addresses::{address_text, digest_text, empty_text, prefixed_digest_text};
@@ -17,7 +18,7 @@ use const_hex_uses::streams::decode_typed;
 use const_hex_uses::writers::{array_text, joined_text, string_text, vector_text};
 use hash_hex::Hash32;
 use hex_testing::texts::bad;
-use hex_testing::{Source, Testing, Text, same, same_bytes};
+use hex_testing::{Source, Testing, Text};
 use serde_json::json;
 use std::alloc::AllocError;
 use std::boxed::BoxedSlice;

@@ -2,7 +2,7 @@
 //! From text to bytes.
 
 use crate::rattle::prelude::*;
-use crate::proved::codec::body::{bad_character, decode_body, even_body};
+use crate::proved::codec::body::{decode_body, find_invalid_character, strip_even};
 use crate::proved::error::FromHexError;
 #[cfg(feature = "alloc")]
 use crate::proved::reserved::decode_reserved;
@@ -34,9 +34,9 @@ pub fn decode_with<K: Kernel>(alloc: Global, input: &[u8]) -> Result<Vec<u8>, Fr
 #[inline(always)]
 #[cfg(feature = "alloc")]
 fn decode_owned<K: Kernel>(alloc: Global, input: &[u8]) -> Result<Vec<u8>, FromHexError> {
-    match decode_reserved::<K>(alloc, even_body(input)?)? {
+    match decode_reserved::<K>(alloc, strip_even(input)?)? {
         Some(bytes) => Ok(bytes),
-        None => Err(bad_character(input)),
+        None => Err(find_invalid_character(input)),
     }
 }
 
@@ -60,12 +60,12 @@ pub fn decode_to_slice(input: &[u8], output: &mut [u8]) -> Result<(), FromHexErr
 /// it decodes, every error leaves the output unchanged. Does not allocate.
 #[inline(always)]
 pub fn decode_to_slice_with<K: Kernel>(input: &[u8], output: &mut [u8]) -> Result<(), FromHexError> {
-    let body = even_body(input)?;
+    let body = strip_even(input)?;
     if body.len() / 2 != output.len() {
         return Err(FromHexError::InvalidStringLength);
     }
     if !decode_body::<K>(body, output) {
-        return Err(bad_character(input));
+        return Err(find_invalid_character(input));
     }
     Ok(())
 }
@@ -96,13 +96,13 @@ pub fn decode_to_front_with<K: Kernel>(
     input: &[u8],
     output: &mut [u8],
 ) -> Result<usize, FromHexError> {
-    let body = even_body(input)?;
+    let body = strip_even(input)?;
     let count = body.len() / 2;
     if count > output.len() {
         return Err(FromHexError::InvalidStringLength);
     }
     if !decode_body::<K>(body, &mut output[..count]) {
-        return Err(bad_character(input));
+        return Err(find_invalid_character(input));
     }
     Ok(count)
 }

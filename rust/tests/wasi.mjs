@@ -1,9 +1,7 @@
 #!/usr/bin/env node
-// Runs a WebAssembly module of tests in Node 20, as a runner of cargo: tests/wasi MODULE ARGUMENT ..
-'use strict';
-process.removeAllListeners('warning'); // node:wasi is called experimental
-const { readFileSync } = require('node:fs');
-const { WASI } = require('node:wasi');
+// Runs a WebAssembly module of tests in Node 20, as a runner of cargo: tests/wasi.mjs MODULE ARGUMENT ..
+import { readFileSync } from 'node:fs';
+import { WASI } from 'node:wasi';
 
 const [path, ...args] = process.argv.slice(2);
 const preopens = { '/': '/', '.': process.cwd(), '..': `${process.cwd()}/..` };
