@@ -332,9 +332,14 @@ fn decode_digits<K: Kernel>(digits: &[u8], output: &mut [u8]) -> bool
 }
 
 /// Whether the byte after the pairs, if there is one, is a digit.
+// It is decoded after a `0`: then a program that decodes alone has no code that checks alone.
 #[inline(always)]
 fn check_last<K: Kernel>(last: &[u8]) -> bool
+    requires { length last.now ≤ 1 }
     ensures { IsTrue result ↔ AllDigits last.now }
 {
-    last.is_empty() || K::check(last)
+    match last {
+        [digit] => decode_body::<K>(&[b'0', *digit], &mut [0]),
+        _ => true,
+    }
 }

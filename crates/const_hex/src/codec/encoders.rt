@@ -24,6 +24,7 @@ fn encode_owned<K: Kernel>(
     ensures { IfOk result (λ s. string_bytes s ≡ full_text prefix upper input.now) }
 {
     let text = encode_reserved::<K>(alloc, input, prefix, upper)?;
+    // SAFETY: the text is ASCII.
     Ok(unsafe { String::from_utf8_unchecked(text) })
 }
 
