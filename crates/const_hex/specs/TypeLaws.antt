@@ -4,10 +4,8 @@ use Rattle.std.proofs.Common.{inl, inr, sym, ap, subst, ◌∙◌, arith}
 use Rattle.std.proofs.lemmas.Bool.{cases_eq}
 use Rattle.std.proofs.lemmas.Bool.Decides.{nat_tests}
 use Rattle.const_hex_arch.proofs.lemmas.Spelling.{Spells-length, Spells-bytes, Spells-some, digits_or_bad}
-use Rattle.const_hex.specs.Bodies.{body_of}
-use Rattle.const_hex.specs.Answers.{Reads, ReadsSized, AreBytes, IsEven}
-use Rattle.const_hex.specs.Elements.{signed_of, byte_of}
-use Rattle.const_hex.specs.Types.{is_no_memory, AnyCount, IsCount, RefusesOrMisfits, IsFaithful, ReadsOwned, ReadsAs, ReadsSigned, ReadsThrough}
+use Rattle.const_hex.specs.Results.{body_of, Reads, ReadsSized, AreBytes, IsEven}
+use Rattle.const_hex.specs.Types.{signed_of, byte_of, is_no_memory, AnyCount, IsCount, RefusesOrMisfits, IsFaithful, ReadsOwned, ReadsAs, ReadsSigned, ReadsThrough}
 use Rattle.const_hex.specs.declared.error.FromHexError.{FromHexError}
 use Rattle.const_hex.specs.declared.error.FromHexError.TheVariants.{OddLength, InvalidStringLength, InvalidHexCharacter, NoMemory}
 

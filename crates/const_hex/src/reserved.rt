@@ -2,7 +2,7 @@
 
 ghost use Rattle.std.specs.Prelude.{◌≡◌, ◌≤◌, length, Some, IfOk};
 ghost use Rattle.const_hex_arch.specs.Texts.{full_text};
-ghost use Rattle.const_hex.specs.Reserved.{ReservedStep, spare_room};
+ghost use Rattle.const_hex.specs.Buffers.{ReservedStep, spare_room};
 
 mod decoding;
 
@@ -72,6 +72,7 @@ pub(crate) fn reserved_bytes<K: Kernel>(
 ) -> Result<Vec<u8>, AllocError>
     ensures { IfOk result (λ v. v.items ≡ full_text prefix upper input.now) }
 {
+    // `text_length`, but a slice's length can be doubled. So a call takes two or three instructions less.
     let length = (2 * input.len()).saturating_add(if prefix { 2 } else { 0 });
     // Apart, so that below there is a block for certain. A call then takes some ten instructions less.
     if length == 0 {

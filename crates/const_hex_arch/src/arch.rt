@@ -1,7 +1,7 @@
 //! Kernels, which turn bytes into digits, and digits into bytes.
 
 ghost use Rattle.std.specs.Prelude.{◌≡◌, Bool, ◌+◌, ◌*◌, ◌<◌, ◌≤◌, ◌↔◌, IsTrue, true, false, length, take, drop};
-ghost use Rattle.const_hex_arch.specs.Runs.{HasRoom, Writes};
+ghost use Rattle.const_hex_arch.specs.Outputs.{HasRoom, Writes};
 ghost use Rattle.const_hex_arch.specs.Texts.{hex_text, prefix_of, full_text, AllDigits, Spells, Partial};
 
 pub mod arithmetic16;

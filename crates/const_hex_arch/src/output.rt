@@ -2,7 +2,7 @@
 
 ghost use Rattle.std.specs.Prelude.{◌≡◌, ℕ, ◌+◌, ◌-◌, ◌*◌, ◌<◌, ◌≤◌, List, [], ◌∷◌, ◌++◌, length, take, Option};
 ghost use Rattle.std.specs.Str.{IsAscii};
-ghost use Rattle.const_hex_arch.specs.Runs.{HasRoom, less_room};
+ghost use Rattle.const_hex_arch.specs.Outputs.{HasRoom, less_room};
 
 pub mod buffered;
 pub mod slice;

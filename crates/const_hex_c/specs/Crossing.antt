@@ -1,6 +1,6 @@
 -- A refusal as C has it.
 use Rattle.std.specs.Prelude.{◌≡◌, ◌<◌, ◌⊎◌, ℕ, List, IfSome}
-use Rattle.const_hex.specs.Messages.{message_of}
+use Rattle.const_hex.specs.Results.{message_of}
 use Rattle.const_hex.specs.declared.error.FromHexError.{FromHexError}
 use Rattle.const_hex.specs.declared.error.FromHexError.TheVariants.{OddLength, InvalidStringLength, InvalidHexCharacter, NoMemory}
 use Rattle.const_hex_c.specs.declared.refusal.Refusal.{Refusal}

@@ -1,7 +1,7 @@
 //! What a program in C rests on. No export calls this.
 
 ghost use Rattle.std.specs.Prelude.{◌≡◌, ◌<◌, IfSome, Err};
-ghost use Rattle.const_hex.specs.Answers.{Reads};
+ghost use Rattle.const_hex.specs.Results.{Reads};
 ghost use Rattle.const_hex.specs.declared.error.FromHexError.TheVariants.{InvalidHexCharacter};
 
 use crate::refusal::{INVALID_CHARACTER, Refusal};

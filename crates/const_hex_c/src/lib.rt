@@ -10,8 +10,7 @@
 
 ghost use Rattle.std.specs.Prelude.{◌≡◌, ◌↔◌, ◌*◌, ◌+◌, ◌-◌, ◌<◌, ◌≤◌, ◌≢◌, ◌++◌, ℕ, List, Some, IfSome, true, false, length, take, drop, min, slice_index, IsTrue, Ok, Err};
 ghost use Rattle.const_hex.specs.Texts.{full_text, text_length, AllDigits, Partial};
-ghost use Rattle.const_hex.specs.Answers.{IsOdd, Reads, ReadsSized, ReadsWithin, Leaves};
-ghost use Rattle.const_hex.specs.Bodies.{body_of};
+ghost use Rattle.const_hex.specs.Results.{IsOdd, Reads, ReadsSized, ReadsWithin, Leaves, body_of};
 ghost use Rattle.const_hex.specs.Decoding.{HasRead, ReadsOn, error_of};
 ghost use Rattle.const_hex.specs.declared.error.FromHexError.TheVariants.{OddLength, InvalidStringLength};
 ghost use Rattle.const_hex_c.specs.Crossing.{StandsFor, Says, IsUnknown, refusal_of};

@@ -1,7 +1,7 @@
 //! The message of an error, in room of its own.
 
 ghost use Rattle.std.specs.Prelude.{◌≡◌, ◌≤◌, ◌<◌, ◌++◌, take, IfSome};
-ghost use Rattle.const_hex.specs.Messages.{message_of};
+ghost use Rattle.const_hex.specs.Results.{message_of};
 
 use const_hex::FromHexError;
 use std::fmt;

@@ -1,8 +1,7 @@
 -- What a decoding reads and writes.
 use Rattle.std.specs.Prelude.{ℕ, ◌*◌, List, ◌++◌, length, take, Option, Result, Ok, Err}
 use Rattle.std.specs.Io.KnownBytes.{Appends, Consumes, IsAtEnd}
-use Rattle.const_hex.specs.Answers.{IsOdd, Reads}
-use Rattle.const_hex.specs.Bodies.{body_of}
+use Rattle.const_hex.specs.Results.{IsOdd, Reads, body_of}
 use Rattle.const_hex.specs.Decoding.{NamesCounted}
 use Rattle.const_hex.specs.Texts.{AllDigits, Spells}
 use Rattle.const_hex.specs.declared.error.FromHexError.{FromHexError}

@@ -1,4 +1,3 @@
 pub mod Decoded
-pub mod Refusals
-pub mod Settings
+pub mod Lines
 pub mod Store

@@ -3,7 +3,7 @@
 ghost use Rattle.std.specs.Prelude.{◌≡◌, ◌∷◌, ◌++◌, [], true, false, OnOk, OnErr};
 ghost use Rattle.std.specs.Io.KnownBytes.{Appends};
 ghost use Rattle.const_hex.specs.Texts.{full_text};
-ghost use Rattle.const_hex.specs.WriteSinks.{WritesBeginning};
+ghost use Rattle.const_hex.specs.Writers.{WritesBeginning};
 
 use const_hex::{Sink, WriteSink};
 use std::io;

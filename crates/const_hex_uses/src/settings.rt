@@ -2,10 +2,10 @@
 
 ghost use Rattle.std.specs.Prelude.{◌≡◌, ◌≢◌, ◌<◌, ◌+◌, ◌-◌, ◌^◌, ◌↔◌, ℕ, Ok, Err, IfOk, length};
 ghost use Rattle.std.specs.Str.Lines.{lines};
-ghost use Rattle.const_hex.specs.Answers.{Reads};
+ghost use Rattle.const_hex.specs.Results.{Reads};
 ghost use Rattle.const_hex.specs.declared.error.FromHexError.{FromHexError};
 ghost use Rattle.const_hex.specs.declared.error.FromHexError.TheVariants.{NoMemory};
-ghost use Rattle.const_hex_uses.specs.Settings.{FirstFault, column_of, sign_place, value_text};
+ghost use Rattle.const_hex_uses.specs.Lines.{FirstFault, column_of, sign_place, value_text};
 ghost use Rattle.const_hex_uses.specs.declared.settings.LineFault.TheVariants.{NoSign, Refused};
 
 use const_hex::{FromHexError, decode};

@@ -2,7 +2,7 @@
 
 ghost use Rattle.std.specs.Prelude.{◌≡◌, ◌≤◌, ◌++◌, List, ℕ, Some, true, false, not, is_ok, length, IfOk, OnOk};
 ghost use Rattle.std.specs.List.{All, concat};
-ghost use Rattle.const_hex.specs.Streams.{Cut, Streams};
+ghost use Rattle.const_hex.specs.Sinks.{Cut, Streams};
 ghost use Rattle.const_hex.specs.Texts.{full_text};
 
 use const_hex::serde::serialize_inner;

@@ -5,8 +5,7 @@ ghost use Rattle.std.specs.Prelude.{◌≡◌, ◌≢◌, ℕ, List, Some, Err, 
 ghost use Rattle.std.specs.HashMap.{get, get_by_text};
 ghost use Rattle.const_hex_uses.specs.Store.{hash_eq};
 ghost use Rattle.hash_hex.specs.declared.fixed.FixedBytes.{FixedBytes};
-ghost use Rattle.const_hex.specs.Answers.{Reads};
-ghost use Rattle.const_hex.specs.Bodies.{body_of, lowered};
+ghost use Rattle.const_hex.specs.Results.{Reads, body_of, lowered};
 ghost use Rattle.const_hex.specs.declared.error.FromHexError.TheVariants.{NoMemory};
 
 use const_hex::{FromHexError, decode, encode};

@@ -6,7 +6,6 @@ mod callers;
 mod decoding;
 mod encoding;
 mod errors;
-mod exhausted;
 mod hashes;
 mod hosts;
 mod kernels;

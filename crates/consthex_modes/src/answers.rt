@@ -1,11 +1,11 @@
 //! What a mode answers to given bytes.
 
 ghost use Rattle.std.specs.Prelude.{◌≡◌, ◌≢◌, ◌≤◌, ◌<◌, ◌++◌, ◌+◌, ◌↔◌, ◌⊎◌, List, ℕ, codes, length, IfOk, IfErr, Ok, Err};
-ghost use Rattle.const_hex.specs.Answers.{IsOdd, Reads};
+ghost use Rattle.const_hex.specs.Results.{IsOdd, Reads};
 ghost use Rattle.const_hex.specs.Texts.{full_text, text_length};
 ghost use Rattle.const_hex.specs.declared.error.FromHexError.{FromHexError};
 ghost use Rattle.const_hex.specs.declared.error.FromHexError.TheVariants.{OddLength};
-ghost use Rattle.consthex_modes.specs.Answer.{Answer, TakesMemory, without_newline, newline, limit};
+ghost use Rattle.consthex_modes.specs.Program.{Answer, TakesMemory, without_newline, newline, limit};
 ghost use Rattle.consthex_modes.specs.declared.error.RunError.TheVariants.{Text, TooLong, NoMemory};
 ghost use Rattle.consthex_modes.specs.declared.mode.Mode.TheVariants.{Decode, Check};
 

@@ -1,7 +1,7 @@
 //! Why a run fails.
 
 ghost use Rattle.std.specs.Prelude.{◌≡◌};
-ghost use Rattle.consthex_modes.specs.Errors.{refusal_of, line_of, status_of};
+ghost use Rattle.consthex_modes.specs.Program.{refusal_of, line_of, status_of};
 ghost use Rattle.consthex_modes.specs.declared.error.RunError.TheVariants.{NoMemory};
 
 use const_hex::FromHexError;

@@ -4,9 +4,8 @@ ghost use Rattle.std.specs.Prelude.{◌≡◌, ◌≢◌, ◌≤◌, ◌⊎◌, 
 ghost use Rattle.std.specs.Io.KnownBytes.{Appends, Keeps};
 ghost use Rattle.std.specs.Process.{exit_status};
 ghost use Rattle.const_hex.specs.declared.error.FromHexError.{FromHexError};
-ghost use Rattle.const_hex.specs.WriteSinks.{WritesBeginning};
-ghost use Rattle.consthex_modes.specs.Errors.{status_of};
-ghost use Rattle.consthex_modes.specs.Outcome.{Answers};
+ghost use Rattle.const_hex.specs.Writers.{WritesBeginning};
+ghost use Rattle.consthex_modes.specs.Program.{status_of, Answers};
 ghost use Rattle.consthex_modes.specs.declared.error.RunError.TheVariants.{Text};
 ghost use Rattle.consthex_modes.specs.declared.mode.Mode.{Mode};
 

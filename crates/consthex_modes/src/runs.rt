@@ -3,9 +3,8 @@
 ghost use Rattle.std.specs.Prelude.{◌≡◌, ◌≢◌, ◌≤◌, ◌<◌, ◌+◌, List, ℕ, length, take, vec_len, OnOk, OnErr, IfOk, Ok, Err};
 ghost use Rattle.std.specs.Io.KnownBytes.{Appends, Consumes, Keeps};
 ghost use Rattle.const_hex.specs.declared.error.FromHexError.{FromHexError};
-ghost use Rattle.const_hex.specs.WriteSinks.{WritesBeginning};
-ghost use Rattle.consthex_modes.specs.Answer.{limit};
-ghost use Rattle.consthex_modes.specs.Outcome.{ReadsAll, Answers};
+ghost use Rattle.const_hex.specs.Writers.{WritesBeginning};
+ghost use Rattle.consthex_modes.specs.Program.{limit, ReadsAll, Answers};
 ghost use Rattle.consthex_modes.specs.declared.error.RunError.TheVariants.{Text, WriteFailed, TooLong};
 
 use crate::answers::{LIMIT, answer};

@@ -15,6 +15,7 @@ pub use whole::*;
 
 use const_hex_proved::source::{encode_full_to_slice_with, Decoder};
 use const_hex_proved::FromHexError;
+use core::mem::{align_of, size_of};
 use core::slice::{from_raw_parts, from_raw_parts_mut};
 use kernel::Kernel;
 
@@ -42,6 +43,11 @@ impl From<FromHexError> for Error {
         Error { kind, byte, index }
     }
 }
+
+/// `struct const_hex_decoder` is a `Decoder`: two numbers, of which any values are valid, and zeros are new.
+const _: () = assert!(
+    size_of::<Decoder>() == size_of::<[usize; 2]>() && align_of::<Decoder>() == align_of::<usize>()
+);
 
 /// `const_hex_encode`
 #[no_mangle]
@@ -79,8 +85,7 @@ fn encoded_size(bytes_length: usize, flags: u32) -> Option<usize> {
     digits.checked_add(prefix + usize::from(flags & NO_NUL == 0))
 }
 
-/// `const_hex_decoder_update`. The struct for C has the size and the alignment of a `Decoder`, of which every
-/// value is valid.
+/// `const_hex_decoder_update`
 #[no_mangle]
 pub unsafe extern "C" fn const_hex_decoder_update(
     decoder: &mut Decoder,

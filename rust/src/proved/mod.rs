@@ -45,7 +45,7 @@ pub use self::text::{ascii_text, fill_text, text_length};
 //   42  both crates are one module
 //   39  deleted: attribute
 //  183  deleted: contract
-//  142  deleted: ghost item
+//  131  deleted: ghost item
 //    4  deleted: model
 //    1  each value may be dropped
 //   22  the allocator is a value

@@ -54,6 +54,7 @@ pub(crate) fn reserved_bytes<K: Kernel>(
     prefix: bool,
     upper: bool,
 ) -> Result<Vec<u8>, AllocError> {
+    // `text_length`, but a slice's length can be doubled. So a call takes two or three instructions less.
     let length = (2 * input.len()).saturating_add(if prefix { 2 } else { 0 });
     // Apart, so that below there is a block for certain. A call then takes some ten instructions less.
     if length == 0 {

@@ -3,16 +3,14 @@ use Rattle.std.proofs.Common.{◌≡◌, ℕ, suc, ◌+◌, ◌-◌, ◌*◌, �
 use Rattle.std.proofs.lemmas.Grind.{common_steps}
 use Rattle.std.proofs.lemmas.List.{append_assoc, append-nil, take-append-le, take-append-drop, take_all, take_at, drop_all, drop_at}
 use Rattle.const_hex.proofs.lemmas.Fronts.{partial_front}
-use Rattle.const_hex.specs.Answers.{IsOdd, Reads}
-use Rattle.const_hex.specs.Bodies.{body_of}
+use Rattle.const_hex.specs.Results.{IsOdd, Reads, body_of}
 use Rattle.const_hex.specs.Decoding.{HasRead, NamesCounted, counted, error_of, place_of, waiting_digit}
 use Rattle.const_hex.specs.TypeLaws.{body-parity}
 use Rattle.const_hex.specs.declared.codec.decoder.Decoder.{Decoder}
 use Rattle.const_hex.specs.declared.error.FromHexError.TheVariants.{OddLength, InvalidStringLength, InvalidHexCharacter, NoMemory}
 use Rattle.const_hex.specs.declared.error.FromHexError.{FromHexError}
-use Rattle.const_hex_arch.specs.Digits.{IsDigit}
+use Rattle.const_hex_arch.specs.Texts.{IsDigit, AllDigits, FirstBad, Partial, Spells}
 use Rattle.std.proofs.lemmas.List.Elements.{All-drop}
-use Rattle.const_hex_arch.specs.Texts.{AllDigits, FirstBad, Partial, Spells}
 use Rattle.const_hex_arch.proofs.lemmas.Spelling.{FirstBad-after, Partial-after, Spells-append, Spells-digits, Spells-length, digits_append, digits_no_bad, first_bad}
 
 -- ---- a bad byte, whatever follows

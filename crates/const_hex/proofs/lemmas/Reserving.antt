@@ -3,10 +3,10 @@ use Rattle.std.proofs.Common.{◌≡◌, ℕ, ◌+◌, ◌*◌, ◌<◌, ◌≤�
 use Rattle.std.proofs.lemmas.List.{append-nil, append_assoc, take_all, take_more, take-take}
 use Rattle.std.specs.Prelude.{vec_len, vec_capacity}
 use Rattle.std.specs.List.{FoldsTo, concat}
-use Rattle.const_hex_arch.specs.Runs.{Writes}
+use Rattle.const_hex_arch.specs.Outputs.{Writes}
 use Rattle.const_hex_arch.specs.Texts.{Spells}
 use Rattle.const_hex_arch.proofs.lemmas.Spelling.{Spells-append, Spells-parts}
-use Rattle.const_hex.specs.Reserved.{ReservedStep, HoldsFront, spare_room}
+use Rattle.const_hex.specs.Buffers.{ReservedStep, HoldsFront, spare_room}
 use Rattle.const_hex.specs.declared.reserved.ReservedOutput.{ReservedOutput}
 
 -- ---- the first bytes of a piece are put

@@ -2,8 +2,7 @@
 
 ghost use Rattle.std.specs.Prelude.{◌≡◌, ◌*◌, ◌%◌, ◌≤◌, ◌==◌, ◌&&◌, ◌||◌, true, false, length, slice_index, IfErr, IfOk, IsTrue};
 ghost use Rattle.const_hex_arch.specs.Texts.{AllDigits, FirstBad, Spells, Partial};
-ghost use Rattle.const_hex.specs.Answers.{IsEven, IsOdd};
-ghost use Rattle.const_hex.specs.Bodies.{body_of, NamesFirstBad};
+ghost use Rattle.const_hex.specs.Results.{IsEven, IsOdd, body_of, NamesFirstBad};
 ghost use Rattle.const_hex.specs.declared.error.FromHexError.TheVariants.{OddLength};
 
 use crate::error::FromHexError;

@@ -5,8 +5,8 @@
 
 ghost use Rattle.std.specs.Prelude.{◌≡◌, ◌+◌, ◌*◌, ◌<◌, ◌≤◌, [], length, IfOk, IfSome, IsNone, vec_len};
 ghost use Rattle.const_hex_arch.specs.Texts.{AllDigits, Spells};
-ghost use Rattle.const_hex.specs.Answers.{IsEven};
-ghost use Rattle.const_hex.specs.Reserved.{HoldsFront, spare_room};
+ghost use Rattle.const_hex.specs.Results.{IsEven};
+ghost use Rattle.const_hex.specs.Buffers.{HoldsFront, spare_room};
 
 use crate::codec::body::decode_body;
 use crate::reserved::ReservedOutput;

@@ -2,8 +2,8 @@
 
 ghost use Rattle.std.specs.Prelude.{◌≡◌, ◌+◌, ◌*◌, ◌<◌, ◌≤◌, false, not, is_ok, length};
 ghost use Rattle.const_hex_arch.specs.Texts.{full_text};
-ghost use Rattle.const_hex_arch.specs.Streams.{Streams, TellsCut};
-ghost use Rattle.const_hex.specs.Json.{TellsWhole};
+ghost use Rattle.const_hex_arch.specs.Sinks.{Streams, TellsCut};
+ghost use Rattle.const_hex.specs.Writers.{TellsWhole};
 
 use const_hex_arch::{
     BufferedHex, FixedKernel, Sink, SinkError, ascii_text, fill_text, text_length,

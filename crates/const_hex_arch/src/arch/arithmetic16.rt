@@ -2,8 +2,7 @@
 
 ghost use Rattle.std.specs.Prelude.{◌≡◌, ◌*◌, ◌↔◌, [], ◌∷◌, ◌++◌, length, map, IsTrue, false};
 ghost use Rattle.std.specs.List.{AllZip, concat};
-ghost use Rattle.const_hex_arch.specs.Lanes.{AllNibbles, AllUnmarked, byte_pairs};
-ghost use Rattle.const_hex_arch.specs.Nibbles.{IsValueOf};
+ghost use Rattle.const_hex_arch.specs.Lanes.{AllNibbles, AllUnmarked, byte_pairs, IsValueOf};
 ghost use Rattle.const_hex_arch.specs.Texts.{hex_text, AllDigits};
 
 use crate::arch::lanes::{self, Vectors};

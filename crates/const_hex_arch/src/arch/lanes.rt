@@ -2,10 +2,8 @@
 
 ghost use Rattle.std.specs.Prelude.{◌≡◌, ◌-◌, ◌*◌, ◌++◌, ◌≤◌, ◌↔◌, [], ◌∷◌, length, take, drop, map, IsTrue};
 ghost use Rattle.std.specs.List.{AllZip, concat};
-ghost use Rattle.const_hex_arch.specs.Digits.{hex_digit, hex_value, IsDigit};
-ghost use Rattle.const_hex_arch.specs.Lanes.{AllNibbles, AllUnmarked, byte_pairs};
-ghost use Rattle.const_hex_arch.specs.Nibbles.{as_value, IsValueOf, IsPartOf, IsLimitOf};
-ghost use Rattle.const_hex_arch.specs.Texts.{hex_text, AllDigits, Spells};
+ghost use Rattle.const_hex_arch.specs.Texts.{hex_digit, hex_value, IsDigit, hex_text, AllDigits, Spells};
+ghost use Rattle.const_hex_arch.specs.Lanes.{AllNibbles, AllUnmarked, byte_pairs, as_value, IsValueOf, IsPartOf, IsLimitOf};
 
 use std::simd::prelude::*;
 

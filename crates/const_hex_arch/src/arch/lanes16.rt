@@ -5,10 +5,8 @@
 
 ghost use Rattle.std.specs.Prelude.{◌≡◌, ◌*◌, ◌↔◌, [], ◌∷◌, ◌++◌, length, map, IsTrue, false, IsNone, IfSome};
 ghost use Rattle.std.specs.List.{AllZip, concat};
-ghost use Rattle.const_hex_arch.specs.Digits.{hex_value};
-ghost use Rattle.const_hex_arch.specs.Lanes.{AllNibbles, AllUnmarked, byte_pairs, bytes_of_4097, halves_of, row_of};
-ghost use Rattle.const_hex_arch.specs.Nibbles.{as_value, IsValueOf, IsLimitOf};
-ghost use Rattle.const_hex_arch.specs.Texts.{hex_text, AllDigits, Spells};
+ghost use Rattle.const_hex_arch.specs.Texts.{hex_value, hex_text, AllDigits, Spells};
+ghost use Rattle.const_hex_arch.specs.Lanes.{AllNibbles, AllUnmarked, byte_pairs, bytes_of_4097, halves_of, row_of, as_value, IsValueOf, IsLimitOf};
 
 use crate::arch::lanes::{self, Vectors};
 use crate::arch::{Kernel, short, steps};

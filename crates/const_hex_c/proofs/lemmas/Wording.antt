@@ -1,6 +1,6 @@
 -- The message of the refusal that a struct stands for.
 use Rattle.std.proofs.Common.{◌≡◌, subst, ap, ℕ, List, Option, Some, IfSome}
-use Rattle.const_hex.specs.Messages.{message_of}
+use Rattle.const_hex.specs.Results.{message_of}
 use Rattle.const_hex.specs.declared.error.FromHexError.{FromHexError}
 use Rattle.const_hex.specs.declared.error.FromHexError.TheVariants.{OddLength, InvalidStringLength, InvalidHexCharacter, NoMemory}
 use Rattle.const_hex_c.specs.Crossing.{Says}

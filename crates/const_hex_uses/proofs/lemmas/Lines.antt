@@ -3,10 +3,10 @@ use Rattle.std.proofs.Common.{◌≡◌, ◌≢◌, ℕ, ◌+◌, ◌<◌, List,
 use Rattle.std.proofs.lemmas.List.{get_or_default}
 use Rattle.std.proofs.lemmas.List.FromFn.{get_or-enumerate_from, length-enumerate_from}
 use Rattle.std.specs.List.{enumerate_from}
-use Rattle.const_hex.specs.Answers.{Reads}
+use Rattle.const_hex.specs.Results.{Reads}
 use Rattle.const_hex.specs.declared.error.FromHexError.{FromHexError}
 use Rattle.const_hex.specs.declared.error.FromHexError.TheVariants.{NoMemory}
-use Rattle.const_hex_uses.specs.Settings.{HasFault, line_at, sign_place, value_text}
+use Rattle.const_hex_uses.specs.Lines.{HasFault, line_at, sign_place, value_text}
 use Rattle.const_hex_uses.specs.declared.settings.LineFault.{LineFault}
 use Rattle.const_hex_uses.specs.declared.settings.LineFault.TheVariants.{NoSign, Refused}
 

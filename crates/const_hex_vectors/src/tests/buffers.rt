@@ -69,6 +69,7 @@ fn formats_over_what_stood_there(rt: HostRuntime) {
     formats(&rt, &mut buffer, b"1234", "0x31323334", "0x31323334");
     let mut buffer = Buffer::<4, false, 8>::default();
     lends(&rt, &buffer, "\0\0\0\0\0\0\0\0");
+    formats(&rt, &mut buffer, b"1234", "31323334", "31323334");
     formats(
         &rt,
         &mut buffer,

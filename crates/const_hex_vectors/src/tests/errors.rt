@@ -23,6 +23,7 @@ fn printed(rt: HostRuntime) {
     prints(&rt, OddLength, "odd number of digits");
     prints(&rt, InvalidStringLength, "invalid string length");
     prints(&rt, NoMemory, "out of memory");
+    prints(&rt, bad(b'\n', 5), "invalid character '\\n' at position 5");
     let texts = format!(in rt.alloc(); "{NOT_TEXT}, {SinkError}").expect(&rt, "memory");
     same_bytes!(&rt, "{}", "others"; texts, "expected a hex encoded string, sink refused");
 }

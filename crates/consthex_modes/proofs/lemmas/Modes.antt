@@ -1,9 +1,9 @@
 -- What the modes that read a text say of it.
 use Rattle.std.proofs.Common.{◌≡◌, ◌≢◌, ◌≤◌, ◌⊎◌, ℕ, List, length, Result, Ok, Err, IfOk, IfErr, arith}
-use Rattle.const_hex.specs.Answers.{IsOdd, Reads}
+use Rattle.const_hex.specs.Results.{IsOdd, Reads}
 use Rattle.const_hex.specs.declared.error.FromHexError.{FromHexError}
 use Rattle.const_hex.specs.declared.error.FromHexError.TheVariants.{OddLength}
-use Rattle.consthex_modes.specs.Answer.{Answer, Refuses, TakesMemory, limit, without_newline}
+use Rattle.consthex_modes.specs.Program.{Answer, Refuses, TakesMemory, limit, without_newline}
 use Rattle.consthex_modes.specs.declared.mode.Mode.{Mode}
 use Rattle.consthex_modes.specs.declared.mode.Mode.TheVariants.{Decode, Check}
 use Rattle.consthex_modes.specs.declared.error.RunError.{RunError}

@@ -1,7 +1,7 @@
 -- What an exit status says of an error.
 use Rattle.std.proofs.Common.{◌≡◌, arith}
 use Rattle.const_hex.specs.declared.error.FromHexError.{FromHexError}
-use Rattle.consthex_modes.specs.Errors.{status_of}
+use Rattle.consthex_modes.specs.Program.{status_of}
 use Rattle.consthex_modes.specs.declared.error.RunError.{RunError}
 use Rattle.consthex_modes.specs.declared.error.RunError.TheVariants.{Text}
 

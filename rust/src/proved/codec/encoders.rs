@@ -66,10 +66,11 @@ pub fn encode_with<K: Kernel, const UPPER: bool>(
     encode_owned::<K>(alloc, input, false, UPPER)
 }
 
-/// Whether there are exactly two digits for each byte. No length is too large for this test.
+/// Whether there are exactly two digits for each byte.
 #[inline(always)]
 fn two_per_byte(bytes: usize, digits: usize) -> bool {
-    bytes <= digits && digits - bytes == bytes
+    // `text_length` stops at the greatest number, which is odd.
+    digits % 2 == 0 && digits == text_length(false, bytes)
 }
 
 /// Fills an output of the text's length with the text, and returns it.

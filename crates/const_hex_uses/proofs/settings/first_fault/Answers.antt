@@ -4,7 +4,7 @@ use Rattle.std.proofs.lemmas.Iterator.Consumers.{YieldsList-from_enumerate, Yiel
 use Rattle.std.proofs.lemmas.List.FromFn.{length-enumerate_from}
 use Rattle.std.specs.Str.Lines.{lines}
 use Rattle.const_hex_uses.proofs.lemmas.Lines.{item_at, fault_of, one_more}
-use Rattle.const_hex_uses.specs.Settings.{HasValue, line_at}
+use Rattle.const_hex_uses.specs.Lines.{HasValue, line_at}
 use Rattle.const_hex_uses.specs.declared.settings.LineFault.TheVariants.{NoSign}
 use Rattle.const_hex_uses.proofs.settings.first_fault.Goals as goal
 

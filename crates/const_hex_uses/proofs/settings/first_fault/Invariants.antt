@@ -1,6 +1,6 @@
 use Rattle.std.proofs.Common.{ℕ, ◌<◌, length}
 use Rattle.std.specs.Str.Lines.{lines}
-use Rattle.const_hex_uses.specs.Settings.{HasValue, line_at}
+use Rattle.const_hex_uses.specs.Lines.{HasValue, line_at}
 use Rattle.const_hex_uses.proofs.settings.first_fault.Given as goal
 
 abbrev pub invariant-loop-number : goal.invariant-loop-number

@@ -1,5 +1,5 @@
 use Rattle.std.proofs.Common.{take}
-use Rattle.const_hex.specs.Reserved.{ReservedStep}
+use Rattle.const_hex.specs.Buffers.{ReservedStep}
 use Rattle.const_hex.proofs.reserved.ReservedOutput.put.Given as goal
 
 abbrev pub invariant-loop-byte : goal.invariant-loop-byte

@@ -1,5 +1,5 @@
 use Rattle.std.proofs.Common.{◌≡◌, ◌-◌, ◌/◌, ◌%◌, length, vec_len}
-use Rattle.const_hex.specs.Reserved.{HoldsFront}
+use Rattle.const_hex.specs.Buffers.{HoldsFront}
 use Rattle.const_hex.proofs.reserved.decoding.put_front.Given as goal
 
 abbrev pub invariant-loop-output : goal.invariant-loop-output

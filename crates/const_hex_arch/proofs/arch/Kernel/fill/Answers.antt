@@ -1,5 +1,5 @@
 use Rattle.std.proofs.Common.{rules, ◌≡◌, sym, ◌∙◌}
-use Rattle.const_hex_arch.specs.SliceOutputs.{slice_bytes}
+use Rattle.const_hex_arch.specs.Outputs.{slice_bytes}
 use Rattle.const_hex_arch.specs.Texts.{hex_text}
 use Rattle.const_hex_arch.proofs.lemmas.SliceRuns.{SliceStep-run, Placed-whole}
 use Rattle.const_hex_arch.proofs.lemmas.Texts.{length-hex_text}

@@ -1,6 +1,6 @@
 use Rattle.std.proofs.Common.{◌++◌, ◌∙◌, ap, take}
 use Rattle.std.proofs.lemmas.Fmt.{contents_after_writes}
-use Rattle.const_hex.specs.Messages.{message_of}
+use Rattle.const_hex.specs.Results.{message_of}
 use Rattle.std.proofs.lemmas.Option.{IfSome_then}
 use Rattle.const_hex_c.proofs.words.Words.of.Goals as goal
 

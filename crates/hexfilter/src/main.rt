@@ -1,0 +1,11 @@
+//! The program `hexfilter`: hexadecimal text of a file of any size, and back.
+//!
+//! All of it stands in `hexfilter_core`, as [`program`] over any host.
+#![tactic(auto)]
+
+use hexfilter_core::program;
+use std::process::ExitCode;
+
+fn main(rt: HostRuntime) -> ExitCode {
+    program(&rt)
+}
