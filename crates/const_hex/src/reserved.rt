@@ -64,7 +64,7 @@ impl Output for ReservedOutput {
 /// text, not at all.
 #[inline(always)]
 #[tactic(auto, using(const_hex_arch::proofs::lemmas::Texts::full_text_size))]
-pub(crate) fn reserved_bytes<K: Kernel>(
+pub(crate) fn encode_reserved<K: Kernel>(
     alloc: Global,
     input: &[u8],
     prefix: bool,

@@ -1,7 +1,8 @@
-//! The lower half of a hexadecimal codec: tables, outputs and kernels.
+//! The lower layer of a hexadecimal codec: tables of digits, outputs, sinks and kernels.
 //!
-//! A kernel turns bytes into digits and digits into bytes, and an output receives the digits. The
-//! terms of their contracts are defined in `specs/`.
+//! A kernel turns bytes into digits and digits into bytes. An output receives digits and cannot
+//! fail; a sink receives text, and each call may fail. The terms of their contracts are defined in
+//! `specs/`.
 #![tactic(auto)]
 
 pub mod arch;

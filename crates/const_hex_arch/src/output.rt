@@ -14,7 +14,7 @@ pub mod slice;
 ///
 /// ```rust
 /// fn greet<O: Output>(output: &mut O) {
-///     if output.remaining().is_none_or(|room| room >= 3) {
+///     if output.remaining().unwrap_or(usize::MAX) >= 3 {
 ///         output.write(b"hi");
 ///         output.write_byte(b'!');
 ///     }

@@ -95,5 +95,6 @@ pub fn ascii_text(bytes: &[u8]) -> &str
     requires { IsAscii bytes.now }
     ensures { result.now ≡ bytes.now }
 {
+    // SAFETY: ASCII is UTF-8.
     unsafe { str::from_utf8_unchecked(bytes) }
 }

@@ -1,11 +1,12 @@
 //! Callers that read a text: as any type, by the law of such types alone; and into a key.
 
-ghost use Rattle.std.specs.Prelude.{◌≡◌, ◌≢◌, ◌↔◌, ◌⊎◌, false, length, IfOk, IfErr, Ok, Err};
+ghost use Rattle.std.specs.Prelude.{◌≡◌, ◌≢◌, ◌↔◌, ◌⊎◌, ◌*◌, ℕ, false, drop, length, take, IfOk, IfErr, Ok, Err};
 ghost use Rattle.const_hex.specs.Results.{IsOdd, Reads, ReadsSized, body_of, lowered};
+ghost use Rattle.const_hex.specs.Texts.{Spells};
 ghost use Rattle.const_hex.specs.Types.{IsCount, RefusesOrMisfits};
 ghost use Rattle.const_hex.specs.declared.error.FromHexError.TheVariants.{InvalidStringLength, NoMemory, OddLength};
 
-use const_hex::{FromHex, FromHexError, decode_to_slice};
+use const_hex::{FromHex, FromHexError, decode_to_front, decode_to_slice};
 use std::alloc::Global;
 use std::rc::Rc;
 
@@ -92,19 +93,38 @@ pub fn read_shared(alloc: Global, text: &[u8]) -> Result<Rc<Vec<u8>>, FromHexErr
     FromHex::from_hex(alloc, text)
 }
 
-/// Replaces a key by the 32 bytes that a text spells. If the text is odd, or has another length, the
-/// key is unchanged. After a bad byte it may hold decoded bytes.
+/// Replaces a key by the 32 bytes that a text decodes to. If the number of digits is odd, or there is
+/// another number of them, the key is unchanged. After an invalid character it begins with the bytes
+/// that were decoded before it, if any, and the rest of the key is unchanged.
 ///
 /// ```rust
 /// let mut key = [0; 32];
 /// replace_key(&mut key, &[b'a'; 64])?;
 /// assert_eq!(rt; key, [0xAA; 32]);
 /// ```
+#[tactic(auto, using(crate::proofs::lemmas::Keys::kept_behind_a_front))]
 pub fn replace_key(key: &mut [u8; 32], text: &[u8]) -> Result<(), FromHexError>
     ensures replaced { IfOk result (λ _. ReadsSized text.now 32 (Ok key.new)) }
     ensures refused { IfErr result (λ e. ReadsSized text.now 32 (Err e)) }
     ensures kept { IfErr result (λ e. (e ≡ OddLength) ⊎ (e ≡ InvalidStringLength)
         → key.new ≡ key.old) }
+    ensures front { IfErr result (λ _. (n : ℕ) × (drop n key.new ≡ drop n key.old)
+        × Spells (take (2 * n) (body_of text.now)) (take n key.new)) }
 {
     decode_to_slice(text, key)
+}
+
+/// Reads a salt of at most 64 bytes, and returns its number of bytes. An odd number of digits is
+/// always reported as such, also if there are more than 128.
+///
+/// ```rust
+/// let mut salt = [0; 64];
+/// assert_eq!(rt; read_salt(b"0x6b69", &mut salt), Ok(2));
+/// assert_eq!(rt; read_salt(&[b'a'; 131], &mut salt), Err(FromHexError::OddLength));
+/// ```
+pub fn read_salt(text: &[u8], salt: &mut [u8; 64]) -> Result<usize, FromHexError>
+    ensures read { IfOk result (λ n. Reads text.now (Ok (take n salt.new))) }
+    ensures odd { (result ≡ Err OddLength) ↔ IsOdd (length text.now) }
+{
+    decode_to_front(text, salt)
 }

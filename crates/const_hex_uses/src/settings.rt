@@ -5,8 +5,8 @@ ghost use Rattle.std.specs.Str.Lines.{lines};
 ghost use Rattle.const_hex.specs.Results.{Reads};
 ghost use Rattle.const_hex.specs.declared.error.FromHexError.{FromHexError};
 ghost use Rattle.const_hex.specs.declared.error.FromHexError.TheVariants.{NoMemory};
-ghost use Rattle.const_hex_uses.specs.Lines.{FirstFault, column_of, sign_place, value_text};
-ghost use Rattle.const_hex_uses.specs.declared.settings.LineFault.TheVariants.{NoSign, Refused};
+ghost use Rattle.const_hex_uses.specs.Lines.{FirstFault, column_of, sign_index, value_text};
+ghost use Rattle.const_hex_uses.specs.declared.settings.LineFault.TheVariants.{NoSign, Invalid};
 
 use const_hex::{FromHexError, decode};
 use std::alloc::Global;
@@ -16,8 +16,8 @@ use std::alloc::Global;
 pub enum LineFault {
     /// There is no `=` in the line.
     NoSign,
-    /// The value begins at this place of the line, counted from 0, and its error is this one.
-    Refused(usize, FromHexError),
+    /// The value begins at this index of the line, counted from 0, and its error is this one.
+    Invalid(usize, FromHexError),
 }
 
 impl LineFault {
@@ -31,7 +31,7 @@ impl LineFault {
         ensures { result ≡ column_of self.now }
     {
         match self {
-            LineFault::Refused(start, FromHexError::InvalidHexCharacter { index, .. }) => {
+            LineFault::Invalid(start, FromHexError::InvalidHexCharacter { index, .. }) => {
                 Some(start.saturating_add(*index).saturating_add(1))
             }
             _ => None,
@@ -46,10 +46,10 @@ impl LineFault {
 /// ```
 pub fn value_of(alloc: Global, line: &str) -> Result<Vec<u8>, LineFault>
     ensures value { IfOk result (λ v. Reads (value_text line.now) (Ok v.items)) }
-    ensures no_sign { (result ≡ Err NoSign) ↔ (sign_place line.now ≡ length line.now) }
-    ensures start { (start : ℕ) (e : FromHexError) → result ≡ Err (Refused start e)
-        → start ≡ sign_place line.now + 1 }
-    ensures refusal { (start : ℕ) (e : FromHexError) → result ≡ Err (Refused start e)
+    ensures no_sign { (result ≡ Err NoSign) ↔ (sign_index line.now ≡ length line.now) }
+    ensures start { (start : ℕ) (e : FromHexError) → result ≡ Err (Invalid start e)
+        → start ≡ sign_index line.now + 1 }
+    ensures error { (start : ℕ) (e : FromHexError) → result ≡ Err (Invalid start e)
         → e ≢ NoMemory → Reads (value_text line.now) (Err e) }
 {
     let Some((key, text)) = line.split_once('=') else {
@@ -57,16 +57,16 @@ pub fn value_of(alloc: Global, line: &str) -> Result<Vec<u8>, LineFault>
     };
     match decode(alloc, text.as_bytes()) {
         Ok(value) => Ok(value),
-        Err(refusal) => Err(LineFault::Refused(key.len() + 1, refusal)),
+        Err(error) => Err(LineFault::Invalid(key.len() + 1, error)),
     }
 }
 
-/// The number of the line at a place. Places count from 0, and numbers from 1.
-fn line_number(place: usize) -> usize
-    requires { place < 2 ^ 64 - 1 }
-    ensures { result ≡ place + 1 }
+/// The number of the line at an index. Indices count from 0, and numbers from 1.
+fn line_number(index: usize) -> usize
+    requires { index < usize.MAX }
+    ensures { result ≡ index + 1 }
 {
-    place + 1
+    index + 1
 }
 
 /// The first line of a text that has no value: its number, counted from 1, and why.

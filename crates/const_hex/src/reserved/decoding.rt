@@ -48,8 +48,14 @@ fn decode<K: Kernel>(digits: &[u8], output: ReservedOutput) -> Option<Vec<u8>>
     if digits.len() < 32 {
         return decode_few::<K>(digits, output);
     }
-    let output = put_front::<K>(digits, output)?;
-    let output = put_rest::<K>(digits, output)?;
+    // The rest stands in both branches: in the first the compiler knows that it has less than 16 bytes.
+    let output = if digits.len() < 64 {
+        let output = put_part::<16, K>(digits, output)?;
+        put_rest::<K>(digits, output)?
+    } else {
+        let output = put_front::<K>(digits, output)?;
+        put_rest::<K>(digits, output)?
+    };
     let ReservedOutput { bytes } = output;
     Some(bytes)
 }
@@ -95,11 +101,11 @@ fn put_zeros(output: ReservedOutput, count: usize) -> ReservedOutput
     output
 }
 
-/// Puts at least half of the bytes: 16, or 32, or 64 and again 64 while so many are left.
+/// Puts at least half of the bytes: 32, or 64 and again 64 while so many are left.
 #[inline(always)]
 fn put_front<K: Kernel>(digits: &[u8], output: ReservedOutput) -> Option<ReservedOutput>
     requires even { IsEven (length digits.now) }
-    requires least { 32 ≤ length digits.now }
+    requires least { 64 ≤ length digits.now }
     requires empty { output.bytes.items ≡ [] }
     requires front { HoldsFront digits.now output }
     ensures front { IfSome result (HoldsFront digits.now) }
@@ -107,9 +113,6 @@ fn put_front<K: Kernel>(digits: &[u8], output: ReservedOutput) -> Option<Reserve
     ensures few { IfSome result (λ o. length digits.now < 2 * vec_len o.bytes + 128) }
     ensures none { IsNone result → AllDigits digits.now → ⊥ }
 {
-    if digits.len() < 64 {
-        return put_part::<16, K>(digits, output);
-    }
     if digits.len() < 128 {
         return put_part::<32, K>(digits, output);
     }

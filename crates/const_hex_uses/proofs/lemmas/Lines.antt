@@ -6,11 +6,11 @@ use Rattle.std.specs.List.{enumerate_from}
 use Rattle.const_hex.specs.Results.{Reads}
 use Rattle.const_hex.specs.declared.error.FromHexError.{FromHexError}
 use Rattle.const_hex.specs.declared.error.FromHexError.TheVariants.{NoMemory}
-use Rattle.const_hex_uses.specs.Lines.{HasFault, line_at, sign_place, value_text}
+use Rattle.const_hex_uses.specs.Lines.{HasFault, line_at, sign_index, value_text}
 use Rattle.const_hex_uses.specs.declared.settings.LineFault.{LineFault}
-use Rattle.const_hex_uses.specs.declared.settings.LineFault.TheVariants.{NoSign, Refused}
+use Rattle.const_hex_uses.specs.declared.settings.LineFault.TheVariants.{NoSign, Invalid}
 
--- the item at place i has the number i and the line at i
+-- the item at index i has the number i and the line at i
 pub item_at : (lines : List (List ℕ)) (i number : ℕ) (line : List ℕ)
     → (i < length (enumerate_from 0 lines)) × ((number, line) ≡ get_or (enumerate_from 0 lines) i (number, line))
     → (i < length lines) × (number ≡ i) × (line ≡ line_at lines i)
@@ -21,14 +21,14 @@ item_at lines i number line h =
 
 -- the fault of a line, from what is known of each line
 pub fault_of : (line : List ℕ) (fault : LineFault)
-    → (fault ≡ NoSign → sign_place line ≡ length line)
-    → ((start : ℕ) (e : FromHexError) → fault ≡ Refused start e → start ≡ sign_place line + 1)
-    → ((start : ℕ) (e : FromHexError) → fault ≡ Refused start e → e ≢ NoMemory → Reads (value_text line) (Err e))
+    → (fault ≡ NoSign → sign_index line ≡ length line)
+    → ((start : ℕ) (e : FromHexError) → fault ≡ Invalid start e → start ≡ sign_index line + 1)
+    → ((start : ℕ) (e : FromHexError) → fault ≡ Invalid start e → e ≢ NoMemory → Reads (value_text line) (Err e))
     → HasFault line fault
-fault_of line NoSign no_sign start refusal = no_sign refl
-fault_of line (Refused s e) no_sign start refusal = (start s e refl, refusal s e refl)
+fault_of line NoSign no_sign start error = no_sign refl
+fault_of line (Invalid s e) no_sign start error = (start s e refl, error s e refl)
 
--- what is true at each place of a list, and at its end, is true at each place of the list with one
+-- what is true at each index of a list, and at its end, is true at each index of the list with one
 -- more item
 pub one_more : {A : Type 0} (P : ℕ → Type 0) (xs : List A) (x : A)
     → ((k : ℕ) → k < length xs → P k) → P (length xs) → (k : ℕ) → k < length (xs ++ x ∷ []) → P k

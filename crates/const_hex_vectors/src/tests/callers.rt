@@ -2,6 +2,7 @@
 
 use crate::tests::buffers::lends;
 use crate::tests::sinks::has_pieces;
+use crate::tests::{same, same_bytes};
 use const_hex::{FromHex, FromHexError, JsonError, PieceSink, SliceOutput, bytes_of};
 use const_hex_uses::accounts::is_same_account;
 use const_hex_uses::addresses::{address_text, digest_text, empty_text, prefixed_digest_text};
@@ -9,13 +10,15 @@ use const_hex_uses::constants::{transfer, wrapped_ether};
 use const_hex_uses::files::{dump, write_line, write_text};
 use const_hex_uses::json_rpc::{code_of, code_request, explained, reason};
 use const_hex_uses::own_kernel::write_pieces;
-use const_hex_uses::readers::{read_both, read_shared, read_twice, replace_key};
+use const_hex_uses::readers::{read_both, read_salt, read_shared, read_twice, replace_key};
 use const_hex_uses::settings::{LineFault, first_fault};
 use const_hex_uses::sinks::{first_alone, packets, send, send_json};
 use const_hex_uses::store::{find, find_hash, put, put_hash};
+use const_hex_uses::streams::decode_typed;
 use const_hex_uses::writers::{array_text, joined_text, string_text, vector_text};
 use hash_hex::Hash32;
-use hex_testing::{Source, Testing, Text, same, same_bytes};
+use hex_testing::texts::bad;
+use hex_testing::{Source, Testing, Text};
 use serde_json::json;
 use std::alloc::AllocError;
 use std::boxed::BoxedSlice;
@@ -103,8 +106,11 @@ fn a_text_of_two_types(rt: HostRuntime) {
 
 #[test]
 fn replaced_keys(rt: HostRuntime) {
-    let rows: [(&[u8], Result<(), FromHexError>, u8); 4] = [
+    let mut wrong = [b'a'; 64];
+    wrong[40] = b'g';
+    let rows: [(&[u8], Result<(), FromHexError>, u8); 5] = [
         (&[b'a'; 64], Ok(()), 0xAA),
+        (&wrong, Err(bad(b'g', 40)), 0xEE),
         (b"6b6", Err(FromHexError::OddLength), 0xEE),
         (&[b'a'; 62], Err(FromHexError::InvalidStringLength), 0xEE),
         (&[b'a'; 66], Err(FromHexError::InvalidStringLength), 0xEE),
@@ -113,6 +119,35 @@ fn replaced_keys(rt: HostRuntime) {
         let mut key = [0xEE; 32];
         same!(&rt, "replace_key", Text(text); replace_key(&mut key, text), want);
         same_bytes!(&rt, "the key", Text(text); key, [byte; 32]);
+    }
+}
+
+#[test]
+fn salts(rt: HostRuntime) {
+    let rows: [(&[u8], Result<usize, FromHexError>); 5] = [
+        (b"0x6b69", Ok(2)),
+        (&[b'a'; 128], Ok(64)),
+        (&[b'a'; 130], Err(FromHexError::InvalidStringLength)),
+        (&[b'a'; 131], Err(FromHexError::OddLength)),
+        (b"0xzz", Err(bad(b'z', 2))),
+    ];
+    for (text, want) in rows {
+        same!(&rt, "read_salt", Text(text); read_salt(text, &mut [0; 64]), want);
+    }
+}
+
+#[test]
+fn typed_texts(rt: HostRuntime) {
+    let rows: [(&[u8], Result<usize, FromHexError>); 6] = [
+        (b"", Ok(0)),
+        (b"0x6b69", Ok(2)),
+        (b"0x6b6", Err(FromHexError::OddLength)),
+        (b"0x6bz", Err(bad(b'z', 4))),
+        (b"6b69z", Err(bad(b'z', 4))),
+        (b"zzzzzz", Err(FromHexError::InvalidStringLength)),
+    ];
+    for (text, want) in rows {
+        same!(&rt, "decode_typed", Text(text); decode_typed(text, &mut [0; 2]), want);
     }
 }
 

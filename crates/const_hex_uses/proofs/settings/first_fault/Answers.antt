@@ -24,7 +24,7 @@ returns-in-Err c =
     c.loop-number.yielded _ c.loop-number.yielded_by _ _ _ c.in-Some.is c.next.ensures.steps) in
     let fault = fault_of c.in-Some.line.now c.in-Err.fault (λ q. c.value_of.ensures.no_sign.0 (c.in-Err.is ∙ ap Err q))
     (λ s e q. c.value_of.ensures.start s e (c.in-Err.is ∙ ap Err q))
-    (λ s e q. c.value_of.ensures.refusal s e (c.in-Err.is ∙ ap Err q)) in (
+    (λ s e q. c.value_of.ensures.error s e (c.in-Err.is ∙ ap Err q)) in (
       length c.loop-number.yielded,
       item.0,
       c.line_number.ensures ∙ ap (λ n. n + 1) item.1,

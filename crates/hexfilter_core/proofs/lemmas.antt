@@ -1,0 +1,7 @@
+pub mod ChunkLines
+pub mod DecodedInputs
+pub mod Encoding
+pub mod InputTexts
+pub mod InvalidCharacters
+pub mod LineBreaks
+pub mod Arguments

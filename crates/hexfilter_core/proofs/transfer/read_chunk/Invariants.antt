@@ -1,0 +1,6 @@
+use Rattle.std.proofs.Common.{◌≡◌, length}
+use Rattle.std.specs.Io.KnownBytes.{Keeps}
+use Rattle.hexfilter_core.proofs.transfer.read_chunk.Given as goal
+
+abbrev pub invariant-reads : goal.invariant-reads
+invariant-reads g l = Keeps (g.R.Read.remaining l.initial.input) (g.R.Read.remaining l.input)

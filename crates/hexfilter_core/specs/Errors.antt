@@ -1,0 +1,45 @@
+-- The errors of a run, and their statuses.
+use Rattle.std.specs.Prelude.{◌≢◌, ℕ, IfErr, Result}
+use Rattle.std.specs.IoError.{error_kind}
+use Rattle.std.specs.declared.io.ErrorKind.TheVariants.{Interrupted}
+use Rattle.hexfilter_core.specs.declared.error.RunError.{RunError}
+use Rattle.hexfilter_core.specs.declared.error.RunError.TheVariants.{Text, Read, Write}
+
+-- the exit status of the program
+abbrev pub status_of : RunError → ℕ
+status_of (Text e) = 1
+status_of (Read e) = 3
+status_of (Write e) = 3
+
+-- a read failed, and no signal interrupted it
+abbrev pub IsFailedRead : RunError → Type 0
+IsFailedRead (Text e) = ⊥
+IsFailedRead (Read e) = error_kind e ≢ Interrupted
+IsFailedRead (Write e) = ⊥
+
+-- a write or a flush failed, and no signal interrupted it
+abbrev pub IsFailedWrite : RunError → Type 0
+IsFailedWrite (Text e) = ⊥
+IsFailedWrite (Read e) = ⊥
+IsFailedWrite (Write e) = error_kind e ≢ Interrupted
+
+-- no call failed because a signal interrupted it
+abbrev pub IsNotInterrupted : RunError → Type 0
+IsNotInterrupted (Text e) = Unit {0}
+IsNotInterrupted (Read e) = error_kind e ≢ Interrupted
+IsNotInterrupted (Write e) = error_kind e ≢ Interrupted
+
+-- a read, a write or a flush failed, and no signal interrupted it
+abbrev pub IsFailedCall : RunError → Type 0
+IsFailedCall (Text e) = ⊥
+IsFailedCall (Read e) = error_kind e ≢ Interrupted
+IsFailedCall (Write e) = error_kind e ≢ Interrupted
+
+abbrev pub IsReadError : {V : Type 0} → Result V RunError → Type 0
+IsReadError r = IfErr r IsFailedRead
+
+abbrev pub IsWriteError : {V : Type 0} → Result V RunError → Type 0
+IsWriteError r = IfErr r IsFailedWrite
+
+abbrev pub IsDeviceError : {V : Type 0} → Result V RunError → Type 0
+IsDeviceError r = IfErr r IsFailedCall

@@ -1,0 +1,7 @@
+pub mod Decoding
+pub mod Encoded
+pub mod Errors
+pub mod Inputs
+pub mod Lines
+pub mod Outcome
+pub mod Options

@@ -1,0 +1,27 @@
+-- What a run writes, and which texts it refuses.
+use Rattle.std.specs.Prelude.{◌≡◌, ℕ, List, [], ◌++◌, Option, Ok}
+use Rattle.const_hex.specs.Results.{Checks, Reads}
+use Rattle.const_hex.specs.declared.error.FromHexError.{FromHexError}
+use Rattle.hexfilter_core.specs.Encoded.{encoded}
+use Rattle.hexfilter_core.specs.Inputs.{Rejects, SpellsBeginning, text_of}
+use Rattle.hexfilter_core.specs.declared.mode.Mode.{Mode}
+use Rattle.hexfilter_core.specs.declared.mode.Mode.TheVariants.{Encode, Decode, Check}
+
+-- the mode makes the bytes y of the input x
+abbrev pub Makes : Mode → List ℕ → List ℕ → Type 0
+Makes (Encode prefix upper columns) x y = y ≡ encoded prefix upper columns x
+Makes (Decode ignores) x y = Reads (text_of ignores x) (Ok y)
+Makes (Check ignores) x y = Checks (text_of ignores x) (Ok tt) × (y ≡ [])
+
+-- y is a beginning of what the mode makes of the input x: for a text, what some of its first digits
+-- decode to
+abbrev pub MakesBeginning : Mode → List ℕ → List ℕ → Type 0
+MakesBeginning (Encode prefix upper columns) x y = (left : List ℕ) × (encoded prefix upper columns x ≡ y ++ left)
+MakesBeginning (Decode ignores) x y = SpellsBeginning ignores x y
+MakesBeginning (Check ignores) x y = y ≡ []
+
+-- the mode refuses the text of an input of which x was read
+abbrev pub Refuses : Mode → Option (List ℕ) → List ℕ → FromHexError → Type 0
+Refuses (Encode prefix upper columns) left x e = ⊥
+Refuses (Decode ignores) left x e = Rejects ignores left x e
+Refuses (Check ignores) left x e = Rejects ignores left x e

@@ -1,0 +1,51 @@
+//! From a reader's text to a writer's bytes.
+
+ghost use Rattle.std.specs.Prelude.{◌≡◌, List, ℕ, Ok, Err, OnOk, OnErr, IfErr};
+ghost use Rattle.std.specs.Io.KnownBytes.{Appends, Consumes};
+ghost use Rattle.const_hex.specs.Results.{Reads};
+ghost use Rattle.const_hex.specs.declared.error.FromHexError.{FromHexError};
+ghost use Rattle.hexfilter_core.specs.Errors.{IsNotInterrupted};
+ghost use Rattle.hexfilter_core.specs.Inputs.{ReadsAll, Rejects, SpellsBeginning, text_of};
+ghost use Rattle.hexfilter_core.specs.declared.error.RunError.TheVariants.{Text};
+
+use crate::error::RunError;
+use crate::line_decoder::LineDecoder;
+use crate::transfer::{flush, read_chunk, too_many_reads, write_piece};
+use std::io::{Read, Write};
+
+/// How many bytes are read at a time.
+const CHUNK: usize = 131_072;
+
+/// Writes the bytes that all of the reader's text decodes to, and flushes.
+pub(crate) fn decode_stream<R: Read, W: Write>(
+    ignore_newlines: bool,
+    input: &mut R,
+    output: &mut W,
+) -> Result<(), RunError>
+    ensures ok { OnOk result ((x : List ℕ) × (y : List ℕ)
+        × ReadsAll (R.remaining input.old) (R.remaining input.new) x
+        × Reads (text_of ignore_newlines x) (Ok y)
+        × Appends (W.contents output.old) (W.contents output.new) y) }
+    ensures text { (e : FromHexError) → result ≡ Err (Text e) → (x : List ℕ)
+        × Consumes (R.remaining input.old) (R.remaining input.new) x
+        × Rejects ignore_newlines (R.remaining input.new) x e }
+    ensures begun { OnErr result ((x : List ℕ) × (y : List ℕ)
+        × Consumes (R.remaining input.old) (R.remaining input.new) x
+        × SpellsBeginning ignore_newlines x y
+        × Appends (W.contents output.old) (W.contents output.new) y) }
+    ensures retried { IfErr result IsNotInterrupted }
+{
+    let mut text = [0; CHUNK];
+    let mut bytes = [0; CHUNK / 2];
+    let mut decoder = LineDecoder::new(ignore_newlines);
+    'chunks: for _ in 0..u64::MAX {
+        let count = read_chunk(input, &mut text)?;
+        if count == 0 {
+            decoder.finish()?;
+            return flush(output);
+        }
+        let decoded = decoder.decode(&text[..count], &mut bytes)?;
+        write_piece(output, &bytes[..decoded])?;
+    }
+    Err(too_many_reads())
+}

@@ -1,0 +1,33 @@
+//! What a run makes of its input.
+
+/// What a run makes of its input.
+///
+/// ```rust
+/// let mut output = Vec::new(rt.alloc());
+/// let mode = Mode::Encode { prefix: true, upper: false, columns: 4 };
+/// run(mode, &mut b"kiwi".as_slice(), &mut output)?;
+/// assert_eq!(rt; output.as_slice(), b"0x6b\n6977\n69\n".as_slice());
+/// ```
+#[derive(Clone, Copy, PartialEq, Eq, Debug)]
+pub enum Mode {
+    /// Two digits for each byte, and nothing else if the other fields are `false` and 0.
+    Encode {
+        /// Whether `0x` stands before the digits, also if there are none.
+        prefix: bool,
+        /// Whether the digits are in uppercase. The prefix stays `0x`.
+        upper: bool,
+        /// How many characters a line has, the prefix included. A newline follows each line, also
+        /// the last, which may be shorter. With 0 there are no lines and no newline.
+        columns: usize,
+    },
+    /// The bytes that the text decodes to.
+    Decode {
+        /// Whether the newlines of the input are left out before it is decoded.
+        ignore_newlines: bool,
+    },
+    /// Nothing. Only tests whether the text can be decoded.
+    Check {
+        /// Whether the newlines of the input are left out before it is tested.
+        ignore_newlines: bool,
+    },
+}
