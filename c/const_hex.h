@@ -198,7 +198,7 @@ size_t const_hex_error_message(const struct const_hex_error *error, char *messag
 
 /*
  * The buffer size that const_hex_encode needs, as a constant expression. Unlike const_hex_encoded_size it
- * tests neither for overflow nor for unknown flags, and has the type of bytes_length or int.
+ * tests neither for overflow nor for unknown flags, and its type follows that of bytes_length.
  */
 #define CONST_HEX_ENCODED_SIZE(bytes_length, flags)                                                   \
     (2 * (bytes_length) + (((flags) & CONST_HEX_PREFIX) ? 2 : 0) + (((flags) & CONST_HEX_NO_NUL) ? 0 : 1))
