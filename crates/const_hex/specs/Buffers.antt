@@ -1,6 +1,6 @@
 -- What buffers, slices and vectors hold after a write.
-use Rattle.std.specs.Prelude.{ℕ, ◌*◌, Bool, List, ◌++◌, replicate, ◌≡◌, Result, MatchResult, ◌+◌, ◌-◌, length, vec_len, vec_capacity}
-use Rattle.const_hex_arch.specs.Texts.{prefix_of, hex_text}
+use Rattle.std.specs.Prelude.{ℕ, ◌*◌, Bool, List, ◌++◌, replicate, ◌≡◌, Result, MatchResult, ◌+◌, ◌-◌, ◌≤◌, length, take, vec_len, vec_capacity}
+use Rattle.const_hex_arch.specs.Texts.{prefix_of, hex_text, Spells}
 use Rattle.const_hex.specs.declared.buffer.Buffer.{Buffer}
 use Rattle.std.specs.Borrow.{Fml, MutBor, RattleType, Array, u8}
 use Rattle.std.specs.Io.BufRead.{Rests}
@@ -32,7 +32,7 @@ EndsEncoded up bytes slice result =
     Rests (Array u8 0) slice
     (λ new. MatchResult result (λ _. new ≡ hex_text up bytes) (λ _. new ≡ slice.now))
 
--- ---- a write to a vector that has room
+-- ---- writes to a vector that has room, and decoding into one
 
 -- the capacity that is left
 abbrev pub spare_room : ReservedOutput → ℕ
@@ -43,3 +43,9 @@ pub record ReservedStep (s : ReservedOutput) (piece : List ℕ) (t : ReservedOut
   pub room : vec_capacity t.bytes ≡ vec_capacity s.bytes
   pub count : vec_len t.bytes ≡ vec_len s.bytes + length piece
   pub text : t.bytes.items ≡ s.bytes.items ++ piece
+
+-- the vector holds the bytes that a front of the digits spells, and has room for the rest
+pub record HoldsFront (digits : List ℕ) (o : ReservedOutput) : Type 0 where
+  pub front : Spells (take (2 * vec_len o.bytes) digits) o.bytes.items
+  pub within : 2 * vec_len o.bytes ≤ length digits
+  pub fits : length digits ≤ 2 * vec_capacity o.bytes

@@ -1,6 +1,6 @@
 -- A text that a decoder reads in pieces.
-use Rattle.std.specs.Prelude.{◌≡◌, ℕ, ◌+◌, ◌-◌, ◌/◌, ◌^◌, ◌≤◌, ◌<◌, ◌==◌, nat_le, min, if◌then◌else◌, List, [], ◌∷◌, ◌++◌, length, Option, Some, None, Result, Ok, Err}
-use Rattle.const_hex_arch.specs.Texts.{AllDigits, Spells}
+use Rattle.std.specs.Prelude.{◌≡◌, ℕ, ◌+◌, ◌-◌, ◌/◌, ◌^◌, ◌≤◌, ◌<◌, ◌==◌, nat_le, min, if◌then◌else◌, List, [], ◌∷◌, ◌++◌, length, Option, Some, None, Result, Ok, Err, ◌*◌, ◌≢◌, take, drop, IfOk, IfErr, IfSome}
+use Rattle.const_hex_arch.specs.Texts.{AllDigits, Partial, Spells}
 use Rattle.const_hex.specs.Results.{body_of, NamesFirstBad}
 use Rattle.const_hex.specs.declared.codec.decoder.Decoder.{Decoder}
 use Rattle.const_hex.specs.declared.error.FromHexError.{FromHexError}
@@ -59,3 +59,19 @@ ReadsOn t bs n (Err InvalidStringLength) = length bs + n < length (body_of t) / 
 ReadsOn t bs n (Err (InvalidHexCharacter c i)) =
     (length (body_of t) / 2 ≤ length bs + n) × NamesCounted t (InvalidHexCharacter c i)
 ReadsOn t bs n (Err NoMemory) = ⊥
+
+-- `Decoder::decode`: the decoder `before` reads the chunk into an output that held `old`, with this
+-- result, which is the number of new bytes; t is what was read so far, and bs the bytes given for it
+pub record DecodesChunk (before : Decoder) (chunk old new : List ℕ) (after : Decoder) (r : Result ℕ FromHexError) : Type 0 where
+  pub ok : (t bs : List ℕ) → HasRead before t bs → IfOk r (λ n. HasRead after (t ++ chunk) (bs ++ take n new))
+  pub answer : (t bs : List ℕ) → HasRead before t bs → ReadsOn (t ++ chunk) bs (length old) r
+  pub within : IfOk r (λ n. n ≤ length old)
+  pub most : IfOk r (λ n. n ≤ (length chunk + 1) / 2)
+  pub enough : (length chunk + 1) / 2 ≤ length old → r ≢ Err InvalidStringLength
+  pub rest : IfOk r (λ n. drop n new ≡ drop n old)
+  pub unchanged : r ≡ Err InvalidStringLength → (after ≡ before) × (new ≡ old)
+  pub after_error : (t bs : List ℕ) → HasRead before t bs
+      → IfErr r (λ e. e ≢ InvalidStringLength → Partial old (drop (2 * length bs) (body_of (t ++ chunk))) new)
+  -- the decoder keeps the error of an invalid character, and returns it again
+  pub ended : IfErr r (λ e. e ≢ InvalidStringLength → error_of after ≡ Some e)
+  pub refused : IfSome (error_of before) (λ e. (r ≡ Err e) × (after ≡ before) × (new ≡ old))

@@ -1,6 +1,6 @@
 -- What is returned for a text: its prefix, the bytes or the error, and the error's message.
-use Rattle.std.specs.Prelude.{◌≡◌, ℕ, ◌+◌, ◌-◌, ◌==◌, nat_le, ◌&&◌, ◌||◌, if◌then◌else◌, List, [], ◌∷◌, length, map, slice_index, ◌*◌, ◌%◌, ◌≢◌, ◌<◌, ◌≤◌, Bool, Result, Ok, Err, Option, Some, None, codes}
-use Rattle.const_hex_arch.specs.Texts.{FirstBad, hex_value, Spells, Partial}
+use Rattle.std.specs.Prelude.{◌≡◌, ℕ, ◌+◌, ◌-◌, ◌==◌, nat_le, ◌&&◌, ◌||◌, if◌then◌else◌, List, [], ◌∷◌, length, map, slice_index, ◌*◌, ◌%◌, ◌≢◌, ◌<◌, ◌≤◌, Bool, Result, Ok, Err, Option, Some, None, codes, ◌++◌, ◌↔◌, true, false, String, string_bytes, take, drop, IfOk, IfErr, OnOk, OnErr, IsOk, IsTrue, MatchResult}
+use Rattle.const_hex_arch.specs.Texts.{FirstBad, hex_value, Spells, Partial, hex_text, full_text}
 use Rattle.const_hex.specs.declared.error.FromHexError.{FromHexError}
 use Rattle.const_hex.specs.declared.error.FromHexError.TheVariants.{OddLength, InvalidStringLength, InvalidHexCharacter, NoMemory}
 use Rattle.std.specs.List.{list_all}
@@ -95,3 +95,67 @@ message_of OddLength = Some (codes "odd number of digits")
 message_of InvalidStringLength = Some (codes "invalid string length")
 message_of (InvalidHexCharacter c i) = None
 message_of NoMemory = Some (codes "out of memory")
+
+-- ---- what the calls of the codec promise, once for each call and those that differ by a kernel alone
+
+-- `encode`: the text is two digits for each byte
+pub record Encodes {A E : Type 0} (up : Bool) (bs : List ℕ) (r : Result (String A) E) : Type 0 where
+  pub text : IfOk r (λ s. string_bytes s ≡ hex_text up bs)
+  -- the text of xs and then ys is the text of xs, and then the text of ys
+  pub append : (xs ys : List ℕ) → bs ≡ xs ++ ys → IfOk r (λ s. string_bytes s ≡ hex_text up xs ++ hex_text up ys)
+
+-- `encode_to_slice`: the output holds the text if it has exactly its length, and else is unchanged
+pub record EncodesToSlice (length_of_text : ℕ) (text_of_bytes old new : List ℕ) (r : Result Unit FromHexError) : Type 0 where
+  pub fits : IsOk r ↔ (length old ≡ length_of_text)
+  pub text : OnOk r (new ≡ text_of_bytes)
+  pub error : OnErr r (r ≡ Err InvalidStringLength)
+  pub unchanged : OnErr r (new ≡ old)
+
+-- `decode`: the result for the text t, or out of memory for an even length
+pub record Decodes {V : Type 0} (items : V → List ℕ) (t : List ℕ) (r : Result V FromHexError) : Type 0 where
+  pub ok : IfOk r (λ v. Reads t (Ok (items v)))
+  pub err : IfErr r (λ e. e ≢ NoMemory → Reads t (Err e))
+  pub odd : (r ≡ Err OddLength) ↔ IsOdd (length t)
+  -- what was encoded is decoded to the same bytes
+  pub round_trip : (prefix up : Bool) (bs : List ℕ) → AreBytes bs → t ≡ full_text prefix up bs
+      → MatchResult r (λ v. items v ≡ bs) (λ e. e ≡ NoMemory)
+  -- the text of the bytes is the body in lowercase
+  pub canonical : IfOk r (λ v. hex_text false (items v) ≡ lowered (body_of t))
+  -- another text gives the same bytes if and only if the two bodies differ only in case
+  pub agree : (u bs : List ℕ) → Reads u (Ok bs) → IfOk r (λ v. (bs ≡ items v) ↔ (lowered (body_of u) ≡ lowered (body_of t)))
+
+-- `decode_to_slice`: the result for the text t and an output of exactly its bytes, and what the output
+-- holds; if the kernel checks a text first, every error leaves it unchanged
+pub record DecodesToSlice (checks_first : Bool) (t old new : List ℕ) (r : Result Unit FromHexError) : Type 0 where
+  pub ok : IfOk r (λ _. ReadsSized t (length old) (Ok new))
+  pub err : IfErr r (λ e. ReadsSized t (length old) (Err e))
+  pub after_error : IfErr r (λ e. Leaves t old new e)
+  pub unchanged : checks_first ≡ true → OnErr r (new ≡ old)
+
+-- `decode_to_front`: the result for the text t and an output that may be larger, the number of bytes,
+-- and what the output holds
+pub record DecodesToFront (t old new : List ℕ) (r : Result ℕ FromHexError) : Type 0 where
+  pub ok : IfOk r (λ n. ReadsWithin t (length old) (Ok (take n new)))
+  pub count : IfOk r (λ n. length (body_of t) ≡ 2 * n)
+  pub rest : IfOk r (λ n. drop n new ≡ drop n old)
+  pub err : IfErr r (λ e. ReadsWithin t (length old) (Err e))
+  pub after_error : IfErr r (λ e. Leaves t old new e)
+
+-- `decode_to_array`: the result for the text t and n bytes
+pub record DecodesToArray (n : ℕ) (t : List ℕ) (r : Result (List ℕ) FromHexError) : Type 0 where
+  pub answer : ReadsSized t n r
+  -- for a constant text this computes, so the check proves an `unwrap`
+  pub accepts : IsOk r ↔ IsTrue (is_text_of n t)
+  -- what was encoded of n bytes is decoded to the same bytes
+  pub round_trip : (prefix up : Bool) (bs : List ℕ) → AreBytes bs → length bs ≡ n → t ≡ full_text prefix up bs → r ≡ Ok bs
+  -- another text gives the same bytes if and only if the two bodies differ only in case
+  pub agree : (u bs : List ℕ) → ReadsSized u n (Ok bs) → IfOk r (λ v. (bs ≡ v) ↔ (lowered (body_of u) ≡ lowered (body_of t)))
+  -- this is the only result that meets `ReadsSized`
+  pub unique : (s : Result (List ℕ) FromHexError) → ReadsSized t n s → s ≡ r
+
+-- `check`: the result for the text t
+pub record ChecksText (t : List ℕ) (r : Result Unit FromHexError) : Type 0 where
+  pub answer : Checks t r
+  pub accepts : IsOk r ↔ ((bs : List ℕ) × Reads t (Ok bs))
+  -- this is the only result that meets `Checks`
+  pub unique : (s : Result Unit FromHexError) → Checks t s → s ≡ r

@@ -11,6 +11,7 @@ mod hosts;
 mod kernels;
 mod lanes;
 mod long;
+mod owned;
 mod pieces;
 mod printed;
 mod runs;

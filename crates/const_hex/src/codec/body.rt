@@ -68,11 +68,13 @@ pub(crate) fn first_bad(digits: &[u8]) -> (u8, usize)
     ensures byte { result.0 ≡ slice_index digits.now result.1 }
     ensures within { result.1 ≤ length digits.now }
 {
-    'digits: for place in 0..digits.len() {
-        let byte = digits[place];
+    let mut index = 0;
+    'digits: while index < digits.len() {
+        let byte = digits[index];
         if value_at(byte) == NIL {
-            return (byte, place);
+            return (byte, index);
         }
+        index += 1;
     }
     (0, digits.len())
 }

@@ -1,8 +1,8 @@
 //! Whether a text can be decoded.
 
-ghost use Rattle.std.specs.Prelude.{◌≡◌, ℕ, List, ◌↔◌, Result, Ok, IsOk, IsTrue};
+ghost use Rattle.std.specs.Prelude.{◌↔◌, Result, Ok, IsTrue};
 ghost use Rattle.const_hex_arch.specs.Texts.{AllDigits};
-ghost use Rattle.const_hex.specs.Results.{Reads, Checks};
+ghost use Rattle.const_hex.specs.Results.{ChecksText};
 ghost use Rattle.const_hex.specs.declared.error.FromHexError.{FromHexError};
 
 use crate::codec::body::{bad_character, even_body};
@@ -21,8 +21,7 @@ use const_hex_arch::{FixedKernel, Kernel};
 /// ```
 #[inline]
 pub fn check(input: &[u8]) -> Result<(), FromHexError>
-    ensures answer { Checks input.now result }
-    ensures accepts { IsOk result ↔ ((bs : List ℕ) × Reads input.now (Ok bs)) }
+    ensures { ChecksText input.now result }
 {
     check_with::<FixedKernel>(input)
 }
@@ -35,8 +34,7 @@ pub fn check(input: &[u8]) -> Result<(), FromHexError>
 #[inline]
 #[tactic(auto, using(crate::proofs::lemmas::Reading::checked))]
 pub fn check_with<K: Kernel>(input: &[u8]) -> Result<(), FromHexError>
-    ensures answer { Checks input.now result }
-    ensures accepts { IsOk result ↔ ((bs : List ℕ) × Reads input.now (Ok bs)) }
+    ensures { ChecksText input.now result }
 {
     if K::check(even_body(input)?) {
         Ok(())
@@ -53,10 +51,7 @@ pub fn check_with<K: Kernel>(input: &[u8]) -> Result<(), FromHexError>
 /// ```
 #[inline]
 pub fn const_check(input: &[u8]) -> Result<(), FromHexError>
-    ensures answer { Checks input.now result }
-    ensures accepts { IsOk result ↔ ((bs : List ℕ) × Reads input.now (Ok bs)) }
-    // This is the only answer that meets `Checks`.
-    ensures unique { (r : Result Unit FromHexError) → Checks input.now r → r ≡ result }
+    ensures { ChecksText input.now result }
 {
     check(input)
 }

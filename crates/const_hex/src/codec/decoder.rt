@@ -1,9 +1,9 @@
 //! From a text in pieces to bytes.
 
-ghost use Rattle.std.specs.Prelude.{◌≡◌, ◌≢◌, ℕ, List, [], ◌∷◌, None, ◌++◌, ◌*◌, ◌+◌, ◌/◌, ◌%◌, ◌≤◌, ◌↔◌, Some, Ok, Err, true, false, length, take, drop, slice_index, IsOk, IfOk, IfErr, OnErr, IfSome, IsTrue};
+ghost use Rattle.std.specs.Prelude.{◌≡◌, ◌≢◌, ℕ, List, [], ◌∷◌, None, ◌++◌, ◌*◌, ◌+◌, ◌/◌, ◌%◌, ◌≤◌, ◌↔◌, Some, Ok, Err, true, false, length, take, drop, slice_index, IsOk, OnErr, IfSome, IsTrue};
 ghost use Rattle.const_hex_arch.specs.Texts.{AllDigits, FirstBad, Partial, Spells};
 ghost use Rattle.const_hex.specs.Results.{IsOdd, Reads, body_of};
-ghost use Rattle.const_hex.specs.Decoding.{HasRead, ReadsOn, counted, error_of, listed, place_of, waiting_digit, zero_decoder};
+ghost use Rattle.const_hex.specs.Decoding.{HasRead, counted, error_of, listed, place_of, waiting_digit, zero_decoder, DecodesChunk};
 ghost use Rattle.const_hex.specs.declared.error.FromHexError.{FromHexError};
 ghost use Rattle.const_hex.specs.declared.error.FromHexError.TheVariants.{OddLength, InvalidStringLength, InvalidHexCharacter};
 
@@ -91,24 +91,7 @@ impl Decoder {
     /// ```
     #[inline]
     pub fn decode(&mut self, piece: &[u8], output: &mut [u8]) -> Result<usize, FromHexError>
-        // `t` was read so far, and the bytes `bs` were given.
-        ensures ok { (t bs : List ℕ) → HasRead self.old t bs
-            → IfOk result (λ n. HasRead self.new (t ++ piece.now) (bs ++ take n output.new)) }
-        ensures answer { (t bs : List ℕ) → HasRead self.old t bs
-            → ReadsOn (t ++ piece.now) bs (length output.old) result }
-        ensures within { IfOk result (λ n. n ≤ length output.old) }
-        ensures most { IfOk result (λ n. n ≤ (length piece.now + 1) / 2) }
-        ensures enough { (length piece.now + 1) / 2 ≤ length output.old
-            → result ≢ Err InvalidStringLength }
-        ensures rest { IfOk result (λ n. drop n output.new ≡ drop n output.old) }
-        ensures unchanged { result ≡ Err InvalidStringLength
-            → (self.new ≡ self.old) × (output.new ≡ output.old) }
-        ensures after_error { (t bs : List ℕ) → HasRead self.old t bs
-            → IfErr result (λ e. e ≢ InvalidStringLength → Partial output.old
-            (drop (2 * length bs) (body_of (t ++ piece.now))) output.new) }
-        ensures ended { IfErr result (λ e. e ≢ InvalidStringLength → error_of self.new ≡ Some e) }
-        ensures refused { IfSome (error_of self.old) (λ e.
-            (result ≡ Err e) × (self.new ≡ self.old) × (output.new ≡ output.old)) }
+        ensures { DecodesChunk self.old piece.now output.old output.new self.new result }
     {
         self.decode_with::<FixedKernel>(piece, output)
     }
@@ -127,24 +110,7 @@ impl Decoder {
         piece: &[u8],
         output: &mut [u8],
     ) -> Result<usize, FromHexError>
-        // `t` was read so far, and the bytes `bs` were given.
-        ensures ok { (t bs : List ℕ) → HasRead self.old t bs
-            → IfOk result (λ n. HasRead self.new (t ++ piece.now) (bs ++ take n output.new)) }
-        ensures answer { (t bs : List ℕ) → HasRead self.old t bs
-            → ReadsOn (t ++ piece.now) bs (length output.old) result }
-        ensures within { IfOk result (λ n. n ≤ length output.old) }
-        ensures most { IfOk result (λ n. n ≤ (length piece.now + 1) / 2) }
-        ensures enough { (length piece.now + 1) / 2 ≤ length output.old
-            → result ≢ Err InvalidStringLength }
-        ensures rest { IfOk result (λ n. drop n output.new ≡ drop n output.old) }
-        ensures unchanged { result ≡ Err InvalidStringLength
-            → (self.new ≡ self.old) × (output.new ≡ output.old) }
-        ensures after_error { (t bs : List ℕ) → HasRead self.old t bs
-            → IfErr result (λ e. e ≢ InvalidStringLength → Partial output.old
-            (drop (2 * length bs) (body_of (t ++ piece.now))) output.new) }
-        ensures ended { IfErr result (λ e. e ≢ InvalidStringLength → error_of self.new ≡ Some e) }
-        ensures refused { IfSome (error_of self.old) (λ e.
-            (result ≡ Err e) × (self.new ≡ self.old) × (output.new ≡ output.old)) }
+        ensures { DecodesChunk self.old piece.now output.old output.new self.new result }
     {
         if let Some(error) = self.error() {
             return Err(error);
@@ -342,11 +308,13 @@ fn decode_behind<K: Kernel>(high: u8, digits: &[u8], output: &mut [u8]) -> bool
         → Spells (take (2 * length output.old) (high ∷ digits.now)) output.new }
     ensures refused { result ≡ false → Partial output.old (high ∷ digits.now) output.new }
 {
-    let [low, rest @ ..] = digits else {
-        return true;
-    };
-    let (first, others) = output.split_at_mut(1);
-    decode_body::<K>(&[high, *low], first) && decode_digits::<K>(rest, others)
+    match digits {
+        [low, rest @ ..] => {
+            let (first, others) = output.split_at_mut(1);
+            decode_body::<K>(&[high, *low], first) && decode_digits::<K>(rest, others)
+        }
+        [] => true,
+    }
 }
 
 /// Fills the output with the bytes that the digits spell, and returns true. A last digit without

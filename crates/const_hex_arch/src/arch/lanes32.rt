@@ -125,6 +125,11 @@ impl Kernel for Lanes32 {
     }
 
     #[inline(always)]
+    fn decode_part(input: &[u8], start: usize, output: &mut [u8]) -> bool {
+        steps::decode_part::<32, Lanes32, Lanes16>(input, start, output)
+    }
+
+    #[inline(always)]
     fn decode_unchecked(input: &[u8], output: &mut [u8]) {
         steps::decode_unchecked::<32, Lanes32, Lanes16>(input, output);
     }

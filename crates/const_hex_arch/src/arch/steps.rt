@@ -202,6 +202,47 @@ pub(crate) fn decode_checked<const N: usize, V: Vectors<N>, W: Vectors<16>>(
     short::decode::<W>(&input[2 * at..], &mut output[at..])
 }
 
+/// Decodes two steps, one step or 16 bytes by one test. A part of any other size goes the way of a
+/// whole text.
+#[inline(always)]
+pub(crate) fn decode_part<const N: usize, V: Vectors<N>, W: Vectors<16>>(
+    input: &[u8],
+    start: usize,
+    output: &mut [u8],
+) -> bool
+    requires { 2 * (start + length output.old) ≤ length input.now }
+    ensures spells { IsTrue result
+        → Spells (take (2 * length output.old) (drop (2 * start) input.now)) output.new }
+    ensures refused { result ≡ false → AllDigits input.now → ⊥ }
+{
+    let end = start + output.len();
+    let text = &input[2 * start..2 * end];
+    if output.len() == 2 * N {
+        let twin = input.len() / 128 % 2 == 1;
+        decode_two_steps::<N, V>(text, output, twin)
+    } else if output.len() == N {
+        decode_step::<N, V>(text, output, false)
+    } else if output.len() == 16 {
+        decode_step::<16, W>(text, output, false)
+    } else {
+        decode_any_part::<N, V, W>(text, output)
+    }
+}
+
+/// As `decode_checked`.
+// A call of its own: with its body, `decode_part` would be too large to be inlined.
+#[inline(never)]
+fn decode_any_part<const N: usize, V: Vectors<N>, W: Vectors<16>>(
+    text: &[u8],
+    output: &mut [u8],
+) -> bool
+    requires { length text.now ≡ 2 * length output.old }
+    ensures spells { IsTrue result → Spells text.now output.new }
+    ensures refused { result ≡ false → Partial output.old text.now output.new }
+{
+    decode_checked::<N, V, W>(text, output)
+}
+
 /// Decodes digits in steps, and then by the last 16 bytes, some of them again. A text of less than 16
 /// bytes is left to `short::decode`.
 #[inline(always)]
