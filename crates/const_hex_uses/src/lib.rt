@@ -1,6 +1,6 @@
 //! Small, whole callers of `const_hex`, each with the contract that its users would want.
 //!
-//! Most have no proof of their own: the codec's clauses are enough.
+//! Most have no proof by hand: the clauses of the codec are enough.
 #![tactic(auto)]
 
 pub mod accounts;
