@@ -32,7 +32,8 @@
  *  - A function that returns bool returns true on success. If it has a parameter error, it stores the
  *    reason of a failure in *error, which is unchanged on success. Pass NULL if you do not need the reason.
  *  - Hexadecimal text is two digits per byte, in uppercase, lowercase or both. It may begin with "0x" or
- *    "0X". Anything else, including whitespace and a newline at the end, is an error.
+ *    "0X". An empty text and a prefix alone are valid, and decode to 0 bytes. Anything else, including
+ *    whitespace and a newline at the end, is an error.
  *  - Encoded text ends with a NUL terminator, unless CONST_HEX_NO_NUL is passed. Text that is decoded or
  *    checked needs none: for a string, pass strlen(text).
  *  - A parameter named ..._size is the capacity of a buffer. One named ..._length is the exact number of
@@ -41,16 +42,18 @@
  *
  * REQUIREMENTS
  *
- * The functions cannot check the following. Otherwise the behavior is undefined:
+ * The caller must ensure the following, which the functions cannot check. If it does not hold, the behavior
+ * is undefined:
  *
- *  - A buffer has at least the size or length that is passed with it. It may be NULL if that is 0. A buffer
- *    may have any alignment; an object (*written, *error, *decoder) is aligned for its type.
+ *  - A buffer or text has at least the size or length that is passed with it. It may be NULL if that is 0,
+ *    and may have any alignment; an object (*written, *error, *decoder) is aligned for its type.
  *  - A buffer or object that a function writes (text, bytes, message, *written, *error, *decoder) does not
  *    overlap any other argument. In particular, text cannot be decoded in place.
  *  - written, decoder, and the error that is passed to const_hex_error_message are not NULL.
  *  - No other thread writes an argument while the function runs, and none reads what the function writes.
- *    If the text is changed all the same, as by another process that shares the memory, the function still
- *    returns and writes only where it may, but the result is unspecified. This is tested and not verified.
+ *    An exception: if something else changes the text meanwhile, such as a process that shares the memory,
+ *    the function still returns and writes only where it may, but the result is unspecified. This is tested
+ *    and not verified.
  *
  * FORMAL VERIFICATION
  *
@@ -99,8 +102,8 @@
 #define CONST_HEX_VERSION 10000
 
 /*
- * The compiler warns if a result is ignored, if NULL is passed where it is not allowed, and if a buffer is
- * smaller than the size that is passed with it.
+ * The compiler warns if a result is ignored, and if NULL is passed where it is not allowed. GCC also warns
+ * if it sees that a buffer is smaller than the size that is passed with it.
  */
 #if defined(__has_attribute)
 #if __has_attribute(warn_unused_result)
@@ -131,9 +134,12 @@ extern "C" {
 
 /* ---- Errors ---- */
 
-/* Error kinds, in the order in which they are checked. */
+/*
+ * Error kinds, in the order in which they are checked. A decoder differs: it checks for an odd number of
+ * characters at the end, and after an invalid character it only repeats its error.
+ */
 enum const_hex_error_kind {
-    /* The text has an odd number of characters, counting the prefix. */
+    /* The text has an odd number of characters. */
     CONST_HEX_ODD_LENGTH = 1,
     /* The text decodes to more bytes than fit into the buffer, or not to the number of bytes required. */
     CONST_HEX_INVALID_LENGTH = 2,
@@ -159,8 +165,14 @@ struct const_hex_error {
 #define CONST_HEX_MESSAGE_SIZE 64
 
 /*
- * Writes a message that describes *error, such as "odd number of digits", and a NUL terminator to message.
- * A message that does not fit is truncated; CONST_HEX_MESSAGE_SIZE bytes are always enough.
+ * Writes a message that describes *error, and a NUL terminator, to message. The messages are
+ *
+ *     odd number of digits
+ *     invalid string length
+ *     invalid character 'z' at position 5
+ *
+ * A message that does not fit is truncated, perhaps within a UTF-8 character, and still ends with a NUL.
+ * CONST_HEX_MESSAGE_SIZE bytes are always enough.
  *
  * Returns the number of bytes written, without the NUL. If message_size is 0, nothing is written and the
  * result is 0. If *error was not set by a function of this library, the message may be empty.
@@ -169,9 +181,9 @@ struct const_hex_error {
  *     const_hex_error_message(&error, message, sizeof message);
  *     fprintf(stderr, "%s\n", message);
  *
- * An invalid character is shown in single quotes, as in "invalid character 'z' at position 5". Control
- * characters, a single quote and a backslash are escaped: '\n', '\'', '\\', '\u{80}'. A byte above 127 is
- * shown as the Unicode character with that number, in UTF-8.
+ * A single quote, a backslash, NUL, tab, newline and carriage return are shown as '\'', '\\', '\0', '\t',
+ * '\n' and '\r'. Other control characters, a no-break space (0xa0) and a soft hyphen (0xad) are shown by their
+ * number, as in '\u{1b}'. Any other byte above 127 is shown as the Unicode character with that number, in UTF-8.
  */
 CONST_HEX_NONNULL(1)
 CONST_HEX_WRITES(2, 3)
@@ -184,7 +196,10 @@ size_t const_hex_error_message(const struct const_hex_error *error, char *messag
 #define CONST_HEX_PREFIX 2u /* "0x" before the digits, also with CONST_HEX_UPPER */
 #define CONST_HEX_NO_NUL 4u /* no NUL terminator, as for a field of fixed length in a packet or a file */
 
-/* The buffer size that const_hex_encode needs, as a constant expression. */
+/*
+ * The buffer size that const_hex_encode needs, as a constant expression. Unlike const_hex_encoded_size it
+ * tests neither for overflow nor for unknown flags, and its type follows that of bytes_length.
+ */
 #define CONST_HEX_ENCODED_SIZE(bytes_length, flags)                                                   \
     (2 * (bytes_length) + (((flags) & CONST_HEX_PREFIX) ? 2 : 0) + (((flags) & CONST_HEX_NO_NUL) ? 0 : 1))
 
@@ -208,8 +223,8 @@ size_t const_hex_encoded_size(size_t bytes_length, unsigned flags);
  *   flags                0, or any of CONST_HEX_UPPER, CONST_HEX_PREFIX and CONST_HEX_NO_NUL
  *
  * Returns true on success. Returns false if text_size is smaller than const_hex_encoded_size(bytes_length,
- * flags), or flags has an unknown bit. Then text is the empty string: text[0] is set to 0, if text_size is
- * not 0 and CONST_HEX_NO_NUL is not passed, and the rest of the buffer is unchanged.
+ * flags), or flags has an unknown bit. Then the buffer is unchanged, but its first byte is set to 0, so that
+ * it holds the empty string, if it has one and CONST_HEX_NO_NUL is not passed.
  *
  *     char text[65];
  *     if (const_hex_encode(hash, 32, text, sizeof text, 0)) ...
@@ -254,8 +269,9 @@ bool const_hex_decode(const char *text, size_t text_length, void *bytes, size_t 
                       struct const_hex_error *error);
 
 /*
- * Like const_hex_decode, but the text must decode to exactly bytes_length bytes. Otherwise the error is
- * CONST_HEX_INVALID_LENGTH, and bytes is unchanged.
+ * Like const_hex_decode, but the text must decode to exactly bytes_length bytes: for any other even length
+ * the error is CONST_HEX_INVALID_LENGTH. After CONST_HEX_INVALID_CHARACTER bytes before the invalid character
+ * may already have been decoded; after the other errors bytes is unchanged.
  *
  *     unsigned char key[32];
  *     if (!const_hex_decode_exact(text, strlen(text), key, sizeof key, &error)) ...
@@ -280,7 +296,8 @@ struct const_hex_decoder {
 
 /*
  * Decodes the next chunk of a text. The text may be split anywhere, even between the two digits of a byte
- * or within the prefix, and a chunk may be empty. A prefix is accepted only at the start of the whole text.
+ * or within the prefix, and a chunk may be empty. A prefix is accepted only at the start of the whole text. A
+ * byte is written when its second digit arrives.
  *
  *   decoder            the decoder
  *   text, text_length  the next chunk
@@ -288,20 +305,23 @@ struct const_hex_decoder {
  *   written            receives the number of newly decoded bytes, or 0 on failure; must not be NULL
  *   error              receives the reason of a failure; may be NULL
  *
- * Returns true on success. Returns false on failure:
+ * Returns true on success. Bytes of the buffer after the decoded ones are unchanged. Returns false on
+ * failure:
  *
  *   CONST_HEX_INVALID_LENGTH     the newly decoded bytes do not fit. decoder and bytes are unchanged: call
- *                                again with a larger buffer, or with a part of the chunk
+ *                                again with a larger buffer, or with a part of the chunk. This is checked
+ *                                before the characters are
  *   CONST_HEX_INVALID_CHARACTER  index is the position in the whole text, or SIZE_MAX if it is greater.
- *                                Bytes before the invalid character may already have been decoded.
- *                                Every later call with this decoder fails with the same error
+ *                                Bytes before the invalid character may already have been decoded; the
+ *                                rest of the buffer is unchanged. Every later call with this decoder fails
+ *                                with the same error
  *
  *     while ((length = fread(text, 1, sizeof text, file)) > 0) {
  *         if (!const_hex_decoder_update(&decoder, text, length, bytes, sizeof bytes, &written, &error))
  *             return false;
  *         fwrite(bytes, 1, written, stdout);
  *     }
- *     return const_hex_decoder_finish(&decoder, &error);
+ *     return !ferror(file) && const_hex_decoder_finish(&decoder, &error);
  */
 CONST_HEX_NODISCARD
 CONST_HEX_NONNULL(1)

@@ -46,7 +46,6 @@ static void messages(void) {
         {{CONST_HEX_INVALID_CHARACTER, 0x80, SIZE_MAX}, "invalid character '\\u{80}' at position 18446744073709551615"},
         {{0, 0, 0}, ""},
         {{5, 0, 0}, ""},
-        {{CONST_HEX_INVALID_CHARACTER, 0xFFFFFFFF, 0}, ""},
     };
     for (size_t row = 0; row < sizeof rows / sizeof *rows; row++) {
         for (size_t size = 0; size <= CONST_HEX_MESSAGE_SIZE; size++) {

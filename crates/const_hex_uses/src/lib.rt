@@ -11,7 +11,6 @@ pub mod files;
 pub mod json_rpc;
 pub mod own_kernel;
 pub mod readers;
-pub mod settings;
 pub mod sinks;
 pub mod store;
 pub mod streams;

@@ -9,7 +9,7 @@ ghost use Rattle.consthex_modes.specs.Program.{status_of, Answers};
 ghost use Rattle.consthex_modes.specs.declared.error.RunError.TheVariants.{Text};
 ghost use Rattle.consthex_modes.specs.declared.mode.Mode.{Mode};
 
-use crate::arguments::arguments;
+use crate::arguments::read_arguments;
 use crate::error::RunError;
 use crate::mode::{USAGE, mode_of};
 use crate::runs::run;
@@ -50,7 +50,7 @@ pub fn program<R: Read, W: Write>(
         × WritesBeginning (W.contents output.old) (W.contents output.new) bs) }
     ensures statuses { exit_status result ≤ 4 }
 {
-    let Ok(arguments) = arguments(rt) else {
+    let Ok(arguments) = read_arguments(rt) else {
         return report(rt, RunError::NoMemory);
     };
     match mode_of(&arguments) {
@@ -58,12 +58,12 @@ pub fn program<R: Read, W: Write>(
             Ok(()) => ExitCode::SUCCESS,
             Err(error) => report(rt, error),
         },
-        None => misused(rt),
+        None => print_usage(rt),
     }
 }
 
 /// Prints the usage, and returns the status 2. Ignores a failure of standard error.
-fn misused(rt: &impl Eprint) -> ExitCode
+fn print_usage(rt: &impl Eprint) -> ExitCode
     ensures { exit_status result ≡ 2 }
 {
     let _ = eprintln!(rt; "{USAGE}");

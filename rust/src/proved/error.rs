@@ -41,12 +41,12 @@ impl error::Error for FromHexError {}
 
 impl From<AllocError> for FromHexError {
     fn from(_error: AllocError) -> FromHexError {
-        match AllocError::from(_refused) {}
+        match AllocError::from(_error) {}
     }
 }
 
 impl<T> From<AllocFailed<T>> for FromHexError {
     fn from(_error: AllocFailed<T>) -> FromHexError {
-        match AllocError::from(_refused) {}
+        match AllocError::from(_error) {}
     }
 }

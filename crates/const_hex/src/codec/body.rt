@@ -83,6 +83,8 @@ pub(crate) fn find_first_bad(digits: &[u8]) -> (u8, usize)
 /// Fills the output with the bytes that the body spells, and returns true. Returns false if some
 /// byte is not a digit. The kernel decides whether the body is checked first. The body must have
 /// two bytes for each byte of the output.
+// A kernel that checks first may itself be a `CheckFirst`. Then this runs its `check` once, and its
+// `decode_unchecked`: `CheckFirst` calls these two of its kernel, and never `decode_checked`.
 #[inline(always)]
 pub(crate) fn decode_body<K: Kernel>(body: &[u8], output: &mut [u8]) -> bool
     requires { length body.now ≡ 2 * length output.old }

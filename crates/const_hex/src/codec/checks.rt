@@ -12,7 +12,7 @@ use const_hex_arch::{FixedKernel, Kernel};
 /// Whether [`decode`](crate::decode) accepts a text.
 ///
 /// Returns [`FromHexError::OddLength`] for an odd length. Otherwise returns
-/// [`FromHexError::InvalidHexCharacter`] with the first byte behind the prefix that is not a digit,
+/// [`FromHexError::InvalidHexCharacter`] with the first byte after the prefix that is not a digit,
 /// if there is one. Does not allocate.
 ///
 /// ```rust

@@ -216,7 +216,7 @@ pub fn encode_full_to_slice_with<K: Kernel>(
 pub fn encode_to_str<'a>(input: &[u8], output: &'a mut [u8]) -> Result<&'a str, FromHexError>
     ensures fits { IsOk result ↔ (length output.entry.now ≡ 2 * length input.now) }
     ensures lends { IfOk result (λ text. text.now ≡ hex_text false input.now) }
-    ensures refusal { IfErr result (λ e. e ≡ InvalidStringLength) }
+    ensures error { IfErr result (λ e. e ≡ InvalidStringLength) }
     ensures* after { sem 𝓛 (EndsEncoded false input.now output.entry result) }
 {
     if !two_per_byte(input.len(), output.len()) {
@@ -235,7 +235,7 @@ pub fn encode_to_str<'a>(input: &[u8], output: &'a mut [u8]) -> Result<&'a str, 
 pub fn encode_to_str_upper<'a>(input: &[u8], output: &'a mut [u8]) -> Result<&'a str, FromHexError>
     ensures fits { IsOk result ↔ (length output.entry.now ≡ 2 * length input.now) }
     ensures lends { IfOk result (λ text. text.now ≡ hex_text true input.now) }
-    ensures refusal { IfErr result (λ e. e ≡ InvalidStringLength) }
+    ensures error { IfErr result (λ e. e ≡ InvalidStringLength) }
     ensures* after { sem 𝓛 (EndsEncoded true input.now output.entry result) }
 {
     if !two_per_byte(input.len(), output.len()) {

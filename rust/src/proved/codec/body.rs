@@ -16,7 +16,7 @@ pub(crate) const fn strip_prefix(text: &[u8]) -> &[u8] {
 
 /// The text without its prefix, or [`FromHexError::OddLength`].
 #[inline(always)]
-pub(crate) fn strip_even(text: &[u8]) -> Result<&[u8], FromHexError> {
+pub(crate) const fn strip_even(text: &[u8]) -> Result<&[u8], FromHexError> {
     if text.len() % 2 != 0 {
         return Err(FromHexError::OddLength);
     }
@@ -34,7 +34,7 @@ pub(crate) const fn is_prefix(first: u8, second: u8) -> bool {
 /// The error that names the first byte after the prefix that is not a digit, and its position in the
 /// whole text. The text must have such a byte, and an even length.
 #[cold]
-pub(crate) fn find_invalid_character(text: &[u8]) -> FromHexError {
+pub(crate) const fn find_invalid_character(text: &[u8]) -> FromHexError {
     let body = strip_prefix(text);
     let (byte, index) = find_first_bad(body);
     FromHexError::InvalidHexCharacter {
@@ -47,7 +47,7 @@ pub(crate) fn find_invalid_character(text: &[u8]) -> FromHexError {
 // If there is none, as when another process changes the text meanwhile, this names a NUL after the
 // last byte.
 #[cold]
-pub(crate) fn find_first_bad(digits: &[u8]) -> (u8, usize) {
+pub(crate) const fn find_first_bad(digits: &[u8]) -> (u8, usize) {
     let mut index = 0;
     'digits: while index < digits.len() {
         let byte = digits[index];
@@ -62,6 +62,8 @@ pub(crate) fn find_first_bad(digits: &[u8]) -> (u8, usize) {
 /// Fills the output with the bytes that the body spells, and returns true. Returns false if some
 /// byte is not a digit. The kernel decides whether the body is checked first. The body must have
 /// two bytes for each byte of the output.
+// A kernel that checks first may itself be a `CheckFirst`. Then this runs its `check` once, and its
+// `decode_unchecked`: `CheckFirst` calls these two of its kernel, and never `decode_checked`.
 #[inline(always)]
 pub(crate) fn decode_body<K: Kernel>(body: &[u8], output: &mut [u8]) -> bool {
     if K::USE_CHECK_FN {

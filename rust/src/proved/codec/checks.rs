@@ -9,7 +9,7 @@ use crate::proved::{FixedKernel, Kernel};
 /// Whether [`decode`](crate::decode) accepts a text.
 ///
 /// Returns [`FromHexError::OddLength`] for an odd length. Otherwise returns
-/// [`FromHexError::InvalidHexCharacter`] with the first byte behind the prefix that is not a digit,
+/// [`FromHexError::InvalidHexCharacter`] with the first byte after the prefix that is not a digit,
 /// if there is one. Does not allocate.
 #[inline(always)]
 pub fn check(input: &[u8]) -> Result<(), FromHexError> {

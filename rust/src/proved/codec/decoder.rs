@@ -18,9 +18,9 @@ const FAILED: u8 = 2;
 /// Together the chunks are read as one text, however it was cut: between `0` and `x`, between two
 /// digits, or into empty chunks. Only a prefix at the start of the whole text is removed.
 ///
-/// Hand each chunk to [`decode`](Decoder::decode), and call [`finish`](Decoder::finish) at the end
-/// of the text. [`decode`](crate::decode) names an odd length before any bad byte. A decoder cannot:
-/// it names the first bad byte at once, and an odd length at the end.
+/// Pass each chunk to [`decode`](Decoder::decode), and call [`finish`](Decoder::finish) at the end
+/// of the text. [`decode`](crate::decode) names an odd length before any invalid character. A decoder
+/// cannot: it names the first invalid character at once, and an odd length at the end.
 // Calls for C take this struct as it is. Its bytes may then have any values, and if all are zero it
 // is a new decoder.
 #[repr(C)]
@@ -50,14 +50,13 @@ impl Decoder {
     /// A chunk of n bytes gives at most (n + 1) / 2: a digit without its other half waits for the
     /// next chunk. The first of these errors is returned:
     ///
-    /// - [`FromHexError::InvalidHexCharacter`], if a chunk before had a bad byte: the same error
-    ///   again. Nothing changes;
-    /// - [`FromHexError::InvalidStringLength`], if the output has too little room for the pairs of
-    ///   digits, whatever bytes they are. Nothing changes, and the chunk may be handed over again;
-    /// - [`FromHexError::InvalidHexCharacter`], with the first byte behind the prefix that is not a
-    ///   digit, and its place in the whole text, or `usize::MAX` for a place beyond it. A front of
-    ///   the output may be decoded, no longer than the pairs before the bad byte, and the rest is
-    ///   unchanged.
+    /// - [`FromHexError::InvalidHexCharacter`], if a chunk before had an invalid character: the
+    ///   same error again. Nothing changes;
+    /// - [`FromHexError::InvalidStringLength`], if the output has too little space for the pairs of
+    ///   digits, whatever bytes they are. Nothing changes, and the chunk may be passed again;
+    /// - [`FromHexError::InvalidHexCharacter`], with the first byte after the prefix that is not a
+    ///   digit, and its position in the whole text, or `usize::MAX` for a position beyond it. Bytes
+    ///   that stand before it may have been decoded into the output. Its rest is unchanged.
     ///
     /// Does not allocate.
     #[inline(always)]
@@ -91,8 +90,8 @@ impl Decoder {
     /// Ends the text. `Ok` if it was read whole: then the chunks together are a text that
     /// [`decode`](crate::decode) accepts.
     ///
-    /// Returns [`FromHexError::OddLength`] if the text has an odd number of bytes and no bad one, so
-    /// also for a lone `0`. If a chunk had a bad byte, returns its error again. Does not allocate.
+    /// Returns [`FromHexError::OddLength`] if the text has an odd number of bytes and no invalid
+    /// character, so also for a lone `0`. If a chunk had an invalid character, returns its error again. Does not allocate.
     #[inline(always)]
     pub fn finish(self) -> Result<(), FromHexError> {
         if let Some(error) = self.error() {
@@ -104,8 +103,8 @@ impl Decoder {
         Ok(())
     }
 
-    /// How many bytes of the text were read, or `usize::MAX` if they were more. After a bad byte, its
-    /// place. Does not allocate.
+    /// How many bytes of the text were read, or `usize::MAX` if they were more. After an invalid
+    /// character, its position. Does not allocate.
     #[inline(always)]
     pub fn position(&self) -> usize {
         self.index
@@ -145,7 +144,7 @@ impl Decoder {
         }
     }
 
-    /// Goes on behind so many bytes, with the digit that waits now.
+    /// Goes on after so many bytes, with the digit that waits now.
     #[inline(always)]
     fn advance(&mut self, count: usize, waiting: Option<u8>) {
         self.index = self.index.saturating_add(count);
@@ -158,7 +157,8 @@ impl Decoder {
         }
     }
 
-    /// Ends with the first bad byte of these digits, which stand so many bytes behind what was read.
+    /// Ends with the first invalid character of these digits, which stand so many bytes after what was
+    /// read.
     #[cold]
     fn fail(&mut self, skipped: usize, digits: &[u8]) -> FromHexError {
         let (byte, index) = find_first_bad(digits);
@@ -206,7 +206,7 @@ fn decode_next<K: Kernel>(waiting: Option<u8>, digits: &[u8], output: &mut [u8])
     }
 }
 
-/// As `decode_next`, behind a digit that waits.
+/// As `decode_next`, after a digit that waits.
 // A call of its own: with its body too, `decode_with` would be too large to be inlined.
 #[inline(always)]
 fn decode_behind<K: Kernel>(high: u8, digits: &[u8], output: &mut [u8]) -> bool {
@@ -227,8 +227,8 @@ fn decode_digits<K: Kernel>(digits: &[u8], output: &mut [u8]) -> bool {
     decode_body::<K>(pairs, output) && check_last::<K>(last)
 }
 
-/// Whether the byte behind the pairs, if there is one, is a digit.
-// It is decoded behind a `0`: then a program that decodes alone has no code that checks alone.
+/// Whether the byte after the pairs, if there is one, is a digit.
+// It is decoded after a `0`: then a program that decodes alone has no code that checks alone.
 #[inline(always)]
 fn check_last<K: Kernel>(last: &[u8]) -> bool {
     match last {
