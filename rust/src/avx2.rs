@@ -4,6 +4,8 @@
 
 pub use crate::proved::arch::{plain, Kernel};
 
+#[path = "proved/arch/drivers.rs"]
+pub mod drivers;
 #[path = "proved/arch/lanes.rs"]
 #[rustfmt::skip]
 pub mod lanes;

@@ -1,7 +1,7 @@
 //! Functions that constants can call. They look digits up in a table, so the time that they take at run
 //! time may tell something of the bytes.
 
-use crate::proved::codec::body::{bad_character, even_body, first_bad};
+use crate::proved::codec::body::{find_invalid_character, strip_even, find_first_bad};
 use crate::proved::{value_at, NIL};
 use crate::{Buffer, FromHexError};
 
@@ -57,9 +57,9 @@ pub const fn const_encode<const N: usize, const PREFIX: bool>(
 /// ```
 #[inline]
 pub const fn const_check(input: &[u8]) -> Result<(), FromHexError> {
-    match even_body(input) {
+    match strip_even(input) {
         Ok(body) if const_check_raw(body) => Ok(()),
-        Ok(_) => Err(bad_character(input)),
+        Ok(_) => Err(find_invalid_character(input)),
         Err(error) => Err(error),
     }
 }
@@ -73,7 +73,7 @@ pub const fn const_check(input: &[u8]) -> Result<(), FromHexError> {
 #[inline]
 #[must_use]
 pub const fn const_check_raw(input: &[u8]) -> bool {
-    let (_, index) = first_bad(input);
+    let (_, index) = find_first_bad(input);
     index == input.len()
 }
 
@@ -93,7 +93,7 @@ pub const fn const_check_raw(input: &[u8]) -> bool {
 /// ```
 #[inline]
 pub const fn const_decode_to_array<const N: usize>(input: &[u8]) -> Result<[u8; N], FromHexError> {
-    let body = match even_body(input) {
+    let body = match strip_even(input) {
         Ok(body) => body,
         Err(error) => return Err(error),
     };
@@ -105,7 +105,7 @@ pub const fn const_decode_to_array<const N: usize>(input: &[u8]) -> Result<[u8; 
     while index < N {
         let (high, low) = (value_at(body[2 * index]), value_at(body[2 * index + 1]));
         if high == NIL || low == NIL {
-            return Err(bad_character(input));
+            return Err(find_invalid_character(input));
         }
         bytes[index] = 16 * high + low;
         index += 1;

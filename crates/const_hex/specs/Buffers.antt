@@ -26,7 +26,7 @@ abbrev pub EndsHolding : (N PREFIX LEN : RattleType) → MutBor (the_row N PREFI
 EndsHolding N PREFIX LEN buffer text =
     Rests (the_row N PREFIX LEN) buffer (λ b. buffer_text b ≡ text)
 
--- after the loan has ended, the slice holds the text of the bytes; after a refusal it is unchanged
+-- after the loan has ended, the slice holds the text of the bytes; after an error it is unchanged
 abbrev pub EndsEncoded : {A E : Type 0} → Bool → List ℕ → MutBor (List ℕ) → Result A E → Fml
 EndsEncoded up bytes slice result =
     Rests (Array u8 0) slice

@@ -18,13 +18,10 @@ body_of (c ∷ d ∷ u) = if (c == 48) && (d == 120 || d == 88) then u else c �
 abbrev pub lowered : List ℕ → List ℕ
 lowered u = map (λ b. if nat_le 65 b && nat_le b 70 then b + 32 else b) u
 
--- the refusal names the first byte behind the prefix of t that is not a digit, and its place in t
-abbrev pub NamesFirstBad : List ℕ → FromHexError → Type 0
-NamesFirstBad t OddLength = ⊥
-NamesFirstBad t InvalidStringLength = ⊥
-NamesFirstBad t (InvalidHexCharacter c i) =
-    (p : ℕ) × FirstBad (body_of t) p × (c ≡ slice_index (body_of t) p) × (i ≡ p + (length t - length (body_of t)))
-NamesFirstBad t NoMemory = ⊥
+-- c is the first byte after the prefix of t that is not a digit, and index its position in t
+abbrev pub NamesFirstBad : List ℕ → ℕ → ℕ → Type 0
+NamesFirstBad t c index =
+    (p : ℕ) × FirstBad (body_of t) p × (c ≡ slice_index (body_of t) p) × (index ≡ p + (length t - length (body_of t)))
 
 -- ---- the answers for a text
 
@@ -39,16 +36,16 @@ abbrev pub AreBytes : List ℕ → Type 0
 AreBytes bs = (k : ℕ) → slice_index bs k < 256
 
 -- the answer when the text t is read: `OddLength` if the length of the whole text is odd; else the
--- bytes that its body spells, or else the first bad byte
+-- bytes that its body spells, or else the first invalid character
 abbrev pub Reads : List ℕ → Result (List ℕ) FromHexError → Type 0
 Reads t (Ok bs) = IsEven (length t) × Spells (body_of t) bs
 Reads t (Err OddLength) = IsOdd (length t)
 Reads t (Err InvalidStringLength) = ⊥
-Reads t (Err (InvalidHexCharacter c i)) = IsEven (length t) × NamesFirstBad t (InvalidHexCharacter c i)
+Reads t (Err (InvalidHexCharacter c i)) = IsEven (length t) × NamesFirstBad t c i
 Reads t (Err NoMemory) = ⊥
 
 -- the answer when t is read as n bytes: if the length is not odd, a body of another length is
--- refused, before any of its bytes is tested
+-- an error, before any of its bytes is tested
 abbrev pub ReadsSized : List ℕ → ℕ → Result (List ℕ) FromHexError → Type 0
 ReadsSized t n (Ok bs) = (length (body_of t) ≡ 2 * n) × Reads t (Ok bs)
 ReadsSized t n (Err OddLength) = IsOdd (length t)
@@ -65,8 +62,8 @@ all_digits u = list_all (λ b. is_some (hex_value b)) u
 abbrev pub is_text_of : ℕ → List ℕ → Bool
 is_text_of n t = (length (body_of t) == 2 * n) && all_digits (body_of t)
 
--- the answer when t is read into room for n bytes: if the length is not odd, a body with too many
--- digits is refused, before any of its bytes is tested
+-- the answer when t is read into space for n bytes: if the length is not odd, a body with too many
+-- digits is an error, before any of its bytes is tested
 abbrev pub ReadsWithin : List ℕ → ℕ → Result (List ℕ) FromHexError → Type 0
 ReadsWithin t n (Ok bs) = (length (body_of t) ≤ 2 * n) × Reads t (Ok bs)
 ReadsWithin t n (Err OddLength) = IsOdd (length t)
@@ -80,16 +77,16 @@ abbrev pub Checks : List ℕ → Result Unit FromHexError → Type 0
 Checks t (Ok u) = (bs : List ℕ) × Reads t (Ok bs)
 Checks t (Err e) = Reads t (Err e)
 
--- what a refusal of t leaves of an output that held `old`
+-- what an error for t leaves of an output that held `old`
 abbrev pub Leaves : List ℕ → List ℕ → List ℕ → FromHexError → Type 0
 Leaves t old new OddLength = new ≡ old
 Leaves t old new InvalidStringLength = new ≡ old
 Leaves t old new (InvalidHexCharacter c i) = Partial old (body_of t) new
 Leaves t old new NoMemory = ⊥
 
--- ---- what a refusal prints, if its contract says so
+-- ---- what an error prints, if its contract says so
 
--- the message of a refusal; that of a bad character is only tested
+-- the message of an error; that of an invalid character is only tested
 abbrev pub message_of : FromHexError → Option (List ℕ)
 message_of OddLength = Some (codes "odd number of digits")
 message_of InvalidStringLength = Some (codes "invalid string length")

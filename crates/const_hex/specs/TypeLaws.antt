@@ -38,7 +38,7 @@ ReadsOwned-faithful bytes t (Err e) h = λ known. inl (e, grind (arith, known))
 
 -- ---- arrays
 
--- a body of another length is refused, or its bytes do not fit
+-- a body of another length is an error, or its bytes do not fit
 unfit : (n : ℕ) (t : List ℕ) → length (body_of t) ≢ 2 * n → (r : Result (List ℕ) FromHexError) × Reads t r → RefusesOrMisfits (IsCount n) t
 unfit n t other (Ok bs, h) =
     inr (bs, h, λ same. let len = Spells-length (body_of t) bs h.1 in other (omega (arith, len, same)))

@@ -21,7 +21,7 @@ byte_of (negsuc n) = 255 - n
 
 -- ---- a text that is read into a type: the answers that it may have, and their law
 
--- which refusals of a text are of memory
+-- which errors for a text are of memory
 abbrev pub is_no_memory : FromHexError → Bool
 is_no_memory OddLength = false
 is_no_memory InvalidStringLength = false
@@ -36,15 +36,15 @@ AnyCount n = Unit {0}
 abbrev pub IsCount : ℕ → ℕ → Type 0
 IsCount n count = count ≡ n
 
--- the text t is refused, or spells a number of bytes that does not fit
+-- there is an error for the text t, or it spells a number of bytes that does not fit
 abbrev pub RefusesOrMisfits : (ℕ → Type 0) → List ℕ → Type 0
 RefusesOrMisfits fits t =
     ((e : FromHexError) × Reads t (Err e))
     ⊎ ((bs : List ℕ) × Reads t (Ok bs) × (fits (length bs) → ⊥))
 
 -- the law of types that are read from text: a value has the bytes that the text spells, and a
--- fitting number of them; an error is of memory, or the text is refused, or its number of bytes
--- does not fit
+-- fitting number of them; an error is of memory, or the text has an error without a type,
+-- or its number of bytes does not fit
 abbrev pub IsFaithful : {V E : Type 0} → (V → List ℕ) → (ℕ → Type 0) → (E → Bool) → List ℕ → Result V E → Type 0
 IsFaithful bytes fits is_memory t (Ok v) = Reads t (Ok (bytes v)) × fits (length (bytes v))
 IsFaithful bytes fits is_memory t (Err e) = is_memory e ≡ false → RefusesOrMisfits fits t
@@ -75,15 +75,15 @@ ReadsThrough target is_memory answers t (Ok w) = answers t (Ok (target w))
 ReadsThrough {W} {V} target is_memory answers t (Err e) =
     answers t (Err e) ⊎ ((is_memory e ≡ true) × ((v : V) × answers t (Ok v)))
 
--- ---- a JSON value that is read into a type, and the text that a sink is handed
+-- ---- a JSON value that is read into a type
 
--- the answers for a JSON string: the type's answers for its bytes, with a refusal inside `Hex`
+-- the answers for a JSON string: the type's answers for its bytes, with an error inside `Hex`
 abbrev pub ReadsInside : {V E : Type 0} → (List ℕ → Result V E → Type 0) → List ℕ → Result V (JsonError E) → Type 0
 ReadsInside answers t (Ok v) = answers t (Ok v)
 ReadsInside answers t (Err NotText) = ⊥
 ReadsInside answers t (Err (Hex e)) = answers t (Err e)
 
--- what a refusal of a JSON value prints, if it is known what the refusal of the text prints
+-- what the error for a JSON value prints, if it is known what the error for the text prints
 abbrev pub json_message : {E : Type 0} → (E → Option (List ℕ)) → JsonError E → Option (List ℕ)
 json_message message NotText = Some (codes "expected a hex encoded string")
 json_message message (Hex e) = message e

@@ -64,7 +64,7 @@ impl Output for ReservedOutput {
 /// text, not at all.
 #[inline(always)]
 #[tactic(auto, using(const_hex_arch::proofs::lemmas::Texts::full_text_size))]
-pub(crate) fn reserved_bytes<K: Kernel>(
+pub(crate) fn encode_reserved<K: Kernel>(
     alloc: Global,
     input: &[u8],
     prefix: bool,
@@ -72,7 +72,7 @@ pub(crate) fn reserved_bytes<K: Kernel>(
 ) -> Result<Vec<u8>, AllocError>
     ensures { IfOk result (λ v. v.items ≡ full_text prefix upper input.now) }
 {
-    // `text_length`, but a slice's length can be doubled. So a call takes two or three instructions less.
+    // As `text_length`, which tests twice whether its result is too large: 6 or 7 instructions more.
     let length = (2 * input.len()).saturating_add(if prefix { 2 } else { 0 });
     // Apart, so that below there is a block for certain. A call then takes some ten instructions less.
     if length == 0 {

@@ -2,10 +2,11 @@
 
 ghost use Rattle.std.specs.Prelude.{◌≡◌, Bool, ◌+◌, ◌*◌, ◌<◌, ◌≤◌, ◌↔◌, IsTrue, true, false, length, take, drop};
 ghost use Rattle.const_hex_arch.specs.Outputs.{HasRoom, Writes};
-ghost use Rattle.const_hex_arch.specs.Texts.{hex_text, prefix_of, full_text, AllDigits, Spells, Partial};
+ghost use Rattle.const_hex_arch.specs.Texts.{hex_text, AllDigits, Spells, Partial};
 
 pub mod arithmetic16;
 pub mod check_first;
+mod drivers;
 mod lanes;
 pub mod lanes16;
 pub mod lanes32;
@@ -135,34 +136,4 @@ pub trait Kernel {
         requires size { length input.now ≡ 2 * length output.old }
         requires digits { AllDigits input.now }
         ensures { Spells input.now output.new };
-}
-
-/// Writes `0x` if `prefix` is true, and then two digits for each byte, by the kernel `K`. The
-/// output must have room for them. Allocates only what the output allocates.
-///
-/// ```rust
-/// let mut text = [0; 10];
-/// let mut output = SliceOutput::new(&mut text);
-/// encode_full::<Plain, SliceOutput>(b"kiwi", true, false, &mut output);
-/// assert_eq!(rt; text, *b"0x6b697769");
-/// ```
-#[inline(always)]
-pub fn encode_full<K: Kernel, O: Output>(input: &[u8], prefix: bool, upper: bool, output: &mut O)
-    requires { HasRoom (O.room output.old) (length (full_text prefix upper input.now)) }
-    ensures { Writes O.step output.old (full_text prefix upper input.now) output.new }
-{
-    write_prefix(prefix, output);
-    K::encode(input, upper, output);
-}
-
-/// Writes `0x` if `prefix` is true.
-#[inline(always)]
-#[tactic(auto, using(crate::proofs::lemmas::Runs::one_written))]
-fn write_prefix<O: Output>(prefix: bool, output: &mut O)
-    requires { HasRoom (O.room output.old) (length (prefix_of prefix)) }
-    ensures { Writes O.step output.old (prefix_of prefix) output.new }
-{
-    if prefix {
-        output.write(b"0x");
-    }
 }

@@ -4,11 +4,11 @@ ghost use Rattle.std.specs.Prelude.{◌≡◌, ◌≤◌, false, is_ok, length};
 ghost use Rattle.const_hex_arch.specs.Texts.{full_text, text_length};
 ghost use Rattle.const_hex_arch.specs.Sinks.{Handed, hex_bytes};
 
-use crate::arch::{FixedKernel, Kernel, encode_full};
+use crate::arch::{FixedKernel, Kernel};
 use crate::output::buffered::BufferedOutput;
 use crate::sink::output::SinkOutput;
 use crate::sink::{Sink, SinkError, refusal_of};
-use crate::text::{ascii_text, fill_text, text_length};
+use crate::text::{ascii_text, encode_full, fill_text, text_length};
 
 /// How many bytes are gathered for one call of a sink. A text of at most this length is handed over
 /// whole.

@@ -1,10 +1,12 @@
-//! The whole text of bytes, in a slice of exactly its length.
+//! The whole text of bytes: its length, and how it is written.
 
 ghost use Rattle.std.specs.Prelude.{◌≡◌, length, min};
 ghost use Rattle.std.specs.Str.{IsAscii};
+ghost use Rattle.const_hex_arch.specs.Outputs.{HasRoom, Writes};
 ghost use Rattle.const_hex_arch.specs.Texts.{full_text, prefix_of, text_length};
 
 use crate::arch::Kernel;
+use crate::output::Output;
 
 /// The length of the text of `count` bytes, behind `0x` if `prefix` is true. If that does not fit
 /// into a `usize`, the answer is the greatest one, and no text has that length.
@@ -49,6 +51,36 @@ fn put_prefix(prefix: bool, output: &mut [u8])
 {
     if prefix {
         output.copy_from_slice(b"0x");
+    }
+}
+
+/// Writes `0x` if `prefix` is true, and then two digits for each byte, by the kernel `K`. The
+/// output must have room for them. Allocates only what the output allocates.
+///
+/// ```rust
+/// let mut text = [0; 10];
+/// let mut output = SliceOutput::new(&mut text);
+/// encode_full::<Plain, SliceOutput>(b"kiwi", true, false, &mut output);
+/// assert_eq!(rt; text, *b"0x6b697769");
+/// ```
+#[inline(always)]
+pub fn encode_full<K: Kernel, O: Output>(input: &[u8], prefix: bool, upper: bool, output: &mut O)
+    requires { HasRoom (O.room output.old) (length (full_text prefix upper input.now)) }
+    ensures { Writes O.step output.old (full_text prefix upper input.now) output.new }
+{
+    write_prefix(prefix, output);
+    K::encode(input, upper, output);
+}
+
+/// Writes `0x` if `prefix` is true.
+#[inline(always)]
+#[tactic(auto, using(crate::proofs::lemmas::Runs::one_written))]
+fn write_prefix<O: Output>(prefix: bool, output: &mut O)
+    requires { HasRoom (O.room output.old) (length (prefix_of prefix)) }
+    ensures { Writes O.step output.old (prefix_of prefix) output.new }
+{
+    if prefix {
+        output.write(b"0x");
     }
 }
 

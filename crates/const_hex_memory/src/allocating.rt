@@ -34,6 +34,9 @@ pub(crate) fn make_calls(rt: &impl Print, alloc: Global, inputs: &Inputs, count:
     decode_signed(rt, alloc, BAD, Err(bad(b'z', 0)), count);
     decode_pointers(rt, alloc, count);
     by_each_kernel!(by_kernel(rt, alloc, count));
+    let mut sink = PieceSink::new(alloc, 0);
+    let done = BufferedHex::<false, true>::new(&DATA).write_to(&mut sink);
+    judge_stream(rt, "write_to", done, &sink, count);
 }
 
 fn encode_all(rt: &impl Print, alloc: Global, count: &mut usize) {
@@ -119,33 +122,19 @@ fn decode_signed(
 
 /// Pointers, by whether they point to the right bytes.
 fn decode_pointers(rt: &impl Print, alloc: Global, count: &mut usize) {
-    let (right, refused) = (Ok(true), Err(NO_MEMORY));
+    let (right, error) = (Ok(true), Err(NO_MEMORY));
     let list = <Box<Rc<Vec<u8>>>>::from_hex(alloc, TEXT).map(|list| list.as_slice() == KIWI);
-    judge_allocating(
-        rt,
-        "Box<Rc<Vec<u8>>>::from_hex",
-        list,
-        right,
-        refused,
-        count,
-    );
+    judge_allocating(rt, "from_hex of Box<Rc>", list, right, error, count);
     let array = <Box<[u8; 4]>>::from_hex(alloc, TEXT).map(|array| *array == *b"kiwi");
-    judge_allocating(rt, "Box<[u8; 4]>::from_hex", array, right, refused, count);
+    judge_allocating(rt, "from_hex of Box", array, right, error, count);
     let array = <Rc<[i8; 4]>>::from_hex(alloc, TEXT).map(|array| *array == [107, 105, 119, 105]);
-    judge_allocating(rt, "Rc<[i8; 4]>::from_hex", array, right, refused, count);
+    judge_allocating(rt, "from_hex of Rc", array, right, error, count);
     let wrong = <Box<Rc<Vec<u8>>>>::from_hex(alloc, BAD).map(|_| true);
-    judge_allocating(
-        rt,
-        "Box<Rc<Vec<u8>>>::from_hex, bad",
-        wrong,
-        Err(bad(b'z', 0)),
-        refused,
-        count,
-    );
+    judge_allocating(rt, "from_hex of zz", wrong, Err(bad(b'z', 0)), error, count);
 }
 
 /// The texts are a step of 32 lanes, one of 16, and a remainder.
-fn by_kernel<K: Kernel>(rt: &impl Print, alloc: Global, count: &mut usize, kernel: KernelCase) {
+fn by_kernel<K: Kernel>(rt: &impl Print, alloc: Global, count: &mut usize, _kernel: KernelCase) {
     let mut wrong = DIGITS;
     wrong[100] = b'g';
     allocates!(rt, count, AllocError;
@@ -159,14 +148,14 @@ fn by_kernel<K: Kernel>(rt: &impl Print, alloc: Global, count: &mut usize, kerne
     );
     let mut sink = PieceSink::new(alloc, 0);
     let done = BufferedHex::<false, true>::new(&DATA).write_with::<K, PieceSink>(&mut sink);
-    judge_stream(rt, kernel.name, done, &sink, count);
+    judge_stream(rt, "write_with", done, &sink, count);
 }
 
 /// Judges the stream of [`DATA`] behind `0x`, which has three pieces. If there is no memory for one,
 /// the sink keeps those before it.
 fn judge_stream(
     rt: &impl Print,
-    kernel: &str,
+    call: &str,
     done: Result<(), SinkError>,
     sink: &PieceSink,
     count: &mut usize,
@@ -175,7 +164,7 @@ fn judge_stream(
     let state = (kept < 3, sink.no_memory(), sink.calls() == kept);
     judge_allocating(
         rt,
-        kernel,
+        call,
         (done, state),
         (Ok(()), (false, false, true)),
         (Err(SinkError), (true, true, false)),

@@ -4,13 +4,14 @@ use crate::inputs::{BAD, BYTES, DATA, DIGITS, HASH, Inputs, KIWI, ODD, TEXT};
 use crate::judge::returns;
 use const_hex::serde::no_prefix;
 use const_hex::{
-    BufferedHex, BufferedOutput, Decoder, FromHex, FromHexError, JsonError, Kernel, Lanes16,
-    Lanes32, Output, PieceSink, Sink, SinkError, SinkOutput, SliceOutput, WriteSink, ascii_text,
-    bytes_of, check, check_raw, check_with, const_check, const_check_raw, const_decode_to_array,
-    decode, decode_to_array, decode_to_front, decode_to_front_with, decode_to_slice,
-    decode_to_slice_with, decode_with, deserialize, digit_at, encode_full_to_slice,
-    encode_full_to_slice_with, encode_to_slice, encode_to_slice_upper, encode_to_str,
-    encode_to_str_upper, lanes16, lanes32, serialize_inner, text_length, value_at,
+    BufferedHex, BufferedOutput, Decoder, FixedKernel, FromHex, FromHexError, JsonError, Kernel,
+    Lanes16, Lanes32, Output, PieceSink, Sink, SinkError, SinkOutput, SliceOutput, WriteSink,
+    ascii_text, bytes_of, check, check_raw, check_with, const_check, const_check_raw,
+    const_decode_to_array, decode, decode_to_array, decode_to_front, decode_to_front_with,
+    decode_to_slice, decode_to_slice_with, decode_with, deserialize, digit_at,
+    encode_full_to_slice, encode_full_to_slice_with, encode_to_slice, encode_to_slice_upper,
+    encode_to_str, encode_to_str_upper, fill_text, lanes16, lanes32, serialize_inner, text_length,
+    value_at,
 };
 use const_hex_uses::chunks::decoded_or;
 use hash_hex::Hash32;
@@ -67,7 +68,9 @@ fn check_all(rt: &impl Print) {
 
 fn encode_all(rt: &impl Print) {
     let (mut text, mut full) = ([0; 8], [0; 10]);
+    fill_text::<FixedKernel>(KIWI, true, false, &mut full);
     returns!(rt;
+        full => *b"0x6b697769",
         encode_to_slice(KIWI, &mut text) => Ok(()),
         encode_to_slice_upper(KIWI, &mut text) => Ok(()),
         encode_to_str(KIWI, &mut text).is_ok() => true,
@@ -153,6 +156,7 @@ fn by_kernel<K: Kernel>(rt: &impl Print, alloc: Global, _kernel: KernelCase) {
         K::check(&wrong) => false,
         K::decode_checked(&wrong, &mut bytes) => false,
         K::decode_checked(&DIGITS, &mut bytes) => true,
+        K::decode_part(&DIGITS, 0, &mut bytes) => true,
         check_with::<K>(&wrong) => Err(bad(b'g', 100)),
         decode_with::<K>(alloc, ODD).err() => Some(ODD_LENGTH),
         decode_to_slice_with::<K>(&DIGITS, &mut bytes) => Ok(()),
@@ -164,6 +168,7 @@ fn by_kernel<K: Kernel>(rt: &impl Print, alloc: Global, _kernel: KernelCase) {
         Decoder::new().decode_with::<K>(&DIGITS, &mut bytes) => Ok(57),
         Decoder::new().decode_with::<K>(&wrong, &mut bytes) => Err(bad(b'g', 100)),
     );
+    K::fill(&BYTES, true, &mut text);
     if K::check(&text) {
         K::decode_unchecked(&text, &mut bytes);
     }

@@ -20,6 +20,6 @@ Decoded had left held holds (Err OddLength) =
 Decoded had left held holds (Err InvalidStringLength) = ⊥
 Decoded had left held holds (Err (InvalidHexCharacter c i)) =
     (t : List ℕ) × (bs : List ℕ) × Consumes had left t
-    × ((rest : List ℕ) → NamesCounted (t ++ rest) (InvalidHexCharacter c i))
+    × ((rest : List ℕ) → NamesCounted (t ++ rest) c i)
     × Spells (take (2 * length bs) (body_of t)) bs × Appends held holds bs
 Decoded had left held holds (Err NoMemory) = ⊥

@@ -65,33 +65,33 @@ pub fn reason(alloc: Global, error: &JsonError<FromHexError>) -> Result<String, 
     format!(in alloc; "{error}")
 }
 
-/// A text, and on the next line a mark under the byte at that place.
+/// A text, and on the next line a mark under the byte at that index.
 ///
 /// ```rust
 /// assert_eq!(rt; marked(rt.alloc(), "0xzz", 2)?.as_str(), "0xzz\n  ^");
 /// ```
-pub fn marked(alloc: Global, text: &str, place: usize) -> Result<String, AllocError>
-    ensures { IfOk result (λ s. string_bytes s ≡ marked_text text.now place) }
+pub fn marked(alloc: Global, text: &str, index: usize) -> Result<String, AllocError>
+    ensures { IfOk result (λ s. string_bytes s ≡ marked_text text.now index) }
 {
     let mut shown = String::from_str(alloc, text)?;
     shown.push('\n')?;
-    for _ in 0..place {
+    for _ in 0..index {
         shown.push(' ')?;
     }
     shown.push('^')?;
     Ok(shown)
 }
 
-/// What a user sees of a refused text: a mark under the bad byte, or the message of another error.
+/// What a user sees of a text that cannot be decoded: a mark under the invalid character, or the message of another error.
 ///
 /// ```rust
 /// let error = const_hex::check(b"0xzz").unwrap_err();
 /// assert_eq!(rt; explained(rt.alloc(), "0xzz", error)?.as_str(), "0xzz\n  ^");
 /// ```
-pub fn explained(alloc: Global, text: &str, refusal: FromHexError) -> Result<String, AllocError>
-    ensures { IfOk result (λ s. string_bytes s ≡ explained_text text.now refusal) }
+pub fn explained(alloc: Global, text: &str, error: FromHexError) -> Result<String, AllocError>
+    ensures { IfOk result (λ s. string_bytes s ≡ explained_text text.now error) }
 {
-    match refusal {
+    match error {
         FromHexError::InvalidHexCharacter { index, .. } => marked(alloc, text, index),
         other => format!(in alloc; "{text}\n{other}"),
     }

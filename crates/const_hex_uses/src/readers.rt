@@ -1,10 +1,10 @@
 //! Callers that read a text: as any type, by the law of such types alone; and into a key.
 
-ghost use Rattle.std.specs.Prelude.{◌≡◌, ◌≢◌, ◌↔◌, ◌⊎◌, ◌*◌, ℕ, false, drop, length, take, IfOk, IfErr, Ok, Err};
+ghost use Rattle.std.specs.Prelude.{◌≡◌, ◌↔◌, ◌⊎◌, ◌*◌, ℕ, false, drop, length, take, IfOk, IfErr, Ok, Err};
 ghost use Rattle.const_hex.specs.Results.{IsOdd, Reads, ReadsSized, body_of, lowered};
 ghost use Rattle.const_hex.specs.Texts.{Spells};
-ghost use Rattle.const_hex.specs.Types.{IsCount, RefusesOrMisfits};
-ghost use Rattle.const_hex.specs.declared.error.FromHexError.TheVariants.{InvalidStringLength, NoMemory, OddLength};
+ghost use Rattle.const_hex.specs.Types.{RefusesOrMisfits};
+ghost use Rattle.const_hex.specs.declared.error.FromHexError.TheVariants.{InvalidStringLength, OddLength};
 
 use const_hex::{FromHex, FromHexError, decode_to_front, decode_to_slice};
 use std::alloc::Global;
@@ -55,29 +55,6 @@ pub fn read_both<T: FromHex + Drop>(
         },
         Err(fault) => Err(fault),
     }
-}
-
-/// Reads a text as a vector and as an array. Both have the N bytes that the text spells. If the
-/// error is not of memory, the text is no hex, or spells another number of bytes.
-///
-/// ```rust
-/// let (list, array) = read_twice::<2>(rt.alloc(), b"ff80")?;
-/// assert_eq!(rt; list.as_slice(), array.as_slice());
-/// ```
-#[tactic(auto, using(const_hex_arch::proofs::lemmas::Spelling::spelled))]
-pub fn read_twice<const N: usize>(
-    alloc: Global,
-    text: &[u8],
-) -> Result<(Vec<u8>, [u8; N]), FromHexError>
-    ensures list_bytes { IfOk result (λ both. Reads text.now (Ok both.0.items)) }
-    ensures array_bytes { IfOk result (λ both. Reads text.now (Ok both.1)) }
-    ensures list_fits { IfOk result (λ both. length both.0.items ≡ N) }
-    ensures agree { IfOk result (λ both. both.0.items ≡ both.1) }
-    ensures refused { IfErr result (λ e. e ≢ NoMemory → RefusesOrMisfits (IsCount N) text.now) }
-{
-    let list = read::<Vec<u8>>(alloc, text)?;
-    let array = read::<[u8; N]>(alloc, text)?;
-    Ok((list, array))
 }
 
 /// The bytes that a text spells, behind a shared pointer. If the length of the text is odd, the error

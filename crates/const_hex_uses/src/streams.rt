@@ -1,9 +1,9 @@
 //! A text that comes from a file or a socket in pieces.
 
-ghost use Rattle.std.specs.Prelude.{◌≡◌, ◌≢◌, ◌/◌, ◌<◌, ◌↔◌, length, take, IfOk, IfErr, Ok, Err};
+ghost use Rattle.std.specs.Prelude.{ℕ, ◌≡◌, ◌≢◌, ◌/◌, ◌<◌, ◌↔◌, length, take, IfOk, IfErr, Ok, Err};
 ghost use Rattle.const_hex.specs.Results.{IsOdd, Reads, NamesFirstBad, body_of};
 ghost use Rattle.const_hex.specs.Texts.{AllDigits};
-ghost use Rattle.const_hex.specs.declared.error.FromHexError.TheVariants.{InvalidStringLength, OddLength};
+ghost use Rattle.const_hex.specs.declared.error.FromHexError.TheVariants.{InvalidStringLength, InvalidHexCharacter, OddLength};
 ghost use Rattle.const_hex_uses.specs.Decoded.{Decoded};
 
 use const_hex::{Decoder, FromHexError};
@@ -60,7 +60,7 @@ pub fn decode_typed(text: &[u8], output: &mut [u8]) -> Result<usize, FromHexErro
         ↔ (length output.old < length (body_of text.now) / 2) }
     ensures odd { result ≡ Err OddLength → IsOdd (length text.now) × AllDigits (body_of text.now) }
     ensures character { IfErr result (λ e. e ≢ InvalidStringLength → e ≢ OddLength
-        → NamesFirstBad text.now e) }
+        → (c index : ℕ) × (e ≡ InvalidHexCharacter c index) × NamesFirstBad text.now c index) }
 {
     let mut decoder = Decoder::new();
     match decoder.decode(text, output) {

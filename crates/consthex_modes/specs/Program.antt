@@ -1,5 +1,5 @@
 -- The program: its modes, what it returns for an input, and its errors.
-use Rattle.std.specs.Prelude.{ℕ, List, codes, ◌≡◌, ⊤, ◌<◌, ◌≤◌, true, false, [], ◌∷◌, ◌++◌, length, Result, Ok, Err, Option, Some}
+use Rattle.std.specs.Prelude.{ℕ, List, codes, ◌≡◌, ⊤, ◌<◌, ◌≤◌, true, false, [], ◌∷◌, ◌++◌, length, Result, Ok, Err, Option, Some, if◌then◌else◌}
 use Rattle.consthex_modes.specs.declared.mode.Mode.{Mode}
 use Rattle.consthex_modes.specs.declared.mode.Mode.TheVariants.{Encode, EncodeUpper, EncodePrefixed, EncodeUpperPrefixed, Decode, Check}
 use Rattle.std.specs.Io.BufRead.{strip_last}
@@ -9,7 +9,7 @@ use Rattle.const_hex.specs.declared.error.FromHexError.{FromHexError}
 use Rattle.consthex_modes.specs.declared.error.RunError.{RunError}
 use Rattle.consthex_modes.specs.declared.error.RunError.TheVariants.{Text, ReadFailed, WriteFailed, TooLong, NoMemory}
 use Rattle.std.specs.Io.KnownBytes.{Consumes, IsAtEnd}
-use Rattle.const_hex.specs.declared.error.FromHexError.TheVariants.{OddLength, InvalidStringLength, InvalidHexCharacter, NoMemory as NoRoom}
+use Rattle.const_hex.specs.Types.{is_no_memory}
 
 -- ---- the word of each mode
 
@@ -45,19 +45,19 @@ Makes EncodeUpperPrefixed x bs = bs ≡ full_text true true x ++ newline
 Makes Decode x bs = Reads (without_newline x) (Ok bs)
 Makes Check x bs = Checks (without_newline x) (Ok tt) × (bs ≡ codes "ok" ++ newline)
 
--- the mode refuses the input x as a text
-abbrev pub Refuses : Mode → List ℕ → FromHexError → Type 0
-Refuses Encode x e = ⊥
-Refuses EncodeUpper x e = ⊥
-Refuses EncodePrefixed x e = ⊥
-Refuses EncodeUpperPrefixed x e = ⊥
-Refuses Decode x e = Reads (without_newline x) (Err e)
-Refuses Check x e = Checks (without_newline x) (Err e)
+-- the mode ends with this error for the text in the input x
+abbrev pub Fails : Mode → List ℕ → FromHexError → Type 0
+Fails Encode x e = ⊥
+Fails EncodeUpper x e = ⊥
+Fails EncodePrefixed x e = ⊥
+Fails EncodeUpperPrefixed x e = ⊥
+Fails Decode x e = Reads (without_newline x) (Err e)
+Fails Check x e = Checks (without_newline x) (Err e)
 
 -- the one answer of the mode to the input x
 abbrev pub Answer : Mode → List ℕ → Result (List ℕ) RunError → Type 0
 Answer m x (Ok bs) = (length x ≤ limit) × Makes m x bs
-Answer m x (Err (Text e)) = (length x ≤ limit) × Refuses m x e
+Answer m x (Err (Text e)) = (length x ≤ limit) × Fails m x e
 Answer m x (Err TooLong) = limit < length x
 Answer m x (Err ReadFailed) = ⊥
 Answer m x (Err WriteFailed) = ⊥
@@ -85,7 +85,7 @@ Answers m had left r = (x : List ℕ) × ReadsAll had left x × Answer m x r
 
 -- ---- the line and the exit status of an error
 
--- the line that is printed, if the contract of its refusal says so
+-- the line that is printed, if the contract of its error says so
 abbrev pub line_of : RunError → Option (List ℕ)
 line_of (Text e) = message_of e
 line_of ReadFailed = Some (codes "read failed")
@@ -102,8 +102,5 @@ status_of TooLong = 3
 status_of NoMemory = 4
 
 -- the error of the program for an error of a call
-abbrev pub refusal_of : FromHexError → RunError
-refusal_of OddLength = Text OddLength
-refusal_of InvalidStringLength = Text InvalidStringLength
-refusal_of (InvalidHexCharacter c i) = Text (InvalidHexCharacter c i)
-refusal_of NoRoom = NoMemory
+abbrev pub run_error_of : FromHexError → RunError
+run_error_of e = if is_no_memory e then NoMemory else Text e

@@ -85,7 +85,7 @@ fn read_all<R: Read>(alloc: Global, input: &mut R) -> Result<Vec<u8>, RunError>
 /// Makes room behind the first bytes, if there is none: twice as many bytes, but at least 4096, and
 /// at most one more than an input may have.
 fn make_room(bytes: &mut Vec<u8>, count: usize) -> Result<(), AllocError>
-    requires few { count ≤ limit }
+    requires below_limit { count ≤ limit }
     requires bound { vec_len bytes.old ≤ limit + 1 }
     ensures room { OnOk result (count < vec_len bytes.new) }
     ensures bound { OnOk result (vec_len bytes.new ≤ limit + 1) }

@@ -3,6 +3,9 @@
 //! All of it stands in `hexfilter_core`, as [`program`] over any host.
 #![tactic(auto)]
 
+#[cfg(test)]
+mod tests;
+
 use hexfilter_core::program;
 use std::process::ExitCode;
 

@@ -21,7 +21,7 @@ pub record FirstInvalid (ignores : Bool) (x : List ℕ) (c p : ℕ) : Type 0 whe
   pub rest : List ℕ
   pub cut : x ≡ front ++ c ∷ rest
   pub position : p ≡ length front
-  pub first : NamesFirstBad (text_of ignores x) (InvalidHexCharacter c (length (text_of ignores front)))
+  pub first : NamesFirstBad (text_of ignores x) c (length (text_of ignores front))
 
 -- the error names the first invalid character of x and its position, or the greatest `usize` for a
 -- position beyond it

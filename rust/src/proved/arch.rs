@@ -5,6 +5,7 @@ use crate::rattle::prelude::*;
 
 pub mod arithmetic16;
 pub mod check_first;
+mod drivers;
 mod lanes;
 pub mod lanes16;
 pub mod lanes32;
@@ -65,20 +66,4 @@ pub trait Kernel {
     /// Fills the output with the bytes that the input spells. The input must have two bytes for
     /// each byte of the output, and only digits.
     fn decode_unchecked(input: &[u8], output: &mut [u8]);
-}
-
-/// Writes `0x` if `prefix` is true, and then two digits for each byte, by the kernel `K`. The
-/// output must have room for them. Allocates only what the output allocates.
-#[inline(always)]
-pub fn encode_full<K: Kernel, O: Output>(input: &[u8], prefix: bool, upper: bool, output: &mut O) {
-    write_prefix(prefix, output);
-    K::encode(input, upper, output);
-}
-
-/// Writes `0x` if `prefix` is true.
-#[inline(always)]
-fn write_prefix<O: Output>(prefix: bool, output: &mut O) {
-    if prefix {
-        output.write(b"0x");
-    }
 }

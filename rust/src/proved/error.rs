@@ -1,11 +1,11 @@
 // Made by rust/erase from crates/const_hex/src/error.rt. Do not edit.
-//! Why a text is refused.
+//! Why a text cannot be decoded, or a text does not fit into an output.
 
 use crate::rattle::prelude::*;
 use crate::rattle::alloc::{AllocError, AllocFailed};
 use crate::rattle::{error, fmt};
 
-/// Why a text is refused.
+/// Why a text cannot be decoded, or a text does not fit into an output.
 ///
 /// A text is judged in this order: an odd length, then the length that a sized call needs, then the
 /// characters.
@@ -20,7 +20,7 @@ pub enum FromHexError {
     InvalidHexCharacter {
         /// The character with the byte's number. A byte past 127 gives U+0080 to U+00FF.
         c: char,
-        /// The byte's place, counted from 0 at the start of the whole text, prefix included.
+        /// The byte's position, counted from 0 at the start of the whole text, prefix included.
         index: usize,
     },
 }
@@ -40,13 +40,13 @@ impl fmt::Display for FromHexError {
 impl error::Error for FromHexError {}
 
 impl From<AllocError> for FromHexError {
-    fn from(_refused: AllocError) -> FromHexError {
-        match AllocError::from(_refused) {}
+    fn from(_error: AllocError) -> FromHexError {
+        match AllocError::from(_error) {}
     }
 }
 
 impl<T> From<AllocFailed<T>> for FromHexError {
-    fn from(_refused: AllocFailed<T>) -> FromHexError {
-        match AllocError::from(_refused) {}
+    fn from(_error: AllocFailed<T>) -> FromHexError {
+        match AllocError::from(_error) {}
     }
 }

@@ -5,7 +5,7 @@ use crate::proved::arch::check_first::CheckFirst;
 use crate::proved::arch::lanes16::Lanes16;
 use crate::proved::arch::lanes32::Lanes32;
 use crate::proved::arch::plain::Plain;
-use crate::proved::arch::{FixedKernel, Kernel, encode_full, lanes16, lanes32};
+use crate::proved::arch::{FixedKernel, Kernel, lanes16, lanes32};
 use crate::proved::output::Output;
 use crate::proved::output::buffered::BufferedOutput;
 use crate::proved::output::slice::SliceOutput;
@@ -16,7 +16,7 @@ use crate::proved::stream::BufferedHex;
 use crate::proved::tables::{
     HEX_CHARS_LOWER, HEX_CHARS_UPPER, HEX_DECODE_LUT, NIL, digit_at, value_at,
 };
-use crate::proved::text::{ascii_text, fill_text, text_length};
+use crate::proved::text::{ascii_text, encode_full, fill_text, text_length};
 use crate::proved::codec::checks::{check, check_raw, check_with, const_check, const_check_raw};
 use crate::proved::codec::decoder::Decoder;
 use crate::proved::codec::decoders::{
@@ -209,15 +209,6 @@ fn arch_decode_unchecked() -> Result<(), Box<dyn Error>> {
     let mut bytes = [0; 4];
     FixedKernel::decode_unchecked(b"6b697769", &mut bytes);
     assert_eq!(bytes, *b"kiwi");
-    Ok(())
-}
-
-#[test]
-fn arch_encode_full() -> Result<(), Box<dyn Error>> {
-    let mut text = [0; 10];
-    let mut output = SliceOutput::new(&mut text);
-    encode_full::<Plain, SliceOutput>(b"kiwi", true, false, &mut output);
-    assert_eq!(text, *b"0x6b697769");
     Ok(())
 }
 
@@ -484,6 +475,15 @@ fn text_text_length() -> Result<(), Box<dyn Error>> {
 fn text_fill_text() -> Result<(), Box<dyn Error>> {
     let mut text = [0; 10];
     fill_text::<Plain>(b"kiwi", true, false, &mut text);
+    assert_eq!(text, *b"0x6b697769");
+    Ok(())
+}
+
+#[test]
+fn text_encode_full() -> Result<(), Box<dyn Error>> {
+    let mut text = [0; 10];
+    let mut output = SliceOutput::new(&mut text);
+    encode_full::<Plain, SliceOutput>(b"kiwi", true, false, &mut output);
     assert_eq!(text, *b"0x6b697769");
     Ok(())
 }

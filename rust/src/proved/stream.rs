@@ -2,11 +2,11 @@
 //! The text of bytes, handed to a sink in large pieces.
 
 use crate::rattle::prelude::*;
-use crate::proved::arch::{FixedKernel, Kernel, encode_full};
+use crate::proved::arch::{FixedKernel, Kernel};
 use crate::proved::output::buffered::BufferedOutput;
 use crate::proved::sink::output::SinkOutput;
 use crate::proved::sink::{Sink, SinkError, refusal_of};
-use crate::proved::text::{ascii_text, fill_text, text_length};
+use crate::proved::text::{ascii_text, encode_full, fill_text, text_length};
 
 /// How many bytes are gathered for one call of a sink. A text of at most this length is handed over
 /// whole.

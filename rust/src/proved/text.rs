@@ -1,8 +1,9 @@
 // Made by rust/erase from crates/const_hex_arch/src/text.rt. Do not edit.
-//! The whole text of bytes, in a slice of exactly its length.
+//! The whole text of bytes: its length, and how it is written.
 
 use crate::rattle::prelude::*;
 use crate::proved::arch::Kernel;
+use crate::proved::output::Output;
 
 /// The length of the text of `count` bytes, behind `0x` if `prefix` is true. If that does not fit
 /// into a `usize`, the answer is the greatest one, and no text has that length.
@@ -27,6 +28,22 @@ pub fn fill_text<K: Kernel>(input: &[u8], prefix: bool, upper: bool, output: &mu
 fn put_prefix(prefix: bool, output: &mut [u8]) {
     if prefix {
         output.copy_from_slice(b"0x");
+    }
+}
+
+/// Writes `0x` if `prefix` is true, and then two digits for each byte, by the kernel `K`. The
+/// output must have room for them. Allocates only what the output allocates.
+#[inline(always)]
+pub fn encode_full<K: Kernel, O: Output>(input: &[u8], prefix: bool, upper: bool, output: &mut O) {
+    write_prefix(prefix, output);
+    K::encode(input, upper, output);
+}
+
+/// Writes `0x` if `prefix` is true.
+#[inline(always)]
+fn write_prefix<O: Output>(prefix: bool, output: &mut O) {
+    if prefix {
+        output.write(b"0x");
     }
 }
 

@@ -5,14 +5,14 @@ ghost use Rattle.const_hex_arch.specs.Texts.{AllDigits};
 ghost use Rattle.const_hex.specs.Results.{ChecksText};
 ghost use Rattle.const_hex.specs.declared.error.FromHexError.{FromHexError};
 
-use crate::codec::body::{bad_character, even_body};
+use crate::codec::body::{find_invalid_character, strip_even};
 use crate::error::FromHexError;
 use const_hex_arch::{FixedKernel, Kernel};
 
 /// Whether [`decode`](crate::decode) accepts a text.
 ///
 /// Returns [`FromHexError::OddLength`] for an odd length. Otherwise returns
-/// [`FromHexError::InvalidHexCharacter`] with the first byte behind the prefix that is not a digit,
+/// [`FromHexError::InvalidHexCharacter`] with the first byte after the prefix that is not a digit,
 /// if there is one. Does not allocate.
 ///
 /// ```rust
@@ -36,10 +36,10 @@ pub fn check(input: &[u8]) -> Result<(), FromHexError>
 pub fn check_with<K: Kernel>(input: &[u8]) -> Result<(), FromHexError>
     ensures { ChecksText input.now result }
 {
-    if K::check(even_body(input)?) {
+    if K::check(strip_even(input)?) {
         Ok(())
     } else {
-        Err(bad_character(input))
+        Err(find_invalid_character(input))
     }
 }
 

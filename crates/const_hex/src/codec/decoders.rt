@@ -5,7 +5,7 @@ ghost use Rattle.const_hex.specs.Results.{body_of, IsOdd, Reads, ReadsSized, all
 ghost use Rattle.const_hex.specs.declared.error.FromHexError.{FromHexError};
 ghost use Rattle.const_hex.specs.declared.error.FromHexError.TheVariants.{OddLength, NoMemory};
 
-use crate::codec::body::{bad_character, decode_body, even_body};
+use crate::codec::body::{decode_body, find_invalid_character, strip_even};
 use crate::error::FromHexError;
 use crate::reserved::decode_reserved;
 use const_hex_arch::{FixedKernel, Kernel};
@@ -17,7 +17,7 @@ use std::alloc::Global;
 ///
 /// - [`FromHexError::OddLength`], before anything is allocated;
 /// - [`FromHexError::NoMemory`], if memory cannot be allocated;
-/// - [`FromHexError::InvalidHexCharacter`], with the first byte behind the prefix that is not a
+/// - [`FromHexError::InvalidHexCharacter`], with the first byte after the prefix that is not a
 ///   digit.
 ///
 /// ```rust
@@ -51,9 +51,9 @@ fn decode_owned<K: Kernel>(alloc: Global, input: &[u8]) -> Result<Vec<u8>, FromH
     ensures err { IfErr result (λ e. e ≢ NoMemory → Reads input.now (Err e)) }
     ensures odd { (result ≡ Err OddLength) ↔ IsOdd (length input.now) }
 {
-    match decode_reserved::<K>(alloc, even_body(input)?)? {
+    match decode_reserved::<K>(alloc, strip_even(input)?)? {
         Some(bytes) => Ok(bytes),
-        None => Err(bad_character(input)),
+        None => Err(find_invalid_character(input)),
     }
 }
 
@@ -64,8 +64,8 @@ fn decode_owned<K: Kernel>(alloc: Global, input: &[u8]) -> Result<Vec<u8>, FromH
 /// - [`FromHexError::OddLength`], and the output is unchanged;
 /// - [`FromHexError::InvalidStringLength`], if the text spells another number of bytes than the
 ///   output has, and the output is unchanged;
-/// - [`FromHexError::InvalidHexCharacter`]. A front of the output may be decoded, no longer than
-///   the pairs before the bad byte, and the rest is unchanged.
+/// - [`FromHexError::InvalidHexCharacter`]. Bytes that stand before the invalid character may
+///   have been decoded into the output. Its rest is unchanged.
 ///
 /// Does not allocate.
 ///
@@ -93,12 +93,12 @@ pub fn decode_to_slice(input: &[u8], output: &mut [u8]) -> Result<(), FromHexErr
 pub fn decode_to_slice_with<K: Kernel>(input: &[u8], output: &mut [u8]) -> Result<(), FromHexError>
     ensures { DecodesToSlice K.USE_CHECK_FN input.now output.old output.new result }
 {
-    let body = even_body(input)?;
+    let body = strip_even(input)?;
     if body.len() / 2 != output.len() {
         return Err(FromHexError::InvalidStringLength);
     }
     if !decode_body::<K>(body, output) {
-        return Err(bad_character(input));
+        return Err(find_invalid_character(input));
     }
     Ok(())
 }
@@ -114,8 +114,8 @@ pub fn decode_to_slice_with<K: Kernel>(input: &[u8], output: &mut [u8]) -> Resul
 /// - [`FromHexError::OddLength`], and the output is unchanged;
 /// - [`FromHexError::InvalidStringLength`], if the text spells more bytes than the output has, and
 ///   the output is unchanged;
-/// - [`FromHexError::InvalidHexCharacter`]. A front of the output may be decoded, no longer than
-///   the pairs before the bad byte, and the rest is unchanged.
+/// - [`FromHexError::InvalidHexCharacter`]. Bytes that stand before the invalid character may
+///   have been decoded into the output. Its rest is unchanged.
 ///
 /// Does not allocate.
 ///
@@ -146,13 +146,13 @@ pub fn decode_to_front_with<K: Kernel>(
 ) -> Result<usize, FromHexError>
     ensures { DecodesToFront input.now output.old output.new result }
 {
-    let body = even_body(input)?;
+    let body = strip_even(input)?;
     let count = body.len() / 2;
     if count > output.len() {
         return Err(FromHexError::InvalidStringLength);
     }
     if !decode_body::<K>(body, &mut output[..count]) {
-        return Err(bad_character(input));
+        return Err(find_invalid_character(input));
     }
     Ok(count)
 }
@@ -160,7 +160,7 @@ pub fn decode_to_front_with<K: Kernel>(
 /// The N bytes that a text spells, with or without a prefix, in either case.
 ///
 /// The first of these errors is returned: [`FromHexError::OddLength`];
-/// [`FromHexError::InvalidStringLength`], if the text behind the prefix does not have 2 * N bytes;
+/// [`FromHexError::InvalidStringLength`], if the text after the prefix does not have 2 * N bytes;
 /// [`FromHexError::InvalidHexCharacter`]. Does not allocate.
 ///
 /// ```rust

@@ -9,7 +9,7 @@ ghost use Rattle.const_hex.specs.Results.{Encodes, EncodesToSlice};
 ghost use Rattle.const_hex.specs.declared.error.FromHexError.TheVariants.{InvalidStringLength};
 
 use crate::error::FromHexError;
-use crate::reserved::reserved_bytes;
+use crate::reserved::encode_reserved;
 use const_hex_arch::{FixedKernel, Kernel, ascii_text, fill_text, text_length};
 use std::alloc::{AllocError, Global};
 
@@ -23,7 +23,7 @@ fn encode_owned<K: Kernel>(
 ) -> Result<String, AllocError>
     ensures { IfOk result (λ s. string_bytes s ≡ full_text prefix upper input.now) }
 {
-    let text = reserved_bytes::<K>(alloc, input, prefix, upper)?;
+    let text = encode_reserved::<K>(alloc, input, prefix, upper)?;
     // SAFETY: the text is ASCII.
     Ok(unsafe { String::from_utf8_unchecked(text) })
 }
@@ -216,7 +216,7 @@ pub fn encode_full_to_slice_with<K: Kernel>(
 pub fn encode_to_str<'a>(input: &[u8], output: &'a mut [u8]) -> Result<&'a str, FromHexError>
     ensures fits { IsOk result ↔ (length output.entry.now ≡ 2 * length input.now) }
     ensures lends { IfOk result (λ text. text.now ≡ hex_text false input.now) }
-    ensures refusal { IfErr result (λ e. e ≡ InvalidStringLength) }
+    ensures error { IfErr result (λ e. e ≡ InvalidStringLength) }
     ensures* after { sem 𝓛 (EndsEncoded false input.now output.entry result) }
 {
     if !two_per_byte(input.len(), output.len()) {
@@ -235,7 +235,7 @@ pub fn encode_to_str<'a>(input: &[u8], output: &'a mut [u8]) -> Result<&'a str, 
 pub fn encode_to_str_upper<'a>(input: &[u8], output: &'a mut [u8]) -> Result<&'a str, FromHexError>
     ensures fits { IsOk result ↔ (length output.entry.now ≡ 2 * length input.now) }
     ensures lends { IfOk result (λ text. text.now ≡ hex_text true input.now) }
-    ensures refusal { IfErr result (λ e. e ≡ InvalidStringLength) }
+    ensures error { IfErr result (λ e. e ≡ InvalidStringLength) }
     ensures* after { sem 𝓛 (EndsEncoded true input.now output.entry result) }
 {
     if !two_per_byte(input.len(), output.len()) {

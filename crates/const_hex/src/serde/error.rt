@@ -28,7 +28,7 @@ impl<E: fmt::Display> fmt::Display for JsonError<E> {
     fn fmt<W: fmt::Write>(&self, f: &mut fmt::Formatter<W>) -> fmt::Result {
         match self {
             JsonError::NotText => f.write_str("expected a hex encoded string"),
-            JsonError::Hex(refusal) => write!(f, "{refusal}"),
+            JsonError::Hex(error) => write!(f, "{error}"),
         }
     }
 }

@@ -33,7 +33,7 @@ module _ (had mid left held holds : Option (List ℕ)) (d : Decoder) (t bs piece
   refused OddLength n h other = absurd h
   refused InvalidStringLength n h other = absurd (other refl)
   refused (InvalidHexCharacter c i) n h other =
-      (t ++ piece, bs, whole, λ rest. NamesCounted-longer (t ++ piece) rest (InvalidHexCharacter c i) h.1, read_front d t bs piece r, wrote)
+      (t ++ piece, bs, whole, λ rest. NamesCounted-longer (t ++ piece) rest c i h.1, read_front d t bs piece r, wrote)
   refused NoMemory n h other = absurd h
 
 -- ---- a text that is read at once
@@ -52,11 +52,11 @@ shorter t = grind arith
 
 -- another error names its first invalid character
 pub names_character : (t : List ℕ) (n : ℕ) (e : FromHexError) → ReadsOn t [] n (Err e) → length t < 2 ^ 63
-    → e ≢ InvalidStringLength → NamesFirstBad t e
-names_character t n OddLength h small other = h
+    → e ≢ InvalidStringLength → (c index : ℕ) × (e ≡ InvalidHexCharacter c index) × NamesFirstBad t c index
+names_character t n OddLength h small other = absurd h
 names_character t n InvalidStringLength h small other = absurd (other refl)
 names_character t n (InvalidHexCharacter c i) (fits, (m, (p, bad, is, at), counts)) small other =
     let within = bad.within in
     let less = shorter t in
-    (p, bad, is, omega (arith, at, counts, small, within, less))
-names_character t n NoMemory h small other = h
+    (c, i, refl, (p, bad, is, omega (arith, at, counts, small, within, less)))
+names_character t n NoMemory h small other = absurd h

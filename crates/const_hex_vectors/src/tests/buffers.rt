@@ -3,9 +3,10 @@
 ghost use Rattle.std.specs.Prelude.{◌≡◌};
 ghost use Rattle.const_hex.specs.Texts.{text_length};
 
+use crate::tests::{same, same_bytes, same_read};
 use const_hex::{Buffer, const_decode_to_array, const_encode, decode_to_array};
+use hex_testing::Testing;
 use hex_testing::texts::printed;
-use hex_testing::{Testing, same, same_bytes, same_read};
 
 /// Each call that lends the text of a buffer lends this one.
 pub(crate) fn lends<const N: usize, const PREFIX: bool, const LEN: usize>(

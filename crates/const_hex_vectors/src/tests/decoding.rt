@@ -1,5 +1,6 @@
 //! Calls that check or read a text, on worked examples. `const_hex_table` asks many more.
 
+use crate::tests::{same, same_bytes, same_read};
 use const_hex::serde::{JsonError, no_prefix};
 use const_hex::{
     FromHex, FromHexError, Plain, check, check_raw, const_check, const_check_raw,
@@ -7,7 +8,7 @@ use const_hex::{
     decode_to_slice_with, deserialize, serialize,
 };
 use hex_testing::texts::{bad, digits};
-use hex_testing::{Testing, Text, same, same_bytes, same_read};
+use hex_testing::{Testing, Text};
 use serde_json::Value;
 use std::boxed::BoxedSlice;
 use std::convert::AsSlice;

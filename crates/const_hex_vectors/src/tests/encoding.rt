@@ -1,5 +1,6 @@
 //! Every call that writes text, on worked examples.
 
+use crate::tests::{same, same_bytes, same_read};
 use const_hex::serde::no_prefix;
 use const_hex::{
     BytesToHexChars, FromHexError, Plain, ToHex, ToHexExt, decode, encode, encode_full_to_slice,
@@ -7,7 +8,7 @@ use const_hex::{
     encode_upper, encode_upper_prefixed, fill_text, serialize, serialize_upper, text_length,
 };
 use hex_testing::texts::{bytes, printed};
-use hex_testing::{Testing, Text, same, same_bytes, same_read};
+use hex_testing::{Testing, Text};
 use serde_json::Value;
 use std::alloc::AllocError;
 

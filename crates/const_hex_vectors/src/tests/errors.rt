@@ -2,10 +2,11 @@
 
 ghost use Rattle.std.specs.Prelude.{IsTrue};
 
+use crate::tests::{same, same_bytes};
 use const_hex::FromHexError::{self, InvalidStringLength, NoMemory, OddLength};
 use const_hex::{HexFault, JsonError, SinkError};
+use hex_testing::Testing;
 use hex_testing::texts::bad;
-use hex_testing::{Testing, same, same_bytes};
 use std::alloc::AllocError;
 
 const NOT_TEXT: JsonError<FromHexError> = JsonError::NotText;

@@ -4,7 +4,7 @@
 use crate::rattle::prelude::*;
 use super::lanes::{self, Vectors};
 use super::lanes16::{self, Lanes16};
-use super::{Kernel, short, steps};
+use super::{Kernel, drivers, short};
 use crate::proved::output::Output;
 use super::simd::prelude::*;
 
@@ -18,7 +18,7 @@ impl Kernel for Arithmetic16 {
 
     #[inline(always)]
     fn encode<O: Output>(input: &[u8], upper: bool, output: &mut O) {
-        steps::encode::<8, 16, Arithmetic16, Arithmetic16, O>(input, upper, output);
+        drivers::encode_in_steps::<8, 16, Arithmetic16, Arithmetic16, O>(input, upper, output);
     }
 
     #[inline(always)]
@@ -26,24 +26,24 @@ impl Kernel for Arithmetic16 {
         if input.len() < 16 {
             return short::check::<Arithmetic16>(input);
         }
-        steps::check::<16, Arithmetic16>(input)
+        drivers::check_in_steps::<16, Arithmetic16>(input)
     }
 
     #[inline(always)]
     fn decode_checked(input: &[u8], output: &mut [u8]) -> bool {
-        steps::decode_checked::<16, Arithmetic16, Arithmetic16>(input, output)
+        drivers::decode_in_steps::<16, Arithmetic16, Arithmetic16>(input, output)
     }
 
     #[inline(always)]
     fn decode_unchecked(input: &[u8], output: &mut [u8]) {
-        steps::decode_unchecked::<16, Arithmetic16, Arithmetic16>(input, output);
+        drivers::decode_digits_in_steps::<16, Arithmetic16, Arithmetic16>(input, output);
     }
 }
 
 impl Vectors<16> for Arithmetic16 {
     #[inline(always)]
-    fn encode(v: u8x16, upper: bool, twin: bool) -> [u8x16; 2] {
-        let [_, factors] = *lanes16::row(upper, twin);
+    fn digits_of(v: u8x16, upper: bool, copy: bool) -> [u8x16; 2] {
+        let [_, factors] = *lanes16::row(upper, copy);
         lanes16::in_two(lanes::digits(lanes16::halves(v, factors), upper))
     }
 
@@ -58,7 +58,7 @@ impl Vectors<16> for Arithmetic16 {
     }
 
     #[inline(always)]
-    fn merge(first: u8x16, second: u8x16, twin: bool) -> u8x16 {
-        Lanes16::merge(first, second, twin)
+    fn merge(first: u8x16, second: u8x16, copy: bool) -> u8x16 {
+        Lanes16::merge(first, second, copy)
     }
 }

@@ -5,10 +5,10 @@ use crate::rattle::prelude::*;
 use super::simd::prelude::*;
 
 /// What differs between vectors of different `N`. The rest of a kernel is the same for every `N`.
-/// Calls that take `twin` do the same for both values, by [`lanes16::row`](super::lanes16::row).
+/// What [`lanes16::row`](super::lanes16::row) says of `copy` holds for each call that takes one.
 pub(crate) trait Vectors<const N: usize> {
     /// Two digits for each lane, in order: the text of the first half, and the text of the second.
-    fn encode(v: Simd<u8, N>, upper: bool, twin: bool) -> [Simd<u8, N>; 2];
+    fn digits_of(v: Simd<u8, N>, upper: bool, copy: bool) -> [Simd<u8, N>; 2];
 
     /// The value of each lane that is a digit.
     fn values(v: Simd<u8, N>) -> Simd<u8, N>;
@@ -18,12 +18,14 @@ pub(crate) trait Vectors<const N: usize> {
     fn marks(v: Simd<u8, N>) -> Simd<u8, N>;
 
     /// One byte for each two values, the higher half first.
-    fn merge(first: Simd<u8, N>, second: Simd<u8, N>, twin: bool) -> Simd<u8, N>;
+    fn merge(first: Simd<u8, N>, second: Simd<u8, N>, copy: bool) -> Simd<u8, N>;
 }
 
 /// The value of each lane that is a digit, and more than 15 for every other lane.
 ///
 /// This is algorithm 3 of Wojciech Muła and Geoff Langdale, "Validating hexadecimal", 2022-01-17.
+// Compared line by line with the published arithmetic: min(satsub(v + 0xC6, 6) - 0xF0,
+// satadd((v & 0xDF) - 0x41, 10)), with sums and differences that wrap.
 #[inline(always)]
 pub(crate) fn nibbles<const N: usize>(v: Simd<u8, N>) -> Simd<u8, N> {
     let decimal = (v + Simd::splat(0xC6)).saturating_sub(Simd::splat(6)) - Simd::splat(0xF0);
@@ -97,9 +99,9 @@ pub(crate) fn joint_marks<const N: usize, V: Vectors<N>>(
 pub(crate) fn decode<const N: usize, V: Vectors<N>>(
     first: Simd<u8, N>,
     second: Simd<u8, N>,
-    twin: bool,
+    copy: bool,
 ) -> Simd<u8, N> {
-    V::merge(V::values(first), V::values(second), twin)
+    V::merge(V::values(first), V::values(second), copy)
 }
 
 /// As [`decode`], by [`unhex`], for a text that was tested before.
@@ -107,17 +109,7 @@ pub(crate) fn decode<const N: usize, V: Vectors<N>>(
 pub(crate) fn decode_digits<const N: usize, V: Vectors<N>>(
     first: Simd<u8, N>,
     second: Simd<u8, N>,
-    twin: bool,
+    copy: bool,
 ) -> Simd<u8, N> {
-    V::merge(unhex(first), unhex(second), twin)
-}
-
-/// A step of `N` bytes: the first `H` bytes, then the last `H`, and then only `fill`.
-#[inline(always)]
-pub(crate) fn ends<const H: usize, const N: usize>(bytes: &[u8], fill: u8) -> [u8; N] {
-    let mut step = [fill; N];
-    let lanes = step.within_mut(..);
-    lanes[..H].copy_from_slice(bytes.within(..H));
-    lanes[H..2 * H].copy_from_slice(bytes.within(bytes.len() - H..));
-    step
+    V::merge(unhex(first), unhex(second), copy)
 }

@@ -7,14 +7,14 @@
 use crate::rattle::prelude::*;
 use super::lanes::{self, Vectors};
 use super::lanes16::{self, Lanes16};
-use super::{Kernel, steps};
+use super::{Kernel, drivers};
 use crate::proved::output::Output;
 use super::simd::prelude::*;
 
 /// Two digits for each lane, in order: the text of the first 16 lanes, and the text of the last 16.
 #[inline(always)]
 pub fn encode_chunk<const UPPER: bool>(v: u8x32) -> [u8x32; 2] {
-    text_vectors(v, UPPER, false)
+    Lanes32::digits_of(v, UPPER, false)
 }
 
 /// Whether every lane is a digit.
@@ -49,14 +49,12 @@ pub fn unhex(v: u8x32) -> u8x32 {
 /// at most one step of half that size, by 16 lanes, and then goes on as [`Lanes16`].
 pub struct Lanes32;
 
-// No contract or test fixes that `check` and `decode_unchecked` run these steps, since other steps
-// give the same answers. They were read against the table of steps in docs/DESIGN.md.
 impl Kernel for Lanes32 {
     const USE_CHECK_FN: bool = false;
 
     #[inline(always)]
     fn encode<O: Output>(input: &[u8], upper: bool, output: &mut O) {
-        steps::encode::<16, 32, Lanes32, Lanes16, O>(input, upper, output);
+        drivers::encode_in_steps::<16, 32, Lanes32, Lanes16, O>(input, upper, output);
     }
 
     // Not `always`: decoders name `CheckFirst` in a branch that this kernel never takes. With all
@@ -66,29 +64,31 @@ impl Kernel for Lanes32 {
         if input.len() < 32 {
             return Lanes16::check(input);
         }
-        steps::check::<32, Lanes32>(input)
+        drivers::check_in_steps::<32, Lanes32>(input)
     }
 
     #[inline(always)]
     fn decode_checked(input: &[u8], output: &mut [u8]) -> bool {
-        steps::decode_checked::<32, Lanes32, Lanes16>(input, output)
+        drivers::decode_in_steps::<32, Lanes32, Lanes16>(input, output)
     }
 
     #[inline(always)]
     fn decode_part(input: &[u8], start: usize, output: &mut [u8]) -> bool {
-        steps::decode_part::<32, Lanes32, Lanes16>(input, start, output)
+        drivers::decode_part::<32, Lanes32, Lanes16>(input, start, output)
     }
 
     #[inline(always)]
     fn decode_unchecked(input: &[u8], output: &mut [u8]) {
-        steps::decode_unchecked::<32, Lanes32, Lanes16>(input, output);
+        drivers::decode_digits_in_steps::<32, Lanes32, Lanes16>(input, output);
     }
 }
 
 impl Vectors<32> for Lanes32 {
     #[inline(always)]
-    fn encode(v: u8x32, upper: bool, twin: bool) -> [u8x32; 2] {
-        text_vectors(v, upper, twin)
+    fn digits_of(v: u8x32, upper: bool, copy: bool) -> [u8x32; 2] {
+        let first = lanes16::encode_lanes(v.extract::<0, 16>(), upper, copy);
+        let second = lanes16::encode_lanes(v.extract::<16, 16>(), upper, copy);
+        [first, second]
     }
 
     #[inline(always)]
@@ -103,8 +103,8 @@ impl Vectors<32> for Lanes32 {
     }
 
     #[inline(always)]
-    fn merge(first: u8x32, second: u8x32, twin: bool) -> u8x32 {
-        pack(join(first, second), twin)
+    fn merge(first: u8x32, second: u8x32, copy: bool) -> u8x32 {
+        pack(join(first, second), copy)
     }
 }
 
@@ -116,14 +116,6 @@ fn limits(v: u8x32) -> u8x32 {
     let first = lanes16::limits(v.extract::<0, 16>());
     let second = lanes16::limits(v.extract::<16, 16>());
     lanes16::join(first, second)
-}
-
-/// The text of 32 lanes, in two vectors.
-#[inline(always)]
-fn text_vectors(v: u8x32, upper: bool, twin: bool) -> [u8x32; 2] {
-    let first = lanes16::text_of(v.extract::<0, 16>(), upper, twin);
-    let second = lanes16::text_of(v.extract::<16, 16>(), upper, twin);
-    [first, second]
 }
 
 /// The bytes that the lanes of a text spell, and whether each of these lanes is a digit. If one is
@@ -151,9 +143,9 @@ fn join(first: u8x32, second: u8x32) -> u8x64 {
 /// One byte for each two lanes, which must be values.
 // Two lanes make one of 16 bits, high + 256 * low. Times 4097, its upper byte is 16 * high + low.
 #[inline(always)]
-fn pack(nibbles: u8x64, twin: bool) -> u8x32 {
+fn pack(nibbles: u8x64, copy: bool) -> u8x32 {
     let pairs = u16x32::from_le_bytes(nibbles);
-    let half = lanes16::in_both_halves(lanes16::row(false, twin)[1]);
+    let half = lanes16::in_both_halves(lanes16::row(false, copy)[1]);
     let factors = u16x32::from_le_bytes(join(half, half));
     ((pairs * factors) >> u16x32::splat(8)).cast()
 }

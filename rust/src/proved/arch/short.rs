@@ -4,7 +4,7 @@
 use crate::rattle::prelude::*;
 use super::lanes::Vectors;
 use super::plain::Plain;
-use super::{Kernel, lanes, steps};
+use super::{Kernel, steps};
 use super::simd::prelude::*;
 
 /// Whether every byte of a text of at most 16 bytes is a digit.
@@ -24,7 +24,7 @@ pub(crate) fn check<W: Vectors<16>>(text: &[u8]) -> bool {
 /// As `check`, for `H` to `2 * H` bytes.
 #[inline(always)]
 fn check_ends<const H: usize, W: Vectors<16>>(text: &[u8]) -> bool {
-    steps::check_step::<16, W>(&lanes::ends::<H, 16>(text, b'0'))
+    steps::check_step::<16, W>(&steps::load_ends::<H, 16>(text, b'0'))
 }
 
 /// Fills an output of at most 16 bytes with the bytes that the text spells, and returns true.
@@ -57,7 +57,7 @@ fn decode_ends<const H: usize, const D: usize, W: Vectors<16>>(
     output: &mut [u8],
 ) -> bool {
     let mut bytes = [0; 16];
-    let step = lanes::ends::<D, 32>(text, b'0');
+    let step = steps::load_ends::<D, 32>(text, b'0');
     let are_digits = steps::decode_step::<16, W>(&step, &mut bytes, false);
     if are_digits {
         put::<H>(

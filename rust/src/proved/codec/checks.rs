@@ -2,14 +2,14 @@
 //! Whether a text can be decoded.
 
 use crate::rattle::prelude::*;
-use crate::proved::codec::body::{bad_character, even_body};
+use crate::proved::codec::body::{find_invalid_character, strip_even};
 use crate::proved::error::FromHexError;
 use crate::proved::{FixedKernel, Kernel};
 
 /// Whether [`decode`](crate::decode) accepts a text.
 ///
 /// Returns [`FromHexError::OddLength`] for an odd length. Otherwise returns
-/// [`FromHexError::InvalidHexCharacter`] with the first byte behind the prefix that is not a digit,
+/// [`FromHexError::InvalidHexCharacter`] with the first byte after the prefix that is not a digit,
 /// if there is one. Does not allocate.
 #[inline(always)]
 pub fn check(input: &[u8]) -> Result<(), FromHexError> {
@@ -19,10 +19,10 @@ pub fn check(input: &[u8]) -> Result<(), FromHexError> {
 /// As [`check`], by a kernel of the caller's choice. Does not allocate.
 #[inline(always)]
 pub fn check_with<K: Kernel>(input: &[u8]) -> Result<(), FromHexError> {
-    if K::check(even_body(input)?) {
+    if K::check(strip_even(input)?) {
         Ok(())
     } else {
-        Err(bad_character(input))
+        Err(find_invalid_character(input))
     }
 }
 

@@ -1,34 +1,34 @@
 // Made by rust/erase from crates/const_hex/src/codec/decoder.rt. Do not edit.
-//! From a text in pieces to bytes.
+//! From a text in chunks to bytes.
 
 use crate::rattle::prelude::*;
-use crate::proved::codec::body::{decode_body, first_bad, is_prefix, strip_prefix};
+use crate::proved::codec::body::{decode_body, find_first_bad, is_prefix, strip_prefix};
 use crate::proved::error::FromHexError;
 use crate::proved::{FixedKernel, Kernel};
 
-/// The state of a decoder that neither has half of a pair nor found a bad byte.
+/// The state of a decoder that has neither half of a pair nor an error.
 const EVEN: u8 = 0;
 /// The state of a decoder whose byte is a digit that waits for its other half.
 const WAITING: u8 = 1;
-/// The state of a decoder that found a bad byte.
-const REFUSED: u8 = 2;
+/// The state of a decoder that found an invalid character.
+const FAILED: u8 = 2;
 
-/// Decodes a text that comes in pieces, as from a file or a socket.
+/// Decodes a text that comes in chunks, as from a file or a socket.
 ///
-/// Together the pieces are read as one text, however it was cut: between `0` and `x`, between two
-/// digits, or into empty pieces. Only a prefix at the start of the whole text is removed.
+/// Together the chunks are read as one text, however it was cut: between `0` and `x`, between two
+/// digits, or into empty chunks. Only a prefix at the start of the whole text is removed.
 ///
-/// Hand each piece to [`decode`](Decoder::decode), and call [`finish`](Decoder::finish) at the end
-/// of the text. [`decode`](crate::decode) names an odd length before any bad byte. A decoder cannot:
-/// it names the first bad byte at once, and an odd length at the end.
+/// Pass each chunk to [`decode`](Decoder::decode), and call [`finish`](Decoder::finish) at the end
+/// of the text. [`decode`](crate::decode) names an odd length before any invalid character. A decoder
+/// cannot: it names the first invalid character at once, and an odd length at the end.
 // Calls for C take this struct as it is. Its bytes may then have any values, and if all are zero it
 // is a new decoder.
 #[repr(C)]
 #[derive(Clone, Copy, Debug)]
 pub struct Decoder {
-    /// How many bytes were read, or the place of the bad byte.
-    place: usize,
-    /// The digit that waits, or the bad byte.
+    /// How many bytes were read, or the position of the invalid character.
+    index: usize,
+    /// The digit that waits, or the invalid character.
     byte: u8,
     state: u8,
 }
@@ -38,61 +38,60 @@ impl Decoder {
     #[inline(always)]
     pub fn new() -> Decoder {
         Decoder {
-            place: 0,
+            index: 0,
             byte: 0,
             state: EVEN,
         }
     }
 
-    /// Reads the next piece of the text. Puts the bytes that are spelled now, and were not before,
+    /// Reads the next chunk of the text. Puts the bytes that are spelled now, and were not before,
     /// at the front of the output, and returns their number. The rest of the output is unchanged.
     ///
-    /// A piece of n bytes gives at most (n + 1) / 2: a digit without its other half waits for the
-    /// next piece. The first of these errors is returned:
+    /// A chunk of n bytes gives at most (n + 1) / 2: a digit without its other half waits for the
+    /// next chunk. The first of these errors is returned:
     ///
-    /// - [`FromHexError::InvalidHexCharacter`], if a piece before had a bad byte: the same error
-    ///   again. Nothing changes;
-    /// - [`FromHexError::InvalidStringLength`], if the output has too little room for the pairs of
-    ///   digits, whatever bytes they are. Nothing changes, and the piece may be handed over again;
-    /// - [`FromHexError::InvalidHexCharacter`], with the first byte behind the prefix that is not a
-    ///   digit, and its place in the whole text, or `usize::MAX` for a place beyond it. A front of
-    ///   the output may be decoded, no longer than the pairs before the bad byte, and the rest is
-    ///   unchanged.
+    /// - [`FromHexError::InvalidHexCharacter`], if a chunk before had an invalid character: the
+    ///   same error again. Nothing changes;
+    /// - [`FromHexError::InvalidStringLength`], if the output has too little space for the pairs of
+    ///   digits, whatever bytes they are. Nothing changes, and the chunk may be passed again;
+    /// - [`FromHexError::InvalidHexCharacter`], with the first byte after the prefix that is not a
+    ///   digit, and its position in the whole text, or `usize::MAX` for a position beyond it. Bytes
+    ///   that stand before it may have been decoded into the output. Its rest is unchanged.
     ///
     /// Does not allocate.
     #[inline(always)]
-    pub fn decode(&mut self, piece: &[u8], output: &mut [u8]) -> Result<usize, FromHexError> {
-        self.decode_with::<FixedKernel>(piece, output)
+    pub fn decode(&mut self, chunk: &[u8], output: &mut [u8]) -> Result<usize, FromHexError> {
+        self.decode_with::<FixedKernel>(chunk, output)
     }
 
-    /// As [`decode`](Decoder::decode), by a kernel of the caller's choice. Each piece may have
+    /// As [`decode`](Decoder::decode), by a kernel of the caller's choice. Each chunk may have
     /// another. Does not allocate.
     #[inline(always)]
     pub fn decode_with<K: Kernel>(
         &mut self,
-        piece: &[u8],
+        chunk: &[u8],
         output: &mut [u8],
     ) -> Result<usize, FromHexError> {
         if let Some(error) = self.error() {
             return Err(error);
         }
-        let (waiting, digits) = self.next_digits(piece);
+        let (waiting, digits) = self.next_digits(chunk);
         let count = count_pairs(waiting, digits);
         if count > output.len() {
             return Err(FromHexError::InvalidStringLength);
         }
         if !decode_next::<K>(waiting, digits, &mut output[..count]) {
-            return Err(self.refuse(piece.len() - digits.len(), digits));
+            return Err(self.fail(chunk.len() - digits.len(), digits));
         }
-        self.advance(piece.len(), left_over(waiting, digits));
+        self.advance(chunk.len(), left_over(waiting, digits, count));
         Ok(count)
     }
 
-    /// Ends the text. `Ok` if it was read whole: then the pieces together are a text that
+    /// Ends the text. `Ok` if it was read whole: then the chunks together are a text that
     /// [`decode`](crate::decode) accepts.
     ///
-    /// Returns [`FromHexError::OddLength`] if the text has an odd number of bytes and no bad one, so
-    /// also for a lone `0`. If a piece had a bad byte, returns its error again. Does not allocate.
+    /// Returns [`FromHexError::OddLength`] if the text has an odd number of bytes and no invalid
+    /// character, so also for a lone `0`. If a chunk had an invalid character, returns its error again. Does not allocate.
     #[inline(always)]
     pub fn finish(self) -> Result<(), FromHexError> {
         if let Some(error) = self.error() {
@@ -104,11 +103,11 @@ impl Decoder {
         Ok(())
     }
 
-    /// How many bytes of the text were read, or `usize::MAX` if they were more. After a bad byte, its
-    /// place. Does not allocate.
+    /// How many bytes of the text were read, or `usize::MAX` if they were more. After an invalid
+    /// character, its position. Does not allocate.
     #[inline(always)]
     pub fn position(&self) -> usize {
-        self.place
+        self.index
     }
 
     /// The error that ended the text.
@@ -119,7 +118,7 @@ impl Decoder {
         }
         Some(FromHexError::InvalidHexCharacter {
             c: char::from(self.byte),
-            index: self.place,
+            index: self.index,
         })
     }
 
@@ -133,22 +132,22 @@ impl Decoder {
         }
     }
 
-    /// The digit that waits and the digits that follow, if this piece follows.
+    /// The digit that waits and the digits that follow, if this chunk follows.
     #[inline(always)]
-    fn next_digits<'a>(&self, piece: &'a [u8]) -> (Option<u8>, &'a [u8]) {
-        if self.place == 0 {
-            return (None, strip_prefix(piece));
+    fn next_digits<'a>(&self, chunk: &'a [u8]) -> (Option<u8>, &'a [u8]) {
+        if self.index == 0 {
+            return (None, strip_prefix(chunk));
         }
-        match piece {
-            [x, rest @ ..] if self.place == 1 && is_prefix(self.byte, *x) => (None, rest),
-            _ => (self.waiting(), piece),
+        match chunk {
+            [x, rest @ ..] if self.index == 1 && is_prefix(self.byte, *x) => (None, rest),
+            _ => (self.waiting(), chunk),
         }
     }
 
-    /// Goes on behind so many bytes, with the digit that waits now.
+    /// Goes on after so many bytes, with the digit that waits now.
     #[inline(always)]
     fn advance(&mut self, count: usize, waiting: Option<u8>) {
-        self.place = self.place.saturating_add(count);
+        self.index = self.index.saturating_add(count);
         match waiting {
             Some(digit) => {
                 self.byte = digit;
@@ -158,19 +157,20 @@ impl Decoder {
         }
     }
 
-    /// Ends with the first bad byte of these digits, which stand so many bytes behind what was read.
+    /// Ends with the first invalid character of these digits, which stand so many bytes after what was
+    /// read.
     #[cold]
-    fn refuse(&mut self, skipped: usize, digits: &[u8]) -> FromHexError {
-        let (byte, place) = first_bad(digits);
-        let place = self.place.saturating_add(skipped).saturating_add(place);
+    fn fail(&mut self, skipped: usize, digits: &[u8]) -> FromHexError {
+        let (byte, index) = find_first_bad(digits);
+        let index = self.index.saturating_add(skipped).saturating_add(index);
         *self = Decoder {
-            place,
+            index,
             byte,
-            state: REFUSED,
+            state: FAILED,
         };
         FromHexError::InvalidHexCharacter {
             c: char::from(byte),
-            index: place,
+            index,
         }
     }
 }
@@ -181,13 +181,13 @@ fn count_pairs(waiting: Option<u8>, digits: &[u8]) -> usize {
     (digits.len() + usize::from(waiting.is_some())) / 2
 }
 
-/// The digit behind the last pair.
+/// The digit after so many pairs.
 #[inline(always)]
-fn left_over(waiting: Option<u8>, digits: &[u8]) -> Option<u8> {
+fn left_over(waiting: Option<u8>, digits: &[u8], count: usize) -> Option<u8> {
     match digits {
         [] => waiting,
         [.., last] => {
-            if (digits.len() + usize::from(waiting.is_some())) % 2 == 1 {
+            if digits.len() + usize::from(waiting.is_some()) > 2 * count {
                 Some(*last)
             } else {
                 None
@@ -206,7 +206,7 @@ fn decode_next<K: Kernel>(waiting: Option<u8>, digits: &[u8], output: &mut [u8])
     }
 }
 
-/// As `decode_next`, behind a digit that waits.
+/// As `decode_next`, after a digit that waits.
 // A call of its own: with its body too, `decode_with` would be too large to be inlined.
 #[inline(always)]
 fn decode_behind<K: Kernel>(high: u8, digits: &[u8], output: &mut [u8]) -> bool {
@@ -227,8 +227,8 @@ fn decode_digits<K: Kernel>(digits: &[u8], output: &mut [u8]) -> bool {
     decode_body::<K>(pairs, output) && check_last::<K>(last)
 }
 
-/// Whether the byte behind the pairs, if there is one, is a digit.
-// It is decoded behind a `0`: then a program that decodes alone has no code that checks alone.
+/// Whether the byte after the pairs, if there is one, is a digit.
+// It is decoded after a `0`: then a program that decodes alone has no code that checks alone.
 #[inline(always)]
 fn check_last<K: Kernel>(last: &[u8]) -> bool {
     match last {

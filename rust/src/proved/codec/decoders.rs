@@ -2,7 +2,7 @@
 //! From text to bytes.
 
 use crate::rattle::prelude::*;
-use crate::proved::codec::body::{bad_character, decode_body, even_body};
+use crate::proved::codec::body::{decode_body, find_invalid_character, strip_even};
 use crate::proved::error::FromHexError;
 #[cfg(feature = "alloc")]
 use crate::proved::reserved::decode_reserved;
@@ -15,7 +15,7 @@ use crate::rattle::alloc::Global;
 ///
 /// - [`FromHexError::OddLength`], before anything is allocated;
 /// - [`FromHexError::NoMemory`], if memory cannot be allocated;
-/// - [`FromHexError::InvalidHexCharacter`], with the first byte behind the prefix that is not a
+/// - [`FromHexError::InvalidHexCharacter`], with the first byte after the prefix that is not a
 ///   digit.
 #[cfg(feature = "alloc")]
 pub fn decode(alloc: Global, input: &[u8]) -> Result<Vec<u8>, FromHexError> {
@@ -34,9 +34,9 @@ pub fn decode_with<K: Kernel>(alloc: Global, input: &[u8]) -> Result<Vec<u8>, Fr
 #[inline(always)]
 #[cfg(feature = "alloc")]
 fn decode_owned<K: Kernel>(alloc: Global, input: &[u8]) -> Result<Vec<u8>, FromHexError> {
-    match decode_reserved::<K>(alloc, even_body(input)?)? {
+    match decode_reserved::<K>(alloc, strip_even(input)?)? {
         Some(bytes) => Ok(bytes),
-        None => Err(bad_character(input)),
+        None => Err(find_invalid_character(input)),
     }
 }
 
@@ -47,8 +47,8 @@ fn decode_owned<K: Kernel>(alloc: Global, input: &[u8]) -> Result<Vec<u8>, FromH
 /// - [`FromHexError::OddLength`], and the output is unchanged;
 /// - [`FromHexError::InvalidStringLength`], if the text spells another number of bytes than the
 ///   output has, and the output is unchanged;
-/// - [`FromHexError::InvalidHexCharacter`]. A front of the output may be decoded, no longer than
-///   the pairs before the bad byte, and the rest is unchanged.
+/// - [`FromHexError::InvalidHexCharacter`]. Bytes that stand before the invalid character may
+///   have been decoded into the output. Its rest is unchanged.
 ///
 /// Does not allocate.
 #[inline(always)]
@@ -60,12 +60,12 @@ pub fn decode_to_slice(input: &[u8], output: &mut [u8]) -> Result<(), FromHexErr
 /// it decodes, every error leaves the output unchanged. Does not allocate.
 #[inline(always)]
 pub fn decode_to_slice_with<K: Kernel>(input: &[u8], output: &mut [u8]) -> Result<(), FromHexError> {
-    let body = even_body(input)?;
+    let body = strip_even(input)?;
     if body.len() / 2 != output.len() {
         return Err(FromHexError::InvalidStringLength);
     }
     if !decode_body::<K>(body, output) {
-        return Err(bad_character(input));
+        return Err(find_invalid_character(input));
     }
     Ok(())
 }
@@ -81,8 +81,8 @@ pub fn decode_to_slice_with<K: Kernel>(input: &[u8], output: &mut [u8]) -> Resul
 /// - [`FromHexError::OddLength`], and the output is unchanged;
 /// - [`FromHexError::InvalidStringLength`], if the text spells more bytes than the output has, and
 ///   the output is unchanged;
-/// - [`FromHexError::InvalidHexCharacter`]. A front of the output may be decoded, no longer than
-///   the pairs before the bad byte, and the rest is unchanged.
+/// - [`FromHexError::InvalidHexCharacter`]. Bytes that stand before the invalid character may
+///   have been decoded into the output. Its rest is unchanged.
 ///
 /// Does not allocate.
 #[inline(always)]
@@ -96,13 +96,13 @@ pub fn decode_to_front_with<K: Kernel>(
     input: &[u8],
     output: &mut [u8],
 ) -> Result<usize, FromHexError> {
-    let body = even_body(input)?;
+    let body = strip_even(input)?;
     let count = body.len() / 2;
     if count > output.len() {
         return Err(FromHexError::InvalidStringLength);
     }
     if !decode_body::<K>(body, &mut output[..count]) {
-        return Err(bad_character(input));
+        return Err(find_invalid_character(input));
     }
     Ok(count)
 }
@@ -110,7 +110,7 @@ pub fn decode_to_front_with<K: Kernel>(
 /// The N bytes that a text spells, with or without a prefix, in either case.
 ///
 /// The first of these errors is returned: [`FromHexError::OddLength`];
-/// [`FromHexError::InvalidStringLength`], if the text behind the prefix does not have 2 * N bytes;
+/// [`FromHexError::InvalidStringLength`], if the text after the prefix does not have 2 * N bytes;
 /// [`FromHexError::InvalidHexCharacter`]. Does not allocate.
 #[inline(always)]
 pub fn decode_to_array<const N: usize>(input: &[u8]) -> Result<[u8; N], FromHexError> {

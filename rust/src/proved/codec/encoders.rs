@@ -4,7 +4,7 @@
 use crate::rattle::prelude::*;
 use crate::proved::error::FromHexError;
 #[cfg(feature = "alloc")]
-use crate::proved::reserved::reserved_bytes;
+use crate::proved::reserved::encode_reserved;
 use crate::proved::{FixedKernel, Kernel, ascii_text, fill_text, text_length};
 use crate::rattle::alloc::{AllocError, Global};
 
@@ -17,7 +17,7 @@ fn encode_owned<K: Kernel>(
     prefix: bool,
     upper: bool,
 ) -> Result<String, AllocError> {
-    let text = reserved_bytes::<K>(alloc, input, prefix, upper)?;
+    let text = encode_reserved::<K>(alloc, input, prefix, upper)?;
     // SAFETY: the text is ASCII.
     Ok(unsafe { String::from_utf8_unchecked(text) })
 }

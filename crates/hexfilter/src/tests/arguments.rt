@@ -1,0 +1,74 @@
+//! What the arguments ask for.
+
+use crate::tests::{CHECK, CHECK_LINES, DECODE, DECODE_LINES, ENCODE};
+use hex_testing::{Testing, same};
+use hexfilter_core::{Mode, Request, request_of};
+
+fn encode(prefix: bool, upper: bool, columns: usize) -> Mode {
+    Mode::Encode {
+        prefix,
+        upper,
+        columns,
+    }
+}
+
+#[test]
+fn requests(rt: HostRuntime) {
+    let rows = [
+        ("", ENCODE, None),
+        ("-d", DECODE, None),
+        ("--decode", DECODE, None),
+        ("--check", CHECK, None),
+        ("--check -d", CHECK, None),
+        ("--decode --ignore-newlines", DECODE_LINES, None),
+        ("--ignore-newlines --check", CHECK_LINES, None),
+        ("-u", encode(false, true, 0), None),
+        ("-p --upper", encode(true, true, 0), None),
+        ("-pu", encode(true, true, 0), None),
+        ("-w76", encode(false, false, 76), None),
+        ("-w 76", encode(false, false, 76), None),
+        ("-puw76", encode(true, true, 76), None),
+        ("-up -w 0", encode(true, true, 0), None),
+        ("--wrap=76", encode(false, false, 76), None),
+        ("--wrap 76 -p", encode(true, false, 76), None),
+        (
+            "-w9 --wrap=18446744073709551615",
+            encode(false, false, usize::MAX),
+            None,
+        ),
+        ("-dw76", DECODE, None),
+        ("file", ENCODE, Some(0)),
+        ("-d file", DECODE, Some(1)),
+        ("file -d", DECODE, Some(0)),
+        ("-", ENCODE, Some(0)),
+        ("-- -d", ENCODE, Some(1)),
+        ("-d --", DECODE, None),
+        ("-w 7 --", encode(false, false, 7), None),
+    ];
+    for (arguments, mode, file) in rows {
+        asks(&rt, arguments, Some(Request::Run(mode, file)));
+    }
+    asks(&rt, "-d --help", Some(Request::Help));
+    asks(&rt, "--version file", Some(Request::Version));
+}
+
+#[test]
+fn invalid(rt: HostRuntime) {
+    let rows =
+        "-x|--decod|--DECODE|-D|-w|--wrap|-w x|-w 1x|-w -1|-w +1|--wrap=|--wrap=1x|-wd|-d-|one two|\
+        one -- two|-- one two|--wrap=18446744073709551616|--ignore-newlines=|---|--help=|-w76p";
+    for arguments in rows.split('|') {
+        asks(&rt, arguments, None);
+    }
+}
+
+/// The arguments, with spaces between them, ask for that.
+fn asks(rt: &impl Testing, arguments: &str, want: Option<Request>) {
+    let mut words = Vec::new(rt.alloc());
+    for word in arguments.split_ascii_whitespace() {
+        words
+            .push(word.to_string(rt.alloc()).expect(rt, "memory"))
+            .expect(rt, "memory");
+    }
+    same!(rt, "request_of", arguments; request_of(&words), want);
+}

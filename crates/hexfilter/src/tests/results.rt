@@ -1,0 +1,185 @@
+//! What is written, and which error is returned: of given inputs, at every cut, and of long ones.
+
+use crate::tests::{CHECK, CHECK_LINES, DECODE, DECODE_LINES, ENCODE, End, run_on};
+use const_hex::FromHexError;
+use hex_testing::texts::bad;
+use hex_testing::{Fault, Source, Target, Testing, Text, same, same_bytes};
+use hexfilter_core::{Mode, run};
+use std::io::{self, ErrorKind, Read};
+
+fn encode(prefix: bool, upper: bool, columns: usize) -> Mode {
+    Mode::Encode {
+        prefix,
+        upper,
+        columns,
+    }
+}
+
+#[test]
+fn encoded(rt: HostRuntime) {
+    let rows: [(Mode, &[u8], &[u8]); 14] = [
+        (ENCODE, b"", b""),
+        (ENCODE, b"kiwi", b"6b697769"),
+        (ENCODE, b"Hello world!", b"48656c6c6f20776f726c6421"),
+        (encode(false, true, 0), b"kiwi", b"6B697769"),
+        (encode(true, false, 0), b"kiwi", b"0x6b697769"),
+        (encode(true, true, 0), b"kiwi", b"0x6B697769"),
+        (encode(true, false, 0), b"", b"0x"),
+        (encode(false, false, 4), b"", b""),
+        (encode(true, false, 4), b"", b"0x\n"),
+        (encode(false, false, 4), b"kiwi", b"6b69\n7769\n"),
+        (encode(true, false, 4), b"kiwi", b"0x6b\n6977\n69\n"),
+        (encode(false, false, 3), b"kiwi", b"6b6\n977\n69\n"),
+        (encode(true, false, 1), b"k", b"0\nx\n6\nb\n"),
+        (encode(false, false, usize::MAX), b"kiwi", b"6b697769\n"),
+    ];
+    for (mode, input, want) in rows {
+        ends(&rt, mode, input, End::Done, want);
+    }
+}
+
+#[test]
+fn decoded(rt: HostRuntime) {
+    let rows: [(Mode, &[u8], &[u8]); 12] = [
+        (DECODE, b"", b""),
+        (DECODE, b"0x", b""),
+        (DECODE, b"0X", b""),
+        (DECODE, b"6b697769", b"kiwi"),
+        (DECODE, b"0x6B697769", b"kiwi"),
+        (DECODE, b"0X6b697769", b"kiwi"),
+        (DECODE, b"ff00", b"\xff\0"),
+        (CHECK, b"0x6b697769", b""),
+        (DECODE_LINES, b"\n", b""),
+        (DECODE_LINES, b"6b697769\n", b"kiwi"),
+        (DECODE_LINES, b"\n0\n\nx6\nb697769\n\n", b"kiwi"),
+        (CHECK_LINES, b"0\nx6b\n", b""),
+    ];
+    for (mode, input, want) in rows {
+        ends(&rt, mode, input, End::Done, want);
+    }
+}
+
+/// A run ends like that, and has written these bytes: in one read and write, and byte by byte.
+fn ends(rt: &impl Testing, mode: Mode, input: &[u8], end: End, want: &[u8]) {
+    let row = (mode, Text(input));
+    let (ended, written) = run_on(rt, mode, &mut { input });
+    same!(rt, "run", row; ended, end);
+    same_bytes!(rt, "run", row; written, want);
+    let mut source = Source::new(input, 0, ErrorKind::Other);
+    let mut target = Target::new(rt.alloc(), 1, Fault::Nothing);
+    let ended = crate::tests::end_of(run(mode, &mut source, &mut target));
+    same!(rt, "run by bytes", row; ended, end);
+    same_bytes!(rt, "run by bytes", row; target.taken, want);
+}
+
+#[test]
+fn refused(rt: HostRuntime) {
+    let odd = FromHexError::OddLength;
+    let rows: [(Mode, &[u8], FromHexError); 17] = [
+        (DECODE, b"0", odd),
+        (DECODE, b"0x6", odd),
+        (CHECK, b"6b6", odd),
+        (DECODE_LINES, b"6b\n6\n", odd),
+        (DECODE, b"z", bad(b'z', 0)),
+        (DECODE, b"6b69z", bad(b'z', 4)),
+        (CHECK, b"0xzz", bad(b'z', 2)),
+        (DECODE, b"0x0x6b", bad(b'x', 3)),
+        (DECODE, b"6b0x6b", bad(b'x', 3)),
+        (DECODE, b"x06b", bad(b'x', 0)),
+        (DECODE, b"0y6b", bad(b'y', 1)),
+        (DECODE, b"6b69\n", bad(b'\n', 4)),
+        (DECODE, b"6b\xff0", bad(0xff, 2)),
+        (DECODE_LINES, b"6b\n\nz", bad(b'z', 4)),
+        (CHECK_LINES, b"\n0\nx6b\n6g", bad(b'g', 8)),
+        (DECODE_LINES, b"6b\r\n69", bad(b'\r', 2)),
+        (DECODE_LINES, b"6b 69", bad(b' ', 2)),
+    ];
+    for (mode, input, error) in rows {
+        let row = (mode, Text(input));
+        same!(&rt, "run", row; run_on(&rt, mode, &mut { input }).0, End::Text(error));
+        let mut source = Source::new(input, 0, ErrorKind::Other);
+        same!(&rt, "run by bytes", row; run_on(&rt, mode, &mut source).0, End::Text(error));
+    }
+}
+
+// The bytes 32 to 63, as text.
+const TEXT: &[u8; 64] = b"202122232425262728292a2b2c2d2e2f303132333435363738393a3b3c3d3e3f";
+
+const BYTES: &[u8; 32] = b" !\"#$%&'()*+,-./0123456789:;<=>?";
+
+#[test]
+fn every_cut(rt: HostRuntime) {
+    let mut faulty = *TEXT;
+    faulty[63] = b'g';
+    for cut in 0..=64 {
+        let (first, last) = TEXT.split_at(cut);
+        let (end, written) = run_on(&rt, DECODE, &mut first.chain(last));
+        same!(&rt, "decode", cut; end, End::Done);
+        same_bytes!(&rt, "decode", cut; written, BYTES);
+        let (end, written) = run_on(&rt, DECODE_LINES, &mut first.chain(&b"\n"[..]).chain(last));
+        same!(&rt, "decode lines", cut; end, End::Done);
+        same_bytes!(&rt, "decode lines", cut; written, BYTES);
+        let (first, last) = faulty.split_at(cut);
+        let (end, _) = run_on(&rt, CHECK, &mut first.chain(last));
+        same!(&rt, "check", cut; end, End::Text(bad(b'g', 63)));
+        let (first, last) = BYTES.split_at(cut / 2);
+        let (end, written) = run_on(&rt, encode(false, false, 0), &mut first.chain(last));
+        same!(&rt, "encode", cut; end, End::Done);
+        same_bytes!(&rt, "encode", cut; written, TEXT);
+    }
+}
+
+// Chunks have 65536 bytes to encode and 131072 to decode.
+const COUNTS: [u64; 4] = [65_535, 65_536, 65_537, 131_073];
+
+#[test]
+fn long_inputs(rt: HostRuntime) {
+    for count in COUNTS {
+        let (end, text) = run_on(&rt, ENCODE, &mut io::repeat(0).take(count));
+        same!(&rt, "encode", count; end, End::Done);
+        same!(&rt, "encode", count; (text.len() as u64, text.iter().all(|b| *b == b'0')), (2 * count, true));
+        let (end, bytes) = run_on(&rt, DECODE, &mut io::repeat(b'0').take(2 * count));
+        same!(&rt, "decode", count; end, End::Done);
+        same!(&rt, "decode", count; (bytes.len() as u64, bytes.iter().all(|b| *b == 0)), (count, true));
+        let (end, _) = run_on(&rt, CHECK, &mut io::repeat(b'0').take(2 * count + 1));
+        same!(&rt, "check", count; end, End::Text(FromHexError::OddLength));
+    }
+}
+
+#[test]
+fn positions_in_long_inputs(rt: HostRuntime) {
+    for count in COUNTS {
+        let index = count as usize;
+        let (end, _) = run_on(
+            &rt,
+            DECODE,
+            &mut io::repeat(b'0').take(count).chain(&b"z"[..]),
+        );
+        same!(&rt, "decode", count; end, End::Text(bad(b'z', index)));
+        let lines = &mut io::repeat(b'\n').take(count).chain(&b"0\nz"[..]);
+        same!(&rt, "decode lines", count; run_on(&rt, DECODE_LINES, lines).0, End::Text(bad(b'z', index + 2)));
+    }
+}
+
+#[test]
+fn long_lines(rt: HostRuntime) {
+    for columns in [76, 1000, 100_000] {
+        let mut want = vec![in rt.alloc(); b'0'; 262_146].expect(&rt, "memory");
+        let mut end = columns;
+        while end < want.len() {
+            want.insert(end, b'\n').expect(&rt, "memory");
+            end = end.saturating_add(columns + 1);
+        }
+        want.push(b'\n').expect(&rt, "memory");
+        let (end, text) = run_on(
+            &rt,
+            encode(false, false, columns),
+            &mut io::repeat(0).take(131_073),
+        );
+        same!(&rt, "encode", columns; end, End::Done);
+        same_bytes!(&rt, "encode", columns; text, want);
+        let (end, bytes) = run_on(&rt, DECODE_LINES, &mut text.as_slice());
+        same!(&rt, "decode lines", columns; end, End::Done);
+        same!(&rt, "decode lines", columns; bytes.len(), 131_073);
+    }
+}
