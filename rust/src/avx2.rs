@@ -5,6 +5,7 @@
 pub use crate::proved::arch::{plain, Kernel};
 
 #[path = "proved/arch/drivers.rs"]
+#[rustfmt::skip]
 pub mod drivers;
 #[path = "proved/arch/lanes.rs"]
 #[rustfmt::skip]
