@@ -315,3 +315,7 @@ pub fn check<T: AsRef<[u8]>>(input: T) -> Result<(), FromHexError> {
 pub fn check_raw<T: AsRef<[u8]>>(input: T) -> bool {
     checks::check_raw(input.as_ref())
 }
+
+#[cfg(doctest)]
+#[doc = include_str!("../README.md")]
+struct Readme;
