@@ -36,7 +36,7 @@ fn a_c_program_links_and_runs() {
         ] {
             let program = library.join(format!("smoke-{file}"));
             run(Command::new("cc")
-                .args(["-std=c99", "-Wall", "-Wextra", "-I../../c", "smoke.c"])
+                .args(["-std=c99", "-Wall", "-Wextra", "-I../../../c", "smoke.c"])
                 .current_dir(concat!(env!("CARGO_MANIFEST_DIR"), "/tests"))
                 .arg(library.join(file))
                 .arg(format!("-Wl,-rpath,{}", library.display()))
