@@ -1,89 +1,95 @@
 /*
- * const_hex: hexadecimal text, proved.
+ * const_hex: encodes bytes as hexadecimal text and decodes it again.
  *
- * The work of every call is a function of the Rattle crate const_hex_c. It is proved that each is safe,
- * returns, and meets its contract for every input. On x86-64 the library has two builds of each, and the
- * call itself is C that picks one, which is tested and not proved. This header says in prose what the
- * contracts say. No proof compares the two; reading and tests do. Only tests show that the message of a
- * refusal is written, and what it says of a bad character. No call allocates. Nothing is kept between
- * calls, but on x86-64 one byte that says which build the processor can run. Any number of threads may
- * call at once.
+ *     unsigned char hash[32];
+ *     char text[CONST_HEX_ENCODED_SIZE(sizeof hash, CONST_HEX_PREFIX)];
+ *     if (const_hex_encode(hash, sizeof hash, text, sizeof text, CONST_HEX_PREFIX)) {
+ *         puts(text);
+ *     }
  *
- * THE CALLER'S PART
- *
- * No call can check these rules. Unless a rule says more, nothing is promised if it is broken:
- *  - a pointer points to as many bytes as the length after it says. They can be read, and also
- *    written if the pointer is not to const. A null pointer is allowed if the length is 0;
- *  - what a call writes (text or bytes, count, refusal, decoder, buffer) overlaps nothing else that
- *    the call is given, and no other thread touches it during the call;
- *  - nothing else changes what a call reads during the call: no other thread, and no other process
- *    through shared memory or a mapped file. If the text changes all the same, the call still
- *    returns and writes only what it was given, but the answer and what is written may be anything.
- *    Tests show this, and no proof does;
- *  - a pointer to one value (count, refusal, decoder) is not null and is aligned for its type. The
- *    value can be written, unless the pointer is to const;
- *  - prefix and upper are 0 or 1. In C and C++ the type bool ensures that. From another language,
- *    pass its bool and not an int.
- *
- * All lengths and all bytes are allowed, and text, bytes and buffer may have any alignment. No text
- * needs a NUL at its end. Only const_hex_refusal_words writes one.
- *
- * LIMITS
- *
- * On x86-64 the library needs a processor with x86-64-v2 (SSE4.2 and what came with it, since about
- * 2009). On an older one a call may stop the program with an illegal instruction.
- *
- * On x86-64 the library is tested with glibc and with musl, on ARM only under qemu.
- *
- * A call needs less than 2 KB of stack.
- *
- * The objects have no unwind tables. A debugger or a profiler that stops inside a call may not find the
- * caller.
- *
- * The objects have no marks for IBT and SHSTK. A program that is linked with them runs without both.
- *
- * KEYS
- *
- * If a text is valid, and for all bytes that are encoded, the instructions that a call runs depend
- * only on the call, the lengths, the prefix, and upper. No address that it reads or writes depends
- * on a byte or a digit. This is tested for both builds on x86-64, and not proved. It is not said of
- * a text that is refused: the refusal names the position of the bad character, and the time shows it
- * too. How long an instruction takes is up to the processor. No memory is wiped. libsodium has
- * sodium_bin2hex and sodium_hex2bin, made for keys.
- *
- * TEXTS IN PIECES
- *
- * A text that comes in pieces, as from a file or a socket, is decoded by const_hex_decode_piece, which
- * takes the prefix from the front of the text alone. Any other call that decodes or checks has to be
- * given a whole text: it would drop a 0x at the front of any piece.
- *
- * To encode bytes that come in pieces, call const_hex_encode for each piece, with a prefix for the
- * first piece alone. The texts together are the text of all bytes.
- *
- * EXAMPLES
- *
- *     unsigned char bytes[32];
- *     struct const_hex_refusal refusal;
- *     if (!const_hex_decode(text, length, bytes, sizeof bytes, &refusal)) {
- *         char message[CONST_HEX_WORDS];
- *         const_hex_refusal_words(&refusal, message, sizeof message);
+ *     struct const_hex_error error;
+ *     if (!const_hex_decode_exact(text, strlen(text), hash, sizeof hash, &error)) {
+ *         char message[CONST_HEX_MESSAGE_SIZE];
+ *         const_hex_error_message(&error, message, sizeof message);
  *         fprintf(stderr, "not a hash: %s\n", message);
  *     }
  *
- * A text has no NUL at its end. To print it with %s, make room for one:
+ * FUNCTIONS
  *
- *     char text[CONST_HEX_TEXT_LENGTH(sizeof bytes, true) + 1];
- *     size_t length = sizeof text - 1;
- *     if (const_hex_encode(bytes, sizeof bytes, true, false, text, length)) {
- *         text[length] = '\0';
- *         printf("%s\n", text);
- *     }
+ *     const_hex_encode            bytes to a string
+ *     const_hex_encoded_size      the buffer size that const_hex_encode needs
+ *     const_hex_decode            text to bytes; the buffer may be larger than needed
+ *     const_hex_decode_exact      text to a known number of bytes, such as a hash or a key
+ *     const_hex_decoder_update    decodes text that arrives in chunks, from a file or a socket
+ *     const_hex_decoder_finish    tells whether the chunks form a complete text
+ *     const_hex_check             whether a text can be decoded
+ *     const_hex_check_raw         whether every character is a hexadecimal digit
+ *     const_hex_error_message     turns an error into a readable message
+ *     const_hex_version           the version of the library
+ *
+ * CONVENTIONS
+ *
+ *  - A function that returns bool returns true on success. If it has a parameter error, it stores the
+ *    reason of a failure in *error, which is unchanged on success. Pass NULL if you do not need the reason.
+ *  - Hexadecimal text is two digits per byte, in uppercase, lowercase or both. It may begin with "0x" or
+ *    "0X". An empty text and a prefix alone are valid, and decode to 0 bytes. Anything else, including
+ *    whitespace and a newline at the end, is an error.
+ *  - Encoded text ends with a NUL terminator, unless CONST_HEX_NO_NUL is passed. Text that is decoded or
+ *    checked needs none: for a string, pass strlen(text).
+ *  - A parameter named ..._size is the capacity of a buffer. One named ..._length is the exact number of
+ *    bytes.
+ *  - The functions do not allocate memory and may be called from several threads at once.
+ *
+ * REQUIREMENTS
+ *
+ * The caller must ensure the following, which the functions cannot check. If it does not hold, the behavior
+ * is undefined:
+ *
+ *  - A buffer or text has at least the size or length that is passed with it. It may be NULL if that is 0,
+ *    and may have any alignment; an object (*written, *error, *decoder) is aligned for its type.
+ *  - A buffer or object that a function writes (text, bytes, message, *written, *error, *decoder) does not
+ *    overlap any other argument. In particular, text cannot be decoded in place.
+ *  - written, decoder, and the error that is passed to const_hex_error_message are not NULL.
+ *  - No other thread writes an argument while the function runs, and none reads what the function writes.
+ *    An exception: if something else changes the text meanwhile, such as a process that shares the memory,
+ *    the function still returns and writes only where it may, but the result is unspecified. This is tested
+ *    and not verified.
+ *
+ * FORMAL VERIFICATION
+ *
+ * The functions are written in Rattle, a dialect of Rust in which the compiler checks a proof that every
+ * function meets its contract: it is memory-safe, terminates, and returns and writes what the contract
+ * says, for all inputs. The contracts are in crates/const_hex_c; this header states them in prose.
+ *
+ * Tested and not verified are: the C code in c/dispatch.c, which detects the CPU and handles a NULL error;
+ * that const_hex_error_message writes a message, and how it shows an invalid character; and that this
+ * header agrees with the contracts.
+ *
+ * CONSTANT TIME
+ *
+ * For valid input, branches and memory addresses do not depend on the bytes or digits, only on the other
+ * arguments: the function, lengths, sizes, flags and pointers, and whether a text has a prefix. This is
+ * tested for both builds on x86-64, and not verified. It does not hold for invalid text: the error states
+ * the position of the invalid character, and timing reveals it too. How long an instruction takes is up to
+ * the CPU. No memory is wiped. libsodium has sodium_bin2hex and sodium_hex2bin, which are made for secrets.
+ *
+ * PLATFORMS
+ *
+ * Linux on x86-64, tested with glibc and musl, and on AArch64, tested under QEMU only. On x86-64 the CPU
+ * must support x86-64-v2 (SSE4.2 and what came with it, since about 2009): on an older one a function may
+ * stop the program with an illegal instruction. The library has a second build of each function, for
+ * x86-64-v3 (AVX2 and what came with it), which is used if the CPU supports it. The first call detects that
+ * and stores the result in one byte; nothing else is kept between calls.
+ *
+ * A function uses less than 2 KB of stack. The object files have no unwind tables: a debugger or profiler
+ * that stops inside a function may not find its caller. They have no IBT and SHSTK properties: a program
+ * that links them runs without both.
  *
  * BUILDING
  *
- *     cc -std=c99 program.c $(pkg-config --cflags --libs const_hex) -o program
+ *     cc program.c $(pkg-config --cflags --libs const_hex) -o program
  *
- * In CMake, find_package(const_hex) finds the library, and const_hex::const_hex is its target.
+ * With CMake, use find_package(const_hex) and link const_hex::const_hex. The header is C99 and C++11.
  */
 #ifndef CONST_HEX_H
 #define CONST_HEX_H
@@ -92,171 +98,274 @@
 #include <stddef.h>
 #include <stdint.h>
 
-/* The version of these calls: 10000 times the major one, 100 times the minor one, and the patch. */
-#define CONST_HEX_VERSION 10100
+/* The version of this header: 10000 * major + 100 * minor + patch. */
+#define CONST_HEX_VERSION 10000
 
-/* How long the text of so many bytes is, as a constant that can size an array. */
-#define CONST_HEX_TEXT_LENGTH(bytes, prefix) (2 * (bytes) + ((prefix) ? 2 : 0))
-
-/* Room for the message of any refusal, with the NUL behind it. */
-#define CONST_HEX_WORDS 64
-
-/* GCC and Clang warn if an answer is ignored. */
-#ifdef __GNUC__
-#define CONST_HEX_ANSWER __attribute__((warn_unused_result))
-#else
-#define CONST_HEX_ANSWER
+/*
+ * The compiler warns if a result is ignored, and if NULL is passed where it is not allowed. GCC also warns
+ * if it sees that a buffer is smaller than the size that is passed with it.
+ */
+#if defined(__has_attribute)
+#if __has_attribute(warn_unused_result)
+#define CONST_HEX_NODISCARD __attribute__((warn_unused_result))
+#endif
+#if __has_attribute(nonnull)
+#define CONST_HEX_NONNULL(parameter) __attribute__((nonnull(parameter)))
+#endif
+#if __has_attribute(access)
+#define CONST_HEX_READS(buffer, size) __attribute__((access(read_only, buffer, size)))
+#define CONST_HEX_WRITES(buffer, size) __attribute__((access(write_only, buffer, size)))
+#endif
+#endif
+#ifndef CONST_HEX_NODISCARD
+#define CONST_HEX_NODISCARD
+#endif
+#ifndef CONST_HEX_NONNULL
+#define CONST_HEX_NONNULL(parameter)
+#endif
+#ifndef CONST_HEX_READS
+#define CONST_HEX_READS(buffer, size)
+#define CONST_HEX_WRITES(buffer, size)
 #endif
 
 #ifdef __cplusplus
 extern "C" {
 #endif
 
-/* Why a text was refused: the kinds. A text is judged in this order. */
-enum {
-    /* The text, its prefix included, has an odd number of bytes. */
+/* ---- Errors ---- */
+
+/*
+ * Error kinds, in the order in which they are checked. A decoder differs: it checks for an odd number of
+ * characters at the end, and after an invalid character it only repeats its error.
+ */
+enum const_hex_error_kind {
+    /* The text has an odd number of characters. */
     CONST_HEX_ODD_LENGTH = 1,
-    /* The text spells another number of bytes than is wanted, or more than there is room for. */
+    /* The text decodes to more bytes than fit into the buffer, or not to the number of bytes required. */
     CONST_HEX_INVALID_LENGTH = 2,
-    /* A byte behind the prefix is not a digit: the first such byte, and its position. */
-    CONST_HEX_INVALID_CHARACTER = 3,
-    /* Out of memory. No call here allocates, so none gives this kind. */
-    CONST_HEX_NO_MEMORY = 4
+    /* A character after the prefix is not a hexadecimal digit. */
+    CONST_HEX_INVALID_CHARACTER = 3
 };
 
 /*
- * A refusal: the error of a text. If kind is CONST_HEX_INVALID_CHARACTER, byte is the first byte that is
- * not a digit (0 to 255), and index is its position, counted from 0 at the start of the whole text, prefix
- * included. For any other kind both are 0.
+ * Why a function failed.
+ *
+ *   kind   a value of enum const_hex_error_kind
+ *   byte   for CONST_HEX_INVALID_CHARACTER the value of the first invalid character, 0 to 255; otherwise 0
+ *   index  for CONST_HEX_INVALID_CHARACTER its position in the text, counted from 0 and including the
+ *          prefix; otherwise 0
  */
-struct const_hex_refusal {
+struct const_hex_error {
     uint32_t kind;
     uint32_t byte;
     size_t index;
 };
 
-/*
- * The length of the text of so many bytes: two digits for each byte, and two bytes more for a
- * prefix. If that does not fit into a size_t, the answer is SIZE_MAX, and no text has that length.
- */
-CONST_HEX_ANSWER
-size_t const_hex_encoded_length(size_t bytes, bool prefix);
+/* A buffer of this size has space for every message and its NUL terminator. */
+#define CONST_HEX_MESSAGE_SIZE 64
 
 /*
- * Fills text with two digits for each of the bytes, in order, in uppercase or lowercase. If
- * prefix is true, "0x" stands before them (never "0X").
+ * Writes a message that describes *error, and a NUL terminator, to message. The messages are
  *
- * Returns true exactly if text_length is the length of that text (const_hex_encoded_length); then
- * text holds it, without a NUL. If the answer is false, text is unchanged.
+ *     odd number of digits
+ *     invalid string length
+ *     invalid character 'z' at position 5
+ *
+ * A message that does not fit is truncated, perhaps within a UTF-8 character, and still ends with a NUL.
+ * CONST_HEX_MESSAGE_SIZE bytes are always enough.
+ *
+ * Returns the number of bytes written, without the NUL. If message_size is 0, nothing is written and the
+ * result is 0. If *error was not set by a function of this library, the message may be empty.
+ *
+ *     char message[CONST_HEX_MESSAGE_SIZE];
+ *     const_hex_error_message(&error, message, sizeof message);
+ *     fprintf(stderr, "%s\n", message);
+ *
+ * A single quote, a backslash, NUL, tab, newline and carriage return are shown as '\'', '\\', '\0', '\t',
+ * '\n' and '\r'. Other control characters, a no-break space (0xa0) and a soft hyphen (0xad) are shown by their
+ * number, as in '\u{1b}'. Any other byte above 127 is shown as the Unicode character with that number, in UTF-8.
  */
-CONST_HEX_ANSWER
-bool const_hex_encode(const void *bytes, size_t bytes_length, bool prefix, bool upper,
-                      char *text, size_t text_length);
+CONST_HEX_NONNULL(1)
+CONST_HEX_WRITES(2, 3)
+size_t const_hex_error_message(const struct const_hex_error *error, char *message, size_t message_size);
+
+/* ---- Encoding ---- */
+
+/* Flags for encoding; combine them with |. With 0 the text is lowercase, has no prefix and ends with a NUL. */
+#define CONST_HEX_UPPER 1u  /* uppercase digits: 6B instead of 6b */
+#define CONST_HEX_PREFIX 2u /* "0x" before the digits, also with CONST_HEX_UPPER */
+#define CONST_HEX_NO_NUL 4u /* no NUL terminator, as for a field of fixed length in a packet or a file */
 
 /*
- * Fills bytes with what text spells: a prefix "0x" or "0X" or none, and then two digits per byte,
- * in either case. It does not decode in place: bytes must not overlap text.
- *
- * Returns true if text spells exactly bytes_length bytes. Then bytes holds them, and refusal is
- * unchanged. Returns false if text is refused. Then refusal has the first of these:
- *  - CONST_HEX_ODD_LENGTH. bytes is unchanged;
- *  - CONST_HEX_INVALID_LENGTH, if there are not two digits for each byte. bytes is unchanged;
- *  - CONST_HEX_INVALID_CHARACTER. A front of bytes may be decoded, no longer than the pairs before
- *    the bad byte, and the rest is unchanged.
+ * The buffer size that const_hex_encode needs, as a constant expression. Unlike const_hex_encoded_size it
+ * tests neither for overflow nor for unknown flags, and its type follows that of bytes_length.
  */
-CONST_HEX_ANSWER
-bool const_hex_decode(const char *text, size_t text_length, void *bytes, size_t bytes_length,
-                      struct const_hex_refusal *refusal);
+#define CONST_HEX_ENCODED_SIZE(bytes_length, flags)                                                   \
+    (2 * (bytes_length) + (((flags) & CONST_HEX_PREFIX) ? 2 : 0) + (((flags) & CONST_HEX_NO_NUL) ? 0 : 1))
 
 /*
- * As const_hex_decode, but bytes may have more room than the text needs. Half of text_length is
- * always enough. It does not decode in place either.
+ * Returns the buffer size that const_hex_encode needs for bytes_length bytes, including the NUL terminator
+ * if there is one. Returns SIZE_MAX if that size is not representable or flags has an unknown bit; then no
+ * buffer suffices.
  *
- * Returns true if text spells at most bytes_length bytes. Then the front of bytes holds them,
- * *count is their number, and the rest of bytes and refusal are unchanged. Returns false if text is
- * refused. Then *count is unchanged, and refusal is as for const_hex_decode, but
- * CONST_HEX_INVALID_LENGTH means that text spells more than bytes_length bytes.
- *
- * The text has to be whole. const_hex_decode_piece decodes one that comes in pieces.
+ *     size_t size = const_hex_encoded_size(bytes_length, 0);
+ *     char *text = malloc(size);
+ *     if (text != NULL && const_hex_encode(bytes, bytes_length, text, size, 0)) ...
  */
-CONST_HEX_ANSWER
-bool const_hex_decode_front(const char *text, size_t text_length, void *bytes,
-                            size_t bytes_length, size_t *count,
-                            struct const_hex_refusal *refusal);
+CONST_HEX_NODISCARD
+size_t const_hex_encoded_size(size_t bytes_length, unsigned flags);
 
 /*
- * A decoder of a text that comes in pieces. If all of it is 0, it is a new one:
+ * Writes the hexadecimal text of bytes and a NUL terminator to text.
+ *
+ *   bytes, bytes_length  the bytes to encode
+ *   text, text_size      the buffer; it may be larger than needed, and the rest of it is unchanged
+ *   flags                0, or any of CONST_HEX_UPPER, CONST_HEX_PREFIX and CONST_HEX_NO_NUL
+ *
+ * Returns true on success. Returns false if text_size is smaller than const_hex_encoded_size(bytes_length,
+ * flags), or flags has an unknown bit. Then the buffer is unchanged, but its first byte is set to 0, so that
+ * it holds the empty string, if it has one and CONST_HEX_NO_NUL is not passed.
+ *
+ *     char text[65];
+ *     if (const_hex_encode(hash, 32, text, sizeof text, 0)) ...
+ *
+ * To encode bytes that arrive in chunks, encode each chunk, with CONST_HEX_PREFIX for the first one only.
+ * The concatenated texts are the text of all bytes.
+ */
+CONST_HEX_NODISCARD
+CONST_HEX_READS(1, 2)
+CONST_HEX_WRITES(3, 4)
+bool const_hex_encode(const void *bytes, size_t bytes_length, char *text, size_t text_size, unsigned flags);
+
+/* ---- Decoding ---- */
+
+/*
+ * Decodes text to bytes.
+ *
+ *   text, text_length  the text, with or without a prefix
+ *   bytes, bytes_size  the buffer; text_length / 2 bytes are always enough
+ *   written            receives the number of bytes decoded, or 0 on failure; must not be NULL
+ *   error              receives the reason of a failure; may be NULL
+ *
+ * Returns true on success. Bytes of the buffer after the decoded ones are unchanged. Returns false on
+ * failure:
+ *
+ *   CONST_HEX_ODD_LENGTH         bytes is unchanged
+ *   CONST_HEX_INVALID_LENGTH     the text decodes to more than bytes_size bytes; bytes is unchanged
+ *   CONST_HEX_INVALID_CHARACTER  bytes before the invalid character may already have been decoded; the
+ *                                rest of the buffer is unchanged
+ *
+ *     unsigned char bytes[256];
+ *     size_t written;
+ *     if (const_hex_decode(text, strlen(text), bytes, sizeof bytes, &written, NULL)) ...
+ *
+ * For a value of fixed length use const_hex_decode_exact: this function accepts shorter text.
+ */
+CONST_HEX_NODISCARD
+CONST_HEX_NONNULL(5)
+CONST_HEX_READS(1, 2)
+CONST_HEX_WRITES(3, 4)
+bool const_hex_decode(const char *text, size_t text_length, void *bytes, size_t bytes_size, size_t *written,
+                      struct const_hex_error *error);
+
+/*
+ * Like const_hex_decode, but the text must decode to exactly bytes_length bytes: for any other even length
+ * the error is CONST_HEX_INVALID_LENGTH. After CONST_HEX_INVALID_CHARACTER bytes before the invalid character
+ * may already have been decoded; after the other errors bytes is unchanged.
+ *
+ *     unsigned char key[32];
+ *     if (!const_hex_decode_exact(text, strlen(text), key, sizeof key, &error)) ...
+ */
+CONST_HEX_NODISCARD
+CONST_HEX_READS(1, 2)
+CONST_HEX_WRITES(3, 4)
+bool const_hex_decode_exact(const char *text, size_t text_length, void *bytes, size_t bytes_length,
+                            struct const_hex_error *error);
+
+/* ---- Decoding text that arrives in chunks ---- */
+
+/*
+ * The state of a decoder. Initialize it with zeros. It may be copied and needs no cleanup. Do not change
+ * its contents: the functions remain memory-safe, but their results are unspecified.
  *
  *     struct const_hex_decoder decoder = {0};
- *
- * Only the two calls below use what it holds. It may be copied, and nothing has to be freed. With any
- * other values the calls are as safe, but the bytes and the answers may be anything.
  */
 struct const_hex_decoder {
     size_t state[2];
 };
 
 /*
- * Decodes the next piece of a text. The text may be cut anywhere, also between the two digits of a
- * byte or between the 0 and the x of its prefix, and a piece may be empty.
+ * Decodes the next chunk of a text. The text may be split anywhere, even between the two digits of a byte
+ * or within the prefix, and a chunk may be empty. A prefix is accepted only at the start of the whole text. A
+ * byte is written when its second digit arrives.
  *
- * Returns true if the text has no bad byte so far, and there is room. Then the front of bytes holds
- * what the text spells so far and no call before has given, *count is the number of these bytes, and
- * the rest of bytes and refusal are unchanged. There are at most (text_length + 1) / 2 of them.
- * Returns false if not. Then *count is unchanged, and refusal has one of these:
- *  - CONST_HEX_INVALID_LENGTH, if there are more than bytes_length bytes. decoder and bytes are
- *    unchanged: call again with the same piece and more room, or with less of the piece;
- *  - CONST_HEX_INVALID_CHARACTER, with the position of the bad byte in the whole text, up to SIZE_MAX. A
- *    front of bytes may be decoded, and the rest is unchanged. Each later call for this decoder gives
- *    the same refusal, and changes nothing else.
+ *   decoder            the decoder
+ *   text, text_length  the next chunk
+ *   bytes, bytes_size  the buffer for the newly decoded bytes; (text_length + 1) / 2 bytes are always enough
+ *   written            receives the number of newly decoded bytes, or 0 on failure; must not be NULL
+ *   error              receives the reason of a failure; may be NULL
+ *
+ * Returns true on success. Bytes of the buffer after the decoded ones are unchanged. Returns false on
+ * failure:
+ *
+ *   CONST_HEX_INVALID_LENGTH     the newly decoded bytes do not fit. decoder and bytes are unchanged: call
+ *                                again with a larger buffer, or with a part of the chunk. This is checked
+ *                                before the characters are
+ *   CONST_HEX_INVALID_CHARACTER  index is the position in the whole text, or SIZE_MAX if it is greater.
+ *                                Bytes before the invalid character may already have been decoded; the
+ *                                rest of the buffer is unchanged. Every later call with this decoder fails
+ *                                with the same error
+ *
+ *     while ((length = fread(text, 1, sizeof text, file)) > 0) {
+ *         if (!const_hex_decoder_update(&decoder, text, length, bytes, sizeof bytes, &written, &error))
+ *             return false;
+ *         fwrite(bytes, 1, written, stdout);
+ *     }
+ *     return !ferror(file) && const_hex_decoder_finish(&decoder, &error);
  */
-CONST_HEX_ANSWER
-bool const_hex_decode_piece(struct const_hex_decoder *decoder, const char *text, size_t text_length,
-                            void *bytes, size_t bytes_length, size_t *count,
-                            struct const_hex_refusal *refusal);
+CONST_HEX_NODISCARD
+CONST_HEX_NONNULL(1)
+CONST_HEX_NONNULL(6)
+CONST_HEX_READS(2, 3)
+CONST_HEX_WRITES(4, 5)
+bool const_hex_decoder_update(struct const_hex_decoder *decoder, const char *text, size_t text_length,
+                              void *bytes, size_t bytes_size, size_t *written,
+                              struct const_hex_error *error);
 
 /*
- * Whether the pieces that a decoder was given are a whole text. Then they spell the bytes that were
- * given, and refusal is unchanged. If not, refusal has one of these:
- *  - CONST_HEX_INVALID_CHARACTER, if a piece was refused for it, with the same position;
- *  - CONST_HEX_ODD_LENGTH, if a digit is left over. A whole text in one piece is refused for its odd
- *    length first.
+ * Finishes decoding. Returns true if the chunks together form a complete text. Returns false on failure:
+ *
+ *   CONST_HEX_INVALID_CHARACTER  const_hex_decoder_update failed with this error
+ *   CONST_HEX_ODD_LENGTH         the last byte has only one digit
+ *
+ * The decoder is unchanged: it is possible to continue with another chunk.
  */
-CONST_HEX_ANSWER
-bool const_hex_decode_end(const struct const_hex_decoder *decoder,
-                          struct const_hex_refusal *refusal);
+CONST_HEX_NODISCARD
+CONST_HEX_NONNULL(1)
+bool const_hex_decoder_finish(const struct const_hex_decoder *decoder, struct const_hex_error *error);
+
+/* ---- Checking ---- */
 
 /*
- * Whether text can be decoded. If not, refusal says why: CONST_HEX_ODD_LENGTH, or else
- * CONST_HEX_INVALID_CHARACTER. If it can, refusal is unchanged.
+ * Returns true if text can be decoded: it has an even number of characters, and those after the prefix, if
+ * there is one, are hexadecimal digits. Returns false with CONST_HEX_ODD_LENGTH or
+ * CONST_HEX_INVALID_CHARACTER.
  */
-CONST_HEX_ANSWER
-bool const_hex_check(const char *text, size_t text_length, struct const_hex_refusal *refusal);
+CONST_HEX_NODISCARD
+CONST_HEX_READS(1, 2)
+bool const_hex_check(const char *text, size_t text_length, struct const_hex_error *error);
 
 /*
- * Whether every byte of text is a digit. No prefix is allowed, and the length does not matter: a single
- * digit and an empty text are accepted.
+ * Returns true if every character of text is a hexadecimal digit. A prefix is not accepted. The length may
+ * be odd or 0.
  */
-CONST_HEX_ANSWER
+CONST_HEX_NODISCARD
+CONST_HEX_READS(1, 2)
 bool const_hex_check_raw(const char *text, size_t text_length);
 
-/*
- * Puts the message of a refusal into buffer, such as "odd number of digits", and then a NUL.
- * Returns how many bytes stand before the NUL. A message that does not fit is cut, so that the NUL
- * always fits. CONST_HEX_WORDS bytes are enough for every message. If buffer_length is 0, nothing
- * is written and the answer is 0. A struct that no call here has filled may have no message.
- *
- * The message shows a bad byte as the character with its number, in single quotes: 'z'. Control
- * characters (0 to 31 and 127 to 159), a single quote, a backslash, 160 and 173 are escaped, as in
- * '\n', '\'' or '\u{80}'. The message is UTF-8: a character past 127 has two bytes, and a cut may
- * fall between them.
- */
-size_t const_hex_refusal_words(const struct const_hex_refusal *refusal, char *buffer,
-                               size_t buffer_length);
+/* ---- Version ---- */
 
-/*
- * The version of the library: CONST_HEX_VERSION of the header that it was built with.
- */
+/* Returns the CONST_HEX_VERSION that the library was built with. */
 uint32_t const_hex_version(void);
 
 #ifdef __cplusplus

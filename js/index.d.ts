@@ -1,98 +1,101 @@
-/** Bytes: an array of bytes, any other view of a part of a buffer, or a whole buffer. */
+/** Bytes: a Uint8Array, another view of a buffer, or a whole buffer. */
 export type Bytes = ArrayBufferView | ArrayBufferLike;
-
-/** A text: a string, or the bytes of a text. */
+/** Text: a string, or the bytes of one. It may begin with `0x` or `0X`, and have digits of both cases. */
 export type Text = string | Bytes;
+/** A new array over a buffer that is not shared. From TypeScript 5.7 on this is `Uint8Array<ArrayBuffer>`. */
+export type NewBytes = ReturnType<typeof Uint8Array.of>;
 
 export interface EncodeOptions {
-    /** Whether `0x` stands in front of the digits. */
+    /** Whether `0x` comes before the digits. */
     prefix?: boolean;
     /** Whether the digits are uppercase. */
     upper?: boolean;
 }
 
 /**
- * The text of bytes: two digits for each byte, in order.
+ * Returns two digits for each byte, in order.
  *
- * @throws {TypeError} if an argument has another type, or its buffer is detached or too short
- * @throws {RangeError} if there is not enough memory, or the text is longer than a string can be
+ *     encode(Uint8Array.of(107, 105), { prefix: true, upper: true }) // '0x6B69'
+ *
+ * @throws {TypeError} if `bytes` has another type, or its buffer is detached or too short
+ * @throws {RangeError} if the text is longer than a string can be
  */
 export function encode(bytes: Bytes, options?: EncodeOptions): string;
 
 /**
- * The bytes that a text spells, with or without `0x` or `0X` in front, in either case.
+ * Returns the bytes that the text encodes.
+ *
+ *     decode('0x6b69') // Uint8Array [107, 105]
  *
  * @throws {HexError} if the length is odd, or a character is not a digit
- * @throws {TypeError} if the text has another type, or its buffer is detached or too short
- * @throws {RangeError} if there is not enough memory
+ * @throws {TypeError} if `text` has another type, or its buffer is detached or too short
+ * @throws {RangeError} if memory cannot be allocated
  */
-export function decode(text: Text): Uint8Array;
+export function decode(text: Text): NewBytes;
 
 /**
- * Fills the target with the bytes that a text spells, and returns it. After an error the target is
- * unchanged.
+ * Fills `target` with the bytes that the text encodes, and returns it. After an error it is unchanged.
  *
- * @throws {HexError} if the length is odd, if the text does not spell exactly as many bytes as the
- *     target has, or if a character is not a digit
+ *     decodeInto('6b69', new Uint8Array(2)) // Uint8Array [107, 105]
+ *
+ * @throws {HexError} if the length is odd, if the text does not encode exactly as many bytes as `target` has, or
+ *     if a character is not a digit
  * @throws {TypeError} if an argument has another type, or its buffer is detached or too short
- * @throws {RangeError} if there is not enough memory
+ * @throws {RangeError} if memory cannot be allocated. Text of up to 32,768 characters needs none
  */
 export function decodeInto<Target extends Uint8Array>(text: Text, target: Target): Target;
 
-/** What `decoder` returns. */
-export interface Decoder {
-    /**
-     * The bytes that the text spells so far and no call before has returned.
-     *
-     * @throws {HexError} if a character is not a digit, with its place in the whole text. Each later call
-     *     throws the same. Else the errors of `decode`, after which the call may be made again
-     */
-    push(piece: Text): Uint8Array;
-    /**
-     * Returns if the pieces are a whole text.
-     *
-     * @throws {HexError} if a digit is left over, or what `push` has thrown
-     */
-    end(): void;
-}
-
 /**
- * A decoder of a text that comes in pieces, cut anywhere. A prefix is removed from the front of the text
- * alone, while `decode` of each piece would remove one from the front of any piece.
+ * Returns a decoder of text that arrives in chunks, split anywhere. Only the start of the whole text may be `0x`,
+ * while `decode` of each chunk would accept one at the start of any.
+ *
+ *     const { push, end } = decoder();
+ *     push('0x6'); // Uint8Array []
+ *     push('b69'); // Uint8Array [107, 105]
+ *     end();
  */
 export function decoder(): Decoder;
 
-/** Throws what `decode` throws for the text, and returns nothing if it throws nothing. */
+export interface Decoder {
+    /**
+     * Decodes the next chunk, and returns the new bytes. A digit whose other half is in the next chunk waits.
+     *
+     * @throws {HexError} if a character is not a digit, with its position in the whole text. Each later call
+     *     throws the same error. After any other error the chunk may be pushed again
+     */
+    push(chunk: Text): NewBytes;
+    /** Returns if the chunks are a complete text. Throws a HexError if a digit is left over, or what `push` threw. */
+    end(): void;
+}
+
+/** Returns a stream that decodes chunks by a `decoder`: `response.body.pipeThrough(decoderStream())`. */
+export function decoderStream(): TransformStream<Text, NewBytes>;
+
+/** Throws what `decode` throws for the text, but for a RangeError, and returns nothing. */
 export function check(text: Text): void;
 
-/** Whether `decode` accepts the text. A wrong type throws a `TypeError` as there. */
+/** Returns whether `decode` accepts the text. Throws a TypeError as `decode` does. */
 export function isHex(text: Text): boolean;
 
-/** `encode` without options, by the name that `@noble/hashes` has for it. */
-export function bytesToHex(bytes: Bytes): string;
-
-/** `decode`, by the name that `@noble/hashes` has for it. That one refuses a prefix, this one accepts it. */
-export function hexToBytes(text: Text): Uint8Array;
-
 /**
- * Clears what earlier calls left in the memory of the module. Strings, and arrays outside of it, stay as
- * they are.
+ * Clears what earlier calls left in the memory of the module: at most the last 48 KiB of inputs and outputs. It
+ * does not reach strings, returned arrays, the digit that waits in a decoder, or copies that the engine made.
  */
 export function wipe(): void;
 
-/** The error of a text that cannot be decoded. */
+/** `encode` and `decode` under the names of `@noble/hashes`, whose `hexToBytes` rejects `0x`. */
+export { encode as bytesToHex, decode as hexToBytes };
+
+/** The error for text that cannot be decoded. */
 export class HexError extends SyntaxError {
+    readonly name: 'HexError';
     readonly kind: 'OddLength' | 'InvalidStringLength' | 'InvalidHexCharacter';
     /**
-     * The place of the first byte that is not a digit, if the kind is `'InvalidHexCharacter'`. It
-     * counts from the start of the text, prefix included, in bytes of its UTF-8. Everything before it
-     * is ASCII, so in a string it is the place of the character.
+     * For `'InvalidHexCharacter'`, the position of the first invalid character, counted from 0 and including the
+     * prefix, or 4294967295 if it is greater.
      */
     readonly index?: number;
-    /** That byte, if the kind is `'InvalidHexCharacter'`. */
+    /** For `'InvalidHexCharacter'`, the first byte of that character in UTF-8. */
     readonly byte?: number;
     private constructor();
 }
-
-/** The version of the library, such as `'1.0.0'`. */
-export const version: string;

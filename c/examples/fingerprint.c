@@ -3,13 +3,13 @@
  *
  *     fingerprint FILE
  *
- * The status is 2 if there is not one word, the file cannot be read, or the line cannot be written.
+ * The status is 2 if there is not one argument, the file cannot be read, or the line cannot be written.
  */
 #include "const_hex.h"
 #include <stdio.h>
 
-int main(int count, char **words) {
-    FILE *file = count == 2 ? fopen(words[1], "rb") : NULL;
+int main(int count, char **arguments) {
+    FILE *file = count == 2 ? fopen(arguments[1], "rb") : NULL;
     if (file == NULL) {
         fprintf(stderr, "fingerprint: give one file that can be read\n");
         return 2;
@@ -20,18 +20,17 @@ int main(int count, char **words) {
         hash = (hash ^ (uint64_t)byte) * UINT64_C(0x100000001b3);
     }
     if (ferror(file) != 0) {
-        fprintf(stderr, "fingerprint: %s cannot be read\n", words[1]);
+        fprintf(stderr, "fingerprint: %s cannot be read\n", arguments[1]);
         return 2;
     }
     fclose(file);
 
     unsigned char bytes[8];
-    for (int place = 0; place < 8; place++) {
-        bytes[place] = (unsigned char)(hash >> (56 - 8 * place));
+    for (int index = 0; index < 8; index++) {
+        bytes[index] = (unsigned char)(hash >> (56 - 8 * index));
     }
-    /* The digits, and room for the NUL that puts wants: none is written behind them. */
-    char text[CONST_HEX_TEXT_LENGTH(sizeof bytes, false) + 1] = "";
-    if (!const_hex_encode(bytes, sizeof bytes, false, false, text, sizeof text - 1)) {
+    char text[CONST_HEX_ENCODED_SIZE(sizeof bytes, 0)];
+    if (!const_hex_encode(bytes, sizeof bytes, text, sizeof text, 0)) {
         return 1;
     }
     /* What is written may only fail once it leaves the program. */

@@ -1,52 +1,52 @@
 /*
- * Decodes hexadecimal text of any length, in pieces of 64 KiB. A newline at its end is allowed.
+ * Decodes hexadecimal text of any length, in chunks of 64 KiB. A newline at its end is allowed.
  *
  *     unhex < FILE
  *
- * The status is 1 if the text is refused, and 2 if a read or a write failed. What the text spells before
- * may then be written already.
+ * The status is 1 if the text is invalid, and 2 if a read or a write failed. The bytes before the
+ * error may then be written already.
  */
 #include "const_hex.h"
 #include <stdio.h>
 
-enum { PIECE = 65536 };
+enum { CHUNK = 65536 };
 
-/* Decodes a piece, and writes what it adds. A write that fails leaves its mark on the output. */
+/* Decodes a chunk, and writes the new bytes. A write that fails leaves its mark on the output. */
 static bool decode(struct const_hex_decoder *decoder, const char *text, size_t length,
-                   struct const_hex_refusal *refusal) {
-    static unsigned char bytes[(PIECE + 1) / 2];
-    size_t count;
-    if (!const_hex_decode_piece(decoder, text, length, bytes, sizeof bytes, &count, refusal)) {
+                   struct const_hex_error *error) {
+    static unsigned char bytes[(CHUNK + 1) / 2];
+    size_t written;
+    if (!const_hex_decoder_update(decoder, text, length, bytes, sizeof bytes, &written, error)) {
         return false;
     }
-    fwrite(bytes, 1, count, stdout);
+    fwrite(bytes, 1, written, stdout);
     return true;
 }
 
-/* Decodes the input. False if it is refused. */
-static bool decode_input(struct const_hex_refusal *refusal) {
-    static char text[PIECE];
+/* Decodes the input. False if it is invalid. */
+static bool decode_input(struct const_hex_error *error) {
+    static char text[CHUNK];
     struct const_hex_decoder decoder = {{0}};
     bool newline = false;
     size_t length;
     while ((length = fread(text, 1, sizeof text, stdin)) > 0) {
         /* A newline is a part of the text if anything follows it. */
-        if (newline && !decode(&decoder, "\n", 1, refusal)) {
+        if (newline && !decode(&decoder, "\n", 1, error)) {
             return false;
         }
         newline = text[length - 1] == '\n';
-        if (!decode(&decoder, text, newline ? length - 1 : length, refusal)) {
+        if (!decode(&decoder, text, newline ? length - 1 : length, error)) {
             return false;
         }
     }
-    return ferror(stdin) != 0 || const_hex_decode_end(&decoder, refusal);
+    return ferror(stdin) != 0 || const_hex_decoder_finish(&decoder, error);
 }
 
 int main(void) {
-    struct const_hex_refusal refusal;
-    if (!decode_input(&refusal)) {
-        char message[CONST_HEX_WORDS];
-        const_hex_refusal_words(&refusal, message, sizeof message);
+    struct const_hex_error error;
+    if (!decode_input(&error)) {
+        char message[CONST_HEX_MESSAGE_SIZE];
+        const_hex_error_message(&error, message, sizeof message);
         fprintf(stderr, "unhex: %s\n", message);
         return 1;
     }

@@ -1,346 +1,249 @@
 /*
- * Tests of the codec's calls for C, of each build by name and of the dispatcher.
- *
- *     check [STEP]
- *
- * What is wanted comes from plain loops of this folder; table.c has worked rows. Inputs and outputs stand
- * at the ends of pages behind and before which nothing may be read or written, so a byte out of range ends
- * the program. Only each STEPth alignment is tried if a number is given, for a processor that is emulated.
- * The last line is "N passed, M failed": a test of one build is one.
+ * Tests of each build of the library on whole texts, mostly beside the plain loops of model.h.
  */
-#ifndef _GNU_SOURCE
 #define _GNU_SOURCE
-#endif
-#include "builds.h"
-#include "pages.h"
-#include "plain.h"
-#include "tally.h"
-#include <stdio.h>
-#include <stdlib.h>
-#include <string.h>
+#include "judge.h"
 
-enum { LONGEST = 300, ALIGNMENTS = 64, BAD_LENGTHS = 130, SPARE = 3, LANES = 64 };
-
-/* From one alignment that is tried to the next. */
-static size_t alignment_step = 1;
-
-/* What no line of the table asks. */
-static void lengths_and_version(void) {
-    struct const_hex_refusal refusal = {9, 9, 9};
-    holds(build->check("6B", 2, &refusal) && refusal.kind == 9 && refusal.byte == 9 && refusal.index == 9,
-          "kept refusal", 2, 0);
-    holds(build->encoded_length(SIZE_MAX / 2, false) == SIZE_MAX - 1 &&
-              build->encoded_length(SIZE_MAX / 2, true) == SIZE_MAX &&
-              build->encoded_length(SIZE_MAX / 2 + 1, false) == SIZE_MAX &&
-              build->encoded_length(SIZE_MAX, true) == SIZE_MAX,
-          "encoded_length that does not fit", 0, 0);
-    holds(build->version() == 10100 && CONST_HEX_VERSION == 10100, "version", 0, 0);
-    holds(CONST_HEX_TEXT_LENGTH(20, true) == 42 && CONST_HEX_TEXT_LENGTH(3 + 1, false) == 8,
-          "CONST_HEX_TEXT_LENGTH", 0, 0);
-}
-
-static void null_with_no_bytes(void) {
-    struct const_hex_refusal refusal = {0, 0, 0};
-    size_t count = 7;
-    char text[2];
-    holds(build->encode(NULL, 0, false, false, NULL, 0), "encode of nothing", 0, 0);
-    holds(build->encode(NULL, 0, true, true, text, 2) && memcmp(text, "0x", 2) == 0,
-          "the prefix alone", 0, 0);
-    holds(build->decode(NULL, 0, NULL, 0, &refusal), "decode of nothing", 0, 0);
-    holds(build->decode("0x", 2, NULL, 0, &refusal), "decode of a prefix", 0, 0);
-    holds(build->decode_front(NULL, 0, NULL, 0, &count, &refusal) && count == 0,
-          "decode_front of nothing", 0, 0);
-    holds(build->check(NULL, 0, &refusal), "check of nothing", 0, 0);
-    holds(build->check_raw(NULL, 0), "check_raw of nothing", 0, 0);
-    holds(!build->decode("6b", 2, NULL, 0, &refusal) && refusal.kind == CONST_HEX_INVALID_LENGTH,
-          "no room", 0, 0);
-    refusal.kind = 0;
-    count = 7;
-    holds(!build->decode_front("6b", 2, NULL, 0, &count, &refusal) && count == 7 &&
-              refusal.kind == CONST_HEX_INVALID_LENGTH,
-          "no room for a front", 0, 0);
-    holds(build->words(&refusal, NULL, 0) == 0, "words into nothing", 0, 0);
-}
-
-static void words(void) {
+static void sizes_and_version(void) {
     static const struct {
-        struct const_hex_refusal refusal;
-        const char *words;
+        size_t length;
+        unsigned flags;
+        size_t size;
+    } rows[] = {
+        {0, 0, 1},
+        {0, CONST_HEX_NO_NUL, 0},
+        {20, CONST_HEX_PREFIX | CONST_HEX_UPPER, 43},
+        {SIZE_MAX / 2, CONST_HEX_NO_NUL, SIZE_MAX - 1},
+        {SIZE_MAX / 2, 0, SIZE_MAX},
+        {SIZE_MAX / 2 - 1, CONST_HEX_PREFIX | CONST_HEX_NO_NUL, SIZE_MAX - 1},
+        {SIZE_MAX / 2 - 1, CONST_HEX_PREFIX, SIZE_MAX},
+        {SIZE_MAX / 2, CONST_HEX_PREFIX | CONST_HEX_NO_NUL, SIZE_MAX},
+        {SIZE_MAX / 2 + 1, CONST_HEX_NO_NUL, SIZE_MAX},
+        {SIZE_MAX, CONST_HEX_PREFIX, SIZE_MAX},
+        {1, 8, SIZE_MAX},
+        {1, 1u << 31, SIZE_MAX},
+    };
+    for (size_t row = 0; row < sizeof rows / sizeof *rows; row++) {
+        holds(build->encoded_size(rows[row].length, rows[row].flags) == rows[row].size, "encoded_size", row, 0);
+    }
+    holds(CONST_HEX_ENCODED_SIZE(3 + 1, 0) == 9 && CONST_HEX_ENCODED_SIZE(20, CONST_HEX_PREFIX) == 43 &&
+              CONST_HEX_ENCODED_SIZE(32, CONST_HEX_UPPER | CONST_HEX_NO_NUL) == 64,
+          "CONST_HEX_ENCODED_SIZE", 0, 0);
+    holds(CONST_HEX_VERSION == 10000 && build->version() == CONST_HEX_VERSION, "the version", 0, 0);
+}
+
+static void messages(void) {
+    static const struct {
+        struct const_hex_error error;
+        const char *message;
     } rows[] = {
         {{CONST_HEX_ODD_LENGTH, 0, 0}, "odd number of digits"},
         {{CONST_HEX_INVALID_LENGTH, 0, 0}, "invalid string length"},
         {{CONST_HEX_INVALID_CHARACTER, 'z', 2}, "invalid character 'z' at position 2"},
+        {{CONST_HEX_INVALID_CHARACTER, '\'', 5}, "invalid character '\\'' at position 5"},
         {{CONST_HEX_INVALID_CHARACTER, '\n', 40}, "invalid character '\\n' at position 40"},
-        {{CONST_HEX_INVALID_CHARACTER, 0x80, SIZE_MAX},
-         "invalid character '\\u{80}' at position 18446744073709551615"},
-        {{CONST_HEX_NO_MEMORY, 0, 0}, "out of memory"},
+        {{CONST_HEX_INVALID_CHARACTER, 0xE9, 0}, "invalid character '\xC3\xA9' at position 0"},
+        {{CONST_HEX_INVALID_CHARACTER, 0x80, SIZE_MAX}, "invalid character '\\u{80}' at position 18446744073709551615"},
         {{0, 0, 0}, ""},
-        {{CONST_HEX_INVALID_CHARACTER, 0xFFFFFFFF, 0}, ""},
+        {{5, 0, 0}, ""},
     };
-    unsigned char *page = fenced();
-    holds(CONST_HEX_WORDS == 64, "room for all words", CONST_HEX_WORDS, 64);
-    for (size_t row = 0; row < sizeof rows / sizeof rows[0]; row++) {
-        size_t whole = strlen(rows[row].words);
-        for (size_t room = 1; room <= CONST_HEX_WORDS; room++) {
-            char *buffer = (char *)page + ROOM - room;
-            size_t wanted = whole < room ? whole : room - 1;
-            memset(buffer, MARK, room);
-            size_t count = build->words(&rows[row].refusal, buffer, room);
-            holds(count == wanted && buffer[count] == 0 &&
-                      memcmp(buffer, rows[row].words, wanted) == 0 &&
-                      marked((unsigned char *)buffer + count + 1, room - count - 1),
-                  "words", room, row);
+    for (size_t row = 0; row < sizeof rows / sizeof *rows; row++) {
+        for (size_t size = 0; size <= CONST_HEX_MESSAGE_SIZE; size++) {
+            char *message = (char *)marked(areas.text, size, 0);
+            size_t length = build->error_message(&rows[row].error, message, size);
+            size_t wanted = size == 0 ? 0 : least(strlen(rows[row].message), size - 1);
+            holds(length == wanted && memcmp(message, rows[row].message, wanted) == 0 && (size == 0 || message[wanted] == 0) &&
+                      (size == 0 || is_marked((unsigned char *)message + wanted + 1, size - wanted - 1)),
+                  "error_message", row, size);
         }
     }
 }
 
-/* The pages that texts and bytes are written into. */
-struct pages {
-    unsigned char *text;
-    unsigned char *back;
-};
-
-/* A text into room for up to three bytes more than it spells: as many as its page has. */
-static void front_and_back(const unsigned char *page, const unsigned char *bytes, size_t count,
-                           const char *text, size_t length, unsigned char *back) {
-    struct const_hex_refusal refusal = {0, 0, 0};
-    size_t decoded = 999;
-    size_t behind = (size_t)(page + ROOM - back) - count;
-    size_t room = count + (behind < (size_t)SPARE ? behind : (size_t)SPARE);
-    mark(page, back, room);
-    holds(build->decode_front(text, length, back, room, &decoded, &refusal) && decoded == count &&
-              memcmp(back, bytes, count) == 0,
-          "decode_front", count, room);
-    holds(marked(back + count, room - count) && kept_around(page, back, room), "around a front",
-          count, room);
+/* A buffer of size 0 may be NULL. */
+static void null_buffers(void) {
+    struct const_hex_error error = UNSET;
+    struct const_hex_decoder decoder = {{0, 0}};
+    size_t written = 99;
+    char text[3];
+    holds(!build->encode(NULL, 0, NULL, 0, 0) && build->encode(NULL, 0, NULL, 0, CONST_HEX_NO_NUL), "encode", 0, 0);
+    holds(build->encode(NULL, 0, text, 3, CONST_HEX_PREFIX) && strcmp(text, "0x") == 0, "encode a prefix", 0, 0);
+    holds(build->decode(NULL, 0, NULL, 0, &written, &error) && written == 0, "decode", 0, 0);
+    holds(build->decode_exact(NULL, 0, NULL, 0, &error) && build->decode_exact("0X", 2, NULL, 0, &error), "decode_exact", 0, 0);
+    holds(build->check(NULL, 0, &error) && build->check_raw(NULL, 0), "check", 0, 0);
+    written = 99;
+    holds(build->decoder_update(&decoder, NULL, 0, NULL, 0, &written, &error) && written == 0 &&
+              build->decoder_finish(&decoder, &error) && same(error, UNSET),
+          "a decoder", 0, 0);
+    holds(!build->decode_exact("6b", 2, NULL, 0, &error) && error.kind == CONST_HEX_INVALID_LENGTH, "no space", 0, 0);
+    holds(build->error_message(&error, NULL, 0) == 0, "error_message", 0, 0);
 }
 
-/* One input at one place in its page, as one text at one place and back to another. */
-static void there_and_back(const struct pages *pages, const unsigned char *bytes, size_t count,
-                           int form, unsigned char *text, unsigned char *back) {
-    char wanted[2 * LONGEST + 2];
-    bool prefix = form % 2 == 1;
-    bool upper = form / 2 == 1;
-    struct const_hex_refusal refusal = {0, 0, 0};
-    size_t length = plain_text(bytes, count, prefix, upper, wanted);
-    const char *written = (const char *)text;
-    mark(pages->text, text, length);
-    holds(build->encode(bytes, count, prefix, upper, (char *)text, length) &&
-              memcmp(text, wanted, length) == 0,
-          "encode", count, (size_t)form);
-    holds(kept_around(pages->text, text, length), "around a text", count, (size_t)form);
-    mark(pages->back, back, count);
-    holds(build->decode(written, length, back, count, &refusal) && memcmp(back, bytes, count) == 0,
-          "decode", count, (size_t)form);
-    holds(kept_around(pages->back, back, count), "around bytes", count, (size_t)form);
-    front_and_back(pages->back, bytes, count, written, length, back);
-    holds(build->check(written, length, &refusal) && build->check_raw(written, length) == !prefix,
-          "check", count, (size_t)form);
+/* Without an error a function of the library returns and writes the same. */
+static void null_errors(void) {
+    static const char *const texts[] = {"", "0x6b697769", "6b6", "6b697z", "0x"};
+    for (size_t which = 0; which < sizeof texts / sizeof *texts && is_library(); which++) {
+        const char *text = texts[which];
+        const struct model *model = model_of(text, strlen(text));
+        bool is_text = model->error.kind == 0;
+        unsigned char *bytes = marked(areas.decoded, 4, 0);
+        struct const_hex_decoder decoder = {{0, 0}};
+        size_t written = 99;
+        holds(build->check(text, strlen(text), NULL) == is_text, "check", which, 0);
+        holds(build->decode(text, strlen(text), bytes, 4, &written, NULL) == is_text &&
+                  written == (is_text ? model->count : 0) && has_decoded(model, 0, bytes, 4, model->error, written),
+              "decode", which, 0);
+        holds(build->decode_exact(text, strlen(text), bytes, 4, NULL) == (is_text && model->count == 4), "decode_exact", which, 0);
+        holds((build->decoder_update(&decoder, text, strlen(text), bytes, 4, &written, NULL) &&
+               build->decoder_finish(&decoder, NULL)) == is_text,
+              "a decoder", which, 0);
+    }
 }
 
-/*
- * Every length to 300 at every alignment to 63, from the start of a page and to its end. Up to 64
- * bytes on each side of an output are looked at, and where the page ends sooner, a byte past it
- * ends the program.
- */
-static void lengths_and_alignments(void) {
-    unsigned char *input = fenced();
-    struct pages pages = {fenced(), fenced()};
-    for (size_t count = 0; count <= LONGEST; count++) {
-        for (size_t by = 0; by < ALIGNMENTS; by += alignment_step) {
-            unsigned char *low = input + by;
-            unsigned char *high = input + ROOM - by - count;
-            for (size_t place = 0; place < count; place++) {
-                low[place] = (unsigned char)(place * 37 + count * 11 + by);
-                high[place] = (unsigned char)(place * 73 + count * 5 + by);
-            }
-            for (int form = 0; form < 4; form++) {
-                size_t length = 2 * count + (form % 2 == 1 ? 2 : 0);
-                there_and_back(&pages, low, count, form, pages.text + by, pages.back + by);
-                there_and_back(&pages, high, count, form, pages.text + ROOM - by - length,
-                               pages.back + ROOM - by - count);
-            }
+/* An unknown flag fails, and leaves the empty string unless the flag for no NUL is set too. */
+static void unknown_flags(void) {
+    for (unsigned bit = 3; bit < 32; bit++) {
+        for (unsigned known = 0; known < 8; known++) {
+            char *text = (char *)marked(areas.text, 20, 0);
+            holds(!build->encode("kiwi", 4, text, 20, 1u << bit | known), "encode", bit, known);
+            holds((text[0] == 0) == !(known & CONST_HEX_NO_NUL) && is_marked((unsigned char *)text + 1, 19), "the text", bit, known);
         }
     }
 }
 
-/* Whether a front of the output has what at most so many pairs spell, and the rest has its mark. */
-static bool front_decoded(const char *digits, size_t pairs, const unsigned char *bytes,
-                          size_t room) {
-    size_t done = 0;
-    while (done < pairs && bytes[done] == plain_value((unsigned char)digits[2 * done]) * 16 +
-                                              plain_value((unsigned char)digits[2 * done + 1])) {
-        done++;
-    }
-    return marked(bytes + done, room - done);
-}
+static const char DIGITS[] = "5aF09cDe7B";
 
-/* A refused text: the refusal, and what is left of the output, which ends where its page does. */
-static void refused(const char *text, size_t length, size_t start, unsigned char *page,
-                    size_t count, size_t place) {
-    struct const_hex_refusal any = plain_refusal(text, length, false, 0);
-    struct const_hex_refusal sized = plain_refusal(text, length, true, count);
-    struct const_hex_refusal refusal = {9, 9, 9};
-    size_t pairs = any.kind == CONST_HEX_INVALID_CHARACTER ? (any.index - start) / 2 : 0;
-    unsigned char *output = page + ROOM - count;
-
-    holds(!build->check(text, length, &refusal) && same(&refusal, &any), "check", length, place);
-    holds(!build->check_raw(text + start, length - start), "check_raw", length, place);
-    mark(page, output, count);
-    holds(!build->decode(text, length, output, count, &refusal) && same(&refusal, &sized),
-          "decode", length, place);
-    holds(front_decoded(text + start, pairs, output, count) && kept_around(page, output, count),
-          "what a refusal leaves", length, place);
-    for (size_t more = 0; more <= SPARE; more += SPARE) {
-        size_t room = count + more;
-        size_t decoded = 99;
-        struct const_hex_refusal of_front = {9, 9, 9};
-        output = page + ROOM - room;
-        mark(page, output, room);
-        holds(!build->decode_front(text, length, output, room, &decoded, &of_front) &&
-                  same(&of_front, &any) && decoded == 99,
-              "decode_front", length, place);
-        holds(front_decoded(text + start, pairs, output, room) && kept_around(page, output, room),
-              "what a refusal leaves of room", length, place);
+/* Bytes in each form and back. */
+static void judge_both_ways(const unsigned char *bytes, size_t count, size_t by) {
+    static char text[AREA];
+    judge_bytes(bytes, count, by);
+    for (unsigned flags = 0; flags < 4; flags++) {
+        judge_text(text, model_text(bytes, count, flags | CONST_HEX_NO_NUL, text), by);
     }
 }
 
-/* Bad bytes at every place of every length to 130 behind a prefix, and without one. */
-static void bad_bytes(void) {
-    static const unsigned char bad[] = {0, '/', ':', '@', 'G', '`', 'g', 'x', 0x80, 0xB0, 0xFF};
-    unsigned char *input = fenced();
-    unsigned char *output = fenced();
-    for (size_t digits = 1; digits <= BAD_LENGTHS; digits++) {
-        for (size_t prefix = 0; prefix <= 2; prefix += 2) {
-            size_t length = digits + prefix;
-            char *text = (char *)input + ROOM - length;
-            for (size_t place = prefix; place < length; place++) {
-                for (size_t which = 0; which < sizeof bad; which++) {
-                    for (size_t at = 0; at < length; at++) {
-                        text[at] = "5aF09cDe7B"[(at + length) % 10];
-                    }
-                    if (prefix == 2) {
-                        text[0] = '0';
-                        text[1] = place % 2 == 0 ? 'x' : 'X';
-                    }
-                    text[place] = (char)bad[which];
-                    if (prefix == 0 && place == 1 && text[0] == '0' && bad[which] == 'x') {
-                        continue;
-                    }
-                    refused(text, length, prefix, output, digits / 2, place);
+/* Every length at every alignment, at the end of an area and at its start. */
+static void every_length_and_alignment(void) {
+    unsigned char bytes[300];
+    for (size_t count = 0; count <= sizeof bytes; count++) {
+        for (size_t by = 0; by < 128; by += step) {
+            for (size_t index = 0; index < count; index++) {
+                bytes[index] = (unsigned char)(index * 37 + count * 11 + by);
+            }
+            judge_both_ways(bytes, count, by);
+        }
+    }
+}
+
+/* Each length up to 600 bytes, and around a page and larger powers of two. */
+static void long_texts(void) {
+    static const size_t around[] = {2048, 4096, 32768, 65536};
+    static unsigned char bytes[65536 + 3];
+    for (size_t index = 0; index < sizeof bytes; index++) {
+        bytes[index] = (unsigned char)(index * 37 + index / 256);
+    }
+    for (size_t count = 301; count <= 600; count += step) {
+        judge_both_ways(bytes, count, 0);
+    }
+    for (size_t which = 0; which < sizeof around / sizeof *around; which++) {
+        for (size_t count = around[which] - 3; count <= around[which] + 3; count++) {
+            judge_both_ways(bytes, count, 0);
+        }
+    }
+}
+
+/* Invalid characters at every position of every length up to 130 digits, after each prefix and after none. */
+static void invalid_characters(void) {
+    static const unsigned char invalid[] = {0, '/', ':', '@', 'G', '`', 'g', 'x', 0x80, 0xB0, 0xFF};
+    static const char *const prefixes[] = {"", "0x", "0X"};
+    char text[132];
+    for (size_t digits = 1; digits <= 130; digits++) {
+        for (size_t prefix = 0; prefix < 3; prefix++) {
+            size_t start = strlen(prefixes[prefix]), length = start + digits;
+            memcpy(text, prefixes[prefix], start);
+            for (size_t index = 0; index < digits; index++) {
+                text[start + index] = DIGITS[(index + length) % 10];
+            }
+            for (size_t index = start; index < length; index++) {
+                char digit = text[index];
+                for (size_t which = 0; which < sizeof invalid; which += step) {
+                    text[index] = (char)invalid[which];
+                    judge_text(text, length, 0);
                 }
-            }
-            holds(plain_refusal(text, length, false, 0).kind ==
-                      (digits % 2 == 1 ? CONST_HEX_ODD_LENGTH : CONST_HEX_INVALID_CHARACTER),
-                  "the plain loop", length, 0);
-        }
-    }
-}
-
-/* Each byte in each place of a text of one pair. */
-static void every_byte(void) {
-    for (unsigned byte = 0; byte < 256; byte++) {
-        for (size_t place = 0; place < 2; place++) {
-            char text[2] = {'1', '1'};
-            unsigned char bytes[1] = {MARK};
-            struct const_hex_refusal refusal = {0, 0, 0};
-            struct const_hex_refusal wanted = {CONST_HEX_INVALID_CHARACTER, byte, place};
-            int value = plain_value((unsigned char)byte);
-            text[place] = (char)byte;
-            if (build->decode(text, 2, bytes, 1, &refusal)) {
-                holds(value >= 0 && bytes[0] == (place == 0 ? 16 * value + 1 : 16 + value),
-                      "a byte's value", place, byte);
-            } else {
-                holds(value < 0 && bytes[0] == MARK && same(&refusal, &wanted), "a refused byte",
-                      place, byte);
-            }
-            holds(build->check_raw(text, 2) == (value >= 0) &&
-                      build->check_raw(text + place, 1) == (value >= 0),
-                  "check_raw of a byte", place, byte);
-        }
-    }
-}
-
-/* Each byte in each place of a text of 64 digits, which the lanes of each build go through. */
-static void every_byte_in_lanes(void) {
-    char *text = (char *)fenced() + ROOM - LANES;
-    unsigned char *page = fenced();
-    unsigned char *output = page + ROOM - LANES / 2;
-    for (unsigned byte = 0; byte < 256; byte++) {
-        for (size_t place = 0; place < (size_t)LANES; place++) {
-            unsigned char wanted[LANES / 2];
-            struct const_hex_refusal refusal = {9, 9, 9};
-            int value = plain_value((unsigned char)byte);
-            memset(text, '1', LANES);
-            text[place] = (char)byte;
-            if (value < 0) {
-                refused(text, LANES, 0, page, LANES / 2, place);
-                continue;
-            }
-            memset(wanted, 0x11, sizeof wanted);
-            wanted[place / 2] = (unsigned char)(place % 2 == 0 ? 16 * value + 1 : 16 + value);
-            mark(page, output, LANES / 2);
-            holds(build->decode(text, LANES, output, LANES / 2, &refusal) &&
-                      memcmp(output, wanted, sizeof wanted) == 0 &&
-                      kept_around(page, output, LANES / 2),
-                  "a byte's value in lanes", place, byte);
-            holds(build->check(text, LANES, &refusal) && build->check_raw(text, LANES),
-                  "check of a byte in lanes", place, byte);
-        }
-    }
-}
-
-/* Outputs of other sizes than the text needs. */
-static void wrong_sizes(void) {
-    unsigned char *page = fenced();
-    char text[2 * 40 + 2];
-    for (size_t count = 0; count <= 40; count++) {
-        unsigned char input[40];
-        memset(input, 0x5A, sizeof input);
-        for (size_t room = 0; room <= 90; room++) {
-            for (int prefix = 0; prefix <= 1; prefix++) {
-                size_t length = 2 * count + (prefix == 1 ? 2 : 0);
-                unsigned char *output = page + ROOM - room;
-                struct const_hex_refusal refusal = {9, 9, 9};
-                size_t decoded = 99;
-                memset(output, MARK, room);
-                bool fits = build->encode(input, count, prefix == 1, false, (char *)output, room);
-                holds(fits == (room == length) && (fits || marked(output, room)), "encode into",
-                      count, room);
-                plain_text(input, count, prefix == 1, false, text);
-                memset(output, MARK, room);
-                fits = build->decode(text, length, output, room, &refusal);
-                holds(fits == (room == count) &&
-                          (fits || (refusal.kind == CONST_HEX_INVALID_LENGTH &&
-                                    refusal.byte == 0 && refusal.index == 0 &&
-                                    marked(output, room))),
-                      "decode into", count, room);
-                memset(output, MARK, room);
-                refusal.kind = 9;
-                fits = build->decode_front(text, length, output, room, &decoded, &refusal);
-                holds(fits == (room >= count), "decode_front into", count, room);
-                holds(fits ? decoded == count && memcmp(output, input, count) == 0 &&
-                                 marked(output + count, room - count)
-                           : decoded == 99 && refusal.kind == CONST_HEX_INVALID_LENGTH &&
-                                 marked(output, room),
-                      "the front", count, room);
+                text[index] = digit;
             }
         }
     }
 }
 
-static const struct test TESTS[] = {{"lengths and version", lengths_and_version},
-                                    {"null pointers with length 0", null_with_no_bytes},
-                                    {"words of refusals", words},
-                                    {"every byte", every_byte},
-                                    {"every byte in lanes", every_byte_in_lanes},
-                                    {"outputs of wrong sizes", wrong_sizes},
-                                    {"bad bytes at every place", bad_bytes},
-                                    {"every length at every alignment", lengths_and_alignments}};
-
-int main(int count, char **arguments) {
-    if (count == 2 && atoi(arguments[1]) > 0) {
-        alignment_step = (size_t)atoi(arguments[1]);
+/* Pairs of characters at every position of every length up to 96 bytes: each 1021st pair, from another one each time. */
+static void pairs_of_characters(void) {
+    char text[192];
+    for (size_t length = 2; length <= sizeof text && !is_dispatcher(); length += 2) {
+        for (size_t index = 0; index + 1 < length; index++) {
+            for (size_t digit = 0; digit < length; digit++) {
+                text[digit] = DIGITS[(digit + length) % 10];
+            }
+            for (size_t pair = (length + 7 * index) % 1021; pair < 65536; pair += 1021 * step) {
+                text[index] = (char)(pair / 256);
+                text[index + 1] = (char)(pair % 256);
+                judge_text(text, length, 0);
+            }
+        }
     }
-    return run_all(TESTS, sizeof TESTS / sizeof TESTS[0]);
 }
+
+/* The same with bytes that are encoded. */
+static void pairs_of_bytes(void) {
+    unsigned char bytes[96];
+    for (size_t count = 2; count <= sizeof bytes && !is_dispatcher(); count++) {
+        for (size_t index = 0; index + 1 < count; index++) {
+            memset(bytes, 0x5A, count);
+            for (size_t pair = (count + 7 * index) % 1021; pair < 65536; pair += 1021 * step) {
+                bytes[index] = (unsigned char)(pair / 256);
+                bytes[index + 1] = (unsigned char)(pair % 256);
+                judge_bytes(bytes, count, 0);
+            }
+        }
+    }
+}
+
+/* Lengths that no buffer has, as from a failed read(): an error, before a byte is read or written. */
+static void lengths_that_wrap(void) {
+    const size_t half = SIZE_MAX / 2 + 1;
+    unsigned char *page = marked(areas.decoded, 4096, 0);
+    const char *text = (const char *)memset(position(areas.text, 4096, 0), '1', 4096);
+    for (size_t more = 0; more <= 40; more++) {
+        struct const_hex_error error = UNSET;
+        size_t written = 99;
+        for (unsigned flags = 4; flags < 8; flags++) {
+            size_t beside = flags & CONST_HEX_PREFIX ? 2 : 0;
+            holds(!build->encode(text, half + more, (char *)page, 2 * more + beside, flags) &&
+                      !build->encode(text, SIZE_MAX - more, (char *)page, 4096, flags),
+                  "encode", more, flags);
+        }
+        holds(!build->decode_exact(text, 2 * more, page, half, &error) && error.kind == CONST_HEX_INVALID_LENGTH,
+              "decode_exact to too many bytes", more, 0);
+        holds(!build->decode_exact(text, SIZE_MAX - 1 - 2 * more, page, 4096, &error) && error.kind == CONST_HEX_INVALID_LENGTH,
+              "decode_exact", more, 0);
+        holds(!build->decode(text, SIZE_MAX - 1 - 2 * more, page, 4096, &written, &error) && written == 0 &&
+                  error.kind == CONST_HEX_INVALID_LENGTH,
+              "decode", more, 0);
+        holds(!build->check(text, SIZE_MAX - 2 * more, &error) && error.kind == CONST_HEX_ODD_LENGTH, "check", more, 0);
+    }
+    holds(is_marked(page, 4096), "a written buffer", 0, 0);
+}
+
+static const struct test TESTS[] = {
+    TEST(sizes_and_version),
+    TEST(messages),
+    TEST(null_buffers),
+    TEST(null_errors),
+    TEST(unknown_flags),
+    TEST(every_length_and_alignment),
+    TEST(long_texts),
+    TEST(invalid_characters),
+    TEST(pairs_of_characters),
+    TEST(pairs_of_bytes),
+    TEST(lengths_that_wrap),
+};
+MAIN(TESTS)

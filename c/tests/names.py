@@ -1,37 +1,32 @@
-#!/usr/bin/env python3
-"""Whether the header names each call's parameters as its source does.
+"""Whether the header and functions.h name the parameters of each function as its source in Rattle does.
 
-    names.py HEADER SOURCE
+    names.py HEADER FUNCTIONS SOURCE
 
-SOURCE defines the calls, or declares the ones that Rust uses. A slice of the source is two parameters of
-the header, its pointer and its length. No compiler sees it if two names of one type change places. Each
-call that differs is printed, and the status is then 1.
+No compiler sees if two parameters of one type change places. A slice of the source is two parameters of the header, a
+pointer and its length or size.
 """
 import re
 import sys
 
 
-def names(parameters, separator):
-    """The names in a list of parameters, such as `bool prefix` or `prefix: bool`."""
-    for parameter in filter(None, map(str.strip, parameters.split(","))):
-        if separator:
-            name, kind = parameter.split(": ")
-            yield name
-            if "[u8]" in kind:
-                yield f"{name}_length"
-        elif parameter != "void":
-            yield re.findall(r"\w+", parameter)[-1]
-
-
-def calls(path, pattern, separator):
+def functions(path, pattern):
     with open(path) as file:
-        found = re.findall(pattern, file.read(), re.MULTILINE)
-    return {name: list(names(parameters, separator)) for name, parameters in found}
+        return dict(re.findall(pattern, file.read()))
 
 
-header = calls(sys.argv[1], r"^\w+ (const_hex_\w+)\(([^)]*)\);", "")
-source = calls(sys.argv[2], r'^(?:pub extern "C"|   ) fn (const_hex_\w+)\(([^)]*)\)', ": ")
-differing = [name for name in source if header.get(name) != source[name]]
-for name in differing:
-    print(f"{name}: {header.get(name)} in the header, {source[name]} in the source")
-sys.exit(1 if differing or len(source) < 8 else 0)
+def names(parameters):
+    return " ".join(re.findall(r"\w+", parameter)[-1] for parameter in parameters.split(",") if parameter != "void")
+
+
+def wanted(parameters):
+    pairs = (parameter.strip().split(": ") for parameter in parameters.split(",") if parameter.strip())
+    return " ".join(f"{name} {name}_(length|size)" if "[u8]" in kind else name for name, kind in pairs)
+
+
+header = functions(sys.argv[1], r"\n\w+ const_hex_(\w+)\(([^)]*)\);")
+prototypes = functions(sys.argv[2], r"suffix, \w+, (\w+),[\s\\]*\(([^)]*)\)")
+source = functions(sys.argv[3], r'extern "C" fn const_hex_(\w+?)(?:_nonnull)?\(([^)]*)\)')
+assert header.keys() == prototypes.keys() == source.keys() and len(source) == 10, (header, prototypes, source)
+for name in source:
+    for found in names(header[name]), names(prototypes[name]):
+        assert re.fullmatch(wanted(source[name]), found), f"{name}: {found} in C, {wanted(source[name])} in Rattle"

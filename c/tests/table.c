@@ -1,34 +1,24 @@
 /*
- * The table of answers of crates/const_hex_table, asked of each build by name and of the dispatcher.
+ * The table of test vectors of crates/const_hex_table, beside the model and then beside each build of the library.
  *
  *     table FILE
- *
- * FILE is the table. A check that fails is named by its line. The last line is "N passed, M failed": the
- * table asked of one build is one.
  */
-#ifndef _GNU_SOURCE
 #define _GNU_SOURCE
-#endif
-#include "builds.h"
-#include "pages.h"
-#include "plain.h"
-#include "tally.h"
-#include <ctype.h>
+#include "judge.h"
 
-enum { LINE = 1 << 17, SPARE = 8 };
+enum { LINE = 1 << 16 };
 
-static const char *path;
+/* A line of the table: the operation, its size if it has one, the input, and the expected output or error. */
+struct line {
+    char *operation;
+    bool is_sized;
+    size_t size, length, wanted_length;
+    char input[LINE], wanted[LINE];
+    struct const_hex_error error;
+};
 
-/* What is asked: the number of the line, the length of the output, the bytes, and the answer behind 0x. */
-static size_t number, size, asked_length, wanted_length;
-static char asked[LINE], prefixed[LINE] = "0x", *const wanted = prefixed + 2;
-static struct const_hex_refusal wanted_refusal;
-
-/* What a call fills. */
-static char output[2 * LINE];
-
-/* The bytes that a cell shows. */
-static size_t resolved(const char *cell, char *bytes) {
+/* Reads a cell, in which "" is nothing and \xHH a byte. Returns the length. */
+static size_t read_cell(const char *cell, char *bytes) {
     size_t length = 0;
     for (; strcmp(cell, "\"\"") != 0 && *cell != 0; cell += *cell == '\\' ? 4 : 1) {
         unsigned byte = (unsigned char)*cell;
@@ -38,140 +28,108 @@ static size_t resolved(const char *cell, char *bytes) {
     return length;
 }
 
-/* The bytes or the refusal that a cell shows. */
-static void read_answer(const char *cell) {
+/* Reads an expected error, such as `!InvalidHexCharacter 0x67 3`. There is no kind if it is none. */
+static struct const_hex_error read_error(const char *cell) {
     static const char *const names[] = {"!OddLength", "!InvalidStringLength", "!InvalidHexCharacter"};
-    memset(&wanted_refusal, 0, sizeof wanted_refusal);
-    wanted_length = resolved(cell, wanted);
+    struct const_hex_error error = {0, 0, 0};
     for (uint32_t kind = 1; kind <= 3; kind++) {
         if (strncmp(cell, names[kind - 1], strlen(names[kind - 1])) == 0) {
-            wanted_refusal.kind = kind;
-            sscanf(cell, "!InvalidHexCharacter %x %zu", &wanted_refusal.byte, &wanted_refusal.index);
+            error.kind = kind;
+            sscanf(cell, "!InvalidHexCharacter %x %zu", &error.byte, &error.index);
         }
     }
+    return error;
 }
 
-/* Checks an answer: so many bytes of the output, or the refusal. */
-static void answers(const char *what, bool answer, size_t count, const struct const_hex_refusal *refusal) {
-    holds(wanted_refusal.kind == 0
-              ? answer && count == wanted_length && memcmp(output, wanted, count) == 0
-              : !answer && same(refusal, &wanted_refusal),
-          what, number, count);
-}
-
-/* Bytes as text, and back. Only an output of another length is refused, and it stays as it was. */
-static void ask_to_write(bool prefix, bool upper) {
-    size_t start = prefix ? 2 : 0;
-    const char *text = wanted - start;
-    struct const_hex_refusal refusal;
-    for (size_t at = 0; upper && at < wanted_length; at++) {
-        wanted[at] = (char)toupper((unsigned char)wanted[at]);
-    }
-    memset(output, MARK, size + SPARE);
-    bool fits = build->encode(asked, asked_length, prefix, upper, output, size + start);
-    if (wanted_refusal.kind != 0) {
-        holds(!fits && marked((unsigned char *)output, size + SPARE), "encode into", number, size);
-        return;
-    }
-    holds(fits && build->encoded_length(asked_length, prefix) == size + start &&
-              memcmp(output, text, size + start) == 0 &&
-              build->decode(text, size + start, output, asked_length, &refusal) &&
-              memcmp(output, asked, asked_length) == 0,
-          "encode and back", number, size);
-}
-
-/* A text into an output. After an error for a length it stays as it was. */
-static void ask_to_read_into(void) {
-    struct const_hex_refusal refusal = {0, 0, 0};
-    memset(output, MARK, size + SPARE);
-    answers("decode", build->decode(asked, asked_length, output, size, &refusal), size, &refusal);
-    size_t kept = refusal.kind == CONST_HEX_ODD_LENGTH || refusal.kind == CONST_HEX_INVALID_LENGTH ? 0 : size;
-    holds(marked((unsigned char *)output + kept, size - kept + SPARE), "after decode", number, size);
-}
-
-/* A text of any length. */
-static void ask_to_read(void) {
-    struct const_hex_refusal refusal = {9, 9, 9};
-    size_t count = 0;
-    bool answer = build->decode_front(asked, asked_length, output, LINE, &count, &refusal);
-    answers("decode_front", answer, count, &refusal);
-    memcpy(output, wanted, wanted_length);
-    answers("check", build->check(asked, asked_length, &refusal), wanted_length, &refusal);
-    if (wanted_refusal.kind == 0) {
-        size = count;
-        ask_to_read_into();
-    }
-}
-
-/* A text in two pieces, at each cut. */
-static void ask_in_pieces(void) {
-    for (size_t cut = 0; cut <= asked_length; cut++) {
-        struct const_hex_decoder decoder = {{0, 0}};
-        struct const_hex_refusal refusal = {9, 9, 9};
-        size_t count = 0, more = 0;
-        bool answer = build->decode_piece(&decoder, asked, cut, output, LINE, &count, &refusal) &&
-                      build->decode_piece(&decoder, asked + cut, asked_length - cut, output + count,
-                                          LINE, &more, &refusal) &&
-                      build->decode_end(&decoder, &refusal);
-        answers("pieces", answer, count + more, &refusal);
-    }
-}
-
-static void ask_for_message(bool is_sized) {
-    struct const_hex_refusal refusal = {0, 0, 0};
-    bool answer = is_sized ? build->decode(asked, asked_length, output, size, &refusal)
-                           : build->check(asked, asked_length, &refusal);
-    answers("message", !answer, build->words(&refusal, output, CONST_HEX_WORDS), &refusal);
-}
-
-/* Asks the calls that can answer a line. None here reads JSON. */
-static void ask(const char *kind, bool is_sized) {
-    bool reads = strcmp(kind, "read") == 0;
-    if (strcmp(kind, is_sized ? "write-into" : "write") == 0) {
-        size = is_sized ? size : wanted_length;
-        for (int form = 0; form < 4; form++) {
-            ask_to_write(form % 2 == 1, form / 2 == 1);
+/* Reads the next line that is no comment. */
+static bool read_line(FILE *file, struct line *line) {
+    static char text[LINE];
+    while (fgets(text, LINE, file) != NULL) {
+        char *operation = strtok(text, "\t\n"), *input = strtok(NULL, "\t\n"), *wanted = strtok(NULL, "\t\n");
+        if (wanted != NULL && operation[0] != '#') {
+            char *blank = strchr(operation, ' ');
+            line->operation = operation;
+            line->is_sized = blank != NULL;
+            line->size = blank == NULL ? 0 : strtoul(blank, NULL, 10);
+            operation[strcspn(operation, " ")] = 0;
+            line->length = read_cell(input, line->input);
+            line->wanted_length = read_cell(wanted, line->wanted);
+            line->error = read_error(wanted);
+            return true;
         }
-    } else if (reads) {
-        ask_to_read();
-    } else if (strcmp(kind, "read-into") == 0) {
-        ask_to_read_into();
-    } else if (strcmp(kind, "digits") == 0) {
-        holds(build->check_raw(asked, asked_length) == (wanted[0] == 't'), "check_raw", number, 0);
-    } else if (strcmp(kind, "message") == 0) {
-        ask_for_message(is_sized);
-    } else {
-        holds(strcmp(kind, "read-pieces") == 0 || strcmp(kind, "json") == 0, "the kind", number, 0);
     }
-    if (strcmp(kind, "read-pieces") == 0 || (reads && wanted_refusal.kind != CONST_HEX_ODD_LENGTH)) {
-        ask_in_pieces();
+    return false;
+}
+
+/* Whether the model says of a text what the line does. */
+static bool is_model(const struct line *line, const struct model *model, struct const_hex_error error) {
+    return same(error, line->error) &&
+           (error.kind != 0 || (model->count == line->wanted_length && memcmp(model->bytes, line->wanted, model->count) == 0));
+}
+
+static void judge_cuts(const struct line *line) {
+    for (size_t cut = 0; cut <= line->length; cut++) {
+        size_t ends[] = {cut, line->length};
+        judge_chunks(line->input, line->length, ends, 2);
     }
 }
+
+static bool judge_message(const struct line *line) {
+    struct const_hex_error error = UNSET;
+    char message[CONST_HEX_MESSAGE_SIZE];
+    bool result = line->is_sized ? build->decode_exact(line->input, line->length, areas.decoded, line->size, &error)
+                                 : build->check(line->input, line->length, &error);
+    size_t length = build->error_message(&error, message, sizeof message);
+    return !result && length == line->wanted_length && memcmp(message, line->wanted, length) == 0;
+}
+
+/* Asks the functions that can do a line's operation. None reads JSON. */
+static bool judge_line(const struct line *line) {
+    const struct model *model = model_of(line->input, line->length);
+    static char text[LINE];
+    if (strncmp(line->operation, "write", 5) == 0) {
+        size_t length = model_text((const unsigned char *)line->input, line->length, CONST_HEX_NO_NUL, text);
+        judge_bytes((const unsigned char *)line->input, line->length, 0);
+        return line->error.kind == 0 ? length == line->wanted_length && memcmp(text, line->wanted, length) == 0
+                                     : length != line->size;
+    }
+    if (strcmp(line->operation, "read") == 0) {
+        bool agrees_with_line = is_model(line, model, model->error);
+        judge_text(line->input, line->length, 0);
+        judge_cuts(line);
+        return agrees_with_line;
+    }
+    if (strcmp(line->operation, "read-into") == 0) {
+        judge_decoding(model, line->input, line->length, line->size, 0);
+        return is_model(line, model, model_error(model, line->size, line->size));
+    }
+    if (strcmp(line->operation, "read-pieces") == 0) {
+        judge_cuts(line);
+        return true;
+    }
+    if (strcmp(line->operation, "digits") == 0) {
+        return build->check_raw(line->input, line->length) == (line->wanted[0] == 't');
+    }
+    if (strcmp(line->operation, "message") == 0) {
+        return judge_message(line);
+    }
+    return strcmp(line->operation, "json") == 0;
+}
+
+static const char *path;
 
 static void table(void) {
-    static char line[LINE];
+    static struct line line;
     FILE *file = fopen(path, "r");
-    size_t asked_lines = 0;
-    for (number = 1; file != NULL && fgets(line, LINE, file) != NULL; number++) {
-        char *kind = strtok(line, "\t\n"), *bytes = strtok(NULL, "\t\n"), *answer = strtok(NULL, "\t\n");
-        if (answer == NULL || kind[0] == '#') {
-            continue;
-        }
-        char *blank = strchr(kind, ' ');
-        if (blank != NULL) {
-            *blank = 0;
-            size = (size_t)atoi(blank + 1);
-        }
-        asked_length = resolved(bytes, asked);
-        read_answer(answer);
-        ask(kind, blank != NULL);
-        asked_lines++;
+    size_t lines = 0;
+    for (; file != NULL && read_line(file, &line); lines++) {
+        holds(judge_line(&line), line.operation, line.length, lines);
     }
-    holds(asked_lines >= 1000 && feof(file) && fclose(file) == 0, "the whole table", asked_lines, 0);
+    holds(lines >= 1000 && feof(file) && fclose(file) == 0, "the whole table", lines, 0);
 }
 
-int main(int count, char **arguments) {
-    static const struct test tests[] = {{"the table of answers", table}};
-    path = count == 2 ? arguments[1] : "";
-    return run_all(tests, 1);
+int main(int words, char **argument) {
+    static const struct test tests[] = {TEST(table)};
+    path = words == 2 ? argument[1] : "";
+    return run_tests(tests, 1, 1, argument);
 }

@@ -1,16 +1,32 @@
-//! Hexadecimal text by a proved codec, with the names of the crate `hex`.
+//! Encodes bytes as hexadecimal text, and decodes it again.
 //!
-//! Each call goes to the library for C, whose calls are proved to meet their contracts.
-//!
-//! A **digit** is a byte of `0` to `9`, `a` to `f` or `A` to `F`. A text may begin with one
-//! **prefix**, `0x` or `0X`. Only [`check_raw`] refuses a prefix.
+//! The functions of this crate run the formally verified source of [const_hex], from which only the
+//! contracts and the proofs are deleted. They have the names of the crates `const-hex` and `hex`.
 //!
 //! ```
-//! assert_eq!(const_hex_proved::encode_to_str("kiwi", &mut [0; 8]).unwrap(), "6b697769");
-//! assert_eq!(const_hex_proved::decode_to_array("0x6B697769"), Ok(*b"kiwi"));
+//! # #[cfg(feature = "alloc")] {
+//! assert_eq!(const_hex_proved::encode("kiwi"), "6b697769");
+//! assert_eq!(const_hex_proved::decode("0x6B697769"), Ok(b"kiwi".to_vec()));
+//! # }
+//! assert_eq!(const_hex_proved::decode_to_array("6b697769"), Ok(*b"kiwi"));
+//! const KIWI: [u8; 4] = const_hex_proved::bytes_of(b"0x6b697769");
 //! ```
+//!
+//! A text may begin with one prefix, `0x` or `0X`; only [`check_raw`] and [`const_check_raw`] accept none.
+//! A text is checked in this order: an odd length, then a length that the output does not have, then an
+//! invalid character.
+//!
+//! # Features
+//!
+//! - `std` (default): [`DecodeReader`] and [`EncodeWriter`], and `std::error::Error` for [`FromHexError`].
+//! - `alloc` (by `std`): `String`, `Vec` and the functions that return them.
+//! - `serde`: fields with `#[serde(with = "const_hex_proved")]`.
+//! - `core-error`: `core::error::Error` for [`FromHexError`] without `std`. Needs Rust 1.81.
+//! - `checked`: tests ranges of slices that are proved to be valid also in release builds.
+//!
+//! [const_hex]: https://docs.rs/const-hex
 #![no_std]
-#![deny(unsafe_code)]
+#![deny(unsafe_code, unsafe_op_in_unsafe_fn)]
 #![warn(missing_docs)]
 
 #[cfg(feature = "alloc")]
@@ -18,24 +34,65 @@ extern crate alloc;
 #[cfg(feature = "std")]
 extern crate std;
 
+#[cfg(target_arch = "x86_64")]
+#[allow(unsafe_code)]
+mod avx2;
+#[allow(unsafe_code)]
+mod buffer;
+mod constants;
 mod decoder;
-mod error;
-mod ffi;
+mod display;
+#[cfg(feature = "std")]
+mod io;
+#[allow(unsafe_code)]
+mod processor;
+#[allow(
+    dead_code,
+    unreachable_code,
+    unsafe_code,
+    unused_imports,
+    unused_labels
+)]
+#[rustfmt::skip]
+mod proved;
+#[allow(dead_code, unsafe_code)]
+mod rattle;
 #[cfg(feature = "serde")]
 pub mod serde;
-#[cfg(feature = "alloc")]
-mod string;
-mod traits;
+pub mod traits;
 
-#[cfg(feature = "std")]
-pub use crate::decoder::DecodeReader;
+/// What `capi` calls of the proved source.
+#[doc(hidden)]
+pub mod source {
+    pub use crate::proved::codec::checks::{check, check_raw};
+    pub use crate::proved::codec::decoder::Decoder;
+    pub use crate::proved::codec::decoders::{decode_to_front, decode_to_slice};
+    pub use crate::proved::codec::encoders::encode_full_to_slice_with;
+    pub use crate::proved::{FixedKernel, Kernel, Lanes16, Output};
+}
+
+pub use crate::buffer::Buffer;
+pub use crate::constants::{
+    bytes_of, const_check, const_check_raw, const_decode_to_array, const_encode,
+};
 pub use crate::decoder::Decoder;
-pub use crate::error::FromHexError;
+pub use crate::display::display;
+#[cfg(feature = "std")]
+pub use crate::io::{DecodeReader, EncodeWriter};
+pub use crate::proved::error::FromHexError;
+pub use crate::proved::{HEX_CHARS_LOWER, HEX_CHARS_UPPER, HEX_DECODE_LUT, NIL};
 #[cfg(feature = "serde")]
-pub use crate::serde::deserialize;
-#[cfg(all(feature = "alloc", feature = "serde"))]
-pub use crate::serde::{serialize, serialize_upper};
+#[doc(no_inline)]
+pub use crate::serde::{deserialize, serialize, serialize_upper};
+#[cfg(feature = "alloc")]
+pub use crate::traits::ToHexExt;
 pub use crate::traits::{FromHex, ToHex};
+
+use crate::proved::codec::{checks, decoders, encoders};
+#[cfg(feature = "alloc")]
+use crate::proved::FixedKernel;
+#[cfg(feature = "alloc")]
+use crate::rattle::alloc::{allocated, Global};
 #[cfg(feature = "alloc")]
 use alloc::{string::String, vec::Vec};
 
@@ -45,9 +102,14 @@ use alloc::{string::String, vec::Vec};
 /// assert_eq!(const_hex_proved::encode([1, 2, 254, 255]), "0102feff");
 /// ```
 #[cfg(feature = "alloc")]
+#[inline]
 #[must_use]
 pub fn encode<T: AsRef<[u8]>>(data: T) -> String {
-    ffi::encoded(data.as_ref(), false, false)
+    allocated(encoders::encode_with::<FixedKernel, false>(
+        Global,
+        data.as_ref(),
+    ))
+    .0
 }
 
 /// Returns two uppercase digits per byte, in order. Allocates.
@@ -56,9 +118,14 @@ pub fn encode<T: AsRef<[u8]>>(data: T) -> String {
 /// assert_eq!(const_hex_proved::encode_upper([1, 2, 254, 255]), "0102FEFF");
 /// ```
 #[cfg(feature = "alloc")]
+#[inline]
 #[must_use]
 pub fn encode_upper<T: AsRef<[u8]>>(data: T) -> String {
-    ffi::encoded(data.as_ref(), false, true)
+    allocated(encoders::encode_with::<FixedKernel, true>(
+        Global,
+        data.as_ref(),
+    ))
+    .0
 }
 
 /// Returns `0x`, and then two lowercase digits per byte. Allocates.
@@ -67,9 +134,10 @@ pub fn encode_upper<T: AsRef<[u8]>>(data: T) -> String {
 /// assert_eq!(const_hex_proved::encode_prefixed([254, 255]), "0xfeff");
 /// ```
 #[cfg(feature = "alloc")]
+#[inline]
 #[must_use]
 pub fn encode_prefixed<T: AsRef<[u8]>>(data: T) -> String {
-    ffi::encoded(data.as_ref(), true, false)
+    allocated(encoders::encode_prefixed(Global, data.as_ref())).0
 }
 
 /// Returns `0x`, and then two uppercase digits per byte. Allocates.
@@ -78,17 +146,18 @@ pub fn encode_prefixed<T: AsRef<[u8]>>(data: T) -> String {
 /// assert_eq!(const_hex_proved::encode_upper_prefixed([254, 255]), "0xFEFF");
 /// ```
 #[cfg(feature = "alloc")]
+#[inline]
 #[must_use]
 pub fn encode_upper_prefixed<T: AsRef<[u8]>>(data: T) -> String {
-    ffi::encoded(data.as_ref(), true, true)
+    allocated(encoders::encode_upper_prefixed(Global, data.as_ref())).0
 }
 
 /// Fills `output` with two lowercase digits per byte. Does not allocate.
 ///
 /// # Errors
 ///
-/// Returns `InvalidStringLength`, and leaves `output` unchanged, unless it has twice the length of
-/// `input`.
+/// Returns [`FromHexError::InvalidStringLength`], and leaves `output` unchanged, unless it has twice the
+/// length of `input`.
 ///
 /// ```
 /// let mut text = [0; 8];
@@ -96,8 +165,9 @@ pub fn encode_upper_prefixed<T: AsRef<[u8]>>(data: T) -> String {
 /// assert_eq!(&text, b"6b697769");
 /// # Ok::<(), const_hex_proved::FromHexError>(())
 /// ```
+#[inline]
 pub fn encode_to_slice<T: AsRef<[u8]>>(input: T, output: &mut [u8]) -> Result<(), FromHexError> {
-    encode_to_str(input, output).map(|_| ())
+    encoders::encode_to_slice(input.as_ref(), output)
 }
 
 /// Fills `output` with two uppercase digits per byte. Does not allocate.
@@ -112,14 +182,15 @@ pub fn encode_to_slice<T: AsRef<[u8]>>(input: T, output: &mut [u8]) -> Result<()
 /// assert_eq!(&text, b"6B697769");
 /// # Ok::<(), const_hex_proved::FromHexError>(())
 /// ```
+#[inline]
 pub fn encode_to_slice_upper<T: AsRef<[u8]>>(
     input: T,
     output: &mut [u8],
 ) -> Result<(), FromHexError> {
-    encode_to_str_upper(input, output).map(|_| ())
+    encoders::encode_to_slice_upper(input.as_ref(), output)
 }
 
-/// Does the same as [`encode_to_slice`], and returns the output as `str`. Does not allocate.
+/// Does the same as [`encode_to_slice`], and returns the output as a string. Does not allocate.
 ///
 /// # Errors
 ///
@@ -130,14 +201,15 @@ pub fn encode_to_slice_upper<T: AsRef<[u8]>>(
 /// assert_eq!(const_hex_proved::encode_to_str("kiwi", &mut text)?, "6b697769");
 /// # Ok::<(), const_hex_proved::FromHexError>(())
 /// ```
+#[inline]
 pub fn encode_to_str<T: AsRef<[u8]>>(
     input: T,
     output: &mut [u8],
 ) -> Result<&mut str, FromHexError> {
-    ffi::encode(input.as_ref(), false, false, output).ok_or(FromHexError::InvalidStringLength)
+    encode_to_slice(input, output).map(|()| text_of_digits(output))
 }
 
-/// Does the same as [`encode_to_slice_upper`], and returns the output as `str`. Does not allocate.
+/// Does the same as [`encode_to_slice_upper`], and returns the output as a string. Does not allocate.
 ///
 /// # Errors
 ///
@@ -148,18 +220,29 @@ pub fn encode_to_str<T: AsRef<[u8]>>(
 /// assert_eq!(const_hex_proved::encode_to_str_upper("kiwi", &mut text)?, "6B697769");
 /// # Ok::<(), const_hex_proved::FromHexError>(())
 /// ```
+#[inline]
 pub fn encode_to_str_upper<T: AsRef<[u8]>>(
     input: T,
     output: &mut [u8],
 ) -> Result<&mut str, FromHexError> {
-    ffi::encode(input.as_ref(), false, true, output).ok_or(FromHexError::InvalidStringLength)
+    encode_to_slice_upper(input, output).map(|()| text_of_digits(output))
 }
 
-/// Returns the bytes that a text spells. Allocates, also for a text that is refused.
+/// Returns what an encoder has filled as a string.
+#[allow(unsafe_code)]
+#[inline]
+fn text_of_digits(digits: &mut [u8]) -> &mut str {
+    debug_assert!(digits.is_ascii());
+    // SAFETY: it is proved of the encoders that what they write is ASCII.
+    unsafe { core::str::from_utf8_unchecked_mut(digits) }
+}
+
+/// Returns the bytes that a text decodes to. Allocates, also for a text that is invalid, but not for one of
+/// odd length or without digits.
 ///
 /// # Errors
 ///
-/// Returns `OddLength` or `InvalidHexCharacter`.
+/// Returns [`FromHexError::OddLength`] or [`FromHexError::InvalidHexCharacter`].
 ///
 /// ```
 /// use const_hex_proved::{decode, FromHexError};
@@ -168,17 +251,18 @@ pub fn encode_to_str_upper<T: AsRef<[u8]>>(
 /// assert_eq!(decode("6b69776"), Err(FromHexError::OddLength));
 /// ```
 #[cfg(feature = "alloc")]
+#[inline]
 pub fn decode<T: AsRef<[u8]>>(data: T) -> Result<Vec<u8>, FromHexError> {
-    ffi::decoded(data.as_ref())
+    processor::decode(data.as_ref())
 }
 
-/// Fills `out` with the bytes that a text spells. Does not allocate.
+/// Fills `out` with the bytes that a text decodes to. Does not allocate.
 ///
 /// # Errors
 ///
-/// Returns `OddLength`; or else `InvalidStringLength` unless the text has two digits for each byte of
-/// `out`; or else `InvalidHexCharacter`. Only after the last may `out` hold decoded bytes, from
-/// before the bad byte.
+/// Returns [`FromHexError::OddLength`]; or else [`FromHexError::InvalidStringLength`], unless the text has
+/// two digits for each byte of `out`; or else [`FromHexError::InvalidHexCharacter`]. Only after the last
+/// one `out` may hold decoded bytes, from before the invalid character.
 ///
 /// ```
 /// let mut bytes = [0; 4];
@@ -186,11 +270,12 @@ pub fn decode<T: AsRef<[u8]>>(data: T) -> Result<Vec<u8>, FromHexError> {
 /// assert_eq!(&bytes, b"kiwi");
 /// # Ok::<(), const_hex_proved::FromHexError>(())
 /// ```
+#[inline]
 pub fn decode_to_slice<T: AsRef<[u8]>>(data: T, out: &mut [u8]) -> Result<(), FromHexError> {
-    ffi::decode(data.as_ref(), out)
+    decoders::decode_to_slice(data.as_ref(), out)
 }
 
-/// Returns the `N` bytes that a text spells. Does not allocate.
+/// Returns the `N` bytes that a text decodes to. Does not allocate.
 ///
 /// # Errors
 ///
@@ -199,42 +284,34 @@ pub fn decode_to_slice<T: AsRef<[u8]>>(data: T, out: &mut [u8]) -> Result<(), Fr
 /// ```
 /// assert_eq!(const_hex_proved::decode_to_array("6b697769"), Ok(*b"kiwi"));
 /// ```
+#[inline]
 pub fn decode_to_array<T: AsRef<[u8]>, const N: usize>(input: T) -> Result<[u8; N], FromHexError> {
-    FromHex::from_hex(input)
+    decoders::decode_to_array(input.as_ref())
 }
 
 /// Returns `Ok` if a text can be decoded. Does not allocate.
 ///
 /// # Errors
 ///
-/// Returns `OddLength` or `InvalidHexCharacter`.
+/// Returns [`FromHexError::OddLength`] or [`FromHexError::InvalidHexCharacter`].
 ///
 /// ```
 /// assert!(const_hex_proved::check("0x6b").is_ok());
 /// ```
+#[inline]
 pub fn check<T: AsRef<[u8]>>(input: T) -> Result<(), FromHexError> {
-    ffi::check(input.as_ref())
+    checks::check(input.as_ref())
 }
 
-/// Returns whether every byte of a text is a digit. No prefix is allowed, and the length does not
-/// matter. Does not allocate.
+/// Returns whether every byte of a text is a digit. A prefix is not accepted, and the length may be odd.
+/// Does not allocate.
 ///
 /// ```
 /// assert!(const_hex_proved::check_raw("6b6"));
 /// assert!(!const_hex_proved::check_raw("0x6b"));
 /// ```
+#[inline]
 #[must_use]
 pub fn check_raw<T: AsRef<[u8]>>(input: T) -> bool {
-    ffi::check_raw(input.as_ref())
-}
-
-/// Returns the version of the library: 10000 times the major one, 100 times the minor one, and the
-/// patch.
-///
-/// ```
-/// assert_eq!(const_hex_proved::version() / 10000, 1);
-/// ```
-#[must_use]
-pub fn version() -> u32 {
-    ffi::version()
+    checks::check_raw(input.as_ref())
 }

@@ -1,119 +1,173 @@
-//! Fields of hexadecimal text, by `#[serde(with = "const_hex_proved::serde")]`.
+//! Fields of hexadecimal text, by `#[serde(with = "const_hex_proved")]`.
 //!
-//! The text that is written has no prefix, as in the crate `hex`. [`prefixed`] writes `0x` in front.
-//! Both read a text with or without a prefix.
+//! The text that is written begins with `0x`; [`no_prefix`] writes none. Both read a text with or without a
+//! prefix. No function here allocates, but a serializer may.
+//!
+//! ```
+//! use serde::{Deserialize, Serialize};
+//!
+//! #[derive(Deserialize, Serialize)]
+//! struct Fruit {
+//!     #[serde(with = "const_hex_proved")]
+//!     name: [u8; 4],
+//!     #[serde(with = "const_hex_proved::serde::no_prefix")]
+//!     seeds: [u8; 3],
+//! }
+//!
+//! let kiwi = Fruit { name: *b"kiwi", seeds: [1, 2, 255] };
+//! let text = r#"{"name":"0x6b697769","seeds":"0102ff"}"#;
+//! assert_eq!(serde_json::to_string(&kiwi)?, text);
+//! assert_eq!(serde_json::from_str::<Fruit>(text)?.seeds, [1, 2, 255]);
+//! # Ok::<(), serde_json::Error>(())
+//! ```
 
-use crate::FromHex;
-#[cfg(feature = "alloc")]
-use crate::ToHex;
+use crate::display;
+use crate::proved::codec::encoders::encode_full_to_slice;
 use ::serde::de::{Deserializer, Error, Visitor};
-#[cfg(feature = "alloc")]
 use ::serde::Serializer;
 use core::fmt;
-use core::marker::PhantomData;
 
-/// Serializes bytes as lowercase text. Allocates the text of more than 64 bytes.
+/// The number of bytes up to which a text is passed to `serialize_str`. A longer one is printed, by
+/// `collect_str`.
+const AT_ONCE: usize = 128;
+
+/// Serializes bytes as `0x` and lowercase digits.
 ///
 /// # Errors
 ///
 /// Returns the serializer's error.
-#[cfg(feature = "alloc")]
+#[inline]
 pub fn serialize<S, T>(data: T, serializer: S) -> Result<S::Ok, S::Error>
 where
     S: Serializer,
-    T: ToHex,
+    T: AsRef<[u8]>,
 {
-    data.lend_hex(false, |text| serializer.serialize_str(text))
+    write::<false, true, S>(data.as_ref(), serializer)
 }
 
-/// Serializes bytes as uppercase text. Allocates the text of more than 64 bytes.
+/// Serializes bytes as `0x` and uppercase digits.
 ///
 /// # Errors
 ///
 /// Returns the serializer's error.
-#[cfg(feature = "alloc")]
+#[inline]
 pub fn serialize_upper<S, T>(data: T, serializer: S) -> Result<S::Ok, S::Error>
 where
     S: Serializer,
-    T: ToHex,
+    T: AsRef<[u8]>,
 {
-    data.lend_hex(true, |text| serializer.serialize_str(text))
+    write::<true, true, S>(data.as_ref(), serializer)
 }
 
 /// Deserializes a text, with or without a prefix.
 ///
 /// # Errors
 ///
-/// Returns the deserializer's error if the value is not a string, or with the message of the type's
-/// error if the type does not accept the text.
+/// Returns the deserializer's error if the value is not a string, or with the message of the type's error if
+/// the type cannot be read from the text.
 pub fn deserialize<'de, D, T>(deserializer: D) -> Result<T, D::Error>
 where
     D: Deserializer<'de>,
-    T: FromHex,
+    T: crate::FromHex,
     T::Error: fmt::Display,
 {
-    deserializer.deserialize_str(TextVisitor(PhantomData))
+    deserializer.deserialize_str(Text(|text| T::from_hex(text)))
 }
 
-struct TextVisitor<T>(PhantomData<T>);
+/// Passes the text of bytes to a serializer.
+#[inline]
+fn write<const UPPER: bool, const PREFIX: bool, S: Serializer>(
+    bytes: &[u8],
+    serializer: S,
+) -> Result<S::Ok, S::Error> {
+    let mut text = [0; 2 + 2 * AT_ONCE];
+    if bytes.len() > AT_ONCE {
+        return serializer.collect_str(&Printed::<UPPER, PREFIX>(bytes));
+    }
+    let text = &mut text[..2 * usize::from(PREFIX) + 2 * bytes.len()];
+    encode_full_to_slice(bytes, PREFIX, UPPER, text).expect("the output has the text's length");
+    serializer.serialize_str(crate::text_of_digits(text))
+}
 
-impl<T> Visitor<'_> for TextVisitor<T>
-where
-    T: FromHex,
-    T::Error: fmt::Display,
-{
+/// Bytes that are printed as text.
+struct Printed<'a, const UPPER: bool, const PREFIX: bool>(&'a [u8]);
+
+impl<const UPPER: bool, const PREFIX: bool> fmt::Display for Printed<'_, UPPER, PREFIX> {
+    fn fmt(&self, f: &mut fmt::Formatter<'_>) -> fmt::Result {
+        display::write::<UPPER, PREFIX>(self.0, f)
+    }
+}
+
+/// Reads a text by a function.
+struct Text<T, E>(fn(&[u8]) -> Result<T, E>);
+
+impl<T, E: fmt::Display> Visitor<'_> for Text<T, E> {
     type Value = T;
 
     fn expecting(&self, f: &mut fmt::Formatter<'_>) -> fmt::Result {
         f.write_str("a hex encoded string")
     }
 
-    fn visit_str<E: Error>(self, text: &str) -> Result<T, E> {
+    fn visit_str<M: Error>(self, text: &str) -> Result<T, M> {
         self.visit_bytes(text.as_bytes())
     }
 
-    fn visit_bytes<E: Error>(self, text: &[u8]) -> Result<T, E> {
-        T::from_hex(text).map_err(Error::custom)
+    fn visit_bytes<M: Error>(self, text: &[u8]) -> Result<T, M> {
+        (self.0)(text).map_err(M::custom)
     }
 }
 
-/// Fields of text with the prefix `0x`, by `#[serde(with = "const_hex_proved::serde::prefixed")]`.
-pub mod prefixed {
-    pub use super::deserialize;
-    #[cfg(feature = "alloc")]
-    use crate::ffi;
-    #[cfg(feature = "alloc")]
-    use ::serde::Serializer;
+/// The function [`deserialize`](signed::deserialize) of the crate `const-hex`.
+pub mod signed {
+    use super::{fmt, Deserializer, Text};
+    use crate::traits::signed::FromHex;
 
-    /// Serializes bytes as `0x` and lowercase digits. Allocates the text of more than 64 bytes.
+    /// Deserializes a text, with or without a prefix, also into arrays, vectors and boxes of `i8`.
+    ///
+    /// # Errors
+    ///
+    /// Returns the errors of [`deserialize`](super::deserialize).
+    pub fn deserialize<'de, D, T>(deserializer: D) -> Result<T, D::Error>
+    where
+        D: Deserializer<'de>,
+        T: FromHex,
+        T::Error: fmt::Display,
+    {
+        deserializer.deserialize_str(Text(|text| T::from_hex(text)))
+    }
+}
+
+/// Fields of text without a prefix, by `#[serde(with = "const_hex_proved::serde::no_prefix")]`.
+pub mod no_prefix {
+    use super::{write, Serializer};
+
+    pub use super::deserialize;
+
+    /// Serializes bytes as lowercase digits.
     ///
     /// # Errors
     ///
     /// Returns the serializer's error.
-    #[cfg(feature = "alloc")]
+    #[inline]
     pub fn serialize<S, T>(data: T, serializer: S) -> Result<S::Ok, S::Error>
     where
         S: Serializer,
         T: AsRef<[u8]>,
     {
-        ffi::lent(data.as_ref(), true, false, |text| {
-            serializer.serialize_str(text)
-        })
+        write::<false, false, S>(data.as_ref(), serializer)
     }
 
-    /// Serializes bytes as `0x` and uppercase digits. Allocates the text of more than 64 bytes.
+    /// Serializes bytes as uppercase digits.
     ///
     /// # Errors
     ///
     /// Returns the serializer's error.
-    #[cfg(feature = "alloc")]
+    #[inline]
     pub fn serialize_upper<S, T>(data: T, serializer: S) -> Result<S::Ok, S::Error>
     where
         S: Serializer,
         T: AsRef<[u8]>,
     {
-        ffi::lent(data.as_ref(), true, true, |text| {
-            serializer.serialize_str(text)
-        })
+        write::<true, false, S>(data.as_ref(), serializer)
     }
 }

@@ -1,144 +1,59 @@
-//! The traits of the crate `hex`.
+//! Traits of types that are read from hexadecimal text, or written as it.
 
+use crate::proved::codec::{decoders, encoders};
+use crate::FromHexError;
 #[cfg(feature = "alloc")]
-use crate::string;
-use crate::{ffi, FromHexError};
-#[cfg(all(feature = "alloc", target_has_atomic = "ptr"))]
-use alloc::sync::Arc;
-#[cfg(feature = "alloc")]
-use alloc::{
-    borrow::{Cow, ToOwned},
-    boxed::Box,
-    rc::Rc,
-    vec::Vec,
-};
+use alloc::string::String;
 
-/// A value that has a hexadecimal text.
-///
-/// Every type has this trait that lends its bytes: `str`, `String`, `[u8]`, `Vec<u8>`, arrays.
-///
-/// ```
-/// use const_hex_proved::ToHex;
-///
-/// assert_eq!("kiwi".encode_hex::<String>(), "6b697769");
-/// ```
-pub trait ToHex {
-    /// Returns the digits in order, in lowercase. It allocates if the collection does.
-    fn encode_hex<T: FromIterator<char>>(&self) -> T;
+/// Defines the trait `FromHex` and its impls.
+macro_rules! from_hex {
+    ($(#[$doc:meta])*) => {
+        $(#[$doc])*
+        pub trait FromHex: Sized {
+            /// Why a text cannot be read.
+            type Error;
 
-    /// Returns the digits in order, in uppercase. It allocates if the collection does.
-    fn encode_hex_upper<T: FromIterator<char>>(&self) -> T;
+            /// Returns the value that a text decodes to, with or without a prefix.
+            ///
+            /// # Errors
+            ///
+            /// For vectors and boxed slices the errors of `decode`, for arrays those of `decode_to_array`,
+            /// and for `Box<T>`, `Rc<T>`, `Arc<T>` and `Cow<T>` the error of what they hold.
+            fn from_hex<T: AsRef<[u8]>>(hex: T) -> Result<Self, Self::Error>;
+        }
 
-    /// Returns what `user` does with the digits. The module `serde` calls this.
-    #[cfg(all(feature = "alloc", feature = "serde"))]
-    #[doc(hidden)]
-    fn lend_hex<R>(&self, upper: bool, user: impl FnOnce(&str) -> R) -> R {
-        let text: alloc::string::String = if upper {
-            self.encode_hex_upper()
-        } else {
-            self.encode_hex()
-        };
-        user(&text)
-    }
+        impl<const N: usize> FromHex for [u8; N] {
+            type Error = FromHexError;
+
+            #[inline]
+            fn from_hex<T: AsRef<[u8]>>(hex: T) -> Result<Self, FromHexError> {
+                decoders::decode_to_array(hex.as_ref())
+            }
+        }
+
+        #[cfg(feature = "alloc")]
+        impl FromHex for Vec<u8> {
+            type Error = FromHexError;
+
+            #[inline]
+            fn from_hex<T: AsRef<[u8]>>(hex: T) -> Result<Self, FromHexError> {
+                crate::decode(hex)
+            }
+        }
+
+        #[cfg(feature = "alloc")]
+        holders! {
+            [] Box<[u8]>, of Vec<u8>: Vec::into_boxed_slice;
+            [T: FromHex] Box<T>, of T: Box::new;
+            [T: FromHex] Rc<T>, of T: Rc::new;
+            #[cfg(target_has_atomic = "ptr")]
+            [T: FromHex] Arc<T>, of T: Arc::new;
+            [T: ToOwned + ?Sized] Cow<'_, T>, of T::Owned: Cow::Owned;
+        }
+    };
 }
 
-impl<B: AsRef<[u8]>> ToHex for B {
-    #[inline]
-    fn encode_hex<T: FromIterator<char>>(&self) -> T {
-        collected(self.as_ref(), false)
-    }
-
-    #[inline]
-    fn encode_hex_upper<T: FromIterator<char>>(&self) -> T {
-        collected(self.as_ref(), true)
-    }
-
-    #[cfg(all(feature = "alloc", feature = "serde"))]
-    #[inline]
-    fn lend_hex<R>(&self, upper: bool, user: impl FnOnce(&str) -> R) -> R {
-        ffi::lent(self.as_ref(), false, upper, user)
-    }
-}
-
-/// Returns the digits of `bytes`. A `String` is made by one call.
-#[inline]
-fn collected<T: FromIterator<char>>(bytes: &[u8], upper: bool) -> T {
-    let digits = bytes.chunks(32).flat_map(move |piece| {
-        let (mut text, length) = ([0; 64], 2 * piece.len());
-        ffi::encode(piece, false, upper, &mut text[..length])
-            .expect("the room has the text's length");
-        text.into_iter().take(length).map(char::from)
-    });
-    #[cfg(feature = "alloc")]
-    return string::made(|| ffi::encoded(bytes, false, upper), || digits.collect());
-    #[cfg(not(feature = "alloc"))]
-    digits.collect()
-}
-
-/// A type that can be read from hexadecimal text.
-///
-/// ```
-/// use const_hex_proved::FromHex;
-///
-/// assert_eq!(<[u8; 4]>::from_hex("0x6B697769"), Ok(*b"kiwi"));
-/// ```
-pub trait FromHex: Sized {
-    /// Why a text is refused.
-    type Error;
-
-    /// Returns the value that a text spells, with or without a prefix.
-    ///
-    /// # Errors
-    ///
-    /// For vectors and boxed slices the errors of `decode`, for arrays the errors of
-    /// [`decode_to_array`](crate::decode_to_array), and for `Box<T>`, `Rc<T>`, `Arc<T>` and `Cow<T>`
-    /// the error of what they hold.
-    fn from_hex<T: AsRef<[u8]>>(hex: T) -> Result<Self, Self::Error>;
-}
-
-impl<const N: usize> FromHex for [u8; N] {
-    type Error = FromHexError;
-
-    #[inline]
-    fn from_hex<T: AsRef<[u8]>>(hex: T) -> Result<Self, FromHexError> {
-        let mut bytes = [0; N];
-        ffi::decode(hex.as_ref(), &mut bytes)?;
-        Ok(bytes)
-    }
-}
-
-/// Each byte from 128 on is a negative number.
-impl<const N: usize> FromHex for [i8; N] {
-    type Error = FromHexError;
-
-    #[inline]
-    fn from_hex<T: AsRef<[u8]>>(hex: T) -> Result<Self, FromHexError> {
-        <[u8; N]>::from_hex(hex).map(|bytes| bytes.map(|byte| byte as i8))
-    }
-}
-
-#[cfg(feature = "alloc")]
-impl FromHex for Vec<u8> {
-    type Error = FromHexError;
-
-    #[inline]
-    fn from_hex<T: AsRef<[u8]>>(hex: T) -> Result<Self, FromHexError> {
-        ffi::decoded(hex.as_ref())
-    }
-}
-
-/// Each byte from 128 on is a negative number.
-#[cfg(feature = "alloc")]
-impl FromHex for Vec<i8> {
-    type Error = FromHexError;
-
-    fn from_hex<T: AsRef<[u8]>>(hex: T) -> Result<Self, FromHexError> {
-        let bytes = ffi::decoded(hex.as_ref())?;
-        Ok(bytes.into_iter().map(|byte| byte as i8).collect())
-    }
-}
-
-/// Types that hold the value of another one, and how they are made of it.
+/// Implements `FromHex` for types that hold another value.
 #[cfg(feature = "alloc")]
 macro_rules! holders {
     ($($(#[$attribute:meta])* [$($parameter:tt)*] $holder:ty, of $held:ty: $make:expr;)+) => {$(
@@ -157,13 +72,158 @@ macro_rules! holders {
     )+};
 }
 
+pub use unsigned::FromHex;
+
+mod unsigned {
+    use super::*;
+    #[cfg(all(feature = "alloc", target_has_atomic = "ptr"))]
+    use alloc::sync::Arc;
+    #[cfg(feature = "alloc")]
+    use alloc::{borrow::Cow, borrow::ToOwned, boxed::Box, rc::Rc, vec::Vec};
+
+    from_hex! {
+        /// A type that is read from hexadecimal text: bytes in arrays, vectors and boxes, and what holds them.
+        ///
+        /// ```
+        /// use const_hex_proved::FromHex;
+        ///
+        /// assert_eq!(<[u8; 4]>::from_hex("0x6B697769"), Ok(*b"kiwi"));
+        /// ```
+    }
+}
+
+/// The trait [`FromHex`](signed::FromHex) of the crate `const-hex`.
+pub mod signed {
+    use super::*;
+    #[cfg(all(feature = "alloc", target_has_atomic = "ptr"))]
+    use alloc::sync::Arc;
+    #[cfg(feature = "alloc")]
+    use alloc::{borrow::Cow, borrow::ToOwned, boxed::Box, rc::Rc, vec::Vec};
+
+    from_hex! {
+        /// The same for arrays, vectors and boxes of `i8` too, in which a byte from 128 on is negative.
+        ///
+        /// `Vec::from_hex` cannot tell which vector is meant, so it has to say `Vec::<u8>::from_hex`.
+        ///
+        /// ```
+        /// use const_hex_proved::traits::signed::FromHex;
+        ///
+        /// assert_eq!(<[i8; 2]>::from_hex("7f80"), Ok([127, -128]));
+        /// ```
+    }
+
+    impl<const N: usize> FromHex for [i8; N] {
+        type Error = FromHexError;
+
+        #[inline]
+        fn from_hex<T: AsRef<[u8]>>(hex: T) -> Result<Self, FromHexError> {
+            <[u8; N]>::from_hex(hex).map(|bytes| bytes.map(|byte| byte as i8))
+        }
+    }
+
+    #[cfg(feature = "alloc")]
+    impl FromHex for Vec<i8> {
+        type Error = FromHexError;
+
+        fn from_hex<T: AsRef<[u8]>>(hex: T) -> Result<Self, FromHexError> {
+            let bytes = crate::decode(hex)?;
+            Ok(bytes.into_iter().map(|byte| byte as i8).collect())
+        }
+    }
+
+    #[cfg(feature = "alloc")]
+    holders! {
+        [] Box<[i8]>, of Vec<i8>: Vec::into_boxed_slice;
+    }
+}
+
+/// A value that has a hexadecimal text.
+///
+/// Every type that lends its bytes has this trait: `str`, `String`, `[u8]`, `Vec<u8>`, arrays.
+///
+/// ```
+/// use const_hex_proved::ToHex;
+///
+/// assert_eq!("kiwi".encode_hex::<String>(), "6b697769");
+/// ```
+pub trait ToHex {
+    /// Returns the digits in order, in lowercase. It allocates if the collection does.
+    fn encode_hex<T: FromIterator<char>>(&self) -> T;
+
+    /// Returns the digits in order, in uppercase. It allocates if the collection does.
+    fn encode_hex_upper<T: FromIterator<char>>(&self) -> T;
+}
+
+impl<B: AsRef<[u8]>> ToHex for B {
+    #[inline]
+    fn encode_hex<T: FromIterator<char>>(&self) -> T {
+        digits::<false>(self.as_ref()).collect()
+    }
+
+    #[inline]
+    fn encode_hex_upper<T: FromIterator<char>>(&self) -> T {
+        digits::<true>(self.as_ref()).collect()
+    }
+}
+
+/// Returns the digits of `bytes`, which are encoded 32 bytes at a time.
+#[inline]
+fn digits<const UPPER: bool>(bytes: &[u8]) -> impl Iterator<Item = char> + '_ {
+    bytes.chunks(32).flat_map(|chunk| {
+        let (mut text, length) = ([0; 64], 2 * chunk.len());
+        encoders::encode_full_to_slice(chunk, false, UPPER, &mut text[..length])
+            .expect("the text has two digits per byte");
+        text.into_iter().take(length).map(char::from)
+    })
+}
+
+/// A value that has a hexadecimal text, as a `String`.
+///
+/// Every type that lends its bytes has this trait: `&str`, `String`, `&[u8]`, `Vec<u8>`, arrays. Each method
+/// allocates.
+///
+/// ```
+/// use const_hex_proved::ToHexExt;
+///
+/// assert_eq!("kiwi".encode_hex(), "6b697769");
+/// assert_eq!("kiwi".encode_hex_upper(), "6B697769");
+/// assert_eq!("kiwi".encode_hex_with_prefix(), "0x6b697769");
+/// assert_eq!("kiwi".encode_hex_upper_with_prefix(), "0x6B697769");
+/// ```
 #[cfg(feature = "alloc")]
-holders! {
-    [] Box<[u8]>, of Vec<u8>: Vec::into_boxed_slice;
-    [] Box<[i8]>, of Vec<i8>: Vec::into_boxed_slice;
-    [T] Box<T>, of T: Box::new;
-    [T] Rc<T>, of T: Rc::new;
-    #[cfg(target_has_atomic = "ptr")]
-    [T] Arc<T>, of T: Arc::new;
-    [T: ToOwned + ?Sized] Cow<'_, T>, of T::Owned: Cow::Owned;
+pub trait ToHexExt {
+    /// Returns two lowercase digits per byte.
+    fn encode_hex(&self) -> String;
+
+    /// Returns two uppercase digits per byte.
+    fn encode_hex_upper(&self) -> String;
+
+    /// Returns `0x`, and then two lowercase digits per byte.
+    fn encode_hex_with_prefix(&self) -> String;
+
+    /// Returns `0x`, and then two uppercase digits per byte.
+    fn encode_hex_upper_with_prefix(&self) -> String;
+}
+
+#[cfg(feature = "alloc")]
+impl<T: AsRef<[u8]>> ToHexExt for T {
+    #[inline]
+    fn encode_hex(&self) -> String {
+        crate::encode(self)
+    }
+
+    #[inline]
+    fn encode_hex_upper(&self) -> String {
+        crate::encode_upper(self)
+    }
+
+    #[inline]
+    fn encode_hex_with_prefix(&self) -> String {
+        crate::encode_prefixed(self)
+    }
+
+    #[inline]
+    fn encode_hex_upper_with_prefix(&self) -> String {
+        crate::encode_upper_prefixed(self)
+    }
 }

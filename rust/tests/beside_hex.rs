@@ -1,126 +1,122 @@
-//! The same questions to this package and to the crate `hex`: every answer is equal, but for what the
-//! README lists.
+//! The same inputs to this package and to the crate `hex`. Every result is equal but for what the README
+//! of the package `hex` lists.
 #![cfg(feature = "alloc")]
 
 use const_hex_proved as proved;
-use proptest::prelude::*;
+use proved::FromHexError::{InvalidHexCharacter, InvalidStringLength, OddLength};
 
-/// The error of `hex` as this package has it, and its place moved by the length of a prefix.
-fn moved(error: hex::FromHexError, by: usize) -> proved::FromHexError {
-    match error {
-        hex::FromHexError::OddLength => proved::FromHexError::OddLength,
-        hex::FromHexError::InvalidStringLength => proved::FromHexError::InvalidStringLength,
-        hex::FromHexError::InvalidHexCharacter { c, index } => {
-            let index = index + by;
-            proved::FromHexError::InvalidHexCharacter { c, index }
+/// Numbers without a pattern, the same in each run.
+struct Random(u64);
+
+impl Random {
+    fn below(&mut self, limit: usize) -> usize {
+        self.0 ^= self.0 << 13;
+        self.0 ^= self.0 >> 7;
+        self.0 ^= self.0 << 17;
+        (self.0.wrapping_mul(0x2545_F491_4F6C_DD1D) >> 16) as usize % limit
+    }
+
+    /// Bytes of a length that short kernels and long ones see.
+    fn bytes(&mut self) -> Vec<u8> {
+        let limit = [40, 40, 400][self.below(3)];
+        (0..self.below(limit))
+            .map(|_| self.below(256) as u8)
+            .collect()
+    }
+
+    /// A text in both cases, with or without a prefix, sometimes with an invalid character or an odd length.
+    fn text(&mut self) -> Vec<u8> {
+        if self.below(8) == 0 {
+            return self.bytes();
         }
+        let mut text = ["", "", "0x", "0X"][self.below(4)].as_bytes().to_vec();
+        text.extend(hex::encode(self.bytes()).bytes());
+        text.iter_mut()
+            .filter(|_| self.below(2) == 0)
+            .for_each(|byte| byte.make_ascii_uppercase());
+        if self.below(2) == 0 && !text.is_empty() {
+            let position = self.below(text.len());
+            text[position] = [
+                b'g',
+                b'/',
+                b':',
+                b'@',
+                b'G',
+                b'`',
+                b'x',
+                self.below(256) as u8,
+            ][self.below(8)];
+        }
+        if self.below(8) == 0 {
+            text.pop();
+        }
+        text
     }
 }
 
-/// The prefix's length and the body.
-fn parts(text: &[u8]) -> (usize, &[u8]) {
-    let prefix = if text.starts_with(b"0x") || text.starts_with(b"0X") {
-        2
-    } else {
-        0
-    };
-    (prefix, &text[prefix..])
-}
-
-/// What `hex` answers for the body, as this package has it.
+/// What `hex` returns for the text without its prefix, as this package has it: with a position in the text.
 fn by_hex<'a, T>(
     text: &'a [u8],
     call: impl FnOnce(&'a [u8]) -> Result<T, hex::FromHexError>,
 ) -> Result<T, proved::FromHexError> {
-    let (prefix, body) = parts(text);
-    call(body).map_err(|error| moved(error, prefix))
+    let prefix = 2 * usize::from(text.starts_with(b"0x") || text.starts_with(b"0X"));
+    call(&text[prefix..]).map_err(|error| match error {
+        hex::FromHexError::OddLength => OddLength,
+        hex::FromHexError::InvalidStringLength => InvalidStringLength,
+        hex::FromHexError::InvalidHexCharacter { c, index } => InvalidHexCharacter {
+            c,
+            index: index + prefix,
+        },
+    })
 }
 
-/// Bytes of any length that short kernels and long ones see.
-fn bytes() -> impl Strategy<Value = Vec<u8>> {
-    prop_oneof![
-        proptest::collection::vec(any::<u8>(), 0..40),
-        proptest::collection::vec(any::<u8>(), 0..400),
-    ]
-}
-
-/// Texts of digits in both cases, some with a prefix; the same with one byte replaced; any bytes.
-fn texts() -> impl Strategy<Value = Vec<u8>> {
-    let digits = "(0x|0X)?[0-9a-fA-F]{0,150}".prop_map(String::into_bytes);
-    let place = any::<proptest::sample::Index>();
-    let near = ("(0x|0X)?[0-9a-fA-F]{1,150}", place, any::<u8>());
-    let near = near.prop_map(|(text, place, byte)| {
-        let mut text = text.into_bytes();
-        let place = place.index(text.len());
-        text[place] = byte;
-        text
-    });
-    prop_oneof![digits, near, bytes()]
-}
-
-/// Reads arrays of one length by both.
-macro_rules! arrays {
-    ($text:ident, $($length:literal)+) => {$(
-        prop_assert_eq!(
-            <[u8; $length] as proved::FromHex>::from_hex(&$text),
-            by_hex(&$text, <[u8; $length] as hex::FromHex>::from_hex)
-        );
-    )+};
-}
-
-proptest! {
-    #![proptest_config(ProptestConfig::with_cases(20_000))]
-
-    #[test]
-    fn encoding(bytes in bytes(), room in 0..900_usize) {
-        prop_assert_eq!(proved::encode(&bytes), hex::encode(&bytes));
-        prop_assert_eq!(proved::encode_upper(&bytes), hex::encode_upper(&bytes));
-        prop_assert_eq!(
-            proved::ToHex::encode_hex::<String>(&bytes),
-            hex::ToHex::encode_hex::<String>(&bytes)
-        );
-        prop_assert_eq!(
-            proved::ToHex::encode_hex_upper::<Vec<char>>(&bytes),
-            hex::ToHex::encode_hex_upper::<Vec<char>>(&bytes)
-        );
-        for room in [2 * bytes.len(), room] {
-            let (mut ours, mut theirs) = (vec![0xEE; room], vec![0xEE; room]);
-            prop_assert_eq!(
-                proved::encode_to_slice(&bytes, &mut ours),
-                hex::encode_to_slice(&bytes, &mut theirs).map_err(|error| moved(error, 0))
-            );
-            prop_assert_eq!(ours, theirs);
+#[test]
+fn encoding() {
+    let mut random = Random(88172645463325252);
+    for _ in 0..20_000 {
+        let bytes = random.bytes();
+        assert_eq!(proved::encode(&bytes), hex::encode(&bytes));
+        assert_eq!(proved::encode_upper(&bytes), hex::encode_upper(&bytes));
+        let text = hex::ToHex::encode_hex_upper::<Vec<char>>(&bytes);
+        assert_eq!(proved::ToHex::encode_hex_upper::<Vec<char>>(&bytes), text);
+        for length in [2 * bytes.len(), random.below(900)] {
+            let (mut ours, mut theirs) = (vec![0xEE; length], vec![0xEE; length]);
+            let encoded = proved::encode_to_slice(&bytes, &mut ours);
+            let wanted = hex::encode_to_slice(&bytes, &mut theirs);
+            assert_eq!(encoded, wanted.map_err(|_| InvalidStringLength));
+            assert_eq!(ours, theirs);
         }
     }
+}
 
-    #[test]
-    fn decoding(text in texts(), room in 0..200_usize) {
-        prop_assert_eq!(proved::decode(&text), by_hex(&text, hex::decode));
-        prop_assert_eq!(
-            <Vec<u8> as proved::FromHex>::from_hex(&text),
-            by_hex(&text, <Vec<u8> as hex::FromHex>::from_hex)
-        );
-        for room in [parts(&text).1.len() / 2, room] {
-            let (mut ours, mut theirs) = (vec![0xEE; room], vec![0xEE; room]);
-            let answer = proved::decode_to_slice(&text, &mut ours);
-            let wanted = by_hex(&text, |body| hex::decode_to_slice(body, &mut theirs.clone()));
-            prop_assert_eq!(answer, wanted);
-            let _ = hex::decode_to_slice(parts(&text).1, &mut theirs);
-            // After a bad character each leaves what it has decoded so far.
-            if !matches!(answer, Err(proved::FromHexError::InvalidHexCharacter { .. })) {
-                prop_assert_eq!(ours, theirs);
+#[test]
+fn decoding() {
+    let mut random = Random(88172645463325252);
+    for _ in 0..20_000 {
+        let text = random.text();
+        let bytes = by_hex(&text, hex::decode::<&[u8]>);
+        assert_eq!(proved::decode(&text), bytes);
+        assert_eq!(proved::FromHex::from_hex(&text), bytes);
+        assert_eq!(proved::check(&text), bytes.clone().map(drop));
+        if let (false, Err(error)) = (text.starts_with(b"0"), hex::decode(&text)) {
+            let error = error.to_string();
+            let (first, rest) = error.split_at(1);
+            let message = first.to_lowercase() + rest;
+            assert_eq!(proved::decode(&text).unwrap_err().to_string(), message);
+        }
+        for length in [
+            text.len() / 2,
+            text.len().saturating_sub(2) / 2,
+            random.below(200),
+        ] {
+            let (mut ours, mut theirs) = (vec![0xEE; length], vec![0xEE; length]);
+            let decoded = proved::decode_to_slice(&text, &mut ours);
+            let wanted = by_hex(&text, |text| hex::decode_to_slice(text, &mut theirs));
+            assert_eq!(decoded, wanted);
+            // After an invalid character each leaves what it has decoded so far.
+            if !matches!(decoded, Err(InvalidHexCharacter { .. })) {
+                assert_eq!(ours, theirs);
             }
-        }
-        arrays!(text, 1 2 4 20 32 33 64);
-    }
-
-    #[test]
-    fn words(text in texts()) {
-        if let (0, Err(error)) = (parts(&text).0, hex::decode(&text)) {
-            let words = error.to_string();
-            let (first, rest) = words.split_at(1);
-            let ours = proved::decode(&text).unwrap_err();
-            prop_assert_eq!(ours.to_string(), first.to_lowercase() + rest);
         }
     }
 }

@@ -1,7 +1,13 @@
--- What a buffer holds.
-use Rattle.std.specs.Prelude.{ℕ, ◌*◌, Bool, List, ◌++◌, replicate}
-use Rattle.const_hex_arch.specs.Texts.{prefix_of}
+-- What buffers, slices and vectors hold after a write.
+use Rattle.std.specs.Prelude.{ℕ, ◌*◌, Bool, List, ◌++◌, replicate, ◌≡◌, Result, MatchResult, ◌+◌, ◌-◌, ◌≤◌, length, take, vec_len, vec_capacity}
+use Rattle.const_hex_arch.specs.Texts.{prefix_of, hex_text, Spells}
 use Rattle.const_hex.specs.declared.buffer.Buffer.{Buffer}
+use Rattle.std.specs.Borrow.{Fml, MutBor, RattleType, Array, u8}
+use Rattle.std.specs.Io.BufRead.{Rests}
+use Rattle.const_hex.specs.contracts.buffer.Buffer.{the_row}
+use Rattle.const_hex.specs.declared.reserved.ReservedOutput.{ReservedOutput}
+
+-- ---- what a buffer holds
 
 -- what a buffer holds before any bytes are formatted: `0x` or nothing, and a NUL byte for each
 -- digit
@@ -11,3 +17,35 @@ blank_text prefix n = prefix_of prefix ++ replicate (2 * n) 0
 -- the bytes of a buffer
 abbrev pub buffer_text : {n prefix len : ℕ} → Buffer n prefix len → List ℕ
 buffer_text b = b.text.bytes
+
+-- ---- what a buffer or a slice holds after a loan of it has ended
+
+-- after the loan has ended, the buffer holds that text
+abbrev pub EndsHolding : (N PREFIX LEN : RattleType) → MutBor (the_row N PREFIX LEN).Denot
+    → List ℕ → Fml
+EndsHolding N PREFIX LEN buffer text =
+    Rests (the_row N PREFIX LEN) buffer (λ b. buffer_text b ≡ text)
+
+-- after the loan has ended, the slice holds the text of the bytes; after an error it is unchanged
+abbrev pub EndsEncoded : {A E : Type 0} → Bool → List ℕ → MutBor (List ℕ) → Result A E → Fml
+EndsEncoded up bytes slice result =
+    Rests (Array u8 0) slice
+    (λ new. MatchResult result (λ _. new ≡ hex_text up bytes) (λ _. new ≡ slice.now))
+
+-- ---- writes to a vector that has room, and decoding into one
+
+-- the capacity that is left
+abbrev pub spare_room : ReservedOutput → ℕ
+spare_room o = vec_capacity o.bytes - vec_len o.bytes
+
+-- the piece stands behind what the vector held, and the capacity is unchanged
+pub record ReservedStep (s : ReservedOutput) (piece : List ℕ) (t : ReservedOutput) : Type 0 where
+  pub room : vec_capacity t.bytes ≡ vec_capacity s.bytes
+  pub count : vec_len t.bytes ≡ vec_len s.bytes + length piece
+  pub text : t.bytes.items ≡ s.bytes.items ++ piece
+
+-- the vector holds the bytes that a front of the digits spells, and has room for the rest
+pub record HoldsFront (digits : List ℕ) (o : ReservedOutput) : Type 0 where
+  pub front : Spells (take (2 * vec_len o.bytes) digits) o.bytes.items
+  pub within : 2 * vec_len o.bytes ≤ length digits
+  pub fits : length digits ≤ 2 * vec_capacity o.bytes

@@ -1,7 +1,7 @@
--- A text that a decoder reads in pieces.
-use Rattle.std.specs.Prelude.{◌≡◌, ℕ, ◌+◌, ◌-◌, ◌/◌, ◌^◌, ◌≤◌, ◌<◌, ◌==◌, nat_le, min, if◌then◌else◌, List, [], ◌∷◌, ◌++◌, length, Option, Some, None, Result, Ok, Err}
-use Rattle.const_hex_arch.specs.Texts.{AllDigits, Spells}
-use Rattle.const_hex.specs.Bodies.{body_of, NamesFirstBad}
+-- A text that a decoder reads in chunks.
+use Rattle.std.specs.Prelude.{◌≡◌, ℕ, ◌+◌, ◌-◌, ◌/◌, ◌^◌, ◌≤◌, ◌<◌, ◌==◌, nat_le, min, if◌then◌else◌, List, [], ◌∷◌, ◌++◌, length, Option, Some, None, Result, Ok, Err, ◌*◌, ◌≢◌, take, drop, IfOk, IfErr, IfSome}
+use Rattle.const_hex_arch.specs.Texts.{AllDigits, Partial, Spells}
+use Rattle.const_hex.specs.Results.{body_of, NamesFirstBad}
 use Rattle.const_hex.specs.declared.codec.decoder.Decoder.{Decoder}
 use Rattle.const_hex.specs.declared.error.FromHexError.{FromHexError}
 use Rattle.const_hex.specs.declared.error.FromHexError.TheVariants.{OddLength, InvalidStringLength, InvalidHexCharacter, NoMemory}
@@ -19,43 +19,55 @@ listed (Some b) = b ∷ []
 abbrev pub waiting_digit : Decoder → List ℕ
 waiting_digit d = if d.state == 1 then d.byte ∷ [] else []
 
--- how many bytes of the text were read; after an error, the place of the bad byte
-abbrev pub place_of : Decoder → ℕ
-place_of d = d.place
+-- how many bytes of the text were read; after an error, the position of the invalid character
+abbrev pub position_of : Decoder → ℕ
+position_of d = d.index
 
 -- the error that ended the text, if there was one
 abbrev pub error_of : Decoder → Option FromHexError
-error_of d = if nat_le d.state 1 then None else Some (InvalidHexCharacter d.byte d.place)
+error_of d = if nat_le d.state 1 then None else Some (InvalidHexCharacter d.byte d.index)
 
 -- the decoder whose fields are zero
 abbrev pub zero_decoder : Decoder
-zero_decoder = record { place = 0; byte = 0; state = 0 }
+zero_decoder = record { index = 0; byte = 0; state = 0 }
 
 -- the decoder has read the text t without an error, and has given the bytes bs: the body of t is
 -- two digits for each byte, and at most one digit more, which waits
 pub record HasRead (d : Decoder) (t bs : List ℕ) : Type 0 where
   pub no_error : error_of d ≡ None
-  pub counts : place_of d ≡ counted (length t)
+  pub counts : position_of d ≡ counted (length t)
   pub pairs : List ℕ
   pub whole : body_of t ≡ pairs ++ waiting_digit d
   pub given : Spells pairs bs
   pub waits : AllDigits (waiting_digit d)
 
--- as `NamesFirstBad`, with the greatest `usize` for a place beyond it
-abbrev pub NamesCounted : List ℕ → FromHexError → Type 0
-NamesCounted t OddLength = ⊥
-NamesCounted t InvalidStringLength = ⊥
-NamesCounted t (InvalidHexCharacter c i) =
-    (n : ℕ) × NamesFirstBad t (InvalidHexCharacter c n) × (i ≡ counted n)
-NamesCounted t NoMemory = ⊥
+-- as `NamesFirstBad`, with the greatest `usize` for a position beyond it
+abbrev pub NamesCounted : List ℕ → ℕ → ℕ → Type 0
+NamesCounted t c index = (n : ℕ) × NamesFirstBad t c n × (index ≡ counted n)
 
--- the answer when t was read so far, the bytes bs were given before its last piece, and there is
--- room for n bytes: the room is tested first, by the count of digits, and then each digit
+-- the answer when t was read so far, the bytes bs were given before its last chunk, and there is
+-- space for n bytes: the space is tested first, by the count of digits, and then each digit
 abbrev pub ReadsOn : List ℕ → List ℕ → ℕ → Result ℕ FromHexError → Type 0
 ReadsOn t bs n (Ok more) =
     (more ≤ n) × (length (body_of t) / 2 ≡ length bs + more) × AllDigits (body_of t)
 ReadsOn t bs n (Err OddLength) = ⊥
 ReadsOn t bs n (Err InvalidStringLength) = length bs + n < length (body_of t) / 2
 ReadsOn t bs n (Err (InvalidHexCharacter c i)) =
-    (length (body_of t) / 2 ≤ length bs + n) × NamesCounted t (InvalidHexCharacter c i)
+    (length (body_of t) / 2 ≤ length bs + n) × NamesCounted t c i
 ReadsOn t bs n (Err NoMemory) = ⊥
+
+-- `Decoder::decode`: the decoder `before` reads the chunk into an output that held `old`, with this
+-- result, which is the number of new bytes; t is what was read so far, and bs the bytes given for it
+pub record DecodesChunk (before : Decoder) (chunk old new : List ℕ) (after : Decoder) (r : Result ℕ FromHexError) : Type 0 where
+  pub ok : (t bs : List ℕ) → HasRead before t bs → IfOk r (λ n. HasRead after (t ++ chunk) (bs ++ take n new))
+  pub answer : (t bs : List ℕ) → HasRead before t bs → ReadsOn (t ++ chunk) bs (length old) r
+  pub within : IfOk r (λ n. n ≤ length old)
+  pub most : IfOk r (λ n. n ≤ (length chunk + 1) / 2)
+  pub enough : (length chunk + 1) / 2 ≤ length old → r ≢ Err InvalidStringLength
+  pub rest : IfOk r (λ n. drop n new ≡ drop n old)
+  pub unchanged : r ≡ Err InvalidStringLength → (after ≡ before) × (new ≡ old)
+  pub after_error : (t bs : List ℕ) → HasRead before t bs
+      → IfErr r (λ e. e ≢ InvalidStringLength → Partial old (drop (2 * length bs) (body_of (t ++ chunk))) new)
+  -- the decoder keeps the error of an invalid character, and returns it again
+  pub ended : IfErr r (λ e. e ≢ InvalidStringLength → error_of after ≡ Some e)
+  pub kept_error : IfSome (error_of before) (λ e. (r ≡ Err e) × (after ≡ before) × (new ≡ old))

@@ -4,10 +4,8 @@ use Rattle.std.proofs.Common.{inl, inr, sym, ap, subst, ◌∙◌, arith}
 use Rattle.std.proofs.lemmas.Bool.{cases_eq}
 use Rattle.std.proofs.lemmas.Bool.Decides.{nat_tests}
 use Rattle.const_hex_arch.proofs.lemmas.Spelling.{Spells-length, Spells-bytes, Spells-some, digits_or_bad}
-use Rattle.const_hex.specs.Bodies.{body_of}
-use Rattle.const_hex.specs.Answers.{Reads, ReadsSized, AreBytes, IsEven}
-use Rattle.const_hex.specs.Elements.{signed_of, byte_of}
-use Rattle.const_hex.specs.Types.{is_no_memory, AnyCount, IsCount, RefusesOrMisfits, IsFaithful, ReadsOwned, ReadsAs, ReadsSigned, ReadsThrough}
+use Rattle.const_hex.specs.Results.{body_of, Reads, ReadsSized, AreBytes, IsEven}
+use Rattle.const_hex.specs.Types.{signed_of, byte_of, is_no_memory, AnyCount, IsCount, RefusesOrMisfits, IsFaithful, ReadsOwned, ReadsAs, ReadsSigned, ReadsThrough}
 use Rattle.const_hex.specs.declared.error.FromHexError.{FromHexError}
 use Rattle.const_hex.specs.declared.error.FromHexError.TheVariants.{OddLength, InvalidStringLength, InvalidHexCharacter, NoMemory}
 
@@ -40,7 +38,7 @@ ReadsOwned-faithful bytes t (Err e) h = λ known. inl (e, grind (arith, known))
 
 -- ---- arrays
 
--- a body of another length is refused, or its bytes do not fit
+-- a body of another length is an error, or its bytes do not fit
 unfit : (n : ℕ) (t : List ℕ) → length (body_of t) ≢ 2 * n → (r : Result (List ℕ) FromHexError) × Reads t r → RefusesOrMisfits (IsCount n) t
 unfit n t other (Ok bs, h) =
     inr (bs, h, λ same. let len = Spells-length (body_of t) bs h.1 in other (omega (arith, len, same)))

@@ -1,11 +1,27 @@
--- A text that is read into a type: the answers that it may have, and their law.
-use Rattle.std.specs.Prelude.{◌≡◌, ℕ, Bool, true, false, ◌⊎◌, List, length, map, ℤ, Result, Ok, Err}
-use Rattle.const_hex.specs.Answers.{Reads, IsEven, IsOdd}
-use Rattle.const_hex.specs.Elements.{signed_of}
+-- Types that are read from text, or written as it: what they return, and their law.
+use Rattle.std.specs.Prelude.{ℕ, ◌-◌, nat_lt, if◌then◌else◌, ℤ, pos, negsuc, ◌≡◌, Bool, true, false, ◌⊎◌, List, length, map, Result, Ok, Err, Option, Some, codes, ◌∷◌, None}
+use Rattle.const_hex.specs.Results.{Reads, IsEven, IsOdd}
 use Rattle.const_hex.specs.declared.error.FromHexError.{FromHexError}
 use Rattle.const_hex.specs.declared.error.FromHexError.TheVariants.{OddLength, InvalidStringLength, InvalidHexCharacter, NoMemory}
+use Rattle.const_hex.specs.declared.serde.error.JsonError.{JsonError}
+use Rattle.const_hex.specs.declared.serde.error.JsonError.TheVariants.{NotText, Hex}
+use Rattle.const_hex_arch.specs.Texts.{hex_text}
+use Rattle.const_hex.specs.declared.traits.chars.BytesToHexChars.{BytesToHexChars}
 
--- which refusals of a text are of memory
+-- ---- signed elements with the bits of bytes
+
+-- the signed number with the bits of a byte: b if b is below 128, else b - 256
+abbrev pub signed_of : ℕ → ℤ
+signed_of b = if nat_lt b 128 then pos b else negsuc (255 - b)
+
+-- the byte with the bits of a signed number
+abbrev pub byte_of : ℤ → ℕ
+byte_of (pos n) = n
+byte_of (negsuc n) = 255 - n
+
+-- ---- a text that is read into a type: the answers that it may have, and their law
+
+-- which errors for a text are of memory
 abbrev pub is_no_memory : FromHexError → Bool
 is_no_memory OddLength = false
 is_no_memory InvalidStringLength = false
@@ -20,15 +36,15 @@ AnyCount n = Unit {0}
 abbrev pub IsCount : ℕ → ℕ → Type 0
 IsCount n count = count ≡ n
 
--- the text t is refused, or spells a number of bytes that does not fit
+-- there is an error for the text t, or it spells a number of bytes that does not fit
 abbrev pub RefusesOrMisfits : (ℕ → Type 0) → List ℕ → Type 0
 RefusesOrMisfits fits t =
     ((e : FromHexError) × Reads t (Err e))
     ⊎ ((bs : List ℕ) × Reads t (Ok bs) × (fits (length bs) → ⊥))
 
 -- the law of types that are read from text: a value has the bytes that the text spells, and a
--- fitting number of them; an error is of memory, or the text is refused, or its number of bytes
--- does not fit
+-- fitting number of them; an error is of memory, or the text has an error without a type,
+-- or its number of bytes does not fit
 abbrev pub IsFaithful : {V E : Type 0} → (V → List ℕ) → (ℕ → Type 0) → (E → Bool) → List ℕ → Result V E → Type 0
 IsFaithful bytes fits is_memory t (Ok v) = Reads t (Ok (bytes v)) × fits (length (bytes v))
 IsFaithful bytes fits is_memory t (Err e) = is_memory e ≡ false → RefusesOrMisfits fits t
@@ -58,3 +74,32 @@ abbrev pub ReadsThrough : {W V E : Type 0} → (W → V) → (E → Bool) → (L
 ReadsThrough target is_memory answers t (Ok w) = answers t (Ok (target w))
 ReadsThrough {W} {V} target is_memory answers t (Err e) =
     answers t (Err e) ⊎ ((is_memory e ≡ true) × ((v : V) × answers t (Ok v)))
+
+-- ---- a JSON value that is read into a type
+
+-- the answers for a JSON string: the type's answers for its bytes, with an error inside `Hex`
+abbrev pub ReadsInside : {V E : Type 0} → (List ℕ → Result V E → Type 0) → List ℕ → Result V (JsonError E) → Type 0
+ReadsInside answers t (Ok v) = answers t (Ok v)
+ReadsInside answers t (Err NotText) = ⊥
+ReadsInside answers t (Err (Hex e)) = answers t (Err e)
+
+-- what the error for a JSON value prints, if it is known what the error for the text prints
+abbrev pub json_message : {E : Type 0} → (E → Option (List ℕ)) → JsonError E → Option (List ℕ)
+json_message message NotText = Some (codes "expected a hex encoded string")
+json_message message (Hex e) = message e
+
+-- ---- the characters that are left in an iterator over the text of bytes
+
+-- the second character of a byte that is begun, if there is one, and then the characters of the
+-- rest
+abbrev pub with_low : Option ℕ → List ℕ → List ℕ
+with_low None xs = xs
+with_low (Some c) xs = c ∷ xs
+
+-- the characters that are left
+abbrev pub chars_left : {upper : ℕ} → Bool → BytesToHexChars upper → List ℕ
+chars_left up s = with_low s.low (hex_text up s.bytes.now)
+
+-- the bounds on a number of items that is known
+abbrev pub exactly : ℕ → ℕ × Option ℕ
+exactly n = (n, Some n)

@@ -3,8 +3,7 @@
 ghost use Rattle.std.specs.Prelude.{◌≡◌, length, true, false, IfOk, string_bytes};
 ghost use Rattle.std.specs.Borrow.{sem};
 ghost use Rattle.const_hex_arch.specs.Texts.{full_text, text_length};
-ghost use Rattle.const_hex.specs.Buffers.{blank_text, buffer_text};
-ghost use Rattle.const_hex.specs.Loans.{EndsHolding};
+ghost use Rattle.const_hex.specs.Buffers.{blank_text, buffer_text, EndsHolding};
 
 mod ascii;
 
@@ -103,7 +102,7 @@ impl<const N: usize, const PREFIX: bool, const LEN: usize> Buffer<N, PREFIX, LEN
         requires { LEN ≡ text_length PREFIX N }
         ensures { buffer_text result ≡ full_text PREFIX false input.now }
     {
-        self.formatted_array(input, false);
+        self.write_array(input, false);
         self
     }
 
@@ -118,13 +117,13 @@ impl<const N: usize, const PREFIX: bool, const LEN: usize> Buffer<N, PREFIX, LEN
         requires { LEN ≡ text_length PREFIX N }
         ensures { buffer_text result ≡ full_text PREFIX true input.now }
     {
-        self.formatted_array(input, true);
+        self.write_array(input, true);
         self
     }
 
     /// Writes the whole text over what the buffer holds, and lends the buffer.
     #[inline]
-    fn formatted(&mut self, input: &[u8], upper: bool) -> &Self
+    fn write_text(&mut self, input: &[u8], upper: bool) -> &Self
         requires fits { LEN ≡ text_length PREFIX N }
         requires size { length input.now ≡ N }
         ensures lends { buffer_text result.now ≡ full_text PREFIX upper input.now }
@@ -135,15 +134,15 @@ impl<const N: usize, const PREFIX: bool, const LEN: usize> Buffer<N, PREFIX, LEN
         self
     }
 
-    /// As `formatted`, for an array.
+    /// As `write_text`, for an array.
     #[inline]
-    fn formatted_array(&mut self, input: &[u8; N], upper: bool) -> &Self
+    fn write_array(&mut self, input: &[u8; N], upper: bool) -> &Self
         requires { LEN ≡ text_length PREFIX N }
         ensures lends { buffer_text result.now ≡ full_text PREFIX upper input.now }
         ensures* after { sem 𝓛 (EndsHolding N.row PREFIX.row LEN.row self.entry
             (full_text PREFIX upper input.now)) }
     {
-        self.formatted(input, upper)
+        self.write_text(input, upper)
     }
 
     /// Writes the text of the input, in lowercase, and lends it.
@@ -161,7 +160,7 @@ impl<const N: usize, const PREFIX: bool, const LEN: usize> Buffer<N, PREFIX, LEN
         ensures* after { sem 𝓛 (EndsHolding N.row PREFIX.row LEN.row self.entry
             (full_text PREFIX false input.now)) }
     {
-        self.formatted_array(input, false).as_str()
+        self.write_array(input, false).as_str()
     }
 
     /// As [`format`](Self::format), in uppercase. The prefix is still `0x`.
@@ -177,7 +176,7 @@ impl<const N: usize, const PREFIX: bool, const LEN: usize> Buffer<N, PREFIX, LEN
         ensures* after { sem 𝓛 (EndsHolding N.row PREFIX.row LEN.row self.entry
             (full_text PREFIX true input.now)) }
     {
-        self.formatted_array(input, true).as_str()
+        self.write_array(input, true).as_str()
     }
 
     /// As [`format`](Self::format), for a slice, which must have exactly N bytes.
@@ -194,7 +193,7 @@ impl<const N: usize, const PREFIX: bool, const LEN: usize> Buffer<N, PREFIX, LEN
         ensures* after { sem 𝓛 (EndsHolding N.row PREFIX.row LEN.row self.entry
             (full_text PREFIX false input.now)) }
     {
-        self.formatted(input, false).as_str()
+        self.write_text(input, false).as_str()
     }
 
     /// As [`format_slice`](Self::format_slice), in uppercase. The prefix is still `0x`.
@@ -211,7 +210,7 @@ impl<const N: usize, const PREFIX: bool, const LEN: usize> Buffer<N, PREFIX, LEN
         ensures* after { sem 𝓛 (EndsHolding N.row PREFIX.row LEN.row self.entry
             (full_text PREFIX true input.now)) }
     {
-        self.formatted(input, true).as_str()
+        self.write_text(input, true).as_str()
     }
 
     /// The contents, as text.

@@ -1,13 +1,13 @@
-//! Why a text is refused.
+//! Why a text cannot be decoded, or a text does not fit into an output.
 
 ghost use Rattle.std.specs.Prelude.{◌≡◌};
-ghost use Rattle.const_hex.specs.Messages.{message_of};
+ghost use Rattle.const_hex.specs.Results.{message_of};
 ghost use Rattle.const_hex.specs.declared.error.FromHexError.TheVariants.{NoMemory};
 
 use std::alloc::{AllocError, AllocFailed};
 use std::{error, fmt};
 
-/// Why a text is refused.
+/// Why a text cannot be decoded, or a text does not fit into an output.
 ///
 /// A text is judged in this order: an odd length, then the length that a sized call needs, then the
 /// characters.
@@ -27,7 +27,7 @@ pub enum FromHexError {
     InvalidHexCharacter {
         /// The character with the byte's number. A byte past 127 gives U+0080 to U+00FF.
         c: char,
-        /// The byte's place, counted from 0 at the start of the whole text, prefix included.
+        /// The byte's position, counted from 0 at the start of the whole text, prefix included.
         index: usize,
     },
     /// Memory could not be allocated.
@@ -54,7 +54,7 @@ impl error::Error for FromHexError {}
 impl From<AllocError> for FromHexError {
     ghost from_gives = { λ _ e. e ≡ NoMemory };
 
-    fn from(_refused: AllocError) -> FromHexError {
+    fn from(_error: AllocError) -> FromHexError {
         FromHexError::NoMemory
     }
 }
@@ -62,7 +62,7 @@ impl From<AllocError> for FromHexError {
 impl<T: Drop> From<AllocFailed<T>> for FromHexError {
     ghost from_gives = { λ _ e. e ≡ NoMemory };
 
-    fn from(_refused: AllocFailed<T>) -> FromHexError {
+    fn from(_error: AllocFailed<T>) -> FromHexError {
         FromHexError::NoMemory
     }
 }

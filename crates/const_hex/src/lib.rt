@@ -1,8 +1,8 @@
-//! Hexadecimal text: encoding, checking and decoding, after the Rust crate `const-hex`.
+//! Encodes bytes as hexadecimal text, and checks and decodes it: a port of the Rust crate `const-hex`.
 //!
-//! The terms of the contracts are defined in `specs/`. `specs/Lib.antt` passes on the terms of
-//! `const_hex_arch` for digits, texts and what they spell. `proofs/lemmas/Reading.antt` proves that
-//! each text has one answer.
+//! Each function has a contract, which is proved for every input. The terms of the contracts are
+//! defined in `specs/`; `specs/Lib.antt` passes on those of `const_hex_arch` for digits and texts.
+//! `proofs/lemmas/Reading.antt` proves that each text has exactly one result.
 #![tactic(auto)]
 
 mod buffer;

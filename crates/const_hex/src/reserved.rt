@@ -1,9 +1,12 @@
-//! The text of bytes, in a vector with room for exactly that text.
+//! Owned text and owned bytes, in a vector with room for exactly these.
 
-ghost use Rattle.std.specs.Prelude.{◌≡◌, Some, IfOk};
+ghost use Rattle.std.specs.Prelude.{◌≡◌, ◌≤◌, length, Some, IfOk};
 ghost use Rattle.const_hex_arch.specs.Texts.{full_text};
-ghost use Rattle.const_hex.specs.Reserved.{ReservedStep, spare_room};
+ghost use Rattle.const_hex.specs.Buffers.{ReservedStep, spare_room};
 
+mod decoding;
+
+pub(crate) use crate::reserved::decoding::decode_reserved;
 use const_hex_arch::{Kernel, Output, encode_full};
 use std::alloc::{AllocError, Global};
 
@@ -11,6 +14,21 @@ use std::alloc::{AllocError, Global};
 #[derive(Drop)]
 struct ReservedOutput {
     bytes: Vec<u8>,
+}
+
+impl ReservedOutput {
+    /// Puts bytes behind what the vector holds.
+    // Where their number is known at compile time, the machine stores them whole.
+    #[inline(always)]
+    #[tactic(auto, using(crate::proofs::lemmas::Reserving::pieces))]
+    fn put(&mut self, bytes: &[u8])
+        requires { length bytes.now ≤ spare_room self.old }
+        ensures { ReservedStep self.old bytes.now self.new }
+    {
+        for byte in bytes {
+            self.bytes.push_reserved(*byte);
+        }
+    }
 }
 
 impl Output for ReservedOutput {
@@ -23,13 +41,9 @@ impl Output for ReservedOutput {
         Some(self.bytes.capacity().saturating_sub(self.bytes.len()))
     }
 
-    // The length of a kernel's piece is known at compile time, so the machine stores it whole.
     #[inline(always)]
-    #[tactic(auto, using(crate::proofs::lemmas::Reserving::pieces))]
     fn write(&mut self, bytes: &[u8]) {
-        for byte in bytes {
-            self.bytes.push_reserved(*byte);
-        }
+        self.put(bytes);
     }
 
     // Both ends are stored whole, and the first is cut where the last begins.
@@ -50,7 +64,7 @@ impl Output for ReservedOutput {
 /// text, not at all.
 #[inline(always)]
 #[tactic(auto, using(const_hex_arch::proofs::lemmas::Texts::full_text_size))]
-pub(crate) fn reserved_bytes<K: Kernel>(
+pub(crate) fn encode_reserved<K: Kernel>(
     alloc: Global,
     input: &[u8],
     prefix: bool,
@@ -58,6 +72,7 @@ pub(crate) fn reserved_bytes<K: Kernel>(
 ) -> Result<Vec<u8>, AllocError>
     ensures { IfOk result (λ v. v.items ≡ full_text prefix upper input.now) }
 {
+    // As `text_length`, which tests twice whether its result is too large: 6 or 7 instructions more.
     let length = (2 * input.len()).saturating_add(if prefix { 2 } else { 0 });
     // Apart, so that below there is a block for certain. A call then takes some ten instructions less.
     if length == 0 {

@@ -8,7 +8,7 @@ ghost use Rattle.serde_json.specs.Data.{string};
 ghost use Rattle.serde_json.specs.Find.{as_str};
 ghost use Rattle.serde_json.specs.View.{view};
 ghost use Rattle.const_hex_arch.specs.Texts.{full_text};
-ghost use Rattle.const_hex.specs.Json.{ReadsInside};
+ghost use Rattle.const_hex.specs.Types.{ReadsInside};
 ghost use Rattle.const_hex.specs.declared.serde.error.JsonError.TheVariants.{NotText};
 
 mod error;

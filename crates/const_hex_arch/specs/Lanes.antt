@@ -1,8 +1,10 @@
--- What the parts of a step do with lanes.
-use Rattle.std.specs.Prelude.{◌≡◌, ℕ, ◌+◌, ◌*◌, ◌/◌, ◌%◌, ◌≤◌, Bool, List, [], ◌∷◌, map, replicate}
+-- The parts of a step over lanes, and the values of digits in lanes.
+use Rattle.std.specs.Prelude.{◌≡◌, ℕ, ◌+◌, ◌*◌, ◌/◌, ◌%◌, ◌≤◌, Bool, List, [], ◌∷◌, map, replicate, ◌-◌, ◌↔◌, nat_le, nat_lt, if◌then◌else◌, Option, Some, None}
 use Rattle.std.specs.Int.{bit_at}
 use Rattle.std.specs.List.{AllByRecursion, concat, range_with_len}
-use Rattle.const_hex_arch.specs.Digits.{hex_digit}
+use Rattle.const_hex_arch.specs.Texts.{hex_digit, hex_value, IsDigit}
+
+-- ---- what the parts of a step do with lanes
 
 -- every lane is a value
 abbrev pub AllNibbles : List ℕ → Type 0
@@ -34,3 +36,22 @@ abbrev pub byte_pairs : List ℕ → List ℕ
 byte_pairs [] = []
 byte_pairs (h ∷ []) = []
 byte_pairs (h ∷ l ∷ ns) = (16 * h + l) ∷ byte_pairs ns
+
+-- ---- values of digits, in lanes
+
+-- a lane of at most 15 is a value, and any other lane is none
+abbrev pub as_value : ℕ → Option ℕ
+as_value n = if nat_le n 15 then Some n else None
+
+-- if the byte is a digit, n is its value
+abbrev pub IsValueOf : ℕ → ℕ → Type 0
+IsValueOf b n = IsDigit b → hex_value b ≡ Some n
+
+-- if the byte is a digit, n is its value; the byte less 48, less n, has no mark exactly if the byte
+-- is a digit
+abbrev pub IsPartOf : ℕ → ℕ → Type 0
+IsPartOf b n = IsValueOf b n × (IsUnmarked (((b + 208) % 256 + (256 - n)) % 256) ↔ IsDigit b)
+
+-- the byte less 48, but at most t, is such a part
+abbrev pub IsLimitOf : ℕ → ℕ → Type 0
+IsLimitOf b t = IsPartOf b (if nat_lt ((b + 208) % 256) t then (b + 208) % 256 else t)

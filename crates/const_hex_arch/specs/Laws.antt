@@ -3,9 +3,8 @@ use Rattle.std.specs.Prelude.{◌≡◌, ℕ, ◌+◌, Bool, true, false, if◌t
 use Rattle.std.specs.List.{FoldsTo, concat}
 use Rattle.std.proofs.Common.{sym, ap, ◌∙◌, arith, length-append}
 use Rattle.std.proofs.lemmas.List.{append-nil}
-use Rattle.const_hex_arch.specs.Runs.{less_room}
-use Rattle.const_hex_arch.specs.Gathering.{Gathers}
-use Rattle.const_hex_arch.specs.Pieces.{PieceState, PieceStep}
+use Rattle.const_hex_arch.specs.Outputs.{less_room, Gathers}
+use Rattle.const_hex_arch.specs.Sinks.{PieceState, PieceStep}
 
 -- no bytes take no room
 less_room-zero : (room : Option ℕ) → less_room room 0 ≡ room

@@ -1,11 +1,5 @@
-pub mod Digits
-pub mod Gathering
 pub mod Lanes
 pub mod Laws
-pub mod Nibbles
-pub mod Pieces
-pub mod Runs
+pub mod Outputs
 pub mod Sinks
-pub mod SliceOutputs
-pub mod Streams
 pub mod Texts

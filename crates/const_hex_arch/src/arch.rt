@@ -1,11 +1,12 @@
 //! Kernels, which turn bytes into digits, and digits into bytes.
 
-ghost use Rattle.std.specs.Prelude.{◌≡◌, Bool, ◌*◌, ◌<◌, ◌↔◌, IsTrue, true, false, length};
-ghost use Rattle.const_hex_arch.specs.Runs.{HasRoom, Writes};
-ghost use Rattle.const_hex_arch.specs.Texts.{hex_text, prefix_of, full_text, AllDigits, Spells, Partial};
+ghost use Rattle.std.specs.Prelude.{◌≡◌, Bool, ◌+◌, ◌*◌, ◌<◌, ◌≤◌, ◌↔◌, IsTrue, true, false, length, take, drop};
+ghost use Rattle.const_hex_arch.specs.Outputs.{HasRoom, Writes};
+ghost use Rattle.const_hex_arch.specs.Texts.{hex_text, AllDigits, Spells, Partial};
 
 pub mod arithmetic16;
 pub mod check_first;
+mod drivers;
 mod lanes;
 pub mod lanes16;
 pub mod lanes32;
@@ -15,6 +16,7 @@ mod steps;
 
 use crate::arch::lanes32::Lanes32;
 use crate::output::Output;
+use crate::output::slice::SliceOutput;
 
 /// The kernel of every call that does not name one. It is named here and nowhere else.
 ///
@@ -25,7 +27,7 @@ pub type FixedKernel = Lanes32;
 
 /// Turns bytes into digits, and digits into bytes.
 ///
-/// The codec relies only on the contracts of these four calls, so it runs over any type that meets
+/// The codec relies only on the contracts of these calls, so it runs over any type that meets
 /// them. None of them allocates.
 ///
 /// ```rust
@@ -56,6 +58,24 @@ pub trait Kernel {
         requires { HasRoom (O.room output.old) (2 * length input.now) }
         ensures { Writes O.step output.old (hex_text upper input.now) output.new };
 
+    /// Fills the output with two digits for each byte, in order. The output must have exactly the
+    /// length of that text.
+    ///
+    /// ```rust
+    /// let mut text = [0; 8];
+    /// FixedKernel::fill(b"kiwi", false, &mut text);
+    /// assert_eq!(rt; text, *b"6b697769");
+    /// ```
+    // A call that is not inlined gets its slices in registers, and `encode` its output in memory.
+    #[inline(always)]
+    fn fill(input: &[u8], upper: bool, output: &mut [u8])
+        requires { length output.old ≡ 2 * length input.now }
+        ensures { output.new ≡ hex_text upper input.now }
+    {
+        let mut written = SliceOutput::new(output);
+        Self::encode::<SliceOutput>(input, upper, &mut written);
+    }
+
     /// Whether every byte is a digit.
     ///
     /// ```rust
@@ -81,6 +101,29 @@ pub trait Kernel {
         ensures refused { result ≡ false → Partial output.old input.now output.new }
         ensures unchanged { result ≡ false → USE_CHECK_FN ≡ true → output.new ≡ output.old };
 
+    /// Fills the output with the bytes that a part of the input spells, and returns true. Returns
+    /// false if some byte of this part is not a digit. The part begins `start` pairs behind the start
+    /// of the input, and must have two bytes for each byte of the output.
+    ///
+    /// This is for a caller that puts each part into an array. A kernel may have shorter code for
+    /// arrays of 16, 32 and 64 bytes.
+    ///
+    /// ```rust
+    /// let mut bytes = [0; 2];
+    /// assert!(rt; FixedKernel::decode_part(b"6B697769", 1, &mut bytes));
+    /// assert_eq!(rt; bytes, *b"iw");
+    /// ```
+    #[inline(always)]
+    fn decode_part(input: &[u8], start: usize, output: &mut [u8]) -> bool
+        requires { 2 * (start + length output.old) ≤ length input.now }
+        ensures spells { IsTrue result
+            → Spells (take (2 * length output.old) (drop (2 * start) input.now)) output.new }
+        ensures refused { result ≡ false → AllDigits input.now → ⊥ }
+    {
+        let end = start + output.len();
+        Self::decode_checked(&input[2 * start..2 * end], output)
+    }
+
     /// Fills the output with the bytes that the input spells. The input must have two bytes for
     /// each byte of the output, and only digits.
     ///
@@ -93,34 +136,4 @@ pub trait Kernel {
         requires size { length input.now ≡ 2 * length output.old }
         requires digits { AllDigits input.now }
         ensures { Spells input.now output.new };
-}
-
-/// Writes `0x` if `prefix` is true, and then two digits for each byte, by the kernel `K`. The
-/// output must have room for them. Allocates only what the output allocates.
-///
-/// ```rust
-/// let mut text = [0; 10];
-/// let mut output = SliceOutput::new(&mut text);
-/// encode_full::<Plain, SliceOutput>(b"kiwi", true, false, &mut output);
-/// assert_eq!(rt; text, *b"0x6b697769");
-/// ```
-#[inline(always)]
-pub fn encode_full<K: Kernel, O: Output>(input: &[u8], prefix: bool, upper: bool, output: &mut O)
-    requires { HasRoom (O.room output.old) (length (full_text prefix upper input.now)) }
-    ensures { Writes O.step output.old (full_text prefix upper input.now) output.new }
-{
-    write_prefix(prefix, output);
-    K::encode(input, upper, output);
-}
-
-/// Writes `0x` if `prefix` is true.
-#[inline(always)]
-#[tactic(auto, using(crate::proofs::lemmas::Runs::one_written))]
-fn write_prefix<O: Output>(prefix: bool, output: &mut O)
-    requires { HasRoom (O.room output.old) (length (prefix_of prefix)) }
-    ensures { Writes O.step output.old (prefix_of prefix) output.new }
-{
-    if prefix {
-        output.write(b"0x");
-    }
 }

@@ -1,7 +1,8 @@
-//! The lower half of a hexadecimal codec: tables, outputs and kernels.
+//! The lower layer of a hexadecimal codec: tables of digits, outputs, sinks and kernels.
 //!
-//! A kernel turns bytes into digits and digits into bytes, and an output receives the digits. The
-//! terms of their contracts are defined in `specs/`.
+//! A kernel turns bytes into digits and digits into bytes. An output receives digits and cannot
+//! fail; a sink receives text, and each call may fail. The terms of their contracts are defined in
+//! `specs/`.
 #![tactic(auto)]
 
 pub mod arch;
@@ -16,7 +17,7 @@ pub use crate::arch::check_first::CheckFirst;
 pub use crate::arch::lanes16::Lanes16;
 pub use crate::arch::lanes32::Lanes32;
 pub use crate::arch::plain::Plain;
-pub use crate::arch::{FixedKernel, Kernel, encode_full, lanes16, lanes32};
+pub use crate::arch::{FixedKernel, Kernel, lanes16, lanes32};
 pub use crate::output::Output;
 pub use crate::output::buffered::BufferedOutput;
 pub use crate::output::slice::SliceOutput;
@@ -27,4 +28,4 @@ pub use crate::stream::BufferedHex;
 pub use crate::tables::{
     HEX_CHARS_LOWER, HEX_CHARS_UPPER, HEX_DECODE_LUT, NIL, digit_at, value_at,
 };
-pub use crate::text::{ascii_text, fill_text, text_length};
+pub use crate::text::{ascii_text, encode_full, fill_text, text_length};

@@ -2,7 +2,7 @@
 
 ghost use Rattle.std.specs.Prelude.{◌≡◌, ℕ, ◌+◌, ◌-◌, ◌*◌, ◌<◌, ◌≤◌, List, [], ◌∷◌, ◌++◌, length, take, Option};
 ghost use Rattle.std.specs.Str.{IsAscii};
-ghost use Rattle.const_hex_arch.specs.Runs.{HasRoom, less_room};
+ghost use Rattle.const_hex_arch.specs.Outputs.{HasRoom, less_room};
 
 pub mod buffered;
 pub mod slice;
@@ -14,7 +14,7 @@ pub mod slice;
 ///
 /// ```rust
 /// fn greet<O: Output>(output: &mut O) {
-///     if output.remaining().is_none_or(|room| room >= 3) {
+///     if output.remaining().unwrap_or(usize::MAX) >= 3 {
 ///         output.write(b"hi");
 ///         output.write_byte(b'!');
 ///     }

@@ -1,14 +1,14 @@
 //! The text of bytes, handed to a sink in large pieces.
 
-ghost use Rattle.std.specs.Prelude.{◌≡◌, ◌≤◌, false, not, is_ok, length};
+ghost use Rattle.std.specs.Prelude.{◌≡◌, ◌≤◌, false, is_ok, length};
 ghost use Rattle.const_hex_arch.specs.Texts.{full_text, text_length};
-ghost use Rattle.const_hex_arch.specs.Streams.{Handed, Streams, TellsCut, hex_bytes};
+ghost use Rattle.const_hex_arch.specs.Sinks.{Handed, hex_bytes};
 
-use crate::arch::{FixedKernel, Kernel, encode_full};
+use crate::arch::{FixedKernel, Kernel};
 use crate::output::buffered::BufferedOutput;
 use crate::sink::output::SinkOutput;
 use crate::sink::{Sink, SinkError, refusal_of};
-use crate::text::{ascii_text, fill_text, text_length};
+use crate::text::{ascii_text, encode_full, fill_text, text_length};
 
 /// How many bytes are gathered for one call of a sink. A text of at most this length is handed over
 /// whole.
@@ -61,12 +61,8 @@ impl<'a, const UPPER: bool, const PREFIX: bool> BufferedHex<'a, UPPER, PREFIX> {
     /// ```
     pub fn write_to<S: Sink>(&self, sink: &mut S) -> Result<(), SinkError>
         requires { S.is_refused sink.old ≡ false }
-        ensures streams { Streams S.step S.is_refused sink.old
-            (full_text PREFIX UPPER (hex_bytes self.now)) sink.new }
-        ensures flag { is_ok result ≡ not (S.is_refused sink.new) }
-        ensures told { S.is_refused sink.new ≡ false
-            → TellsCut (S.told sink.old) (full_text PREFIX UPPER (hex_bytes self.now))
-            (S.told sink.new) }
+        ensures { Handed S.step S.is_refused S.told sink.old
+            (full_text PREFIX UPPER (hex_bytes self.now)) (is_ok result) sink.new }
     {
         self.write_with::<FixedKernel, S>(sink)
     }
@@ -81,12 +77,8 @@ impl<'a, const UPPER: bool, const PREFIX: bool> BufferedHex<'a, UPPER, PREFIX> {
     /// ```
     pub fn write_with<K: Kernel, S: Sink>(&self, sink: &mut S) -> Result<(), SinkError>
         requires { S.is_refused sink.old ≡ false }
-        ensures streams { Streams S.step S.is_refused sink.old
-            (full_text PREFIX UPPER (hex_bytes self.now)) sink.new }
-        ensures flag { is_ok result ≡ not (S.is_refused sink.new) }
-        ensures told { S.is_refused sink.new ≡ false
-            → TellsCut (S.told sink.old) (full_text PREFIX UPPER (hex_bytes self.now))
-            (S.told sink.new) }
+        ensures { Handed S.step S.is_refused S.told sink.old
+            (full_text PREFIX UPPER (hex_bytes self.now)) (is_ok result) sink.new }
     {
         let size = text_length(PREFIX, self.bytes.len());
         if size <= SHORT {

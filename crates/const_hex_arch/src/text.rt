@@ -1,11 +1,12 @@
-//! The whole text of bytes, in a slice of exactly its length.
+//! The whole text of bytes: its length, and how it is written.
 
 ghost use Rattle.std.specs.Prelude.{◌≡◌, length, min};
 ghost use Rattle.std.specs.Str.{IsAscii};
-ghost use Rattle.const_hex_arch.specs.Texts.{full_text, text_length};
+ghost use Rattle.const_hex_arch.specs.Outputs.{HasRoom, Writes};
+ghost use Rattle.const_hex_arch.specs.Texts.{full_text, prefix_of, text_length};
 
-use crate::arch::{Kernel, encode_full};
-use crate::output::slice::SliceOutput;
+use crate::arch::Kernel;
+use crate::output::Output;
 
 /// The length of the text of `count` bytes, behind `0x` if `prefix` is true. If that does not fit
 /// into a `usize`, the answer is the greatest one, and no text has that length.
@@ -32,14 +33,55 @@ pub fn text_length(prefix: bool, count: usize) -> usize
 /// assert_eq!(rt; text, *b"0x6b697769");
 /// ```
 #[inline(always)]
-#[tactic(auto, using(crate::proofs::lemmas::Texts::full_text_size))]
 pub fn fill_text<K: Kernel>(input: &[u8], prefix: bool, upper: bool, output: &mut [u8])
     requires { length output.old ≡ text_length prefix (length input.now) }
     ensures text { output.new ≡ full_text prefix upper input.now }
     ensures ascii { IsAscii output.new }
 {
-    let mut written = SliceOutput::new(output);
-    encode_full::<K, SliceOutput>(input, prefix, upper, &mut written);
+    let (front, digits) = output.split_at_mut(if prefix { 2 } else { 0 });
+    put_prefix(prefix, front);
+    K::fill(input, upper, digits);
+}
+
+/// Fills the output with `0x` if `prefix` is true. Otherwise the output must be empty.
+#[inline(always)]
+fn put_prefix(prefix: bool, output: &mut [u8])
+    requires { length output.old ≡ length (prefix_of prefix) }
+    ensures { output.new ≡ prefix_of prefix }
+{
+    if prefix {
+        output.copy_from_slice(b"0x");
+    }
+}
+
+/// Writes `0x` if `prefix` is true, and then two digits for each byte, by the kernel `K`. The
+/// output must have room for them. Allocates only what the output allocates.
+///
+/// ```rust
+/// let mut text = [0; 10];
+/// let mut output = SliceOutput::new(&mut text);
+/// encode_full::<Plain, SliceOutput>(b"kiwi", true, false, &mut output);
+/// assert_eq!(rt; text, *b"0x6b697769");
+/// ```
+#[inline(always)]
+pub fn encode_full<K: Kernel, O: Output>(input: &[u8], prefix: bool, upper: bool, output: &mut O)
+    requires { HasRoom (O.room output.old) (length (full_text prefix upper input.now)) }
+    ensures { Writes O.step output.old (full_text prefix upper input.now) output.new }
+{
+    write_prefix(prefix, output);
+    K::encode(input, upper, output);
+}
+
+/// Writes `0x` if `prefix` is true.
+#[inline(always)]
+#[tactic(auto, using(crate::proofs::lemmas::Runs::one_written))]
+fn write_prefix<O: Output>(prefix: bool, output: &mut O)
+    requires { HasRoom (O.room output.old) (length (prefix_of prefix)) }
+    ensures { Writes O.step output.old (prefix_of prefix) output.new }
+{
+    if prefix {
+        output.write(b"0x");
+    }
 }
 
 /// ASCII bytes as text, without a copy or a test at run time. Does not allocate.
@@ -53,5 +95,6 @@ pub fn ascii_text(bytes: &[u8]) -> &str
     requires { IsAscii bytes.now }
     ensures { result.now ≡ bytes.now }
 {
+    // SAFETY: ASCII is UTF-8.
     unsafe { str::from_utf8_unchecked(bytes) }
 }

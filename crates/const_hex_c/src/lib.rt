@@ -1,257 +1,285 @@
-//! The codec's calls, for C.
+//! The codec's functions for C.
 //!
-//! Each call that encodes, decodes or checks makes one call of `const_hex`, and has that call's
-//! clauses. Besides there are the length of a text, the message of a refusal, and the version. No
-//! call allocates, and none requires anything of its arguments. A slice is a pointer and a length;
-//! the pointer may be null if the length is 0. The header `c/const_hex.h` says the same for C.
+//! Each function that encodes, decodes or checks makes one call of `const_hex`, and has that call's
+//! clauses. The others are the size of a buffer, the message of an error, and the version. No
+//! function allocates, and none requires anything of its arguments. A slice is a pointer and a
+//! length; the pointer may be null if the length is 0.
+//!
+//! The header `c/const_hex.h` says the same for C. There an error may be NULL: `c/dispatch.c` defines
+//! the functions that end in `_nonnull` here, and passes them an error of its own then.
 //!
 //! The contracts use the terms of `const_hex`, and those defined in `specs/`.
 #![tactic(auto)]
 
 ghost use Rattle.std.specs.Prelude.{◌≡◌, ◌↔◌, ◌*◌, ◌+◌, ◌-◌, ◌<◌, ◌≤◌, ◌≢◌, ◌++◌, ℕ, List, Some, IfSome, true, false, length, take, drop, min, slice_index, IsTrue, Ok, Err};
 ghost use Rattle.const_hex.specs.Texts.{full_text, text_length, AllDigits, Partial};
-ghost use Rattle.const_hex.specs.Answers.{IsOdd, Reads, ReadsSized, ReadsWithin, Leaves};
-ghost use Rattle.const_hex.specs.Bodies.{body_of};
+ghost use Rattle.const_hex.specs.Results.{IsOdd, Reads, ReadsSized, ReadsWithin, Leaves, body_of};
 ghost use Rattle.const_hex.specs.Decoding.{HasRead, ReadsOn, error_of};
 ghost use Rattle.const_hex.specs.declared.error.FromHexError.TheVariants.{OddLength, InvalidStringLength};
-ghost use Rattle.const_hex_c.specs.Crossing.{StandsFor, Says, IsUnknown, refusal_of};
+ghost use Rattle.const_hex_c.specs.Errors.{StandsFor, Says, IsUnknown, struct_of};
+ghost use Rattle.const_hex_c.specs.Flags.{AreFlags, is_upper, has_prefix, size_of, after_text, emptied};
 
 mod callers;
-mod kernel;
-mod refusal;
-mod words;
+mod error;
+mod flags;
+mod message;
 
-use crate::kernel::CallsKernel;
-use crate::refusal::Refusal;
-use const_hex::{Decoder, Kernel};
+use crate::error::HexError;
+use crate::flags::{are_flags, clear, end_text, has_prefix, is_upper, length_of, size_beside};
+use const_hex::{Decoder, FixedKernel, Kernel};
 
-/// The length of the text of so many bytes: two digits for each byte, and two bytes more for a
-/// prefix. If that does not fit, the answer is the greatest number, and no text has that length.
-/// Does not allocate.
+/// Returns the size of the buffer that [`const_hex_encode`] needs: the text, and a NUL unless the flags
+/// leave it out. If that does not fit into a `usize`, or a flag is not known, the result is the
+/// greatest number. Does not allocate.
 ///
 /// ```c
-/// size_t length = const_hex_encoded_length(20, true); /* 42 */
+/// size_t size = const_hex_encoded_size(20, CONST_HEX_PREFIX); /* 43 */
 /// ```
 #[unsafe(no_mangle)]
-pub extern "C" fn const_hex_encoded_length(bytes: usize, prefix: bool) -> usize
-    ensures { result ≡ min (text_length prefix bytes) usize.MAX }
+pub extern "C" fn const_hex_encoded_size(bytes_length: usize, flags: u32) -> usize
+    ensures size { AreFlags flags → result ≡ min (size_of flags bytes_length) usize.MAX }
+    ensures unknown { 8 ≤ flags → result ≡ usize.MAX }
 {
-    const_hex::text_length(prefix, bytes)
-}
-
-/// Fills the text with the digits of the bytes, in uppercase or lowercase, behind `0x` if `prefix`
-/// is true. Returns false if the text does not have exactly that length; the text is then
-/// unchanged. Does not allocate.
-///
-/// ```c
-/// char text[10];
-/// bool fits = const_hex_encode("kiwi", 4, true, false, text, sizeof text); /* 0x6b697769 */
-/// ```
-#[unsafe(no_mangle)]
-pub extern "C" fn const_hex_encode(bytes: &[u8], prefix: bool, upper: bool, text: &mut [u8]) -> bool
-    ensures fits { IsTrue result ↔ (length text.old ≡ text_length prefix (length bytes.now)) }
-    ensures text { IsTrue result → text.new ≡ full_text prefix upper bytes.now }
-    ensures unchanged { result ≡ false → text.new ≡ text.old }
-{
-    const_hex::encode_full_to_slice_with::<CallsKernel>(bytes, prefix, upper, text).is_ok()
-}
-
-/// Fills the bytes with what the text spells, with or without a prefix, in either case.
-///
-/// Returns false if the text is refused, and sets the refusal to the first of these: an odd length;
-/// digits that are not two for each byte; the first byte that is not a digit. The first two leave
-/// the bytes unchanged. After the third, a front of the bytes may be decoded, no longer than the
-/// pairs before the bad byte, and the rest is unchanged. If the text is accepted, the refusal is
-/// unchanged. Does not allocate.
-///
-/// ```c
-/// unsigned char bytes[4];
-/// struct const_hex_refusal refusal;
-/// bool accepted = const_hex_decode("0x6b697769", 10, bytes, sizeof bytes, &refusal); /* kiwi */
-/// ```
-#[unsafe(no_mangle)]
-pub extern "C" fn const_hex_decode(text: &[u8], bytes: &mut [u8], refusal: &mut Refusal) -> bool
-    ensures ok { IsTrue result → ReadsSized text.now (length bytes.old) (Ok bytes.new) }
-    ensures kept { IsTrue result → refusal.new ≡ refusal.old }
-    ensures err { result ≡ false
-        → StandsFor refusal.new (λ e. ReadsSized text.now (length bytes.old) (Err e)) }
-    ensures after_error { result ≡ false
-        → StandsFor refusal.new (λ e. Leaves text.now bytes.old bytes.new e) }
-{
-    match const_hex::decode_to_slice_with::<CallsKernel>(text, bytes) {
-        Ok(()) => true,
-        Err(error) => {
-            *refusal = Refusal::from(error);
-            false
-        }
+    let beside = size_beside(flags);
+    if !are_flags(flags) || bytes_length > (usize::MAX - beside) / 2 {
+        return usize::MAX;
     }
+    2 * bytes_length + beside
 }
 
-/// As `const_hex_decode`, but the bytes may have more room than needed. Sets the count to the
-/// number of bytes decoded, and leaves what is behind them unchanged.
+/// Writes the text of the bytes and a NUL, in lowercase and without a prefix. The flags ask for
+/// uppercase digits (1), for a prefix (2), or for no NUL (4). The rest of the buffer is unchanged.
 ///
-/// Returns false if the text is refused; the count is then unchanged. The refusal is as for
-/// `const_hex_decode`, but an invalid length means that the text has more digits than fit into the
-/// bytes. Does not allocate.
+/// Returns false if the text and its NUL do not fit, or if a flag is not known. The text is then the
+/// empty string: its first byte is set to 0, if it has one and the flags ask for a NUL, and the rest
+/// is unchanged. Does not allocate.
+///
+/// ```c
+/// char text[11];
+/// bool fits = const_hex_encode("kiwi", 4, text, sizeof text, CONST_HEX_PREFIX); /* "0x6b697769" */
+/// ```
+#[unsafe(no_mangle)]
+pub extern "C" fn const_hex_encode(bytes: &[u8], text: &mut [u8], flags: u32) -> bool
+    ensures fits { IsTrue result
+        ↔ AreFlags flags × (size_of flags (length bytes.now) ≤ length text.old) }
+    ensures text { IsTrue result → text.new ≡ full_text (has_prefix flags) (is_upper flags) bytes.now
+        ++ after_text flags (text_length (has_prefix flags) (length bytes.now)) text.old }
+    ensures emptied { result ≡ false → text.new ≡ emptied flags text.old }
+{
+    // Then the length of the text fits into a `usize`.
+    if bytes.len() > text.len() / 2 {
+        clear(text, flags);
+        return false;
+    }
+    let length = length_of(flags, bytes.len());
+    if !end_text(text, length, flags) {
+        clear(text, flags);
+        return false;
+    }
+    let (prefix, upper) = (has_prefix(flags), is_upper(flags));
+    const_hex::fill_text::<FixedKernel>(bytes, prefix, upper, &mut text[..length]);
+    true
+}
+
+/// Decodes the text, with or without a prefix, in either case, to the start of the bytes. Sets
+/// `written` to the number of bytes decoded, and leaves those after them unchanged.
+///
+/// Returns false if the text is rejected, sets `written` to 0, and sets the error to the first of
+/// these: an odd length; an invalid length, if the decoded bytes do not fit; the first invalid
+/// character. The first two leave the bytes unchanged. After the third, bytes before the invalid
+/// character may already be decoded, and the rest is unchanged. If the result is true, the error is
+/// unchanged. Does not allocate.
 ///
 /// ```c
 /// unsigned char bytes[32];
-/// size_t count;
-/// struct const_hex_refusal refusal;
-/// bool accepted = const_hex_decode_front("6B697769", 8, bytes, sizeof bytes, &count, &refusal);
-/// /* count is 4 */
+/// size_t written;
+/// struct const_hex_error error;
+/// bool ok = const_hex_decode("6B697769", 8, bytes, sizeof bytes, &written, &error);
+/// /* written is 4 */
 /// ```
 #[unsafe(no_mangle)]
-pub extern "C" fn const_hex_decode_front(
+pub extern "C" fn const_hex_decode_nonnull(
     text: &[u8],
     bytes: &mut [u8],
-    count: &mut usize,
-    refusal: &mut Refusal,
+    written: &mut usize,
+    error: &mut HexError,
 ) -> bool
     ensures ok { IsTrue result
-        → ReadsWithin text.now (length bytes.old) (Ok (take count.new bytes.new)) }
-    ensures count { IsTrue result → length (body_of text.now) ≡ 2 * count.new }
-    ensures rest { IsTrue result → drop count.new bytes.new ≡ drop count.new bytes.old }
-    ensures kept { IsTrue result → refusal.new ≡ refusal.old }
+        → ReadsWithin text.now (length bytes.old) (Ok (take written.new bytes.new)) }
+    ensures count { IsTrue result → length (body_of text.now) ≡ 2 * written.new }
+    ensures rest { IsTrue result → drop written.new bytes.new ≡ drop written.new bytes.old }
+    ensures kept { IsTrue result → error.new ≡ error.old }
     ensures err { result ≡ false
-        → StandsFor refusal.new (λ e. ReadsWithin text.now (length bytes.old) (Err e)) }
+        → StandsFor error.new (λ e. ReadsWithin text.now (length bytes.old) (Err e)) }
     ensures after_error { result ≡ false
-        → StandsFor refusal.new (λ e. Leaves text.now bytes.old bytes.new e) }
-    ensures uncounted { result ≡ false → count.new ≡ count.old }
+        → StandsFor error.new (λ e. Leaves text.now bytes.old bytes.new e) }
+    ensures none { result ≡ false → written.new ≡ 0 }
 {
-    match const_hex::decode_to_front_with::<CallsKernel>(text, bytes) {
-        Ok(decoded) => {
-            *count = decoded;
+    match const_hex::decode_to_front_with::<FixedKernel>(text, bytes) {
+        Ok(count) => {
+            *written = count;
             true
         }
-        Err(error) => {
-            *refusal = Refusal::from(error);
+        Err(reason) => {
+            *written = 0;
+            *error = HexError::from(reason);
             false
         }
     }
 }
 
-/// Decodes the next piece of a text that comes in pieces. A struct whose bytes are all zero is a new
-/// decoder.
+/// Decodes the text as [`const_hex_decode_nonnull`] does, but to exactly as many bytes as the buffer
+/// has. The error is an invalid length if the text decodes to another number of bytes. Does not
+/// allocate.
 ///
-/// Fills the front of the bytes with those that are spelled now and were not before, and sets the
-/// count to their number: at most half of `length + 1`. What is behind them is unchanged. Together
-/// the pieces are read as one text, however it was cut.
+/// ```c
+/// unsigned char bytes[4];
+/// struct const_hex_error error;
+/// bool ok = const_hex_decode_exact("0x6b697769", 10, bytes, sizeof bytes, &error); /* kiwi */
+/// ```
+#[unsafe(no_mangle)]
+pub extern "C" fn const_hex_decode_exact_nonnull(
+    text: &[u8],
+    bytes: &mut [u8],
+    error: &mut HexError,
+) -> bool
+    ensures ok { IsTrue result → ReadsSized text.now (length bytes.old) (Ok bytes.new) }
+    ensures kept { IsTrue result → error.new ≡ error.old }
+    ensures err { result ≡ false
+        → StandsFor error.new (λ e. ReadsSized text.now (length bytes.old) (Err e)) }
+    ensures after_error { result ≡ false
+        → StandsFor error.new (λ e. Leaves text.now bytes.old bytes.new e) }
+{
+    match const_hex::decode_to_slice_with::<FixedKernel>(text, bytes) {
+        Ok(()) => true,
+        Err(reason) => {
+            *error = HexError::from(reason);
+            false
+        }
+    }
+}
+
+/// Decodes the next chunk of a text that arrives in chunks. A struct whose bytes are all zero is a
+/// new decoder.
 ///
-/// Returns false if the piece is refused; the count is then unchanged. The refusal is the first of
-/// these: the bad byte of an earlier piece, again; an invalid length, if the pairs of digits do not
-/// fit into the bytes, and then nothing changes and the piece may be handed over again; the first
-/// byte that is not a digit, with its place in the whole text. After that, a front of the bytes may
-/// be decoded, no longer than the pairs before the bad byte, and the rest is unchanged. If the piece
-/// is accepted, the refusal is unchanged.
+/// Writes the newly decoded bytes to the start of the bytes, and sets `written` to their number: at
+/// most half of `length + 1`. Those after them are unchanged. Together the chunks are read as one
+/// text, wherever it was cut.
 ///
-/// A struct that no call has made is safe: nothing outside the given memory is read or written. Does
-/// not allocate.
+/// Returns false if the chunk is rejected, and sets `written` to 0. The error is the first of
+/// these: the invalid character of an earlier chunk, again; an invalid length, if the decoded bytes
+/// do not fit, and then nothing else changes and the chunk may be passed again; the first invalid
+/// character, with its position in the whole text. After that, bytes before the invalid character may
+/// already be decoded, and the rest is unchanged. If the result is true, the error is unchanged.
+///
+/// A struct with any other contents is safe: nothing outside the given memory is read or written.
+/// Does not allocate.
 ///
 /// ```c
 /// struct const_hex_decoder decoder = {0};
 /// unsigned char bytes[4];
-/// size_t count;
-/// struct const_hex_refusal refusal;
-/// bool accepted = const_hex_decode_piece(&decoder, "0x6b6", 5, bytes, sizeof bytes, &count, &refusal);
-/// /* count is 1 */
+/// size_t written;
+/// struct const_hex_error error;
+/// bool ok = const_hex_decoder_update(&decoder, "0x6b6", 5, bytes, sizeof bytes, &written, &error);
+/// /* written is 1 */
 /// ```
 #[unsafe(no_mangle)]
-pub extern "C" fn const_hex_decode_piece(
+pub extern "C" fn const_hex_decoder_update_nonnull(
     decoder: &mut Decoder,
     text: &[u8],
     bytes: &mut [u8],
-    count: &mut usize,
-    refusal: &mut Refusal,
+    written: &mut usize,
+    error: &mut HexError,
 ) -> bool
-    // `t` was read so far, and the bytes `bs` were given.
+    // `t` was read so far, and the bytes `bs` were written.
     ensures ok { IsTrue result → (t bs : List ℕ) → HasRead decoder.old t bs
-        → HasRead decoder.new (t ++ text.now) (bs ++ take count.new bytes.new) }
+        → HasRead decoder.new (t ++ text.now) (bs ++ take written.new bytes.new) }
     ensures count { IsTrue result → (t bs : List ℕ) → HasRead decoder.old t bs
-        → ReadsOn (t ++ text.now) bs (length bytes.old) (Ok count.new) }
-    ensures within { IsTrue result → count.new ≤ length bytes.old }
-    ensures rest { IsTrue result → drop count.new bytes.new ≡ drop count.new bytes.old }
-    ensures kept { IsTrue result → refusal.new ≡ refusal.old }
+        → ReadsOn (t ++ text.now) bs (length bytes.old) (Ok written.new) }
+    ensures within { IsTrue result → written.new ≤ length bytes.old }
+    ensures rest { IsTrue result → drop written.new bytes.new ≡ drop written.new bytes.old }
+    ensures kept { IsTrue result → error.new ≡ error.old }
     ensures err { result ≡ false → (t bs : List ℕ) → HasRead decoder.old t bs
-        → StandsFor refusal.new (λ e. ReadsOn (t ++ text.now) bs (length bytes.old) (Err e)) }
-    ensures unchanged { result ≡ false → refusal.new ≡ refusal_of InvalidStringLength
+        → StandsFor error.new (λ e. ReadsOn (t ++ text.now) bs (length bytes.old) (Err e)) }
+    ensures unchanged { result ≡ false → error.new ≡ struct_of InvalidStringLength
         → (decoder.new ≡ decoder.old) × (bytes.new ≡ bytes.old) }
     ensures after_error { result ≡ false → (t bs : List ℕ) → HasRead decoder.old t bs
-        → StandsFor refusal.new (λ e. e ≢ InvalidStringLength
+        → StandsFor error.new (λ e. e ≢ InvalidStringLength
         → Partial bytes.old (drop (2 * length bs) (body_of (t ++ text.now))) bytes.new) }
-    ensures ended { result ≡ false → StandsFor refusal.new (λ e. e ≢ InvalidStringLength
+    ensures ended { result ≡ false → StandsFor error.new (λ e. e ≢ InvalidStringLength
         → error_of decoder.new ≡ Some e) }
-    ensures refused { IfSome (error_of decoder.old) (λ e.
-        (result ≡ false) × (refusal.new ≡ refusal_of e)
+    ensures again { IfSome (error_of decoder.old) (λ e.
+        (result ≡ false) × (error.new ≡ struct_of e)
         × (decoder.new ≡ decoder.old) × (bytes.new ≡ bytes.old)) }
-    ensures uncounted { result ≡ false → count.new ≡ count.old }
+    ensures none { result ≡ false → written.new ≡ 0 }
 {
-    match decoder.decode_with::<CallsKernel>(text, bytes) {
+    match decoder.decode_with::<FixedKernel>(text, bytes) {
         Ok(more) => {
-            *count = more;
+            *written = more;
             true
         }
-        Err(error) => {
-            *refusal = Refusal::from(error);
+        Err(reason) => {
+            *written = 0;
+            *error = HexError::from(reason);
             false
         }
     }
 }
 
-/// Ends a text that came in pieces. Returns true if it was decoded whole.
+/// Finishes decoding. Returns true if the chunks together form a complete text.
 ///
-/// Returns false otherwise, and sets the refusal: the bad byte of a piece, again, or else an odd
-/// length. If the answer is true, the refusal is unchanged. Does not allocate.
+/// Returns false otherwise, and sets the error: the invalid character of a chunk, again, or else an
+/// odd length. If the result is true, the error is unchanged. Does not allocate.
 ///
 /// ```c
 /// struct const_hex_decoder decoder = {0};
-/// struct const_hex_refusal refusal;
-/// bool whole = const_hex_decode_end(&decoder, &refusal); /* true: the empty text */
+/// struct const_hex_error error;
+/// bool whole = const_hex_decoder_finish(&decoder, &error); /* true: the empty text */
 /// ```
 #[unsafe(no_mangle)]
-pub extern "C" fn const_hex_decode_end(decoder: &Decoder, refusal: &mut Refusal) -> bool
+pub extern "C" fn const_hex_decoder_finish_nonnull(decoder: &Decoder, error: &mut HexError) -> bool
     ensures ok { (t bs : List ℕ) → HasRead decoder.now t bs → IsTrue result ↔ Reads t (Ok bs) }
     ensures odd { (t bs : List ℕ) → HasRead decoder.now t bs → result ≡ false
-        → (refusal.new ≡ refusal_of OddLength) × IsOdd (length t) }
-    ensures kept { IsTrue result → refusal.new ≡ refusal.old }
-    ensures refused { IfSome (error_of decoder.now) (λ e.
-        (result ≡ false) × (refusal.new ≡ refusal_of e)) }
+        → (error.new ≡ struct_of OddLength) × IsOdd (length t) }
+    ensures kept { IsTrue result → error.new ≡ error.old }
+    ensures again { IfSome (error_of decoder.now) (λ e.
+        (result ≡ false) × (error.new ≡ struct_of e)) }
 {
     match decoder.finish() {
         Ok(()) => true,
-        Err(error) => {
-            *refusal = Refusal::from(error);
+        Err(reason) => {
+            *error = HexError::from(reason);
             false
         }
     }
 }
 
-/// Whether the text can be decoded, with or without a prefix, in either case.
+/// Returns true if the text can be decoded, with or without a prefix, in either case.
 ///
-/// Returns false if the text is refused, and sets the refusal: an odd length, or else the first
-/// byte that is not a digit. If the answer is true, the refusal is unchanged. Does not allocate.
+/// Returns false if the text is rejected, and sets the error: an odd length, or else the first
+/// invalid character. If the result is true, the error is unchanged. Does not allocate.
 ///
 /// ```c
-/// struct const_hex_refusal refusal;
-/// if (!const_hex_check("0xzz", 4, &refusal)) { /* byte is 'z', index is 2 */ }
+/// struct const_hex_error error;
+/// if (!const_hex_check("0xzz", 4, &error)) { /* byte is 'z', index is 2 */ }
 /// ```
 #[unsafe(no_mangle)]
-pub extern "C" fn const_hex_check(text: &[u8], refusal: &mut Refusal) -> bool
+pub extern "C" fn const_hex_check_nonnull(text: &[u8], error: &mut HexError) -> bool
     ensures accepts { IsTrue result ↔ ((bs : List ℕ) × Reads text.now (Ok bs)) }
-    ensures kept { IsTrue result → refusal.new ≡ refusal.old }
-    ensures err { result ≡ false → StandsFor refusal.new (λ e. Reads text.now (Err e)) }
+    ensures kept { IsTrue result → error.new ≡ error.old }
+    ensures err { result ≡ false → StandsFor error.new (λ e. Reads text.now (Err e)) }
 {
-    match const_hex::check_with::<CallsKernel>(text) {
+    match const_hex::check_with::<FixedKernel>(text) {
         Ok(()) => true,
-        Err(error) => {
-            *refusal = Refusal::from(error);
+        Err(reason) => {
+            *error = HexError::from(reason);
             false
         }
     }
 }
 
-/// Whether every byte is a digit. No prefix is allowed, and the length does not matter. Does not
-/// allocate.
+/// Returns true if every byte is a digit. A prefix is not accepted, and the length may be odd or 0.
+/// Does not allocate.
 ///
 /// ```c
 /// bool digits = const_hex_check_raw("6b6", 3); /* true */
@@ -260,51 +288,50 @@ pub extern "C" fn const_hex_check(text: &[u8], refusal: &mut Refusal) -> bool
 pub extern "C" fn const_hex_check_raw(text: &[u8]) -> bool
     ensures { IsTrue result ↔ AllDigits text.now }
 {
-    CallsKernel::check(text)
+    FixedKernel::check(text)
 }
 
-/// Puts the message of a refusal and a NUL into the buffer, and returns how many bytes stand before
-/// the NUL.
+/// Writes the message of an error and a NUL, and returns the number of bytes before the NUL.
 ///
-/// If the buffer is too small, the message is cut. If it is empty, nothing is written. A struct that
-/// is no refusal has no message. No contract says that a message is written, since printing could
-/// give up; tests show it, and the message of a bad character. Does not allocate.
+/// A message that does not fit is truncated. If the buffer is empty, nothing is written. A struct that
+/// is no error has an empty message. No contract says that a message is written, since printing
+/// could give up; tests show it, and the message of an invalid character. Does not allocate.
 ///
 /// ```c
-/// char message[CONST_HEX_WORDS];
-/// size_t count = const_hex_refusal_words(&refusal, message, sizeof message);
+/// char message[CONST_HEX_MESSAGE_SIZE];
+/// size_t count = const_hex_error_message(&error, message, sizeof message);
 /// ```
 #[unsafe(no_mangle)]
-pub extern "C" fn const_hex_refusal_words(refusal: &Refusal, buffer: &mut [u8]) -> usize
-    ensures within { 0 < length buffer.old → result < length buffer.old }
-    ensures none { length buffer.old ≡ 0 → result ≡ 0 }
-    ensures ended { 0 < length buffer.old → slice_index buffer.new result ≡ 0 }
-    ensures rest { drop (result + 1) buffer.new ≡ drop (result + 1) buffer.old }
-    ensures words { 0 < result → Says refusal.now (λ m. take result buffer.new ≡ take result m) }
+pub extern "C" fn const_hex_error_message(error: &HexError, message: &mut [u8]) -> usize
+    ensures within { 0 < length message.old → result < length message.old }
+    ensures none { length message.old ≡ 0 → result ≡ 0 }
+    ensures ended { 0 < length message.old → slice_index message.new result ≡ 0 }
+    ensures rest { drop (result + 1) message.new ≡ drop (result + 1) message.old }
+    ensures message { 0 < result → Says error.now (λ m. take result message.new ≡ take result m) }
     ensures whole { 0 < result
-        → Says refusal.now (λ m. result ≡ min (length m) (length buffer.old - 1)) }
-    ensures wordless { IsUnknown refusal.now → result ≡ 0 }
+        → Says error.now (λ m. result ≡ min (length m) (length message.old - 1)) }
+    ensures unknown { IsUnknown error.now → result ≡ 0 }
 {
-    if buffer.is_empty() {
+    if message.is_empty() {
         return 0;
     }
-    let words = refusal.words();
-    let words = words.as_bytes();
-    let count = words.len().min(buffer.len() - 1);
-    buffer[..count].copy_from_slice(&words[..count]);
-    buffer[count] = 0;
+    let printed = error.message();
+    let printed = printed.as_bytes();
+    let count = printed.len().min(message.len() - 1);
+    message[..count].copy_from_slice(&printed[..count]);
+    message[count] = 0;
     count
 }
 
-/// The version of these calls: 10,000 times the major one, 100 times the minor one, and the patch.
-/// Does not allocate.
+/// The version of these functions: 10,000 times the major one, 100 times the minor one, and the
+/// patch. Does not allocate.
 ///
 /// ```c
-/// uint32_t version = const_hex_version(); /* 10100 is 1.1.0 */
+/// uint32_t version = const_hex_version(); /* 10000 is 1.0.0 */
 /// ```
 #[unsafe(no_mangle)]
 pub extern "C" fn const_hex_version() -> u32
-    ensures { result ≡ 10100 }
+    ensures { result ≡ 10000 }
 {
-    10_100
+    10_000
 }

@@ -3,43 +3,41 @@
 use serde_json::{Value, json};
 use std::alloc::{AllocError, Global};
 
-pub(crate) const NOTHING: &[u8] = b"";
-/// The bytes that most calls write.
+/// The bytes that most calls encode, and their texts.
 pub(crate) const KIWI: &[u8] = b"kiwi";
-/// Their text.
-pub(crate) const TEXT: &str = "0x6b697769";
-/// Their text as a line, with the prefix `0X`.
-pub(crate) const LINE: &[u8] = b"0X6b697769\n";
+
+pub(crate) const LOWER: &[u8] = b"6b697769";
+
+pub(crate) const UPPER: &[u8] = b"6B697769";
+
+pub(crate) const TEXT: &[u8] = b"0x6b697769";
+
+pub(crate) const PREFIXED: &[u8] = b"0x6B697769";
 /// A text of odd length.
-pub(crate) const ODD: &str = "0x1";
-/// A text with bad bytes.
-pub(crate) const BAD: &str = "zz";
-/// A line with bad bytes.
-pub(crate) const BAD_LINE: &[u8] = b"0xzz\n";
+pub(crate) const ODD: &[u8] = b"0x1";
+/// A text with invalid characters.
+pub(crate) const BAD: &[u8] = b"zz";
 /// The text of a hash of bytes 0xAB.
-pub(crate) const HASH: &str = "0xabababababababababababababababababababababababababababababababab";
-/// A step of 32 lanes, one of 16, and a remainder of 9.
-pub(crate) const BYTES: [u8; 57] = [0xAB; 57];
-/// The digits of 57 bytes 0xAA.
+pub(crate) const HASH: &[u8] =
+    b"0xabababababababababababababababababababababababababababababababab";
+/// A step of 32 lanes, one of 16, and a remainder of 9; and their digits.
+pub(crate) const BYTES: [u8; 57] = [0xAA; 57];
+
 pub(crate) const DIGITS: [u8; 114] = [b'a'; 114];
+
+pub(crate) const LARGE_DIGITS: [u8; 114] = [b'A'; 114];
 /// Bytes whose text goes to a sink in three calls.
 pub(crate) const DATA: [u8; 4097] = [0xAB; 4097];
-/// Digits of 2049 bytes.
-pub(crate) const LONG: [u8; 4098] = [b'a'; 4098];
-
-/// [`DIGITS`] with a bad byte in the remainder.
-pub(crate) fn bad_digits() -> [u8; 114] {
-    let mut text = DIGITS;
-    text[100] = b'g';
-    text
-}
 
 /// The values that are allocated.
 #[derive(Drop)]
 pub(crate) struct Inputs {
     pub(crate) vector: Vec<u8>,
     pub(crate) string: String,
-    pub(crate) texts: Texts,
+    pub(crate) text: Value,
+    pub(crate) odd: Value,
+    pub(crate) bad: Value,
+    pub(crate) hash: Value,
     pub(crate) list: Value,
     pub(crate) object: Value,
 }
@@ -49,41 +47,12 @@ impl Inputs {
         Ok(Inputs {
             vector: KIWI.to_vec(alloc)?,
             string: String::from_str(alloc, "kiwi")?,
-            texts: Texts::new(alloc)?,
-            list: list(alloc)?,
-            object: object(alloc)?,
+            text: json!(in alloc; "0x6b697769")?,
+            odd: json!(in alloc; "0x1")?,
+            bad: json!(in alloc; "zz")?,
+            hash: json!(in alloc; "0xabababababababababababababababababababababababababababababababab")?,
+            list: json!(in alloc; ["0x6b"])?,
+            object: json!(in alloc; {"text": "0x6b"})?,
         })
     }
-}
-
-fn list(alloc: Global) -> Result<Value, AllocError> {
-    json!(in alloc; ["0x6b"])
-}
-
-fn object(alloc: Global) -> Result<Value, AllocError> {
-    json!(in alloc; {"text": "0x6b"})
-}
-
-/// Texts as JSON strings.
-#[derive(Drop)]
-pub(crate) struct Texts {
-    pub(crate) text: Value,
-    pub(crate) odd: Value,
-    pub(crate) bad: Value,
-    pub(crate) hash: Value,
-}
-
-impl Texts {
-    fn new(alloc: Global) -> Result<Texts, AllocError> {
-        Ok(Texts {
-            text: json(alloc, TEXT)?,
-            odd: json(alloc, ODD)?,
-            bad: json(alloc, BAD)?,
-            hash: json(alloc, HASH)?,
-        })
-    }
-}
-
-fn json(alloc: Global, text: &str) -> Result<Value, AllocError> {
-    json!(in alloc; text)
 }

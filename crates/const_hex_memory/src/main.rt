@@ -1,33 +1,34 @@
-//! The program `const_hex_memory`: what each call of `const_hex` answers, one line per call.
+//! The program `const_hex_memory`: makes each call of the libraries, and judges what it returns.
 //!
-//! With ample memory it prints what the file `stdout` has. `memory/run`, at the top of the
-//! repository, runs it with requests for memory refused, and compares line by line. So the program
-//! itself allocates only at its start, for the values in [`inputs`]. The calls that do not allocate
-//! come first.
+//! A call has to return what it returns with ample memory, or, if it may allocate, its error for that.
+//! The program prints each call that does not, and at last how many were out of memory. `memory/run`,
+//! at the top of the repository, runs it with requests for memory refused. The program itself
+//! allocates only its [`inputs`], before any call. The calls that do not allocate come first.
 #![tactic(auto)]
 
+mod allocating;
 mod inputs;
-mod kept;
-mod line;
+mod judge;
 mod modes;
-mod owned;
-mod without;
+mod nonallocating;
+mod printed;
 
 use crate::inputs::Inputs;
 use std::alloc::{AllocError, Global};
 
 fn main(rt: HostRuntime) {
+    let mut out_of_memory: usize = 0;
     match Inputs::new(rt.alloc()) {
-        Ok(inputs) => tell_all(&rt, rt.alloc(), &inputs),
-        Err(AllocError) => {
-            let _ = println!(rt; "the program's inputs = no memory");
-        }
+        Ok(inputs) => make_calls(&rt, rt.alloc(), &inputs, &mut out_of_memory),
+        Err(AllocError) => out_of_memory = 1,
     }
+    let _ = println!(rt; "{out_of_memory} out of memory");
 }
 
-fn tell_all(rt: &impl Print, alloc: Global, inputs: &Inputs) {
-    let _ = println!(rt; "the program's inputs = made");
-    without::tell_all(rt, alloc, inputs);
-    owned::tell_all(rt, alloc, inputs);
-    modes::tell_all(rt, alloc);
+fn make_calls(rt: &impl Print, alloc: Global, inputs: &Inputs, count: &mut usize) {
+    nonallocating::make_calls(rt, alloc, inputs);
+    printed::make_calls(rt);
+    modes::make_nonallocating_calls(rt, alloc);
+    allocating::make_calls(rt, alloc, inputs, count);
+    modes::make_calls(rt, alloc, count);
 }

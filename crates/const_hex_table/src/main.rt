@@ -1,6 +1,6 @@
-//! The program `const_hex_table`: asks `const_hex` each line of `answers.tsv`, and prints the lines
-//! that it answers otherwise, each with those answers, and how many there are. The status is 1 if a
-//! line is wrong.
+//! The program `const_hex_table`: compares `const_hex` with each line of `answers.tsv`, and prints
+//! the lines for which some function returns something else, with what it returns, and their
+//! number. The exit status is 1 if there is one.
 #![tactic(auto)]
 
 mod decoding;

@@ -1,4 +1,3 @@
 pub mod Backward
 pub mod Decoded
-pub mod Hashes
-pub mod Lines
+pub mod Keys

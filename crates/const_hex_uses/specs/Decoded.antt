@@ -1,8 +1,7 @@
 -- What a decoding reads and writes.
 use Rattle.std.specs.Prelude.{ℕ, ◌*◌, List, ◌++◌, length, take, Option, Result, Ok, Err}
 use Rattle.std.specs.Io.KnownBytes.{Appends, Consumes, IsAtEnd}
-use Rattle.const_hex.specs.Answers.{IsOdd, Reads}
-use Rattle.const_hex.specs.Bodies.{body_of}
+use Rattle.const_hex.specs.Results.{IsOdd, Reads, body_of}
 use Rattle.const_hex.specs.Decoding.{NamesCounted}
 use Rattle.const_hex.specs.Texts.{AllDigits, Spells}
 use Rattle.const_hex.specs.declared.error.FromHexError.{FromHexError}
@@ -21,6 +20,6 @@ Decoded had left held holds (Err OddLength) =
 Decoded had left held holds (Err InvalidStringLength) = ⊥
 Decoded had left held holds (Err (InvalidHexCharacter c i)) =
     (t : List ℕ) × (bs : List ℕ) × Consumes had left t
-    × ((rest : List ℕ) → NamesCounted (t ++ rest) (InvalidHexCharacter c i))
+    × ((rest : List ℕ) → NamesCounted (t ++ rest) c i)
     × Spells (take (2 * length bs) (body_of t)) bs × Appends held holds bs
 Decoded had left held holds (Err NoMemory) = ⊥

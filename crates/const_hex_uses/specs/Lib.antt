@@ -1,4 +1,2 @@
 pub mod Decoded
-pub mod Refusals
-pub mod Settings
-pub mod Store
+pub mod Lines

@@ -1,8 +1,7 @@
 //! Accounts that are named by texts in either case.
 
 ghost use Rattle.std.specs.Prelude.{◌≡◌, ◌↔◌, ◌⊎◌, IsTrue, IfOk, IfErr, Err};
-ghost use Rattle.const_hex.specs.Answers.{ReadsSized};
-ghost use Rattle.const_hex.specs.Bodies.{body_of, lowered};
+ghost use Rattle.const_hex.specs.Results.{ReadsSized, body_of, lowered};
 
 use const_hex::{FromHex, FromHexError};
 use hash_hex::Address20;

@@ -1,7 +1,7 @@
 //! Constants that the program writes as text. The check refuses a wrong one.
 
 ghost use Rattle.std.specs.Prelude.{Ok};
-ghost use Rattle.const_hex.specs.Answers.{ReadsSized};
+ghost use Rattle.const_hex.specs.Results.{ReadsSized};
 
 use const_hex::{bytes_of, decode_to_array};
 

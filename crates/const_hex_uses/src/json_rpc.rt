@@ -4,11 +4,11 @@ ghost use Rattle.std.specs.Prelude.{◌≡◌, ◌↔◌, true, false, codes, st
 ghost use Rattle.serde_json.specs.Data.{array, item, no_items, string};
 ghost use Rattle.serde_json.specs.Find.{as_str, get};
 ghost use Rattle.serde_json.specs.View.{view};
-ghost use Rattle.const_hex.specs.Answers.{Reads};
+ghost use Rattle.const_hex.specs.Results.{Reads};
 ghost use Rattle.const_hex.specs.Texts.{full_text};
 ghost use Rattle.const_hex.specs.declared.error.FromHexError.TheVariants.{OddLength};
 ghost use Rattle.const_hex.specs.declared.serde.error.JsonError.TheVariants.{Hex, NotText};
-ghost use Rattle.const_hex_uses.specs.Refusals.{explained_text, marked_text};
+ghost use Rattle.const_hex_uses.specs.Lines.{explained_text, marked_text};
 
 use const_hex::{FromHexError, JsonError, deserialize, serialize};
 use serde_json::{Value, json};
@@ -65,33 +65,33 @@ pub fn reason(alloc: Global, error: &JsonError<FromHexError>) -> Result<String, 
     format!(in alloc; "{error}")
 }
 
-/// A text, and on the next line a mark under the byte at that place.
+/// A text, and on the next line a mark under the byte at that index.
 ///
 /// ```rust
 /// assert_eq!(rt; marked(rt.alloc(), "0xzz", 2)?.as_str(), "0xzz\n  ^");
 /// ```
-pub fn marked(alloc: Global, text: &str, place: usize) -> Result<String, AllocError>
-    ensures { IfOk result (λ s. string_bytes s ≡ marked_text text.now place) }
+pub fn marked(alloc: Global, text: &str, index: usize) -> Result<String, AllocError>
+    ensures { IfOk result (λ s. string_bytes s ≡ marked_text text.now index) }
 {
     let mut shown = String::from_str(alloc, text)?;
     shown.push('\n')?;
-    for _ in 0..place {
+    for _ in 0..index {
         shown.push(' ')?;
     }
     shown.push('^')?;
     Ok(shown)
 }
 
-/// What a user sees of a refused text: a mark under the bad byte, or the message of another error.
+/// What a user sees of a text that cannot be decoded: a mark under the invalid character, or the message of another error.
 ///
 /// ```rust
 /// let error = const_hex::check(b"0xzz").unwrap_err();
 /// assert_eq!(rt; explained(rt.alloc(), "0xzz", error)?.as_str(), "0xzz\n  ^");
 /// ```
-pub fn explained(alloc: Global, text: &str, refusal: FromHexError) -> Result<String, AllocError>
-    ensures { IfOk result (λ s. string_bytes s ≡ explained_text text.now refusal) }
+pub fn explained(alloc: Global, text: &str, error: FromHexError) -> Result<String, AllocError>
+    ensures { IfOk result (λ s. string_bytes s ≡ explained_text text.now error) }
 {
-    match refusal {
+    match error {
         FromHexError::InvalidHexCharacter { index, .. } => marked(alloc, text, index),
         other => format!(in alloc; "{text}\n{other}"),
     }

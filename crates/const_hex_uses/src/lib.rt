@@ -1,6 +1,6 @@
 //! Small, whole callers of `const_hex`, each with the contract that its users would want.
 //!
-//! Most have no proof of their own: the codec's clauses are enough.
+//! Most have no proof by hand: the clauses of the codec are enough.
 #![tactic(auto)]
 
 pub mod accounts;
@@ -11,7 +11,6 @@ pub mod files;
 pub mod json_rpc;
 pub mod own_kernel;
 pub mod readers;
-pub mod settings;
 pub mod sinks;
 pub mod store;
 pub mod streams;

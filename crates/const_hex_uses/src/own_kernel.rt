@@ -2,8 +2,8 @@
 
 ghost use Rattle.std.specs.Prelude.{◌≡◌, ◌≢◌, ◌*◌, ◌≤◌, ◌↔◌, List, ℕ, IsTrue, true, false, length, string_bytes, IfOk, IfErr, Ok, Err};
 ghost use Rattle.std.specs.List.{All, FoldsTo, concat};
-ghost use Rattle.const_hex.specs.Answers.{Reads};
-ghost use Rattle.const_hex.specs.Runs.{HasRoom};
+ghost use Rattle.const_hex.specs.Results.{Reads};
+ghost use Rattle.const_hex.specs.Outputs.{HasRoom};
 ghost use Rattle.const_hex.specs.Texts.{full_text, hex_text};
 ghost use Rattle.const_hex.specs.declared.error.FromHexError.TheVariants.{NoMemory};
 

@@ -1,12 +1,12 @@
 //! Callers that read a text: as any type, by the law of such types alone; and into a key.
 
-ghost use Rattle.std.specs.Prelude.{◌≡◌, ◌≢◌, ◌↔◌, ◌⊎◌, false, length, IfOk, IfErr, Ok, Err};
-ghost use Rattle.const_hex.specs.Answers.{IsOdd, Reads, ReadsSized};
-ghost use Rattle.const_hex.specs.Bodies.{body_of, lowered};
-ghost use Rattle.const_hex.specs.Types.{IsCount, RefusesOrMisfits};
-ghost use Rattle.const_hex.specs.declared.error.FromHexError.TheVariants.{InvalidStringLength, NoMemory, OddLength};
+ghost use Rattle.std.specs.Prelude.{◌≡◌, ◌↔◌, ◌⊎◌, ◌*◌, ℕ, false, drop, length, take, IfOk, IfErr, Ok, Err};
+ghost use Rattle.const_hex.specs.Results.{IsOdd, Reads, ReadsSized, body_of, lowered};
+ghost use Rattle.const_hex.specs.Texts.{Spells};
+ghost use Rattle.const_hex.specs.Types.{RefusesOrMisfits};
+ghost use Rattle.const_hex.specs.declared.error.FromHexError.TheVariants.{InvalidStringLength, OddLength};
 
-use const_hex::{FromHex, FromHexError, decode_to_slice};
+use const_hex::{FromHex, FromHexError, decode_to_front, decode_to_slice};
 use std::alloc::Global;
 use std::rc::Rc;
 
@@ -57,29 +57,6 @@ pub fn read_both<T: FromHex + Drop>(
     }
 }
 
-/// Reads a text as a vector and as an array. Both have the N bytes that the text spells. If the
-/// error is not of memory, the text is no hex, or spells another number of bytes.
-///
-/// ```rust
-/// let (list, array) = read_twice::<2>(rt.alloc(), b"ff80")?;
-/// assert_eq!(rt; list.as_slice(), array.as_slice());
-/// ```
-#[tactic(auto, using(const_hex_arch::proofs::lemmas::Spelling::spelled))]
-pub fn read_twice<const N: usize>(
-    alloc: Global,
-    text: &[u8],
-) -> Result<(Vec<u8>, [u8; N]), FromHexError>
-    ensures list_bytes { IfOk result (λ both. Reads text.now (Ok both.0.items)) }
-    ensures array_bytes { IfOk result (λ both. Reads text.now (Ok both.1)) }
-    ensures list_fits { IfOk result (λ both. length both.0.items ≡ N) }
-    ensures agree { IfOk result (λ both. both.0.items ≡ both.1) }
-    ensures refused { IfErr result (λ e. e ≢ NoMemory → RefusesOrMisfits (IsCount N) text.now) }
-{
-    let list = read::<Vec<u8>>(alloc, text)?;
-    let array = read::<[u8; N]>(alloc, text)?;
-    Ok((list, array))
-}
-
 /// The bytes that a text spells, behind a shared pointer. If the length of the text is odd, the error
 /// says so, even without memory.
 ///
@@ -93,19 +70,38 @@ pub fn read_shared(alloc: Global, text: &[u8]) -> Result<Rc<Vec<u8>>, FromHexErr
     FromHex::from_hex(alloc, text)
 }
 
-/// Replaces a key by the 32 bytes that a text spells. If the text is odd, or has another length, the
-/// key is unchanged. After a bad byte it may hold decoded bytes.
+/// Replaces a key by the 32 bytes that a text decodes to. If the number of digits is odd, or there is
+/// another number of them, the key is unchanged. After an invalid character it begins with the bytes
+/// that were decoded before it, if any, and the rest of the key is unchanged.
 ///
 /// ```rust
 /// let mut key = [0; 32];
 /// replace_key(&mut key, &[b'a'; 64])?;
 /// assert_eq!(rt; key, [0xAA; 32]);
 /// ```
+#[tactic(auto, using(crate::proofs::lemmas::Keys::kept_behind_a_front))]
 pub fn replace_key(key: &mut [u8; 32], text: &[u8]) -> Result<(), FromHexError>
     ensures replaced { IfOk result (λ _. ReadsSized text.now 32 (Ok key.new)) }
     ensures refused { IfErr result (λ e. ReadsSized text.now 32 (Err e)) }
     ensures kept { IfErr result (λ e. (e ≡ OddLength) ⊎ (e ≡ InvalidStringLength)
         → key.new ≡ key.old) }
+    ensures front { IfErr result (λ _. (n : ℕ) × (drop n key.new ≡ drop n key.old)
+        × Spells (take (2 * n) (body_of text.now)) (take n key.new)) }
 {
     decode_to_slice(text, key)
+}
+
+/// Reads a salt of at most 64 bytes, and returns its number of bytes. An odd number of digits is
+/// always reported as such, also if there are more than 128.
+///
+/// ```rust
+/// let mut salt = [0; 64];
+/// assert_eq!(rt; read_salt(b"0x6b69", &mut salt), Ok(2));
+/// assert_eq!(rt; read_salt(&[b'a'; 131], &mut salt), Err(FromHexError::OddLength));
+/// ```
+pub fn read_salt(text: &[u8], salt: &mut [u8; 64]) -> Result<usize, FromHexError>
+    ensures read { IfOk result (λ n. Reads text.now (Ok (take n salt.new))) }
+    ensures odd { (result ≡ Err OddLength) ↔ IsOdd (length text.now) }
+{
+    decode_to_front(text, salt)
 }

@@ -1,29 +1,13 @@
 //! A text for any sink, and its pieces.
 
-ghost use Rattle.std.specs.Prelude.{◌≡◌, ◌≤◌, ◌++◌, List, ℕ, Some, true, false, not, is_ok, length, IfOk, OnOk};
+ghost use Rattle.std.specs.Prelude.{◌≡◌, ◌≤◌, ◌++◌, List, ℕ, Some, true, false, length, IfOk, OnOk};
 ghost use Rattle.std.specs.List.{All, concat};
-ghost use Rattle.const_hex.specs.Streams.{Cut, Streams};
+ghost use Rattle.const_hex.specs.Sinks.{Cut};
 ghost use Rattle.const_hex.specs.Texts.{full_text};
 
 use const_hex::serde::serialize_inner;
 use const_hex::{BufferedHex, PieceSink, Sink, SinkError};
 use std::alloc::Global;
-
-/// Sends the text of some bytes, behind `0x`, to a sink that has refused nothing so far.
-///
-/// ```rust
-/// let mut sink = PieceSink::new(rt.alloc(), 0);
-/// send(b"kiwi", &mut sink)?;
-/// assert_eq!(rt; sink.pieces()[0].as_str(), "0x6b697769");
-/// ```
-pub fn send<S: Sink>(bytes: &[u8], sink: &mut S) -> Result<(), SinkError>
-    requires { S.is_refused sink.old ≡ false }
-    ensures streams { Streams S.step S.is_refused sink.old
-        (full_text true false bytes.now) sink.new }
-    ensures flag { is_ok result ≡ not (S.is_refused sink.new) }
-{
-    BufferedHex::<false, true>::new(bytes).write_to(sink)
-}
 
 /// The text of some bytes, behind `0x`, in pieces of at most 4096 bytes, as for a network.
 ///
@@ -57,19 +41,4 @@ pub fn send_json<S: Sink>(bytes: &[u8], sink: &mut S) -> Result<(), SinkError>
         × (S.told sink.new ≡ Some (told ++ pieces))) }
 {
     serialize_inner::<false, true, S>(bytes, sink)
-}
-
-/// A sink that refuses the second of two pieces.
-///
-/// ```rust
-/// assert_eq!(rt; first_alone(rt.alloc(), "0x", "6b69").pieces()[0].as_str(), "0x");
-/// ```
-pub fn first_alone(alloc: Global, first: &str, second: &str) -> PieceSink
-    ensures { length result.pieces ≤ 1 }
-{
-    let mut sink = PieceSink::new(alloc, 2);
-    if sink.write_str(first).is_ok() {
-        let _ = sink.write_str(second);
-    }
-    sink
 }

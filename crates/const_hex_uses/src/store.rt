@@ -1,16 +1,11 @@
-//! A store whose keys are bytes. A key is found in every spelling, whichever one stored it. Below it, a
-//! store whose keys are hashes.
+//! A store whose keys are bytes. A key is found in every spelling, whichever one stored it.
 
 ghost use Rattle.std.specs.Prelude.{◌≡◌, ◌≢◌, ℕ, List, Some, Err, string_bytes, IfOk, IfErr, OnOk, OnErr};
-ghost use Rattle.std.specs.HashMap.{get, get_by_text};
-ghost use Rattle.const_hex_uses.specs.Store.{hash_eq};
-ghost use Rattle.hash_hex.specs.declared.fixed.FixedBytes.{FixedBytes};
-ghost use Rattle.const_hex.specs.Answers.{Reads};
-ghost use Rattle.const_hex.specs.Bodies.{body_of, lowered};
+ghost use Rattle.std.specs.HashMap.{get_by_text};
+ghost use Rattle.const_hex.specs.Results.{Reads, body_of, lowered};
 ghost use Rattle.const_hex.specs.declared.error.FromHexError.TheVariants.{NoMemory};
 
 use const_hex::{FromHexError, decode, encode};
-use hash_hex::Hash32;
 use std::alloc::Global;
 use std::collections::HashMap;
 
@@ -69,42 +64,4 @@ pub fn find(
 {
     let key = canonical(alloc, key)?;
     Ok(store.get(key.as_str()).copied())
-}
-
-/// Stores a number under a hash. What other hashes have is unchanged.
-///
-/// Returns `NoMemory` if memory cannot be allocated.
-///
-/// ```rust
-/// let mut store = HashMap::new(rt.alloc());
-/// let key = Hash32::from_bytes([7; 32]);
-/// put_hash(&mut store, key, 7)?;
-/// assert_eq!(rt; find_hash(&store, &key), Some(7));
-/// ```
-pub fn put_hash(
-    store: &mut HashMap<Hash32, u64>,
-    key: Hash32,
-    number: u64,
-) -> Result<(), FromHexError>
-    ensures stored { OnOk result (get hash_eq store.new key ≡ Some number) }
-    ensures others { OnOk result ((other : FixedBytes 32) → other ≢ key
-        → get hash_eq store.new other ≡ get hash_eq store.old other) }
-    ensures refused { IfErr result (λ e. e ≡ NoMemory) }
-    ensures unchanged { OnErr result ((other : FixedBytes 32)
-        → get hash_eq store.new other ≡ get hash_eq store.old other) }
-{
-    store.insert(key, number)?;
-    Ok(())
-}
-
-/// The number that was stored last under a hash.
-///
-/// ```rust
-/// let store = HashMap::new(rt.alloc());
-/// assert_eq!(rt; find_hash(&store, &Hash32::from_bytes([7; 32])), None);
-/// ```
-pub fn find_hash(store: &HashMap<Hash32, u64>, key: &Hash32) -> Option<u64>
-    ensures { result ≡ get hash_eq store.now key.now }
-{
-    store.get(key).copied()
 }

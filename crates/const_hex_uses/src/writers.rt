@@ -3,32 +3,8 @@
 ghost use Rattle.std.specs.Prelude.{◌≡◌, ◌++◌, true, false, string_bytes, IfOk};
 ghost use Rattle.const_hex.specs.Texts.{full_text, hex_text};
 
-use const_hex::{ToHex, ToHexExt, encode};
+use const_hex::{ToHexExt, encode};
 use std::alloc::{AllocError, Global};
-
-/// The text of a vector of bytes.
-///
-/// ```rust
-/// let text = vector_text(rt.alloc(), &b"kiwi".to_vec(rt.alloc())?)?;
-/// assert_eq!(rt; text.as_str(), "6b697769");
-/// ```
-pub fn vector_text(alloc: Global, bytes: &Vec<u8>) -> Result<String, AllocError>
-    ensures { IfOk result (λ s. string_bytes s ≡ hex_text false bytes.now.items) }
-{
-    ToHex::encode_hex(bytes, alloc)
-}
-
-/// The text of the bytes of another text, in uppercase.
-///
-/// ```rust
-/// let text = string_text(rt.alloc(), &"kiwi".to_string(rt.alloc())?)?;
-/// assert_eq!(rt; text.as_str(), "6B697769");
-/// ```
-pub fn string_text(alloc: Global, text: &String) -> Result<String, AllocError>
-    ensures { IfOk result (λ s. string_bytes s ≡ hex_text true (string_bytes text.now)) }
-{
-    ToHexExt::encode_hex_upper(text, alloc)
-}
 
 /// The text of an array, behind `0x`.
 ///

@@ -1,17 +1,16 @@
-//! The tests, and what a row that fails prints. [`hex_testing::same`] and
-//! [`hex_testing::same_bytes`] call `check` and `check_bytes`.
+//! The tests, and what a row that fails prints.
 
 mod buffers;
 mod callers;
 mod decoding;
 mod encoding;
 mod errors;
-mod exhausted;
 mod hashes;
 mod hosts;
 mod kernels;
 mod lanes;
 mod long;
+mod owned;
 mod pieces;
 mod printed;
 mod runs;
@@ -25,6 +24,41 @@ use std::alloc::AllocError;
 use std::convert::AsSlice;
 use std::fmt::Debug;
 use std::process::Abort;
+
+/// Ends the test if a call did not return what is wanted. Prints the call, its row and both results.
+/// With no call and no row, it prints the expression that has the result.
+macro_rules! same {
+    ($rt:expr; $answer:expr, $want:expr) => {
+        crate::tests::check($rt, stringify!($answer), (), $answer, $want)
+    };
+    ($rt:expr, $call:expr, $row:expr; $answer:expr, $want:expr) => {
+        crate::tests::check($rt, $call, $row, $answer, $want)
+    };
+}
+
+/// As `same`, for what lends bytes, from a little before the first byte that differs.
+macro_rules! same_bytes {
+    ($rt:expr, $call:expr, $row:expr; $bytes:expr, $want:expr) => {
+        crate::tests::check_bytes(
+            $rt,
+            $call,
+            $row,
+            std::convert::AsSlice::as_slice(&$bytes),
+            std::convert::AsSlice::as_slice(&$want),
+        )
+    };
+}
+
+/// As `same_bytes`, for what may be an error.
+macro_rules! same_read {
+    ($rt:expr, $call:expr, $row:expr; $read:expr, $want:expr) => {
+        crate::tests::check_read($rt, $call, $row, $read, $want)
+    };
+}
+
+pub(crate) use same;
+pub(crate) use same_bytes;
+pub(crate) use same_read;
 
 fn check<R, A>(rt: &impl Abort, call: &str, row: R, answer: A, want: A)
 where
@@ -73,13 +107,13 @@ fn a_row_that_fails(rt: HostRuntime) {
 #[test]
 #[should_panic(expected = "1 < 2 at (): true, but wanted false")]
 fn an_expression_that_fails(rt: HostRuntime) {
-    hex_testing::same!(&rt; 1 < 2, false);
+    same!(&rt; 1 < 2, false);
 }
 
 #[test]
 #[should_panic(expected = "encode at 5: Rest { from_byte: 1, text: \"12345678!\" }, but wanted Rest { from_byte: 1, text: \"12345678a\" }")]
 fn bytes_that_differ(rt: HostRuntime) {
-    hex_testing::same_bytes!(&rt, "encode", 5; "012345678!", "012345678a");
+    same_bytes!(&rt, "encode", 5; "012345678!", "012345678a");
 }
 
 #[test]
@@ -91,12 +125,12 @@ fn bytes_and_an_error(rt: HostRuntime) {
 #[test]
 fn printed_texts(rt: HostRuntime) {
     let short = format!(in rt.alloc(); "{:?}", Text(b"0x\"\xff\n"));
-    hex_testing::same!(&rt; short.as_deref(), Ok("\"0x\\\"\\xff\\n\""));
+    same!(&rt; short.as_deref(), Ok("\"0x\\\"\\xff\\n\""));
     let long = format!(in rt.alloc(); "{:?}", Text(&[b'a'; 65]));
     let end = long
         .as_deref()
         .map(|text| text.ends_with("aaa..\" of 65 bytes"));
-    hex_testing::same!(&rt; end, Ok(true));
+    same!(&rt; end, Ok(true));
 }
 
 #[test]

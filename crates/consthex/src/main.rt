@@ -1,6 +1,6 @@
-//! The program `consthex`: hexadecimal text of its standard input, and back.
+//! The program `consthex`: encodes, decodes or checks its standard input.
 //!
-//! All of it stands in `consthex_modes`, as [`program`] over any host, reader and writer.
+//! All of it is [`program`] of `consthex_modes`, over any host, reader and writer.
 #![tactic(auto)]
 
 use consthex_modes::program;

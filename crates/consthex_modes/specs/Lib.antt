@@ -1,4 +1,1 @@
-pub mod Answer
-pub mod Errors
-pub mod Outcome
-pub mod Words
+pub mod Program

@@ -1,11 +1,11 @@
 //! What a mode answers to given bytes.
 
 ghost use Rattle.std.specs.Prelude.{◌≡◌, ◌≢◌, ◌≤◌, ◌<◌, ◌++◌, ◌+◌, ◌↔◌, ◌⊎◌, List, ℕ, codes, length, IfOk, IfErr, Ok, Err};
-ghost use Rattle.const_hex.specs.Answers.{IsOdd, Reads};
+ghost use Rattle.const_hex.specs.Results.{IsOdd, Reads};
 ghost use Rattle.const_hex.specs.Texts.{full_text, text_length};
 ghost use Rattle.const_hex.specs.declared.error.FromHexError.{FromHexError};
 ghost use Rattle.const_hex.specs.declared.error.FromHexError.TheVariants.{OddLength};
-ghost use Rattle.consthex_modes.specs.Answer.{Answer, TakesMemory, without_newline, newline, limit};
+ghost use Rattle.consthex_modes.specs.Program.{Answer, TakesMemory, without_newline, newline, limit};
 ghost use Rattle.consthex_modes.specs.declared.error.RunError.TheVariants.{Text, TooLong, NoMemory};
 ghost use Rattle.consthex_modes.specs.declared.mode.Mode.TheVariants.{Decode, Check};
 
@@ -20,7 +20,7 @@ pub(crate) const LIMIT: usize = 1_048_576;
 /// What a mode answers to an input: the bytes to write, or an error.
 ///
 /// Returns [`RunError::TooLong`] if the input has more than 1,048,576 bytes; [`RunError::NoMemory`]
-/// if memory is refused; and [`RunError::Text`] if the mode reads a text that cannot be decoded.
+/// if memory cannot be allocated; and [`RunError::Text`] if the mode reads a text that cannot be decoded.
 /// One newline at the end of the input is not part of the text.
 ///
 /// ```rust
@@ -32,8 +32,8 @@ pub fn answer(alloc: Global, mode: Mode, input: &[u8]) -> Result<Vec<u8>, RunErr
     ensures err { IfErr result (λ e. e ≢ NoMemory → Answer mode input.now (Err e)) }
     ensures too_long { (result ≡ Err TooLong) ↔ (limit < length input.now) }
     ensures no_memory { result ≡ Err NoMemory → TakesMemory mode input.now }
-    // Only a text that cannot be decoded is refused as a text, whatever the mode.
-    ensures refused { (e : FromHexError) → result ≡ Err (Text e)
+    // Only a text that cannot be decoded gives an error of the text, whatever the mode.
+    ensures invalid { (e : FromHexError) → result ≡ Err (Text e)
         → Reads (without_newline input.now) (Err e) }
     // `ok` is said of a text that can be decoded, and of no other.
     ensures checked { mode ≡ Check → IfOk result (λ v. (v.items ≡ codes "ok" ++ newline)

@@ -9,11 +9,11 @@ const LONGEST: usize = 32;
 /// The first two arguments behind the program's name. If one is not UTF-8 or has more than 32 bytes,
 /// the empty text stands for it; neither names a mode. Two arguments name no mode either, so a third
 /// is not read.
-pub(crate) fn arguments(rt: &(impl Env + AllocGlobal)) -> Result<Vec<String>, AllocError> {
+pub(crate) fn read_arguments(rt: &(impl Env + AllocGlobal)) -> Result<Vec<String>, AllocError> {
     let mut arguments = Vec::new(rt.alloc());
-    for place in 1..3 {
+    for index in 1..3 {
         let mut bytes = [0; LONGEST];
-        let length = match rt.arg(place, &mut bytes) {
+        let length = match rt.arg(index, &mut bytes) {
             Ok(length) => length,
             Err(FillError::TooLong) => 0,
             Err(FillError::NotPresent) => break,

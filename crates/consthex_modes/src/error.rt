@@ -1,7 +1,7 @@
 //! Why a run fails.
 
 ghost use Rattle.std.specs.Prelude.{◌≡◌};
-ghost use Rattle.consthex_modes.specs.Errors.{refusal_of, line_of, status_of};
+ghost use Rattle.consthex_modes.specs.Program.{run_error_of, line_of, status_of};
 ghost use Rattle.consthex_modes.specs.declared.error.RunError.TheVariants.{NoMemory};
 
 use const_hex::FromHexError;
@@ -51,7 +51,7 @@ impl fmt::Display for RunError {
 
     fn fmt<W: fmt::Write>(&self, f: &mut fmt::Formatter<W>) -> fmt::Result {
         match *self {
-            RunError::Text(refusal) => write!(f, "{refusal}"),
+            RunError::Text(error) => write!(f, "{error}"),
             RunError::ReadFailed => f.write_str("read failed"),
             RunError::WriteFailed => f.write_str("write failed"),
             RunError::TooLong => f.write_str("input too long"),
@@ -61,12 +61,12 @@ impl fmt::Display for RunError {
 }
 
 impl From<FromHexError> for RunError {
-    ghost from_gives = { λ refusal e. e ≡ refusal_of refusal };
+    ghost from_gives = { λ error e. e ≡ run_error_of error };
 
-    fn from(refusal: FromHexError) -> RunError {
-        match refusal {
+    fn from(error: FromHexError) -> RunError {
+        match error {
             FromHexError::NoMemory => RunError::NoMemory,
-            _ => RunError::Text(refusal),
+            _ => RunError::Text(error),
         }
     }
 }
@@ -74,7 +74,7 @@ impl From<FromHexError> for RunError {
 impl From<AllocError> for RunError {
     ghost from_gives = { λ _ e. e ≡ NoMemory };
 
-    fn from(_refused: AllocError) -> RunError {
+    fn from(_error: AllocError) -> RunError {
         RunError::NoMemory
     }
 }

@@ -1,7 +1,8 @@
-//! The program `consthex` as a library: each mode's answer to an input, a run over any reader and
-//! writer, and the whole program on any host.
+//! The program `consthex` as a library: what each mode returns for an input, a run over any reader
+//! and writer, and the whole program on any host.
 //!
-//! The terms of the contracts are defined in `specs/`. What a text spells is defined in `const_hex`.
+//! The terms of the contracts are defined in `specs/`. What a text decodes to is defined in
+//! `const_hex`.
 #![tactic(auto)]
 
 mod answers;

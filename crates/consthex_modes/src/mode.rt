@@ -2,7 +2,7 @@
 
 ghost use Rattle.std.specs.Prelude.{◌≡◌, ◌↔◌, ◌∷◌, [], map, string_bytes, Some};
 ghost use Rattle.consthex_modes.specs.declared.mode.Mode.{Mode};
-ghost use Rattle.consthex_modes.specs.Words.{word_of};
+ghost use Rattle.consthex_modes.specs.Program.{word_of};
 
 /// What a run makes of its input.
 ///

@@ -4,13 +4,12 @@ ghost use Rattle.std.specs.Prelude.{◌≡◌, ◌≢◌, ◌≤◌, ◌⊎◌, 
 ghost use Rattle.std.specs.Io.KnownBytes.{Appends, Keeps};
 ghost use Rattle.std.specs.Process.{exit_status};
 ghost use Rattle.const_hex.specs.declared.error.FromHexError.{FromHexError};
-ghost use Rattle.const_hex.specs.WriteSinks.{WritesBeginning};
-ghost use Rattle.consthex_modes.specs.Errors.{status_of};
-ghost use Rattle.consthex_modes.specs.Outcome.{Answers};
+ghost use Rattle.const_hex.specs.Writers.{WritesBeginning};
+ghost use Rattle.consthex_modes.specs.Program.{status_of, Answers};
 ghost use Rattle.consthex_modes.specs.declared.error.RunError.TheVariants.{Text};
 ghost use Rattle.consthex_modes.specs.declared.mode.Mode.{Mode};
 
-use crate::arguments::arguments;
+use crate::arguments::read_arguments;
 use crate::error::RunError;
 use crate::mode::{USAGE, mode_of};
 use crate::runs::run;
@@ -36,8 +35,8 @@ pub fn program<R: Read, W: Write>(
     ensures done { exit_status result ≡ 0 → (m : Mode) × (bs : List ℕ)
         × Answers m (R.remaining input.old) (R.remaining input.new) (Ok bs)
         × Appends (W.contents output.old) (W.contents output.new) bs }
-    // The reader was read to its end, and a mode refuses all of it as a text.
-    ensures refused { exit_status result ≡ 1 → (m : Mode) × (e : FromHexError)
+    // The reader was read to its end, and a mode returns an error for all of it as a text.
+    ensures invalid { exit_status result ≡ 1 → (m : Mode) × (e : FromHexError)
         × Answers m (R.remaining input.old) (R.remaining input.new) (Err (Text e)) }
     // Nothing was read or written.
     ensures misused { exit_status result ≡ 2
@@ -51,20 +50,20 @@ pub fn program<R: Read, W: Write>(
         × WritesBeginning (W.contents output.old) (W.contents output.new) bs) }
     ensures statuses { exit_status result ≤ 4 }
 {
-    let Ok(arguments) = arguments(rt) else {
-        return refused(rt, RunError::NoMemory);
+    let Ok(arguments) = read_arguments(rt) else {
+        return report(rt, RunError::NoMemory);
     };
     match mode_of(&arguments) {
         Some(mode) => match run(rt.alloc(), mode, input, output) {
             Ok(()) => ExitCode::SUCCESS,
-            Err(error) => refused(rt, error),
+            Err(error) => report(rt, error),
         },
-        None => misused(rt),
+        None => print_usage(rt),
     }
 }
 
 /// Prints the usage, and returns the status 2. Ignores a failure of standard error.
-fn misused(rt: &impl Eprint) -> ExitCode
+fn print_usage(rt: &impl Eprint) -> ExitCode
     ensures { exit_status result ≡ 2 }
 {
     let _ = eprintln!(rt; "{USAGE}");
@@ -72,7 +71,7 @@ fn misused(rt: &impl Eprint) -> ExitCode
 }
 
 /// Prints the error, and returns its status. Ignores a failure of standard error.
-fn refused(rt: &impl Eprint, error: RunError) -> ExitCode
+fn report(rt: &impl Eprint, error: RunError) -> ExitCode
     ensures { exit_status result ≡ status_of error }
 {
     let _ = eprintln!(rt; "{error}");

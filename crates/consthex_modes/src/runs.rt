@@ -3,9 +3,8 @@
 ghost use Rattle.std.specs.Prelude.{◌≡◌, ◌≢◌, ◌≤◌, ◌<◌, ◌+◌, List, ℕ, length, take, vec_len, OnOk, OnErr, IfOk, Ok, Err};
 ghost use Rattle.std.specs.Io.KnownBytes.{Appends, Consumes, Keeps};
 ghost use Rattle.const_hex.specs.declared.error.FromHexError.{FromHexError};
-ghost use Rattle.const_hex.specs.WriteSinks.{WritesBeginning};
-ghost use Rattle.consthex_modes.specs.Answer.{limit};
-ghost use Rattle.consthex_modes.specs.Outcome.{ReadsAll, Answers};
+ghost use Rattle.const_hex.specs.Writers.{WritesBeginning};
+ghost use Rattle.consthex_modes.specs.Program.{limit, ReadsAll, Answers};
 ghost use Rattle.consthex_modes.specs.declared.error.RunError.TheVariants.{Text, WriteFailed, TooLong};
 
 use crate::answers::{LIMIT, answer};
@@ -86,7 +85,7 @@ fn read_all<R: Read>(alloc: Global, input: &mut R) -> Result<Vec<u8>, RunError>
 /// Makes room behind the first bytes, if there is none: twice as many bytes, but at least 4096, and
 /// at most one more than an input may have.
 fn make_room(bytes: &mut Vec<u8>, count: usize) -> Result<(), AllocError>
-    requires few { count ≤ limit }
+    requires below_limit { count ≤ limit }
     requires bound { vec_len bytes.old ≤ limit + 1 }
     ensures room { OnOk result (count < vec_len bytes.new) }
     ensures bound { OnOk result (vec_len bytes.new ≤ limit + 1) }

@@ -4,12 +4,10 @@ ghost use Rattle.std.specs.Prelude.{◌≡◌, ◌↔◌, ℕ, List, Bool, lengt
 ghost use Rattle.serde_json.specs.Data.{string};
 ghost use Rattle.serde_json.specs.Find.{as_str};
 ghost use Rattle.serde_json.specs.View.{view};
-ghost use Rattle.const_hex.specs.Answers.{AreBytes, ReadsSized, is_text_of};
-ghost use Rattle.const_hex.specs.Bodies.{body_of, lowered};
-ghost use Rattle.const_hex.specs.Json.{ReadsInside};
+ghost use Rattle.const_hex.specs.Results.{AreBytes, ReadsSized, is_text_of, body_of, lowered};
+ghost use Rattle.const_hex.specs.Types.{ReadsInside, IsCount};
 ghost use Rattle.const_hex.specs.Texts.{full_text};
 ghost use Rattle.const_hex.specs.TypeLaws.{ReadsAs-faithful, ReadsSized-faithful};
-ghost use Rattle.const_hex.specs.Types.{IsCount};
 ghost use Rattle.const_hex.specs.declared.serde.error.JsonError.TheVariants.{NotText};
 ghost use Rattle.hash_hex.specs.Fixed.{fixed_bytes, ReadsFixed};
 ghost use Rattle.hash_hex.specs.declared.fixed.FixedBytes.{FixedBytes};

@@ -1,11 +1,11 @@
-//! Hashes of 32 bytes and addresses of 20, read from hexadecimal text and written as it.
+//! Hashes of 32 bytes and addresses of 20 bytes, which are read from hexadecimal text and written
+//! as it.
 //!
 //! Both are [`FixedBytes`], a value of a fixed number of bytes. The terms of its contracts are
-//! defined in `specs/Fixed.antt`. What a text spells is defined in `const_hex`.
+//! defined in `specs/Fixed.antt`. What a text decodes to is defined in `const_hex`.
 //!
-//! The letters of an address in mixed case may carry a checksum. The case does not matter here, and
-//! the checksum is not checked. A quantity such as `0x1` is not a string of bytes: its length is
-//! odd, so it is refused.
+//! The letters of an address in mixed case may carry a checksum. Case does not matter here, and the
+//! checksum is not checked. A quantity such as `0x1` has an odd length, and is an error.
 #![tactic(auto)]
 
 mod fixed;

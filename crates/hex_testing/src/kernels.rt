@@ -6,7 +6,7 @@ use std::alloc::{AllocError, Global};
 #[derive(Clone, Copy, Debug)]
 pub struct KernelCase {
     pub name: &'static str,
-    /// Its place in rows with a figure for each kernel.
+    /// Its index in rows with a figure for each kernel.
     pub number: usize,
     /// How many digits it decodes in a step: the first number as long as possible, then the next.
     /// Empty if it decodes nothing of a text that it refuses.
@@ -16,11 +16,11 @@ pub struct KernelCase {
 }
 
 impl KernelCase {
-    /// How many bytes it decodes of a body of that length with a bad byte at that place.
-    pub fn decoded(self, length: usize, place: usize) -> usize {
+    /// How many bytes it decodes of a body of that length with an invalid character at that index.
+    pub fn decoded(self, length: usize, index: usize) -> usize {
         for step in self.reads {
-            if *step > 0 && place < length - length % *step {
-                return (place - place % *step) / 2;
+            if *step > 0 && index < length - length % *step {
+                return (index - index % *step) / 2;
             }
         }
         0

@@ -1,6 +1,6 @@
-//! What the crates of tests share: a row that prints what was called, what was wanted and what came;
-//! texts, and what std makes of them; readers, writers and sinks that count their calls and fail at one
-//! of them; and the list of the kernels.
+//! What the crates of tests share: a row that prints the function, the expected and the actual
+//! result; texts, and what the standard library prints for them; readers, writers and sinks that
+//! count their calls and fail at one of them; and the list of the kernels.
 #![tactic(auto)]
 
 mod counting;

@@ -50,45 +50,10 @@ pub fn rests<'a>(bytes: &'a [u8], want: &'a [u8]) -> [Rest<'a>; 2] {
         true => None,
         false => bytes.iter().zip(want).position(|(byte, want)| byte != want),
     };
-    let place = differs.unwrap_or(bytes.len().min(want.len()));
-    let from_byte = place.saturating_sub(8);
+    let index = differs.unwrap_or(bytes.len().min(want.len()));
+    let from_byte = index.saturating_sub(8);
     [bytes, want].map(|bytes| Rest {
         from_byte,
         text: Text(bytes.get(from_byte..).unwrap_or(&[])),
     })
-}
-
-/// Ends the test if a call did not answer what is wanted. Prints the call, its row and both answers.
-/// With no call and no row, it prints the expression that has the answer.
-// No library may end the process. So each crate of tests has the functions that end it.
-#[macro_export]
-macro_rules! same {
-    ($rt:expr; $answer:expr, $want:expr) => {
-        crate::tests::check($rt, stringify!($answer), (), $answer, $want)
-    };
-    ($rt:expr, $call:expr, $row:expr; $answer:expr, $want:expr) => {
-        crate::tests::check($rt, $call, $row, $answer, $want)
-    };
-}
-
-/// As `same`, for what lends bytes, from a little before the first byte that differs.
-#[macro_export]
-macro_rules! same_bytes {
-    ($rt:expr, $call:expr, $row:expr; $bytes:expr, $want:expr) => {
-        crate::tests::check_bytes(
-            $rt,
-            $call,
-            $row,
-            std::convert::AsSlice::as_slice(&$bytes),
-            std::convert::AsSlice::as_slice(&$want),
-        )
-    };
-}
-
-/// As `same_bytes`, for what may be an error.
-#[macro_export]
-macro_rules! same_read {
-    ($rt:expr, $call:expr, $row:expr; $read:expr, $want:expr) => {
-        crate::tests::check_read($rt, $call, $row, $read, $want)
-    };
 }

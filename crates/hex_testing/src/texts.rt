@@ -31,16 +31,16 @@ pub fn behind(alloc: Global, prefix: &str, body: &[u8]) -> Result<Vec<u8>, Alloc
     [prefix.as_bytes(), body].concat(alloc)
 }
 
-/// A body with `g` at a place.
-pub fn with_g(alloc: Global, body: &[u8], place: usize) -> Result<Vec<u8>, AllocError> {
+/// A body with `g` at an index.
+pub fn with_g(alloc: Global, body: &[u8], index: usize) -> Result<Vec<u8>, AllocError> {
     let mut body = body.to_vec(alloc)?;
-    if let Some(byte) = body.get_mut(place) {
+    if let Some(byte) = body.get_mut(index) {
         *byte = b'g';
     }
     Ok(body)
 }
 
-/// The error that names a byte and its place in the text.
+/// The error that names a byte and its position in the text.
 pub fn bad(byte: u8, index: usize) -> FromHexError {
     let c = char::from(byte);
     FromHexError::InvalidHexCharacter { c, index }

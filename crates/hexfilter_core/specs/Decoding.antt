@@ -1,11 +1,10 @@
 -- An input that a decoder reads in chunks.
-use Rattle.std.specs.Prelude.{◌≡◌, ℕ, ◌-◌, Bool, List, length}
+use Rattle.std.specs.Prelude.{◌≡◌, ℕ, ◌-◌, Bool, List, length, ◌+◌}
 use Rattle.const_hex.specs.Decoding.{HasRead, counted}
 use Rattle.const_hex.specs.declared.error.FromHexError.{FromHexError}
 use Rattle.const_hex.specs.declared.error.FromHexError.TheVariants.{OddLength, InvalidStringLength, InvalidHexCharacter, NoMemory}
 use Rattle.hexfilter_core.specs.Inputs.{text_of}
 use Rattle.hexfilter_core.specs.declared.line_decoder.LineDecoder.{LineDecoder}
-use Rattle.std.specs.Prelude.{◌+◌}
 
 -- whether a decoder leaves out newlines
 abbrev pub ignores : LineDecoder → Bool

@@ -1,8 +1,7 @@
 -- An input that is read as a text.
 use Rattle.std.specs.Prelude.{◌≡◌, ℕ, ◌*◌, ◌==◌, Bool, not, if◌then◌else◌, List, ◌∷◌, ◌++◌, length, take, filter, Option}
 use Rattle.std.specs.Io.KnownBytes.{Consumes, IsAtEnd}
-use Rattle.const_hex.specs.Answers.{IsOdd}
-use Rattle.const_hex.specs.Bodies.{NamesFirstBad, body_of}
+use Rattle.const_hex.specs.Results.{IsOdd, NamesFirstBad, body_of}
 use Rattle.const_hex.specs.Decoding.{counted}
 use Rattle.const_hex.specs.Texts.{AllDigits, Spells}
 use Rattle.const_hex.specs.declared.error.FromHexError.{FromHexError}
@@ -22,7 +21,7 @@ pub record FirstInvalid (ignores : Bool) (x : List ℕ) (c p : ℕ) : Type 0 whe
   pub rest : List ℕ
   pub cut : x ≡ front ++ c ∷ rest
   pub position : p ≡ length front
-  pub first : NamesFirstBad (text_of ignores x) (InvalidHexCharacter c (length (text_of ignores front)))
+  pub first : NamesFirstBad (text_of ignores x) c (length (text_of ignores front))
 
 -- the error names the first invalid character of x and its position, or the greatest `usize` for a
 -- position beyond it

@@ -1,6 +1,6 @@
 -- What a run writes, and which texts it refuses.
 use Rattle.std.specs.Prelude.{◌≡◌, ℕ, List, [], ◌++◌, Option, Ok}
-use Rattle.const_hex.specs.Answers.{Checks, Reads}
+use Rattle.const_hex.specs.Results.{Checks, Reads}
 use Rattle.const_hex.specs.declared.error.FromHexError.{FromHexError}
 use Rattle.hexfilter_core.specs.Encoded.{encoded}
 use Rattle.hexfilter_core.specs.Inputs.{Rejects, SpellsBeginning, text_of}

@@ -2,7 +2,7 @@
 
 ghost use Rattle.std.specs.Prelude.{◌≡◌, List, ℕ, Ok, Err, OnOk, OnErr, IfErr};
 ghost use Rattle.std.specs.Io.KnownBytes.{Appends, Consumes};
-ghost use Rattle.const_hex.specs.Answers.{Reads};
+ghost use Rattle.const_hex.specs.Results.{Reads};
 ghost use Rattle.const_hex.specs.declared.error.FromHexError.{FromHexError};
 ghost use Rattle.hexfilter_core.specs.Errors.{IsNotInterrupted};
 ghost use Rattle.hexfilter_core.specs.Inputs.{ReadsAll, Rejects, SpellsBeginning, text_of};

@@ -3,7 +3,7 @@
 ghost use Rattle.std.specs.Prelude.{◌≡◌, ◌+◌, ◌-◌, ◌*◌, ◌≤◌, ◌∷◌, [], List, ℕ, length, true, OnOk, OnErr, IfOk};
 ghost use Rattle.std.specs.Io.KnownBytes.{Appends, Consumes};
 ghost use Rattle.const_hex.specs.Texts.{prefix_of};
-ghost use Rattle.const_hex.specs.WriteSinks.{WritesBeginning};
+ghost use Rattle.const_hex.specs.Writers.{WritesBeginning};
 ghost use Rattle.hexfilter_core.specs.Encoded.{encoded};
 ghost use Rattle.hexfilter_core.specs.Errors.{IsDeviceError, IsWriteError};
 ghost use Rattle.hexfilter_core.specs.Inputs.{ReadsAll};

@@ -1,7 +1,7 @@
 //! A decoder for a text that may stand in lines.
 
 ghost use Rattle.std.specs.Prelude.{◌≡◌, ◌+◌, ◌/◌, ◌≤◌, ◌++◌, ◌∷◌, [], ◌↔◌, ℕ, List, Ok, Err, true, length, take, IsOk, IfOk, IfErr, OnErr};
-ghost use Rattle.const_hex.specs.Answers.{IsOdd, Reads};
+ghost use Rattle.const_hex.specs.Results.{IsOdd, Reads};
 ghost use Rattle.const_hex.specs.declared.error.FromHexError.TheVariants.{OddLength};
 ghost use Rattle.hexfilter_core.specs.Decoding.{HasDecoded, ignores, moved};
 ghost use Rattle.hexfilter_core.specs.Inputs.{NamesInvalid, text_of};

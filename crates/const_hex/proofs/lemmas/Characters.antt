@@ -2,10 +2,9 @@
 use mir.Val.{bool_byte}
 use Rattle.std.proofs.Common.{◌≡◌, ℕ, ◌+◌, ◌*◌, ◌/◌, ◌%◌, Bool, List, [], ◌∷◌, length, Option, Some, None, refl, arith}
 use Rattle.std.specs.Prelude.{is_some}
-use Rattle.const_hex_arch.specs.Digits.{hex_digit}
-use Rattle.const_hex_arch.specs.Texts.{hex_text}
+use Rattle.const_hex_arch.specs.Texts.{hex_digit, hex_text}
 use Rattle.const_hex_arch.proofs.lemmas.Texts.{length-hex_text}
-use Rattle.const_hex.specs.Chars.{with_low}
+use Rattle.const_hex.specs.Types.{with_low}
 
 -- nothing is left
 pub left-none : (up : Bool) (low : Option ℕ) (u : List ℕ) → low ≡ None → length u ≡ 0 → with_low low (hex_text up u) ≡ []

@@ -3,16 +3,14 @@ use Rattle.std.proofs.Common.{◌≡◌, ℕ, suc, ◌+◌, ◌-◌, ◌*◌, �
 use Rattle.std.proofs.lemmas.Grind.{common_steps}
 use Rattle.std.proofs.lemmas.List.{append_assoc, append-nil, take-append-le, take-append-drop, take_all, take_at, drop_all, drop_at}
 use Rattle.const_hex.proofs.lemmas.Fronts.{partial_front}
-use Rattle.const_hex.specs.Answers.{IsOdd, Reads}
-use Rattle.const_hex.specs.Bodies.{body_of}
-use Rattle.const_hex.specs.Decoding.{HasRead, NamesCounted, counted, error_of, place_of, waiting_digit}
+use Rattle.const_hex.specs.Results.{IsOdd, Reads, body_of}
+use Rattle.const_hex.specs.Decoding.{HasRead, NamesCounted, counted, error_of, position_of, waiting_digit}
 use Rattle.const_hex.specs.TypeLaws.{body-parity}
 use Rattle.const_hex.specs.declared.codec.decoder.Decoder.{Decoder}
 use Rattle.const_hex.specs.declared.error.FromHexError.TheVariants.{OddLength, InvalidStringLength, InvalidHexCharacter, NoMemory}
 use Rattle.const_hex.specs.declared.error.FromHexError.{FromHexError}
-use Rattle.const_hex_arch.specs.Digits.{IsDigit}
+use Rattle.const_hex_arch.specs.Texts.{IsDigit, AllDigits, FirstBad, Partial, Spells}
 use Rattle.std.proofs.lemmas.List.Elements.{All-drop}
-use Rattle.const_hex_arch.specs.Texts.{AllDigits, FirstBad, Partial, Spells}
 use Rattle.const_hex_arch.proofs.lemmas.Spelling.{FirstBad-after, Partial-after, Spells-append, Spells-digits, Spells-length, digits_append, digits_no_bad, first_bad}
 
 -- ---- a bad byte, whatever follows
@@ -126,15 +124,15 @@ module _ (d : Decoder) (t bs piece w digits : List ℕ) (r : HasRead d t bs) (wh
 
   -- the decoder goes on
   pub goes_on : (e : Decoder) (out : List ℕ) (count : ℕ) → AllDigits w → AllDigits digits → Spells (take (2 * count) (w ++ digits)) out
-      → error_of e ≡ None → place_of e ≡ counted (place_of d + length piece) → waiting_digit e ≡ drop (2 * count) (w ++ digits)
+      → error_of e ≡ None → position_of e ≡ counted (position_of d + length piece) → waiting_digit e ≡ drop (2 * count) (w ++ digits)
       → HasRead e (t ++ piece) (bs ++ out)
-  goes_on e out count a b s none place waits =
+  goes_on e out count a b s none index waits =
       let u = w ++ digits in
       let parts = take-append-drop (2 * count) u in
       let size = length-append t piece in
       let before = r.counts in record {
         no_error = none;
-        counts = omega (arith, place, before, size);
+        counts = omega (arith, index, before, size);
         pairs = r.pairs ++ take (2 * count) u;
         whole = whole ∙ rw (waits, append_assoc r.pairs (take (2 * count) u) (drop (2 * count) u), parts) refl;
         given = Spells-append r.pairs bs (take (2 * count) u) out r.given s;
@@ -147,7 +145,7 @@ module _ (d : Decoder) (t bs piece w digits : List ℕ) (r : HasRead d t bs) (wh
 
   -- the first bad byte is in the piece
   pub bad_by_now : (skipped p : ℕ) → skipped ≡ length piece - length digits → length digits ≤ length piece → AllDigits w → FirstBad digits p
-      → NamesCounted (t ++ piece) (InvalidHexCharacter (slice_index digits p) (counted (place_of d + skipped + p)))
+      → NamesCounted (t ++ piece) (slice_index digits p) (counted (position_of d + skipped + p))
   bad_by_now skipped p e shorter a f =
       let v = r.pairs ++ w in
       let body : body_of (t ++ piece) ≡ v ++ digits = whole ∙ sym (append_assoc r.pairs w digits) in
@@ -172,18 +170,15 @@ body-longer (c ∷ []) [] p f = refl
 body-longer (c ∷ []) (d ∷ u) p f = grind (arith, f.within, f.here)
 body-longer (c ∷ d ∷ t) u p f = longer ((c == 48) && (d == 120 || d == 88)) t (c ∷ d ∷ t) u
 
-pub NamesCounted-longer : (t u : List ℕ) (e : FromHexError) → NamesCounted t e → NamesCounted (t ++ u) e
-NamesCounted-longer t u OddLength h = h
-NamesCounted-longer t u InvalidStringLength h = h
-NamesCounted-longer t u (InvalidHexCharacter c i) (n, (p, f, is, place), counts) =
+pub NamesCounted-longer : (t u : List ℕ) (c index : ℕ) → NamesCounted t c index → NamesCounted (t ++ u) c index
+NamesCounted-longer t u c i (n, (p, f, is, index), counts) =
     let body = body-longer t u p f in
     let inside = f.within in
     let bound = body-shorter t in
     let sizes : length (t ++ u) - length (body_of t ++ u) ≡ length t - length (body_of t) =
     omega (arith, length-append t u, length-append (body_of t) u) in
     let same : slice_index (body_of t) p ≡ slice_index (body_of t ++ u) p = within_front (body_of t) u p inside in
-    (n, (p, rw body (FirstBad-longer (body_of t) u p f), rw body (is ∙ same), rw (body, sizes) place), counts)
-NamesCounted-longer t u NoMemory h = h
+    (n, (p, rw body (FirstBad-longer (body_of t) u p f), rw body (is ∙ same), rw (body, sizes) index), counts)
 
 -- ---- what was read is spelled
 

@@ -2,12 +2,10 @@
 use Rattle.std.proofs.Common.{◌≡◌, ℕ, ◌+◌, ◌/◌, ◌%◌, nat_le, ◌&&◌, if◌then◌else◌, false, List, [], ◌∷◌, Some, refl, sym, ap, ◌∙◌, arith}
 use Rattle.std.specs.Prelude.{◌↔◌}
 use Rattle.std.proofs.lemmas.Bool.Decides.{nat_tests}
-use Rattle.const_hex_arch.specs.Digits.{hex_value, hex_digit}
-use Rattle.const_hex_arch.specs.Texts.{hex_text, Spells}
+use Rattle.const_hex_arch.specs.Texts.{hex_value, hex_digit, hex_text, Spells}
 use Rattle.const_hex_arch.proofs.lemmas.Spelling.{Spells-same, Spells-bytes, hex_value-small}
 use Rattle.const_hex_arch.proofs.lemmas.Texts.{Spells-hex_text}
-use Rattle.const_hex.specs.Bodies.{lowered}
-use Rattle.const_hex.specs.Answers.{AreBytes}
+use Rattle.const_hex.specs.Results.{lowered, AreBytes}
 
 -- the lower digit of a digit's value
 lowered_digit : (c v : ℕ) → hex_value c ≡ Some v → hex_digit false v ≡ (if nat_le 65 c && nat_le c 70 then c + 32 else c)

@@ -5,8 +5,7 @@ use Rattle.std.proofs.lemmas.List.Sums.{AllPass-from_list_all, list_all-from_All
 use Rattle.std.specs.Prelude.{IsOk, IsTrue, ◌↔◌}
 use Rattle.const_hex_arch.specs.Texts.{Spells, AllDigits, FirstBad}
 use Rattle.const_hex_arch.proofs.lemmas.Spelling.{Spells-same, Spells-digits, Spells-some, FirstBad-same, digits_no_bad}
-use Rattle.const_hex.specs.Bodies.{body_of}
-use Rattle.const_hex.specs.Answers.{Reads, ReadsSized, Checks, IsEven, is_text_of}
+use Rattle.const_hex.specs.Results.{body_of, Reads, ReadsSized, Checks, ChecksText, IsEven, is_text_of}
 use Rattle.const_hex.specs.TypeLaws.{body-parity}
 use Rattle.const_hex.specs.declared.error.FromHexError.{FromHexError}
 use Rattle.const_hex.specs.declared.error.FromHexError.TheVariants.{OddLength, InvalidStringLength, InvalidHexCharacter, NoMemory}
@@ -37,6 +36,15 @@ one_check_answer t (Err e) (Ok v) h k = cc (one_answer t (Err e) (Ok k.0) h k.1)
 one_check_answer t (Err e) (Err f) h k = cc (one_answer t (Err e) (Err f) h k)
 
 -- ---- what the calls answer
+
+-- a result of `check` keeps all that `check` promises
+pub ChecksText-from_Checks : (t : List ℕ) (r : Result Unit FromHexError) → Checks t r → ChecksText t r
+ChecksText-from_Checks t (Ok u) h = record { answer = h; accepts = (λ _. h, λ _. refl); unique = λ s k. one_check_answer t s (Ok u) k h }
+ChecksText-from_Checks t (Err e) h = record {
+  answer = h;
+  accepts = (λ gone. absurd (cc gone), λ reads. absurd (cc (one_check_answer t (Ok tt) (Err e) reads h)));
+  unique = λ s k. one_check_answer t s (Err e) k h;
+}
 
 -- a text of digits with an even length is read as bytes
 pub Reads-digits : (t : List ℕ) → IsEven (length t) → AllDigits (body_of t) → (bs : List ℕ) × Reads t (Ok bs)

@@ -2,11 +2,9 @@
 use Rattle.std.proofs.Common.{◌≡◌, ℕ, ◌*◌, ◌/◌, ◌%◌, ◌<◌, ◌==◌, ◌&&◌, ◌||◌, Bool, true, false, List, [], ◌∷◌, length, Result, Ok, Err, refl, arith}
 use Rattle.std.specs.Prelude.{MatchResult, IfOk, IfErr, ◌≢◌, ◌↔◌}
 use Rattle.std.proofs.lemmas.Bool.Decides.{nat_tests}
-use Rattle.const_hex_arch.specs.Digits.{hex_digit}
-use Rattle.const_hex_arch.specs.Texts.{hex_text, full_text}
+use Rattle.const_hex_arch.specs.Texts.{hex_digit, hex_text, full_text}
 use Rattle.const_hex_arch.proofs.lemmas.Texts.{Spells-hex_text, length-hex_text, length-full_text}
-use Rattle.const_hex.specs.Bodies.{body_of, lowered}
-use Rattle.const_hex.specs.Answers.{Reads, ReadsSized, IsEven, AreBytes}
+use Rattle.const_hex.specs.Results.{body_of, lowered, Reads, ReadsSized, IsEven, AreBytes}
 use Rattle.const_hex.specs.declared.error.FromHexError.{FromHexError}
 use Rattle.const_hex.specs.declared.error.FromHexError.TheVariants.{NoMemory}
 use Rattle.const_hex.proofs.lemmas.Reading.{one_answer, one_sized_answer}

@@ -7,8 +7,8 @@ use Rattle.std.proofs.lemmas.List.Folds.{concat-append}
 use Rattle.std.specs.Io.KnownBytes.{Appends}
 use Rattle.std.specs.List.{concat}
 use Rattle.std.specs.Prelude.{min}
-use Rattle.const_hex_arch.specs.Streams.{Offers, Streams}
-use Rattle.const_hex.specs.WriteSinks.{WriteStep, sink_writer, has_failed}
+use Rattle.const_hex_arch.specs.Sinks.{Offers, Streams}
+use Rattle.const_hex.specs.Writers.{WriteStep, sink_writer, has_failed}
 use Rattle.const_hex.specs.declared.write_sink.WriteSink.{WriteSink}
 
 -- n bytes of what follows the first `done` bytes end inside the whole

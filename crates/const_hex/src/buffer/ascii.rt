@@ -23,7 +23,7 @@ impl<const LEN: usize> AsciiArray<LEN> {
         AsciiArray { bytes: [0; LEN] }
     }
 
-    /// Puts an ASCII byte at one place.
+    /// Puts an ASCII byte at an index.
     #[inline]
     pub(crate) fn put(&mut self, index: usize, byte: u8)
         requires within { index < LEN }

@@ -1,9 +1,8 @@
-//! The body of a text: the prefix rule, the first bad byte, and decoding by a kernel.
+//! The body of a text: the prefix rule, the first invalid character, and decoding by a kernel.
 
-ghost use Rattle.std.specs.Prelude.{◌≡◌, ◌*◌, ◌%◌, ◌≤◌, ◌==◌, ◌&&◌, ◌||◌, true, false, length, slice_index, IfErr, IfOk, IsTrue};
+ghost use Rattle.std.specs.Prelude.{◌≡◌, ◌*◌, ◌%◌, ◌≤◌, ◌==◌, ◌&&◌, ◌||◌, true, false, length, slice_index, Err, IfErr, IfOk, IsTrue};
 ghost use Rattle.const_hex_arch.specs.Texts.{AllDigits, FirstBad, Spells, Partial};
-ghost use Rattle.const_hex.specs.Answers.{IsEven, IsOdd};
-ghost use Rattle.const_hex.specs.Bodies.{body_of, NamesFirstBad};
+ghost use Rattle.const_hex.specs.Results.{IsEven, IsOdd, Reads, body_of};
 ghost use Rattle.const_hex.specs.declared.error.FromHexError.TheVariants.{OddLength};
 
 use crate::error::FromHexError;
@@ -24,7 +23,7 @@ pub(crate) fn strip_prefix(text: &[u8]) -> &[u8]
 
 /// The text without its prefix, or [`FromHexError::OddLength`].
 #[inline(always)]
-pub(crate) fn even_body(text: &[u8]) -> Result<&[u8], FromHexError>
+pub(crate) fn strip_even(text: &[u8]) -> Result<&[u8], FromHexError>
     ensures body { IfOk result (λ b. b.now ≡ body_of text.now) }
     ensures even { IfOk result (λ b. IsEven (length text.now) × IsEven (length b.now)) }
     ensures odd { IfErr result (λ e. (e ≡ OddLength) × IsOdd (length text.now)) }
@@ -45,35 +44,38 @@ pub(crate) fn is_prefix(first: u8, second: u8) -> bool
     pair == u16::from_le_bytes(*b"0x") || pair == u16::from_le_bytes(*b"0X")
 }
 
-/// The error that names the first byte behind the prefix that is not a digit, and its place in the
-/// whole text. There must be such a byte.
+/// The error that names the first byte after the prefix that is not a digit, and its position in the
+/// whole text. The text must have such a byte, and an even length.
 #[cold]
-pub(crate) fn bad_character(text: &[u8]) -> FromHexError
-    requires { AllDigits (body_of text.now) → ⊥ }
-    ensures { NamesFirstBad text.now result }
+pub(crate) fn find_invalid_character(text: &[u8]) -> FromHexError
+    requires even { IsEven (length text.now) }
+    requires bad { AllDigits (body_of text.now) → ⊥ }
+    ensures { Reads text.now (Err result) }
 {
     let body = strip_prefix(text);
-    let (byte, place) = first_bad(body);
+    let (byte, index) = find_first_bad(body);
     FromHexError::InvalidHexCharacter {
         c: char::from(byte),
-        index: text.len() - body.len() + place,
+        index: text.len() - body.len() + index,
     }
 }
 
-/// The first byte that is not a digit, and its place.
-// If there is none, as when another process changes the text meanwhile, this names a NUL behind the
+/// The first byte that is not a digit, and its index.
+// If there is none, as when another process changes the text meanwhile, this names a NUL after the
 // last byte.
 #[cold]
-pub(crate) fn first_bad(digits: &[u8]) -> (u8, usize)
+pub(crate) fn find_first_bad(digits: &[u8]) -> (u8, usize)
     ensures bad { (AllDigits digits.now → ⊥) → FirstBad digits.now result.1 }
     ensures byte { result.0 ≡ slice_index digits.now result.1 }
     ensures within { result.1 ≤ length digits.now }
 {
-    'digits: for place in 0..digits.len() {
-        let byte = digits[place];
+    let mut index = 0;
+    'digits: while index < digits.len() {
+        let byte = digits[index];
         if value_at(byte) == NIL {
-            return (byte, place);
+            return (byte, index);
         }
+        index += 1;
     }
     (0, digits.len())
 }
@@ -81,6 +83,8 @@ pub(crate) fn first_bad(digits: &[u8]) -> (u8, usize)
 /// Fills the output with the bytes that the body spells, and returns true. Returns false if some
 /// byte is not a digit. The kernel decides whether the body is checked first. The body must have
 /// two bytes for each byte of the output.
+// A kernel that checks first may itself be a `CheckFirst`. Then this runs its `check` once, and its
+// `decode_unchecked`: `CheckFirst` calls these two of its kernel, and never `decode_checked`.
 #[inline(always)]
 pub(crate) fn decode_body<K: Kernel>(body: &[u8], output: &mut [u8]) -> bool
     requires { length body.now ≡ 2 * length output.old }

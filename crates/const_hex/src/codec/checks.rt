@@ -1,18 +1,18 @@
 //! Whether a text can be decoded.
 
-ghost use Rattle.std.specs.Prelude.{◌≡◌, ℕ, List, ◌↔◌, Result, Ok, IsOk, IsTrue};
+ghost use Rattle.std.specs.Prelude.{◌↔◌, Result, Ok, IsTrue};
 ghost use Rattle.const_hex_arch.specs.Texts.{AllDigits};
-ghost use Rattle.const_hex.specs.Answers.{Reads, Checks};
+ghost use Rattle.const_hex.specs.Results.{ChecksText};
 ghost use Rattle.const_hex.specs.declared.error.FromHexError.{FromHexError};
 
-use crate::codec::body::{bad_character, even_body};
+use crate::codec::body::{find_invalid_character, strip_even};
 use crate::error::FromHexError;
 use const_hex_arch::{FixedKernel, Kernel};
 
 /// Whether [`decode`](crate::decode) accepts a text.
 ///
 /// Returns [`FromHexError::OddLength`] for an odd length. Otherwise returns
-/// [`FromHexError::InvalidHexCharacter`] with the first byte behind the prefix that is not a digit,
+/// [`FromHexError::InvalidHexCharacter`] with the first byte after the prefix that is not a digit,
 /// if there is one. Does not allocate.
 ///
 /// ```rust
@@ -21,8 +21,7 @@ use const_hex_arch::{FixedKernel, Kernel};
 /// ```
 #[inline]
 pub fn check(input: &[u8]) -> Result<(), FromHexError>
-    ensures answer { Checks input.now result }
-    ensures accepts { IsOk result ↔ ((bs : List ℕ) × Reads input.now (Ok bs)) }
+    ensures { ChecksText input.now result }
 {
     check_with::<FixedKernel>(input)
 }
@@ -35,13 +34,12 @@ pub fn check(input: &[u8]) -> Result<(), FromHexError>
 #[inline]
 #[tactic(auto, using(crate::proofs::lemmas::Reading::checked))]
 pub fn check_with<K: Kernel>(input: &[u8]) -> Result<(), FromHexError>
-    ensures answer { Checks input.now result }
-    ensures accepts { IsOk result ↔ ((bs : List ℕ) × Reads input.now (Ok bs)) }
+    ensures { ChecksText input.now result }
 {
-    if K::check(even_body(input)?) {
+    if K::check(strip_even(input)?) {
         Ok(())
     } else {
-        Err(bad_character(input))
+        Err(find_invalid_character(input))
     }
 }
 
@@ -53,10 +51,7 @@ pub fn check_with<K: Kernel>(input: &[u8]) -> Result<(), FromHexError>
 /// ```
 #[inline]
 pub fn const_check(input: &[u8]) -> Result<(), FromHexError>
-    ensures answer { Checks input.now result }
-    ensures accepts { IsOk result ↔ ((bs : List ℕ) × Reads input.now (Ok bs)) }
-    // This is the only answer that meets `Checks`.
-    ensures unique { (r : Result Unit FromHexError) → Checks input.now r → r ≡ result }
+    ensures { ChecksText input.now result }
 {
     check(input)
 }

@@ -1,32 +1,31 @@
-//! From a text in pieces to bytes.
+//! From a text in chunks to bytes.
 
-ghost use Rattle.std.specs.Prelude.{◌≡◌, ◌≢◌, ℕ, List, [], ◌∷◌, None, ◌++◌, ◌*◌, ◌+◌, ◌/◌, ◌%◌, ◌≤◌, ◌↔◌, Some, Ok, Err, true, false, length, take, drop, slice_index, IsOk, IfOk, IfErr, OnErr, IfSome, IsTrue};
+ghost use Rattle.std.specs.Prelude.{◌≡◌, ◌≢◌, ℕ, List, [], ◌∷◌, None, ◌++◌, ◌*◌, ◌+◌, ◌/◌, ◌%◌, ◌≤◌, ◌↔◌, Some, Ok, Err, true, false, length, take, drop, slice_index, IsOk, OnErr, IfSome, IsTrue};
 ghost use Rattle.const_hex_arch.specs.Texts.{AllDigits, FirstBad, Partial, Spells};
-ghost use Rattle.const_hex.specs.Answers.{IsOdd, Reads};
-ghost use Rattle.const_hex.specs.Bodies.{body_of};
-ghost use Rattle.const_hex.specs.Decoding.{HasRead, ReadsOn, counted, error_of, listed, place_of, waiting_digit, zero_decoder};
+ghost use Rattle.const_hex.specs.Results.{IsOdd, Reads, body_of};
+ghost use Rattle.const_hex.specs.Decoding.{HasRead, counted, error_of, listed, position_of, waiting_digit, zero_decoder, DecodesChunk};
 ghost use Rattle.const_hex.specs.declared.error.FromHexError.{FromHexError};
 ghost use Rattle.const_hex.specs.declared.error.FromHexError.TheVariants.{OddLength, InvalidStringLength, InvalidHexCharacter};
 
-use crate::codec::body::{decode_body, first_bad, is_prefix, strip_prefix};
+use crate::codec::body::{decode_body, find_first_bad, is_prefix, strip_prefix};
 use crate::error::FromHexError;
 use const_hex_arch::{FixedKernel, Kernel};
 
-/// The state of a decoder that neither has half of a pair nor found a bad byte.
+/// The state of a decoder that has neither half of a pair nor an error.
 const EVEN: u8 = 0;
 /// The state of a decoder whose byte is a digit that waits for its other half.
 const WAITING: u8 = 1;
-/// The state of a decoder that found a bad byte.
-const REFUSED: u8 = 2;
+/// The state of a decoder that found an invalid character.
+const FAILED: u8 = 2;
 
-/// Decodes a text that comes in pieces, as from a file or a socket.
+/// Decodes a text that comes in chunks, as from a file or a socket.
 ///
-/// Together the pieces are read as one text, however it was cut: between `0` and `x`, between two
-/// digits, or into empty pieces. Only a prefix at the start of the whole text is removed.
+/// Together the chunks are read as one text, however it was cut: between `0` and `x`, between two
+/// digits, or into empty chunks. Only a prefix at the start of the whole text is removed.
 ///
-/// Hand each piece to [`decode`](Decoder::decode), and call [`finish`](Decoder::finish) at the end
-/// of the text. [`decode`](crate::decode) names an odd length before any bad byte. A decoder cannot:
-/// it names the first bad byte at once, and an odd length at the end.
+/// Pass each chunk to [`decode`](Decoder::decode), and call [`finish`](Decoder::finish) at the end
+/// of the text. [`decode`](crate::decode) names an odd length before any invalid character. A decoder
+/// cannot: it names the first invalid character at once, and an odd length at the end.
 ///
 /// ```rust
 /// let mut decoder = Decoder::new();
@@ -41,9 +40,9 @@ const REFUSED: u8 = 2;
 #[repr(C)]
 #[derive(Clone, Copy, Debug)]
 pub struct Decoder {
-    /// How many bytes were read, or the place of the bad byte.
-    place: usize,
-    /// The digit that waits, or the bad byte.
+    /// How many bytes were read, or the position of the invalid character.
+    index: usize,
+    /// The digit that waits, or the invalid character.
     byte: u8,
     state: u8,
 }
@@ -60,26 +59,25 @@ impl Decoder {
         ensures starts { HasRead result [] [] }
     {
         Decoder {
-            place: 0,
+            index: 0,
             byte: 0,
             state: EVEN,
         }
     }
 
-    /// Reads the next piece of the text. Puts the bytes that are spelled now, and were not before,
+    /// Reads the next chunk of the text. Puts the bytes that are spelled now, and were not before,
     /// at the front of the output, and returns their number. The rest of the output is unchanged.
     ///
-    /// A piece of n bytes gives at most (n + 1) / 2: a digit without its other half waits for the
-    /// next piece. The first of these errors is returned:
+    /// A chunk of n bytes gives at most (n + 1) / 2: a digit without its other half waits for the
+    /// next chunk. The first of these errors is returned:
     ///
-    /// - [`FromHexError::InvalidHexCharacter`], if a piece before had a bad byte: the same error
-    ///   again. Nothing changes;
-    /// - [`FromHexError::InvalidStringLength`], if the output has too little room for the pairs of
-    ///   digits, whatever bytes they are. Nothing changes, and the piece may be handed over again;
-    /// - [`FromHexError::InvalidHexCharacter`], with the first byte behind the prefix that is not a
-    ///   digit, and its place in the whole text, or `usize::MAX` for a place beyond it. A front of
-    ///   the output may be decoded, no longer than the pairs before the bad byte, and the rest is
-    ///   unchanged.
+    /// - [`FromHexError::InvalidHexCharacter`], if a chunk before had an invalid character: the
+    ///   same error again. Nothing changes;
+    /// - [`FromHexError::InvalidStringLength`], if the output has too little space for the pairs of
+    ///   digits, whatever bytes they are. Nothing changes, and the chunk may be passed again;
+    /// - [`FromHexError::InvalidHexCharacter`], with the first byte after the prefix that is not a
+    ///   digit, and its position in the whole text, or `usize::MAX` for a position beyond it. Bytes
+    ///   that stand before it may have been decoded into the output. Its rest is unchanged.
     ///
     /// Does not allocate.
     ///
@@ -91,30 +89,13 @@ impl Decoder {
     /// assert_eq!(rt; decoder.decode(b"77", &mut [0; 2]), Err(error));
     /// ```
     #[inline]
-    pub fn decode(&mut self, piece: &[u8], output: &mut [u8]) -> Result<usize, FromHexError>
-        // `t` was read so far, and the bytes `bs` were given.
-        ensures ok { (t bs : List ℕ) → HasRead self.old t bs
-            → IfOk result (λ n. HasRead self.new (t ++ piece.now) (bs ++ take n output.new)) }
-        ensures answer { (t bs : List ℕ) → HasRead self.old t bs
-            → ReadsOn (t ++ piece.now) bs (length output.old) result }
-        ensures within { IfOk result (λ n. n ≤ length output.old) }
-        ensures most { IfOk result (λ n. n ≤ (length piece.now + 1) / 2) }
-        ensures enough { (length piece.now + 1) / 2 ≤ length output.old
-            → result ≢ Err InvalidStringLength }
-        ensures rest { IfOk result (λ n. drop n output.new ≡ drop n output.old) }
-        ensures unchanged { result ≡ Err InvalidStringLength
-            → (self.new ≡ self.old) × (output.new ≡ output.old) }
-        ensures after_error { (t bs : List ℕ) → HasRead self.old t bs
-            → IfErr result (λ e. e ≢ InvalidStringLength → Partial output.old
-            (drop (2 * length bs) (body_of (t ++ piece.now))) output.new) }
-        ensures ended { IfErr result (λ e. e ≢ InvalidStringLength → error_of self.new ≡ Some e) }
-        ensures refused { IfSome (error_of self.old) (λ e.
-            (result ≡ Err e) × (self.new ≡ self.old) × (output.new ≡ output.old)) }
+    pub fn decode(&mut self, chunk: &[u8], output: &mut [u8]) -> Result<usize, FromHexError>
+        ensures { DecodesChunk self.old chunk.now output.old output.new self.new result }
     {
-        self.decode_with::<FixedKernel>(piece, output)
+        self.decode_with::<FixedKernel>(chunk, output)
     }
 
-    /// As [`decode`](Decoder::decode), by a kernel of the caller's choice. Each piece may have
+    /// As [`decode`](Decoder::decode), by a kernel of the caller's choice. Each chunk may have
     /// another. Does not allocate.
     ///
     /// ```rust
@@ -125,48 +106,31 @@ impl Decoder {
     #[inline]
     pub fn decode_with<K: Kernel>(
         &mut self,
-        piece: &[u8],
+        chunk: &[u8],
         output: &mut [u8],
     ) -> Result<usize, FromHexError>
-        // `t` was read so far, and the bytes `bs` were given.
-        ensures ok { (t bs : List ℕ) → HasRead self.old t bs
-            → IfOk result (λ n. HasRead self.new (t ++ piece.now) (bs ++ take n output.new)) }
-        ensures answer { (t bs : List ℕ) → HasRead self.old t bs
-            → ReadsOn (t ++ piece.now) bs (length output.old) result }
-        ensures within { IfOk result (λ n. n ≤ length output.old) }
-        ensures most { IfOk result (λ n. n ≤ (length piece.now + 1) / 2) }
-        ensures enough { (length piece.now + 1) / 2 ≤ length output.old
-            → result ≢ Err InvalidStringLength }
-        ensures rest { IfOk result (λ n. drop n output.new ≡ drop n output.old) }
-        ensures unchanged { result ≡ Err InvalidStringLength
-            → (self.new ≡ self.old) × (output.new ≡ output.old) }
-        ensures after_error { (t bs : List ℕ) → HasRead self.old t bs
-            → IfErr result (λ e. e ≢ InvalidStringLength → Partial output.old
-            (drop (2 * length bs) (body_of (t ++ piece.now))) output.new) }
-        ensures ended { IfErr result (λ e. e ≢ InvalidStringLength → error_of self.new ≡ Some e) }
-        ensures refused { IfSome (error_of self.old) (λ e.
-            (result ≡ Err e) × (self.new ≡ self.old) × (output.new ≡ output.old)) }
+        ensures { DecodesChunk self.old chunk.now output.old output.new self.new result }
     {
         if let Some(error) = self.error() {
             return Err(error);
         }
-        let (waiting, digits) = self.next_digits(piece);
+        let (waiting, digits) = self.next_digits(chunk);
         let count = count_pairs(waiting, digits);
         if count > output.len() {
             return Err(FromHexError::InvalidStringLength);
         }
         if !decode_next::<K>(waiting, digits, &mut output[..count]) {
-            return Err(self.refuse(piece.len() - digits.len(), digits));
+            return Err(self.fail(chunk.len() - digits.len(), digits));
         }
-        self.advance(piece.len(), left_over(waiting, digits));
+        self.advance(chunk.len(), left_over(waiting, digits, count));
         Ok(count)
     }
 
-    /// Ends the text. `Ok` if it was read whole: then the pieces together are a text that
+    /// Ends the text. `Ok` if it was read whole: then the chunks together are a text that
     /// [`decode`](crate::decode) accepts.
     ///
-    /// Returns [`FromHexError::OddLength`] if the text has an odd number of bytes and no bad one, so
-    /// also for a lone `0`. If a piece had a bad byte, returns its error again. Does not allocate.
+    /// Returns [`FromHexError::OddLength`] if the text has an odd number of bytes and no invalid
+    /// character, so also for a lone `0`. If a chunk had an invalid character, returns its error again. Does not allocate.
     ///
     /// ```rust
     /// let mut decoder = Decoder::new();
@@ -180,7 +144,7 @@ impl Decoder {
             → (result ≡ Err OddLength) ↔ IsOdd (length t) }
         ensures err { (t bs : List ℕ) → HasRead self t bs
             → OnErr result (result ≡ Err OddLength) }
-        ensures refused { IfSome (error_of self) (λ e. result ≡ Err e) }
+        ensures kept_error { IfSome (error_of self) (λ e. result ≡ Err e) }
     {
         if let Some(error) = self.error() {
             return Err(error);
@@ -191,8 +155,8 @@ impl Decoder {
         Ok(())
     }
 
-    /// How many bytes of the text were read, or `usize::MAX` if they were more. After a bad byte, its
-    /// place. Does not allocate.
+    /// How many bytes of the text were read, or `usize::MAX` if they were more. After an invalid
+    /// character, its position. Does not allocate.
     ///
     /// ```rust
     /// let mut decoder = Decoder::new();
@@ -201,9 +165,9 @@ impl Decoder {
     /// ```
     #[inline]
     pub fn position(&self) -> usize
-        ensures { result ≡ place_of self.now }
+        ensures { result ≡ position_of self.now }
     {
-        self.place
+        self.index
     }
 
     /// The error that ended the text.
@@ -216,7 +180,7 @@ impl Decoder {
         }
         Some(FromHexError::InvalidHexCharacter {
             c: char::from(self.byte),
-            index: self.place,
+            index: self.index,
         })
     }
 
@@ -232,32 +196,32 @@ impl Decoder {
         }
     }
 
-    /// The digit that waits and the digits that follow, if this piece follows.
+    /// The digit that waits and the digits that follow, if this chunk follows.
     #[inline(always)]
-    fn next_digits<'a>(&self, piece: &'a [u8]) -> (Option<u8>, &'a [u8])
-        ensures whole { (t pairs : List ℕ) → place_of self.now ≡ counted (length t)
+    fn next_digits<'a>(&self, chunk: &'a [u8]) -> (Option<u8>, &'a [u8])
+        ensures whole { (t pairs : List ℕ) → position_of self.now ≡ counted (length t)
             → body_of t ≡ pairs ++ waiting_digit self.now → length pairs % 2 ≡ 0
-            → body_of (t ++ piece.now) ≡ pairs ++ (listed result.0 ++ result.1.now) }
+            → body_of (t ++ chunk.now) ≡ pairs ++ (listed result.0 ++ result.1.now) }
         ensures waits { AllDigits (waiting_digit self.now) → AllDigits (listed result.0) }
-        ensures shorter { length result.1.now ≤ length piece.now }
+        ensures shorter { length result.1.now ≤ length chunk.now }
     {
-        if self.place == 0 {
-            return (None, strip_prefix(piece));
+        if self.index == 0 {
+            return (None, strip_prefix(chunk));
         }
-        match piece {
-            [x, rest @ ..] if self.place == 1 && is_prefix(self.byte, *x) => (None, rest),
-            _ => (self.waiting(), piece),
+        match chunk {
+            [x, rest @ ..] if self.index == 1 && is_prefix(self.byte, *x) => (None, rest),
+            _ => (self.waiting(), chunk),
         }
     }
 
-    /// Goes on behind so many bytes, with the digit that waits now.
+    /// Goes on after so many bytes, with the digit that waits now.
     #[inline(always)]
     fn advance(&mut self, count: usize, waiting: Option<u8>)
-        ensures place { place_of self.new ≡ counted (place_of self.old + count) }
+        ensures index { position_of self.new ≡ counted (position_of self.old + count) }
         ensures waiting { waiting_digit self.new ≡ listed waiting }
         ensures no_error { error_of self.new ≡ None }
     {
-        self.place = self.place.saturating_add(count);
+        self.index = self.index.saturating_add(count);
         match waiting {
             Some(digit) => {
                 self.byte = digit;
@@ -267,25 +231,26 @@ impl Decoder {
         }
     }
 
-    /// Ends with the first bad byte of these digits, which stand so many bytes behind what was read.
+    /// Ends with the first invalid character of these digits, which stand so many bytes after what was
+    /// read.
     #[cold]
-    fn refuse(&mut self, skipped: usize, digits: &[u8]) -> FromHexError
+    fn fail(&mut self, skipped: usize, digits: &[u8]) -> FromHexError
         ensures names { (AllDigits digits.now → ⊥) → (p : ℕ) × FirstBad digits.now p
             × (result ≡ InvalidHexCharacter (slice_index digits.now p)
-            (counted (place_of self.old + skipped + p))) }
+            (counted (position_of self.old + skipped + p))) }
         ensures ended { error_of self.new ≡ Some result }
         ensures length { result ≢ InvalidStringLength }
     {
-        let (byte, place) = first_bad(digits);
-        let place = self.place.saturating_add(skipped).saturating_add(place);
+        let (byte, index) = find_first_bad(digits);
+        let index = self.index.saturating_add(skipped).saturating_add(index);
         *self = Decoder {
-            place,
+            index,
             byte,
-            state: REFUSED,
+            state: FAILED,
         };
         FromHexError::InvalidHexCharacter {
             c: char::from(byte),
-            index: place,
+            index,
         }
     }
 }
@@ -298,16 +263,16 @@ fn count_pairs(waiting: Option<u8>, digits: &[u8]) -> usize
     (digits.len() + usize::from(waiting.is_some())) / 2
 }
 
-/// The digit behind the last pair.
+/// The digit after so many pairs.
 #[inline(always)]
-fn left_over(waiting: Option<u8>, digits: &[u8]) -> Option<u8>
-    ensures { listed result ≡ drop (2 * (length (listed waiting ++ digits.now) / 2))
-        (listed waiting ++ digits.now) }
+fn left_over(waiting: Option<u8>, digits: &[u8], count: usize) -> Option<u8>
+    requires { count ≡ length (listed waiting ++ digits.now) / 2 }
+    ensures { listed result ≡ drop (2 * count) (listed waiting ++ digits.now) }
 {
     match digits {
         [] => waiting,
         [.., last] => {
-            if (digits.len() + usize::from(waiting.is_some())) % 2 == 1 {
+            if digits.len() + usize::from(waiting.is_some()) > 2 * count {
                 Some(*last)
             } else {
                 None
@@ -333,7 +298,7 @@ fn decode_next<K: Kernel>(waiting: Option<u8>, digits: &[u8], output: &mut [u8])
     }
 }
 
-/// As `decode_next`, behind a digit that waits.
+/// As `decode_next`, after a digit that waits.
 // A call of its own: with its body too, `decode_with` would be too large to be inlined.
 #[inline(never)]
 fn decode_behind<K: Kernel>(high: u8, digits: &[u8], output: &mut [u8]) -> bool
@@ -343,11 +308,13 @@ fn decode_behind<K: Kernel>(high: u8, digits: &[u8], output: &mut [u8]) -> bool
         → Spells (take (2 * length output.old) (high ∷ digits.now)) output.new }
     ensures refused { result ≡ false → Partial output.old (high ∷ digits.now) output.new }
 {
-    let [low, rest @ ..] = digits else {
-        return true;
-    };
-    let (first, others) = output.split_at_mut(1);
-    decode_body::<K>(&[high, *low], first) && decode_digits::<K>(rest, others)
+    match digits {
+        [low, rest @ ..] => {
+            let (first, others) = output.split_at_mut(1);
+            decode_body::<K>(&[high, *low], first) && decode_digits::<K>(rest, others)
+        }
+        [] => true,
+    }
 }
 
 /// Fills the output with the bytes that the digits spell, and returns true. A last digit without
@@ -364,10 +331,24 @@ fn decode_digits<K: Kernel>(digits: &[u8], output: &mut [u8]) -> bool
     decode_body::<K>(pairs, output) && check_last::<K>(last)
 }
 
-/// Whether the byte behind the pairs, if there is one, is a digit.
+/// Whether the byte after the pairs, if there is one, is a digit.
 #[inline(always)]
 fn check_last<K: Kernel>(last: &[u8]) -> bool
+    requires { length last.now ≤ 1 }
     ensures { IsTrue result ↔ AllDigits last.now }
 {
-    last.is_empty() || K::check(last)
+    match last {
+        [digit] => check_digit::<K>(*digit),
+        _ => true,
+    }
+}
+
+/// Whether a byte is a digit. It is decoded after a `0`: then a program that decodes alone has no code
+/// that checks alone.
+// A call of its own: with its body in them, all calls that decode a chunk take 20 instructions more.
+#[inline(never)]
+fn check_digit<K: Kernel>(digit: u8) -> bool
+    ensures { IsTrue result ↔ AllDigits (digit ∷ []) }
+{
+    decode_body::<K>(&[b'0', digit], &mut [0])
 }

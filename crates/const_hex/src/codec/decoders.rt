@@ -1,14 +1,13 @@
 //! From text to bytes.
 
-ghost use Rattle.std.specs.Prelude.{◌≡◌, ℕ, List, Bool, ◌≢◌, ◌*◌, ◌↔◌, true, false, length, OnErr, IfOk, IfErr, IsOk, IsTrue, MatchResult, Result, Ok, Err, take, drop};
-ghost use Rattle.const_hex_arch.specs.Texts.{hex_text, full_text};
-ghost use Rattle.const_hex.specs.Bodies.{body_of, lowered};
-ghost use Rattle.const_hex.specs.Answers.{IsOdd, AreBytes, Reads, ReadsSized, ReadsWithin, Leaves, all_digits, is_text_of};
+ghost use Rattle.std.specs.Prelude.{◌≡◌, ◌≢◌, ◌*◌, ◌↔◌, false, length, IfOk, IfErr, IsTrue, Result, Ok, Err};
+ghost use Rattle.const_hex.specs.Results.{body_of, IsOdd, Reads, ReadsSized, all_digits, Decodes, DecodesToSlice, DecodesToFront, DecodesToArray};
 ghost use Rattle.const_hex.specs.declared.error.FromHexError.{FromHexError};
 ghost use Rattle.const_hex.specs.declared.error.FromHexError.TheVariants.{OddLength, NoMemory};
 
-use crate::codec::body::{bad_character, decode_body, even_body};
+use crate::codec::body::{decode_body, find_invalid_character, strip_even};
 use crate::error::FromHexError;
+use crate::reserved::decode_reserved;
 use const_hex_arch::{FixedKernel, Kernel};
 use std::alloc::Global;
 
@@ -18,7 +17,7 @@ use std::alloc::Global;
 ///
 /// - [`FromHexError::OddLength`], before anything is allocated;
 /// - [`FromHexError::NoMemory`], if memory cannot be allocated;
-/// - [`FromHexError::InvalidHexCharacter`], with the first byte behind the prefix that is not a
+/// - [`FromHexError::InvalidHexCharacter`], with the first byte after the prefix that is not a
 ///   digit.
 ///
 /// ```rust
@@ -26,19 +25,7 @@ use std::alloc::Global;
 /// assert_eq!(rt; bytes.as_slice(), b"kiwi".as_slice());
 /// ```
 pub fn decode(alloc: Global, input: &[u8]) -> Result<Vec<u8>, FromHexError>
-    ensures ok { IfOk result (λ v. Reads input.now (Ok v.items)) }
-    ensures err { IfErr result (λ e. e ≢ NoMemory → Reads input.now (Err e)) }
-    ensures odd { (result ≡ Err OddLength) ↔ IsOdd (length input.now) }
-
-    // What was encoded is decoded to the same bytes.
-    ensures round_trip { (prefix up : Bool) (bs : List ℕ) → AreBytes bs
-        → input.now ≡ full_text prefix up bs
-        → MatchResult result (λ v. v.items ≡ bs) (λ e. e ≡ NoMemory) }
-    // The text of the bytes is the body in lowercase.
-    ensures canonical { IfOk result (λ v. hex_text false v.items ≡ lowered (body_of input.now)) }
-    // Another text gives the same bytes exactly if the two bodies differ only in case.
-    ensures agree { (t bs : List ℕ) → Reads t (Ok bs)
-        → IfOk result (λ v. (bs ≡ v.items) ↔ (lowered (body_of t) ≡ lowered (body_of input.now))) }
+    ensures { Decodes (λ v. v.items) input.now result }
 {
     decode_with::<FixedKernel>(alloc, input)
 }
@@ -52,19 +39,7 @@ pub fn decode(alloc: Global, input: &[u8]) -> Result<Vec<u8>, FromHexError>
 /// ```
 #[inline]
 pub fn decode_with<K: Kernel>(alloc: Global, input: &[u8]) -> Result<Vec<u8>, FromHexError>
-    ensures ok { IfOk result (λ v. Reads input.now (Ok v.items)) }
-    ensures err { IfErr result (λ e. e ≢ NoMemory → Reads input.now (Err e)) }
-    ensures odd { (result ≡ Err OddLength) ↔ IsOdd (length input.now) }
-
-    // What was encoded is decoded to the same bytes.
-    ensures round_trip { (prefix up : Bool) (bs : List ℕ) → AreBytes bs
-        → input.now ≡ full_text prefix up bs
-        → MatchResult result (λ v. v.items ≡ bs) (λ e. e ≡ NoMemory) }
-    // The text of the bytes is the body in lowercase.
-    ensures canonical { IfOk result (λ v. hex_text false v.items ≡ lowered (body_of input.now)) }
-    // Another text gives the same bytes exactly if the two bodies differ only in case.
-    ensures agree { (t bs : List ℕ) → Reads t (Ok bs)
-        → IfOk result (λ v. (bs ≡ v.items) ↔ (lowered (body_of t) ≡ lowered (body_of input.now))) }
+    ensures { Decodes (λ v. v.items) input.now result }
 {
     decode_owned::<K>(alloc, input)
 }
@@ -76,15 +51,10 @@ fn decode_owned<K: Kernel>(alloc: Global, input: &[u8]) -> Result<Vec<u8>, FromH
     ensures err { IfErr result (λ e. e ≢ NoMemory → Reads input.now (Err e)) }
     ensures odd { (result ≡ Err OddLength) ↔ IsOdd (length input.now) }
 {
-    let body = even_body(input)?;
-    if body.is_empty() {
-        return Ok(Vec::new(alloc));
+    match decode_reserved::<K>(alloc, strip_even(input)?)? {
+        Some(bytes) => Ok(bytes),
+        None => Err(find_invalid_character(input)),
     }
-    let mut bytes = vec![in alloc; 0u8; body.len() / 2]?;
-    if !decode_body::<K>(body, &mut bytes) {
-        return Err(bad_character(input));
-    }
-    Ok(bytes)
 }
 
 /// Fills the output with the bytes that a text spells, with or without a prefix, in either case.
@@ -94,8 +64,8 @@ fn decode_owned<K: Kernel>(alloc: Global, input: &[u8]) -> Result<Vec<u8>, FromH
 /// - [`FromHexError::OddLength`], and the output is unchanged;
 /// - [`FromHexError::InvalidStringLength`], if the text spells another number of bytes than the
 ///   output has, and the output is unchanged;
-/// - [`FromHexError::InvalidHexCharacter`]. A front of the output may be decoded, no longer than
-///   the pairs before the bad byte, and the rest is unchanged.
+/// - [`FromHexError::InvalidHexCharacter`]. Bytes that stand before the invalid character may
+///   have been decoded into the output. Its rest is unchanged.
 ///
 /// Does not allocate.
 ///
@@ -106,9 +76,7 @@ fn decode_owned<K: Kernel>(alloc: Global, input: &[u8]) -> Result<Vec<u8>, FromH
 /// ```
 #[inline]
 pub fn decode_to_slice(input: &[u8], output: &mut [u8]) -> Result<(), FromHexError>
-    ensures ok { IfOk result (λ _. ReadsSized input.now (length output.old) (Ok output.new)) }
-    ensures err { IfErr result (λ e. ReadsSized input.now (length output.old) (Err e)) }
-    ensures after_error { IfErr result (λ e. Leaves input.now output.old output.new e) }
+    ensures { DecodesToSlice false input.now output.old output.new result }
 {
     decode_to_slice_with::<FixedKernel>(input, output)
 }
@@ -123,17 +91,14 @@ pub fn decode_to_slice(input: &[u8], output: &mut [u8]) -> Result<(), FromHexErr
 /// ```
 #[inline]
 pub fn decode_to_slice_with<K: Kernel>(input: &[u8], output: &mut [u8]) -> Result<(), FromHexError>
-    ensures ok { IfOk result (λ _. ReadsSized input.now (length output.old) (Ok output.new)) }
-    ensures err { IfErr result (λ e. ReadsSized input.now (length output.old) (Err e)) }
-    ensures after_error { IfErr result (λ e. Leaves input.now output.old output.new e) }
-    ensures unchanged { K.USE_CHECK_FN ≡ true → OnErr result (output.new ≡ output.old) }
+    ensures { DecodesToSlice K.USE_CHECK_FN input.now output.old output.new result }
 {
-    let body = even_body(input)?;
+    let body = strip_even(input)?;
     if body.len() / 2 != output.len() {
         return Err(FromHexError::InvalidStringLength);
     }
     if !decode_body::<K>(body, output) {
-        return Err(bad_character(input));
+        return Err(find_invalid_character(input));
     }
     Ok(())
 }
@@ -149,8 +114,8 @@ pub fn decode_to_slice_with<K: Kernel>(input: &[u8], output: &mut [u8]) -> Resul
 /// - [`FromHexError::OddLength`], and the output is unchanged;
 /// - [`FromHexError::InvalidStringLength`], if the text spells more bytes than the output has, and
 ///   the output is unchanged;
-/// - [`FromHexError::InvalidHexCharacter`]. A front of the output may be decoded, no longer than
-///   the pairs before the bad byte, and the rest is unchanged.
+/// - [`FromHexError::InvalidHexCharacter`]. Bytes that stand before the invalid character may
+///   have been decoded into the output. Its rest is unchanged.
 ///
 /// Does not allocate.
 ///
@@ -161,11 +126,7 @@ pub fn decode_to_slice_with<K: Kernel>(input: &[u8], output: &mut [u8]) -> Resul
 /// ```
 #[inline]
 pub fn decode_to_front(input: &[u8], output: &mut [u8]) -> Result<usize, FromHexError>
-    ensures ok { IfOk result (λ n. ReadsWithin input.now (length output.old) (Ok (take n output.new))) }
-    ensures count { IfOk result (λ n. length (body_of input.now) ≡ 2 * n) }
-    ensures rest { IfOk result (λ n. drop n output.new ≡ drop n output.old) }
-    ensures err { IfErr result (λ e. ReadsWithin input.now (length output.old) (Err e)) }
-    ensures after_error { IfErr result (λ e. Leaves input.now output.old output.new e) }
+    ensures { DecodesToFront input.now output.old output.new result }
 {
     decode_to_front_with::<FixedKernel>(input, output)
 }
@@ -183,19 +144,15 @@ pub fn decode_to_front_with<K: Kernel>(
     input: &[u8],
     output: &mut [u8],
 ) -> Result<usize, FromHexError>
-    ensures ok { IfOk result (λ n. ReadsWithin input.now (length output.old) (Ok (take n output.new))) }
-    ensures count { IfOk result (λ n. length (body_of input.now) ≡ 2 * n) }
-    ensures rest { IfOk result (λ n. drop n output.new ≡ drop n output.old) }
-    ensures err { IfErr result (λ e. ReadsWithin input.now (length output.old) (Err e)) }
-    ensures after_error { IfErr result (λ e. Leaves input.now output.old output.new e) }
+    ensures { DecodesToFront input.now output.old output.new result }
 {
-    let body = even_body(input)?;
+    let body = strip_even(input)?;
     let count = body.len() / 2;
     if count > output.len() {
         return Err(FromHexError::InvalidStringLength);
     }
     if !decode_body::<K>(body, &mut output[..count]) {
-        return Err(bad_character(input));
+        return Err(find_invalid_character(input));
     }
     Ok(count)
 }
@@ -203,7 +160,7 @@ pub fn decode_to_front_with<K: Kernel>(
 /// The N bytes that a text spells, with or without a prefix, in either case.
 ///
 /// The first of these errors is returned: [`FromHexError::OddLength`];
-/// [`FromHexError::InvalidStringLength`], if the text behind the prefix does not have 2 * N bytes;
+/// [`FromHexError::InvalidStringLength`], if the text after the prefix does not have 2 * N bytes;
 /// [`FromHexError::InvalidHexCharacter`]. Does not allocate.
 ///
 /// ```rust
@@ -212,15 +169,7 @@ pub fn decode_to_front_with<K: Kernel>(
 /// ```
 #[inline]
 pub fn decode_to_array<const N: usize>(input: &[u8]) -> Result<[u8; N], FromHexError>
-    ensures answer { ReadsSized input.now N result }
-    // For a constant text this computes, so the check proves an `unwrap`.
-    ensures accepts { IsOk result ↔ IsTrue (is_text_of N input.now) }
-    // What was encoded of N bytes is decoded to the same bytes.
-    ensures round_trip { (prefix up : Bool) (bs : List ℕ) → AreBytes bs → length bs ≡ N
-        → input.now ≡ full_text prefix up bs → result ≡ Ok bs }
-    // Another text gives the same bytes exactly if the two bodies differ only in case.
-    ensures agree { (t bs : List ℕ) → ReadsSized t N (Ok bs)
-        → IfOk result (λ v. (bs ≡ v) ↔ (lowered (body_of t) ≡ lowered (body_of input.now))) }
+    ensures { DecodesToArray N input.now result }
 {
     read_array(input)
 }
@@ -243,11 +192,7 @@ fn read_array<const N: usize>(input: &[u8]) -> Result<[u8; N], FromHexError>
 /// ```
 #[inline]
 pub fn const_decode_to_array<const N: usize>(input: &[u8]) -> Result<[u8; N], FromHexError>
-    ensures answer { ReadsSized input.now N result }
-    // For a constant text this computes, so the check proves an `unwrap`.
-    ensures accepts { IsOk result ↔ IsTrue (is_text_of N input.now) }
-    // This is the only answer that meets `ReadsSized`.
-    ensures unique { (r : Result (List ℕ) FromHexError) → ReadsSized input.now N r → r ≡ result }
+    ensures { DecodesToArray N input.now result }
 {
     decode_to_array(input)
 }

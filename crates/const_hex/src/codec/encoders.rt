@@ -1,15 +1,16 @@
 //! From bytes to text.
 
-ghost use Rattle.std.specs.Prelude.{◌≡◌, ◌*◌, ◌+◌, ◌++◌, ℕ, List, true, false, length, IsTrue, IsOk, OnOk, OnErr, IfOk, IfErr, Err, ◌↔◌, string_bytes};
+ghost use Rattle.std.specs.Prelude.{◌≡◌, ◌*◌, true, false, length, IsTrue, IsOk, IfOk, IfErr, Err, ◌↔◌, string_bytes};
 ghost use Rattle.std.specs.Borrow.{sem};
 ghost use Rattle.std.specs.Str.{IsAscii};
 ghost use Rattle.const_hex_arch.specs.Texts.{hex_text, full_text, text_length};
-ghost use Rattle.const_hex.specs.Loans.{EndsEncoded};
+ghost use Rattle.const_hex.specs.Buffers.{EndsEncoded};
+ghost use Rattle.const_hex.specs.Results.{Encodes, EncodesToSlice};
 ghost use Rattle.const_hex.specs.declared.error.FromHexError.TheVariants.{InvalidStringLength};
 
 use crate::error::FromHexError;
-use crate::reserved::reserved_bytes;
-use const_hex_arch::{FixedKernel, Kernel, ascii_text, fill_text};
+use crate::reserved::encode_reserved;
+use const_hex_arch::{FixedKernel, Kernel, ascii_text, fill_text, text_length};
 use std::alloc::{AllocError, Global};
 
 /// The text, as a `String`.
@@ -22,7 +23,8 @@ fn encode_owned<K: Kernel>(
 ) -> Result<String, AllocError>
     ensures { IfOk result (λ s. string_bytes s ≡ full_text prefix upper input.now) }
 {
-    let text = reserved_bytes::<K>(alloc, input, prefix, upper)?;
+    let text = encode_reserved::<K>(alloc, input, prefix, upper)?;
+    // SAFETY: the text is ASCII.
     Ok(unsafe { String::from_utf8_unchecked(text) })
 }
 
@@ -35,9 +37,7 @@ fn encode_owned<K: Kernel>(
 /// assert_eq!(rt; text.as_str(), "48656c6c6f20776f726c6421");
 /// ```
 pub fn encode(alloc: Global, input: &[u8]) -> Result<String, AllocError>
-    ensures text { IfOk result (λ s. string_bytes s ≡ hex_text false input.now) }
-    ensures append { (xs ys : List ℕ) → input.now ≡ xs ++ ys
-        → IfOk result (λ s. string_bytes s ≡ hex_text false xs ++ hex_text false ys) }
+    ensures { Encodes false input.now result }
 {
     encode_with::<FixedKernel, false>(alloc, input)
 }
@@ -51,9 +51,7 @@ pub fn encode(alloc: Global, input: &[u8]) -> Result<String, AllocError>
 /// assert_eq!(rt; text.as_str(), "6B697769");
 /// ```
 pub fn encode_upper(alloc: Global, input: &[u8]) -> Result<String, AllocError>
-    ensures text { IfOk result (λ s. string_bytes s ≡ hex_text true input.now) }
-    ensures append { (xs ys : List ℕ) → input.now ≡ xs ++ ys
-        → IfOk result (λ s. string_bytes s ≡ hex_text true xs ++ hex_text true ys) }
+    ensures { Encodes true input.now result }
 {
     encode_with::<FixedKernel, true>(alloc, input)
 }
@@ -99,19 +97,18 @@ pub fn encode_with<K: Kernel, const UPPER: bool>(
     alloc: Global,
     input: &[u8],
 ) -> Result<String, AllocError>
-    ensures text { IfOk result (λ s. string_bytes s ≡ hex_text UPPER input.now) }
-    ensures append { (xs ys : List ℕ) → input.now ≡ xs ++ ys
-        → IfOk result (λ s. string_bytes s ≡ hex_text UPPER xs ++ hex_text UPPER ys) }
+    ensures { Encodes UPPER input.now result }
 {
     encode_owned::<K>(alloc, input, false, UPPER)
 }
 
-/// Whether there are exactly two digits for each byte. No length is too large for this test.
+/// Whether there are exactly two digits for each byte.
 #[inline(always)]
 fn two_per_byte(bytes: usize, digits: usize) -> bool
     ensures { IsTrue result ↔ (digits ≡ 2 * bytes) }
 {
-    bytes <= digits && digits - bytes == bytes
+    // `text_length` stops at the greatest number, which is odd.
+    digits % 2 == 0 && digits == text_length(false, bytes)
 }
 
 /// Fills an output of the text's length with the text, and returns it.
@@ -138,10 +135,7 @@ fn encode_into<'a>(input: &[u8], upper: bool, output: &'a mut [u8]) -> &'a mut [
 /// ```
 #[inline]
 pub fn encode_to_slice(input: &[u8], output: &mut [u8]) -> Result<(), FromHexError>
-    ensures fits { IsOk result ↔ (length output.old ≡ 2 * length input.now) }
-    ensures text { OnOk result (output.new ≡ hex_text false input.now) }
-    ensures refusal { OnErr result (result ≡ Err InvalidStringLength) }
-    ensures unchanged { OnErr result (output.new ≡ output.old) }
+    ensures { EncodesToSlice (2 * length input.now) (hex_text false input.now) output.old output.new result }
 {
     encode_full_to_slice(input, false, false, output)
 }
@@ -155,10 +149,7 @@ pub fn encode_to_slice(input: &[u8], output: &mut [u8]) -> Result<(), FromHexErr
 /// ```
 #[inline]
 pub fn encode_to_slice_upper(input: &[u8], output: &mut [u8]) -> Result<(), FromHexError>
-    ensures fits { IsOk result ↔ (length output.old ≡ 2 * length input.now) }
-    ensures text { OnOk result (output.new ≡ hex_text true input.now) }
-    ensures refusal { OnErr result (result ≡ Err InvalidStringLength) }
-    ensures unchanged { OnErr result (output.new ≡ output.old) }
+    ensures { EncodesToSlice (2 * length input.now) (hex_text true input.now) output.old output.new result }
 {
     encode_full_to_slice(input, false, true, output)
 }
@@ -182,10 +173,8 @@ pub fn encode_full_to_slice(
     upper: bool,
     output: &mut [u8],
 ) -> Result<(), FromHexError>
-    ensures fits { IsOk result ↔ (length output.old ≡ text_length prefix (length input.now)) }
-    ensures text { OnOk result (output.new ≡ full_text prefix upper input.now) }
-    ensures refusal { OnErr result (result ≡ Err InvalidStringLength) }
-    ensures unchanged { OnErr result (output.new ≡ output.old) }
+    ensures { EncodesToSlice (text_length prefix (length input.now)) (full_text prefix upper input.now)
+        output.old output.new result }
 {
     encode_full_to_slice_with::<FixedKernel>(input, prefix, upper, output)
 }
@@ -204,13 +193,10 @@ pub fn encode_full_to_slice_with<K: Kernel>(
     upper: bool,
     output: &mut [u8],
 ) -> Result<(), FromHexError>
-    ensures fits { IsOk result ↔ (length output.old ≡ text_length prefix (length input.now)) }
-    ensures text { OnOk result (output.new ≡ full_text prefix upper input.now) }
-    ensures refusal { OnErr result (result ≡ Err InvalidStringLength) }
-    ensures unchanged { OnErr result (output.new ≡ output.old) }
+    ensures { EncodesToSlice (text_length prefix (length input.now)) (full_text prefix upper input.now)
+        output.old output.new result }
 {
-    let digits = output.len().checked_sub(if prefix { 2 } else { 0 });
-    if !digits.is_some_and(|digits| two_per_byte(input.len(), digits)) {
+    if output.len() != text_length(prefix, input.len()) {
         return Err(FromHexError::InvalidStringLength);
     }
     fill_text::<K>(input, prefix, upper, output);
@@ -230,7 +216,7 @@ pub fn encode_full_to_slice_with<K: Kernel>(
 pub fn encode_to_str<'a>(input: &[u8], output: &'a mut [u8]) -> Result<&'a str, FromHexError>
     ensures fits { IsOk result ↔ (length output.entry.now ≡ 2 * length input.now) }
     ensures lends { IfOk result (λ text. text.now ≡ hex_text false input.now) }
-    ensures refusal { IfErr result (λ e. e ≡ InvalidStringLength) }
+    ensures error { IfErr result (λ e. e ≡ InvalidStringLength) }
     ensures* after { sem 𝓛 (EndsEncoded false input.now output.entry result) }
 {
     if !two_per_byte(input.len(), output.len()) {
@@ -249,7 +235,7 @@ pub fn encode_to_str<'a>(input: &[u8], output: &'a mut [u8]) -> Result<&'a str, 
 pub fn encode_to_str_upper<'a>(input: &[u8], output: &'a mut [u8]) -> Result<&'a str, FromHexError>
     ensures fits { IsOk result ↔ (length output.entry.now ≡ 2 * length input.now) }
     ensures lends { IfOk result (λ text. text.now ≡ hex_text true input.now) }
-    ensures refusal { IfErr result (λ e. e ≡ InvalidStringLength) }
+    ensures error { IfErr result (λ e. e ≡ InvalidStringLength) }
     ensures* after { sem 𝓛 (EndsEncoded true input.now output.entry result) }
 {
     if !two_per_byte(input.len(), output.len()) {

@@ -1,6 +1,6 @@
 //! Why a JSON value cannot be read into a type.
 
-ghost use Rattle.const_hex.specs.Json.{json_message};
+ghost use Rattle.const_hex.specs.Types.{json_message};
 
 use std::error::Error;
 use std::fmt;
@@ -28,7 +28,7 @@ impl<E: fmt::Display> fmt::Display for JsonError<E> {
     fn fmt<W: fmt::Write>(&self, f: &mut fmt::Formatter<W>) -> fmt::Result {
         match self {
             JsonError::NotText => f.write_str("expected a hex encoded string"),
-            JsonError::Hex(refusal) => write!(f, "{refusal}"),
+            JsonError::Hex(error) => write!(f, "{error}"),
         }
     }
 }

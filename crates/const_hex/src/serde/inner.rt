@@ -2,8 +2,8 @@
 
 ghost use Rattle.std.specs.Prelude.{◌≡◌, ◌+◌, ◌*◌, ◌<◌, ◌≤◌, false, not, is_ok, length};
 ghost use Rattle.const_hex_arch.specs.Texts.{full_text};
-ghost use Rattle.const_hex_arch.specs.Streams.{Streams, TellsCut};
-ghost use Rattle.const_hex.specs.Json.{TellsWhole};
+ghost use Rattle.const_hex_arch.specs.Sinks.{Streams, TellsCut};
+ghost use Rattle.const_hex.specs.Writers.{TellsWhole};
 
 use const_hex_arch::{
     BufferedHex, FixedKernel, Sink, SinkError, ascii_text, fill_text, text_length,
@@ -43,12 +43,12 @@ pub fn serialize_inner<const UPPER: bool, const PREFIX: bool, S: Sink>(
         return BufferedHex::<UPPER, PREFIX>::new(bytes).write_to(sink);
     }
     let mut buffer = [0; 2 + 2 * AT_ONCE];
-    sink.write_str(text_in(&mut buffer, bytes, PREFIX, UPPER))
+    sink.write_str(write_text(&mut buffer, bytes, PREFIX, UPPER))
 }
 
 /// The text, at the start of a buffer that has room for it and a prefix.
 #[inline(always)]
-fn text_in<'a>(buffer: &'a mut [u8], bytes: &[u8], prefix: bool, upper: bool) -> &'a str
+fn write_text<'a>(buffer: &'a mut [u8], bytes: &[u8], prefix: bool, upper: bool) -> &'a str
     requires { 2 + 2 * length bytes.now ≤ length buffer.old }
     ensures { result.now ≡ full_text prefix upper bytes.now }
 {

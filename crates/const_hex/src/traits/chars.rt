@@ -26,7 +26,7 @@ pub struct BytesToHexChars<'a, const UPPER: bool> {
 }
 
 impl<'a, const UPPER: bool> BytesToHexChars<'a, UPPER> {
-    ghost use Rattle.const_hex.specs.Chars.{chars_left};
+    ghost use Rattle.const_hex.specs.Types.{chars_left};
 
     /// The characters of these bytes, from the first.
     ///
@@ -42,7 +42,7 @@ impl<'a, const UPPER: bool> BytesToHexChars<'a, UPPER> {
 }
 
 impl<const UPPER: bool> Iterator for BytesToHexChars<'_, UPPER> {
-    ghost use Rattle.const_hex.specs.Chars.{chars_left, exactly};
+    ghost use Rattle.const_hex.specs.Types.{chars_left, exactly};
 
     type Item = char;
 

@@ -2,9 +2,8 @@
 
 ghost use Rattle.std.specs.Prelude.{◌≡◌, length, map};
 ghost use Rattle.std.specs.Box.{boxed_slice_items};
-ghost use Rattle.const_hex.specs.Answers.{ReadsSized};
-ghost use Rattle.const_hex.specs.Elements.{signed_of, byte_of};
-ghost use Rattle.const_hex.specs.Types.{AnyCount, IsCount, ReadsOwned, ReadsSigned};
+ghost use Rattle.const_hex.specs.Results.{ReadsSized};
+ghost use Rattle.const_hex.specs.Types.{signed_of, byte_of, AnyCount, IsCount, ReadsOwned, ReadsSigned};
 ghost use Rattle.const_hex.specs.TypeLaws.{ReadsOwned-faithful, ReadsSized-faithful, ReadsSigned-faithful};
 
 use crate::codec::decoders::{decode, decode_to_array};

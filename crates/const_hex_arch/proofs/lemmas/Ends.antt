@@ -6,9 +6,8 @@ use Rattle.std.proofs.lemmas.List.Elements.{All-take, All-drop}
 use Rattle.std.proofs.Math.Seq.{take-append-add, drop-append-add}
 use Rattle.std.proofs.lemmas.Simd.{length-put_chunk, take_more_put_chunk}
 use lib.Lanes.{put_chunk}
-use Rattle.const_hex_arch.specs.Digits.{IsDigit}
-use Rattle.const_hex_arch.specs.SliceOutputs.{Placed}
-use Rattle.const_hex_arch.specs.Texts.{hex_text, AllDigits, Spells}
+use Rattle.const_hex_arch.specs.Texts.{IsDigit, hex_text, AllDigits, Spells}
+use Rattle.const_hex_arch.specs.Outputs.{Placed}
 use Rattle.const_hex_arch.proofs.lemmas.SliceRuns.{Placed-more}
 use Rattle.const_hex_arch.proofs.lemmas.Spelling.{digits_append, Spells-append, Spells-parts}
 use Rattle.const_hex_arch.proofs.lemmas.Steps.{digits_last}

@@ -5,10 +5,8 @@ use Rattle.std.proofs.lemmas.Grind.{common_steps}
 use Rattle.std.proofs.lemmas.List.{map-append}
 use Rattle.std.proofs.lemmas.Simd.{put_chunk_whole}
 use lib.Lanes.{number_l, digits_l, put_chunk}
-use Rattle.const_hex_arch.specs.Digits.{hex_value}
-use Rattle.const_hex_arch.specs.Lanes.{AllNibbles, byte_pairs}
-use Rattle.const_hex_arch.specs.Nibbles.{as_value, IsValueOf}
-use Rattle.const_hex_arch.specs.Texts.{AllDigits, Spells}
+use Rattle.const_hex_arch.specs.Texts.{hex_value, AllDigits, Spells}
+use Rattle.const_hex_arch.specs.Lanes.{AllNibbles, byte_pairs, as_value, IsValueOf}
 use Rattle.const_hex_arch.proofs.lemmas.Tables.{every_pair}
 use Rattle.const_hex_arch.proofs.lemmas.LaneValues.{values_of_digits, small_values}
 use Rattle.const_hex_arch.proofs.lemmas.Spelling.{digits_append, IsPair-of}

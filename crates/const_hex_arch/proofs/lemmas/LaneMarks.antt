@@ -12,10 +12,8 @@ use Rattle.std.proofs.lemmas.Nat.Bits.{bit_at_or}
 use Rattle.std.proofs.lemmas.Simd.{swz_l}
 use lib.Lanes.{zip2, fold_l, sel_l, top, Each1}
 use mir.Val.{zeroes}
-use Rattle.const_hex_arch.specs.Digits.{hex_value, IsDigit}
-use Rattle.const_hex_arch.specs.Lanes.{IsUnmarked, AllUnmarked}
-use Rattle.const_hex_arch.specs.Nibbles.{as_value, IsValueOf, IsPartOf, IsLimitOf}
-use Rattle.const_hex_arch.specs.Texts.{AllDigits}
+use Rattle.const_hex_arch.specs.Texts.{hex_value, IsDigit, AllDigits}
+use Rattle.const_hex_arch.specs.Lanes.{IsUnmarked, AllUnmarked, as_value, IsValueOf, IsPartOf, IsLimitOf}
 use Rattle.const_hex_arch.proofs.lemmas.Tables.{all_below, every_below}
 use Rattle.const_hex_arch.proofs.lemmas.LaneValues.{same_value, is_none, same_if_some, sub8, min_l, below_mask}
 use Rattle.const_hex_arch.proofs.lemmas.Spelling.{digits_append}

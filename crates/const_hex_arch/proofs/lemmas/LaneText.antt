@@ -4,9 +4,8 @@ use Rattle.std.specs.List.{range_with_len, concat}
 use Rattle.std.proofs.lemmas.List.{append-nil, ext_get_or, get_or-map, length-map}
 use Rattle.std.proofs.lemmas.Simd.{Each1-get_or, SwzOk, SwzOk-from_below, length-put_chunk, take_more_put_chunk, swz_l, length-swz_l, get_or-swz_l_below}
 use lib.Lanes.{zip2, Each1, pick_l, put_chunk, number_l, digits_l}
-use Rattle.const_hex_arch.specs.Digits.{hex_digit}
+use Rattle.const_hex_arch.specs.Texts.{hex_digit, hex_text}
 use Rattle.const_hex_arch.specs.Lanes.{AllNibbles, halves_of}
-use Rattle.const_hex_arch.specs.Texts.{hex_text}
 use Rattle.const_hex_arch.proofs.lemmas.Tables.{all_below, every_below, every_pair}
 use Rattle.const_hex_arch.proofs.lemmas.Texts.{hex_text-append}
 use Rattle.const_hex_arch.proofs.lemmas.LaneLookups.{halves}

@@ -4,10 +4,8 @@ use Rattle.std.specs.List.{AllZip}
 use Rattle.std.proofs.lemmas.Bool.Decides.{nat_tests}
 use Rattle.std.proofs.lemmas.List.Elements.{All-head, All-tail}
 use lib.Lanes.{zip2, sel_l, top, Each1}
-use Rattle.const_hex_arch.specs.Digits.{hex_digit, hex_value, IsDigit}
-use Rattle.const_hex_arch.specs.Texts.{AllDigits}
-use Rattle.const_hex_arch.specs.Lanes.{AllNibbles}
-use Rattle.const_hex_arch.specs.Nibbles.{as_value, IsValueOf}
+use Rattle.const_hex_arch.specs.Texts.{hex_digit, hex_value, IsDigit, AllDigits}
+use Rattle.const_hex_arch.specs.Lanes.{AllNibbles, as_value, IsValueOf}
 use Rattle.const_hex_arch.proofs.lemmas.Tables.{every_below}
 use Rattle.const_hex_arch.proofs.lemmas.Spelling.{false_is_true, hex_value-small}
 

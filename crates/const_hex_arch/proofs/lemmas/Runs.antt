@@ -5,8 +5,7 @@ use Rattle.std.specs.List.{FoldsTo, concat}
 use Rattle.std.proofs.lemmas.List.{append-nil}
 use Rattle.std.proofs.lemmas.List.Elements.{All-nil, All-cons, All-append}
 use Rattle.std.proofs.lemmas.List.Folds.{concat-append}
-use Rattle.const_hex_arch.specs.Gathering.{Gathers, piece_of}
-use Rattle.const_hex_arch.specs.Runs.{HasRoom, less_room, IsKernelPiece, Writes}
+use Rattle.const_hex_arch.specs.Outputs.{Gathers, piece_of, HasRoom, less_room, IsKernelPiece, Writes}
 pub use Rattle.const_hex_arch.specs.Laws.{less_room-add, run_shrinks}
 
 -- what is left of the room after m bytes

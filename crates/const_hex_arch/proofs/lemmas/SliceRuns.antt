@@ -5,7 +5,7 @@ use Rattle.std.proofs.lemmas.Grind.{common_steps}
 use Rattle.std.proofs.Math.Seq.{take-append_seam, drop-append-add}
 use Rattle.std.specs.List.{FoldsTo, concat}
 use Rattle.const_hex_arch.specs.declared.output.slice.SliceOutput.{SliceOutput}
-use Rattle.const_hex_arch.specs.SliceOutputs.{Placed, SliceStep, slice_bytes, slice_written}
+use Rattle.const_hex_arch.specs.Outputs.{Placed, SliceStep, slice_bytes, slice_written}
 
 placed_none : (old : List ℕ) (at : ℕ) → Placed old at [] old at
 placed_none old at = record { end_at = grind arith; same_length = refl; bytes = grind (arith, common_steps) }

@@ -5,8 +5,7 @@ use Rattle.std.proofs.lemmas.Grind.{common_steps}
 use Rattle.std.proofs.lemmas.List.{get_or-take, take_more, append_assoc, take_at, drop_at}
 use Rattle.std.proofs.lemmas.List.Elements.{All-nil, All-cons, All-head, All-tail, All-append, All-take, All-drop, All-get_or, All-more, All-same}
 use Rattle.const_hex_arch.specs.declared.tables.TheConstants.{HEX_DECODE_LUT}
-use Rattle.const_hex_arch.specs.Digits.{hex_value, value_or_nil, IsDigit}
-use Rattle.const_hex_arch.specs.Texts.{IsPair, Spells, AllDigits, FirstBad, Partial}
+use Rattle.const_hex_arch.specs.Texts.{hex_value, value_or_nil, IsDigit, IsPair, Spells, AllDigits, FirstBad, Partial}
 use Rattle.const_hex_arch.proofs.lemmas.Tables.{every_below}
 
 pub false_is_true : false ≡ Rattle.std.proofs.Common.true → ⊥

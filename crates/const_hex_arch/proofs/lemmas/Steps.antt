@@ -5,9 +5,8 @@ use Rattle.std.proofs.lemmas.List.{append-nil, append_assoc, take_at, drop_at, t
 use Rattle.std.proofs.lemmas.List.Elements.{All-take, All-drop}
 use Rattle.std.proofs.lemmas.Slice.{take-put_mid, drop-put_mid}
 use borrow.Rule.Slice.PartMut.{put_mid}
-use Rattle.const_hex_arch.specs.Digits.{IsDigit}
-use Rattle.const_hex_arch.specs.Runs.{HasRoom, less_room, Writes}
-use Rattle.const_hex_arch.specs.Texts.{hex_text, AllDigits, Spells, Partial}
+use Rattle.const_hex_arch.specs.Texts.{IsDigit, hex_text, AllDigits, Spells, Partial}
+use Rattle.const_hex_arch.specs.Outputs.{HasRoom, less_room, Writes}
 use Rattle.const_hex_arch.proofs.lemmas.Runs.{HasRoom-less, Writes-none, Writes-more}
 use Rattle.const_hex_arch.proofs.lemmas.Spelling.{Spells-append, Spells-parts, digits_append, none_decoded, Partial-after}
 use Rattle.const_hex_arch.proofs.lemmas.Texts.{hex_text-nil, hex_text-append, length-hex_text}

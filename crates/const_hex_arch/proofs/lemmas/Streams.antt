@@ -7,11 +7,9 @@ use Rattle.std.proofs.Math.Nat.{le-div_iff_mul-le}
 use Rattle.std.proofs.lemmas.List.{append-nil, append_assoc, take_all, take_at}
 use Rattle.std.proofs.lemmas.List.Elements.{All-nil, All-cons, All-head, All-tail, All-append, All-take, All-weaker, All-same}
 use Rattle.std.proofs.lemmas.List.Folds.{concat-append}
-use Rattle.const_hex_arch.specs.Runs.{Writes, IsKernelPiece}
-use Rattle.const_hex_arch.specs.Gathering.{Gathers, piece_of, FlushesPending}
-use Rattle.const_hex_arch.specs.Sinks.{SinkStep, output_sink, sink_name, told_after}
+use Rattle.const_hex_arch.specs.Outputs.{Writes, IsKernelPiece, Gathers, piece_of, FlushesPending}
+use Rattle.const_hex_arch.specs.Sinks.{SinkStep, output_sink, sink_name, told_after, IsCallPiece, IsLargePiece, all_but_last, Cut, Offers, Streams, Handed}
 use Rattle.const_hex_arch.specs.declared.sink.output.SinkOutput.{SinkOutput}
-use Rattle.const_hex_arch.specs.Streams.{IsCallPiece, IsLargePiece, all_but_last, Cut, Offers, Streams, Handed}
 use Rattle.const_hex_arch.proofs.lemmas.Runs.{run_append, concat-piece_of}
 
 -- ---- what a run of small writes to a gathering output hands on

@@ -5,8 +5,7 @@ use Rattle.std.proofs.lemmas.Bool.Decides.{nat_tests}
 use Rattle.std.proofs.lemmas.List.{append_assoc, take_more}
 use Rattle.std.proofs.lemmas.Str.{IsUtf8-from_ascii}
 use Rattle.std.proofs.lemmas.Str.Ascii.{IsAscii-nil, IsAscii-cons}
-use Rattle.const_hex_arch.specs.Digits.{hex_value, hex_digit}
-use Rattle.const_hex_arch.specs.Texts.{hex_text, prefix_of, full_text, text_length, Spells}
+use Rattle.const_hex_arch.specs.Texts.{hex_value, hex_digit, hex_text, prefix_of, full_text, text_length, Spells}
 
 pub hex_text-nil : (up : Bool) → hex_text up [] ≡ []
 unfolding hex_text

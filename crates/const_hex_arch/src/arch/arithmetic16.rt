@@ -2,13 +2,12 @@
 
 ghost use Rattle.std.specs.Prelude.{◌≡◌, ◌*◌, ◌↔◌, [], ◌∷◌, ◌++◌, length, map, IsTrue, false};
 ghost use Rattle.std.specs.List.{AllZip, concat};
-ghost use Rattle.const_hex_arch.specs.Lanes.{AllNibbles, AllUnmarked, byte_pairs};
-ghost use Rattle.const_hex_arch.specs.Nibbles.{IsValueOf};
+ghost use Rattle.const_hex_arch.specs.Lanes.{AllNibbles, AllUnmarked, byte_pairs, IsValueOf};
 ghost use Rattle.const_hex_arch.specs.Texts.{hex_text, AllDigits};
 
 use crate::arch::lanes::{self, Vectors};
 use crate::arch::lanes16::{self, Lanes16};
-use crate::arch::{Kernel, short, steps};
+use crate::arch::{Kernel, drivers, short};
 use crate::output::Output;
 use std::simd::prelude::*;
 
@@ -31,7 +30,7 @@ impl Kernel for Arithmetic16 {
 
     #[inline(always)]
     fn encode<O: Output>(input: &[u8], upper: bool, output: &mut O) {
-        steps::encode::<8, 16, Arithmetic16, Arithmetic16, O>(input, upper, output);
+        drivers::encode_in_steps::<8, 16, Arithmetic16, Arithmetic16, O>(input, upper, output);
     }
 
     #[inline]
@@ -39,27 +38,27 @@ impl Kernel for Arithmetic16 {
         if input.len() < 16 {
             return short::check::<Arithmetic16>(input);
         }
-        steps::check::<16, Arithmetic16>(input)
+        drivers::check_in_steps::<16, Arithmetic16>(input)
     }
 
     #[inline(always)]
     fn decode_checked(input: &[u8], output: &mut [u8]) -> bool {
-        steps::decode_checked::<16, Arithmetic16, Arithmetic16>(input, output)
+        drivers::decode_in_steps::<16, Arithmetic16, Arithmetic16>(input, output)
     }
 
     #[inline(always)]
     fn decode_unchecked(input: &[u8], output: &mut [u8]) {
-        steps::decode_unchecked::<16, Arithmetic16, Arithmetic16>(input, output);
+        drivers::decode_digits_in_steps::<16, Arithmetic16, Arithmetic16>(input, output);
     }
 }
 
 impl Vectors<16> for Arithmetic16 {
     #[inline(always)]
-    fn encode(v: u8x16, upper: bool, twin: bool) -> [u8x16; 2]
+    fn digits_of(v: u8x16, upper: bool, copy: bool) -> [u8x16; 2]
         ensures text { concat result ≡ hex_text upper v }
         ensures lanes { map length result ≡ 16 ∷ 16 ∷ [] }
     {
-        let [_, factors] = *lanes16::row(upper, twin);
+        let [_, factors] = *lanes16::row(upper, copy);
         lanes16::in_two(lanes::digits(lanes16::halves(v, factors), upper))
     }
 
@@ -78,10 +77,10 @@ impl Vectors<16> for Arithmetic16 {
     }
 
     #[inline(always)]
-    fn merge(first: u8x16, second: u8x16, twin: bool) -> u8x16
+    fn merge(first: u8x16, second: u8x16, copy: bool) -> u8x16
         ensures { AllNibbles (first ++ second) → result ≡ byte_pairs (first ++ second) }
     {
-        Lanes16::merge(first, second, twin)
+        Lanes16::merge(first, second, copy)
     }
 
     ghost use Rattle.std.proofs.Common.{arith};

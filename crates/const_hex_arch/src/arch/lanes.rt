@@ -1,19 +1,17 @@
 //! The values of digits and the tests of lanes, for vectors of any number of lanes.
 
-ghost use Rattle.std.specs.Prelude.{◌≡◌, ◌-◌, ◌*◌, ◌++◌, ◌≤◌, ◌↔◌, [], ◌∷◌, length, take, drop, map, IsTrue};
+ghost use Rattle.std.specs.Prelude.{◌≡◌, ◌++◌, ◌≤◌, ◌↔◌, [], ◌∷◌, length, map, IsTrue};
 ghost use Rattle.std.specs.List.{AllZip, concat};
-ghost use Rattle.const_hex_arch.specs.Digits.{hex_digit, hex_value, IsDigit};
-ghost use Rattle.const_hex_arch.specs.Lanes.{AllNibbles, AllUnmarked, byte_pairs};
-ghost use Rattle.const_hex_arch.specs.Nibbles.{as_value, IsValueOf, IsPartOf, IsLimitOf};
-ghost use Rattle.const_hex_arch.specs.Texts.{hex_text, AllDigits, Spells};
+ghost use Rattle.const_hex_arch.specs.Texts.{hex_digit, hex_value, hex_text, AllDigits, Spells};
+ghost use Rattle.const_hex_arch.specs.Lanes.{AllNibbles, AllUnmarked, byte_pairs, as_value, IsValueOf, IsPartOf, IsLimitOf};
 
 use std::simd::prelude::*;
 
 /// What differs between vectors of different `N`. The rest of a kernel is the same for every `N`.
-/// Calls that take `twin` do the same for both values, by [`lanes16::row`](super::lanes16::row).
+/// What [`lanes16::row`](super::lanes16::row) says of `copy` holds for each call that takes one.
 pub(crate) trait Vectors<const N: usize> {
     /// Two digits for each lane, in order: the text of the first half, and the text of the second.
-    fn encode(v: Simd<u8, N>, upper: bool, twin: bool) -> [Simd<u8, N>; 2]
+    fn digits_of(v: Simd<u8, N>, upper: bool, copy: bool) -> [Simd<u8, N>; 2]
         ensures text { concat result ≡ hex_text upper v.entry }
         ensures lanes { map length result ≡ N ∷ N ∷ [] };
 
@@ -27,17 +25,20 @@ pub(crate) trait Vectors<const N: usize> {
         ensures { AllUnmarked result ↔ AllDigits v.entry };
 
     /// One byte for each two values, the higher half first.
-    fn merge(first: Simd<u8, N>, second: Simd<u8, N>, twin: bool) -> Simd<u8, N>
+    fn merge(first: Simd<u8, N>, second: Simd<u8, N>, copy: bool) -> Simd<u8, N>
         ensures { AllNibbles (first.entry ++ second.entry)
             → result ≡ byte_pairs (first.entry ++ second.entry) };
 
-    /// A step has at least one byte, and its text fits into one piece.
+    /// A step has at least one byte, so a piece is not empty. Its text has at most 64: the array of
+    /// `steps::encode_to_array`, a kernel's piece, and the `count` of `Output::write_ends`.
     ghost sizes: { (1 ≤ N) × (N ≤ 32) };
 }
 
 /// The value of each lane that is a digit, and more than 15 for every other lane.
 ///
 /// This is algorithm 3 of Wojciech Muła and Geoff Langdale, "Validating hexadecimal", 2022-01-17.
+// Compared line by line with the published arithmetic: min(satsub(v + 0xC6, 6) - 0xF0,
+// satadd((v & 0xDF) - 0x41, 10)), with sums and differences that wrap.
 #[inline(always)]
 pub(crate) fn nibbles<const N: usize>(v: Simd<u8, N>) -> Simd<u8, N>
     ensures { map as_value result ≡ map hex_value v.entry }
@@ -135,11 +136,11 @@ pub(crate) fn joint_marks<const N: usize, V: Vectors<N>>(
 pub(crate) fn decode<const N: usize, V: Vectors<N>>(
     first: Simd<u8, N>,
     second: Simd<u8, N>,
-    twin: bool,
+    copy: bool,
 ) -> Simd<u8, N>
     ensures { AllDigits (first.entry ++ second.entry) → Spells (first.entry ++ second.entry) result }
 {
-    V::merge(V::values(first), V::values(second), twin)
+    V::merge(V::values(first), V::values(second), copy)
 }
 
 /// As [`decode`], by [`unhex`], for a text that was tested before.
@@ -148,24 +149,9 @@ pub(crate) fn decode<const N: usize, V: Vectors<N>>(
 pub(crate) fn decode_digits<const N: usize, V: Vectors<N>>(
     first: Simd<u8, N>,
     second: Simd<u8, N>,
-    twin: bool,
+    copy: bool,
 ) -> Simd<u8, N>
     ensures { AllDigits (first.entry ++ second.entry) → Spells (first.entry ++ second.entry) result }
 {
-    V::merge(unhex(first), unhex(second), twin)
-}
-
-/// A step of `N` bytes: the first `H` bytes, then the last `H`, and then only `fill`.
-#[inline(always)]
-pub(crate) fn ends<const H: usize, const N: usize>(bytes: &[u8], fill: u8) -> [u8; N]
-    requires half { 2 * H ≤ N }
-    requires size { H ≤ length bytes.now }
-    ensures ends { take (2 * H) result ≡ take H bytes.now ++ drop (length bytes.now - H) bytes.now }
-    ensures rest { IsDigit fill → AllDigits (drop (2 * H) result) }
-{
-    let mut step = [fill; N];
-    let lanes = &mut step[..];
-    lanes[..H].copy_from_slice(&bytes[..H]);
-    lanes[H..2 * H].copy_from_slice(&bytes[bytes.len() - H..]);
-    step
+    V::merge(unhex(first), unhex(second), copy)
 }

@@ -5,13 +5,11 @@
 
 ghost use Rattle.std.specs.Prelude.{◌≡◌, ◌*◌, ◌↔◌, [], ◌∷◌, ◌++◌, length, map, IsTrue, false, IsNone, IfSome};
 ghost use Rattle.std.specs.List.{AllZip, concat};
-ghost use Rattle.const_hex_arch.specs.Digits.{hex_value};
-ghost use Rattle.const_hex_arch.specs.Lanes.{AllNibbles, AllUnmarked, byte_pairs, bytes_of_4097, halves_of, row_of};
-ghost use Rattle.const_hex_arch.specs.Nibbles.{as_value, IsValueOf, IsLimitOf};
-ghost use Rattle.const_hex_arch.specs.Texts.{hex_text, AllDigits, Spells};
+ghost use Rattle.const_hex_arch.specs.Texts.{hex_value, hex_text, AllDigits, Spells};
+ghost use Rattle.const_hex_arch.specs.Lanes.{AllNibbles, AllUnmarked, byte_pairs, bytes_of_4097, halves_of, row_of, as_value, IsValueOf, IsLimitOf};
 
 use crate::arch::lanes::{self, Vectors};
-use crate::arch::{Kernel, short, steps};
+use crate::arch::{Kernel, drivers, short};
 use crate::output::Output;
 use std::simd::prelude::*;
 
@@ -26,6 +24,11 @@ use std::simd::prelude::*;
 const LIMITS: [u8; 16] = [1, 10, 11, 12, 13, 14, 15, 8, 9, 10, 0, 0, 0, 0, 0, 0];
 
 /// The digits of all values, and 4097 in each lane of 16 bits: in lowercase and in uppercase, twice.
+// Why two copies: a compiler that knows a factor of 4097 multiplies by a shift and a sum (LLVM 22, for x86-64).
+// Then 2048 bytes cost more instructions: in Rattle's build 2563 in place of 2057 to encode in a case that is known,
+// and with AVX2 1316 in place of 1162; to decode, 3645 in place of 3347. By rustc 1.95 with AVX2 it is 1919 in place
+// of 1827 to decode, and no more to encode. So the loops choose a copy by a bit that is known only at run time.
+// All else takes the first one: the choice would cost up to 4 instructions a call.
 // The last pair is never read. Without it all factors would be the same, and the compiler would know them.
 const ROWS: &[[Row; 2]; 3] = &[CASES, CASES, [[[0; 16]; 2]; 2]];
 
@@ -39,15 +42,20 @@ const FACTORS: [u8; 16] = [1, 16, 1, 16, 1, 16, 1, 16, 1, 16, 1, 16, 1, 16, 1, 1
 /// 16 digits, and the factors.
 type Row = [[u8; 16]; 2];
 
-/// The row of a case, or its twin, which is equal.
-// If the compiler knows the factors, it multiplies by a shift and a sum, which takes longer. It does not know
-// them if `upper` or `twin` is known only at run time.
+/// The row of a case, from the first copy or the second. Both are equal, so no result depends on it.
 #[inline(always)]
-pub(crate) fn row(upper: bool, twin: bool) -> &'static Row
+pub(crate) fn row(upper: bool, copy: bool) -> &'static Row
     ensures { result.now ≡ row_of upper }
 {
-    let cases = &ROWS[if twin { 1 } else { 0 }];
+    let cases = &ROWS[if copy { 1 } else { 0 }];
     &cases[if upper { 1 } else { 0 }]
+}
+
+/// The copy for a loop over something of that length: any bit that is known only at run time.
+// Bit 6 is the offset of the second copy, since the rows of a copy have 64 bytes.
+#[inline(always)]
+pub(crate) fn copy_for(length: usize) -> bool {
+    length / 64 % 2 == 1
 }
 
 /// Half of a row, in both halves of a vector.
@@ -70,7 +78,7 @@ pub fn encode_chunk<const UPPER: bool>(v: u8x16) -> [u8x16; 2]
     ensures text { concat result ≡ hex_text UPPER v }
     ensures lanes { map length result ≡ 16 ∷ 16 ∷ [] }
 {
-    text_vectors(v, UPPER, false)
+    in_two(encode_lanes(v, UPPER, false))
 }
 
 /// Whether every lane is a digit.
@@ -142,8 +150,6 @@ pub fn unhex(v: u8x16) -> u8x16
 #[derive(Drop)]
 pub struct Lanes16;
 
-// No contract or test fixes that `check` and `decode_unchecked` run these steps, since other steps
-// give the same answers. They were read against the table of steps in docs/DESIGN.md.
 impl Kernel for Lanes16 {
     ghost USE_CHECK_FN = { false };
 
@@ -151,7 +157,7 @@ impl Kernel for Lanes16 {
 
     #[inline(always)]
     fn encode<O: Output>(input: &[u8], upper: bool, output: &mut O) {
-        steps::encode::<8, 16, Lanes16, Lanes16, O>(input, upper, output);
+        drivers::encode_in_steps::<8, 16, Lanes16, Lanes16, O>(input, upper, output);
     }
 
     // Not `always`: decoders name `CheckFirst` in a branch that this kernel never takes. With all
@@ -161,27 +167,27 @@ impl Kernel for Lanes16 {
         if input.len() < 16 {
             return short::check::<Lanes16>(input);
         }
-        steps::check::<16, Lanes16>(input)
+        drivers::check_in_steps::<16, Lanes16>(input)
     }
 
     #[inline(always)]
     fn decode_checked(input: &[u8], output: &mut [u8]) -> bool {
-        steps::decode_checked::<16, Lanes16, Lanes16>(input, output)
+        drivers::decode_in_steps::<16, Lanes16, Lanes16>(input, output)
     }
 
     #[inline(always)]
     fn decode_unchecked(input: &[u8], output: &mut [u8]) {
-        steps::decode_unchecked::<16, Lanes16, Lanes16>(input, output);
+        drivers::decode_digits_in_steps::<16, Lanes16, Lanes16>(input, output);
     }
 }
 
 impl Vectors<16> for Lanes16 {
     #[inline(always)]
-    fn encode(v: u8x16, upper: bool, twin: bool) -> [u8x16; 2]
+    fn digits_of(v: u8x16, upper: bool, copy: bool) -> [u8x16; 2]
         ensures text { concat result ≡ hex_text upper v }
         ensures lanes { map length result ≡ 16 ∷ 16 ∷ [] }
     {
-        text_vectors(v, upper, twin)
+        in_two(encode_lanes(v, upper, copy))
     }
 
     #[inline(always)]
@@ -200,10 +206,10 @@ impl Vectors<16> for Lanes16 {
     }
 
     #[inline(always)]
-    fn merge(first: u8x16, second: u8x16, twin: bool) -> u8x16
+    fn merge(first: u8x16, second: u8x16, copy: bool) -> u8x16
         ensures { AllNibbles (first ++ second) → result ≡ byte_pairs (first ++ second) }
     {
-        pack(join(first, second), twin)
+        pack(join(first, second), copy)
     }
 
     ghost use Rattle.std.proofs.Common.{arith};
@@ -222,15 +228,6 @@ pub(crate) fn limits(v: u8x16) -> u8x16
     u8x16::from_array(LIMITS).swizzle_dyn(v & u8x16::splat(0x8F))
 }
 
-/// The text of 16 lanes, in two vectors.
-#[inline(always)]
-fn text_vectors(v: u8x16, upper: bool, twin: bool) -> [u8x16; 2]
-    ensures text { concat result ≡ hex_text upper v }
-    ensures lanes { map length result ≡ 16 ∷ 16 ∷ [] }
-{
-    in_two(text_of(v, upper, twin))
-}
-
 /// A vector in its halves.
 #[inline(always)]
 pub(crate) fn in_two(v: u8x32) -> [u8x16; 2]
@@ -242,10 +239,10 @@ pub(crate) fn in_two(v: u8x32) -> [u8x16; 2]
 
 /// Two digits for each lane, in order.
 #[inline(always)]
-pub(crate) fn text_of(v: u8x16, upper: bool, twin: bool) -> u8x32
+pub(crate) fn encode_lanes(v: u8x16, upper: bool, copy: bool) -> u8x32
     ensures { result ≡ hex_text upper v }
 {
-    let [digits, factors] = *row(upper, twin);
+    let [digits, factors] = *row(upper, copy);
     in_both_halves(digits).swizzle_dyn_within::<16>(halves(v, factors))
 }
 
@@ -293,10 +290,10 @@ pub(crate) fn join(first: u8x16, second: u8x16) -> u8x32
 /// One byte for each two lanes, which must be values.
 // Two lanes make one of 16 bits, high + 256 * low. Times 4097, its upper byte is 16 * high + low.
 #[inline(always)]
-fn pack(nibbles: u8x32, twin: bool) -> u8x16
+fn pack(nibbles: u8x32, copy: bool) -> u8x16
     ensures { AllNibbles nibbles → result ≡ byte_pairs nibbles }
 {
     let pairs = u16x16::from_le_bytes(nibbles);
-    let factors = u16x16::from_le_bytes(in_both_halves(row(false, twin)[1]));
+    let factors = u16x16::from_le_bytes(in_both_halves(row(false, copy)[1]));
     ((pairs * factors) >> u16x16::splat(8)).cast()
 }

@@ -5,14 +5,12 @@
 
 ghost use Rattle.std.specs.Prelude.{◌≡◌, ◌*◌, ◌↔◌, [], ◌∷◌, ◌++◌, length, map, IsTrue, false, IsNone, IfSome};
 ghost use Rattle.std.specs.List.{AllZip, concat};
-ghost use Rattle.const_hex_arch.specs.Digits.{hex_value};
-ghost use Rattle.const_hex_arch.specs.Lanes.{AllNibbles, AllUnmarked, byte_pairs};
-ghost use Rattle.const_hex_arch.specs.Nibbles.{as_value, IsValueOf, IsLimitOf};
-ghost use Rattle.const_hex_arch.specs.Texts.{hex_text, AllDigits, Spells};
+ghost use Rattle.const_hex_arch.specs.Texts.{hex_value, hex_text, AllDigits, Spells};
+ghost use Rattle.const_hex_arch.specs.Lanes.{AllNibbles, AllUnmarked, byte_pairs, as_value, IsValueOf, IsLimitOf};
 
 use crate::arch::lanes::{self, Vectors};
 use crate::arch::lanes16::{self, Lanes16};
-use crate::arch::{Kernel, steps};
+use crate::arch::{Kernel, drivers};
 use crate::output::Output;
 use std::simd::prelude::*;
 
@@ -27,7 +25,7 @@ pub fn encode_chunk<const UPPER: bool>(v: u8x32) -> [u8x32; 2]
     ensures text { concat result ≡ hex_text UPPER v }
     ensures lanes { map length result ≡ 32 ∷ 32 ∷ [] }
 {
-    text_vectors(v, UPPER, false)
+    Lanes32::digits_of(v, UPPER, false)
 }
 
 /// Whether every lane is a digit.
@@ -99,8 +97,6 @@ pub fn unhex(v: u8x32) -> u8x32
 #[derive(Drop)]
 pub struct Lanes32;
 
-// No contract or test fixes that `check` and `decode_unchecked` run these steps, since other steps
-// give the same answers. They were read against the table of steps in docs/DESIGN.md.
 impl Kernel for Lanes32 {
     ghost USE_CHECK_FN = { false };
 
@@ -108,7 +104,7 @@ impl Kernel for Lanes32 {
 
     #[inline(always)]
     fn encode<O: Output>(input: &[u8], upper: bool, output: &mut O) {
-        steps::encode::<16, 32, Lanes32, Lanes16, O>(input, upper, output);
+        drivers::encode_in_steps::<16, 32, Lanes32, Lanes16, O>(input, upper, output);
     }
 
     // Not `always`: decoders name `CheckFirst` in a branch that this kernel never takes. With all
@@ -118,27 +114,34 @@ impl Kernel for Lanes32 {
         if input.len() < 32 {
             return Lanes16::check(input);
         }
-        steps::check::<32, Lanes32>(input)
+        drivers::check_in_steps::<32, Lanes32>(input)
     }
 
     #[inline(always)]
     fn decode_checked(input: &[u8], output: &mut [u8]) -> bool {
-        steps::decode_checked::<32, Lanes32, Lanes16>(input, output)
+        drivers::decode_in_steps::<32, Lanes32, Lanes16>(input, output)
+    }
+
+    #[inline(always)]
+    fn decode_part(input: &[u8], start: usize, output: &mut [u8]) -> bool {
+        drivers::decode_part::<32, Lanes32, Lanes16>(input, start, output)
     }
 
     #[inline(always)]
     fn decode_unchecked(input: &[u8], output: &mut [u8]) {
-        steps::decode_unchecked::<32, Lanes32, Lanes16>(input, output);
+        drivers::decode_digits_in_steps::<32, Lanes32, Lanes16>(input, output);
     }
 }
 
 impl Vectors<32> for Lanes32 {
     #[inline(always)]
-    fn encode(v: u8x32, upper: bool, twin: bool) -> [u8x32; 2]
+    fn digits_of(v: u8x32, upper: bool, copy: bool) -> [u8x32; 2]
         ensures text { concat result ≡ hex_text upper v }
         ensures lanes { map length result ≡ 32 ∷ 32 ∷ [] }
     {
-        text_vectors(v, upper, twin)
+        let first = lanes16::encode_lanes(v.extract::<0, 16>(), upper, copy);
+        let second = lanes16::encode_lanes(v.extract::<16, 16>(), upper, copy);
+        [first, second]
     }
 
     #[inline(always)]
@@ -157,10 +160,10 @@ impl Vectors<32> for Lanes32 {
     }
 
     #[inline(always)]
-    fn merge(first: u8x32, second: u8x32, twin: bool) -> u8x32
+    fn merge(first: u8x32, second: u8x32, copy: bool) -> u8x32
         ensures { AllNibbles (first ++ second) → result ≡ byte_pairs (first ++ second) }
     {
-        pack(join(first, second), twin)
+        pack(join(first, second), copy)
     }
 
     ghost use Rattle.std.proofs.Common.{arith};
@@ -178,17 +181,6 @@ fn limits(v: u8x32) -> u8x32
     let first = lanes16::limits(v.extract::<0, 16>());
     let second = lanes16::limits(v.extract::<16, 16>());
     lanes16::join(first, second)
-}
-
-/// The text of 32 lanes, in two vectors.
-#[inline(always)]
-fn text_vectors(v: u8x32, upper: bool, twin: bool) -> [u8x32; 2]
-    ensures text { concat result ≡ hex_text upper v }
-    ensures lanes { map length result ≡ 32 ∷ 32 ∷ [] }
-{
-    let first = lanes16::text_of(v.extract::<0, 16>(), upper, twin);
-    let second = lanes16::text_of(v.extract::<16, 16>(), upper, twin);
-    [first, second]
 }
 
 /// The bytes that the lanes of a text spell, and whether each of these lanes is a digit. If one is
@@ -222,11 +214,11 @@ fn join(first: u8x32, second: u8x32) -> u8x64
 /// One byte for each two lanes, which must be values.
 // Two lanes make one of 16 bits, high + 256 * low. Times 4097, its upper byte is 16 * high + low.
 #[inline(always)]
-fn pack(nibbles: u8x64, twin: bool) -> u8x32
+fn pack(nibbles: u8x64, copy: bool) -> u8x32
     ensures { AllNibbles nibbles → result ≡ byte_pairs nibbles }
 {
     let pairs = u16x32::from_le_bytes(nibbles);
-    let half = lanes16::in_both_halves(lanes16::row(false, twin)[1]);
+    let half = lanes16::in_both_halves(lanes16::row(false, copy)[1]);
     let factors = u16x32::from_le_bytes(join(half, half));
     ((pairs * factors) >> u16x32::splat(8)).cast()
 }

@@ -5,7 +5,7 @@ ghost use Rattle.const_hex_arch.specs.Texts.{AllDigits, Spells, Partial};
 
 use crate::arch::lanes::Vectors;
 use crate::arch::plain::Plain;
-use crate::arch::{Kernel, lanes, steps};
+use crate::arch::{Kernel, steps};
 use std::simd::prelude::*;
 
 /// Whether every byte of a text of at most 16 bytes is a digit.
@@ -34,7 +34,7 @@ fn check_ends<const H: usize, W: Vectors<16>>(text: &[u8]) -> bool
     requires most { length text.now ≤ 2 * H }
     ensures { IsTrue result ↔ AllDigits text.now }
 {
-    steps::check_step::<16, W>(&lanes::ends::<H, 16>(text, b'0'))
+    steps::check_step::<16, W>(&steps::load_ends::<H, 16>(text, b'0'))
 }
 
 /// Fills an output of at most 16 bytes with the bytes that the text spells, and returns true.
@@ -80,7 +80,7 @@ fn decode_ends<const H: usize, const D: usize, W: Vectors<16>>(
     ensures unchanged { result ≡ false → output.new ≡ output.old }
 {
     let mut bytes = [0; 16];
-    let step = lanes::ends::<D, 32>(text, b'0');
+    let step = steps::load_ends::<D, 32>(text, b'0');
     let are_digits = steps::decode_step::<16, W>(&step, &mut bytes, false);
     if are_digits {
         put::<H>(

@@ -3,8 +3,7 @@
 ghost use Rattle.std.specs.Prelude.{◌≡◌, ℕ, ◌+◌, ◌<◌, ◌≤◌, List, [], ◌++◌, length, take};
 ghost use Rattle.std.specs.List.{FoldsTo};
 ghost use Rattle.std.specs.Str.{IsAscii};
-ghost use Rattle.const_hex_arch.specs.Runs.{HasRoom, less_room};
-ghost use Rattle.const_hex_arch.specs.Gathering.{Gathers, piece_of};
+ghost use Rattle.const_hex_arch.specs.Outputs.{HasRoom, less_room, Gathers, piece_of};
 
 use crate::output::Output;
 use std::marker::Model;

@@ -1,7 +1,7 @@
 //! An output into a slice.
 
 ghost use Rattle.std.specs.Prelude.{◌≡◌, ◌+◌, ◌-◌, ◌<◌, length, Some};
-ghost use Rattle.const_hex_arch.specs.SliceOutputs.{SliceStep, slice_bytes, slice_written, slice_name};
+ghost use Rattle.const_hex_arch.specs.Outputs.{SliceStep, slice_bytes, slice_written, slice_name};
 
 use crate::output::Output;
 use std::simd::prelude::*;
@@ -72,40 +72,40 @@ impl Output for SliceOutput<'_> {
     ghost shrinks = { λ s piece t h. Prim.grind (arith) };
 }
 
-/// Puts bytes in the place of as many others.
+/// Replaces bytes by as many others.
 // The piece of a step, or half of a shorter one, goes through registers. Byte by byte, the compiler may write it
-// to memory first, and test there whether both places overlap.
+// to memory first, and test there whether both overlap.
 #[inline(always)]
-fn copy_over(place: &mut [u8], bytes: &[u8])
-    requires { length place.old ≡ length bytes.now }
-    ensures { place.new ≡ bytes.now }
+fn copy_over(target: &mut [u8], bytes: &[u8])
+    requires { length target.old ≡ length bytes.now }
+    ensures { target.new ≡ bytes.now }
 {
     if bytes.len() == 64 {
-        let (front, back) = place.split_at_mut(32);
+        let (front, back) = target.split_at_mut(32);
         u8x32::from_slice(bytes).copy_to_slice(front);
         u8x32::from_slice(&bytes[32..]).copy_to_slice(back);
     } else if bytes.len() == 32 {
-        copy_lanes::<32>(place, bytes);
+        copy_lanes::<32>(target, bytes);
     } else if bytes.len() == 16 {
-        copy_lanes::<16>(place, bytes);
+        copy_lanes::<16>(target, bytes);
     } else if bytes.len() == 8 {
-        copy_lanes::<8>(place, bytes);
+        copy_lanes::<8>(target, bytes);
     } else if bytes.len() == 4 {
-        copy_lanes::<4>(place, bytes);
+        copy_lanes::<4>(target, bytes);
     } else if bytes.len() == 2 {
-        copy_lanes::<2>(place, bytes);
+        copy_lanes::<2>(target, bytes);
     } else {
-        place.copy_from_slice(bytes);
+        target.copy_from_slice(bytes);
     }
 }
 
 /// As `copy_over`, for `N` bytes, through a register.
 #[inline(always)]
 #[tactic(auto, using(std::proofs::lemmas::Simd::put_chunk_whole, std::proofs::lemmas::List::take_all))]
-fn copy_lanes<const N: usize>(place: &mut [u8], bytes: &[u8])
-    requires place { length place.old ≡ N }
+fn copy_lanes<const N: usize>(target: &mut [u8], bytes: &[u8])
+    requires target { length target.old ≡ N }
     requires bytes { length bytes.now ≡ N }
-    ensures { place.new ≡ bytes.now }
+    ensures { target.new ≡ bytes.now }
 {
-    Simd::<u8, N>::from_slice(bytes).copy_to_slice(place);
+    Simd::<u8, N>::from_slice(bytes).copy_to_slice(target);
 }

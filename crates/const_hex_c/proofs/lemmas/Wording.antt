@@ -1,13 +1,13 @@
--- The message of the refusal that a struct stands for.
+-- The message of the error that a struct stands for.
 use Rattle.std.proofs.Common.{◌≡◌, subst, ap, ℕ, List, Option, Some, IfSome}
-use Rattle.const_hex.specs.Messages.{message_of}
+use Rattle.const_hex.specs.Results.{message_of}
 use Rattle.const_hex.specs.declared.error.FromHexError.{FromHexError}
 use Rattle.const_hex.specs.declared.error.FromHexError.TheVariants.{OddLength, InvalidStringLength, InvalidHexCharacter, NoMemory}
-use Rattle.const_hex_c.specs.Crossing.{Says}
-use Rattle.const_hex_c.specs.declared.refusal.Refusal.{Refusal}
+use Rattle.const_hex_c.specs.Errors.{Says}
+use Rattle.const_hex_c.specs.declared.error.HexError.{HexError}
 
--- the struct's kind says which refusal it is, if that has a message
-pub says_by_kind : (r : Refusal) (o : Option FromHexError) (P : List ℕ → Type 0)
+-- the struct's kind says which error it is, if that has a message
+pub says_by_kind : (r : HexError) (o : Option FromHexError) (P : List ℕ → Type 0)
     → (r.kind ≡ 1 → o ≡ Some OddLength) → (r.kind ≡ 2 → o ≡ Some InvalidStringLength)
     → (r.kind ≡ 4 → o ≡ Some NoMemory) → IfSome o (λ e. IfSome (message_of e) P) → Says r P
 says_by_kind r o P odd wrong memory says OddLength is =

@@ -3,9 +3,8 @@ use Rattle.std.proofs.Common.{◌≡◌, ℕ, ◌+◌, ◌*◌, ◌/◌, ◌%◌
 use Rattle.std.specs.Prelude.{Option, Some}
 use Rattle.std.proofs.lemmas.List.{append_assoc, drop_more, drop-set}
 use Rattle.std.proofs.lemmas.List.Elements.{All-cons}
-use Rattle.const_hex_arch.specs.Digits.{hex_value, hex_digit, IsDigit}
-use Rattle.const_hex_arch.specs.Runs.{HasRoom, less_room, Writes}
-use Rattle.const_hex_arch.specs.Texts.{hex_text, AllDigits, Spells}
+use Rattle.const_hex_arch.specs.Texts.{hex_value, hex_digit, IsDigit, hex_text, AllDigits, Spells}
+use Rattle.const_hex_arch.specs.Outputs.{HasRoom, less_room, Writes}
 use Rattle.const_hex_arch.proofs.lemmas.Runs.{HasRoom-less, Writes-more}
 use Rattle.const_hex_arch.proofs.lemmas.Spelling.{IsPair-of}
 use Rattle.const_hex_arch.proofs.lemmas.Texts.{hex_text-more}

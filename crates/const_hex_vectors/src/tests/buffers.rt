@@ -3,9 +3,10 @@
 ghost use Rattle.std.specs.Prelude.{◌≡◌};
 ghost use Rattle.const_hex.specs.Texts.{text_length};
 
+use crate::tests::{same, same_bytes, same_read};
 use const_hex::{Buffer, const_decode_to_array, const_encode, decode_to_array};
+use hex_testing::Testing;
 use hex_testing::texts::printed;
-use hex_testing::{Testing, same, same_bytes, same_read};
 
 /// Each call that lends the text of a buffer lends this one.
 pub(crate) fn lends<const N: usize, const PREFIX: bool, const LEN: usize>(
@@ -69,6 +70,7 @@ fn formats_over_what_stood_there(rt: HostRuntime) {
     formats(&rt, &mut buffer, b"1234", "0x31323334", "0x31323334");
     let mut buffer = Buffer::<4, false, 8>::default();
     lends(&rt, &buffer, "\0\0\0\0\0\0\0\0");
+    formats(&rt, &mut buffer, b"1234", "31323334", "31323334");
     formats(
         &rt,
         &mut buffer,

@@ -2,53 +2,33 @@
 
 use crate::tests::buffers::lends;
 use crate::tests::sinks::has_pieces;
+use crate::tests::{same, same_bytes};
 use const_hex::{FromHex, FromHexError, JsonError, PieceSink, SliceOutput, bytes_of};
 use const_hex_uses::accounts::is_same_account;
-use const_hex_uses::addresses::{address_text, digest_text, empty_text, prefixed_digest_text};
+use const_hex_uses::addresses::address_text;
 use const_hex_uses::constants::{transfer, wrapped_ether};
-use const_hex_uses::files::{dump, write_line, write_text};
+use const_hex_uses::files::{write_line, write_text};
 use const_hex_uses::json_rpc::{code_of, code_request, explained, reason};
 use const_hex_uses::own_kernel::write_pieces;
-use const_hex_uses::readers::{read_both, read_shared, read_twice, replace_key};
-use const_hex_uses::settings::{LineFault, first_fault};
-use const_hex_uses::sinks::{first_alone, packets, send, send_json};
-use const_hex_uses::store::{find, find_hash, put, put_hash};
-use const_hex_uses::writers::{array_text, joined_text, string_text, vector_text};
-use hash_hex::Hash32;
-use hex_testing::{Source, Testing, Text, same, same_bytes};
+use const_hex_uses::readers::{read_both, read_salt, read_shared, replace_key};
+use const_hex_uses::sinks::{packets, send_json};
+use const_hex_uses::store::{find, put};
+use const_hex_uses::streams::decode_typed;
+use const_hex_uses::writers::{array_text, joined_text};
+use hex_testing::texts::bad;
+use hex_testing::{Testing, Text};
 use serde_json::json;
 use std::alloc::AllocError;
 use std::boxed::BoxedSlice;
 use std::collections::HashMap;
 use std::fmt::Debug;
-use std::io::ErrorKind;
 use std::rc::Rc;
 
 #[test]
-fn texts_without_memory(rt: HostRuntime) {
-    let upper = "0C0C0C0C0C0C0C0C0C0C0C0C0C0C0C0C0C0C0C0C0C0C0C0C0C0C0C0C0C0C0C0C";
-    let lower = "0x0c0c0c0c0c0c0c0c0c0c0c0c0c0c0c0c0c0c0c0c0c0c0c0c0c0c0c0c0c0c0c0c";
-    let address = "0xabababababababababababababababababababab";
+fn texts(rt: HostRuntime) {
+    let (alloc, address) = (rt.alloc(), "0xabababababababababababababababababababab");
     lends(&rt, &address_text(&[0xAB; 20]), address);
-    lends(&rt, &digest_text(&[0x0C; 32]), upper);
-    lends(&rt, &prefixed_digest_text(&[0x0C; 32]), lower);
-    lends(&rt, &empty_text(), "0x");
-}
-
-#[test]
-fn texts_of_each_type(rt: HostRuntime) {
-    let alloc = rt.alloc();
-    let vector = b"kiwi".to_vec(alloc).expect(&rt, "memory");
-    gives(&rt, "vector_text", vector_text(alloc, &vector), "6b697769");
-    let string = "jolly".to_string(alloc).expect(&rt, "memory");
-    gives(
-        &rt,
-        "string_text",
-        string_text(alloc, &string),
-        "6A6F6C6C79",
-    );
     gives(&rt, "array_text", array_text(alloc, b"kiwi"), "0x6b697769");
-    gives(&rt, "array_text", array_text(alloc, &[]), "0x");
     gives(
         &rt,
         "joined_text",
@@ -90,21 +70,20 @@ fn two_texts(rt: HostRuntime) {
 }
 
 #[test]
-fn a_text_of_two_types(rt: HostRuntime) {
+fn shared_texts(rt: HostRuntime) {
     let (one, two) = read_both::<Rc<Vec<u8>>>(rt.alloc(), LOWER, b"ff81").expect(&rt, "two lists");
     assert!(rt; *one != *two);
-    let (list, array) = read_twice::<2>(rt.alloc(), UPPER).expect(&rt, "a list and an array");
-    same_bytes!(&rt, "read_twice", Text(UPPER); list, array);
-    let refusal = FromHexError::InvalidStringLength;
-    same!(&rt; read_twice::<3>(rt.alloc(), UPPER).err(), Some(refusal));
     let shared = read_shared(rt.alloc(), UPPER).expect(&rt, "a list");
     same_bytes!(&rt, "read_shared", Text(UPPER); shared.as_slice(), [0xFF, 0x80]);
 }
 
 #[test]
 fn replaced_keys(rt: HostRuntime) {
-    let rows: [(&[u8], Result<(), FromHexError>, u8); 4] = [
+    let mut wrong = [b'a'; 64];
+    wrong[40] = b'g';
+    let rows: [(&[u8], Result<(), FromHexError>, u8); 5] = [
         (&[b'a'; 64], Ok(()), 0xAA),
+        (&wrong, Err(bad(b'g', 40)), 0xEE),
         (b"6b6", Err(FromHexError::OddLength), 0xEE),
         (&[b'a'; 62], Err(FromHexError::InvalidStringLength), 0xEE),
         (&[b'a'; 66], Err(FromHexError::InvalidStringLength), 0xEE),
@@ -113,6 +92,35 @@ fn replaced_keys(rt: HostRuntime) {
         let mut key = [0xEE; 32];
         same!(&rt, "replace_key", Text(text); replace_key(&mut key, text), want);
         same_bytes!(&rt, "the key", Text(text); key, [byte; 32]);
+    }
+}
+
+#[test]
+fn salts(rt: HostRuntime) {
+    let rows: [(&[u8], Result<usize, FromHexError>); 5] = [
+        (b"0x6b69", Ok(2)),
+        (&[b'a'; 128], Ok(64)),
+        (&[b'a'; 130], Err(FromHexError::InvalidStringLength)),
+        (&[b'a'; 131], Err(FromHexError::OddLength)),
+        (b"0xzz", Err(bad(b'z', 2))),
+    ];
+    for (text, want) in rows {
+        same!(&rt, "read_salt", Text(text); read_salt(text, &mut [0; 64]), want);
+    }
+}
+
+#[test]
+fn typed_texts(rt: HostRuntime) {
+    let rows: [(&[u8], Result<usize, FromHexError>); 6] = [
+        (b"", Ok(0)),
+        (b"0x6b69", Ok(2)),
+        (b"0x6b6", Err(FromHexError::OddLength)),
+        (b"0x6bz", Err(bad(b'z', 4))),
+        (b"6b69z", Err(bad(b'z', 4))),
+        (b"zzzzzz", Err(FromHexError::InvalidStringLength)),
+    ];
+    for (text, want) in rows {
+        same!(&rt, "decode_typed", Text(text); decode_typed(text, &mut [0; 2]), want);
     }
 }
 
@@ -131,10 +139,6 @@ fn store(rt: HostRuntime) {
     same!(&rt; put(alloc, &mut store, b"0x6B69", 7), Ok(()));
     same!(&rt; find(alloc, &store, b"6b69"), Ok(Some(7)));
     same!(&rt; find(alloc, &store, b"6b6a"), Ok(None));
-    let (mut hashes, key) = (HashMap::new(alloc), Hash32::from_bytes([7; 32]));
-    same!(&rt; put_hash(&mut hashes, key, 7), Ok(()));
-    same!(&rt; find_hash(&hashes, &key), Some(7));
-    same!(&rt; find_hash(&hashes, &Hash32::from_bytes([8; 32])), None);
 }
 
 #[test]
@@ -151,10 +155,8 @@ fn files(rt: HostRuntime) {
 #[test]
 fn sinks(rt: HostRuntime) {
     let mut sink = PieceSink::new(rt.alloc(), 0);
-    send(b"kiwi", &mut sink).expect(&rt, "send");
     send_json(b"kiwi", &mut sink).expect(&rt, "send_json");
-    has_pieces(&rt, 2, &sink, &["0x6b697769", "0x6b697769"]);
-    has_pieces(&rt, 1, &first_alone(rt.alloc(), "0x", "6b"), &["0x"]);
+    has_pieces(&rt, 1, &sink, &["0x6b697769"]);
 }
 
 #[test]
@@ -173,34 +175,6 @@ fn pieces(rt: HostRuntime) {
 }
 
 #[test]
-fn lines_of_a_reader(rt: HostRuntime) {
-    let mut file = Vec::new(rt.alloc());
-    dump(&mut b"0123456789abcdefgh".as_slice(), &mut file).expect(&rt, "dump");
-    same_bytes!(&rt, "dump", "18 bytes"; file, "30313233343536373839616263646566\n6768\n");
-    let mut room = [0u8; 5];
-    assert!(rt; dump(&mut b"kiwi".as_slice(), &mut room.as_mut_slice()).is_err());
-    same_bytes!(&rt, "dump", "a full room"; room, "6b697");
-}
-
-// The reader hands out one byte per call. One call fails, or none if its number is 0.
-#[test]
-fn lines_of_short_and_failed_reads(rt: HostRuntime) {
-    let rows = [
-        (0, true, "6b\n69\n77\n69\n"),
-        (1, false, ""),
-        (3, false, "6b\n69\n"),
-        (5, false, "6b\n69\n77\n69\n"),
-    ];
-    for (fail_at, is_whole, lines) in rows {
-        let mut reader = Source::new(b"kiwi", fail_at, ErrorKind::Other);
-        let mut file = Vec::new(rt.alloc());
-        let done = dump(&mut reader, &mut file);
-        same!(&rt, "dump", fail_at; done.is_ok(), is_whole);
-        same_bytes!(&rt, "dump", fail_at; file, lines);
-    }
-}
-
-#[test]
 fn constants(rt: HostRuntime) {
     let ether = [
         0xC0, 0x2A, 0xAA, 0x39, 0xB2, 0x23, 0xFE, 0x8D, 0x0A, 0x0E, 0x5C, 0x4F, 0x27, 0xEA, 0xD9,
@@ -215,20 +189,6 @@ fn constants(rt: HostRuntime) {
     same!(&rt; transfer(), topic);
     same!(&rt; bytes_of::<4>(b"0X6B697769"), *b"kiwi");
     same!(&rt; bytes_of::<0>(b""), []);
-}
-
-#[test]
-fn settings(rt: HostRuntime) {
-    let rows = [
-        ("salt=6b69\nkey=6b!9", Some((2, Some(7)))),
-        ("salt", Some((1, None))),
-        ("salt=0x6B\nkey=\n", None),
-    ];
-    for (text, fault) in rows {
-        let found = first_fault(rt.alloc(), text).map(|f| (f.0, f.1.column()));
-        same!(&rt, "first_fault", text; found, fault);
-    }
-    same!(&rt; first_fault(rt.alloc(), "a"), Some((1, LineFault::NoSign)));
 }
 
 #[test]

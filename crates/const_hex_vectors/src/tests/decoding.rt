@@ -1,5 +1,6 @@
 //! Calls that check or read a text, on worked examples. `const_hex_table` asks many more.
 
+use crate::tests::{same, same_bytes, same_read};
 use const_hex::serde::{JsonError, no_prefix};
 use const_hex::{
     FromHex, FromHexError, Plain, check, check_raw, const_check, const_check_raw,
@@ -7,9 +8,8 @@ use const_hex::{
     decode_to_slice_with, deserialize, serialize,
 };
 use hex_testing::texts::{bad, digits};
-use hex_testing::{Testing, Text, same, same_bytes, same_read};
+use hex_testing::{Testing, Text};
 use serde_json::Value;
-use std::alloc::Global;
 use std::boxed::BoxedSlice;
 use std::convert::AsSlice;
 use std::rc::Rc;
@@ -42,7 +42,7 @@ pub(crate) fn each_call_answers(rt: &impl Testing, text: &[u8], want: Read<'_>) 
     same_read!(rt, "from_hex of BoxedSlice<i8>", row; bits(rt, text), want);
     if let Ok(string) = str::from_utf8(text) {
         let value = Value::String(string.to_string(alloc).expect(rt, "memory"));
-        same_read!(rt, "deserialize", row; of_json(alloc, &value), want);
+        same_read!(rt, "deserialize", row; deserialize::<Vec<u8>>(alloc, &value), in_json(want));
     }
 }
 
@@ -56,12 +56,11 @@ fn bits(rt: &impl Testing, text: &[u8]) -> Result<Vec<u8>, FromHexError> {
     Ok(bytes)
 }
 
-/// The bytes that a JSON string spells. Any other value is as the empty one.
-fn of_json(alloc: Global, value: &Value) -> Result<Vec<u8>, FromHexError> {
-    match deserialize::<Vec<u8>>(alloc, value) {
+/// What is read from the JSON string of a text from which this is read.
+fn in_json(want: Read<'_>) -> Result<&[u8], JsonError<FromHexError>> {
+    match want {
         Ok(bytes) => Ok(bytes),
-        Err(JsonError::Hex(error)) => Err(error),
-        Err(JsonError::NotText) => Ok(Vec::new(alloc)),
+        Err(error) => Err(JsonError::Hex(error)),
     }
 }
 
@@ -105,6 +104,8 @@ fn arrays<const N: usize>(rt: &impl Testing, text: &[u8], answer: Checked, bytes
 #[test]
 fn sized_texts(rt: HostRuntime) {
     arrays(&rt, b"0X", Ok(()), []);
+    arrays(&rt, b"0x1", Err(ODD), [0]);
+    arrays(&rt, b"ff", Err(OTHER_LENGTH), [0; 2]);
     arrays(&rt, b"0xzz", Err(bad(b'z', 2)), [0]);
     arrays(&rt, b"zz", Err(bad(b'z', 0)), [0]);
     arrays(&rt, b"6b697769", Ok(()), *b"kiwi");

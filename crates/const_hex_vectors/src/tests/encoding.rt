@@ -1,5 +1,6 @@
 //! Every call that writes text, on worked examples.
 
+use crate::tests::{same, same_bytes, same_read};
 use const_hex::serde::no_prefix;
 use const_hex::{
     BytesToHexChars, FromHexError, Plain, ToHex, ToHexExt, decode, encode, encode_full_to_slice,
@@ -7,7 +8,7 @@ use const_hex::{
     encode_upper, encode_upper_prefixed, fill_text, serialize, serialize_upper, text_length,
 };
 use hex_testing::texts::{bytes, printed};
-use hex_testing::{Testing, Text, same, same_bytes, same_read};
+use hex_testing::{Testing, Text};
 use serde_json::Value;
 use std::alloc::AllocError;
 
@@ -133,41 +134,61 @@ fn texts_in_slices(rt: HostRuntime) {
     same!(&rt; encode_to_slice(b"", &mut []), Ok(()));
 }
 
-// An output of another length than the full text is refused, and stays unchanged.
+// An output of the text's length is filled. Of another length, it is unchanged after the error.
 #[test]
-fn full_texts_in_slices(rt: HostRuntime) {
+fn outputs_of_every_length(rt: HostRuntime) {
     for length in 0..=26usize {
-        fills(
-            &rt,
-            (b"Hello world!", true, true),
-            "0x48656C6C6F20776F726C6421",
-            length,
-        );
+        let hello = (b"Hello world!".as_slice(), true, true);
+        fills(&rt, hello, "0x48656C6C6F20776F726C6421", length);
         fills(&rt, (b"kiwi", true, false), "0x6b697769", length);
-        fills(&rt, (b"kiwi", false, true), "6B697769", length);
         fills(&rt, (b"", true, false), "0x", length);
+        fills_with_digits(&rt, (b"kiwi", "6b697769", "6B697769"), length);
+        let numbers: Row<'_> = (&[1, 2, 3, 15, 16], "0102030f10", "0102030F10");
+        fills_with_digits(&rt, numbers, length);
     }
 }
 
-/// `encode_full_to_slice` fills an output of that length; or it is an error, and the output stays
-/// unchanged.
+/// Calls that write no prefix fill an output of the length of the text, or leave it unchanged.
+fn fills_with_digits(rt: &impl Testing, (bytes, lower, upper): Row<'_>, length: usize) {
+    fills(rt, (bytes, false, false), lower, length);
+    fills(rt, (bytes, false, true), upper, length);
+    let mut output = vec![in rt.alloc(); 0xEEu8; length].expect(rt, "memory");
+    let answer = encode_to_slice(bytes, &mut output);
+    leaves(rt, "encode_to_slice", lower, answer, &output);
+    let mut output = vec![in rt.alloc(); 0xEEu8; length].expect(rt, "memory");
+    let answer = encode_to_slice_upper(bytes, &mut output);
+    leaves(rt, "encode_to_slice_upper", upper, answer, &output);
+}
+
+/// `encode_full_to_slice` fills an output of the length of the text, or leaves it unchanged.
 fn fills(
     rt: &impl Testing,
     (bytes, prefix, upper): (&[u8], bool, bool),
     text: &str,
     length: usize,
 ) {
-    let row = (text, length);
-    same!(rt, "text_length", row; text_length(prefix, bytes.len()), text.len());
+    same!(rt, "text_length", text; text_length(prefix, bytes.len()), text.len());
     let mut output = vec![in rt.alloc(); 0xEEu8; length].expect(rt, "memory");
     let answer = encode_full_to_slice(bytes, prefix, upper, &mut output);
-    if text.len() == length {
-        same!(rt, "encode_full_to_slice", row; answer, Ok(()));
-        same_bytes!(rt, "what encode_full_to_slice leaves", row; output, text);
+    leaves(rt, "encode_full_to_slice", text, answer, &output);
+}
+
+/// What a call returned that wrote a text into an output of bytes 0xEE, and what the output holds.
+fn leaves(
+    rt: &impl Testing,
+    call: &str,
+    text: &str,
+    answer: Result<(), FromHexError>,
+    output: &[u8],
+) {
+    let row = (text, output.len());
+    if text.len() == output.len() {
+        same!(rt, call, row; answer, Ok(()));
+        same_bytes!(rt, call, row; output, text);
     } else {
-        let left = vec![in rt.alloc(); 0xEEu8; length].expect(rt, "memory");
-        same!(rt, "encode_full_to_slice", row; answer, Err(FromHexError::InvalidStringLength));
-        same_bytes!(rt, "what encode_full_to_slice leaves", row; output, left);
+        let unchanged = vec![in rt.alloc(); 0xEEu8; output.len()].expect(rt, "memory");
+        same!(rt, call, row; answer, Err(FromHexError::InvalidStringLength));
+        same_bytes!(rt, call, row; output, unchanged);
     }
 }
 

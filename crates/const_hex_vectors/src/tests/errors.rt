@@ -2,10 +2,11 @@
 
 ghost use Rattle.std.specs.Prelude.{IsTrue};
 
+use crate::tests::{same, same_bytes};
 use const_hex::FromHexError::{self, InvalidStringLength, NoMemory, OddLength};
 use const_hex::{HexFault, JsonError, SinkError};
+use hex_testing::Testing;
 use hex_testing::texts::bad;
-use hex_testing::{Testing, same, same_bytes};
 use std::alloc::AllocError;
 
 const NOT_TEXT: JsonError<FromHexError> = JsonError::NotText;
@@ -23,6 +24,7 @@ fn printed(rt: HostRuntime) {
     prints(&rt, OddLength, "odd number of digits");
     prints(&rt, InvalidStringLength, "invalid string length");
     prints(&rt, NoMemory, "out of memory");
+    prints(&rt, bad(b'\n', 5), "invalid character '\\n' at position 5");
     let texts = format!(in rt.alloc(); "{NOT_TEXT}, {SinkError}").expect(&rt, "memory");
     same_bytes!(&rt, "{}", "others"; texts, "expected a hex encoded string, sink refused");
 }

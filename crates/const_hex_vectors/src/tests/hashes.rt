@@ -1,8 +1,9 @@
 //! Hashes and addresses, on examples.
 
+use crate::tests::{same, same_bytes};
 use const_hex::{FromHex, FromHexError, JsonError};
 use hash_hex::{Address20, FixedBytes, Hash32};
-use hex_testing::{Testing, Text, same, same_bytes};
+use hex_testing::{Testing, Text};
 use serde_json::{Number, Value};
 use std::cmp::Ordering;
 use std::collections::HashSet;

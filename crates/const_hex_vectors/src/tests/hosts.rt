@@ -1,7 +1,8 @@
 //! The whole program, from its arguments to its exit status and its line on standard error.
 
+use crate::tests::{same, same_bytes};
 use consthex_modes::{Mode, USAGE, mode_of, program};
-use hex_testing::{Endless, Fault, Source, Target, Testing, Text, same, same_bytes};
+use hex_testing::{Endless, Fault, Source, Target, Testing, Text};
 use std::cell::Cell;
 use std::env::{Env, FillError};
 use std::fmt::{self, Debug, Display};

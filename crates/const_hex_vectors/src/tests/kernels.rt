@@ -3,9 +3,10 @@
 mod suite;
 
 use crate::tests::decoding::{Read, checked};
+use crate::tests::{same, same_bytes, same_read};
 use const_hex::{Kernel, PieceSink, SinkOutput, check_with, decode_to_slice_with, decode_with};
 use hex_testing::texts::{bad, behind, with_g};
-use hex_testing::{KernelCase, Testing, Text, by_each_kernel, same, same_bytes, same_read};
+use hex_testing::{KernelCase, Testing, Text, by_each_kernel};
 
 /// A figure for each kernel.
 type Figures = [usize; 4];

@@ -1,8 +1,9 @@
 //! Worked values of the lane arithmetic, and the text of a step.
 
+use crate::tests::{same, same_bytes};
 use const_hex::{Lanes16, Lanes32, lanes16, lanes32};
 use const_hex_uses::chunks::decoded_or;
-use hex_testing::{Text, same, same_bytes};
+use hex_testing::Text;
 use std::simd::prelude::*;
 
 // Bytes at the edges of the ranges of digits, and what the lane arithmetic makes of them.

@@ -3,9 +3,10 @@
 use crate::tests::decoding::each_call_answers;
 use crate::tests::encoding::Written;
 use crate::tests::kernels::{KernelTest, answers, refuses};
+use crate::tests::{same, same_bytes, same_read};
 use const_hex::{Buffer, Kernel, ToHex, ToHexExt, const_encode, decode_to_slice, encode_with};
 use hex_testing::texts::{bad, behind, bytes, printed, with_g};
-use hex_testing::{KernelCase, Testing, Text, same, same_bytes, same_read};
+use hex_testing::{KernelCase, Testing, Text};
 
 /// Counts of blocks of 256 bytes: for 768 bytes, 1 MiB and 3 MiB.
 const SHORT: usize = 3;

@@ -2,9 +2,10 @@
 
 use crate::tests::decoding::Read;
 use crate::tests::kernels::KernelTest;
+use crate::tests::{same, same_bytes, same_read};
 use const_hex::{Decoder, FromHexError, Kernel};
 use hex_testing::texts::{PREFIXES, bad, behind, digits, read};
-use hex_testing::{KernelCase, Testing, Text, same, same_bytes, same_read};
+use hex_testing::{KernelCase, Testing, Text};
 
 /// Texts and their answers. An odd length is found last.
 const ROWS: [(&[u8], Read<'static>); 16] = [

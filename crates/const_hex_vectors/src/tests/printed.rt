@@ -1,8 +1,9 @@
 //! What `display` prints.
 
+use crate::tests::{same, same_bytes};
 use const_hex::{BufferedHex, FormatterSink, Lanes16, Sink, display};
 use hex_testing::texts::{bytes, printed};
-use hex_testing::{Counting, InHex, Testing, same, same_bytes};
+use hex_testing::{Counting, InHex, Testing};
 use std::fmt::{self, Write};
 
 /// Prints the uppercase text by 16 lanes, through the library's sink over a formatter.

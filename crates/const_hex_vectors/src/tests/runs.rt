@@ -1,8 +1,9 @@
 //! Runs of the program: worked inputs, refused texts, the limit, and devices that fail.
 
+use crate::tests::{same, same_bytes};
 use const_hex::FromHexError;
 use consthex_modes::{Mode, RunError, answer, run};
-use hex_testing::{Endless, Fault, Source, Target, Testing, Text, same, same_bytes, shown};
+use hex_testing::{Endless, Fault, Source, Target, Testing, Text, shown};
 use std::alloc::Global;
 use std::io::{self, ErrorKind, Read};
 

@@ -3,11 +3,12 @@
 ghost use Rattle.std.specs.Prelude.{◌<◌};
 
 use crate::tests::kernels::KernelTest;
+use crate::tests::{same, same_bytes};
 use const_hex::{
     BufferedHex, BufferedOutput, Kernel, Output, PieceSink, Sink, SinkOutput, SliceOutput,
 };
 use hex_testing::texts::{bytes, printed};
-use hex_testing::{KernelCase, Testing, same, same_bytes};
+use hex_testing::{KernelCase, Testing};
 
 type ToSink<'a, const N: usize> = BufferedOutput<SinkOutput<'a, PieceSink>, N>;
 

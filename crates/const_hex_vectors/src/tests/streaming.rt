@@ -3,11 +3,12 @@
 ghost use Rattle.std.specs.Prelude.{◌≡◌, false, None, refl};
 
 use crate::tests::kernels::KernelTest;
+use crate::tests::same;
 use crate::tests::sinks::has_pieces;
 use const_hex::serde::serialize_inner;
 use const_hex::{BufferedHex, Kernel, Output, PieceSink, Plain, Sink, SinkError, SinkOutput};
 use hex_testing::texts::{bytes, cut, printed};
-use hex_testing::{KernelCase, Testing, same};
+use hex_testing::{KernelCase, Testing};
 use std::alloc::{AllocError, Global};
 
 /// Keeps the text of every call, also of a call that it refuses, and beside it the accepted pieces. It

@@ -1,8 +1,9 @@
 //! `WriteSink`, over writers that fail, accept few bytes per call, or come back.
 
+use crate::tests::{same, same_bytes};
 use const_hex::{BufferedHex, Plain, Sink, WriteSink};
 use hex_testing::texts::{bytes, printed};
-use hex_testing::{Fault, Target, Testing, Text, same, same_bytes};
+use hex_testing::{Fault, Target, Testing, Text};
 use std::io::{self, ErrorKind};
 
 // A text of 6002 bytes comes in pieces of 4096 and 1906. A writer that accepts 1000 per call gets

@@ -4,8 +4,7 @@ use Rattle.std.proofs.lemmas.List.{append-nil, length-take, take-take, take_min}
 use Rattle.std.specs.Io.KnownBytes.{IsAtEnd}
 use Rattle.std.specs.Prelude.{min}
 use Rattle.const_hex.proofs.lemmas.Decoding.{read_digits, read_front}
-use Rattle.const_hex.specs.Answers.{IsOdd}
-use Rattle.const_hex.specs.Bodies.{body_of}
+use Rattle.const_hex.specs.Results.{IsOdd, body_of}
 use Rattle.const_hex.specs.Texts.{AllDigits, Spells}
 use Rattle.const_hex.specs.declared.error.FromHexError.{FromHexError}
 use Rattle.const_hex.specs.declared.error.FromHexError.TheVariants.{OddLength, InvalidStringLength, InvalidHexCharacter, NoMemory}

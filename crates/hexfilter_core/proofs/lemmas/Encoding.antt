@@ -6,7 +6,7 @@ use Rattle.std.proofs.lemmas.List.{append-nil, take-append-drop}
 use Rattle.std.specs.Io.KnownBytes.{Appends}
 use Rattle.std.specs.Prelude.{OnErr, OnOk}
 use Rattle.const_hex.specs.Texts.{full_text, hex_text, prefix_of}
-use Rattle.const_hex.specs.WriteSinks.{WritesBeginning}
+use Rattle.const_hex.specs.Writers.{WritesBeginning}
 use Rattle.const_hex_arch.proofs.lemmas.Texts.{hex_text-append, hex_text-nil}
 use Rattle.hexfilter_core.specs.Encoded.{encoded}
 use Rattle.hexfilter_core.specs.Lines.{Begins, Lays, ended, laid_out, lines_from}

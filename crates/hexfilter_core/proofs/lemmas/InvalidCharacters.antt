@@ -3,7 +3,7 @@ use Rattle.std.proofs.Common.{◌≡◌, ◌≢◌, ℕ, suc, ◌+◌, ◌-◌, 
 use Rattle.std.proofs.lemmas.Grind.{common_steps}
 use Rattle.std.proofs.lemmas.List.{get_or-append_right, length-take, take-append-le}
 use Rattle.const_hex.proofs.lemmas.Decoding.{FirstBad-longer, read_digits}
-use Rattle.const_hex.specs.Bodies.{NamesFirstBad, body_of}
+use Rattle.const_hex.specs.Results.{NamesFirstBad, body_of}
 use Rattle.const_hex.specs.Decoding.{ReadsOn, counted}
 use Rattle.const_hex.specs.Texts.{AllDigits, FirstBad}
 use Rattle.const_hex.specs.declared.error.FromHexError.{FromHexError}
@@ -32,7 +32,7 @@ body-shorter t = grind arith
 within_front : (u v : List ℕ) (p : ℕ) → p < length u → slice_index u p ≡ slice_index (u ++ v) p
 within_front u v p h = grind (arith, common_steps)
 
-NamesFirstBad-longer : (t u : List ℕ) (c n : ℕ) → NamesFirstBad t (InvalidHexCharacter c n) → NamesFirstBad (t ++ u) (InvalidHexCharacter c n)
+NamesFirstBad-longer : (t u : List ℕ) (c n : ℕ) → NamesFirstBad t c n → NamesFirstBad (t ++ u) c n
 NamesFirstBad-longer t u c n (p, f, is, place) =
     let body = body-longer t u p f in
     let inside = f.within in
@@ -117,7 +117,7 @@ module _ (d : LineDecoder) (x bs line : List ℕ) (has : HasDecoded d x bs) (pla
 
   -- the first invalid character of the text stands at k in the line
   named_at : (c n k : ℕ) → n ≡ length (text_of (ignores d) x) + k → k < length line → c ≡ slice_index line k
-      → NamesFirstBad (text_of (ignores d) x ++ line) (InvalidHexCharacter c n) → FirstInvalid (ignores d) (x ++ line) c (length x + k)
+      → NamesFirstBad (text_of (ignores d) x ++ line) c n → FirstInvalid (ignores d) (x ++ line) c (length x + k)
   named_at c n k e inside is named =
       let size : length (text_of (ignores d) x ++ take k line) ≡ n =
       omega (arith, e, length-append (text_of (ignores d) x) (take k line), length-take k line) in record {

@@ -11,7 +11,7 @@ use denote.Slice.{slice_ty, MutSlice, ShrSlice, mut_slice_vals, mut_slice_Tells,
 use denote.Such.{such_Lawful}
 use denote.Text.{StrRefOf, Utf8}
 use Rattle.const_hex_arch.specs.Texts.{hex_text}
-use Rattle.const_hex.specs.Loans.{EndsEncoded}
+use Rattle.const_hex.specs.Buffers.{EndsEncoded}
 use Rattle.std.specs.contracts.result.Result as Answer
 use Rattle.const_hex.specs.contracts.error.FromHexError as refusal
 use Rattle.const_hex.specs.declared.error.FromHexError.TheVariants.{InvalidStringLength}

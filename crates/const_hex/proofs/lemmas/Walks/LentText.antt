@@ -12,8 +12,7 @@ use denote.Slice.{ShrSlice, slice_val, shr_slice_Tells, shr_slice_Lawful}
 use denote.Such.{such_Lawful}
 use denote.Text.{StrRefOf, Utf8}
 use Rattle.const_hex_arch.specs.Texts.{full_text, text_length}
-use Rattle.const_hex.specs.Buffers.{buffer_text}
-use Rattle.const_hex.specs.Loans.{EndsHolding}
+use Rattle.const_hex.specs.Buffers.{buffer_text, EndsHolding}
 use Rattle.const_hex.specs.contracts.buffer.Buffer.{the_row}
 use Rattle.const_hex.specs.contracts.buffer.Buffer.as_str as h
 use Rattle.const_hex.proofs.lemmas.Walks.Flags.{flag, flag_lit}

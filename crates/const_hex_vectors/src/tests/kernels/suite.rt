@@ -1,12 +1,13 @@
 //! What is tried with each kernel on short texts.
 
 use crate::tests::kernels::{KernelTest, answers, refuses};
+use crate::tests::{same, same_bytes};
 use const_hex::{
     FromHexError, Kernel, PieceSink, SinkOutput, SliceOutput, check_raw, decode_to_front_with,
     encode_full_to_slice_with, encode_with,
 };
 use hex_testing::texts::{PREFIXES, behind, bytes, cut, digits, printed, read};
-use hex_testing::{KernelCase, Testing, Text, same, same_bytes};
+use hex_testing::{KernelCase, Testing, Text};
 
 // Counts of the bytes 0, 1, 2 and on, near the steps of each kernel, and how their text ends.
 const ENDS: [(usize, &str); 12] = [

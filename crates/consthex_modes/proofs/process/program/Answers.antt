@@ -2,9 +2,9 @@ use Rattle.std.proofs.Common.{◌≡◌, Ok, Err, sym, ap, ◌∙◌, rules}
 use Rattle.consthex_modes.proofs.lemmas.Statuses.{text_of}
 use Rattle.consthex_modes.proofs.process.program.Goals as goal
 
-pub returns-in-Some-clause-refused : goal.returns-in-Some-clause-refused
-returns-in-Some-clause-refused g c = λ h.
-    let found = text_of c.in-Err.error (sym c.refused-in-Err.ensures ∙ h) in
+pub returns-in-Some-clause-invalid : goal.returns-in-Some-clause-invalid
+returns-in-Some-clause-invalid g c = λ h.
+    let found = text_of c.in-Err.error (sym c.report-in-Err.ensures ∙ h) in
     (c.in-Some.mode, found.0, c.run.ensures.text found.0 (c.in-Err.is ∙ ap Err found.1))
 
 pub returns-in-Ok-run-clause-done : goal.returns-in-Ok-run-clause-done

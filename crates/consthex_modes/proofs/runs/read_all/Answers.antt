@@ -19,8 +19,8 @@ reads-preserved g c =
           (rw (c.deref_mut.ensures.value, made.kept c.reads.invariant.within) c.reads.invariant.read) c.in-Ok.ensures.bytes.0;
     }
 
-pub make_room-requires-clause-few : goal.make_room-requires-clause-few
-make_room-requires-clause-few g c = c.reads-test.true
+pub make_room-requires-clause-below_limit : goal.make_room-requires-clause-below_limit
+make_room-requires-clause-below_limit g c = c.reads-test.true
 
 pub returns-then-read-eq0-clause-ok : goal.returns-then-read-eq0-clause-ok
 returns-then-read-eq0-clause-ok g c = (

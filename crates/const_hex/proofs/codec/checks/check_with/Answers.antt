@@ -1,12 +1,15 @@
-use Rattle.std.proofs.Common.{refl, sym, ◌∙◌}
+use Rattle.std.proofs.Common.{Ok, sym, ◌∙◌, rules}
 use Rattle.const_hex_arch.proofs.lemmas.Spelling.{false_is_true}
-use Rattle.const_hex.proofs.lemmas.Reading.{Reads-digits}
+use Rattle.const_hex.proofs.lemmas.Reading.{Reads-digits, ChecksText-from_Checks}
 use Rattle.const_hex.proofs.codec.checks.check_with.Goals as goal
 
 pub returns-then-check : goal.returns-then-check
 returns-then-check g c =
-    let reads = Reads-digits c.args.input.now c.in_ok-even_body.ensures.even.0 (rw (← c.in_ok-even_body.ensures.body) (c.check.ensures.0 c.if-check.true)) in
-    record { answer = reads; accepts = (λ _. reads, λ _. refl) }
+    ChecksText-from_Checks c.args.input.now (Ok tt)
+    (Reads-digits c.args.input.now c.in_ok-strip_even.ensures.even.0 (rw (← c.in_ok-strip_even.ensures.body) (c.check.ensures.0 c.if-check.true)))
 
-pub bad_character-requires : goal.bad_character-requires
-bad_character-requires g c = λ a. false_is_true (sym c.if-check.false ∙ c.check.ensures.1 (rw c.in_ok-even_body.ensures.body a))
+pub returns-else-check : goal.returns-else-check
+returns-else-check g c = ChecksText-from_Checks c.args.input.now _ (search rules)
+
+pub find_invalid_character-requires-clause-bad : goal.find_invalid_character-requires-clause-bad
+find_invalid_character-requires-clause-bad g c = λ a. false_is_true (sym c.if-check.false ∙ c.check.ensures.1 (rw c.in_ok-strip_even.ensures.body a))

@@ -1,4 +1,4 @@
-use Rattle.const_hex_arch.specs.Nibbles.{IsLimitOf}
+use Rattle.const_hex_arch.specs.Lanes.{IsLimitOf}
 use Rattle.const_hex_arch.proofs.lemmas.LaneLookups.{by_halves}
 use Rattle.const_hex_arch.proofs.arch.lanes32.limits.Goals as goal
 

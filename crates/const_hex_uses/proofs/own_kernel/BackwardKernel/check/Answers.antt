@@ -1,7 +1,7 @@
 use Rattle.std.proofs.Common.{get_or, ◌≡◌, ◌-◌, length, refl, arith}
 use Rattle.std.proofs.lemmas.List.{drop_all}
 use Rattle.std.proofs.lemmas.List.Elements.{All-nil}
-use Rattle.const_hex_arch.specs.Digits.{IsDigit}
+use Rattle.const_hex_arch.specs.Texts.{IsDigit}
 use Rattle.const_hex_arch.proofs.lemmas.Spelling.{IsDigit-from_value, value_found}
 use Rattle.const_hex_uses.proofs.lemmas.Backward.{digit_before}
 use Rattle.const_hex_uses.proofs.own_kernel.BackwardKernel.check.Goals as goal

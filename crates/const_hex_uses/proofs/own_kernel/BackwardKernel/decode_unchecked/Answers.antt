@@ -1,7 +1,7 @@
 use Rattle.std.proofs.Common.{get_or, ◌≡◌, ◌-◌, ◌+◌, ◌*◌, length, arith}
 use Rattle.std.proofs.lemmas.List.{drop_all}
 use Rattle.std.proofs.lemmas.List.Elements.{All-get_or}
-use Rattle.const_hex_arch.specs.Digits.{IsDigit}
+use Rattle.const_hex_arch.specs.Texts.{IsDigit}
 use Rattle.const_hex_arch.proofs.lemmas.Spelling.{digit_found}
 use Rattle.const_hex_uses.proofs.lemmas.Backward.{pair_before}
 use Rattle.const_hex_uses.proofs.own_kernel.BackwardKernel.decode_unchecked.Goals as goal

@@ -1,5 +1,5 @@
 use Rattle.std.proofs.Common.{◌-◌, ◌*◌, length, take}
-use Rattle.const_hex_arch.specs.Runs.{HasRoom, Writes}
+use Rattle.const_hex_arch.specs.Outputs.{HasRoom, Writes}
 use Rattle.const_hex_arch.specs.Texts.{hex_text}
 use Rattle.const_hex_uses.proofs.own_kernel.BackwardKernel.encode.Given as goal
 

@@ -1,5 +1,5 @@
 use Rattle.std.proofs.Common.{◌-◌, ◌*◌, length, take}
-use Rattle.const_hex_arch.specs.Runs.{HasRoom, Writes}
+use Rattle.const_hex_arch.specs.Outputs.{HasRoom, Writes}
 use Rattle.const_hex_arch.specs.Texts.{hex_text}
 use Rattle.const_hex_arch.proofs.arch.plain.PlainKernel.encode.Given as goal
 

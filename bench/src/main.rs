@@ -1,0 +1,137 @@
+//! Instructions of one call, by valgrind's callgrind. They do not depend on what else the machine does.
+//!
+//!     cargo run --release                            # every library, up to 2048 bytes
+//!     cargo run --release -- const-hex               # these libraries alone
+//!
+//! Each cell is the difference of two runs of this program, by the number of calls between them.
+
+use const_hex_bench::{cases, CALLS, SIZES};
+use std::collections::BTreeMap;
+use std::process::{Command, ExitCode};
+use std::sync::Mutex;
+use std::{env, io, thread};
+
+/// The calls that the longer run makes beyond the shorter one.
+const MORE: usize = 400;
+
+/// One cell of the table: a call, a library and a size.
+type Cell = (&'static str, &'static str, usize);
+
+fn main() -> ExitCode {
+    let arguments: Vec<String> = env::args().skip(1).collect();
+    if let [marker, call, library, size, count] = &arguments[..] {
+        if marker == "--repeat" {
+            return repeat(call, library, size, count);
+        }
+    }
+    match print(&arguments) {
+        Ok(()) => ExitCode::SUCCESS,
+        Err(error) => {
+            eprintln!("const-hex-bench: {error}");
+            ExitCode::FAILURE
+        }
+    }
+}
+
+/// Makes one call so many times: what is counted.
+fn repeat(call: &str, library: &str, size: &str, count: &str) -> ExitCode {
+    let (Ok(size), Ok(count)) = (size.parse(), count.parse()) else {
+        return ExitCode::FAILURE;
+    };
+    let mut cases = cases(size);
+    match cases
+        .iter_mut()
+        .find(|case| case.call == call && case.library == library)
+    {
+        Some(case) => case.repeat(count),
+        None => return ExitCode::FAILURE,
+    }
+    ExitCode::SUCCESS
+}
+
+/// Prints a table for each call, with a row for each size and a column for each library.
+fn print(only: &[String]) -> io::Result<()> {
+    let cells: Vec<Cell> = SIZES
+        .into_iter()
+        .filter(|size| *size <= 2048)
+        .flat_map(|size| {
+            cases(size)
+                .into_iter()
+                .map(move |case| (case.call, case.library, size))
+        })
+        .filter(|(_, library, _)| only.is_empty() || only.iter().any(|name| name == library))
+        .collect();
+    let counted = count_all(&cells)?;
+    for call in CALLS {
+        let mut libraries: Vec<&str> = Vec::new();
+        for (of, library, _) in &cells {
+            if *of == call && !libraries.contains(library) {
+                libraries.push(library);
+            }
+        }
+        println!(
+            "\n| {call} | {} |\n|{}",
+            libraries.join(" | "),
+            "---|".repeat(libraries.len() + 1)
+        );
+        for size in SIZES.into_iter().filter(|size| *size <= 2048) {
+            let row = libraries
+                .iter()
+                .map(|library| counted[&(call, *library, size)].to_string());
+            println!("| {size} | {} |", row.collect::<Vec<String>>().join(" | "));
+        }
+    }
+    Ok(())
+}
+
+/// Counts every cell, by as many threads as there are processors.
+fn count_all(cells: &[Cell]) -> io::Result<BTreeMap<Cell, u64>> {
+    let waiting = Mutex::new(cells.iter());
+    let counted = Mutex::new(BTreeMap::new());
+    let failure = Mutex::new(None);
+    let work = || loop {
+        let next = waiting.lock().unwrap().next();
+        let Some(cell) = next else { return };
+        match count_one(*cell) {
+            Ok(count) => drop(counted.lock().unwrap().insert(*cell, count)),
+            Err(error) => *failure.lock().unwrap() = Some(error),
+        }
+    };
+    thread::scope(|scope| {
+        for _ in 0..thread::available_parallelism().map_or(1, usize::from) {
+            scope.spawn(work);
+        }
+    });
+    match failure.into_inner().unwrap() {
+        Some(error) => Err(error),
+        None => Ok(counted.into_inner().unwrap()),
+    }
+}
+
+/// The instructions of one call, the loop around it included.
+fn count_one(cell: Cell) -> io::Result<u64> {
+    let (few, many) = (collected(cell, 100)?, collected(cell, 100 + MORE)?);
+    Ok((many - few) / MORE as u64)
+}
+
+/// The instructions of a whole run with so many calls.
+fn collected((call, library, size): Cell, count: usize) -> io::Result<u64> {
+    let output = Command::new("valgrind")
+        .args(["--tool=callgrind", "--callgrind-out-file=/dev/null"])
+        .arg(env::current_exe()?)
+        .args([
+            "--repeat",
+            call,
+            library,
+            &size.to_string(),
+            &count.to_string(),
+        ])
+        .output()?;
+    let said = String::from_utf8_lossy(&output.stderr);
+    let number = said
+        .lines()
+        .find_map(|line| line.split("Collected : ").nth(1));
+    number
+        .and_then(|number| number.trim().parse().ok())
+        .ok_or_else(|| io::Error::other(format!("valgrind: {said}")))
+}

@@ -1,0 +1,158 @@
+-- What is returned for a text: its prefix, the bytes or the error, and the error's message.
+use Rattle.std.specs.Prelude.{◌≡◌, ℕ, ◌+◌, ◌-◌, ◌==◌, nat_le, ◌&&◌, ◌||◌, if◌then◌else◌, List, [], ◌∷◌, length, map, slice_index, ◌*◌, ◌%◌, ◌≢◌, ◌<◌, ◌≤◌, Bool, Result, Ok, Err, Option, Some, None, codes, ◌++◌, ◌↔◌, true, false, String, string_bytes, take, drop, IfOk, IfErr, OnOk, OnErr, IsOk, IsTrue, MatchResult}
+use Rattle.const_hex_arch.specs.Texts.{FirstBad, hex_value, Spells, Partial, hex_text, full_text}
+use Rattle.const_hex.specs.declared.error.FromHexError.{FromHexError}
+use Rattle.const_hex.specs.declared.error.FromHexError.TheVariants.{OddLength, InvalidStringLength, InvalidHexCharacter, NoMemory}
+use Rattle.std.specs.List.{list_all}
+use Rattle.std.specs.Option.{is_some}
+
+-- ---- a text without its prefix
+
+-- the text without `0x` or `0X` at its start: one prefix is taken away, never two
+abbrev pub body_of : List ℕ → List ℕ
+body_of [] = []
+body_of (c ∷ []) = c ∷ []
+body_of (c ∷ d ∷ u) = if (c == 48) && (d == 120 || d == 88) then u else c ∷ d ∷ u
+
+-- `A` to `F` become `a` to `f`, and every other byte is kept
+abbrev pub lowered : List ℕ → List ℕ
+lowered u = map (λ b. if nat_le 65 b && nat_le b 70 then b + 32 else b) u
+
+-- c is the first byte after the prefix of t that is not a digit, and index its position in t
+abbrev pub NamesFirstBad : List ℕ → ℕ → ℕ → Type 0
+NamesFirstBad t c index =
+    (p : ℕ) × FirstBad (body_of t) p × (c ≡ slice_index (body_of t) p) × (index ≡ p + (length t - length (body_of t)))
+
+-- ---- the answers for a text
+
+abbrev pub IsOdd : ℕ → Type 0
+IsOdd n = n % 2 ≡ 1
+
+abbrev pub IsEven : ℕ → Type 0
+IsEven n = n % 2 ≡ 0
+
+-- every element is a byte
+abbrev pub AreBytes : List ℕ → Type 0
+AreBytes bs = (k : ℕ) → slice_index bs k < 256
+
+-- the answer when the text t is read: `OddLength` if the length of the whole text is odd; else the
+-- bytes that its body spells, or else the first invalid character
+abbrev pub Reads : List ℕ → Result (List ℕ) FromHexError → Type 0
+Reads t (Ok bs) = IsEven (length t) × Spells (body_of t) bs
+Reads t (Err OddLength) = IsOdd (length t)
+Reads t (Err InvalidStringLength) = ⊥
+Reads t (Err (InvalidHexCharacter c i)) = IsEven (length t) × NamesFirstBad t c i
+Reads t (Err NoMemory) = ⊥
+
+-- the answer when t is read as n bytes: if the length is not odd, a body of another length is
+-- an error, before any of its bytes is tested
+abbrev pub ReadsSized : List ℕ → ℕ → Result (List ℕ) FromHexError → Type 0
+ReadsSized t n (Ok bs) = (length (body_of t) ≡ 2 * n) × Reads t (Ok bs)
+ReadsSized t n (Err OddLength) = IsOdd (length t)
+ReadsSized t n (Err InvalidStringLength) = IsEven (length t) × (length (body_of t) ≢ 2 * n)
+ReadsSized t n (Err (InvalidHexCharacter c i)) =
+    (length (body_of t) ≡ 2 * n) × Reads t (Err (InvalidHexCharacter c i))
+ReadsSized t n (Err NoMemory) = ⊥
+
+-- whether every byte of u is a digit, as a test that can be computed
+abbrev pub all_digits : List ℕ → Bool
+all_digits u = list_all (λ b. is_some (hex_value b)) u
+
+-- whether t is a text of n bytes: its body is 2 * n digits
+abbrev pub is_text_of : ℕ → List ℕ → Bool
+is_text_of n t = (length (body_of t) == 2 * n) && all_digits (body_of t)
+
+-- the answer when t is read into space for n bytes: if the length is not odd, a body with too many
+-- digits is an error, before any of its bytes is tested
+abbrev pub ReadsWithin : List ℕ → ℕ → Result (List ℕ) FromHexError → Type 0
+ReadsWithin t n (Ok bs) = (length (body_of t) ≤ 2 * n) × Reads t (Ok bs)
+ReadsWithin t n (Err OddLength) = IsOdd (length t)
+ReadsWithin t n (Err InvalidStringLength) = IsEven (length t) × (2 * n < length (body_of t))
+ReadsWithin t n (Err (InvalidHexCharacter c i)) =
+    (length (body_of t) ≤ 2 * n) × Reads t (Err (InvalidHexCharacter c i))
+ReadsWithin t n (Err NoMemory) = ⊥
+
+-- the answer when t is checked: the answer when it is read, without the bytes
+abbrev pub Checks : List ℕ → Result Unit FromHexError → Type 0
+Checks t (Ok u) = (bs : List ℕ) × Reads t (Ok bs)
+Checks t (Err e) = Reads t (Err e)
+
+-- what an error for t leaves of an output that held `old`
+abbrev pub Leaves : List ℕ → List ℕ → List ℕ → FromHexError → Type 0
+Leaves t old new OddLength = new ≡ old
+Leaves t old new InvalidStringLength = new ≡ old
+Leaves t old new (InvalidHexCharacter c i) = Partial old (body_of t) new
+Leaves t old new NoMemory = ⊥
+
+-- ---- what an error prints, if its contract says so
+
+-- the message of an error; that of an invalid character is only tested
+abbrev pub message_of : FromHexError → Option (List ℕ)
+message_of OddLength = Some (codes "odd number of digits")
+message_of InvalidStringLength = Some (codes "invalid string length")
+message_of (InvalidHexCharacter c i) = None
+message_of NoMemory = Some (codes "out of memory")
+
+-- ---- what the calls of the codec promise, once for each call and those that differ by a kernel alone
+
+-- `encode`: the text is two digits for each byte
+pub record Encodes {A E : Type 0} (up : Bool) (bs : List ℕ) (r : Result (String A) E) : Type 0 where
+  pub text : IfOk r (λ s. string_bytes s ≡ hex_text up bs)
+  -- the text of xs and then ys is the text of xs, and then the text of ys
+  pub append : (xs ys : List ℕ) → bs ≡ xs ++ ys → IfOk r (λ s. string_bytes s ≡ hex_text up xs ++ hex_text up ys)
+
+-- `encode_to_slice`: the output holds the text if it has exactly its length, and else is unchanged
+pub record EncodesToSlice (length_of_text : ℕ) (text_of_bytes old new : List ℕ) (r : Result Unit FromHexError) : Type 0 where
+  pub fits : IsOk r ↔ (length old ≡ length_of_text)
+  pub text : OnOk r (new ≡ text_of_bytes)
+  pub error : OnErr r (r ≡ Err InvalidStringLength)
+  pub unchanged : OnErr r (new ≡ old)
+
+-- `decode`: the result for the text t, or out of memory for an even length
+pub record Decodes {V : Type 0} (items : V → List ℕ) (t : List ℕ) (r : Result V FromHexError) : Type 0 where
+  pub ok : IfOk r (λ v. Reads t (Ok (items v)))
+  pub err : IfErr r (λ e. e ≢ NoMemory → Reads t (Err e))
+  pub odd : (r ≡ Err OddLength) ↔ IsOdd (length t)
+  -- what was encoded is decoded to the same bytes
+  pub round_trip : (prefix up : Bool) (bs : List ℕ) → AreBytes bs → t ≡ full_text prefix up bs
+      → MatchResult r (λ v. items v ≡ bs) (λ e. e ≡ NoMemory)
+  -- the text of the bytes is the body in lowercase
+  pub canonical : IfOk r (λ v. hex_text false (items v) ≡ lowered (body_of t))
+  -- another text gives the same bytes if and only if the two bodies differ only in case
+  pub agree : (u bs : List ℕ) → Reads u (Ok bs) → IfOk r (λ v. (bs ≡ items v) ↔ (lowered (body_of u) ≡ lowered (body_of t)))
+
+-- `decode_to_slice`: the result for the text t and an output of exactly its bytes, and what the output
+-- holds; if the kernel checks a text first, every error leaves it unchanged
+pub record DecodesToSlice (checks_first : Bool) (t old new : List ℕ) (r : Result Unit FromHexError) : Type 0 where
+  pub ok : IfOk r (λ _. ReadsSized t (length old) (Ok new))
+  pub err : IfErr r (λ e. ReadsSized t (length old) (Err e))
+  pub after_error : IfErr r (λ e. Leaves t old new e)
+  pub unchanged : checks_first ≡ true → OnErr r (new ≡ old)
+
+-- `decode_to_front`: the result for the text t and an output that may be larger, the number of bytes,
+-- and what the output holds
+pub record DecodesToFront (t old new : List ℕ) (r : Result ℕ FromHexError) : Type 0 where
+  pub ok : IfOk r (λ n. ReadsWithin t (length old) (Ok (take n new)))
+  pub count : IfOk r (λ n. length (body_of t) ≡ 2 * n)
+  pub rest : IfOk r (λ n. drop n new ≡ drop n old)
+  pub err : IfErr r (λ e. ReadsWithin t (length old) (Err e))
+  pub after_error : IfErr r (λ e. Leaves t old new e)
+
+-- `decode_to_array`: the result for the text t and n bytes
+pub record DecodesToArray (n : ℕ) (t : List ℕ) (r : Result (List ℕ) FromHexError) : Type 0 where
+  pub answer : ReadsSized t n r
+  -- for a constant text this computes, so the check proves an `unwrap`
+  pub accepts : IsOk r ↔ IsTrue (is_text_of n t)
+  -- what was encoded of n bytes is decoded to the same bytes
+  pub round_trip : (prefix up : Bool) (bs : List ℕ) → AreBytes bs → length bs ≡ n → t ≡ full_text prefix up bs → r ≡ Ok bs
+  -- another text gives the same bytes if and only if the two bodies differ only in case
+  pub agree : (u bs : List ℕ) → ReadsSized u n (Ok bs) → IfOk r (λ v. (bs ≡ v) ↔ (lowered (body_of u) ≡ lowered (body_of t)))
+  -- this is the only result that meets `ReadsSized`
+  pub unique : (s : Result (List ℕ) FromHexError) → ReadsSized t n s → s ≡ r
+
+-- `check`: the result for the text t
+pub record ChecksText (t : List ℕ) (r : Result Unit FromHexError) : Type 0 where
+  pub answer : Checks t r
+  pub accepts : IsOk r ↔ ((bs : List ℕ) × Reads t (Ok bs))
+  -- this is the only result that meets `Checks`
+  pub unique : (s : Result Unit FromHexError) → Checks t s → s ≡ r

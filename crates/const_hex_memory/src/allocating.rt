@@ -1,0 +1,173 @@
+//! Calls that allocate.
+
+use crate::inputs::{
+    BAD, BYTES, DATA, DIGITS, HASH, Inputs, KIWI, LARGE_DIGITS, LOWER, PREFIXED, TEXT, UPPER,
+};
+use crate::judge::{allocates, judge_allocating};
+use const_hex::serde::no_prefix;
+use const_hex::{
+    BufferedHex, FromHex, FromHexError, JsonError, Kernel, PieceSink, SinkError, ToHex, ToHexExt,
+    const_encode, decode, decode_with, deserialize, encode, encode_prefixed, encode_upper,
+    encode_upper_prefixed, encode_with, serialize, serialize_upper,
+};
+use hash_hex::{Address20, Hash32};
+use hex_testing::texts::bad;
+use hex_testing::{KernelCase, by_each_kernel};
+use serde_json::Value;
+use std::alloc::{AllocError, Global};
+use std::boxed::BoxedSlice;
+use std::rc::Rc;
+
+const NO_MEMORY: FromHexError = FromHexError::NoMemory;
+
+/// Makes all these calls.
+pub(crate) fn make_calls(rt: &impl Print, alloc: Global, inputs: &Inputs, count: &mut usize) {
+    encode_all(rt, alloc, count);
+    encode_value(rt, alloc, b"kiwi", count);
+    encode_value(rt, alloc, &inputs.vector, count);
+    encode_value(rt, alloc, &inputs.string, count);
+    write_json(rt, alloc, count);
+    read_json(rt, alloc, inputs, count);
+    decode_all(rt, alloc, TEXT, Ok(KIWI), count);
+    decode_all(rt, alloc, BAD, Err(bad(b'z', 0)), count);
+    decode_signed(rt, alloc, TEXT, Ok(&[107, 105, 119, 105]), count);
+    decode_signed(rt, alloc, BAD, Err(bad(b'z', 0)), count);
+    decode_pointers(rt, alloc, count);
+    by_each_kernel!(by_kernel(rt, alloc, count));
+    let mut sink = PieceSink::new(alloc, 0);
+    let done = BufferedHex::<false, true>::new(&DATA).write_to(&mut sink);
+    judge_stream(rt, "write_to", done, &sink, count);
+}
+
+fn encode_all(rt: &impl Print, alloc: Global, count: &mut usize) {
+    let buffer = const_encode::<4, true, 10>(b"kiwi");
+    allocates!(rt, count, AllocError;
+        encode(alloc, KIWI) => Ok(LOWER),
+        encode_upper(alloc, KIWI) => Ok(UPPER),
+        encode_prefixed(alloc, KIWI) => Ok(TEXT),
+        encode_upper_prefixed(alloc, KIWI) => Ok(PREFIXED),
+        buffer.to_string(alloc) => Ok(TEXT),
+        buffer.to_vec(alloc) => Ok(TEXT),
+    );
+}
+
+fn encode_value<T>(rt: &impl Print, alloc: Global, value: &T, count: &mut usize)
+where
+    T: ToHex + ToHexExt,
+{
+    allocates!(rt, count, AllocError;
+        ToHex::encode_hex(value, alloc) => Ok(LOWER),
+        ToHex::encode_hex_upper(value, alloc) => Ok(UPPER),
+        ToHexExt::encode_hex(value, alloc) => Ok(LOWER),
+        ToHexExt::encode_hex_upper(value, alloc) => Ok(UPPER),
+        value.encode_hex_with_prefix(alloc) => Ok(TEXT),
+        value.encode_hex_upper_with_prefix(alloc) => Ok(PREFIXED),
+    );
+}
+
+/// The text of a JSON string.
+fn text_of(value: Result<Value, AllocError>) -> Result<String, Option<AllocError>> {
+    match value {
+        Ok(Value::String(text)) => Ok(text),
+        other => Err(other.err()),
+    }
+}
+
+fn write_json(rt: &impl Print, alloc: Global, count: &mut usize) {
+    allocates!(rt, count, Some(AllocError);
+        text_of(serialize(alloc, KIWI)) => Ok(TEXT),
+        text_of(serialize_upper(alloc, KIWI)) => Ok(PREFIXED),
+        text_of(no_prefix::serialize(alloc, KIWI)) => Ok(LOWER),
+        text_of(no_prefix::serialize_upper(alloc, KIWI)) => Ok(UPPER),
+        text_of(Hash32::from_bytes([0xAB; 32]).to_value(alloc)) => Ok(HASH),
+        text_of(Address20::from_bytes([0xAB; 20]).to_value(alloc)) => Ok(&HASH[..42]),
+    );
+}
+
+fn read_json(rt: &impl Print, alloc: Global, inputs: &Inputs, count: &mut usize) {
+    let (text, wrong) = (&inputs.text, &inputs.bad);
+    allocates!(rt, count, JsonError::Hex(NO_MEMORY);
+        deserialize::<Vec<u8>>(alloc, text) => Ok(KIWI),
+        no_prefix::deserialize::<Vec<u8>>(alloc, text) => Ok(KIWI),
+        deserialize::<Vec<u8>>(alloc, wrong) => Err(JsonError::Hex(bad(b'z', 0))),
+    );
+}
+
+fn decode_all(
+    rt: &impl Print,
+    alloc: Global,
+    text: &[u8],
+    want: Result<&[u8], FromHexError>,
+    count: &mut usize,
+) {
+    allocates!(rt, count, NO_MEMORY;
+        decode(alloc, text) => want,
+        <Vec<u8>>::from_hex(alloc, text) => want,
+        <BoxedSlice<u8>>::from_hex(alloc, text) => want,
+    );
+}
+
+fn decode_signed(
+    rt: &impl Print,
+    alloc: Global,
+    text: &[u8],
+    want: Result<&[i8], FromHexError>,
+    count: &mut usize,
+) {
+    allocates!(rt, count, NO_MEMORY;
+        <Vec<i8>>::from_hex(alloc, text) => want,
+        <BoxedSlice<i8>>::from_hex(alloc, text) => want,
+    );
+}
+
+/// Pointers, by whether they point to the right bytes.
+fn decode_pointers(rt: &impl Print, alloc: Global, count: &mut usize) {
+    let (right, error) = (Ok(true), Err(NO_MEMORY));
+    let list = <Box<Rc<Vec<u8>>>>::from_hex(alloc, TEXT).map(|list| list.as_slice() == KIWI);
+    judge_allocating(rt, "from_hex of Box<Rc>", list, right, error, count);
+    let array = <Box<[u8; 4]>>::from_hex(alloc, TEXT).map(|array| *array == *b"kiwi");
+    judge_allocating(rt, "from_hex of Box", array, right, error, count);
+    let array = <Rc<[i8; 4]>>::from_hex(alloc, TEXT).map(|array| *array == [107, 105, 119, 105]);
+    judge_allocating(rt, "from_hex of Rc", array, right, error, count);
+    let wrong = <Box<Rc<Vec<u8>>>>::from_hex(alloc, BAD).map(|_| true);
+    judge_allocating(rt, "from_hex of zz", wrong, Err(bad(b'z', 0)), error, count);
+}
+
+/// The texts are a step of 32 lanes, one of 16, and a remainder.
+fn by_kernel<K: Kernel>(rt: &impl Print, alloc: Global, count: &mut usize, _kernel: KernelCase) {
+    let mut wrong = DIGITS;
+    wrong[100] = b'g';
+    allocates!(rt, count, AllocError;
+        encode_with::<K, false>(alloc, &BYTES) => Ok(&DIGITS),
+        encode_with::<K, true>(alloc, &BYTES) => Ok(&LARGE_DIGITS),
+    );
+    allocates!(rt, count, NO_MEMORY;
+        decode_with::<K>(alloc, &DIGITS) => Ok(&BYTES),
+        decode_with::<K>(alloc, &wrong) => Err(bad(b'g', 100)),
+        decode_with::<K>(alloc, BAD) => Err(bad(b'z', 0)),
+    );
+    let mut sink = PieceSink::new(alloc, 0);
+    let done = BufferedHex::<false, true>::new(&DATA).write_with::<K, PieceSink>(&mut sink);
+    judge_stream(rt, "write_with", done, &sink, count);
+}
+
+/// Judges the stream of [`DATA`] behind `0x`, which has three pieces. If there is no memory for one,
+/// the sink keeps those before it.
+fn judge_stream(
+    rt: &impl Print,
+    call: &str,
+    done: Result<(), SinkError>,
+    sink: &PieceSink,
+    count: &mut usize,
+) {
+    let kept = sink.pieces().len();
+    let state = (kept < 3, sink.no_memory(), sink.calls() == kept);
+    judge_allocating(
+        rt,
+        call,
+        (done, state),
+        (Ok(()), (false, false, true)),
+        (Err(SinkError), (true, true, false)),
+        count,
+    );
+}

@@ -1,0 +1,30 @@
+//! The names of the crate `hex`, over the formally verified source in [`const_hex_proved`].
+//!
+//! Put it in the place of `hex` for all that you depend on:
+//!
+//! ```toml
+//! [patch.crates-io]
+//! hex = { path = "../const_hex/rust/hex" }
+//! ```
+//!
+//! ```
+//! # #[cfg(feature = "alloc")] {
+//! assert_eq!(hex::encode("kiwi"), "6b697769");
+//! assert_eq!(hex::decode("6b697769"), Ok(b"kiwi".to_vec()));
+//! # }
+//! ```
+#![no_std]
+#![forbid(unsafe_code)]
+#![warn(missing_docs)]
+
+pub use const_hex_proved::{
+    decode_to_slice, encode_to_slice, FromHex, FromHexError, ToHex,
+};
+#[cfg(feature = "alloc")]
+pub use const_hex_proved::{decode, encode, encode_upper};
+
+#[cfg(feature = "serde")]
+pub use const_hex_proved::serde::no_prefix as serde;
+#[cfg(feature = "serde")]
+#[doc(no_inline)]
+pub use crate::serde::{deserialize, serialize, serialize_upper};

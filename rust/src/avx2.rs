@@ -1,0 +1,41 @@
+//! The proved kernels once more, over the registers of AVX2.
+
+#![allow(dead_code, unused_imports, unused_labels)]
+
+pub use crate::proved::arch::{plain, Kernel};
+
+#[path = "proved/arch/drivers.rs"]
+pub mod drivers;
+#[path = "proved/arch/lanes.rs"]
+pub mod lanes;
+#[path = "proved/arch/lanes16.rs"]
+pub mod lanes16;
+#[path = "proved/arch/lanes32.rs"]
+pub mod lanes32;
+#[path = "rattle/registers/avx2.rs"]
+pub mod registers;
+#[path = "proved/arch/short.rs"]
+mod short_inlined;
+#[path = "rattle/simd.rs"]
+pub mod simd;
+#[path = "proved/arch/steps.rs"]
+pub mod steps;
+
+/// The proved module, but with `decode` as a function of its own, as its source has it: inlined into each
+/// place that calls it, it would make the functions that decode several times as large.
+pub mod short {
+    use super::lanes::Vectors;
+    pub(crate) use super::short_inlined::check;
+
+    #[inline(always)]
+    pub(crate) fn decode<W: Vectors<16>>(text: &[u8], output: &mut [u8]) -> bool {
+        // SAFETY: only functions that have AVX2 call this.
+        unsafe { decode_apart::<W>(text, output) }
+    }
+
+    #[target_feature(enable = "avx2")]
+    #[inline(never)]
+    unsafe fn decode_apart<W: Vectors<16>>(text: &[u8], output: &mut [u8]) -> bool {
+        super::short_inlined::decode::<W>(text, output)
+    }
+}

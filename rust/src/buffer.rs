@@ -1,0 +1,330 @@
+//! A text in an array.
+
+use crate::proved::codec::encoders::encode_full_to_slice;
+use crate::proved::tables::digit_at;
+#[cfg(feature = "alloc")]
+use alloc::{string::String, vec::Vec};
+use core::{fmt, str};
+
+/// An array with the text of `N` bytes. If `PREFIX` is true, the text begins with `0x`.
+///
+/// A new buffer has the prefix, if any, and NUL characters in place of the digits. Each method that formats
+/// writes the whole text, prefix included. No method allocates unless it says so.
+///
+/// ```
+/// let mut buffer = const_hex_proved::Buffer::<4, true>::new();
+/// assert_eq!(buffer.format(b"kiwi"), "0x6b697769");
+/// assert_eq!(buffer.format_upper(b"kiwi"), "0x6B697769");
+///
+/// const PEAR: const_hex_proved::Buffer<4> = const_hex_proved::Buffer::new().const_format(b"pear");
+/// assert_eq!(PEAR.as_str(), "70656172");
+/// ```
+// `as_ptr` relies on the order of the fields, and that nothing lies between them. The text is UTF-8 at all times.
+#[must_use]
+#[repr(C)]
+#[derive(Clone)]
+pub struct Buffer<const N: usize, const PREFIX: bool = false> {
+    /// Not in the text if `PREFIX` is false.
+    prefix: [u8; 2],
+    digits: [[u8; 2]; N],
+}
+
+impl<const N: usize, const PREFIX: bool> Buffer<N, PREFIX> {
+    /// The length of the text: two digits per byte, and 2 more if `PREFIX` is true.
+    pub const LEN: usize = Self::PREFIX_LEN + 2 * N;
+
+    const PREFIX_LEN: usize = if PREFIX { 2 } else { 0 };
+
+    /// Returns a buffer with the prefix, if any, and `2 * N` NUL characters.
+    ///
+    /// ```
+    /// assert_eq!(const_hex_proved::Buffer::<1, true>::new().as_str(), "0x\0\0");
+    /// ```
+    #[inline]
+    pub const fn new() -> Self {
+        Buffer {
+            prefix: *b"0x",
+            digits: [[0; 2]; N],
+        }
+    }
+
+    /// Returns a buffer with the text of `array` in lowercase. For constants: at run time
+    /// [`format`](Self::format) is faster, and takes the same time for all bytes.
+    ///
+    /// ```
+    /// const KIWI: const_hex_proved::Buffer<4> = const_hex_proved::Buffer::new().const_format(b"kiwi");
+    /// assert_eq!(KIWI.as_str(), "6b697769");
+    /// ```
+    #[inline]
+    pub const fn const_format(self, array: &[u8; N]) -> Self {
+        Self::of(array, false)
+    }
+
+    /// Returns a buffer with the text of `array` in uppercase. For constants: at run time
+    /// [`format_upper`](Self::format_upper) is faster, and takes the same time for all bytes.
+    ///
+    /// ```
+    /// const KIWI: const_hex_proved::Buffer<4> =
+    ///     const_hex_proved::Buffer::new().const_format_upper(b"kiwi");
+    /// assert_eq!(KIWI.as_str(), "6B697769");
+    /// ```
+    #[inline]
+    pub const fn const_format_upper(self, array: &[u8; N]) -> Self {
+        Self::of(array, true)
+    }
+
+    /// Returns a buffer with the text of `array`.
+    const fn of(array: &[u8; N], upper: bool) -> Self {
+        let mut buffer = Self::new();
+        let mut index = 0;
+        while index < N {
+            let byte = array[index];
+            buffer.digits[index] = [digit_at(upper, byte / 16), digit_at(upper, byte % 16)];
+            index += 1;
+        }
+        buffer
+    }
+
+    /// Writes the text of `array` in lowercase, and returns the whole text.
+    ///
+    /// ```
+    /// assert_eq!(const_hex_proved::Buffer::<2>::new().format(&[0, 255]), "00ff");
+    /// ```
+    #[inline]
+    pub fn format(&mut self, array: &[u8; N]) -> &mut str {
+        self.format_slice(array)
+    }
+
+    /// Writes the text of `array` in uppercase, and returns the whole text.
+    ///
+    /// ```
+    /// assert_eq!(const_hex_proved::Buffer::<2>::new().format_upper(&[0, 255]), "00FF");
+    /// ```
+    #[inline]
+    pub fn format_upper(&mut self, array: &[u8; N]) -> &mut str {
+        self.format_slice_upper(array)
+    }
+
+    /// Writes the text of `slice` in lowercase, and returns the whole text.
+    ///
+    /// # Panics
+    ///
+    /// Panics unless `slice` has `N` bytes. The buffer is unchanged then.
+    ///
+    /// ```
+    /// assert_eq!(const_hex_proved::Buffer::<4>::new().format_slice("kiwi"), "6b697769");
+    /// ```
+    #[inline]
+    #[track_caller]
+    pub fn format_slice<T: AsRef<[u8]>>(&mut self, slice: T) -> &mut str {
+        self.write(slice.as_ref(), false)
+    }
+
+    /// Writes the text of `slice` in uppercase, and returns the whole text.
+    ///
+    /// # Panics
+    ///
+    /// Panics unless `slice` has `N` bytes. The buffer is unchanged then.
+    ///
+    /// ```
+    /// assert_eq!(const_hex_proved::Buffer::<4>::new().format_slice_upper("kiwi"), "6B697769");
+    /// ```
+    #[inline]
+    #[track_caller]
+    pub fn format_slice_upper<T: AsRef<[u8]>>(&mut self, slice: T) -> &mut str {
+        self.write(slice.as_ref(), true)
+    }
+
+    /// Writes the whole text.
+    #[inline]
+    #[track_caller]
+    fn write(&mut self, bytes: &[u8], upper: bool) -> &mut str {
+        // SAFETY: an error leaves the text unchanged, and otherwise it is digits and a prefix, which are ASCII.
+        let text = unsafe { self.as_mut_bytes() };
+        if encode_full_to_slice(bytes, PREFIX, upper, text).is_err() {
+            panic!("the slice has {} bytes instead of {N}", bytes.len());
+        }
+        self.as_mut_str()
+    }
+
+    /// Returns a copy of the text. Allocates.
+    ///
+    /// ```
+    /// let text: String = const_hex_proved::const_encode::<4, false>(b"kiwi").to_string();
+    /// assert_eq!(text, "6b697769");
+    /// ```
+    #[cfg(feature = "alloc")]
+    #[allow(clippy::inherent_to_string)]
+    #[inline]
+    #[must_use]
+    pub fn to_string(&self) -> String {
+        String::from(self.as_str())
+    }
+
+    /// Returns a copy of the text as bytes. Allocates.
+    ///
+    /// ```
+    /// assert_eq!(const_hex_proved::const_encode::<1, true>(b"k").to_vec(), b"0x6b");
+    /// ```
+    #[cfg(feature = "alloc")]
+    #[inline]
+    #[must_use]
+    pub fn to_vec(&self) -> Vec<u8> {
+        self.as_bytes().to_vec()
+    }
+
+    /// Returns the text.
+    ///
+    /// ```
+    /// const KIWI: &str = const_hex_proved::const_encode::<4, false>(b"kiwi").as_str();
+    /// assert_eq!(KIWI, "6b697769");
+    /// ```
+    #[inline]
+    #[must_use]
+    pub const fn as_str(&self) -> &str {
+        // SAFETY: the text is UTF-8 at all times.
+        unsafe { str::from_utf8_unchecked(self.as_bytes()) }
+    }
+
+    /// Returns the text, which can be changed.
+    ///
+    /// ```
+    /// let mut buffer = const_hex_proved::const_encode::<4, false>(b"kiwi");
+    /// buffer.as_mut_str().make_ascii_uppercase();
+    /// assert_eq!(buffer.as_str(), "6B697769");
+    /// ```
+    #[inline]
+    pub fn as_mut_str(&mut self) -> &mut str {
+        // SAFETY: the text is UTF-8, and what can be done with a `&mut str` keeps that.
+        unsafe { str::from_utf8_unchecked_mut(self.as_mut_bytes()) }
+    }
+
+    /// Returns the text as an array.
+    ///
+    /// # Panics
+    ///
+    /// Panics unless `LEN` is [`Self::LEN`](Self::LEN).
+    ///
+    /// ```
+    /// assert_eq!(const_hex_proved::const_encode::<1, true>(b"k").as_byte_array::<4>(), b"0x6b");
+    /// ```
+    #[inline]
+    #[must_use]
+    pub const fn as_byte_array<const LEN: usize>(&self) -> &[u8; LEN] {
+        assert!(
+            LEN == Self::LEN,
+            "the array does not have the text's length"
+        );
+        // SAFETY: the text has so many bytes, and an array of bytes needs no alignment.
+        unsafe { &*self.as_ptr().cast() }
+    }
+
+    /// Returns the text as bytes.
+    ///
+    /// ```
+    /// assert_eq!(const_hex_proved::const_encode::<1, true>(b"k").as_bytes(), b"0x6b");
+    /// ```
+    #[inline]
+    #[must_use]
+    pub const fn as_bytes(&self) -> &[u8] {
+        // SAFETY: the text has so many bytes, and is borrowed with `self`.
+        unsafe { slice(self.as_ptr(), Self::LEN) }
+    }
+
+    /// Returns the text as bytes, which can be changed.
+    ///
+    /// # Safety
+    ///
+    /// The bytes must be UTF-8 when the borrow ends.
+    ///
+    /// ```
+    /// let mut buffer = const_hex_proved::const_encode::<1, true>(b"k");
+    /// // SAFETY: X is ASCII.
+    /// unsafe { buffer.as_mut_bytes()[1] = b'X' };
+    /// assert_eq!(buffer.as_str(), "0X6b");
+    /// ```
+    #[inline]
+    pub unsafe fn as_mut_bytes(&mut self) -> &mut [u8] {
+        // SAFETY: the text has so many bytes, and is borrowed with `self`.
+        unsafe { core::slice::from_raw_parts_mut(self.as_mut_ptr(), Self::LEN) }
+    }
+
+    /// Returns the digits alone as bytes, which can be changed.
+    ///
+    /// # Safety
+    ///
+    /// The bytes must be UTF-8 when the borrow ends.
+    ///
+    /// ```
+    /// let mut buffer = const_hex_proved::const_encode::<1, true>(b"k");
+    /// // SAFETY: B is ASCII.
+    /// unsafe { buffer.buffer()[1] = b'B' };
+    /// assert_eq!(buffer.as_str(), "0x6B");
+    /// ```
+    #[inline]
+    pub unsafe fn buffer(&mut self) -> &mut [u8] {
+        // SAFETY: the caller promises what `as_mut_bytes` asks.
+        unsafe { &mut self.as_mut_bytes()[Self::PREFIX_LEN..] }
+    }
+
+    /// Returns a pointer to the text. It can be read while the buffer lives and does not move.
+    #[inline]
+    #[must_use]
+    pub const fn as_ptr(&self) -> *const u8 {
+        let first: *const Self = self;
+        // SAFETY: without a prefix the text begins with the digits, 2 bytes from the start.
+        unsafe { first.cast::<u8>().add(2 - Self::PREFIX_LEN) }
+    }
+
+    /// Returns a pointer by which the text can be changed. The text must stay UTF-8.
+    #[inline]
+    pub fn as_mut_ptr(&mut self) -> *mut u8 {
+        let first: *mut Self = self;
+        // SAFETY: without a prefix the text begins with the digits, 2 bytes from the start.
+        unsafe { first.cast::<u8>().add(2 - Self::PREFIX_LEN) }
+    }
+}
+
+/// Does what `core::slice::from_raw_parts` does. A constant can call that only from Rust 1.64 on.
+///
+/// # Safety
+///
+/// That of `core::slice::from_raw_parts`.
+const unsafe fn slice<'a>(first: *const u8, count: usize) -> &'a [u8] {
+    #[repr(C)]
+    #[derive(Clone, Copy)]
+    struct Parts {
+        first: *const u8,
+        count: usize,
+    }
+    union Slice<'a> {
+        parts: Parts,
+        slice: &'a [u8],
+    }
+    // A slice is a pointer and then a count. With another layout this would be an error of the compiler.
+    // SAFETY: if the layout is another, the compiler does not read a pointer as a count.
+    const _: () = assert!(unsafe { Slice { slice: b"kiwi" }.parts.count } == 4);
+    let parts = Parts { first, count };
+    // SAFETY: the parts are in the order of a slice, and the caller promises the rest.
+    unsafe { Slice { parts }.slice }
+}
+
+impl<const N: usize, const PREFIX: bool> Default for Buffer<N, PREFIX> {
+    #[inline]
+    fn default() -> Self {
+        Self::new()
+    }
+}
+
+impl<const N: usize, const PREFIX: bool> fmt::Debug for Buffer<N, PREFIX> {
+    fn fmt(&self, f: &mut fmt::Formatter<'_>) -> fmt::Result {
+        f.debug_tuple("Buffer").field(&self.as_str()).finish()
+    }
+}
+
+impl<const N: usize, const PREFIX: bool> AsRef<str> for Buffer<N, PREFIX> {
+    #[inline]
+    fn as_ref(&self) -> &str {
+        self.as_str()
+    }
+}

@@ -1,0 +1,114 @@
+//! Functions that constants can call. They look digits up in a table, so the time that they take at run
+//! time may tell something of the bytes.
+
+use crate::proved::codec::body::{find_invalid_character, strip_even, find_first_bad};
+use crate::proved::{value_at, NIL};
+use crate::{Buffer, FromHexError};
+
+/// Returns the `N` bytes that a text decodes to. In a constant, a text that does not decode to `N` bytes is
+/// an error of the compiler.
+///
+/// # Panics
+///
+/// Panics if [`const_decode_to_array`] returns an error.
+///
+/// ```
+/// const KIWI: [u8; 4] = const_hex_proved::bytes_of(b"0x6b697769");
+/// assert_eq!(&KIWI, b"kiwi");
+/// ```
+///
+/// ```compile_fail
+/// const KIWI: [u8; 4] = const_hex_proved::bytes_of(b"0x6b6977zz");
+/// ```
+#[inline]
+#[must_use]
+#[track_caller]
+pub const fn bytes_of<const N: usize>(text: &[u8]) -> [u8; N] {
+    match const_decode_to_array(text) {
+        Ok(bytes) => bytes,
+        Err(FromHexError::OddLength) => panic!("odd number of digits"),
+        Err(FromHexError::InvalidStringLength) => panic!("the text has another number of digits"),
+        Err(FromHexError::InvalidHexCharacter { .. }) => panic!("invalid character"),
+    }
+}
+
+/// Returns a [`Buffer`] with two lowercase digits per byte, after `0x` if `PREFIX` is true.
+///
+/// ```
+/// const KIWI: const_hex_proved::Buffer<4, true> = const_hex_proved::const_encode(b"kiwi");
+/// assert_eq!(KIWI.as_str(), "0x6b697769");
+/// ```
+#[inline]
+pub const fn const_encode<const N: usize, const PREFIX: bool>(
+    input: &[u8; N],
+) -> Buffer<N, PREFIX> {
+    Buffer::new().const_format(input)
+}
+
+/// Returns what [`check`](crate::check) returns. At run time `check` is faster.
+///
+/// # Errors
+///
+/// Returns [`FromHexError::OddLength`] or [`FromHexError::InvalidHexCharacter`].
+///
+/// ```
+/// const ADDRESS: &str = "0x6b697769";
+/// const _: () = assert!(const_hex_proved::const_check(ADDRESS.as_bytes()).is_ok());
+/// ```
+#[inline]
+pub const fn const_check(input: &[u8]) -> Result<(), FromHexError> {
+    match strip_even(input) {
+        Ok(body) if const_check_raw(body) => Ok(()),
+        Ok(_) => Err(find_invalid_character(input)),
+        Err(error) => Err(error),
+    }
+}
+
+/// Returns what [`check_raw`](crate::check_raw) returns. At run time `check_raw` is faster.
+///
+/// ```
+/// const _: () = assert!(const_hex_proved::const_check_raw(b"6b6"));
+/// const _: () = assert!(!const_hex_proved::const_check_raw(b"0x6b"));
+/// ```
+#[inline]
+#[must_use]
+pub const fn const_check_raw(input: &[u8]) -> bool {
+    let (_, index) = find_first_bad(input);
+    index == input.len()
+}
+
+/// Returns what [`decode_to_array`](crate::decode_to_array) returns. At run time `decode_to_array` is
+/// faster.
+///
+/// # Errors
+///
+/// Returns [`FromHexError::OddLength`]; or else [`FromHexError::InvalidStringLength`], unless the text has
+/// two digits for each byte of the array; or else [`FromHexError::InvalidHexCharacter`].
+///
+/// ```
+/// use const_hex_proved::{const_decode_to_array, FromHexError};
+///
+/// const KIWI: Result<[u8; 4], FromHexError> = const_decode_to_array(b"0x6b697769");
+/// assert_eq!(KIWI, Ok(*b"kiwi"));
+/// ```
+#[inline]
+pub const fn const_decode_to_array<const N: usize>(input: &[u8]) -> Result<[u8; N], FromHexError> {
+    let body = match strip_even(input) {
+        Ok(body) => body,
+        Err(error) => return Err(error),
+    };
+    if body.len() / 2 != N {
+        return Err(FromHexError::InvalidStringLength);
+    }
+    let mut bytes = [0; N];
+    let mut index = 0;
+    while index < N {
+        let (high, low) = (value_at(body[2 * index]), value_at(body[2 * index + 1]));
+        if high == NIL || low == NIL {
+            return Err(find_invalid_character(input));
+        }
+        bytes[index] = 16 * high + low;
+        index += 1;
+    }
+    Ok(bytes)
+}

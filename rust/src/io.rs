@@ -1,0 +1,135 @@
+//! Text from a reader, and text to a writer.
+
+use crate::{encode_to_slice, Decoder, FromHexError};
+use std::io::{BufRead, BufReader, BufWriter, Error, ErrorKind, Read, Result, Write};
+
+/// Wraps a reader of hexadecimal text, and reads the decoded bytes. Allocates a buffer for the text.
+///
+/// The text ends where the other reader first returns no bytes.
+///
+/// # Errors
+///
+/// A read returns the other reader's error, and may be repeated. It returns an error of the kind
+/// `InvalidData` with the [`FromHexError`] inside for an invalid character, or for an odd length at the end
+/// of the text. Each later read returns that error too. Bytes less than a buffer before an invalid
+/// character may be lost.
+///
+/// ```
+/// use const_hex_proved::DecodeReader;
+/// use std::io::Read;
+///
+/// let mut bytes = Vec::new();
+/// DecodeReader::new("0x6b697769".as_bytes()).read_to_end(&mut bytes)?;
+/// assert_eq!(bytes, b"kiwi");
+/// # Ok::<(), std::io::Error>(())
+/// ```
+#[derive(Debug)]
+pub struct DecodeReader<R> {
+    text: BufReader<R>,
+    decoder: Decoder,
+    end: Option<core::result::Result<(), FromHexError>>,
+}
+
+impl<R: Read> DecodeReader<R> {
+    /// Returns a reader of the bytes that the text of `reader` decodes to.
+    pub fn new(reader: R) -> DecodeReader<R> {
+        DecodeReader {
+            text: BufReader::new(reader),
+            decoder: Decoder::new(),
+            end: None,
+        }
+    }
+
+    /// Decodes what is left in the buffer, after reading more if nothing is. Returns the number of bytes,
+    /// and sets `end` if there are no more.
+    fn decode_next(&mut self, output: &mut [u8]) -> Result<usize> {
+        let text = self.text.fill_buf()?;
+        if text.is_empty() {
+            self.end = Some(self.decoder.clone().finish());
+            return Ok(0);
+        }
+        // With a digit that waits for its other half, so many digits fill the output.
+        let length = text.len().min(output.len().saturating_mul(2) - 1);
+        let decoded = self.decoder.decode(&text[..length], output);
+        self.text.consume(length);
+        self.end = decoded.err().map(Err);
+        Ok(decoded.unwrap_or(0))
+    }
+}
+
+impl<R: Read> Read for DecodeReader<R> {
+    fn read(&mut self, output: &mut [u8]) -> Result<usize> {
+        let mut count = 0;
+        while self.end.is_none() && count == 0 && !output.is_empty() {
+            count = self.decode_next(output)?;
+        }
+        match self.end {
+            Some(Err(error)) => Err(Error::new(ErrorKind::InvalidData, error)),
+            _ => Ok(count),
+        }
+    }
+}
+
+/// Wraps a writer, and writes two lowercase digits to it for each byte. Allocates a buffer for the text.
+///
+/// As with [`BufWriter`], text may wait in the buffer until the next `flush`. Call [`finish`] when all is
+/// written: dropping the writer also writes what waits, but ignores an error.
+///
+/// # Errors
+///
+/// A write returns the other writer's error, and then none of the bytes is written, so it may be repeated.
+///
+/// ```
+/// use const_hex_proved::EncodeWriter;
+/// use std::io::Write;
+///
+/// let mut writer = EncodeWriter::new(Vec::new());
+/// writer.write_all(b"ki")?;
+/// writer.write_all(b"wi")?;
+/// assert_eq!(writer.finish()?, b"6b697769");
+/// # Ok::<(), std::io::Error>(())
+/// ```
+///
+/// [`finish`]: EncodeWriter::finish
+#[derive(Debug)]
+pub struct EncodeWriter<W: Write> {
+    text: BufWriter<W>,
+}
+
+/// How many bytes become text at once.
+const CHUNK: usize = 1024;
+
+impl<W: Write> EncodeWriter<W> {
+    /// Returns a writer of bytes, whose text goes to `writer`.
+    pub fn new(writer: W) -> EncodeWriter<W> {
+        EncodeWriter {
+            // A text that is shorter than the buffer is taken whole or not at all.
+            text: BufWriter::with_capacity(4 * CHUNK, writer),
+        }
+    }
+
+    /// Writes what is in the buffer, flushes the other writer, and returns it.
+    ///
+    /// # Errors
+    ///
+    /// Returns the other writer's error. What is not written yet is lost then.
+    pub fn finish(mut self) -> Result<W> {
+        self.text.flush()?;
+        self.text.into_inner().map_err(|error| error.into_error())
+    }
+}
+
+impl<W: Write> Write for EncodeWriter<W> {
+    fn write(&mut self, bytes: &[u8]) -> Result<usize> {
+        let mut text = [0; 2 * CHUNK];
+        let bytes = &bytes[..bytes.len().min(CHUNK)];
+        let text = &mut text[..2 * bytes.len()];
+        encode_to_slice(bytes, text).expect("the text has two digits per byte");
+        self.text.write_all(text)?;
+        Ok(bytes.len())
+    }
+
+    fn flush(&mut self) -> Result<()> {
+        self.text.flush()
+    }
+}

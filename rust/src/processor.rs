@@ -1,0 +1,160 @@
+//! The kernel for the processor, and the choice between two at run time.
+
+#[cfg(target_arch = "x86_64")]
+use crate::avx2::lanes32::Lanes32;
+use crate::proved::{Kernel, Output};
+#[cfg(feature = "alloc")]
+use crate::FromHexError;
+#[cfg(feature = "alloc")]
+use alloc::vec::Vec;
+#[cfg(target_arch = "x86_64")]
+pub use avx2::has_avx2;
+
+/// The kernel that each processor of the architecture can run. On x86-64 it computes digits, since SSE2 has
+/// no instruction that looks them up in a register.
+#[cfg(target_arch = "x86_64")]
+type Portable = crate::proved::Arithmetic16;
+#[cfg(any(
+    all(target_arch = "aarch64", target_endian = "little"),
+    all(target_arch = "wasm32", target_feature = "simd128"),
+))]
+type Portable = crate::proved::Lanes16;
+/// The kernel for other processors. It looks digits up in memory, so the time that it takes may tell
+/// something of the bytes.
+#[cfg(not(any(
+    target_arch = "x86_64",
+    all(target_arch = "aarch64", target_endian = "little"),
+    all(target_arch = "wasm32", target_feature = "simd128"),
+)))]
+type Portable = crate::proved::Plain;
+
+/// The body of a function that runs by the kernel `$k`: on x86-64 the one over AVX2 if the processor has it,
+/// and otherwise `Portable`. Each is a function of its own, so that the code of a caller stays small.
+macro_rules! by_kernel {
+    ([$($o:ident: $output:ident)?] ($($argument:ident: $type:ty),*) $(-> $result:ty)?, $k:ident => $body:expr) => {{
+        #[inline(never)]
+        fn portable$(<$o: $output>)?($($argument: $type),*) $(-> $result)? {
+            type $k = Portable;
+            $body
+        }
+        #[cfg(target_arch = "x86_64")]
+        #[target_feature(enable = "avx2")]
+        #[inline(never)]
+        unsafe fn with_avx2$(<$o: $output>)?($($argument: $type),*) $(-> $result)? {
+            type $k = Lanes32;
+            $body
+        }
+        #[cfg(target_arch = "x86_64")]
+        #[cold]
+        #[inline(never)]
+        fn otherwise$(<$o: $output>)?($($argument: $type),*) $(-> $result)? {
+            if has_avx2() {
+                // SAFETY: the processor has AVX2.
+                return unsafe { with_avx2($($argument),*) };
+            }
+            portable($($argument),*)
+        }
+        #[cfg(target_arch = "x86_64")]
+        if avx2::is_known() {
+            // SAFETY: the processor has AVX2.
+            return unsafe { with_avx2($($argument),*) };
+        }
+        #[cfg(not(target_arch = "x86_64"))]
+        use portable as otherwise;
+        otherwise($($argument),*)
+    }};
+}
+
+/// The kernel for the processor.
+pub struct Native;
+
+/// Implements each function of `Kernel` for `Native`.
+macro_rules! kernel {
+    ($($name:ident [$($o:ident: $output:ident)?] ($($argument:ident: $type:ty),*) $(-> $result:ty)?;)*) => {
+        impl Kernel for Native {
+            const USE_CHECK_FN: bool = false;
+
+            $(
+                #[inline(always)]
+                fn $name$(<$o: $output>)?($($argument: $type),*) $(-> $result)? {
+                    by_kernel!(
+                        [$($o: $output)?] ($($argument: $type),*) $(-> $result)?,
+                        K => K::$name($($argument),*)
+                    )
+                }
+            )*
+        }
+    };
+}
+kernel! {
+    encode [O: Output] (input: &[u8], upper: bool, output: &mut O);
+    fill [] (input: &[u8], upper: bool, output: &mut [u8]);
+    check [] (input: &[u8]) -> bool;
+    decode_checked [] (input: &[u8], output: &mut [u8]) -> bool;
+    decode_part [] (input: &[u8], start: usize, output: &mut [u8]) -> bool;
+    decode_unchecked [] (input: &[u8], output: &mut [u8]);
+}
+
+/// Returns the bytes that a text decodes to. The kernel is chosen before the whole call, since the source
+/// calls it for many parts.
+#[cfg(feature = "alloc")]
+#[inline]
+pub fn decode(text: &[u8]) -> Result<Vec<u8>, FromHexError> {
+    by_kernel!([] (text: &[u8]) -> Result<Vec<u8>, FromHexError>, K => decode_by::<K>(text))
+}
+
+#[cfg(feature = "alloc")]
+#[inline(always)]
+fn decode_by<K: Kernel>(text: &[u8]) -> Result<Vec<u8>, FromHexError> {
+    use crate::proved::codec::decoders::decode_with;
+    use crate::rattle::alloc::Global;
+
+    decode_with::<K>(Global, text).map(|bytes| bytes.0)
+}
+
+/// Whether the processor has AVX2.
+#[cfg(target_arch = "x86_64")]
+mod avx2 {
+    use core::arch::x86_64::{__cpuid, __cpuid_count, _xgetbv};
+    use core::sync::atomic::{AtomicU8, Ordering::Relaxed};
+
+    /// What is known of the processor: nothing yet, or that it has AVX2 or does not.
+    static AVX2: AtomicU8 = AtomicU8::new(UNKNOWN);
+    const UNKNOWN: u8 = 0;
+    const ABSENT: u8 = 1;
+    const PRESENT: u8 = 2;
+
+    /// Returns whether it is known that the processor has AVX2.
+    #[inline(always)]
+    pub fn is_known() -> bool {
+        cfg!(target_feature = "avx2") || AVX2.load(Relaxed) == PRESENT
+    }
+
+    /// Returns whether the processor has AVX2.
+    pub fn has_avx2() -> bool {
+        is_known() || AVX2.load(Relaxed) == UNKNOWN && detect()
+    }
+
+    /// Asks the processor whether it has AVX2, and whether the operating system keeps its registers.
+    #[cold]
+    fn detect() -> bool {
+        #[target_feature(enable = "xsave")]
+        unsafe fn kept_registers() -> u64 {
+            // SAFETY: the processor has this instruction, and the operating system has enabled it.
+            unsafe { _xgetbv(0) }
+        }
+        const XSAVE_ENABLED: u32 = 1 << 27;
+        const AVX: u32 = 1 << 28;
+        // SAFETY: every x86-64 processor has the instruction `cpuid`. The registers are asked for only if
+        // `cpuid` has said that they can be.
+        let is_present = unsafe {
+            let features = __cpuid(1).ecx;
+            __cpuid(0).eax >= 7
+                && features & (XSAVE_ENABLED | AVX) == (XSAVE_ENABLED | AVX)
+                && kept_registers() & 0b110 == 0b110
+                && __cpuid_count(7, 0).ebx & (1 << 5) != 0
+        };
+        AVX2.store(if is_present { PRESENT } else { ABSENT }, Relaxed);
+        is_present
+    }
+}

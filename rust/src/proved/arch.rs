@@ -1,0 +1,69 @@
+// Made by rust/erase from crates/const_hex_arch/src/arch.rt. Do not edit.
+//! Kernels, which turn bytes into digits, and digits into bytes.
+
+use crate::rattle::prelude::*;
+
+pub mod arithmetic16;
+pub mod check_first;
+mod drivers;
+mod lanes;
+pub mod lanes16;
+pub mod lanes32;
+pub mod plain;
+mod short;
+mod steps;
+
+use crate::proved::arch::lanes32::Lanes32;
+use crate::proved::output::Output;
+use crate::proved::output::slice::SliceOutput;
+
+/// The kernel of every call that does not name one. It is named here and nowhere else.
+pub type FixedKernel = crate::processor::Native;
+
+/// Turns bytes into digits, and digits into bytes.
+///
+/// The codec relies only on the contracts of these calls, so it runs over any type that meets
+/// them. None of them allocates.
+pub trait Kernel {
+    /// Whether decoders check a text before they decode it by this kernel. If so, an error leaves
+    /// their output unchanged.
+    const USE_CHECK_FN: bool;
+
+    /// Writes two digits for each byte, in order, in pieces of 1 to 64 bytes. The output must have
+    /// room for them.
+    fn encode<O: Output>(input: &[u8], upper: bool, output: &mut O);
+
+    /// Fills the output with two digits for each byte, in order. The output must have exactly the
+    /// length of that text.
+    // A call that is not inlined gets its slices in registers, and `encode` its output in memory.
+    #[inline(always)]
+    fn fill(input: &[u8], upper: bool, output: &mut [u8]) {
+        let mut written = SliceOutput::new(output);
+        Self::encode::<SliceOutput>(input, upper, &mut written);
+    }
+
+    /// Whether every byte is a digit.
+    fn check(input: &[u8]) -> bool;
+
+    /// Fills the output with the bytes that the input spells, and returns true. Returns false if
+    /// some byte is not a digit. Then a front of the output may be decoded, no longer than the
+    /// pairs before the bad byte, and the rest is unchanged. If the kernel checks first, the whole
+    /// output is unchanged. The input must have two bytes for each byte of the output.
+    fn decode_checked(input: &[u8], output: &mut [u8]) -> bool;
+
+    /// Fills the output with the bytes that a part of the input spells, and returns true. Returns
+    /// false if some byte of this part is not a digit. The part begins `start` pairs behind the start
+    /// of the input, and must have two bytes for each byte of the output.
+    ///
+    /// This is for a caller that puts each part into an array. A kernel may have shorter code for
+    /// arrays of 16, 32 and 64 bytes.
+    #[inline(always)]
+    fn decode_part(input: &[u8], start: usize, output: &mut [u8]) -> bool {
+        let end = start + output.len();
+        Self::decode_checked(input.within(2 * start..2 * end), output)
+    }
+
+    /// Fills the output with the bytes that the input spells. The input must have two bytes for
+    /// each byte of the output, and only digits.
+    fn decode_unchecked(input: &[u8], output: &mut [u8]);
+}

@@ -1,0 +1,45 @@
+// Made by rust/erase from crates/const_hex_arch/src/arch/check_first.rt. Do not edit.
+//! A kernel that checks a text before it decodes.
+
+use crate::rattle::prelude::*;
+use super::Kernel;
+use crate::proved::output::Output;
+use crate::rattle::marker::PhantomData;
+
+/// The kernel `K`, but it decodes a text only after it has checked all of it. So an error leaves
+/// the output unchanged.
+pub struct CheckFirst<K> {
+    kernel: PhantomData<K>,
+}
+
+// No contract or test fixes that it checks by `K`, since every kernel gives the same answers. It
+// was read.
+impl<K: Kernel> Kernel for CheckFirst<K> {
+    const USE_CHECK_FN: bool = true;
+
+    #[inline(always)]
+    fn encode<O: Output>(input: &[u8], upper: bool, output: &mut O) {
+        K::encode(input, upper, output);
+    }
+
+    #[inline(always)]
+    fn check(input: &[u8]) -> bool {
+        K::check(input)
+    }
+
+    // Not `always`: decoders name this call in a branch that most kernels never take. With its body
+    // in that branch, they would be too large to be inlined.
+    #[inline(always)]
+    fn decode_checked(input: &[u8], output: &mut [u8]) -> bool {
+        if !K::check(input) {
+            return false;
+        }
+        K::decode_unchecked(input, output);
+        true
+    }
+
+    #[inline(always)]
+    fn decode_unchecked(input: &[u8], output: &mut [u8]) {
+        K::decode_unchecked(input, output);
+    }
+}

@@ -1,0 +1,115 @@
+// Made by rust/erase from crates/const_hex_arch/src/arch/lanes.rt. Do not edit.
+//! The values of digits and the tests of lanes, for vectors of any number of lanes.
+
+use crate::rattle::prelude::*;
+use super::simd::prelude::*;
+
+/// What differs between vectors of different `N`. The rest of a kernel is the same for every `N`.
+/// What [`lanes16::row`](super::lanes16::row) says of `copy` holds for each call that takes one.
+pub(crate) trait Vectors<const N: usize> {
+    /// Two digits for each lane, in order: the text of the first half, and the text of the second.
+    fn digits_of(v: Simd<u8, N>, upper: bool, copy: bool) -> [Simd<u8, N>; 2];
+
+    /// The value of each lane that is a digit.
+    fn values(v: Simd<u8, N>) -> Simd<u8, N>;
+
+    /// Sets at least one of the bits 7, 6, 4 and 3 in each lane that is not a digit, and clears all
+    /// four in every other lane.
+    fn marks(v: Simd<u8, N>) -> Simd<u8, N>;
+
+    /// One byte for each two values, the higher half first.
+    fn merge(first: Simd<u8, N>, second: Simd<u8, N>, copy: bool) -> Simd<u8, N>;
+}
+
+/// The value of each lane that is a digit, and more than 15 for every other lane.
+///
+/// This is algorithm 3 of Wojciech Muła and Geoff Langdale, "Validating hexadecimal", 2022-01-17.
+// Compared line by line with the published arithmetic: min(satsub(v + 0xC6, 6) - 0xF0,
+// satadd((v & 0xDF) - 0x41, 10)), with sums and differences that wrap.
+#[inline(always)]
+pub(crate) fn nibbles<const N: usize>(v: Simd<u8, N>) -> Simd<u8, N> {
+    let decimal = (v + Simd::splat(0xC6)).saturating_sub(Simd::splat(6)) - Simd::splat(0xF0);
+    let letter = (v & Simd::splat(0xDF)) - Simd::splat(0x41);
+    // The algorithm adds 10 with a sum that stops at 255: that is min(byte, 245) + 10.
+    let letter = letter.simd_min(Simd::splat(245)) + Simd::splat(10);
+    decimal.simd_min(letter)
+}
+
+/// Whether no lane has a mark, so all have the bits 7, 6, 4 and 3 clear.
+#[inline(always)]
+pub(crate) fn are_unmarked<const N: usize>(marks: Simd<u8, N>) -> bool {
+    (marks & Simd::splat(0xD8)).reduce_or() == 0
+}
+
+/// The value of each lane that is a digit.
+#[inline(always)]
+pub(crate) fn unhex<const N: usize>(v: Simd<u8, N>) -> Simd<u8, N> {
+    let nine = Simd::splat(9);
+    (v & Simd::splat(15)) + v.simd_gt(Simd::splat(64)).select(nine, Simd::splat(0))
+}
+
+/// The lane less 48, but at most its limit. If the lane is a digit, this is its value.
+#[inline(always)]
+pub(crate) fn values_within<const N: usize>(v: Simd<u8, N>, limits: Simd<u8, N>) -> Simd<u8, N> {
+    (v - Simd::splat(0x30)).simd_min(limits)
+}
+
+/// The lane less 48, less its value: the marks of [`Vectors::marks`].
+// Not by `saturating_sub` of the limits: the limits and the values would both be kept until the
+// test of the marks is done. The default processor has too few registers for that.
+#[inline(always)]
+pub(crate) fn marks_beyond<const N: usize>(v: Simd<u8, N>, values: Simd<u8, N>) -> Simd<u8, N> {
+    v - Simd::splat(0x30) - values
+}
+
+/// The marks of [`Vectors::marks`], by what [`nibbles`] makes of each lane.
+#[inline(always)]
+pub(crate) fn marks_of_nibbles<const N: usize>(v: Simd<u8, N>) -> Simd<u8, N> {
+    let values = nibbles(v);
+    let marks = values.simd_gt(Simd::splat(15));
+    marks.select(Simd::splat(255), Simd::splat(0))
+}
+
+/// The digit of each lane, which must be a value.
+#[inline(always)]
+pub(crate) fn digits<const N: usize>(values: Simd<u8, N>, upper: bool) -> Simd<u8, N> {
+    let gap = if upper { 7 } else { 39 };
+    let is_letter = values.simd_gt(Simd::splat(9));
+    values + Simd::splat(48) + is_letter.select(Simd::splat(gap), Simd::splat(0))
+}
+
+/// Whether every lane is a digit.
+#[inline(always)]
+pub(crate) fn are_digits<const N: usize, V: Vectors<N>>(v: Simd<u8, N>) -> bool {
+    are_unmarked(V::marks(v))
+}
+
+/// The marks of two vectors, joined.
+#[inline(always)]
+pub(crate) fn joint_marks<const N: usize, V: Vectors<N>>(
+    first: Simd<u8, N>,
+    second: Simd<u8, N>,
+) -> Simd<u8, N> {
+    V::marks(first) | V::marks(second)
+}
+
+/// The bytes that the text of two vectors spells, if each of its lanes is a digit. Otherwise they
+/// mean nothing.
+#[inline(always)]
+pub(crate) fn decode<const N: usize, V: Vectors<N>>(
+    first: Simd<u8, N>,
+    second: Simd<u8, N>,
+    copy: bool,
+) -> Simd<u8, N> {
+    V::merge(V::values(first), V::values(second), copy)
+}
+
+/// As [`decode`], by [`unhex`], for a text that was tested before.
+#[inline(always)]
+pub(crate) fn decode_digits<const N: usize, V: Vectors<N>>(
+    first: Simd<u8, N>,
+    second: Simd<u8, N>,
+    copy: bool,
+) -> Simd<u8, N> {
+    V::merge(unhex(first), unhex(second), copy)
+}

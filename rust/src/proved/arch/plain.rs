@@ -1,0 +1,53 @@
+// Made by rust/erase from crates/const_hex_arch/src/arch/plain.rt. Do not edit.
+//! The kernel that goes byte by byte.
+
+use crate::rattle::prelude::*;
+use super::Kernel;
+use crate::proved::output::Output;
+use crate::proved::tables::{NIL, digit_at, value_at};
+
+/// Works byte by byte, with the tables.
+pub struct Plain;
+
+impl Kernel for Plain {
+    const USE_CHECK_FN: bool = false;
+
+    #[inline(always)]
+    fn encode<O: Output>(input: &[u8], upper: bool, output: &mut O) {
+        for b in input {
+            output.write_byte(digit_at(upper, *b / 16));
+            output.write_byte(digit_at(upper, *b % 16));
+        }
+    }
+
+    #[inline(always)]
+    
+    fn check(input: &[u8]) -> bool {
+        for b in input {
+            if value_at(*b) == NIL {
+                return false;
+            }
+        }
+        true
+    }
+
+    #[inline(always)]
+    fn decode_checked(input: &[u8], output: &mut [u8]) -> bool {
+        for i in 0..output.len() {
+            let high = value_at(input[2 * i]);
+            let low = value_at(input[2 * i + 1]);
+            if high == NIL || low == NIL {
+                return false;
+            }
+            output[i] = high * 16 + low;
+        }
+        true
+    }
+
+    #[inline(always)]
+    fn decode_unchecked(input: &[u8], output: &mut [u8]) {
+        for i in 0..output.len() {
+            output[i] = value_at(input[2 * i]) * 16 + value_at(input[2 * i + 1]);
+        }
+    }
+}

@@ -1,0 +1,78 @@
+// Made by rust/erase from crates/const_hex_arch/src/arch/short.rt. Do not edit.
+//! Checks and decodes a short text, by its first and its last digits at once.
+
+use crate::rattle::prelude::*;
+use super::lanes::Vectors;
+use super::plain::Plain;
+use super::{Kernel, steps};
+use super::simd::prelude::*;
+
+/// Whether every byte of a text of at most 16 bytes is a digit.
+#[inline(always)]
+pub(crate) fn check<W: Vectors<16>>(text: &[u8]) -> bool {
+    if text.len() >= 8 {
+        check_ends::<8, W>(text)
+    } else if text.len() >= 4 {
+        check_ends::<4, W>(text)
+    } else if text.len() >= 2 {
+        check_ends::<2, W>(text)
+    } else {
+        text.is_empty() || check_ends::<1, W>(text)
+    }
+}
+
+/// As `check`, for `H` to `2 * H` bytes.
+#[inline(always)]
+fn check_ends<const H: usize, W: Vectors<16>>(text: &[u8]) -> bool {
+    steps::check_step::<16, W>(&steps::load_ends::<H, 16>(text, b'0'))
+}
+
+/// Fills an output of at most 16 bytes with the bytes that the text spells, and returns true.
+/// Returns false if some byte is not a digit. Then a front of the output may be decoded.
+// A call of its own: with its body, the calls that decode would be too large to be inlined.
+#[inline(always)]
+pub(crate) fn decode<W: Vectors<16>>(text: &[u8], output: &mut [u8]) -> bool {
+    let is_decoded = if output.len() >= 8 {
+        decode_ends::<8, 16, W>(text, output)
+    } else if output.len() >= 4 {
+        decode_ends::<4, 8, W>(text, output)
+    } else if output.len() >= 2 {
+        decode_ends::<2, 4, W>(text, output)
+    } else if output.len() == 1 {
+        decode_ends::<1, 2, W>(text, output)
+    } else {
+        false
+    };
+    if is_decoded {
+        return true;
+    }
+    Plain::decode_checked(text, output)
+}
+
+/// Fills an output of `H` to `2 * H` bytes with the bytes that the text spells, and returns true.
+/// Otherwise the output stays unchanged, and the answer is false. `D` digits spell `H` bytes.
+#[inline(always)]
+fn decode_ends<const H: usize, const D: usize, W: Vectors<16>>(
+    text: &[u8],
+    output: &mut [u8],
+) -> bool {
+    let mut bytes = [0; 16];
+    let step = steps::load_ends::<D, 32>(text, b'0');
+    let are_digits = steps::decode_step::<16, W>(&step, &mut bytes, false);
+    if are_digits {
+        put::<H>(
+            Simd::from_slice(&bytes),
+            Simd::from_slice(bytes.within(H..)),
+            output,
+        );
+    }
+    are_digits
+}
+
+/// Fills the output with the first bytes and the last ones. Where both overlap, the last ones count.
+#[inline(always)]
+fn put<const H: usize>(first: Simd<u8, H>, last: Simd<u8, H>, output: &mut [u8]) {
+    let start = output.len() - H;
+    first.copy_to_slice(output);
+    last.copy_to_slice(output.within_mut(start..));
+}

@@ -1,0 +1,137 @@
+// Made by rust/erase from crates/const_hex_arch/src/arch/steps.rt. Do not edit.
+//! Steps: what is encoded, checked or decoded at once.
+//!
+//! `V` has the `N` lanes of a step.
+
+use crate::rattle::prelude::*;
+use super::lanes::{self, Vectors};
+use crate::proved::output::Output;
+use super::simd::prelude::*;
+
+/// Writes two digits for each of `H` to `2 * H` bytes, as one piece. The first `H` bytes and the last
+/// `H` share a vector.
+#[inline(always)]
+pub(crate) fn encode_ends<const H: usize, const N: usize, V: Vectors<N>, O: Output>(
+    bytes: &[u8],
+    upper: bool,
+    output: &mut O,
+) {
+    let text = &encode_to_array::<N, V>(&load_ends::<H, N>(bytes, 0), upper, false)[..2 * N];
+    output.write_ends(text.within(..2 * H), text.within(2 * H..4 * H), 2 * bytes.len());
+}
+
+/// Writes two digits for each byte of a step, as one piece.
+#[inline(always)]
+pub(crate) fn encode_step<const N: usize, V: Vectors<N>, O: Output>(
+    bytes: &[u8],
+    upper: bool,
+    copy: bool,
+    output: &mut O,
+) {
+    output.write(&encode_to_array::<N, V>(bytes, upper, copy)[..2 * N]);
+}
+
+/// An array that begins with the text of a step.
+#[inline(always)]
+fn encode_to_array<const N: usize, V: Vectors<N>>(bytes: &[u8], upper: bool, copy: bool) -> [u8; 64] {
+    let digits = V::digits_of(Simd::from_slice(bytes), upper, copy);
+    let mut text = [0; 64];
+    let lanes = text.within_mut(..);
+    digits[0].copy_to_slice(lanes);
+    digits[1].copy_to_slice(lanes.within_mut(N..));
+    text
+}
+
+/// A step of `N` bytes: the first `H` bytes, then the last `H`, and then only `fill`.
+#[inline(always)]
+pub(crate) fn load_ends<const H: usize, const N: usize>(bytes: &[u8], fill: u8) -> [u8; N] {
+    let mut step = [fill; N];
+    let lanes = step.within_mut(..);
+    lanes[..H].copy_from_slice(bytes.within(..H));
+    lanes[H..2 * H].copy_from_slice(bytes.within(bytes.len() - H..));
+    step
+}
+
+/// Whether every byte of a step is a digit.
+#[inline(always)]
+pub(crate) fn check_step<const N: usize, V: Vectors<N>>(text: &[u8]) -> bool {
+    lanes::are_digits::<N, V>(Simd::from_slice(text))
+}
+
+/// As `check_step`, for two steps that need not follow one another, by one test.
+#[inline(always)]
+pub(crate) fn check_pair<const N: usize, V: Vectors<N>>(first: &[u8], second: &[u8]) -> bool {
+    let marks = lanes::joint_marks::<N, V>(Simd::from_slice(first), Simd::from_slice(second));
+    lanes::are_unmarked(marks)
+}
+
+/// As `check_step`, for the text of two steps, by one test.
+#[inline(always)]
+pub(crate) fn check_two_steps<const N: usize, V: Vectors<N>>(text: &[u8]) -> bool {
+    lanes::are_unmarked(marks_of_two_steps::<N, V>(text))
+}
+
+/// As `check_step`, for the text of four steps, by one test.
+#[inline(always)]
+pub(crate) fn check_four_steps<const N: usize, V: Vectors<N>>(text: &[u8]) -> bool {
+    let (front, back) = text.split_at(2 * N);
+    lanes::are_unmarked(marks_of_two_steps::<N, V>(front) | marks_of_two_steps::<N, V>(back))
+}
+
+/// Marks of the text of two steps: there are none exactly if each byte is a digit.
+#[inline(always)]
+fn marks_of_two_steps<const N: usize, V: Vectors<N>>(text: &[u8]) -> Simd<u8, N> {
+    lanes::joint_marks::<N, V>(Simd::from_slice(text), Simd::from_slice(text.within(N..)))
+}
+
+/// Fills the output with the bytes that the text of a step spells, and returns true. If some byte
+/// is not a digit, the output stays unchanged, and the answer is false.
+#[inline(always)]
+pub(crate) fn decode_step<const N: usize, V: Vectors<N>>(
+    text: &[u8],
+    output: &mut [u8],
+    copy: bool,
+) -> bool {
+    let are_digits = check_two_steps::<N, V>(text);
+    if are_digits {
+        decode_vector::<N, V>(text, copy).copy_to_slice(output);
+    }
+    are_digits
+}
+
+/// As `decode_step`, for the text of two steps, by one test.
+#[inline(always)]
+pub(crate) fn decode_two_steps<const N: usize, V: Vectors<N>>(
+    text: &[u8],
+    output: &mut [u8],
+    copy: bool,
+) -> bool {
+    let are_digits = check_four_steps::<N, V>(text);
+    if are_digits {
+        let (text, next) = text.split_at(2 * N);
+        let first = decode_vector::<N, V>(text, copy);
+        let second = decode_vector::<N, V>(next, copy);
+        let (front, back) = output.split_at_mut(N);
+        first.copy_to_slice(front);
+        second.copy_to_slice(back);
+    }
+    are_digits
+}
+
+/// The bytes that the text of a step spells.
+// The values are computed again here. The compiler reuses the test's values.
+#[inline(always)]
+fn decode_vector<const N: usize, V: Vectors<N>>(text: &[u8], copy: bool) -> Simd<u8, N> {
+    lanes::decode::<N, V>(Simd::from_slice(text), Simd::from_slice(text.within(N..)), copy)
+}
+
+/// Fills the output with the bytes that the digits of a step spell.
+#[inline(always)]
+pub(crate) fn decode_digits_step<const N: usize, V: Vectors<N>>(
+    text: &[u8],
+    output: &mut [u8],
+    copy: bool,
+) {
+    let first = Simd::from_slice(text);
+    lanes::decode_digits::<N, V>(first, Simd::from_slice(text.within(N..)), copy).copy_to_slice(output);
+}

@@ -1,0 +1,74 @@
+// Made by rust/erase from crates/const_hex/src/codec/body.rt. Do not edit.
+//! The body of a text: the prefix rule, the first invalid character, and decoding by a kernel.
+
+use crate::rattle::prelude::*;
+use crate::proved::error::FromHexError;
+use crate::proved::{CheckFirst, Kernel, NIL, value_at};
+
+/// The text without its prefix.
+#[inline(always)]
+pub(crate) const fn strip_prefix(text: &[u8]) -> &[u8] {
+    match text {
+        [first, second, rest @ ..] if is_prefix(*first, *second) => rest,
+        _ => text,
+    }
+}
+
+/// The text without its prefix, or [`FromHexError::OddLength`].
+#[inline(always)]
+pub(crate) const fn strip_even(text: &[u8]) -> Result<&[u8], FromHexError> {
+    if text.len() % 2 != 0 {
+        return Err(FromHexError::OddLength);
+    }
+    Ok(strip_prefix(text))
+}
+
+/// Whether two bytes are `0x` or `0X`.
+// Both are compared at once: byte by byte, a text that begins with `0` would run a path of its own.
+#[inline(always)]
+pub(crate) const fn is_prefix(first: u8, second: u8) -> bool {
+    let pair = u16::from_le_bytes([first, second]);
+    pair == u16::from_le_bytes(*b"0x") || pair == u16::from_le_bytes(*b"0X")
+}
+
+/// The error that names the first byte after the prefix that is not a digit, and its position in the
+/// whole text. The text must have such a byte, and an even length.
+#[cold]
+pub(crate) const fn find_invalid_character(text: &[u8]) -> FromHexError {
+    let body = strip_prefix(text);
+    let (byte, index) = find_first_bad(body);
+    FromHexError::InvalidHexCharacter {
+        c: byte as char,
+        index: text.len() - body.len() + index,
+    }
+}
+
+/// The first byte that is not a digit, and its index.
+// If there is none, as when another process changes the text meanwhile, this names a NUL after the
+// last byte.
+#[cold]
+pub(crate) const fn find_first_bad(digits: &[u8]) -> (u8, usize) {
+    let mut index = 0;
+    'digits: while index < digits.len() {
+        let byte = digits[index];
+        if value_at(byte) == NIL {
+            return (byte, index);
+        }
+        index += 1;
+    }
+    (0, digits.len())
+}
+
+/// Fills the output with the bytes that the body spells, and returns true. Returns false if some
+/// byte is not a digit. The kernel decides whether the body is checked first. The body must have
+/// two bytes for each byte of the output.
+// A kernel that checks first may itself be a `CheckFirst`. Then this runs its `check` once, and its
+// `decode_unchecked`: `CheckFirst` calls these two of its kernel, and never `decode_checked`.
+#[inline(always)]
+pub(crate) fn decode_body<K: Kernel>(body: &[u8], output: &mut [u8]) -> bool {
+    if K::USE_CHECK_FN {
+        CheckFirst::<K>::decode_checked(body, output)
+    } else {
+        K::decode_checked(body, output)
+    }
+}

@@ -1,0 +1,46 @@
+// Made by rust/erase from crates/const_hex/src/codec/checks.rt. Do not edit.
+//! Whether a text can be decoded.
+
+use crate::rattle::prelude::*;
+use crate::proved::codec::body::{find_invalid_character, strip_even};
+use crate::proved::error::FromHexError;
+use crate::proved::{FixedKernel, Kernel};
+
+/// Whether [`decode`](crate::decode) accepts a text.
+///
+/// Returns [`FromHexError::OddLength`] for an odd length. Otherwise returns
+/// [`FromHexError::InvalidHexCharacter`] with the first byte after the prefix that is not a digit,
+/// if there is one. Does not allocate.
+#[inline(always)]
+pub fn check(input: &[u8]) -> Result<(), FromHexError> {
+    check_with::<FixedKernel>(input)
+}
+
+/// As [`check`], by a kernel of the caller's choice. Does not allocate.
+#[inline(always)]
+pub fn check_with<K: Kernel>(input: &[u8]) -> Result<(), FromHexError> {
+    if K::check(strip_even(input)?) {
+        Ok(())
+    } else {
+        Err(find_invalid_character(input))
+    }
+}
+
+/// As [`check`], with the same answer on every text. Does not allocate.
+#[inline(always)]
+pub fn const_check(input: &[u8]) -> Result<(), FromHexError> {
+    check(input)
+}
+
+/// Whether every byte is a digit. No prefix is allowed, and the length does not matter. Does not
+/// allocate.
+#[inline(always)]
+pub fn check_raw(input: &[u8]) -> bool {
+    FixedKernel::check(input)
+}
+
+/// As [`check_raw`], with the same answer on every text. Does not allocate.
+#[inline(always)]
+pub fn const_check_raw(input: &[u8]) -> bool {
+    check_raw(input)
+}

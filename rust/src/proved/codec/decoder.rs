@@ -1,0 +1,245 @@
+// Made by rust/erase from crates/const_hex/src/codec/decoder.rt. Do not edit.
+//! From a text in chunks to bytes.
+
+use crate::rattle::prelude::*;
+use crate::proved::codec::body::{decode_body, find_first_bad, is_prefix, strip_prefix};
+use crate::proved::error::FromHexError;
+use crate::proved::{FixedKernel, Kernel};
+
+/// The state of a decoder that has neither half of a pair nor an error.
+const EVEN: u8 = 0;
+/// The state of a decoder whose byte is a digit that waits for its other half.
+const WAITING: u8 = 1;
+/// The state of a decoder that found an invalid character.
+const FAILED: u8 = 2;
+
+/// Decodes a text that comes in chunks, as from a file or a socket.
+///
+/// Together the chunks are read as one text, however it was cut: between `0` and `x`, between two
+/// digits, or into empty chunks. Only a prefix at the start of the whole text is removed.
+///
+/// Pass each chunk to [`decode`](Decoder::decode), and call [`finish`](Decoder::finish) at the end
+/// of the text. [`decode`](crate::decode) names an odd length before any invalid character. A decoder
+/// cannot: it names the first invalid character at once, and an odd length at the end.
+// Calls for C take this struct as it is. Its bytes may then have any values, and if all are zero it
+// is a new decoder.
+#[repr(C)]
+#[derive(Clone, Copy, Debug)]
+pub struct Decoder {
+    /// How many bytes were read, or the position of the invalid character.
+    index: usize,
+    /// The digit that waits, or the invalid character.
+    byte: u8,
+    state: u8,
+}
+
+impl Decoder {
+    /// A decoder that has read nothing. Does not allocate.
+    #[inline(always)]
+    pub fn new() -> Decoder {
+        Decoder {
+            index: 0,
+            byte: 0,
+            state: EVEN,
+        }
+    }
+
+    /// Reads the next chunk of the text. Puts the bytes that are spelled now, and were not before,
+    /// at the front of the output, and returns their number. The rest of the output is unchanged.
+    ///
+    /// A chunk of n bytes gives at most (n + 1) / 2: a digit without its other half waits for the
+    /// next chunk. The first of these errors is returned:
+    ///
+    /// - [`FromHexError::InvalidHexCharacter`], if a chunk before had an invalid character: the
+    ///   same error again. Nothing changes;
+    /// - [`FromHexError::InvalidStringLength`], if the output has too little space for the pairs of
+    ///   digits, whatever bytes they are. Nothing changes, and the chunk may be passed again;
+    /// - [`FromHexError::InvalidHexCharacter`], with the first byte after the prefix that is not a
+    ///   digit, and its position in the whole text, or `usize::MAX` for a position beyond it. Bytes
+    ///   that stand before it may have been decoded into the output. Its rest is unchanged.
+    ///
+    /// Does not allocate.
+    #[inline(always)]
+    pub fn decode(&mut self, chunk: &[u8], output: &mut [u8]) -> Result<usize, FromHexError> {
+        self.decode_with::<FixedKernel>(chunk, output)
+    }
+
+    /// As [`decode`](Decoder::decode), by a kernel of the caller's choice. Each chunk may have
+    /// another. Does not allocate.
+    #[inline(always)]
+    pub fn decode_with<K: Kernel>(
+        &mut self,
+        chunk: &[u8],
+        output: &mut [u8],
+    ) -> Result<usize, FromHexError> {
+        if let Some(error) = self.error() {
+            return Err(error);
+        }
+        let (waiting, digits) = self.next_digits(chunk);
+        let count = count_pairs(waiting, digits);
+        if count > output.len() {
+            return Err(FromHexError::InvalidStringLength);
+        }
+        if !decode_next::<K>(waiting, digits, &mut output[..count]) {
+            return Err(self.fail(chunk.len() - digits.len(), digits));
+        }
+        self.advance(chunk.len(), left_over(waiting, digits, count));
+        Ok(count)
+    }
+
+    /// Ends the text. `Ok` if it was read whole: then the chunks together are a text that
+    /// [`decode`](crate::decode) accepts.
+    ///
+    /// Returns [`FromHexError::OddLength`] if the text has an odd number of bytes and no invalid
+    /// character, so also for a lone `0`. If a chunk had an invalid character, returns its error again. Does not allocate.
+    #[inline(always)]
+    pub fn finish(self) -> Result<(), FromHexError> {
+        if let Some(error) = self.error() {
+            return Err(error);
+        }
+        if self.state == WAITING {
+            return Err(FromHexError::OddLength);
+        }
+        Ok(())
+    }
+
+    /// How many bytes of the text were read, or `usize::MAX` if they were more. After an invalid
+    /// character, its position. Does not allocate.
+    #[inline(always)]
+    pub fn position(&self) -> usize {
+        self.index
+    }
+
+    /// The error that ended the text.
+    #[inline(always)]
+    fn error(&self) -> Option<FromHexError> {
+        if self.state <= WAITING {
+            return None;
+        }
+        Some(FromHexError::InvalidHexCharacter {
+            c: char::from(self.byte),
+            index: self.index,
+        })
+    }
+
+    /// The digit that waits for its other half.
+    #[inline(always)]
+    fn waiting(&self) -> Option<u8> {
+        if self.state == WAITING {
+            Some(self.byte)
+        } else {
+            None
+        }
+    }
+
+    /// The digit that waits and the digits that follow, if this chunk follows.
+    #[inline(always)]
+    fn next_digits<'a>(&self, chunk: &'a [u8]) -> (Option<u8>, &'a [u8]) {
+        if self.index == 0 {
+            return (None, strip_prefix(chunk));
+        }
+        match chunk {
+            [x, rest @ ..] if self.index == 1 && is_prefix(self.byte, *x) => (None, rest),
+            _ => (self.waiting(), chunk),
+        }
+    }
+
+    /// Goes on after so many bytes, with the digit that waits now.
+    #[inline(always)]
+    fn advance(&mut self, count: usize, waiting: Option<u8>) {
+        self.index = self.index.saturating_add(count);
+        match waiting {
+            Some(digit) => {
+                self.byte = digit;
+                self.state = WAITING;
+            }
+            None => self.state = EVEN,
+        }
+    }
+
+    /// Ends with the first invalid character of these digits, which stand so many bytes after what was
+    /// read.
+    #[cold]
+    fn fail(&mut self, skipped: usize, digits: &[u8]) -> FromHexError {
+        let (byte, index) = find_first_bad(digits);
+        let index = self.index.saturating_add(skipped).saturating_add(index);
+        *self = Decoder {
+            index,
+            byte,
+            state: FAILED,
+        };
+        FromHexError::InvalidHexCharacter {
+            c: char::from(byte),
+            index,
+        }
+    }
+}
+
+/// How many pairs there are.
+#[inline(always)]
+fn count_pairs(waiting: Option<u8>, digits: &[u8]) -> usize {
+    (digits.len() + usize::from(waiting.is_some())) / 2
+}
+
+/// The digit after so many pairs.
+#[inline(always)]
+fn left_over(waiting: Option<u8>, digits: &[u8], count: usize) -> Option<u8> {
+    match digits {
+        [] => waiting,
+        [.., last] => {
+            if digits.len() + usize::from(waiting.is_some()) > 2 * count {
+                Some(*last)
+            } else {
+                None
+            }
+        }
+    }
+}
+
+/// Fills the output with the bytes that the pairs spell, and returns true. Returns false if some
+/// byte is not a digit.
+#[inline(always)]
+fn decode_next<K: Kernel>(waiting: Option<u8>, digits: &[u8], output: &mut [u8]) -> bool {
+    match waiting {
+        Some(high) => decode_behind::<K>(high, digits, output),
+        None => decode_digits::<K>(digits, output),
+    }
+}
+
+/// As `decode_next`, after a digit that waits.
+// A call of its own: with its body too, `decode_with` would be too large to be inlined.
+#[inline(always)]
+fn decode_behind<K: Kernel>(high: u8, digits: &[u8], output: &mut [u8]) -> bool {
+    match digits {
+        [low, rest @ ..] => {
+            let (first, others) = output.split_at_mut(1);
+            decode_body::<K>(&[high, *low], first) && decode_digits::<K>(rest, others)
+        }
+        [] => true,
+    }
+}
+
+/// Fills the output with the bytes that the digits spell, and returns true. A last digit without
+/// its other half is only tested. Returns false if some byte is not a digit.
+#[inline(always)]
+fn decode_digits<K: Kernel>(digits: &[u8], output: &mut [u8]) -> bool {
+    let (pairs, last) = digits.split_at(2 * output.len());
+    decode_body::<K>(pairs, output) && check_last::<K>(last)
+}
+
+/// Whether the byte after the pairs, if there is one, is a digit.
+#[inline(always)]
+fn check_last<K: Kernel>(last: &[u8]) -> bool {
+    match last {
+        [digit] => check_digit::<K>(*digit),
+        _ => true,
+    }
+}
+
+/// Whether a byte is a digit. It is decoded after a `0`: then a program that decodes alone has no code
+/// that checks alone.
+// A call of its own: with its body in them, all calls that decode a chunk take 20 instructions more.
+#[inline(always)]
+fn check_digit<K: Kernel>(digit: u8) -> bool {
+    decode_body::<K>(&[b'0', digit], &mut [0])
+}

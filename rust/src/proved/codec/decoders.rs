@@ -1,0 +1,141 @@
+// Made by rust/erase from crates/const_hex/src/codec/decoders.rt. Do not edit.
+//! From text to bytes.
+
+use crate::rattle::prelude::*;
+use crate::proved::codec::body::{decode_body, find_invalid_character, strip_even};
+use crate::proved::error::FromHexError;
+#[cfg(feature = "alloc")]
+use crate::proved::reserved::decode_reserved;
+use crate::proved::{FixedKernel, Kernel};
+use crate::rattle::alloc::Global;
+
+/// The bytes that a text spells, with or without a prefix, in either case.
+///
+/// The first of these errors is returned:
+///
+/// - [`FromHexError::OddLength`], before anything is allocated;
+/// - [`FromHexError::NoMemory`], if memory cannot be allocated;
+/// - [`FromHexError::InvalidHexCharacter`], with the first byte after the prefix that is not a
+///   digit.
+#[cfg(feature = "alloc")]
+pub fn decode(alloc: Global, input: &[u8]) -> Result<Vec<u8>, FromHexError> {
+    decode_with::<FixedKernel>(alloc, input)
+}
+
+/// As [`decode`], by a kernel of the caller's choice. The errors are the same,
+/// [`FromHexError::NoMemory`] included.
+#[inline(always)]
+#[cfg(feature = "alloc")]
+pub fn decode_with<K: Kernel>(alloc: Global, input: &[u8]) -> Result<Vec<u8>, FromHexError> {
+    decode_owned::<K>(alloc, input)
+}
+
+/// The bytes that a text spells. Allocates once, for exactly these bytes; for none, not at all.
+#[inline(always)]
+#[cfg(feature = "alloc")]
+fn decode_owned<K: Kernel>(alloc: Global, input: &[u8]) -> Result<Vec<u8>, FromHexError> {
+    match decode_reserved::<K>(alloc, strip_even(input)?)? {
+        Some(bytes) => Ok(bytes),
+        None => Err(find_invalid_character(input)),
+    }
+}
+
+/// Fills the output with the bytes that a text spells, with or without a prefix, in either case.
+///
+/// The first of these errors is returned:
+///
+/// - [`FromHexError::OddLength`], and the output is unchanged;
+/// - [`FromHexError::InvalidStringLength`], if the text spells another number of bytes than the
+///   output has, and the output is unchanged;
+/// - [`FromHexError::InvalidHexCharacter`]. Bytes that stand before the invalid character may
+///   have been decoded into the output. Its rest is unchanged.
+///
+/// Does not allocate.
+#[inline(always)]
+pub fn decode_to_slice(input: &[u8], output: &mut [u8]) -> Result<(), FromHexError> {
+    decode_to_slice_with::<FixedKernel>(input, output)
+}
+
+/// As [`decode_to_slice`], by a kernel of the caller's choice. If the kernel checks a text before
+/// it decodes, every error leaves the output unchanged. Does not allocate.
+#[inline(always)]
+pub fn decode_to_slice_with<K: Kernel>(input: &[u8], output: &mut [u8]) -> Result<(), FromHexError> {
+    let body = strip_even(input)?;
+    if body.len() / 2 != output.len() {
+        return Err(FromHexError::InvalidStringLength);
+    }
+    if !decode_body::<K>(body, output) {
+        return Err(find_invalid_character(input));
+    }
+    Ok(())
+}
+
+/// Fills the front of the output with the bytes that a text spells, with or without a prefix, in
+/// either case, and returns their number. The rest of the output is unchanged.
+///
+/// The text must be whole. If it comes in chunks, use a [`Decoder`](crate::Decoder): this call would
+/// remove a prefix from each chunk.
+///
+/// The first of these errors is returned:
+///
+/// - [`FromHexError::OddLength`], and the output is unchanged;
+/// - [`FromHexError::InvalidStringLength`], if the text spells more bytes than the output has, and
+///   the output is unchanged;
+/// - [`FromHexError::InvalidHexCharacter`]. Bytes that stand before the invalid character may
+///   have been decoded into the output. Its rest is unchanged.
+///
+/// Does not allocate.
+#[inline(always)]
+pub fn decode_to_front(input: &[u8], output: &mut [u8]) -> Result<usize, FromHexError> {
+    decode_to_front_with::<FixedKernel>(input, output)
+}
+
+/// As [`decode_to_front`], by a kernel of the caller's choice. Does not allocate.
+#[inline(always)]
+pub fn decode_to_front_with<K: Kernel>(
+    input: &[u8],
+    output: &mut [u8],
+) -> Result<usize, FromHexError> {
+    let body = strip_even(input)?;
+    let count = body.len() / 2;
+    if count > output.len() {
+        return Err(FromHexError::InvalidStringLength);
+    }
+    if !decode_body::<K>(body, &mut output[..count]) {
+        return Err(find_invalid_character(input));
+    }
+    Ok(count)
+}
+
+/// The N bytes that a text spells, with or without a prefix, in either case.
+///
+/// The first of these errors is returned: [`FromHexError::OddLength`];
+/// [`FromHexError::InvalidStringLength`], if the text after the prefix does not have 2 * N bytes;
+/// [`FromHexError::InvalidHexCharacter`]. Does not allocate.
+#[inline(always)]
+pub fn decode_to_array<const N: usize>(input: &[u8]) -> Result<[u8; N], FromHexError> {
+    read_array(input)
+}
+
+/// The N bytes that a text spells.
+#[inline(always)]
+fn read_array<const N: usize>(input: &[u8]) -> Result<[u8; N], FromHexError> {
+    let mut array = [0; N];
+    decode_to_slice(input, &mut array)?;
+    Ok(array)
+}
+
+/// As [`decode_to_array`], with the same answer on every text. Does not allocate.
+#[inline(always)]
+pub fn const_decode_to_array<const N: usize>(input: &[u8]) -> Result<[u8; N], FromHexError> {
+    decode_to_array(input)
+}
+
+/// The N bytes that a constant text spells. The check proves that it spells them.
+///
+/// The text must be 2 * N digits, with or without a prefix. If a digit is wrong, or the length, the
+/// check refuses the program, and it never runs. Does not allocate.
+#[inline(always)]
+pub fn bytes_of<const N: usize>(text: &[u8]) -> [u8; N] {
+    decode_to_array(text).unwrap()
+}

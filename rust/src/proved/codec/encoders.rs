@@ -1,0 +1,148 @@
+// Made by rust/erase from crates/const_hex/src/codec/encoders.rt. Do not edit.
+//! From bytes to text.
+
+use crate::rattle::prelude::*;
+use crate::proved::error::FromHexError;
+#[cfg(feature = "alloc")]
+use crate::proved::reserved::encode_reserved;
+use crate::proved::{FixedKernel, Kernel, ascii_text, fill_text, text_length};
+use crate::rattle::alloc::{AllocError, Global};
+
+/// The text, as a `String`.
+#[inline(always)]
+#[cfg(feature = "alloc")]
+fn encode_owned<K: Kernel>(
+    alloc: Global,
+    input: &[u8],
+    prefix: bool,
+    upper: bool,
+) -> Result<String, AllocError> {
+    let text = encode_reserved::<K>(alloc, input, prefix, upper)?;
+    // SAFETY: the text is ASCII.
+    Ok(unsafe { String::from_utf8_unchecked(text) })
+}
+
+/// Two digits for each byte, in order, in lowercase.
+///
+/// Returns `AllocError` if memory cannot be allocated.
+#[cfg(feature = "alloc")]
+pub fn encode(alloc: Global, input: &[u8]) -> Result<String, AllocError> {
+    encode_with::<FixedKernel, false>(alloc, input)
+}
+
+/// As [`encode`], in uppercase.
+///
+/// Returns `AllocError` if memory cannot be allocated.
+#[cfg(feature = "alloc")]
+pub fn encode_upper(alloc: Global, input: &[u8]) -> Result<String, AllocError> {
+    encode_with::<FixedKernel, true>(alloc, input)
+}
+
+/// `0x`, and then the text of [`encode`].
+///
+/// Returns `AllocError` if memory cannot be allocated.
+#[cfg(feature = "alloc")]
+pub fn encode_prefixed(alloc: Global, input: &[u8]) -> Result<String, AllocError> {
+    encode_owned::<FixedKernel>(alloc, input, true, false)
+}
+
+/// `0x`, and then the text of [`encode_upper`].
+///
+/// Returns `AllocError` if memory cannot be allocated.
+#[cfg(feature = "alloc")]
+pub fn encode_upper_prefixed(alloc: Global, input: &[u8]) -> Result<String, AllocError> {
+    encode_owned::<FixedKernel>(alloc, input, true, true)
+}
+
+/// As [`encode`] or [`encode_upper`], by a kernel of the caller's choice.
+///
+/// Returns `AllocError` if memory cannot be allocated.
+#[inline(always)]
+#[cfg(feature = "alloc")]
+pub fn encode_with<K: Kernel, const UPPER: bool>(
+    alloc: Global,
+    input: &[u8],
+) -> Result<String, AllocError> {
+    encode_owned::<K>(alloc, input, false, UPPER)
+}
+
+/// Whether there are exactly two digits for each byte.
+#[inline(always)]
+fn two_per_byte(bytes: usize, digits: usize) -> bool {
+    // `text_length` stops at the greatest number, which is odd.
+    digits % 2 == 0 && digits == text_length(false, bytes)
+}
+
+/// Fills an output of the text's length with the text, and returns it.
+#[inline(always)]
+fn encode_into<'a>(input: &[u8], upper: bool, output: &'a mut [u8]) -> &'a mut [u8] {
+    fill_text::<FixedKernel>(input, false, upper, output);
+    output
+}
+
+/// Fills the output with the text of the input, in lowercase.
+///
+/// The output must have exactly two bytes for each byte of the input. Otherwise returns
+/// [`FromHexError::InvalidStringLength`], and the output is unchanged. Does not allocate.
+#[inline(always)]
+pub fn encode_to_slice(input: &[u8], output: &mut [u8]) -> Result<(), FromHexError> {
+    encode_full_to_slice(input, false, false, output)
+}
+
+/// As [`encode_to_slice`], in uppercase. Does not allocate.
+#[inline(always)]
+pub fn encode_to_slice_upper(input: &[u8], output: &mut [u8]) -> Result<(), FromHexError> {
+    encode_full_to_slice(input, false, true, output)
+}
+
+/// Fills the output with the text of the input, in uppercase or lowercase, behind `0x` if `prefix`
+/// is true.
+///
+/// The output must have exactly two bytes for each byte of the input, and two more for a prefix.
+/// Otherwise returns [`FromHexError::InvalidStringLength`], and the output is unchanged. Does not
+/// allocate.
+#[inline(always)]
+pub fn encode_full_to_slice(
+    input: &[u8],
+    prefix: bool,
+    upper: bool,
+    output: &mut [u8],
+) -> Result<(), FromHexError> {
+    encode_full_to_slice_with::<FixedKernel>(input, prefix, upper, output)
+}
+
+/// As [`encode_full_to_slice`], by a kernel of the caller's choice. Does not allocate.
+#[inline(always)]
+pub fn encode_full_to_slice_with<K: Kernel>(
+    input: &[u8],
+    prefix: bool,
+    upper: bool,
+    output: &mut [u8],
+) -> Result<(), FromHexError> {
+    if output.len() != text_length(prefix, input.len()) {
+        return Err(FromHexError::InvalidStringLength);
+    }
+    fill_text::<K>(input, prefix, upper, output);
+    Ok(())
+}
+
+/// Fills the output with the text of the input, in lowercase, and lends it as text.
+///
+/// The output must have exactly two bytes for each byte of the input. Otherwise returns
+/// [`FromHexError::InvalidStringLength`], and the output is unchanged. Does not allocate.
+#[inline(always)]
+pub fn encode_to_str<'a>(input: &[u8], output: &'a mut [u8]) -> Result<&'a str, FromHexError> {
+    if !two_per_byte(input.len(), output.len()) {
+        return Err(FromHexError::InvalidStringLength);
+    }
+    Ok(ascii_text(encode_into(input, false, output)))
+}
+
+/// As [`encode_to_str`], in uppercase. Does not allocate.
+#[inline(always)]
+pub fn encode_to_str_upper<'a>(input: &[u8], output: &'a mut [u8]) -> Result<&'a str, FromHexError> {
+    if !two_per_byte(input.len(), output.len()) {
+        return Err(FromHexError::InvalidStringLength);
+    }
+    Ok(ascii_text(encode_into(input, true, output)))
+}

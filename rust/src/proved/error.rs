@@ -1,0 +1,52 @@
+// Made by rust/erase from crates/const_hex/src/error.rt. Do not edit.
+//! Why a text cannot be decoded, or a text does not fit into an output.
+
+use crate::rattle::prelude::*;
+use crate::rattle::alloc::{AllocError, AllocFailed};
+use crate::rattle::{error, fmt};
+
+/// Why a text cannot be decoded, or a text does not fit into an output.
+///
+/// A text is judged in this order: an odd length, then the length that a sized call needs, then the
+/// characters.
+#[derive(Clone, Copy, PartialEq, Eq, Debug)]
+pub enum FromHexError {
+    /// The text, its prefix included, has an odd number of bytes.
+    OddLength,
+    /// A length does not fit. To decode, the text without its prefix needs two digits for each byte
+    /// that is wanted. To encode, the output needs the length of the text.
+    InvalidStringLength,
+    /// A byte is not a digit. This is the first such byte.
+    InvalidHexCharacter {
+        /// The character with the byte's number. A byte past 127 gives U+0080 to U+00FF.
+        c: char,
+        /// The byte's position, counted from 0 at the start of the whole text, prefix included.
+        index: usize,
+    },
+}
+
+impl fmt::Display for FromHexError {
+    fn fmt(&self, f: &mut fmt::Formatter<'_>) -> fmt::Result {
+        match *self {
+            FromHexError::OddLength => f.write_str("odd number of digits"),
+            FromHexError::InvalidStringLength => f.write_str("invalid string length"),
+            FromHexError::InvalidHexCharacter { c, index } => {
+                write!(f, "invalid character {c:?} at position {index}")
+            }
+        }
+    }
+}
+
+impl error::Error for FromHexError {}
+
+impl From<AllocError> for FromHexError {
+    fn from(_error: AllocError) -> FromHexError {
+        match AllocError::from(_error) {}
+    }
+}
+
+impl<T> From<AllocFailed<T>> for FromHexError {
+    fn from(_error: AllocFailed<T>) -> FromHexError {
+        match AllocError::from(_error) {}
+    }
+}

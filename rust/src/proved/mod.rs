@@ -1,0 +1,55 @@
+//! The proved source without its contracts and proofs.
+// Made by rust/erase. Do not edit.
+
+pub(crate) mod arch;
+pub(crate) mod output;
+pub(crate) mod sink;
+pub(crate) mod stream;
+pub(crate) mod tables;
+pub(crate) mod text;
+pub(crate) mod codec;
+pub(crate) mod error;
+#[cfg(feature = "alloc")]
+pub(crate) mod reserved;
+#[cfg(all(test, feature = "std"))]
+mod examples;
+
+pub use self::arch::arithmetic16::Arithmetic16;
+pub use self::arch::check_first::CheckFirst;
+pub use self::arch::lanes16::Lanes16;
+pub use self::arch::lanes32::Lanes32;
+pub use self::arch::plain::Plain;
+pub use self::arch::{FixedKernel, Kernel, lanes16, lanes32};
+pub use self::output::Output;
+pub use self::output::buffered::BufferedOutput;
+pub use self::output::slice::SliceOutput;
+pub use self::sink::output::SinkOutput;
+pub use self::sink::{Sink, SinkError};
+pub use self::stream::BufferedHex;
+pub use self::tables::{
+    HEX_CHARS_LOWER, HEX_CHARS_UPPER, HEX_DECODE_LUT, NIL, digit_at, value_at,
+};
+pub use self::text::{ascii_text, encode_full, fill_text, text_length};
+
+// The places that each rule of rust/erase has changed:
+//
+//   11  Rattle's std is the module rattle
+//    4  a formatter does not name its writer
+//   49  a function for AVX2 takes in all that it calls
+//   16  a kernel is compiled for each kind of register, so it names the others beside it
+//   36  a range that is proved to be within its slice is not tested in release builds
+//    4  an allocation never fails: without memory the program ends
+//  124  an assertion names no runtime
+//    1  and a constant converts by a cast
+//    6  and the vectors of its kind
+//   44  both crates are one module
+//   39  deleted: attribute
+//  182  deleted: contract
+//  135  deleted: ghost item
+//    4  deleted: model
+//    1  each value may be dropped
+//   22  the allocator is a value
+//    1  the bytes of a slice are appended at once, and not one by one
+//    1  the kernel is chosen for the processor
+//    7  what a constant calls is constant
+//   14  what allocates is there with the feature alloc

@@ -1,0 +1,42 @@
+// Made by rust/erase from crates/const_hex_arch/src/output.rt. Do not edit.
+//! Outputs, which text is written to.
+
+use crate::rattle::prelude::*;
+
+pub mod buffered;
+pub mod slice;
+
+/// What text is written to, piece by piece.
+///
+/// Each type says by its `step` what a write does. A caller writes only ASCII, and no more than
+/// [`remaining`](Output::remaining) says.
+pub trait Output {
+    /// How many bytes it still takes, or `None` if there is no limit.
+    fn remaining(&self) -> Option<usize>;
+
+    /// Writes a piece of ASCII text that fits.
+    fn write(&mut self, bytes: &[u8]);
+
+    /// Writes a piece of one byte.
+    #[inline(always)]
+    fn write_byte(&mut self, byte: u8) {
+        self.write(&[byte])
+    }
+
+    /// Writes the piece of `count` bytes, at most 64, that begins with `first` and ends with `last`.
+    /// Both have the same length, and together they cover the piece. Where they overlap, the bytes
+    /// of `last` are written.
+    #[inline(always)]
+    fn write_ends(&mut self, first: &[u8], last: &[u8], count: usize) {
+        self.write(&join_ends(first, last, count)[..count])
+    }
+}
+
+/// An array that begins with the piece that has these ends.
+#[inline(always)]
+fn join_ends(first: &[u8], last: &[u8], count: usize) -> [u8; 64] {
+    let mut piece = [0; 64];
+    piece[..first.len()].copy_from_slice(first);
+    piece[count - last.len()..count].copy_from_slice(last);
+    piece
+}

@@ -1,0 +1,85 @@
+// Made by rust/erase from crates/const_hex_arch/src/stream.rt. Do not edit.
+//! The text of bytes, handed to a sink in large pieces.
+
+use crate::rattle::prelude::*;
+use crate::proved::arch::{FixedKernel, Kernel};
+use crate::proved::output::buffered::BufferedOutput;
+use crate::proved::sink::output::SinkOutput;
+use crate::proved::sink::{Sink, SinkError, refusal_of};
+use crate::proved::text::{ascii_text, encode_full, fill_text, text_length};
+
+/// How many bytes are gathered for one call of a sink. A text of at most this length is handed over
+/// whole.
+const GATHERED: usize = 4096;
+
+/// The room for a short text. A smaller buffer is cleared faster.
+const SHORT: usize = 256;
+
+/// The room for a text of middle length.
+const MIDDLE: usize = 1024;
+
+/// Bytes that are written as text, in uppercase or lowercase, with or without `0x` in front.
+///
+/// Each piece has at most 4096 bytes, and each but the last at least 4033. No call follows an
+/// error. An empty text makes no call. Only the sink allocates.
+pub struct BufferedHex<'a, const UPPER: bool, const PREFIX: bool> {
+    bytes: &'a [u8],
+}
+
+impl<'a, const UPPER: bool, const PREFIX: bool> BufferedHex<'a, UPPER, PREFIX> {
+    /// These bytes, to be written as text.
+    #[inline(always)]
+    pub fn new(bytes: &'a [u8]) -> BufferedHex<'a, UPPER, PREFIX> {
+        BufferedHex { bytes }
+    }
+
+    /// Writes the text by the fixed kernel to a sink that has not refused. Returns `Ok` if the sink
+    /// accepted all of it, and an error if it refused a piece.
+    pub fn write_to<S: Sink>(&self, sink: &mut S) -> Result<(), SinkError> {
+        self.write_with::<FixedKernel, S>(sink)
+    }
+
+    /// As [`write_to`](Self::write_to), by a kernel of the caller's choice.
+    pub fn write_with<K: Kernel, S: Sink>(&self, sink: &mut S) -> Result<(), SinkError> {
+        let size = text_length(PREFIX, self.bytes.len());
+        if size <= SHORT {
+            self.write_whole::<K, S, SHORT>(sink)
+        } else if size <= MIDDLE {
+            self.write_whole::<K, S, MIDDLE>(sink)
+        } else if size <= GATHERED {
+            self.write_whole::<K, S, GATHERED>(sink)
+        } else {
+            self.gather::<K, S>(sink)
+        }
+    }
+
+    /// As `write_with`, for a text of at most `N` bytes: one call, or none if the text is empty.
+    fn write_whole<K: Kernel, S: Sink, const N: usize>(&self, sink: &mut S) -> Result<(), SinkError> {
+        let mut buffer = [0; N];
+        let text = &mut buffer[..text_length(PREFIX, self.bytes.len())];
+        fill_text::<K>(self.bytes, PREFIX, UPPER, text);
+        if text.is_empty() {
+            return Ok(());
+        }
+        sink.write_str(ascii_text(text))
+    }
+
+    /// As `write_with`, with up to 4096 bytes gathered for each call.
+    // Not inlined: the machine code for long texts is faster on its own.
+    #[inline(always)]
+    fn gather<K: Kernel, S: Sink>(&self, sink: &mut S) -> Result<(), SinkError> {
+        let mut output = BufferedOutput::<SinkOutput<'_, S>, GATHERED>::new(SinkOutput::new(sink));
+        encode_full::<K, BufferedOutput<SinkOutput<'_, S>, GATHERED>>(
+            self.bytes,
+            PREFIX,
+            UPPER,
+            &mut output,
+        );
+        // `flush` works in place, and `finish` would move the buffer first.
+        output.flush();
+        let back = output.into_output().into_inner();
+        // This does nothing. The proof reads here what the loan has left.
+        let _ = &*back;
+        refusal_of(sink)
+    }
+}

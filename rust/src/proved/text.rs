@@ -1,0 +1,55 @@
+// Made by rust/erase from crates/const_hex_arch/src/text.rt. Do not edit.
+//! The whole text of bytes: its length, and how it is written.
+
+use crate::rattle::prelude::*;
+use crate::proved::arch::Kernel;
+use crate::proved::output::Output;
+
+/// The length of the text of `count` bytes, behind `0x` if `prefix` is true. If that does not fit
+/// into a `usize`, the answer is the greatest one, and no text has that length.
+#[inline(always)]
+pub fn text_length(prefix: bool, count: usize) -> usize {
+    count
+        .saturating_mul(2)
+        .saturating_add(if prefix { 2 } else { 0 })
+}
+
+/// Fills the output with the text of the input, by the kernel `K`, behind `0x` if `prefix` is true.
+/// The output must have exactly the length of that text. Does not allocate.
+#[inline(always)]
+pub fn fill_text<K: Kernel>(input: &[u8], prefix: bool, upper: bool, output: &mut [u8]) {
+    let (front, digits) = output.split_at_mut(if prefix { 2 } else { 0 });
+    put_prefix(prefix, front);
+    K::fill(input, upper, digits);
+}
+
+/// Fills the output with `0x` if `prefix` is true. Otherwise the output must be empty.
+#[inline(always)]
+fn put_prefix(prefix: bool, output: &mut [u8]) {
+    if prefix {
+        output.copy_from_slice(b"0x");
+    }
+}
+
+/// Writes `0x` if `prefix` is true, and then two digits for each byte, by the kernel `K`. The
+/// output must have room for them. Allocates only what the output allocates.
+#[inline(always)]
+pub fn encode_full<K: Kernel, O: Output>(input: &[u8], prefix: bool, upper: bool, output: &mut O) {
+    write_prefix(prefix, output);
+    K::encode(input, upper, output);
+}
+
+/// Writes `0x` if `prefix` is true.
+#[inline(always)]
+fn write_prefix<O: Output>(prefix: bool, output: &mut O) {
+    if prefix {
+        output.write(b"0x");
+    }
+}
+
+/// ASCII bytes as text, without a copy or a test at run time. Does not allocate.
+#[inline(always)]
+pub fn ascii_text(bytes: &[u8]) -> &str {
+    // SAFETY: ASCII is UTF-8.
+    unsafe { str::from_utf8_unchecked(bytes) }
+}

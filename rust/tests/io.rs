@@ -1,0 +1,231 @@
+//! `DecodeReader` and `EncodeWriter` beside readers and writers that are slow, or fail.
+#![cfg(feature = "std")]
+
+use const_hex_proved::{DecodeReader, EncodeWriter, FromHexError};
+use std::io::{self, ErrorKind, Read, Write};
+
+const fn invalid(c: char, index: usize) -> FromHexError {
+    FromHexError::InvalidHexCharacter { c, index }
+}
+
+/// Bytes of which none is like its neighbour, and their text.
+fn bytes_and_text(count: usize) -> (Vec<u8>, String) {
+    let bytes: Vec<u8> = (0..count).map(|at| (at * 73) as u8).collect();
+    let text = bytes.iter().map(|byte| format!("{byte:02x}")).collect();
+    (bytes, text)
+}
+
+/// Reads or writes at most `most` bytes at a time. Every call of which the number is in `errors` fails.
+struct Slow<T> {
+    inner: T,
+    most: usize,
+    calls: usize,
+    errors: Vec<(usize, ErrorKind)>,
+}
+
+impl<T> Slow<T> {
+    fn new(inner: T, most: usize, errors: &[(usize, ErrorKind)]) -> Slow<T> {
+        let errors = errors.to_vec();
+        Slow {
+            inner,
+            most,
+            calls: 0,
+            errors,
+        }
+    }
+
+    fn count(&mut self) -> io::Result<()> {
+        self.calls += 1;
+        match self.errors.iter().find(|(call, _)| *call == self.calls) {
+            Some((_, kind)) => Err((*kind).into()),
+            None => Ok(()),
+        }
+    }
+}
+
+impl<T: Read> Read for Slow<T> {
+    fn read(&mut self, output: &mut [u8]) -> io::Result<usize> {
+        self.count()?;
+        let most = self.most.min(output.len());
+        self.inner.read(&mut output[..most])
+    }
+}
+
+impl<T: Write> Write for Slow<T> {
+    fn write(&mut self, bytes: &[u8]) -> io::Result<usize> {
+        self.count()?;
+        self.inner.write(&bytes[..self.most.min(bytes.len())])
+    }
+
+    fn flush(&mut self) -> io::Result<()> {
+        self.inner.flush()
+    }
+}
+
+#[test]
+fn readers_of_any_speed() {
+    let (bytes, text) = bytes_and_text(10_000);
+    let text = format!("0X{text}");
+    for most in [1, 2, 3, 7, 4096, 100_000] {
+        for length in [1, 2, 5, 8192, 50_000] {
+            let mut reader = DecodeReader::new(Slow::new(text.as_bytes(), most, &[]));
+            let (mut found, mut output) = (Vec::new(), vec![0; length]);
+            assert_eq!(reader.read(&mut []).unwrap(), 0);
+            loop {
+                match reader.read(&mut output).unwrap() {
+                    0 => break,
+                    count => found.extend_from_slice(&output[..count]),
+                }
+            }
+            assert!(found == bytes, "{most} at a time, into {length}");
+            assert_eq!(reader.read(&mut output).unwrap(), 0);
+        }
+    }
+}
+
+/// The `FromHexError` inside an error of a reader.
+fn inside(error: io::Error) -> FromHexError {
+    assert_eq!(error.kind(), ErrorKind::InvalidData);
+    *error.into_inner().unwrap().downcast().unwrap()
+}
+
+/// A reader keeps its error, also if it is asked for no bytes, or the other reader has more.
+#[test]
+fn errors_of_the_text() {
+    for (text, error) in [
+        (&b"6b0x77"[..], invalid('x', 3)),
+        (b"6b6", FromHexError::OddLength),
+        (b"6b69\n", invalid('\n', 4)),
+    ] {
+        let mut reader = DecodeReader::new(Again::after(text));
+        let found = reader.read_to_end(&mut Vec::new()).unwrap_err();
+        assert_eq!(inside(found), error);
+        for length in [9, 0, 1] {
+            let found = reader.read(&mut vec![0; length]).unwrap_err();
+            assert_eq!(inside(found), error);
+        }
+    }
+}
+
+/// A position counts from the start of the text, however much of it there was.
+#[test]
+fn a_position_in_a_long_text() {
+    let zeros = "0".repeat(20_000);
+    let mut reader = DecodeReader::new(zeros.as_bytes().chain(&b"0x"[..]).chain(zeros.as_bytes()));
+    let mut found = Vec::new();
+    assert_eq!(
+        inside(reader.read_to_end(&mut found).unwrap_err()),
+        invalid('x', 20_001)
+    );
+    assert!(found.iter().all(|byte| *byte == 0));
+}
+
+/// After its end a text has nothing more, even if the other reader has.
+#[test]
+fn the_end_of_a_text() {
+    let mut reader = DecodeReader::new(Again::after(b"6b69"));
+    let mut found = Vec::new();
+    assert_eq!(reader.read_to_end(&mut found).unwrap(), 2);
+    assert_eq!(reader.read(&mut [0; 9]).unwrap(), 0);
+    assert_eq!(found, b"ki");
+}
+
+/// An error of the other reader is returned once, and reading goes on.
+#[test]
+fn errors_of_the_other_reader() {
+    let (bytes, text) = bytes_and_text(1000);
+    let errors = [(1, ErrorKind::Interrupted), (5, ErrorKind::Interrupted)];
+    let mut found = Vec::new();
+    DecodeReader::new(Slow::new(text.as_bytes(), 97, &errors))
+        .read_to_end(&mut found)
+        .unwrap();
+    assert_eq!(found, bytes);
+
+    let errors = [(1, ErrorKind::WouldBlock), (5, ErrorKind::BrokenPipe)];
+    let mut reader = DecodeReader::new(Slow::new(text.as_bytes(), 97, &errors));
+    let mut found = Vec::new();
+    for kind in [ErrorKind::WouldBlock, ErrorKind::BrokenPipe] {
+        assert_eq!(reader.read_to_end(&mut found).unwrap_err().kind(), kind);
+    }
+    reader.read_to_end(&mut found).unwrap();
+    assert_eq!(found, bytes);
+}
+
+#[test]
+fn writers_of_any_speed() {
+    let (bytes, text) = bytes_and_text(10_000);
+    for most in [1, 2, 3, 7, 4096, 100_000] {
+        for length in [1, 2, 1023, 1024, 1025, 10_000] {
+            let mut writer = EncodeWriter::new(Slow::new(Vec::new(), most, &[]));
+            assert_eq!(writer.write(&[]).unwrap(), 0);
+            for chunk in bytes.chunks(length) {
+                writer.write_all(chunk).unwrap();
+            }
+            let found = writer.finish().unwrap().inner;
+            assert!(found == text.as_bytes(), "{most} at a time, of {length}");
+        }
+    }
+}
+
+/// After an error of the other writer, no digit is lost or written twice.
+#[test]
+fn errors_of_the_other_writer() {
+    let (bytes, text) = bytes_and_text(10_000);
+    for call in 1..=9 {
+        for kind in [ErrorKind::Interrupted, ErrorKind::WouldBlock] {
+            let errors = [(call, kind), (call + 1, kind)];
+            let mut writer = EncodeWriter::new(Slow::new(Vec::new(), 1500, &errors));
+            let mut rest = &bytes[..];
+            while !rest.is_empty() {
+                if let Ok(count) = writer.write(rest) {
+                    rest = &rest[count..];
+                }
+            }
+            while writer.flush().is_err() {}
+            let found = writer.finish().unwrap().inner;
+            assert!(found == text.as_bytes(), "{kind} at call {call}");
+        }
+    }
+}
+
+#[test]
+fn a_writer_that_takes_nothing() {
+    let mut writer = EncodeWriter::new(Slow::new(Vec::new(), 0, &[]));
+    writer.write_all(b"kiwi").unwrap();
+    assert_eq!(writer.flush().unwrap_err().kind(), ErrorKind::WriteZero);
+    assert_eq!(writer.finish().err().unwrap().kind(), ErrorKind::WriteZero);
+}
+
+/// What waits is written when a writer is dropped.
+#[test]
+fn a_writer_that_is_dropped() {
+    let mut text = Vec::new();
+    EncodeWriter::new(&mut text).write_all(b"kiwi").unwrap();
+    assert_eq!(text, b"6b697769");
+}
+
+/// A reader that ends, and then has more.
+struct Again {
+    first: &'static [u8],
+    is_over: bool,
+}
+
+impl Again {
+    fn after(first: &'static [u8]) -> Again {
+        Again {
+            first,
+            is_over: false,
+        }
+    }
+}
+
+impl Read for Again {
+    fn read(&mut self, output: &mut [u8]) -> io::Result<usize> {
+        if self.first.is_empty() && !self.is_over {
+            self.is_over = true;
+            self.first = b"777777";
+            return Ok(0);
+        }
+        self.first.read(output)
+    }
+}

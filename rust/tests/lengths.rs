@@ -1,0 +1,123 @@
+//! Each function at each short length, with an invalid character at each position.
+
+use const_hex_proved::{
+    check, check_raw, const_check, const_check_raw, const_decode_to_array, decode_to_slice,
+    encode_to_slice, encode_to_slice_upper, encode_to_str, FromHexError,
+};
+
+/// More than four steps of the widest kernel.
+const LONGEST: usize = 300;
+
+/// Bytes on both sides of each kind of digit, and others.
+const INVALID: [u8; 9] = [b'/', b':', b'@', b'G', b'`', b'g', 0, 128, 255];
+
+/// The text of bytes, by the standard library.
+fn text_of(bytes: &[u8]) -> String {
+    bytes.iter().map(|byte| format!("{byte:02x}")).collect()
+}
+
+/// As many bytes, none like its neighbour.
+fn bytes_of(count: usize) -> Vec<u8> {
+    (0..count).map(|at| (at * 73 + count) as u8).collect()
+}
+
+#[test]
+fn each_length() {
+    for count in 0..=LONGEST {
+        let (bytes, text) = (bytes_of(count), text_of(&bytes_of(count)));
+        let mut output = vec![0; 2 * count];
+        assert_eq!(*encode_to_str(&bytes, &mut output).unwrap(), *text);
+        encode_to_slice_upper(&bytes, &mut output).unwrap();
+        assert_eq!(output, text.to_uppercase().as_bytes());
+        for text in [&text, &text.to_uppercase(), &format!("0x{text}")] {
+            let mut back = vec![0; count];
+            assert_eq!(decode_to_slice(text, &mut back), Ok(()), "{text}");
+            assert_eq!(back, bytes, "{text}");
+            assert_eq!(check(text), Ok(()), "{text}");
+            assert_eq!(const_check(text.as_bytes()), Ok(()), "{text}");
+            #[cfg(feature = "alloc")]
+            assert_eq!(const_hex_proved::decode(text), Ok(bytes.clone()), "{text}");
+        }
+        assert!(check_raw(&text) && const_check_raw(text.as_bytes()));
+        #[cfg(feature = "alloc")]
+        {
+            use const_hex_proved::{encode, encode_prefixed, encode_upper, encode_upper_prefixed};
+            let upper = text.to_uppercase();
+            assert_eq!(encode(&bytes), text);
+            assert_eq!(encode_upper(&bytes), upper);
+            assert_eq!(encode_prefixed(&bytes), format!("0x{text}"));
+            assert_eq!(encode_upper_prefixed(&bytes), format!("0x{upper}"));
+        }
+    }
+}
+
+/// An output of another length stays as it was.
+#[test]
+fn other_lengths() {
+    for count in 0..=70 {
+        for length in (0..=2 * LONGEST).filter(|length| *length != 2 * count) {
+            let mut output = vec![0xEE; length];
+            let encoded = encode_to_slice(bytes_of(count), &mut output);
+            assert_eq!(encoded, Err(FromHexError::InvalidStringLength));
+            assert!(output.iter().all(|byte| *byte == 0xEE));
+        }
+        for length in (0..=LONGEST).filter(|length| *length != count) {
+            let mut output = vec![0xEE; length];
+            let decoded = decode_to_slice(text_of(&bytes_of(count)), &mut output);
+            assert_eq!(decoded, Err(FromHexError::InvalidStringLength));
+            assert!(output.iter().all(|byte| *byte == 0xEE));
+        }
+    }
+}
+
+#[test]
+fn each_position_of_an_invalid_character() {
+    for count in 1..=LONGEST {
+        let digits = text_of(&bytes_of(count)).into_bytes();
+        for prefix in ["", "0X"] {
+            for position in 0..2 * count {
+                let invalid = INVALID[(position + count) % INVALID.len()];
+                let mut text = [prefix.as_bytes(), &digits].concat();
+                let index = prefix.len() + position;
+                text[index] = invalid;
+                fails_with(
+                    &text,
+                    count,
+                    FromHexError::InvalidHexCharacter {
+                        c: invalid.into(),
+                        index,
+                    },
+                );
+            }
+        }
+    }
+}
+
+/// Each function returns this error for a text of so many bytes, and decodes nothing from the position on.
+fn fails_with(text: &[u8], count: usize, error: FromHexError) {
+    let mut bytes = vec![0xEE; count];
+    assert_eq!(decode_to_slice(text, &mut bytes), Err(error));
+    if let FromHexError::InvalidHexCharacter { index, .. } = error {
+        let prefix = text.len() - 2 * count;
+        let rest = &bytes[(index - prefix) / 2..];
+        assert!(rest.iter().all(|byte| *byte == 0xEE), "{error:?}");
+        assert!(!check_raw(&text[prefix..]) && !const_check_raw(&text[prefix..]));
+    }
+    assert_eq!(check(text), Err(error));
+    assert_eq!(const_check(text), Err(error));
+    match count {
+        20 => assert_eq!(const_decode_to_array::<20>(text), Err(error)),
+        300 => assert_eq!(const_decode_to_array::<300>(text), Err(error)),
+        _ => {}
+    }
+    #[cfg(feature = "alloc")]
+    assert_eq!(const_hex_proved::decode(text), Err(error));
+}
+
+#[cfg(feature = "alloc")]
+#[test]
+fn a_long_text() {
+    let bytes = bytes_of(1_000_003);
+    assert_eq!(const_hex_proved::encode(&bytes), text_of(&bytes));
+    assert_eq!(const_hex_proved::decode(text_of(&bytes)), Ok(bytes));
+}

@@ -1,0 +1,107 @@
+//! Fields of JSON.
+#![cfg(all(feature = "std", feature = "serde"))]
+
+use const_hex_proved::{serde as hexadecimal, FromHexError};
+use serde::de::value::{BytesDeserializer, Error, StrDeserializer};
+use serde::de::IntoDeserializer;
+use serde::{Deserialize, Serialize};
+use serde_json::value::Serializer;
+
+#[derive(Debug, Deserialize, PartialEq, Serialize)]
+struct Fields {
+    #[serde(with = "const_hex_proved")]
+    prefixed: Vec<u8>,
+    #[serde(serialize_with = "const_hex_proved::serialize_upper")]
+    #[serde(deserialize_with = "const_hex_proved::deserialize")]
+    prefixed_upper: [u8; 2],
+    #[serde(with = "const_hex_proved::serde::no_prefix")]
+    lower: Vec<u8>,
+    #[serde(serialize_with = "const_hex_proved::serde::no_prefix::serialize_upper")]
+    #[serde(deserialize_with = "const_hex_proved::serde::no_prefix::deserialize")]
+    upper: [u8; 4],
+    #[serde(deserialize_with = "const_hex_proved::serde::signed::deserialize")]
+    #[serde(skip_serializing)]
+    signed: Held<Vec<i8>>,
+}
+
+/// A type of the user that is read as what it holds.
+#[derive(Debug, Default, PartialEq)]
+struct Held<T>(T);
+
+impl<T: const_hex_proved::traits::signed::FromHex> const_hex_proved::traits::signed::FromHex
+    for Held<T>
+{
+    type Error = T::Error;
+
+    fn from_hex<U: AsRef<[u8]>>(hex: U) -> Result<Self, T::Error> {
+        T::from_hex(hex).map(Held)
+    }
+}
+
+#[test]
+fn all_forms() {
+    let fields = Fields {
+        prefixed: vec![0xDE, 0xAD],
+        prefixed_upper: [0xBE, 0xEF],
+        lower: b"kiwi".to_vec(),
+        upper: [0, 1, 0xAB, 0xFF],
+        signed: Held(vec![-1]),
+    };
+    let text =
+        r#"{"prefixed":"0xdead","prefixed_upper":"0xBEEF","lower":"6b697769","upper":"0001ABFF"}"#;
+    assert_eq!(serde_json::to_string(&fields).unwrap(), text);
+    let text = r#"{"prefixed":"DEAD","prefixed_upper":"beef","lower":"0x6B697769",
+        "upper":"0X0001abff","signed":"ff"}"#;
+    assert_eq!(serde_json::from_str::<Fields>(text).unwrap(), fields);
+}
+
+/// A text of any length is passed to the serializer whole, in one call.
+#[test]
+fn each_length() {
+    for length in (0..300).chain([2046, 2047, 2048, 2049, 5000]) {
+        let (bytes, digits) = (vec![0xAB; length], "ab".repeat(length));
+        let prefixed = hexadecimal::serialize(&bytes, Serializer).unwrap();
+        assert_eq!(prefixed, format!("0x{digits}"));
+        let upper = hexadecimal::serialize_upper(&bytes, Serializer).unwrap();
+        assert_eq!(upper, format!("0x{}", digits.to_uppercase()));
+        let lower = hexadecimal::no_prefix::serialize(&bytes, Serializer).unwrap();
+        assert_eq!(lower, digits);
+        let upper = hexadecimal::no_prefix::serialize_upper(&bytes, Serializer).unwrap();
+        assert_eq!(upper, digits.to_uppercase());
+    }
+}
+
+/// A format may have the text as a string or as bytes. Nothing is trimmed from it.
+#[test]
+fn errors() {
+    let invalid = |c, index| FromHexError::InvalidHexCharacter { c, index };
+    for (text, error) in [
+        ("0x6b6g", invalid('g', 5)),
+        (" 6b ", invalid(' ', 0)),
+        ("6b\r\n", invalid('\r', 2)),
+        ("6b6", FromHexError::OddLength),
+        ("6b", FromHexError::InvalidStringLength),
+    ] {
+        let string: StrDeserializer<'_, Error> = text.into_deserializer();
+        let found = hexadecimal::deserialize::<_, [u8; 2]>(string).unwrap_err();
+        assert_eq!(found.to_string(), error.to_string());
+        let bytes = BytesDeserializer::<Error>::new(text.as_bytes());
+        let found = hexadecimal::deserialize::<_, [u8; 2]>(bytes).unwrap_err();
+        assert_eq!(found.to_string(), error.to_string());
+    }
+    let found = hexadecimal::deserialize::<_, Vec<u8>>(serde_json::json!(7)).unwrap_err();
+    assert_eq!(
+        found.to_string(),
+        "invalid type: integer `7`, expected a hex encoded string"
+    );
+}
+
+#[test]
+fn strings_and_bytes() {
+    for text in ["6B69", "0x6b69", "0X6b69"] {
+        let string: StrDeserializer<'_, Error> = text.into_deserializer();
+        assert_eq!(hexadecimal::deserialize(string), Ok(*b"ki"));
+        let bytes = BytesDeserializer::<Error>::new(text.as_bytes());
+        assert_eq!(hexadecimal::deserialize(bytes), Ok(*b"ki"));
+    }
+}

@@ -1,0 +1,119 @@
+//! Printing, and the traits, at what no line of the table asks.
+
+use const_hex_proved::{check, display, FromHexError, ToHex};
+
+/// Bytes of each kind that a signed number tells apart, and their text.
+const BYTES: [u8; 4] = [0, 127, 128, 255];
+const TEXT: &str = "007f80ff";
+
+#[test]
+fn printing() {
+    assert_eq!(format!("{:>20}", display(BYTES)), TEXT);
+    for length in [300, 2047, 2048, 2049, 5000] {
+        let bytes: Vec<u8> = (0..length).map(|at| (at * 73 + length) as u8).collect();
+        let wanted: String = bytes.iter().map(|byte| format!("{byte:02X}")).collect();
+        assert_eq!(format!("{:X}", display(&bytes)), wanted);
+        let prefixed = format!("0x{}", wanted.to_lowercase());
+        assert_eq!(format!("{:#}", display(&bytes)), prefixed);
+    }
+}
+
+/// A formatter's error ends the printing.
+#[test]
+fn a_full_formatter() {
+    struct Space(usize);
+    impl std::fmt::Write for Space {
+        fn write_str(&mut self, text: &str) -> std::fmt::Result {
+            self.0 = self.0.checked_sub(text.len()).ok_or(std::fmt::Error)?;
+            Ok(())
+        }
+    }
+    for (space, is_enough) in [(0, false), (19_999, false), (20_000, true)] {
+        let printed = std::fmt::write(&mut Space(space), format_args!("{}", display([0; 10_000])));
+        assert_eq!(printed.is_ok(), is_enough);
+    }
+}
+
+#[test]
+fn messages() {
+    let longest = FromHexError::InvalidHexCharacter {
+        c: '\u{80}',
+        index: usize::MAX,
+    };
+    let message = format!("invalid character '\\u{{80}}' at position {}", usize::MAX);
+    assert_eq!(longest.to_string(), message);
+    let quote = check("0x'6").unwrap_err();
+    assert_eq!(quote.to_string(), r"invalid character '\'' at position 2");
+}
+
+#[test]
+fn collections_of_characters() {
+    let bytes: Vec<u8> = (0..100).collect();
+    let text: String = bytes.iter().map(|byte| format!("{byte:02x}")).collect();
+    assert_eq!(
+        bytes.encode_hex::<Vec<char>>(),
+        text.chars().collect::<Vec<char>>()
+    );
+    assert_eq!(bytes.encode_hex::<Box<[char]>>(), text.chars().collect());
+    assert_eq!(bytes.encode_hex::<std::borrow::Cow<'_, str>>(), text);
+    assert_eq!(ToHex::encode_hex::<String>(&bytes), text);
+    assert_eq!(
+        ToHex::encode_hex_upper::<String>(&bytes),
+        text.to_uppercase()
+    );
+    assert_eq!("".encode_hex::<String>(), "");
+}
+
+#[cfg(feature = "std")]
+#[test]
+fn an_error_of_the_standard_library() {
+    let error: Box<dyn std::error::Error> = Box::new(check("6").unwrap_err());
+    assert_eq!(error.to_string(), "odd number of digits");
+}
+
+#[cfg(feature = "alloc")]
+mod owned {
+    use super::*;
+    use const_hex_proved::traits::signed;
+    use const_hex_proved::FromHex;
+    use std::borrow::Cow;
+    use std::rc::Rc;
+    use std::sync::Arc;
+
+    const INVALID: FromHexError = FromHexError::InvalidHexCharacter { c: 'z', index: 8 };
+
+    macro_rules! reads {
+        ($from_hex:path; $($kind:ty = $value:expr;)+) => {$(
+            assert_eq!(<$kind as $from_hex>::from_hex(TEXT), Ok($value));
+            assert_eq!(<$kind as $from_hex>::from_hex("0x007f80zz"), Err(INVALID));
+        )+};
+    }
+
+    #[test]
+    fn types_that_are_read() {
+        reads! { FromHex;
+            [u8; 4] = BYTES;
+            Vec<u8> = BYTES.to_vec();
+            Box<[u8]> = BYTES.into();
+            Box<[u8; 4]> = Box::new(BYTES);
+            Rc<Vec<u8>> = Rc::new(BYTES.to_vec());
+            Arc<[u8; 4]> = Arc::new(BYTES);
+            Cow<'_, [u8]> = Cow::Owned(BYTES.to_vec());
+            Box<Rc<Vec<u8>>> = Box::new(Rc::new(BYTES.to_vec()));
+        }
+        let numbers = [0_i8, 127, -128, -1];
+        reads! { signed::FromHex;
+            Vec<u8> = BYTES.to_vec();
+            [i8; 4] = numbers;
+            Vec<i8> = numbers.to_vec();
+            Box<[i8]> = numbers.into();
+            Rc<[i8; 4]> = Rc::new(numbers);
+        }
+    }
+
+    /// The type of the elements need not be named.
+    #[test]
+    fn a_vector_without_its_type() {
+        assert_eq!(Vec::from_hex(TEXT), Ok(BYTES.to_vec()));
+    }
+}
