@@ -73,7 +73,7 @@ fn ends(rt: &impl Testing, mode: Mode, input: &[u8], end: End, want: &[u8]) {
 }
 
 #[test]
-fn refused(rt: HostRuntime) {
+fn invalid_texts(rt: HostRuntime) {
     let odd = FromHexError::OddLength;
     let rows: [(Mode, &[u8], FromHexError); 17] = [
         (DECODE, b"0", odd),

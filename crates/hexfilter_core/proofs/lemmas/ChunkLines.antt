@@ -9,7 +9,7 @@ use Rattle.std.proofs.lemmas.Simd.{run_in_chunk_fails}
 use Rattle.std.specs.List.{position_or_len}
 use lib.Lanes.{chunk}
 
--- a part is put behind the first a elements, and k of it are kept
+-- a part is put after the first a elements, and k of it are kept
 pub take_put : (a m k : ℕ) (xs ys : List ℕ) → a ≤ length xs → k ≤ length ys → take (a + k) (put_mid a m xs ys) ≡ take a xs ++ take k ys
 take_put a m k xs ys started inside =
     let front = length-take-le a xs started in
