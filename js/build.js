@@ -1,4 +1,4 @@
-// Makes dist/const_hex.js, with the module in it: `npm run build`. It needs cargo with the target wasm32-unknown-unknown.
+// Makes dist/const_hex.js, with the module in it. It needs cargo with the target wasm32-unknown-unknown.
 import { execFileSync } from 'node:child_process';
 import { copyFileSync, mkdirSync, readFileSync, writeFileSync } from 'node:fs';
 import { fileURLToPath } from 'node:url';
@@ -7,14 +7,13 @@ const at = (path) => fileURLToPath(new URL(path, import.meta.url));
 const target = 'wasm32-unknown-unknown';
 // The module has no path of this machine in it.
 const remap = `target.${target}.rustflags = ['--remap-path-prefix=${at('../rust/')}=']`;
-const cargo = ['build', '--quiet', '--release', '--no-default-features', '--target', target, '--config', remap];
-execFileSync('cargo', cargo, { cwd: at('../rust/capi'), stdio: 'inherit' });
+const options = ['--quiet', '--release', '--no-default-features', '--target', target, '--config', remap];
+execFileSync('cargo', ['build', ...options], { cwd: at('../rust/capi'), stdio: 'inherit' });
 
 const module = readFileSync(at(`../rust/capi/target/${target}/release/const_hex.wasm`));
 const source = readFileSync(at('src/const_hex.js'), 'utf8');
-const declaration = /^const MODULE = .*$/m;
-if (!declaration.test(source)) throw new Error('src/const_hex.js declares no MODULE');
 mkdirSync(at('dist'), { recursive: true });
-writeFileSync(at('dist/const_hex.js'), source.replace(declaration, `const MODULE = '${module.toString('base64')}';`));
+const built = source.replace(/^const MODULE = .*$/m, `const MODULE = '${module.toString('base64')}';`);
+writeFileSync(at('dist/const_hex.js'), built);
 for (const name of ['LICENSE-APACHE', 'LICENSE-MIT', 'NOTICE']) copyFileSync(at(`../${name}`), at(name));
 console.log(`dist/const_hex.js has a module of ${module.length} bytes`);

@@ -38,16 +38,16 @@ export function decode(text: Text): NewBytes;
  *
  *     decodeInto('6b69', new Uint8Array(2)) // Uint8Array [107, 105]
  *
- * @throws {HexError} if the length is odd, if the text does not encode exactly as many bytes as `target` has, or
- *     if a character is not a digit
+ * @throws {HexError} if the length is odd, the text does not encode exactly as many bytes as `target` has, or
+ *     a character is not a digit
  * @throws {TypeError} if an argument has another type, or its buffer is detached or too short
  * @throws {RangeError} if memory cannot be allocated. Text of up to 32,768 characters needs none
  */
 export function decodeInto<Target extends Uint8Array>(text: Text, target: Target): Target;
 
 /**
- * Returns a decoder of text that arrives in chunks, split anywhere. Only the start of the whole text may be `0x`,
- * while `decode` of each chunk would accept one at the start of any.
+ * Returns a decoder of text that arrives in chunks, split anywhere. Only the start of the whole text may be
+ * `0x`, while `decode` of each chunk would accept one at the start of any.
  *
  *     const { push, end } = decoder();
  *     push('0x6'); // Uint8Array []
@@ -64,7 +64,7 @@ export interface Decoder {
      *     throws the same error. After any other error the chunk may be pushed again
      */
     push(chunk: Text): NewBytes;
-    /** Returns if the chunks are a complete text. Throws a HexError if a digit is left over, or what `push` threw. */
+    /** Returns if the text is complete. Throws a HexError if a digit is left over, or what `push` threw. */
     end(): void;
 }
 
@@ -78,8 +78,8 @@ export function check(text: Text): void;
 export function isHex(text: Text): boolean;
 
 /**
- * Clears what earlier calls left in the memory of the module: at most the last 48 KiB of inputs and outputs. It
- * does not reach strings, returned arrays, the digit that waits in a decoder, or copies that the engine made.
+ * Clears what earlier calls left in the memory of the module: at most the last 48 KiB of inputs and outputs.
+ * It does not reach strings, returned arrays, the digit that waits in a decoder, or copies that the engine made.
  */
 export function wipe(): void;
 
@@ -91,8 +91,8 @@ export class HexError extends SyntaxError {
     readonly name: 'HexError';
     readonly kind: 'OddLength' | 'InvalidStringLength' | 'InvalidHexCharacter';
     /**
-     * For `'InvalidHexCharacter'`, the position of the first invalid character, counted from 0 and including the
-     * prefix, or 4294967295 if it is greater.
+     * For `'InvalidHexCharacter'`, the position of the first invalid character, counted from 0 and including
+     * the prefix, or 4294967295 if it is greater.
      */
     readonly index?: number;
     /** For `'InvalidHexCharacter'`, the first byte of that character in UTF-8. */

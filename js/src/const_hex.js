@@ -5,13 +5,8 @@
 
 const MODULE = ''; // `npm run build` puts the module here, in base64.
 
-const {
-    memory,
-    __heap_base: heapBase,
-    const_hex_encode,
-    const_hex_decoder_update,
-    const_hex_decoder_finish,
-} = instantiate(atob(MODULE));
+const { memory, __heap_base, const_hex_encode, const_hex_decoder_update, const_hex_decoder_finish } =
+    instantiate(atob(MODULE));
 
 // How many bytes are encoded or decoded at a time, and how many characters their text has.
 const BYTES_CHUNK = 2 ** 14;
@@ -21,12 +16,13 @@ const TEXT_CHUNK = 2 * BYTES_CHUNK;
 const [UPPER, PREFIX, NO_NUL] = [1, 2, 4];
 const [ODD_LENGTH, INVALID_LENGTH, INVALID_CHARACTER] = [1, 2, 3];
 const KINDS = [undefined, 'OddLength', 'InvalidStringLength', 'InvalidHexCharacter'];
+const MESSAGES = [undefined, 'odd number of digits', 'invalid string length'];
 
 // Addresses in the memory, which begins with the module's stack and its constants. A decoder has two numbers,
 // which are 0 if it is new. Then come the number of bytes that it wrote, and the kind, the byte and the
 // position of an error.
 const STACK_SIZE = 4096;
-const DECODER = 16 * Math.ceil(heapBase.value / 16);
+const DECODER = 16 * Math.ceil(__heap_base.value / 16);
 const [WRITTEN, ERROR] = [DECODER + 8, DECODER + 16];
 const BYTES = DECODER + 32;
 const TEXT = BYTES + BYTES_CHUNK + 16;
@@ -47,14 +43,13 @@ const LONG = Buffer ? 2 ** 17 : Infinity;
 
 // What an array says of itself by these cannot be changed by its own properties or by a subclass.
 const { prototype: typedArray } = Object.getPrototypeOf(Uint8Array);
-const [typeOf, lengthOf] = [Symbol.toStringTag, 'length'].map(
-    (name) => Object.getOwnPropertyDescriptor(typedArray, name).get,
-);
+const getterOf = (name) => Object.getOwnPropertyDescriptor(typedArray, name).get;
+const [typeOf, lengthOf] = [getterOf(Symbol.toStringTag), getterOf('length')];
 
 /** Text that cannot be decoded. */
 export class HexError extends SyntaxError {
     constructor(kind, position) {
-        super([undefined, 'odd number of digits', 'invalid string length'][kind] ?? describe(position));
+        super(MESSAGES[kind] ?? describe(position));
         this.name = 'HexError';
         this.kind = KINDS[kind];
         Object.assign(this, position);
@@ -68,11 +63,13 @@ export function encode(input, { prefix = false, upper = false } = {}) {
     const flags = NO_NUL | (prefix ? PREFIX : 0) | (upper ? UPPER : 0);
     if (length <= BYTES_CHUNK) return textAsString(encodeChunk(view, flags));
     // A string that is too long for the engine throws a RangeError when it is joined.
-    const joined = length >= LONG && length < 2 ** 27 ? Buffer.allocUnsafeSlow(2 * length + (flags & PREFIX)) : undefined;
+    const isJoined = length >= LONG && length < 2 ** 27;
+    const joined = isJoined ? Buffer.allocUnsafeSlow(2 * length + (flags & PREFIX)) : undefined;
     let string = '';
     let written = 0;
     for (let index = 0; index < length; index += BYTES_CHUNK) {
-        const count = encodeChunk(view.subarray(index, index + BYTES_CHUNK), index === 0 ? flags : flags & ~PREFIX);
+        const part = view.subarray(index, index + BYTES_CHUNK);
+        const count = encodeChunk(part, index === 0 ? flags : flags & ~PREFIX);
         if (joined) joined.set(text.subarray(0, count), written);
         else string += textAsString(count);
         written += count;
@@ -126,7 +123,8 @@ export function decoder() {
 /** Returns a stream that decodes chunks of text. */
 export function decoderStream() {
     const { push, end } = decoder();
-    return new TransformStream({ transform: (chunk, controller) => controller.enqueue(push(chunk)), flush: end });
+    const transform = (chunk, controller) => controller.enqueue(push(chunk));
+    return new TransformStream({ transform, flush: end });
 }
 
 /** Throws what `decode` throws for the text. */
@@ -136,22 +134,19 @@ export function check(input) {
 }
 
 /** Returns whether `decode` accepts the text. */
-export function isHex(input) {
-    return accepts(sourceOf(input));
-}
+export const isHex = (input) => accepts(sourceOf(input));
 
 /** Clears what earlier calls left in the memory of the module. */
 export function wipe() {
-    const all = new Uint8Array(memory.buffer);
-    all.fill(0, 0, STACK_SIZE).fill(0, DECODER);
+    new Uint8Array(memory.buffer).fill(0, 0, STACK_SIZE).fill(0, DECODER);
 }
 
 export { encode as bytesToHex, decode as hexToBytes };
 
 function instantiate(binary) {
     try {
-        const module = new WebAssembly.Module(new Uint8Array(binary.length).map((_, index) => binary.charCodeAt(index)));
-        return new WebAssembly.Instance(module).exports;
+        const module = Uint8Array.from(binary, (character) => character.charCodeAt());
+        return new WebAssembly.Instance(new WebAssembly.Module(module)).exports;
     } catch (cause) {
         throw new Error('const-hex-proved cannot compile WebAssembly with SIMD here', { cause });
     }
@@ -171,8 +166,8 @@ function loadDecoder(first, second) {
 }
 
 /**
- * Returns what the decoder in the memory makes of a source, or undefined after an error. It is a new array, or, for
- * a caller that copies it, a part of `bytes`.
+ * Returns what the decoder in the memory makes of a source, or undefined after an error: a new array, or, for a
+ * caller that copies it, a part of `bytes`.
  */
 function decodeSource(source, isCopied = false) {
     const length = lengthIn(source);
@@ -254,20 +249,19 @@ function viewOf(value) {
     try {
         if (!ArrayBuffer.isView(value)) return new Uint8Array(new DataView(value).buffer);
         if (type) typedArray.keys.call(value); // Throws if the array has lost its bytes.
-        const prototype = type ? typedArray : DataView.prototype;
-        const parts = ['buffer', 'byteOffset', 'byteLength'].map((name) => Reflect.get(prototype, name, value));
-        return new Uint8Array(...parts);
+        const get = (name) => Reflect.get(type ? typedArray : DataView.prototype, name, value);
+        return new Uint8Array(get('buffer'), get('byteOffset'), get('byteLength'));
     } catch (cause) {
         throw new TypeError('not text or bytes, or the buffer is detached or too short', { cause });
     }
 }
 
-/** Returns the error that the module stored, or for a whole text an error of its length, which comes first. */
+/** Returns the error that the module stored, or for a whole text an error of its length, which is first. */
 function errorOf(source, targetLength) {
     const [kind, byte, index] = numbers.subarray(4);
     if (source !== undefined) {
         const length = utf8Length(source);
-        const start = typeof source === 'string' ? source.slice(0, 2) : String.fromCharCode(source[0], source[1]);
+        const start = typeof source === 'string' ? source : String.fromCharCode(source[0], source[1]);
         const digits = /^0x/i.test(start) ? length - 2 : length;
         if (length % 2 === 1) return new HexError(ODD_LENGTH);
         if (targetLength !== undefined && digits !== 2 * targetLength) return new HexError(INVALID_LENGTH);
@@ -289,9 +283,8 @@ function utf8Length(source) {
 const ESCAPES = { '\0': '0', '\t': 't', '\n': 'n', '\r': 'r', "'": "'", '\\': '\\' };
 
 function describe({ byte, index }) {
-    const shown = String.fromCharCode(byte).replace(
-        /[\0-\x1f'\\\x7f-\xa0\xad]/,
-        (character) => `\\${ESCAPES[character] ?? `u{${byte.toString(16)}}`}`,
-    );
+    const character = String.fromCharCode(byte);
+    const escape = `\\${ESCAPES[character] ?? `u{${byte.toString(16)}}`}`;
+    const shown = /[\0-\x1f'\\\x7f-\xa0\xad]/.test(character) ? escape : character;
     return `invalid character '${shown}' at position ${index}`;
 }

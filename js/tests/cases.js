@@ -5,6 +5,7 @@ const { check, decode, decodeInto, decoder, decoderStream, encode, HexError, isH
 const TABLE = new URL('../../crates/const_hex_table/data/answers.tsv', import.meta.url);
 const CHUNK = 32768; // So many characters are decoded at a time, and half as many bytes encoded.
 const utf8 = (string) => new TextEncoder().encode(string);
+const stringOf = (bytes) => new TextDecoder('utf-8', { ignoreBOM: true }).decode(bytes);
 const KIWI = utf8('kiwi');
 
 export function equal(found, wanted, what = '') {
@@ -20,13 +21,15 @@ function thrown(call) {
     throw new Error(`${call}: nothing is thrown`);
 }
 
-function digitsOf(bytes) {
-    return Array.from(bytes, (byte) => byte.toString(16).padStart(2, '0')).join('');
-}
+const digitsOf = (bytes) => Array.from(bytes, (byte) => byte.toString(16).padStart(2, '0')).join('');
 
 /** Returns bytes of which each is unlike its neighbours. */
-function bytesOf(length) {
-    return new Uint8Array(length).map((_, index) => (index * 37 + length) ^ (index >> 8));
+const bytesOf = (length) => new Uint8Array(length).map((_, index) => (index * 37 + length) ^ (index >> 8));
+
+/** Returns an error as the table shows it. */
+function shown(error) {
+    if (!(error instanceof HexError)) throw error;
+    return `!${error.kind}` + ('index' in error ? ` 0x${digitsOf([error.byte])} ${error.index}` : '');
 }
 
 /** Returns the result of a call, or its error, as the table shows them. */
@@ -35,9 +38,7 @@ export function resultOf(call) {
         const value = call();
         return value instanceof Uint8Array ? digitsOf(value) : String(value);
     } catch (error) {
-        if (!(error instanceof HexError)) throw error;
-        const { kind, byte, index } = error;
-        return index === undefined ? `!${kind}` : `!${kind} 0x${digitsOf([byte])} ${index}`;
+        return shown(error);
     }
 }
 
@@ -71,43 +72,35 @@ function decodeInChunks(text, ...cuts) {
     return parts.map(digitsOf).join('');
 }
 
-/** Returns a text as bytes, and as a string if it can be one. */
-function formsOf(bytes) {
-    try {
-        return [bytes, new TextDecoder('utf-8', { fatal: true, ignoreBOM: true }).decode(bytes)];
-    } catch {
-        return [bytes];
-    }
-}
-
 /** Returns the bytes that a cell of the table shows. */
 function cellBytes(cell) {
     const parts = cell === '""' ? [] : cell.match(/\\x..|./g);
-    return Uint8Array.from(parts, (part) => (part.length > 1 ? Number(`0${part.slice(1)}`) : part.charCodeAt(0)));
+    return Uint8Array.from(parts, (part) => (part[1] ? Number(`0${part.slice(1)}`) : part.charCodeAt()));
 }
 
 /** What the lines of the table ask, by their first word. Other lines ask what this package does not have. */
 const questions = {
-    write(bytes, size, cell) {
-        const digits = cell === '""' ? '' : cell;
+    write(bytes, digits) {
         for (const [prefix, upper] of [[false, false], [false, true], [true, false], [true, true]]) {
             const text = (prefix ? '0x' : '') + (upper ? digits.toUpperCase() : digits);
             equal(encode(bytes, { prefix, upper }), text);
             compare(text, digits);
         }
     },
-    read(text, size, cell, wanted) {
+    read(text, wanted) {
         compare(text, wanted);
-        if (wanted !== '!OddLength') questions['read-pieces'](text, size, cell, wanted);
+        if (wanted !== '!OddLength') questions['read-pieces'](text, wanted);
     },
-    'read-into': (text, size, cell, wanted) => compareInto(text, size, wanted),
-    'read-pieces'(text, size, cell, wanted) {
-        if (typeof text === 'string' && /[\ud800-\udfff]/.test(text)) return; // Half of a character has no UTF-8.
-        for (let cut = 0; cut <= text.length; cut++) equal(resultOf(() => decodeInChunks(text, cut)), wanted, text);
+    'read-into': (text, wanted, size) => compareInto(text, size, wanted),
+    'read-pieces'(text, wanted) {
+        if (typeof text === 'string' && /[\ud800-\udfff]/.test(text)) return; // Half of a pair has no UTF-8.
+        for (let cut = 0; cut <= text.length; cut++) {
+            equal(resultOf(() => decodeInChunks(text, cut)), wanted, text);
+        }
     },
-    message(text, size, cell) {
-        const error = thrown(() => (size === undefined ? decode(text) : decodeInto(text, new Uint8Array(size))));
-        equal(error.message, new TextDecoder().decode(cellBytes(cell)));
+    message(text, wanted, size) {
+        const call = () => (size === undefined ? decode(text) : decodeInto(text, new Uint8Array(size)));
+        equal(thrown(call).message, wanted);
     },
 };
 
@@ -119,9 +112,11 @@ async function tableOfTestVectors() {
         const [question, asked, cell] = line.split('\t');
         const [kind, size] = question.split(' ');
         if (!(kind in questions) || cell === undefined) continue;
-        const wanted = cell.startsWith('!') ? cell : digitsOf(cellBytes(cell));
-        const forms = kind === 'write' ? [cellBytes(asked)] : formsOf(cellBytes(asked));
-        for (const form of forms) questions[kind](form, size && Number(size), cell, wanted);
+        const [bytes, answer] = [asked, cell].map(cellBytes);
+        const wanted = kind.startsWith('read') && !cell.startsWith('!') ? digitsOf(answer) : stringOf(answer);
+        const isText = kind !== 'write' && digitsOf(utf8(stringOf(bytes))) === digitsOf(bytes);
+        const forms = isText ? [bytes, stringOf(bytes)] : [bytes];
+        for (const form of forms) questions[kind](form, wanted, size && Number(size));
         count[kind] += 1;
     }
     for (const [kind, lines] of Object.entries(count)) equal(lines > 20, true, kind);
@@ -193,10 +188,10 @@ function arraysAndViews() {
         new Uint8Array(buffer, 5).set(bytes);
         return new Uint8Array(buffer, 5, bytes.length);
     };
-    const makers = [(bytes) => bytes, copy, (bytes) => new Uint16Array(copy(bytes)), (bytes) => new DataView(copy(bytes)),
+    for (const make of [copy, share, (bytes) => bytes, (bytes) => new Odd(bytes),
         (bytes) => new Uint8ClampedArray(bytes), (bytes) => new Uint8Array([0, ...bytes, 0]).subarray(1, -1),
-        (bytes) => new DataView(copy(Uint8Array.of(0, ...bytes)), 1), (bytes) => new Odd(bytes), share];
-    for (const make of makers) {
+        (bytes) => new Uint16Array(copy(bytes)), (bytes) => new DataView(copy(bytes)),
+        (bytes) => new DataView(copy(Uint8Array.of(0, ...bytes)), 1)]) {
         equal(encode(make(KIWI)), '6b697769', make);
         equal(encode(make(new Uint8Array(100000).fill(0xab))), 'ab'.repeat(100000), make);
         equal(resultOf(() => decode(make(utf8('6b697769')))), '6b697769', make);
@@ -206,36 +201,41 @@ function arraysAndViews() {
     equal(`${odd[0]} ${odd[1]}`, '107 105');
     const result = decode('6b697769');
     decode('ffffffff');
-    equal(`${result.constructor.name} ${result.byteOffset} ${result.buffer.byteLength} ${result}`, 'Uint8Array 0 4 107,105,119,105');
+    const { constructor, byteOffset, buffer } = result;
+    equal([constructor.name, byteOffset, buffer.byteLength, result].join(), 'Uint8Array,0,4,107,105,119,105');
 }
 
-const readers = [decode, isHex, check, (text) => decoder().push(text), (text) => decodeInto(text, new Uint8Array(1))];
+const intoOne = (text) => decodeInto(text, new Uint8Array(1));
+const callers = [encode, decode, isHex, check, intoOne, (text) => decoder().push(text)];
+const isTypeError = (call, what) => equal(thrown(call) instanceof TypeError, true, what);
 
 function otherTypes() {
-    const isTypeError = (call, what) => equal(thrown(call) instanceof TypeError, true, what);
-    const others = [undefined, null, 5, 5n, true, {}, [1, 2], { length: 2 }, () => 0, Symbol('a'), new Proxy(KIWI, {}),
-        Object.create(Uint8Array.prototype), Object.create(ArrayBuffer.prototype)];
-    others.forEach((other, number) => [encode, ...readers].forEach((call) => isTypeError(() => call(other), number)));
-    for (const target of [...others, '6b', new ArrayBuffer(1), new Int8Array(1), new Uint16Array(1)]) isTypeError(() => decodeInto('6b', target));
+    const others = [undefined, null, 5, 5n, true, {}, [1, 2], { length: 2 }, () => 0, Symbol('a'),
+        new Proxy(KIWI, {}), Object.create(Uint8Array.prototype), Object.create(ArrayBuffer.prototype)];
+    for (const call of callers) others.forEach((other, number) => isTypeError(() => call(other), number));
+    const targets = [...others, '6b', new ArrayBuffer(1), new Int8Array(1), new Uint16Array(1)];
+    targets.forEach((target, number) => isTypeError(() => decodeInto('6b', target), number));
     isTypeError(() => encode('6b'));
     isTypeError(() => encode(KIWI, null));
-    for (const options of [undefined, {}, { prefix: undefined, upper: false }]) equal(encode(KIWI, options), '6b697769');
+    const options = [undefined, {}, { prefix: undefined, upper: false }];
+    equal(options.map((each) => encode(KIWI, each)).join(), '6b697769,6b697769,6b697769');
     equal([KIWI, KIWI].map(hex.bytesToHex).join(), '6b697769,6b697769');
     equal(hex.hexToBytes, decode);
 }
 
 function lostBuffers() {
     for (const size of [0, 4, 40000, 100000]) {
-        const [buffer, shrunk] = [new ArrayBuffer(size), new ArrayBuffer(size + 8, { maxByteLength: 200000 })];
+        const buffer = new ArrayBuffer(size);
+        const shrunk = new ArrayBuffer(size + 8, { maxByteLength: 200000 });
         const views = [Uint8Array, Uint16Array, DataView].map((type) => new type(buffer));
         const tooShort = [Uint8Array, Uint16Array, DataView].map((type) => new type(shrunk, 4, 2));
         structuredClone(buffer, { transfer: [buffer] });
         shrunk.resize(2);
         for (const view of [buffer, ...views, ...tooShort]) {
-            for (const call of [encode, ...readers]) equal(thrown(() => call(view)) instanceof TypeError, true, `${size} ${call}`);
+            for (const call of callers) isTypeError(() => call(view), `${size} ${call}`);
         }
         for (const target of [views[0], tooShort[0]]) {
-            for (const text of ['', '6b', '6b69']) equal(thrown(() => decodeInto(text, target)) instanceof TypeError, true, text);
+            for (const text of ['', '6b', '6b69']) isTypeError(() => decodeInto(text, target), text);
         }
     }
     const grown = new Uint8Array(new ArrayBuffer(2, { maxByteLength: 8 }));
@@ -244,10 +244,10 @@ function lostBuffers() {
 }
 
 function overlap() {
-    const text = utf8(`0x${'6b69'.repeat(50000)}`);
-    equal(digitsOf(decodeInto(text, text.subarray(1, 100001))), '6b69'.repeat(50000));
-    const short = utf8('0x6b697769');
-    equal(digitsOf(decodeInto(short, short.subarray(1, 5))), '6b697769');
+    for (const digits of ['6b697769', '6b69'.repeat(50000)]) {
+        const text = utf8(`0x${digits}`);
+        equal(digitsOf(decodeInto(text, text.subarray(1, 1 + digits.length / 2))), digits);
+    }
     const target = new Uint8Array(4).fill(0xee);
     decodeInto('6b69', target.subarray(1, 3));
     equal(digitsOf(target), 'ee6b69ee');
@@ -273,8 +273,7 @@ function failedAllocation() {
             const text = `${start}b69${start.length % 2 ? '' : '0'}`;
             equal(digitsOf(first) + digitsOf(push(text.slice(start.length))), digitsOf(decode(text)), start);
             end();
-            const wanted = `!InvalidHexCharacter 0x67 ${text.length + 2}`;
-            for (const call of [() => push('61g'), () => push('61'), () => push(''), end]) equal(resultOf(call), wanted);
+            equal(resultOf(() => push('61g')), `!InvalidHexCharacter 0x67 ${text.length + 2}`);
         }
     }
 }
@@ -285,38 +284,34 @@ function severalDecoders() {
     equal(resultOf(() => one.end()), '!OddLength');
     other.end();
     decode('6b');
-    equal(thrown(() => one.push(5)) instanceof TypeError, true);
+    isTypeError(() => one.push(5));
     equal(resultOf(() => one.push('b')) + resultOf(() => other.push('6b')), '6b6b');
     one.end();
-    for (const chunk of ['0x\u00e9', '', '00']) equal(resultOf(() => other.push(chunk)), '!InvalidHexCharacter 0x78 5');
+    for (const chunk of ['0x\u00e9', '', '00']) {
+        equal(resultOf(() => other.push(chunk)), '!InvalidHexCharacter 0x78 5');
+    }
     equal(thrown(() => other.end()).message, "invalid character 'x' at position 5");
 }
 
 async function streams() {
-    const read = async (...chunks) => {
-        const start = (controller) => { for (const chunk of chunks) controller.enqueue(chunk); controller.close(); };
-        const reader = new ReadableStream({ start }).pipeThrough(decoderStream()).getReader();
+    async function read(...chunks) {
+        const pull = (stream) => (chunks.length ? stream.enqueue(chunks.shift()) : stream.close());
         let digits = '';
-        for (;;) {
-            const { done, value } = await reader.read();
-            if (done) return digits;
-            digits += digitsOf(value);
-        }
-    };
+        for await (const bytes of new ReadableStream({ pull }).pipeThrough(decoderStream())) digits += digitsOf(bytes);
+        return digits;
+    }
     equal(await read('0', utf8('x6b6'), '97', '769'), '6b697769');
-    const fail = (...chunks) => read(...chunks).then(() => undefined, (error) => error);
-    equal((await fail('6b', '6'))?.kind, 'OddLength');
-    equal((await fail('6b', '6z'))?.index, 3);
+    equal(await read('6b', '6').catch(shown), '!OddLength');
+    equal(await read('6b', '6z').catch(shown), '!InvalidHexCharacter 0x7a 3');
 }
 
 function errors() {
     const error = thrown(() => decode('6b\u00e9'));
     equal(`${error}`, "HexError: invalid character '\u00c3' at position 2");
-    equal([error instanceof HexError, error instanceof SyntaxError, error.kind, error.index, error.byte].join(),
-        'true,true,InvalidHexCharacter,2,195');
+    equal(`${error instanceof SyntaxError} ${shown(error)}`, 'true !InvalidHexCharacter 0xc3 2');
     equal(Object.keys(thrown(() => decode('1'))).join(), 'name,kind');
     equal(resultOf(() => decode('\ud800a')), '!InvalidHexCharacter 0xef 0'); // The bytes of U+FFFD.
 }
 
-export const cases = { tableOfTestVectors, eachLength, longTexts, bordersOfChunks, arraysAndViews, otherTypes, lostBuffers,
-    overlap, failedAllocation, severalDecoders, streams, errors };
+export const cases = { tableOfTestVectors, eachLength, longTexts, bordersOfChunks, arraysAndViews, otherTypes,
+    lostBuffers, overlap, failedAllocation, severalDecoders, streams, errors };

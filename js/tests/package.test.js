@@ -1,44 +1,47 @@
-// The package as users install, import, bundle and compile it.
+// The package as users install, import, bundle and compile it, and the cases in browsers.
 import assert from 'node:assert/strict';
-import { execFileSync, spawnSync } from 'node:child_process';
+import { execFileSync, spawn, spawnSync } from 'node:child_process';
+import { once } from 'node:events';
 import { copyFileSync, mkdtempSync, readFileSync, rmSync, writeFileSync } from 'node:fs';
+import { createServer } from 'node:http';
 import { tmpdir } from 'node:os';
-import { join } from 'node:path';
+import { extname, join } from 'node:path';
 import test, { after } from 'node:test';
 import { fileURLToPath } from 'node:url';
 
 const root = fileURLToPath(new URL('..', import.meta.url));
 const folder = mkdtempSync(join(tmpdir(), 'package-'));
-after(() => rmSync(folder, { recursive: true }));
+after(() => rmSync(folder, { recursive: true, force: true, maxRetries: 5 }));
 
-const run = (cwd, tool, ...arguments_) => execFileSync(tool, arguments_, { cwd, encoding: 'utf8', stdio: ['ignore', 'pipe', 'pipe'] });
+const run = (cwd, tool, ...options) => execFileSync(tool, options, { cwd, encoding: 'utf8', stdio: 'pipe' });
 const without = (tool) => (spawnSync(tool, ['--version']).error ? `${tool} is not installed` : false);
 const readme = readFileSync(join(root, 'README.md'), 'utf8');
 const [, example] = /```js\n(.*?)```/s.exec(readme);
-// The example has what it prints or returns in comments: `console.log(a);  // b` prints b.
-const printed = Array.from(example.matchAll(/console\.log\(.*\); +\/\/ (.*)/g), ([, line]) => `${line}\n`).join('');
+// The example has what it prints in comments: `console.log(a);  // b` prints b.
+const lines = Array.from(example.matchAll(/console\.log\(.*\); +\/\/ (.*)/g), ([, line]) => line);
+const printed = `${lines.join('\n')}\n`;
 
-test('npm packs and installs the package, and the example of the README runs', { skip: without('npm') }, () => {
-    const [packed] = JSON.parse(run(root, 'npm', 'pack', '--json', '--ignore-scripts', '--pack-destination', folder));
-    assert.deepEqual(packed.files.map(({ path }) => path).sort(), ['LICENSE-APACHE', 'LICENSE-MIT', 'NOTICE', 'README.md',
-        'dist/const_hex.js', 'index.d.ts', 'package.json']);
-    run(folder, 'npm', 'install', '--offline', '--no-audit', '--no-fund', `./${packed.filename}`);
-    writeFileSync(join(folder, 'example.mjs'), example);
-    writeFileSync(join(folder, 'example.cjs'), example.replace(/^import (.*) from ('.*');/m, 'const $1 = require($2);'));
-    for (const name of ['example.mjs', 'example.cjs']) assert.equal(run(folder, process.execPath, name), printed, name);
+test('npm packs and installs the package, and the example runs', { skip: without('npm') }, () => {
+    const packed = run(root, 'npm', 'pack', '--json', '--ignore-scripts', '--pack-destination', folder);
+    const [{ files, filename }] = JSON.parse(packed);
+    const licenses = ['LICENSE-APACHE', 'LICENSE-MIT', 'NOTICE'];
+    const wanted = [...licenses, 'README.md', 'dist/const_hex.js', 'index.d.ts', 'package.json'];
+    assert.deepEqual(files.map(({ path }) => path).sort(), wanted);
+    run(folder, 'npm', 'install', '--offline', '--no-audit', '--no-fund', `./${filename}`);
+    const required = example.replace(/^import (.*) from ('.*');/m, 'const $1 = require($2);');
+    for (const [name, program] of [['example.mjs', example], ['example.cjs', required]]) {
+        writeFileSync(join(folder, name), program);
+        assert.equal(run(folder, process.execPath, name), printed, name);
+    }
 });
 
 test('esbuild bundles the package, in at most 13 KiB', { skip: without('esbuild') }, () => {
-    const input = join(root, 'tests', 'bundled.mjs');
-    writeFileSync(input, example.replace("'const-hex-proved'", "'../dist/const_hex.js'"));
-    try {
-        for (const format of ['esm', 'cjs', 'iife']) {
-            const output = join(folder, `${format}.${format === 'esm' ? 'mjs' : 'cjs'}`);
-            run(root, 'esbuild', '--bundle', '--log-level=error', `--format=${format}`, `--outfile=${output}`, input);
-            assert.equal(run(folder, process.execPath, output), printed, format);
-        }
-    } finally {
-        rmSync(input);
+    const input = join(folder, 'bundled.mjs');
+    writeFileSync(input, example.replace('const-hex-proved', join(root, 'dist/const_hex.js')));
+    for (const format of ['esm', 'cjs', 'iife']) {
+        const output = join(folder, `${format}.${format === 'esm' ? 'mjs' : 'cjs'}`);
+        run(root, 'esbuild', '--bundle', `--format=${format}`, `--outfile=${output}`, input);
+        assert.equal(run(folder, process.execPath, output), printed, format);
     }
     assert(run(root, 'esbuild', '--minify', 'dist/const_hex.js').length <= 13 * 1024);
 });
@@ -49,3 +52,51 @@ test('tsc accepts the types', { skip: without('tsc') || without('npm') }, () => 
         run(folder, 'tsc', '--strict', '--noEmit', '--target', 'es2022', ...settings, 'types.mts');
     }
 });
+
+const TYPES = { '': 'text/html', '.js': 'text/javascript', '.tsv': 'text/plain' };
+// With these a page may have shared buffers.
+const [OPENER, EMBEDDER] = ['Cross-Origin-Opener-Policy', 'Cross-Origin-Embedder-Policy'];
+const ISOLATED = { [OPENER]: 'same-origin', [EMBEDDER]: 'require-corp' };
+const PAGE = `<!doctype html><script type="module">
+    import { cases } from '/js/tests/cases.js';
+    const failed = {};
+    for (const [name, run] of Object.entries(cases)) {
+        await new Promise((resolve) => resolve(run())).catch((error) => { failed[name] = String(error); });
+    }
+    fetch('/', { method: 'POST', body: JSON.stringify(failed) });
+</script>`;
+
+/** Serves the page and the files of the repository, and returns what the page sends: what failed. */
+function serve(server) {
+    return new Promise((report) => server.on('request', async (request, response) => {
+        if (request.method === 'POST') report(JSON.parse(Buffer.concat(await request.toArray())));
+        const { pathname } = new URL(request.url, 'http://localhost');
+        const type = TYPES[extname(pathname)];
+        response.writeHead(type ? 200 : 404, { ...ISOLATED, 'Content-Type': type ?? 'text/plain' });
+        response.end(pathname === '/' ? PAGE : type && readFileSync(join(root, '..', pathname)));
+    }));
+}
+
+for (const [browser, ...options] of [
+    ['chromium', '--headless', '--no-sandbox', '--disable-gpu', '--user-data-dir=FOLDER'],
+    ['firefox-esr', '--headless', '--no-remote', '--profile', 'FOLDER'],
+]) {
+    test(`the cases in ${browser}`, { skip: without(browser), timeout: 300000 }, async () => {
+        const profile = mkdtempSync(join(folder, browser));
+        const server = createServer().listen(0, '127.0.0.1');
+        await once(server, 'listening');
+        const page = `http://127.0.0.1:${server.address().port}/`;
+        const given = [...options.map((option) => option.replace('FOLDER', profile)), page];
+        const env = { ...process.env, HOME: profile, MOZ_DISABLE_CONTENT_SANDBOX: '1' };
+        // A group of processes of its own, which is ended as a whole.
+        const running = spawn(browser, given, { stdio: 'ignore', detached: true, env });
+        try {
+            assert.deepEqual(await serve(server), {});
+        } finally {
+            process.kill(-running.pid, 'SIGKILL');
+            await once(running, 'exit');
+            server.closeAllConnections();
+            server.close();
+        }
+    });
+}

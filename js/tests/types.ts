@@ -1,5 +1,6 @@
 // Compiled, and not run.
-import { bytesToHex, check, decode, decodeInto, decoder, decoderStream, encode, HexError, hexToBytes, isHex, wipe } from 'const-hex-proved';
+import { check, decode, decodeInto, decoder, decoderStream, encode, isHex, wipe } from 'const-hex-proved';
+import { bytesToHex, HexError, hexToBytes } from 'const-hex-proved';
 
 const text: string = encode(new Uint8Array(2), { prefix: true });
 const bytes: Uint8Array = decode(text);
@@ -16,7 +17,7 @@ const all: string[] = [bytes].map((each) => bytesToHex(each));
 try {
     isHex(new DataView(bytes.buffer));
 } catch (error) {
-    if (error instanceof HexError && error.kind === 'InvalidHexCharacter') console.log(error.index, error.byte);
+    if (error instanceof HexError) console.log(error.kind === 'InvalidHexCharacter', error.index, error.byte);
 }
 // @ts-expect-error: not a text
 decode(5);

@@ -5,20 +5,26 @@
 pub use crate::proved::arch::{plain, Kernel};
 
 #[path = "proved/arch/drivers.rs"]
+#[rustfmt::skip]
 pub mod drivers;
 #[path = "proved/arch/lanes.rs"]
+#[rustfmt::skip]
 pub mod lanes;
 #[path = "proved/arch/lanes16.rs"]
+#[rustfmt::skip]
 pub mod lanes16;
 #[path = "proved/arch/lanes32.rs"]
+#[rustfmt::skip]
 pub mod lanes32;
 #[path = "rattle/registers/avx2.rs"]
 pub mod registers;
 #[path = "proved/arch/short.rs"]
+#[rustfmt::skip]
 mod short_inlined;
 #[path = "rattle/simd.rs"]
 pub mod simd;
 #[path = "proved/arch/steps.rs"]
+#[rustfmt::skip]
 pub mod steps;
 
 /// The proved module, but with `decode` as a function of its own, as its source has it: inlined into each

@@ -61,14 +61,14 @@ mod rattle;
 pub mod serde;
 pub mod traits;
 
-/// What `capi` calls of the proved source.
+/// What `capi` calls of the proved source: functions without conditions. Kernels and outputs have some, which
+/// nothing here would test, so they are not exported.
 #[doc(hidden)]
 pub mod source {
     pub use crate::proved::codec::checks::{check, check_raw};
     pub use crate::proved::codec::decoder::Decoder;
     pub use crate::proved::codec::decoders::{decode_to_front, decode_to_slice};
-    pub use crate::proved::codec::encoders::encode_full_to_slice_with;
-    pub use crate::proved::{FixedKernel, Kernel, Lanes16, Output};
+    pub use crate::proved::codec::encoders::encode_full_to_slice;
 }
 
 pub use crate::buffer::Buffer;
@@ -315,3 +315,7 @@ pub fn check<T: AsRef<[u8]>>(input: T) -> Result<(), FromHexError> {
 pub fn check_raw<T: AsRef<[u8]>>(input: T) -> bool {
     checks::check_raw(input.as_ref())
 }
+
+#[cfg(doctest)]
+#[doc = include_str!("../README.md")]
+struct Readme;

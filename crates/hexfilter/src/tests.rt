@@ -12,6 +12,33 @@ use std::fmt::Debug;
 use std::io::{ErrorKind, Read};
 use std::process::Abort;
 
+/// Ends the test if a call did not return what is wanted. Prints the call, its row and both results.
+/// With no call and no row, it prints the expression that has the result.
+macro_rules! same {
+    ($rt:expr; $result:expr, $want:expr) => {
+        crate::tests::check($rt, stringify!($result), (), $result, $want)
+    };
+    ($rt:expr, $call:expr, $row:expr; $result:expr, $want:expr) => {
+        crate::tests::check($rt, $call, $row, $result, $want)
+    };
+}
+
+/// As `same`, for what lends bytes, from a little before the first byte that differs.
+macro_rules! same_bytes {
+    ($rt:expr, $call:expr, $row:expr; $bytes:expr, $want:expr) => {
+        crate::tests::check_bytes(
+            $rt,
+            $call,
+            $row,
+            std::convert::AsSlice::as_slice(&$bytes),
+            std::convert::AsSlice::as_slice(&$want),
+        )
+    };
+}
+
+pub(crate) use same;
+pub(crate) use same_bytes;
+
 const ENCODE: Mode = Mode::Encode {
     prefix: false,
     upper: false,

@@ -6,18 +6,16 @@
 #![cfg_attr(not(any(test, feature = "std")), no_std)]
 #![allow(clippy::missing_safety_doc)] // The header says what each function requires.
 
-mod kernel;
 #[cfg(not(all(target_arch = "wasm32", target_os = "unknown")))]
 mod whole;
 
 #[cfg(not(all(target_arch = "wasm32", target_os = "unknown")))]
 pub use whole::*;
 
-use const_hex_proved::source::{encode_full_to_slice_with, Decoder};
+use const_hex_proved::source::{encode_full_to_slice, Decoder};
 use const_hex_proved::FromHexError;
 use core::mem::{align_of, size_of};
 use core::slice::{from_raw_parts, from_raw_parts_mut};
-use kernel::Kernel;
 
 const UPPER: u32 = 1;
 const PREFIX: u32 = 2;
@@ -65,7 +63,7 @@ pub unsafe extern "C" fn const_hex_encode(
         .unwrap_or(0);
     if let (true, Some(digits)) = (fits, text.get_mut(..length)) {
         // The slice has the text's length, so this succeeds.
-        let _ = encode_full_to_slice_with::<Kernel>(
+        let _ = encode_full_to_slice(
             bytes,
             flags & PREFIX != 0,
             flags & UPPER != 0,
@@ -97,7 +95,7 @@ pub unsafe extern "C" fn const_hex_decoder_update(
     error: Option<&mut Error>,
 ) -> bool {
     let result =
-        decoder.decode_with::<Kernel>(slice(text, text_length), slice_mut(bytes, bytes_size));
+        decoder.decode(slice(text, text_length), slice_mut(bytes, bytes_size));
     *written = result.unwrap_or(0);
     report(result.map(|_| ()), error)
 }

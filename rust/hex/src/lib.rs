@@ -17,14 +17,12 @@
 #![forbid(unsafe_code)]
 #![warn(missing_docs)]
 
-pub use const_hex_proved::{
-    decode_to_slice, encode_to_slice, FromHex, FromHexError, ToHex,
-};
 #[cfg(feature = "alloc")]
 pub use const_hex_proved::{decode, encode, encode_upper};
+pub use const_hex_proved::{decode_to_slice, encode_to_slice, FromHex, FromHexError, ToHex};
 
-#[cfg(feature = "serde")]
-pub use const_hex_proved::serde::no_prefix as serde;
 #[cfg(feature = "serde")]
 #[doc(no_inline)]
 pub use crate::serde::{deserialize, serialize, serialize_upper};
+#[cfg(feature = "serde")]
+pub use const_hex_proved::serde::no_prefix as serde;

@@ -1,9 +1,11 @@
 //! What is written, and which error is returned: of given inputs, at every cut, and of long ones.
 
-use crate::tests::{CHECK, CHECK_LINES, DECODE, DECODE_LINES, ENCODE, End, run_on};
+use crate::tests::{
+    CHECK, CHECK_LINES, DECODE, DECODE_LINES, ENCODE, End, run_on, same, same_bytes,
+};
 use const_hex::FromHexError;
 use hex_testing::texts::bad;
-use hex_testing::{Fault, Source, Target, Testing, Text, same, same_bytes};
+use hex_testing::{Fault, Source, Target, Testing, Text};
 use hexfilter_core::{Mode, run};
 use std::io::{self, ErrorKind, Read};
 

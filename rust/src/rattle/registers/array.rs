@@ -57,13 +57,18 @@ impl Register for V16 {
     }
 
     fn swizzle(self, indices: Self) -> Self {
-        V16(indices.0.map(|index| *self.0.get(usize::from(index)).unwrap_or(&0)))
+        V16(indices
+            .0
+            .map(|index| *self.0.get(usize::from(index)).unwrap_or(&0)))
     }
 }
 
 /// Returns the lanes as lanes of 16 bits.
 pub fn widen(narrow: V16) -> [V16; 2] {
-    let mut bytes = narrow.0.iter().flat_map(|lane| u16::from(*lane).to_ne_bytes());
+    let mut bytes = narrow
+        .0
+        .iter()
+        .flat_map(|lane| u16::from(*lane).to_ne_bytes());
     [(); 2].map(|()| V16([(); 16].map(|()| bytes.next().unwrap_or(0))))
 }
 

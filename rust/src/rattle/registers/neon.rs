@@ -57,7 +57,10 @@ impl Register for V16 {
         unsafe {
             // A shift to the left by a negative count is one to the right.
             let count = vnegq_s16(vreinterpretq_s16_u8(count.0));
-            V16(vreinterpretq_u8_u16(vshlq_u16(vreinterpretq_u16_u8(self.0), count)))
+            V16(vreinterpretq_u8_u16(vshlq_u16(
+                vreinterpretq_u16_u8(self.0),
+                count,
+            )))
         }
     }
 }

@@ -42,7 +42,10 @@ impl Register for V16 {
 
     #[inline(always)]
     fn shr(self, count: Self) -> Self {
-        V16(u16x8_shr(self.0, u32::from(u16x8_extract_lane::<0>(count.0))))
+        V16(u16x8_shr(
+            self.0,
+            u32::from(u16x8_extract_lane::<0>(count.0)),
+        ))
     }
 }
 

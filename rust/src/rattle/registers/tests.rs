@@ -46,7 +46,13 @@ fn compare<R: Register, A: Register, const N: usize>() {
         binary!(first, second, add sub saturating_sub simd_min bitand bitor simd_gt);
 
         let masks = random(&mut state);
-        let mask: [u8; N] = lanes(|lane| if masks >> (lane % 48) & 1 == 0 { 0 } else { 255 });
+        let mask: [u8; N] = lanes(|lane| {
+            if masks >> (lane % 48) & 1 == 0 {
+                0
+            } else {
+                255
+            }
+        });
         let ours: [u8; N] = bits(bits::<_, R>(mask).select(bits(first), bits(second)));
         let wanted: [u8; N] = bits(bits::<_, A>(mask).select(bits(first), bits(second)));
         assert_eq!(ours, wanted, "select of {mask:?}, {first:?} and {second:?}");
