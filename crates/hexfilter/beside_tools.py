@@ -104,7 +104,7 @@ class Errors(unittest.TestCase):
             (["-x"], b"kiwi", 2, b"", usage),
             (["-w"], b"kiwi", 2, b"", usage),
             (["one", "two"], b"kiwi", 2, b"", usage),
-            (["\udcff"], b"kiwi", 2, b"", b"hexfilter: invalid data\n"),
+            (["\udcff"], b"kiwi", 2, b"", b"hexfilter: cannot read the arguments: invalid data\n"),
         ]
         for row in rows:
             self.ends(*row)

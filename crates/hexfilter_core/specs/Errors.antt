@@ -1,5 +1,5 @@
 -- The errors of a run, and their statuses.
-use Rattle.std.specs.Prelude.{◌≢◌, ℕ, IfErr, Result}
+use Rattle.std.specs.Prelude.{◌≢◌, ℕ}
 use Rattle.std.specs.IoError.{error_kind}
 use Rattle.std.specs.declared.io.ErrorKind.TheVariants.{Interrupted}
 use Rattle.hexfilter_core.specs.declared.error.RunError.{RunError}
@@ -34,12 +34,3 @@ abbrev pub IsFailedCall : RunError → Type 0
 IsFailedCall (Text e) = ⊥
 IsFailedCall (Read e) = error_kind e ≢ Interrupted
 IsFailedCall (Write e) = error_kind e ≢ Interrupted
-
-abbrev pub IsReadError : {V : Type 0} → Result V RunError → Type 0
-IsReadError r = IfErr r IsFailedRead
-
-abbrev pub IsWriteError : {V : Type 0} → Result V RunError → Type 0
-IsWriteError r = IfErr r IsFailedWrite
-
-abbrev pub IsDeviceError : {V : Type 0} → Result V RunError → Type 0
-IsDeviceError r = IfErr r IsFailedCall

@@ -33,11 +33,11 @@ NamesInvalid ignores x NoMemory = ⊥
 
 -- the error of an input of which x was read: an odd number of digits, at the end, or the first
 -- invalid character, whatever follows
-abbrev pub Rejects : Bool → Option (List ℕ) → List ℕ → FromHexError → Type 0
-Rejects ignores left x OddLength = IsAtEnd left × IsOdd (length (text_of ignores x)) × AllDigits (body_of (text_of ignores x))
-Rejects ignores left x InvalidStringLength = ⊥
-Rejects ignores left x (InvalidHexCharacter c i) = (rest : List ℕ) → NamesInvalid ignores (x ++ rest) (InvalidHexCharacter c i)
-Rejects ignores left x NoMemory = ⊥
+abbrev pub HasError : Bool → Option (List ℕ) → List ℕ → FromHexError → Type 0
+HasError ignores left x OddLength = IsAtEnd left × IsOdd (length (text_of ignores x)) × AllDigits (body_of (text_of ignores x))
+HasError ignores left x InvalidStringLength = ⊥
+HasError ignores left x (InvalidHexCharacter c i) = (rest : List ℕ) → NamesInvalid ignores (x ++ rest) (InvalidHexCharacter c i)
+HasError ignores left x NoMemory = ⊥
 
 -- the first digits of the text of x, two for each byte of y, decode to y
 abbrev pub SpellsBeginning : Bool → List ℕ → List ℕ → Type 0

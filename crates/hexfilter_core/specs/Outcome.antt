@@ -1,9 +1,9 @@
--- What a run writes, and which texts it refuses.
+-- What a run writes, and its errors.
 use Rattle.std.specs.Prelude.{◌≡◌, ℕ, List, [], ◌++◌, Option, Ok}
 use Rattle.const_hex.specs.Results.{Checks, Reads}
 use Rattle.const_hex.specs.declared.error.FromHexError.{FromHexError}
 use Rattle.hexfilter_core.specs.Encoded.{encoded}
-use Rattle.hexfilter_core.specs.Inputs.{Rejects, SpellsBeginning, text_of}
+use Rattle.hexfilter_core.specs.Inputs.{HasError, SpellsBeginning, text_of}
 use Rattle.hexfilter_core.specs.declared.mode.Mode.{Mode}
 use Rattle.hexfilter_core.specs.declared.mode.Mode.TheVariants.{Encode, Decode, Check}
 
@@ -20,8 +20,8 @@ MakesBeginning (Encode prefix upper columns) x y = (left : List ℕ) × (encoded
 MakesBeginning (Decode ignores) x y = SpellsBeginning ignores x y
 MakesBeginning (Check ignores) x y = y ≡ []
 
--- the mode refuses the text of an input of which x was read
-abbrev pub Refuses : Mode → Option (List ℕ) → List ℕ → FromHexError → Type 0
-Refuses (Encode prefix upper columns) left x e = ⊥
-Refuses (Decode ignores) left x e = Rejects ignores left x e
-Refuses (Check ignores) left x e = Rejects ignores left x e
+-- the mode fails with the error e of the text of an input of which x was read
+abbrev pub FailsWith : Mode → Option (List ℕ) → List ℕ → FromHexError → Type 0
+FailsWith (Encode prefix upper columns) left x e = ⊥
+FailsWith (Decode ignores) left x e = HasError ignores left x e
+FailsWith (Check ignores) left x e = HasError ignores left x e

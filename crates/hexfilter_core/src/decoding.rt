@@ -5,7 +5,7 @@ ghost use Rattle.std.specs.Io.KnownBytes.{Appends, Consumes};
 ghost use Rattle.const_hex.specs.Results.{Reads};
 ghost use Rattle.const_hex.specs.declared.error.FromHexError.{FromHexError};
 ghost use Rattle.hexfilter_core.specs.Errors.{IsNotInterrupted};
-ghost use Rattle.hexfilter_core.specs.Inputs.{ReadsAll, Rejects, SpellsBeginning, text_of};
+ghost use Rattle.hexfilter_core.specs.Inputs.{ReadsAll, HasError, SpellsBeginning, text_of};
 ghost use Rattle.hexfilter_core.specs.declared.error.RunError.TheVariants.{Text};
 
 use crate::error::RunError;
@@ -28,7 +28,7 @@ pub(crate) fn decode_stream<R: Read, W: Write>(
         × Appends (W.contents output.old) (W.contents output.new) y) }
     ensures text { (e : FromHexError) → result ≡ Err (Text e) → (x : List ℕ)
         × Consumes (R.remaining input.old) (R.remaining input.new) x
-        × Rejects ignore_newlines (R.remaining input.new) x e }
+        × HasError ignore_newlines (R.remaining input.new) x e }
     ensures begun { OnErr result ((x : List ℕ) × (y : List ℕ)
         × Consumes (R.remaining input.old) (R.remaining input.new) x
         × SpellsBeginning ignore_newlines x y

@@ -1,11 +1,11 @@
 //! From a reader's bytes to a writer's text.
 
-ghost use Rattle.std.specs.Prelude.{◌≡◌, ◌+◌, ◌-◌, ◌*◌, ◌≤◌, ◌∷◌, [], List, ℕ, length, true, OnOk, OnErr, IfOk};
+ghost use Rattle.std.specs.Prelude.{◌≡◌, ◌+◌, ◌-◌, ◌*◌, ◌≤◌, ◌∷◌, [], List, ℕ, length, true, OnOk, OnErr, IfErr, IfOk};
 ghost use Rattle.std.specs.Io.KnownBytes.{Appends, Consumes};
 ghost use Rattle.const_hex.specs.Texts.{prefix_of};
 ghost use Rattle.const_hex.specs.Writers.{WritesBeginning};
 ghost use Rattle.hexfilter_core.specs.Encoded.{encoded};
-ghost use Rattle.hexfilter_core.specs.Errors.{IsDeviceError, IsWriteError};
+ghost use Rattle.hexfilter_core.specs.Errors.{IsFailedCall, IsFailedWrite};
 ghost use Rattle.hexfilter_core.specs.Inputs.{ReadsAll};
 ghost use Rattle.hexfilter_core.specs.Lines.{Begins, Lays, ended};
 
@@ -29,7 +29,7 @@ pub(crate) fn encode_stream<R: Read, W: Write>(
     ensures ok { OnOk result ((x : List ℕ)
         × ReadsAll (R.remaining input.old) (R.remaining input.new) x
         × Appends (W.contents output.old) (W.contents output.new) (encoded prefix upper columns x)) }
-    ensures err { IsDeviceError result }
+    ensures err { IfErr result IsFailedCall }
     ensures begun { OnErr result ((x : List ℕ)
         × Consumes (R.remaining input.old) (R.remaining input.new) x
         × WritesBeginning (W.contents output.old) (W.contents output.new)
@@ -73,7 +73,7 @@ fn write_text<W: Write>(
         × Appends (W.contents output.old) (W.contents output.new) y
         × Lays columns column text.now y next) }
     ensures column { IfOk result (λ next. next ≤ columns - 1) }
-    ensures err { IsWriteError result }
+    ensures err { IfErr result IsFailedWrite }
     ensures begun { OnErr result ((y : List ℕ)
         × Appends (W.contents output.old) (W.contents output.new) y
         × Begins columns column text.now y) }
@@ -91,7 +91,7 @@ fn write_text<W: Write>(
 fn write_last<W: Write>(column: usize, output: &mut W) -> Result<(), RunError>
     ensures ok { OnOk result
         (Appends (W.contents output.old) (W.contents output.new) (ended column)) }
-    ensures err { IsWriteError result }
+    ensures err { IfErr result IsFailedWrite }
     ensures begun { OnErr result
         (WritesBeginning (W.contents output.old) (W.contents output.new) (ended column)) }
 {

@@ -11,6 +11,7 @@ mod error;
 mod line_decoder;
 mod lines;
 mod mode;
+mod newlines;
 mod options;
 mod process;
 mod runs;

@@ -1,12 +1,12 @@
 //! A decoder for a text that may stand in lines.
 
-ghost use Rattle.std.specs.Prelude.{◌≡◌, ◌+◌, ◌/◌, ◌≤◌, ◌++◌, ◌∷◌, [], ◌↔◌, ◌==◌, ℕ, List, Ok, Err, true, length, take, IsOk, IfOk, IfErr, OnErr};
-ghost use Rattle.std.specs.List.{position_or_len};
+ghost use Rattle.std.specs.Prelude.{◌≡◌, ◌+◌, ◌/◌, ◌≤◌, ◌++◌, ◌∷◌, [], ◌↔◌, ℕ, List, Ok, Err, true, length, take, IsOk, IfOk, IfErr, OnErr};
 ghost use Rattle.const_hex.specs.Results.{IsOdd, Reads};
 ghost use Rattle.const_hex.specs.declared.error.FromHexError.TheVariants.{OddLength};
 ghost use Rattle.hexfilter_core.specs.Decoding.{HasDecoded, ignores, moved};
 ghost use Rattle.hexfilter_core.specs.Inputs.{NamesInvalid, text_of};
 
+use crate::newlines::line_length;
 use const_hex::{Decoder, FromHexError};
 
 /// Decodes an input that comes in chunks, with or without its newlines. Positions count in the input.
@@ -127,16 +127,4 @@ fn moved(error: FromHexError, count: usize) -> FromHexError
         },
         _ => error,
     }
-}
-
-/// The length of the first line, without its newline.
-fn line_length(text: &[u8]) -> usize
-    ensures first { result ≡ position_or_len (λ b. b == 10) text.now }
-    ensures within { result ≤ length text.now }
-{
-    let mut end = 0;
-    'search: while end < text.len() && text[end] != b'\n' {
-        end += 1;
-    }
-    end
 }

@@ -59,7 +59,7 @@ const START: Options = Options {
     next: Next::Any,
 };
 
-/// What the arguments behind the program's name ask for, or `None` if they are not valid.
+/// What the arguments after the program's name ask for, or `None` if they are not valid.
 ///
 /// ```rust
 /// let arguments = [String::from_str(rt.alloc(), "--version")?];
@@ -100,7 +100,7 @@ impl Options {
         }
     }
 
-    /// The options with a name behind two dashes.
+    /// The options with a name after two dashes.
     fn with_name(mut self, name: &str) -> Option<Options>
         ensures { result ≡ with_name self name.now }
     {
@@ -119,7 +119,7 @@ impl Options {
         Some(self)
     }
 
-    /// The options with the letters behind one dash.
+    /// The options with the letters after one dash.
     fn with_letters(mut self, letters: &[u8]) -> Option<Options>
         ensures { result ≡ with_letters self letters.now }
     {

@@ -51,7 +51,7 @@ pub fn program(rt: &(impl Env + Files + Input + Print + Eprint + AllocGlobal)) -
     let arguments = match arguments(rt) {
         Ok(arguments) => arguments,
         Err(error) => {
-            let _ = eprintln!(rt; "hexfilter: {error}");
+            let _ = eprintln!(rt; "hexfilter: cannot read the arguments: {error}");
             return ExitCode::from(2);
         }
     };
@@ -70,7 +70,7 @@ pub fn program(rt: &(impl Env + Files + Input + Print + Eprint + AllocGlobal)) -
     }
 }
 
-/// The arguments behind the program's name.
+/// The arguments after the program's name.
 fn arguments(rt: &(impl Env + AllocGlobal)) -> io::Result<Vec<String>> {
     Ok(env::args(rt)?.skip(1).collect(rt.alloc())?)
 }

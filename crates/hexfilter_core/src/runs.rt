@@ -5,7 +5,7 @@ ghost use Rattle.std.specs.Io.KnownBytes.{Appends, Consumes};
 ghost use Rattle.const_hex.specs.declared.error.FromHexError.{FromHexError};
 ghost use Rattle.hexfilter_core.specs.Errors.{IsNotInterrupted};
 ghost use Rattle.hexfilter_core.specs.Inputs.{ReadsAll};
-ghost use Rattle.hexfilter_core.specs.Outcome.{Makes, MakesBeginning, Refuses};
+ghost use Rattle.hexfilter_core.specs.Outcome.{Makes, MakesBeginning, FailsWith};
 ghost use Rattle.hexfilter_core.specs.declared.error.RunError.TheVariants.{Text};
 
 use crate::decoding::decode_stream;
@@ -39,10 +39,10 @@ pub fn run<R: Read, W: Write>(mode: Mode, input: &mut R, output: &mut W) -> Resu
     ensures ok { OnOk result ((x : List ℕ) × (y : List ℕ)
         × ReadsAll (R.remaining input.old) (R.remaining input.new) x × Makes mode x y
         × Appends (W.contents output.old) (W.contents output.new) y) }
-    // The mode refuses what was read, whatever follows, or all of it.
+    // `e` is the error of what was read, whatever follows, or of all that the reader had.
     ensures text { (e : FromHexError) → result ≡ Err (Text e) → (x : List ℕ)
         × Consumes (R.remaining input.old) (R.remaining input.new) x
-        × Refuses mode (R.remaining input.new) x e }
+        × FailsWith mode (R.remaining input.new) x e }
     // A beginning of what the mode makes of the bytes that were read was written.
     ensures begun { OnErr result ((x : List ℕ) × (y : List ℕ)
         × Consumes (R.remaining input.old) (R.remaining input.new) x × MakesBeginning mode x y

@@ -1,4 +1,4 @@
--- What was decoded so far, and why an input is refused.
+-- What was decoded so far, and the error of an input.
 use Rattle.std.proofs.Common.{◌≡◌, ℕ, ◌*◌, ◌≤◌, Bool, List, [], ◌++◌, length, take, Option, Result, Ok, Err, refl, sym, ap, ◌∙◌, arith}
 use Rattle.std.proofs.lemmas.List.{append-nil, length-take, take-take, take_min}
 use Rattle.std.specs.Io.KnownBytes.{IsAtEnd}
@@ -12,7 +12,7 @@ use Rattle.const_hex_arch.proofs.lemmas.Spelling.{Spells-parts}
 use Rattle.hexfilter_core.proofs.lemmas.InputTexts.{text_of-append}
 use Rattle.hexfilter_core.proofs.lemmas.InvalidCharacters.{NamesInvalid-longer}
 use Rattle.hexfilter_core.specs.Decoding.{HasDecoded, ignores}
-use Rattle.hexfilter_core.specs.Inputs.{NamesInvalid, Rejects, SpellsBeginning, text_of}
+use Rattle.hexfilter_core.specs.Inputs.{NamesInvalid, HasError, SpellsBeginning, text_of}
 use Rattle.hexfilter_core.specs.declared.error.RunError.{RunError}
 use Rattle.hexfilter_core.specs.declared.error.RunError.TheVariants.{Text}
 use Rattle.hexfilter_core.specs.declared.line_decoder.LineDecoder.{LineDecoder}
@@ -39,16 +39,16 @@ fewer_spelled ig x y k h =
     rw (take-take (2 * n) (2 * length y) (body_of (text_of ig x)) (omega arith), same) at part
 
 -- an odd number of digits
-pub refused_odd : (ig : Bool) (left : Option (List ℕ)) (x : List ℕ) (e : FromHexError) → e ≡ OddLength → IsAtEnd left
-    → IsOdd (length (text_of ig x)) → AllDigits (body_of (text_of ig x)) → Rejects ig left x e
-refused_odd ig left x e is end odd all = rw is (end, odd, all)
+pub odd_error : (ig : Bool) (left : Option (List ℕ)) (x : List ℕ) (e : FromHexError) → e ≡ OddLength → IsAtEnd left
+    → IsOdd (length (text_of ig x)) → AllDigits (body_of (text_of ig x)) → HasError ig left x e
+odd_error ig left x e is end odd all = rw is (end, odd, all)
 
 -- an invalid character
-pub refused_character : (ig : Bool) (left : Option (List ℕ)) (x : List ℕ) (e : FromHexError) → NamesInvalid ig x e → Rejects ig left x e
-refused_character ig left x OddLength h = absurd h
-refused_character ig left x InvalidStringLength h = absurd h
-refused_character ig left x (InvalidHexCharacter c i) h = λ rest. NamesInvalid-longer ig x rest (InvalidHexCharacter c i) h
-refused_character ig left x NoMemory h = absurd h
+pub character_error : (ig : Bool) (left : Option (List ℕ)) (x : List ℕ) (e : FromHexError) → NamesInvalid ig x e → HasError ig left x e
+character_error ig left x OddLength h = absurd h
+character_error ig left x InvalidStringLength h = absurd h
+character_error ig left x (InvalidHexCharacter c i) h = λ rest. NamesInvalid-longer ig x rest (InvalidHexCharacter c i) h
+character_error ig left x NoMemory h = absurd h
 
 -- which text error is returned
 pub same_error : {V : Type 0} (r : Result V RunError) (f : RunError) (e error : FromHexError) → r ≡ Err f → f ≡ Text error → r ≡ Err (Text e) → e ≡ error

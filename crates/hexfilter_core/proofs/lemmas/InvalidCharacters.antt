@@ -94,19 +94,19 @@ after_text (a ∷ []) [] p n digits bad e = absurd (digits_no_bad (a ∷ []) p d
 after_text (a ∷ []) (d ∷ u) p n digits bad e = after_one ((a == 48) && (d == 120 || d == 88)) a d u p n digits bad e
 after_text (a ∷ b ∷ t) u p n digits bad e = after_two ((a == 48) && (b == 120 || b == 88)) a b t u p n digits bad e
 
--- a character after the prefix, and its place in the text
-behind_prefix : (prefix : Bool) (a b : ℕ) (u : List ℕ) (p : ℕ)
+-- a character after the prefix, and its position in the text
+after_prefix : (prefix : Bool) (a b : ℕ) (u : List ℕ) (p : ℕ)
     → slice_index (if prefix then u else a ∷ b ∷ u) p ≡ slice_index (a ∷ b ∷ u) (p + (length (a ∷ b ∷ u) - length (if prefix then u else a ∷ b ∷ u)))
-behind_prefix true a b u p =
+after_prefix true a b u p =
     let e : p + (length (a ∷ b ∷ u) - length u) ≡ suc (suc p) = omega arith in ap (slice_index (a ∷ b ∷ u)) (sym e)
-behind_prefix false a b u p = ap (slice_index (a ∷ b ∷ u)) (let e : p ≡ p + (length (a ∷ b ∷ u) - length (a ∷ b ∷ u)) = omega arith in e)
+after_prefix false a b u p = ap (slice_index (a ∷ b ∷ u)) (let e : p ≡ p + (length (a ∷ b ∷ u) - length (a ∷ b ∷ u)) = omega arith in e)
 
 in_text : (t : List ℕ) (p : ℕ) → p < length (body_of t) → slice_index (body_of t) p ≡ slice_index t (p + (length t - length (body_of t)))
 in_text [] p h = absurd (omega (arith, h))
 in_text (a ∷ []) p h = ap (slice_index (a ∷ [])) (let e : p ≡ p + (length (a ∷ []) - length (a ∷ [])) = omega arith in e)
-in_text (a ∷ b ∷ u) p h = behind_prefix ((a == 48) && (b == 120 || b == 88)) a b u p
+in_text (a ∷ b ∷ u) p h = after_prefix ((a == 48) && (b == 120 || b == 88)) a b u p
 
--- ---- what a decoder refuses
+-- ---- the error of a decoder
 
 module _ (d : LineDecoder) (x bs line : List ℕ) (has : HasDecoded d x bs) (plain : text_of (ignores d) line ≡ line) where
   whole : text_of (ignores d) (x ++ line) ≡ text_of (ignores d) x ++ line

@@ -3,7 +3,7 @@ use Rattle.std.proofs.KnownBytes.{Appends-kept, Appends-trans, Consumes-kept, Co
 use Rattle.std.proofs.lemmas.Result.{err_from_is_err_and}
 use Rattle.std.proofs.Math.Seq.{take-append-add}
 use Rattle.const_hex.specs.declared.error.FromHexError.TheVariants.{OddLength}
-use Rattle.hexfilter_core.proofs.lemmas.DecodedInputs.{digits, fewer_spelled, refused_character, refused_odd, same_error, spelled, spelled_before}
+use Rattle.hexfilter_core.proofs.lemmas.DecodedInputs.{digits, fewer_spelled, character_error, odd_error, same_error, spelled, spelled_before}
 use Rattle.hexfilter_core.proofs.lemmas.Encoding.{if_err, if_ok}
 use Rattle.hexfilter_core.specs.Decoding.{HasDecoded, ignores}
 use Rattle.hexfilter_core.specs.Inputs.{SpellsBeginning}
@@ -24,7 +24,7 @@ returns-in_err-finish-clause-text g c = λ e is.
     let told = c.in_err-finish.ensures in
     let odd = rw c.chunks.invariant.ignores at ((told.odd x y has).0 (told.err x y has)) in
     let same : e ≡ OddLength = cc (same_error _ _ e _ p.1 p.2 is, told.err x y has) in
-    (x, all, refused_odd _ _ x e same (got.end c.if-count-eq0.true (omega (arith, c.read_chunk.auto.buffer))) odd (digits _ _ x y c.chunks.invariant.ignores has))
+    (x, all, odd_error _ _ x e same (got.end c.if-count-eq0.true (omega (arith, c.read_chunk.auto.buffer))) odd (digits _ _ x y c.chunks.invariant.ignores has))
 
 pub returns-in_err-finish-clause-begun : goal.returns-in_err-finish-clause-begun
 returns-in_err-finish-clause-begun g c =
@@ -53,7 +53,7 @@ returns-in_err-decoded-clause-text g c = λ e is.
     let p = err_from_is_err_and c.from_residual-in_err-decoded.result c.from_residual-in_err-decoded.ensures.1 in
     let chunk = take c.in_ok-count.count c.read_chunk.new.buffer in
     let named = rw c.chunks.invariant.ignores at (c.in_err-decoded.ensures.err x y has) in
-    (x ++ chunk, Consumes-trans _ _ _ x chunk read c.in_ok-count.ensures.bytes, rw (same_error _ _ e _ p.1 p.2 is) (refused_character _ _ (x ++ chunk) _ named))
+    (x ++ chunk, Consumes-trans _ _ _ x chunk read c.in_ok-count.ensures.bytes, rw (same_error _ _ e _ p.1 p.2 is) (character_error _ _ (x ++ chunk) _ named))
 
 pub returns-in_err-decoded-clause-begun : goal.returns-in_err-decoded-clause-begun
 returns-in_err-decoded-clause-begun g c =

@@ -1,5 +1,5 @@
 use Rattle.std.proofs.Common.{◌≡◌, ◌-◌, ◌<◌, ◌≤◌, ◌==◌, ℕ, false, get_or, length}
-use Rattle.hexfilter_core.proofs.line_decoder.line_length.Given as goal
+use Rattle.hexfilter_core.proofs.newlines.line_length.Given as goal
 
 abbrev pub invariant-search : goal.invariant-search
 invariant-search l = record {

@@ -1,6 +1,6 @@
 use Rattle.std.proofs.Common.{◌≡◌, ◌<◌, ◌==◌, true, get_or, length, arith, sym}
 use Rattle.std.proofs.lemmas.List.Sums.{position_or_len_is}
-use Rattle.hexfilter_core.proofs.line_decoder.line_length.Goals as goal
+use Rattle.hexfilter_core.proofs.newlines.short_line_length.Goals as goal
 
 pub returns-else-text-end-ne10-clause-first : goal.returns-else-text-end-ne10-clause-first
 returns-else-text-end-ne10-clause-first c =

@@ -1,0 +1,17 @@
+use Rattle.std.proofs.Common.{◌≡◌, ◌==◌, ◌∙◌, length, sym, arith}
+use Rattle.std.proofs.lemmas.Simd.{bitmask_splat, leading_from_mask_l, trailing_mask_l}
+use mir.Syntax.{w8}
+use Rattle.hexfilter_core.proofs.newlines.count_before_newline.Goals as goal
+
+pub returns-then-newlines-eq0 : goal.returns-then-newlines-eq0
+returns-then-newlines-eq0 c =
+    let long : length c.args.block ≡ 32 = omega (arith, c.fits-block.0) in
+    let mask = bitmask_splat w8 (λ a b. a == b) c.args.block 32 10 long (omega arith) in
+    let none = leading_from_mask_l (λ b. b == 10) c.args.block (sym mask ∙ c.if-newlines-eq0.true) in sym (none ∙ long)
+
+pub returns : goal.returns
+returns c =
+    let long : length c.args.block ≡ 32 = omega (arith, c.fits-block.0) in
+    let mask = bitmask_splat w8 (λ a b. a == b) c.args.block 32 10 long (omega arith) in
+    let some = rw mask at c.if-newlines-eq0.false in
+    rw mask (trailing_mask_l (λ b. b == 10) 64 c.args.block (omega (arith, long)) (omega (arith, some)))
