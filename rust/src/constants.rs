@@ -1,7 +1,7 @@
 //! Functions that constants can call. They look digits up in a table, so the time that they take at run
 //! time may tell something of the bytes.
 
-use crate::proved::codec::body::{find_invalid_character, strip_even, find_first_bad};
+use crate::proved::codec::body::{find_first_bad, find_invalid_character, strip_even};
 use crate::proved::{value_at, NIL};
 use crate::{Buffer, FromHexError};
 

@@ -158,3 +158,10 @@ mod avx2 {
         is_present
     }
 }
+
+#[cfg(all(test, target_arch = "x86_64"))]
+#[test]
+fn avx2_is_found_as_by_std() {
+    assert_eq!(has_avx2(), std::is_x86_feature_detected!("avx2"));
+    assert_eq!(avx2::is_known(), has_avx2());
+}

@@ -20,6 +20,7 @@ struct Slow<T> {
     inner: T,
     most: usize,
     calls: usize,
+    flushes: usize,
     errors: Vec<(usize, ErrorKind)>,
 }
 
@@ -30,6 +31,7 @@ impl<T> Slow<T> {
             inner,
             most,
             calls: 0,
+            flushes: 0,
             errors,
         }
     }
@@ -58,6 +60,7 @@ impl<T: Write> Write for Slow<T> {
     }
 
     fn flush(&mut self) -> io::Result<()> {
+        self.flushes += 1;
         self.inner.flush()
     }
 }
@@ -194,6 +197,20 @@ fn a_writer_that_takes_nothing() {
     writer.write_all(b"kiwi").unwrap();
     assert_eq!(writer.flush().unwrap_err().kind(), ErrorKind::WriteZero);
     assert_eq!(writer.finish().err().unwrap().kind(), ErrorKind::WriteZero);
+}
+
+/// The other writer may have a buffer too.
+#[test]
+fn the_other_writer_is_flushed() {
+    let mut writer = EncodeWriter::new(Slow::new(Vec::new(), 9, &[]));
+    writer.write_all(b"kiwi").unwrap();
+    writer.flush().unwrap();
+    writer.write_all(b"pear").unwrap();
+    let other = writer.finish().unwrap();
+    assert_eq!(
+        (&other.inner[..], other.flushes),
+        (&b"6b69776970656172"[..], 2)
+    );
 }
 
 /// What waits is written when a writer is dropped.

@@ -8,6 +8,9 @@ use const_hex_proved::{
 /// More than four steps of the widest kernel.
 const LONGEST: usize = 300;
 
+/// More than any buffer here, and than a count of 16 bits has.
+const LONG: usize = 70_000;
+
 /// Bytes on both sides of each kind of digit, and others.
 const INVALID: [u8; 9] = [b'/', b':', b'@', b'G', b'`', b'g', 0, 128, 255];
 
@@ -107,7 +110,8 @@ fn fails_with(text: &[u8], count: usize, error: FromHexError) {
     assert_eq!(const_check(text), Err(error));
     match count {
         20 => assert_eq!(const_decode_to_array::<20>(text), Err(error)),
-        300 => assert_eq!(const_decode_to_array::<300>(text), Err(error)),
+        LONGEST => assert_eq!(const_decode_to_array::<LONGEST>(text), Err(error)),
+        LONG => assert_eq!(const_decode_to_array::<LONG>(text), Err(error)),
         _ => {}
     }
     #[cfg(feature = "alloc")]
@@ -120,4 +124,16 @@ fn a_long_text() {
     let bytes = bytes_of(1_000_003);
     assert_eq!(const_hex_proved::encode(&bytes), text_of(&bytes));
     assert_eq!(const_hex_proved::decode(text_of(&bytes)), Ok(bytes));
+}
+
+/// An invalid character is found wherever it stands.
+#[test]
+fn a_long_text_with_an_invalid_character() {
+    let mut text = text_of(&bytes_of(LONG)).into_bytes();
+    for position in (0..2 * LONG).step_by(997).chain([2 * LONG - 1]) {
+        let (c, index) = ('g', position);
+        let digit = core::mem::replace(&mut text[position], b'g');
+        fails_with(&text, LONG, FromHexError::InvalidHexCharacter { c, index });
+        text[position] = digit;
+    }
 }

@@ -43,3 +43,20 @@ impl<T> Within for [T] {
         unsafe { self.get_unchecked_mut(range) }
     }
 }
+
+#[cfg(all(test, panic = "unwind"))]
+mod tests {
+    use super::Within;
+
+    #[test]
+    #[should_panic]
+    fn a_range_outside() {
+        let _ = [0; 4].within(3..5);
+    }
+
+    #[test]
+    #[should_panic]
+    fn a_range_outside_that_can_be_changed() {
+        let _ = [0; 4].within_mut(..5);
+    }
+}

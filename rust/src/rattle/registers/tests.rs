@@ -46,16 +46,12 @@ fn compare<R: Register, A: Register, const N: usize>() {
         binary!(first, second, add sub saturating_sub simd_min bitand bitor simd_gt);
 
         let masks = random(&mut state);
-        let mask: [u8; N] = lanes(|lane| {
-            if masks >> (lane % 48) & 1 == 0 {
-                0
-            } else {
-                255
-            }
-        });
-        let ours: [u8; N] = bits(bits::<_, R>(mask).select(bits(first), bits(second)));
-        let wanted: [u8; N] = bits(bits::<_, A>(mask).select(bits(first), bits(second)));
-        assert_eq!(ours, wanted, "select of {mask:?}, {first:?} and {second:?}");
+        for flip in [0, 255] {
+            let mask: [u8; N] = lanes(|lane| (masks >> (lane % 48) & 1) as u8 * 255 ^ flip);
+            let ours: [u8; N] = bits(bits::<_, R>(mask).select(bits(first), bits(second)));
+            let wanted: [u8; N] = bits(bits::<_, A>(mask).select(bits(first), bits(second)));
+            assert_eq!(ours, wanted, "select of {mask:?}, {first:?} and {second:?}");
+        }
 
         // An index is below 16, or at least 128.
         let index = |byte: u8| if byte < 128 { byte % 16 } else { byte };
@@ -63,8 +59,12 @@ fn compare<R: Register, A: Register, const N: usize>() {
         binary!(table, first.map(index), swizzle);
 
         let wide: [u8; N] = lanes(|lane| ((pair + 257 * (lane / 2)) >> (lane % 2 * 8)) as u8);
-        for count in 0..16 {
-            binary!(wide, lanes::<N>(|lane| count * (1 - lane as u8 % 2)), shr);
+        for count in 0..16_u16 {
+            binary!(wide, lanes::<N>(|lane| count.to_ne_bytes()[lane % 2]), shr);
+        }
+        // The source multiplies by 4097, which is 0x1001. The others are the least and the greatest factors.
+        for factor in [0x1001, 0, 1, 0x7FFF, 0x8000, 0xFFFF_u16] {
+            binary!(wide, lanes::<N>(|lane| factor.to_ne_bytes()[lane % 2]), mul);
         }
     }
     for _ in 0..1_000_000 / (N / 2) {
@@ -73,9 +73,12 @@ fn compare<R: Register, A: Register, const N: usize>() {
         binary!(first, second, mul);
     }
     assert!(bits::<_, R>([0_u8; N]).is_zero());
-    for bit in 0..8 * N {
-        let one: [u8; N] = lanes(|lane| if lane == bit / 8 { 1 << (bit % 8) } else { 0 });
-        assert!(!bits::<_, R>(one).is_zero(), "is_zero of {one:?}");
+    for pair in 0..(8 * N) * (8 * N) {
+        let mut some = [0_u8; N];
+        for bit in [pair / (8 * N), pair % (8 * N)] {
+            some[bit / 8] |= 1 << (bit % 8);
+        }
+        assert!(!bits::<_, R>(some).is_zero(), "is_zero of {some:?}");
     }
 }
 
