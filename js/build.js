@@ -12,8 +12,7 @@ execFileSync('cargo', ['build', ...options], { cwd: at('../rust/capi'), stdio: '
 
 const module = readFileSync(at(`../rust/capi/target/${target}/release/const_hex.wasm`));
 const source = readFileSync(at('src/const_hex.js'), 'utf8');
-mkdirSync(at('dist'), { recursive: true });
 const built = source.replace(/^const MODULE = .*$/m, `const MODULE = '${module.toString('base64')}';`);
+mkdirSync(at('dist'), { recursive: true });
 writeFileSync(at('dist/const_hex.js'), built);
 for (const name of ['LICENSE-APACHE', 'LICENSE-MIT', 'NOTICE']) copyFileSync(at(`../${name}`), at(name));
-console.log(`dist/const_hex.js has a module of ${module.length} bytes`);

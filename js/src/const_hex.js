@@ -1,4 +1,5 @@
-// Encodes and decodes hexadecimal text by three functions of a formally verified module for WebAssembly.
+// Encodes and decodes hexadecimal text by three functions of a module that is compiled from formally verified
+// source. index.d.ts describes what this file exports.
 //
 // The module has 64 KiB of memory, which never grows. A call copies its input there, one chunk after another,
 // and copies the output back.
@@ -46,7 +47,6 @@ const { prototype: typedArray } = Object.getPrototypeOf(Uint8Array);
 const getterOf = (name) => Object.getOwnPropertyDescriptor(typedArray, name).get;
 const [typeOf, lengthOf] = [getterOf(Symbol.toStringTag), getterOf('length')];
 
-/** Text that cannot be decoded. */
 export class HexError extends SyntaxError {
     constructor(kind, position) {
         super(MESSAGES[kind] ?? describe(position));
@@ -56,7 +56,6 @@ export class HexError extends SyntaxError {
     }
 }
 
-/** Returns two digits for each byte. */
 export function encode(input, { prefix = false, upper = false } = {}) {
     const view = viewOf(input);
     const length = lengthOf.call(view);
@@ -77,7 +76,6 @@ export function encode(input, { prefix = false, upper = false } = {}) {
     return joined ? joined.toString('latin1') : string;
 }
 
-/** Returns the bytes that the text encodes. */
 export function decode(input) {
     const source = sourceOf(input);
     loadDecoder(0, 0);
@@ -86,7 +84,6 @@ export function decode(input) {
     return output;
 }
 
-/** Fills the target with the bytes that the text encodes, and returns it. An error leaves it unchanged. */
 export function decodeInto(input, target) {
     if (typeOf.call(target) !== 'Uint8Array') throw new TypeError('the target is not a Uint8Array');
     typedArray.keys.call(target); // Throws if the target has lost its bytes.
@@ -100,7 +97,6 @@ export function decodeInto(input, target) {
     return target;
 }
 
-/** Returns a decoder of text that arrives in chunks. */
 export function decoder() {
     let [first, second] = [0, 0];
     return {
@@ -120,23 +116,19 @@ export function decoder() {
     };
 }
 
-/** Returns a stream that decodes chunks of text. */
 export function decoderStream() {
     const { push, end } = decoder();
     const transform = (chunk, controller) => controller.enqueue(push(chunk));
     return new TransformStream({ transform, flush: end });
 }
 
-/** Throws what `decode` throws for the text. */
 export function check(input) {
     const source = sourceOf(input);
     if (!accepts(source)) throw errorOf(source);
 }
 
-/** Returns whether `decode` accepts the text. */
 export const isHex = (input) => accepts(sourceOf(input));
 
-/** Clears what earlier calls left in the memory of the module. */
 export function wipe() {
     new Uint8Array(memory.buffer).fill(0, 0, STACK_SIZE).fill(0, DECODER);
 }
@@ -165,10 +157,7 @@ function loadDecoder(first, second) {
     numbers[1] = second;
 }
 
-/**
- * Returns what the decoder in the memory makes of a source, or undefined after an error: a new array, or, for a
- * caller that copies it, a part of `bytes`.
- */
+/** Returns what a source decodes to, or undefined after an error. What a caller copies may be in `bytes`. */
 function decodeSource(source, isCopied = false) {
     const length = lengthIn(source);
     let count = decodeChunk(source, 0);

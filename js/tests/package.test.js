@@ -15,11 +15,9 @@ after(() => rmSync(folder, { recursive: true, force: true, maxRetries: 5 }));
 
 const run = (cwd, tool, ...options) => execFileSync(tool, options, { cwd, encoding: 'utf8', stdio: 'pipe' });
 const without = (tool) => (spawnSync(tool, ['--version']).error ? `${tool} is not installed` : false);
-const readme = readFileSync(join(root, 'README.md'), 'utf8');
-const [, example] = /```js\n(.*?)```/s.exec(readme);
+const [, example] = /```js\n(.*?)```/s.exec(readFileSync(join(root, 'README.md'), 'utf8'));
 // The example has what it prints in comments: `console.log(a);  // b` prints b.
-const lines = Array.from(example.matchAll(/console\.log\(.*\); +\/\/ (.*)/g), ([, line]) => line);
-const printed = `${lines.join('\n')}\n`;
+const printed = Array.from(example.matchAll(/console\.log.*\); +\/\/ (.*\n)/g), ([, line]) => line).join('');
 
 test('npm packs and installs the package, and the example runs', { skip: without('npm') }, () => {
     const packed = run(root, 'npm', 'pack', '--json', '--ignore-scripts', '--pack-destination', folder);
@@ -55,8 +53,7 @@ test('tsc accepts the types', { skip: without('tsc') || without('npm') }, () => 
 
 const TYPES = { '': 'text/html', '.js': 'text/javascript', '.tsv': 'text/plain' };
 // With these a page may have shared buffers.
-const [OPENER, EMBEDDER] = ['Cross-Origin-Opener-Policy', 'Cross-Origin-Embedder-Policy'];
-const ISOLATED = { [OPENER]: 'same-origin', [EMBEDDER]: 'require-corp' };
+const SHARED = ['Cross-Origin-Opener-Policy', 'same-origin', 'Cross-Origin-Embedder-Policy', 'require-corp'];
 const PAGE = `<!doctype html><script type="module">
     import { cases } from '/js/tests/cases.js';
     const failed = {};
@@ -72,7 +69,7 @@ function serve(server) {
         if (request.method === 'POST') report(JSON.parse(Buffer.concat(await request.toArray())));
         const { pathname } = new URL(request.url, 'http://localhost');
         const type = TYPES[extname(pathname)];
-        response.writeHead(type ? 200 : 404, { ...ISOLATED, 'Content-Type': type ?? 'text/plain' });
+        response.writeHead(type ? 200 : 404, [...SHARED, 'Content-Type', type ?? 'text/plain']);
         response.end(pathname === '/' ? PAGE : type && readFileSync(join(root, '..', pathname)));
     }));
 }
@@ -81,20 +78,20 @@ for (const [browser, ...options] of [
     ['chromium', '--headless', '--no-sandbox', '--disable-gpu', '--user-data-dir=FOLDER'],
     ['firefox-esr', '--headless', '--no-remote', '--profile', 'FOLDER'],
 ]) {
-    test(`the cases in ${browser}`, { skip: without(browser), timeout: 300000 }, async () => {
+    test(`the cases in ${browser}`, { skip: without(browser) }, async () => {
         const profile = mkdtempSync(join(folder, browser));
         const server = createServer().listen(0, '127.0.0.1');
         await once(server, 'listening');
         const page = `http://127.0.0.1:${server.address().port}/`;
-        const given = [...options.map((option) => option.replace('FOLDER', profile)), page];
         const env = { ...process.env, HOME: profile, MOZ_DISABLE_CONTENT_SANDBOX: '1' };
-        // A group of processes of its own, which is ended as a whole.
-        const running = spawn(browser, given, { stdio: 'ignore', detached: true, env });
+        const given = options.map((option) => option.replace('FOLDER', profile));
+        const running = spawn('timeout', ['300', browser, ...given, page], { stdio: 'ignore', env });
+        const exit = once(running, 'exit');
         try {
-            assert.deepEqual(await serve(server), {});
+            assert.deepEqual(await Promise.race([serve(server), exit]), {});
         } finally {
-            process.kill(-running.pid, 'SIGKILL');
-            await once(running, 'exit');
+            running.kill(); // `timeout` passes the signal to the browser and its children.
+            await exit;
             server.closeAllConnections();
             server.close();
         }

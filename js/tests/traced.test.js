@@ -1,8 +1,7 @@
-// Whether all bytes of a length, and all valid texts of a length, go the same way through the module: by the same
-// addresses and the same branches.
+// Whether all bytes and all valid texts of a length take the same branches and addresses in the module.
 import assert from 'node:assert/strict';
 import { execFileSync, spawnSync } from 'node:child_process';
-import { randomBytes } from 'node:crypto';
+import { randomBytes, randomInt } from 'node:crypto';
 import { readFileSync } from 'node:fs';
 import test from 'node:test';
 
@@ -14,9 +13,8 @@ function traceLine(line) {
     const [instruction] = line.trim().split(/[ )]/);
     const [, type, access] = /^(i32|i64|v128)\.(load|store)/.exec(instruction) ?? [];
     const see = 'global.set $seen global.get $seen global.get $seen call $mix';
-    if (access === 'store' || (access && /lane$/.test(instruction))) {
-        return `global.set $${type} ${see} global.get $${type}\n${line}`;
-    }
+    const isValueAbove = access === 'store' || (access && /lane$/.test(instruction));
+    if (isValueAbove) return `global.set $${type} ${see} global.get $${type}\n${line}`;
     if (access === 'load' || instruction === 'br_table') return `${see}\n${line}`;
     return /^(br_if|if)$/.test(instruction) ? `i32.eqz ${see} i32.eqz\n${line}` : line;
 }
@@ -27,7 +25,7 @@ function trace() {
     const [, module] = /^const MODULE = '(.*)';$/m.exec(source);
     const text = run('wasm2wat', Buffer.from(module, 'base64')).toString();
     // Instructions whose addresses or time are not traced.
-    assert.doesNotMatch(text, /\b(memory\.(copy|fill|init)|call_indirect|i(32|64)\.(div|rem)|select \(|table\.)/);
+    assert.doesNotMatch(text, /\b(memory\.(copy|fill|init)|call_indirect|i..\.(div|rem)|select \(|table\.)/);
     const traced = text.split('\n').map(traceLine).join('\n').replace(/\)\s*$/, `
         (global $sum (export "sum") (mut i64) (i64.const 0))
         (global $count (export "count") (mut i32) (i32.const 0))
@@ -53,11 +51,11 @@ test('all valid input of a length goes the same way through the module', { skip 
     };
     const waysOf = (bytes, prefix) => {
         memory.set(bytes, INPUT);
-        const ways = [0, 1].map((upper) => {
-            return way('encode', INPUT, bytes.length, OUTPUT, 16384, 4 | (2 * prefix) | upper);
-        });
-        const digits = Array.from(bytes.toString('hex'), (digit) => (Math.random() < 0.5 ? digit.toUpperCase() : digit));
-        const count = memory.write((prefix ? '0x' : '') + digits.join(''), INPUT, 'latin1');
+        const flags = [0, 1].map((upper) => 4 | (2 * prefix) | upper);
+        const ways = flags.map((each) => way('encode', INPUT, bytes.length, OUTPUT, 16384, each));
+        const change = (digit) => (randomInt(2) ? digit.toUpperCase() : digit);
+        const text = (prefix ? '0x' : '') + bytes.toString('hex').replace(/[a-f]/g, change);
+        const count = memory.write(text, INPUT, 'latin1');
         for (const cut of [count, (count >> 1) | 1]) {
             memory.fill(0, DECODER, DECODER + 8);
             for (const [start, end] of [[0, cut], [cut, count]]) {
@@ -68,8 +66,7 @@ test('all valid input of a length goes the same way through the module', { skip 
         }
         return ways;
     };
-    const lengths = Array.from({ length: 70 }, (_, index) => index + 1).concat(127, 128, 129, 255, 256, 257, 2048);
-    for (const length of lengths) {
+    for (const length of [...Array(71).keys(), 127, 128, 129, 255, 256, 257, 2048].slice(1)) {
         for (const prefix of [0, 1]) {
             const first = waysOf(Buffer.alloc(length), prefix);
             const others = [0xff, 0x9a].map((byte) => Buffer.alloc(length, byte));
