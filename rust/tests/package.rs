@@ -1,12 +1,11 @@
-//! What is promised of the package itself: its features and dependencies, where `unsafe` stands, and that
-//! `src/proved` is what the source becomes.
+//! What is promised of the package itself: its features and dependencies, and where `unsafe` stands.
 #![cfg(all(feature = "std", feature = "serde", not(target_family = "wasm")))]
 
 use serde_json::{json, Value};
 use std::collections::BTreeMap;
 use std::fs;
 use std::path::{Path, PathBuf};
-use std::process::{Command, Output};
+use std::process::Command;
 
 const FOLDER: &str = env!("CARGO_MANIFEST_DIR");
 
@@ -40,6 +39,7 @@ fn dependencies(package: &Value) -> Vec<(&str, bool)> {
     let all = package["dependencies"].as_array().unwrap().iter();
     all.filter(|dependency| dependency["kind"].is_null())
         .map(|dependency| {
+            assert_eq!(dependency["features"], json!([]));
             let has_defaults = dependency["uses_default_features"].as_bool();
             (dependency["name"].as_str().unwrap(), has_defaults.unwrap())
         })
@@ -122,78 +122,4 @@ fn places_of_unsafe() {
     }
     found.retain(|name, _| !name.ends_with("tests.rs"));
     assert_eq!(found, listed);
-}
-
-/// Runs the program that makes `src/proved`, if Python and the source are there.
-fn erase(arguments: &[&str]) -> Option<Output> {
-    if !Path::new(FOLDER).join("../crates").exists() {
-        eprintln!("the proved source is not there, so src/proved is not compared with it");
-        return None;
-    }
-    let run = Command::new("python3")
-        .arg(format!("{FOLDER}/erase"))
-        .args(arguments)
-        .output();
-    run.map_err(|error| eprintln!("python3 is not there, so src/proved is not compared: {error}"))
-        .ok()
-}
-
-/// This compares the numbers of places that each rule has changed, too.
-#[test]
-fn the_generated_source() {
-    if let Some(output) = erase(&["--check"]) {
-        assert!(
-            output.status.success(),
-            "{}",
-            String::from_utf8_lossy(&output.stdout)
-        );
-    }
-}
-
-/// What a line of source becomes, or why it is rejected.
-fn erased(text: &str) -> Option<Result<String, String>> {
-    let file = std::env::temp_dir().join(format!("const_hex_{}.rt", std::process::id()));
-    fs::write(&file, text).unwrap();
-    let output = erase(&[file.to_str().unwrap()])?;
-    let text = |bytes| String::from_utf8(bytes).unwrap().trim().to_string();
-    Some(match output.status.success() {
-        true => Ok(text(output.stdout)),
-        false => Err(text(output.stderr)),
-    })
-}
-
-/// What only the proof needs is deleted, and what nobody has read is an error.
-#[test]
-fn what_is_erased() {
-    let rows = [
-        ("fn f(x: u8) -> u8\n    requires { x < 9 }\n    ensures* a { b (λ c. { d }) }\n{\n    x\n}", Ok("fn f(x: u8) -> u8 {\n    x\n}")),
-        ("ghost use A.{b, c};\n\nfn f() {}", Ok("fn f() {}")),
-        ("struct S {\n    x: u8,\n    ghost small: { x < 9 },\n}", Ok("struct S {\n    x: u8,\n}")),
-        ("#[tactic(auto, using(a::b))]\n#[inline]\nfn f() {}", Ok("#[inline(always)]\nfn f() {}")),
-        ("#[derive(Clone, Copy, Drop)]\nstruct S;", Ok("#[derive(Clone, Copy)]\nstruct S;")),
-        ("impl Model for S {\n    ghost view = { x };\n}\n\nfn f() {}", Ok("fn f() {}")),
-        ("// requires { x }\nfn f() {}", Ok("// requires { x }\nfn f() {}")),
-        ("const S: &str = \"ensures { x }\";", Ok("const S: &str = \"ensures { x }\";")),
-        ("#[no_mangle]\nfn f() {}", Err("the attribute #[no_mangle]")),
-        ("#[derive(Hash)]\nstruct S;", Err("the attribute #[derive(Hash)]")),
-        ("fn f()\n    requires x + 1\n{}", Err("the clause requires x +")),
-        ("fn f() {\n    invariant { x };\n}", Err("the word invariant outside of a contract")),
-        ("fn f() {\n    g(rt.alloc());\n}", Err("the word rt outside of a contract")),
-        ("fn f(x: &[u8]) {\n    x.rotate_left(1);\n}", Err("the call rotate_left")),
-        ("fn f() {\n    println!(\"x\");\n}", Err("the call println")),
-        ("fn f()\n    ensures { x", Err("a bracket that is not closed")),
-    ];
-    for (source, wanted) in rows {
-        let found = match erased(source) {
-            Some(found) => found,
-            None => return,
-        };
-        match wanted {
-            Ok(wanted) => assert!(
-                found.as_ref().unwrap().ends_with(wanted),
-                "{source}: {found:?}"
-            ),
-            Err(wanted) => assert_eq!(found, Err(format!("erase: {wanted}"))),
-        }
-    }
 }

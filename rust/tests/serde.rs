@@ -3,8 +3,8 @@
 
 use const_hex_proved::{serde as hexadecimal, FromHexError};
 use serde::de::value::{BytesDeserializer, Error, StrDeserializer};
-use serde::de::IntoDeserializer;
-use serde::{Deserialize, Serialize};
+use serde::de::{Error as _, IntoDeserializer, Visitor};
+use serde::{Deserialize, Deserializer, Serialize};
 use serde_json::value::Serializer;
 
 #[derive(Debug, Deserialize, PartialEq, Serialize)]
@@ -104,4 +104,33 @@ fn strings_and_bytes() {
         let bytes = BytesDeserializer::<Error>::new(text.as_bytes());
         assert_eq!(hexadecimal::deserialize(bytes), Ok(*b"ki"));
     }
+}
+
+/// A format that does not say what a value is: who reads has to ask for a string.
+struct Untagged(&'static str);
+
+impl<'de> Deserializer<'de> for Untagged {
+    type Error = Error;
+
+    fn deserialize_str<V: Visitor<'de>>(self, visitor: V) -> Result<V::Value, Error> {
+        visitor.visit_str(self.0)
+    }
+
+    fn deserialize_any<V: Visitor<'de>>(self, _: V) -> Result<V::Value, Error> {
+        Err(Error::custom("not asked for a string"))
+    }
+
+    serde::forward_to_deserialize_any! {
+        bool i8 i16 i32 i64 i128 u8 u16 u32 u64 u128 f32 f64 char string bytes byte_buf option unit
+        unit_struct newtype_struct seq tuple tuple_struct map struct enum identifier ignored_any
+    }
+}
+
+#[test]
+fn a_format_without_types() {
+    assert_eq!(hexadecimal::deserialize(Untagged("6b69")), Ok(*b"ki"));
+    assert_eq!(
+        hexadecimal::no_prefix::deserialize(Untagged("0x6b")),
+        Ok(*b"k")
+    );
 }
