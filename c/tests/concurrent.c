@@ -1,23 +1,20 @@
 /*
- * Tests of each build of the library in several threads, and over memory that another process changes meanwhile.
+ * Tests of each build of the library in several threads, and over text that another thread changes meanwhile.
  */
-#define _GNU_SOURCE
-#include "judge.h"
+#include "model.h"
 #include <pthread.h>
-#include <signal.h>
-#include <sys/wait.h>
-#include <unistd.h>
+
+enum { THREADS = 8, COUNT = 100, LENGTH = 2 * COUNT };
 
 /* Encodes and decodes bytes of the thread's own. Returns NULL if each came back. */
 static void *work(void *number) {
-    unsigned char bytes[100], back[sizeof bytes];
-    char text[CONST_HEX_ENCODED_SIZE(sizeof bytes, CONST_HEX_PREFIX)];
+    unsigned char bytes[COUNT], back[COUNT];
+    char text[CONST_HEX_ENCODED_SIZE(COUNT, CONST_HEX_PREFIX)];
     for (size_t turn = 0; turn < 2000; turn++) {
-        size_t count = turn % sizeof bytes;
-        struct const_hex_error error = UNSET;
+        size_t count = turn % COUNT;
         memset(bytes, (int)(turn + (size_t)number), count);
         if (!build->encode(bytes, count, text, sizeof text, CONST_HEX_PREFIX) ||
-            !build->decode_exact(text, 2 * count + 2, back, count, &error) || memcmp(bytes, back, count) != 0) {
+            !build->decode_exact(text, 2 * count + 2, back, count, NULL) || memcmp(bytes, back, count) != 0) {
             return number;
         }
     }
@@ -25,7 +22,6 @@ static void *work(void *number) {
 }
 
 static void threads(void) {
-    enum { THREADS = 8 };
     pthread_t all[THREADS];
     for (size_t which = 0; which < THREADS; which++) {
         holds(pthread_create(&all[which], NULL, work, (void *)(which + 1)) == 0, "a thread begins", which, 0);
@@ -36,67 +32,51 @@ static void threads(void) {
     }
 }
 
-enum { COUNT = 100, LENGTH = 2 * COUNT };
+/* A text that another thread makes valid and invalid in turn, until it is told to stop. */
+static volatile char changing[LENGTH];
+static volatile bool stops;
 
-/* A text that another process makes valid and invalid in turn. */
-static volatile char *changing;
+static void *change(void *nothing) {
+    while (!stops) {
+        changing[77] = 'g';
+        changing[77] = '0';
+    }
+    return nothing;
+}
 
-static bool read_once(size_t turn, unsigned char *bytes) {
+static bool read_once(size_t turn, struct output *output) {
     const char *text = (const char *)changing;
-    struct const_hex_error error;
     struct const_hex_decoder decoder = {{0, 0}};
-    size_t written;
     switch (turn % 5) {
     case 0:
-        return build->decode(text, LENGTH, bytes, COUNT, &written, &error);
+        return build->decode(text, LENGTH, output->bytes, COUNT, &output->written, &output->error);
     case 1:
-        return build->decode_exact(text, LENGTH, bytes, COUNT, &error);
+        return build->decode_exact(text, LENGTH, output->bytes, COUNT, &output->error);
     case 2:
-        return build->check(text, LENGTH, &error);
+        return build->check(text, LENGTH, &output->error);
     case 3:
-        return build->decoder_update(&decoder, text, LENGTH, bytes, COUNT, &written, &error) &&
-               build->decoder_finish(&decoder, &error);
+        update(output, &decoder, text, LENGTH);
+        return build->decoder_finish(&decoder, &output->error);
     default:
         return build->check_raw(text, LENGTH);
     }
 }
 
-/* Reads the text until the results have changed often enough. Returns whether only the buffer was written. */
-static bool read_often(void) {
-    unsigned char *bytes = marked(areas.decoded, COUNT, 0);
-    size_t changes = 0;
-    bool last = false;
-    for (size_t turn = 0; turn < 200000 || changes < 10000; turn++) {
-        bool result = read_once(turn, bytes);
+/* Each function returns, whatever it returns, and writes only where it may. */
+static void changing_text(void) {
+    struct output output = new_output(COUNT, 0);
+    pthread_t writer;
+    memset((char *)changing, '0', LENGTH);
+    stops = pthread_create(&writer, NULL, change, NULL) != 0;
+    bool last = stops;
+    for (size_t turn = 0, changes = 0; !stops; turn++) {
+        bool result = read_once(turn, &output);
         changes += result != last;
         last = result;
+        stops = turn > 200000 && changes > 10000;
     }
-    return is_marked_around(areas.decoded, bytes, COUNT);
-}
-
-/* Each function returns, and writes only where it may. It runs in a process of its own, which a trap may end. */
-static void changing_text(void) {
-    void *shared = mmap(NULL, 4096, PROT_READ | PROT_WRITE, MAP_SHARED | MAP_ANONYMOUS, -1, 0);
-    if (shared == MAP_FAILED) {
-        holds(false, "shared memory", 0, 0);
-        return;
-    }
-    changing = (volatile char *)memset(shared, '0', 4096);
-    pid_t writer = fork();
-    if (writer == 0) {
-        for (;;) {
-            changing[77] = 'g';
-            changing[77] = '0';
-        }
-    }
-    pid_t reader = fork();
-    if (reader == 0) {
-        _exit(read_often() ? 0 : 1);
-    }
-    int status = -1;
-    holds(waitpid(reader, &status, 0) == reader && status == 0, "the functions return", (size_t)status, 0);
-    holds(writer > 0 && kill(writer, SIGKILL) == 0 && waitpid(writer, NULL, 0) == writer, "the other process", 0, 0);
-    munmap(shared, 4096);
+    holds(pthread_join(writer, NULL) == 0, "the other thread", 0, 0);
+    holds(is_rest_marked(areas.decoded, output.bytes, COUNT, COUNT), "a write outside", 0, 0);
 }
 
 static const struct test TESTS[] = {

@@ -1,5 +1,5 @@
 /*
- * A program with one call, MISUSE: CMakeLists.txt has calls of which the compiler has to warn, and how.
+ * One call, MISUSE: CMakeLists.txt has calls of which the compiler has to warn, and how.
  */
 #include "const_hex.h"
 

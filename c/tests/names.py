@@ -2,8 +2,8 @@
 
     names.py HEADER FUNCTIONS SOURCE
 
-No compiler sees if two parameters of one type change places. A slice of the source is two parameters of the header, a
-pointer and its length or size.
+No compiler sees if two parameters of one type change places. A slice of the source is two parameters of the
+header, a pointer and its length or size.
 """
 import re
 import sys
@@ -11,11 +11,11 @@ import sys
 
 def functions(path, pattern):
     with open(path) as file:
-        return dict(re.findall(pattern, file.read()))
+        return {name: names for name, *names in re.findall(pattern, file.read())}
 
 
 def names(parameters):
-    return " ".join(re.findall(r"\w+", parameter)[-1] for parameter in parameters.split(",") if parameter != "void")
+    return " ".join(re.findall(r"\w+", one)[-1] for one in parameters.split(",") if one not in ("void", ""))
 
 
 def wanted(parameters):
@@ -24,9 +24,9 @@ def wanted(parameters):
 
 
 header = functions(sys.argv[1], r"\n\w+ const_hex_(\w+)\(([^)]*)\);")
-prototypes = functions(sys.argv[2], r"suffix, \w+, (\w+),[\s\\]*\(([^)]*)\)")
+macros = functions(sys.argv[2], r"suffix, \w+, (\w+),[\s\\]*\(([^)]*)\),[\s\\]*\(([^)]*)\)")
 source = functions(sys.argv[3], r'extern "C" fn const_hex_(\w+?)(?:_nonnull)?\(([^)]*)\)')
-assert header.keys() == prototypes.keys() == source.keys() and len(source) == 10, (header, prototypes, source)
-for name in source:
-    for found in names(header[name]), names(prototypes[name]):
-        assert re.fullmatch(wanted(source[name]), found), f"{name}: {found} in C, {wanted(source[name])} in Rattle"
+assert header.keys() == macros.keys() == source.keys() and len(source) == 10, (header, macros, source)
+for name, (parameters,) in source.items():
+    for found in map(names, header[name] + macros[name]):
+        assert re.fullmatch(wanted(parameters), found), f"{name}: {found}, not {wanted(parameters)}"

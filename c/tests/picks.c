@@ -3,9 +3,10 @@
  *
  *     picks BUILD [REGISTERS]
  *
- * It is linked with dispatch.c alone, and has builds of its own, which say which one they are. BUILD, which is
- * _default or _v3, has to be picked when threads make the first call all at once, and by all later calls. If dispatch.c
- * is compiled with CONST_HEX_TESTED_REGISTERS, REGISTERS is what the system saves, by the bits of xgetbv.
+ * It is linked with dispatch.c alone, and has builds of its own, which say which one they are. BUILD, which
+ * is _default or _v3, has to be picked when threads make the first call all at once, and by all later calls.
+ * If dispatch.c is compiled with CONST_HEX_TESTED_REGISTERS, REGISTERS is what the system saves, by the bits
+ * of xgetbv.
  */
 #define _GNU_SOURCE
 #include "const_hex.h"
@@ -19,11 +20,11 @@
 static __thread const char *given;
 
 #pragma GCC diagnostic ignored "-Wunused-parameter"
-#define BUILD(suffix, result, name, parameters, arguments)  \
-    result const_hex_##name##suffix parameters;             \
-    result const_hex_##name##suffix parameters {            \
-        given = #suffix;                                    \
-        return 1;                                           \
+#define BUILD(suffix, result, name, parameters, arguments) \
+    result const_hex_##name##suffix parameters; \
+    result const_hex_##name##suffix parameters { \
+        given = #suffix; \
+        return 1; \
     }
 #define BUILD_NONNULL(suffix, result, name, parameters, arguments) \
     BUILD(suffix, result, name##_nonnull, parameters, arguments)
@@ -37,7 +38,7 @@ static unsigned flags;
 static struct const_hex_decoder decoder[1];
 static struct const_hex_error an_error, *error = &an_error;
 
-#define CALL(suffix, result, name, parameters, arguments)                                              \
+#define CALL(suffix, result, name, parameters, arguments) \
     static const char *call_##name(void) { return const_hex_##name arguments == 1 ? given : "none"; }
 FUNCTIONS(CALL, CALL, )
 #define ENTRY(suffix, result, name, parameters, arguments) {#name, call_##name},
@@ -48,48 +49,42 @@ static const struct {
 enum { COUNT = sizeof CALLS / sizeof *CALLS, THREADS = 8 };
 
 static pthread_barrier_t start;
-static const char *wanted;
+static const char *wanted = "", *registers = "7";
+static unsigned failures;
 
-/* Makes all calls, beginning with that of the number. Returns how many were given another build. */
-static size_t wrong_from(size_t first) {
-    size_t wrong = 0;
-    for (size_t which = first; which < first + COUNT; which++) {
+/* Makes all calls when all threads are ready, beginning with that of the number. */
+static void *call_all(void *number) {
+    pthread_barrier_wait(&start);
+    for (size_t which = (size_t)number; which < (size_t)number + COUNT; which++) {
         const char *build = CALLS[which % COUNT].call();
         if (strcmp(build, wanted) != 0) {
             printf("FAILED: %s picks %s, not %s\n", CALLS[which % COUNT].name, build, wanted);
-            wrong++;
+            __atomic_add_fetch(&failures, 1, __ATOMIC_SEQ_CST);
         }
     }
-    return wrong;
+    return NULL;
 }
 
-static void *thread(void *number) {
-    pthread_barrier_wait(&start);
-    return wrong_from((size_t)number) == 0 ? NULL : number;
-}
-
-static const char *registers = "7";
 unsigned saved_registers(void);
 unsigned saved_registers(void) { return (unsigned)atoi(registers); }
 
 int main(int words, char **argument) {
     pthread_t threads[THREADS];
-    size_t failures = 0;
-    wanted = words > 1 ? argument[1] : "";
+    wanted = words > 1 ? argument[1] : wanted;
     registers = words > 2 ? argument[2] : registers;
     pthread_barrier_init(&start, NULL, THREADS);
     for (size_t which = 0; which < THREADS; which++) {
-        if (pthread_create(&threads[which], NULL, thread, (void *)(which + 1)) != 0) {
+        if (pthread_create(&threads[which], NULL, call_all, (void *)which) != 0) {
             return 2;
         }
     }
     for (size_t which = 0; which < THREADS; which++) {
-        void *wrong;
-        pthread_join(threads[which], &wrong);
-        failures += wrong != NULL;
+        pthread_join(threads[which], NULL);
     }
     /* Without an error too. Nothing reads the one of a message here. */
     error = NULL;
-    failures += wrong_from(0);
+    pthread_barrier_destroy(&start);
+    pthread_barrier_init(&start, NULL, 1);
+    call_all(NULL);
     return failures > 0;
 }

@@ -1,20 +1,17 @@
 /*
- * The table of test vectors of crates/const_hex_table, beside the model and then beside each build of the library.
- *
- *     table FILE
+ * The table of test vectors of crates/const_hex_table, beside the model and beside each build of the library.
+ * TABLE is its file.
  */
-#define _GNU_SOURCE
-#include "judge.h"
+#include "model.h"
 
 enum { LINE = 1 << 16 };
 
 /* A line of the table: the operation, its size if it has one, the input, and the expected output or error. */
 struct line {
-    char *operation;
+    char *operation, *wanted_cell;
     bool is_sized;
     size_t size, length, wanted_length;
     char input[LINE], wanted[LINE];
-    struct const_hex_error error;
 };
 
 /* Reads a cell, in which "" is nothing and \xHH a byte. Returns the length. */
@@ -28,108 +25,110 @@ static size_t read_cell(const char *cell, char *bytes) {
     return length;
 }
 
-/* Reads an expected error, such as `!InvalidHexCharacter 0x67 3`. There is no kind if it is none. */
-static struct const_hex_error read_error(const char *cell) {
-    static const char *const names[] = {"!OddLength", "!InvalidStringLength", "!InvalidHexCharacter"};
-    struct const_hex_error error = {0, 0, 0};
-    for (uint32_t kind = 1; kind <= 3; kind++) {
-        if (strncmp(cell, names[kind - 1], strlen(names[kind - 1])) == 0) {
-            error.kind = kind;
-            sscanf(cell, "!InvalidHexCharacter %x %zu", &error.byte, &error.index);
-        }
-    }
-    return error;
-}
-
 /* Reads the next line that is no comment. */
 static bool read_line(FILE *file, struct line *line) {
     static char text[LINE];
     while (fgets(text, LINE, file) != NULL) {
         char *operation = strtok(text, "\t\n"), *input = strtok(NULL, "\t\n"), *wanted = strtok(NULL, "\t\n");
         if (wanted != NULL && operation[0] != '#') {
-            char *blank = strchr(operation, ' ');
-            line->operation = operation;
-            line->is_sized = blank != NULL;
-            line->size = blank == NULL ? 0 : strtoul(blank, NULL, 10);
-            operation[strcspn(operation, " ")] = 0;
+            char *name = strtok(operation, " "), *size = strtok(NULL, " ");
+            line->operation = name;
+            line->wanted_cell = wanted;
+            line->is_sized = size != NULL;
+            line->size = size == NULL ? 0 : strtoul(size, NULL, 10);
             line->length = read_cell(input, line->input);
             line->wanted_length = read_cell(wanted, line->wanted);
-            line->error = read_error(wanted);
             return true;
         }
     }
     return false;
 }
 
-/* Whether the model says of a text what the line does. */
-static bool is_model(const struct line *line, const struct model *model, struct const_hex_error error) {
-    return same(error, line->error) &&
-           (error.kind != 0 || (model->count == line->wanted_length && memcmp(model->bytes, line->wanted, model->count) == 0));
+/* Whether the model says of a text what the line does: the bytes, or an error. */
+static bool is_wanted(const struct line *line, const struct model *model, struct const_hex_error error) {
+    static const char *const names[] = {"", "!OddLength", "!InvalidStringLength", "!InvalidHexCharacter"};
+    char cell[64];
+    int length = snprintf(cell, sizeof cell, "%s", names[error.kind]);
+    if (error.kind == CONST_HEX_INVALID_CHARACTER) {
+        snprintf(cell + length, sizeof cell - (size_t)length, " 0x%02x %zu", error.byte, error.index);
+    }
+    return error.kind != 0
+               ? strcmp(line->wanted_cell, cell) == 0
+               : model->count == line->wanted_length && memcmp(model->bytes, line->wanted, model->count) == 0;
 }
 
-static void judge_cuts(const struct line *line) {
+static bool read_text(const struct line *line) {
+    judge_text(line->input, line->length, 0);
+    const struct model *model = model_of(line->input, line->length, false);
+    return is_wanted(line, model, model->error);
+}
+
+static bool read_into(const struct line *line) {
+    const struct model *model = model_of(line->input, line->length, false);
+    judge_decoding(model, line->input, line->length, line->size, 0);
+    return is_wanted(line, model, model_error(model, line->size, line->size));
+}
+
+static bool read_pieces(const struct line *line) {
     for (size_t cut = 0; cut <= line->length; cut++) {
         size_t ends[] = {cut, line->length};
         judge_chunks(line->input, line->length, ends, 2);
     }
+    const struct model *model = model_of(line->input, line->length, true);
+    return is_wanted(line, model, model->error);
 }
 
-static bool judge_message(const struct line *line) {
-    struct const_hex_error error = UNSET;
-    char message[CONST_HEX_MESSAGE_SIZE];
-    bool result = line->is_sized ? build->decode_exact(line->input, line->length, areas.decoded, line->size, &error)
-                                 : build->check(line->input, line->length, &error);
-    size_t length = build->error_message(&error, message, sizeof message);
-    return !result && length == line->wanted_length && memcmp(message, line->wanted, length) == 0;
-}
-
-/* Asks the functions that can do a line's operation. None reads JSON. */
-static bool judge_line(const struct line *line) {
-    const struct model *model = model_of(line->input, line->length);
+static bool write_text(const struct line *line) {
     static char text[LINE];
-    if (strncmp(line->operation, "write", 5) == 0) {
-        size_t length = model_text((const unsigned char *)line->input, line->length, CONST_HEX_NO_NUL, text);
-        judge_bytes((const unsigned char *)line->input, line->length, 0);
-        return line->error.kind == 0 ? length == line->wanted_length && memcmp(text, line->wanted, length) == 0
-                                     : length != line->size;
-    }
-    if (strcmp(line->operation, "read") == 0) {
-        bool agrees_with_line = is_model(line, model, model->error);
-        judge_text(line->input, line->length, 0);
-        judge_cuts(line);
-        return agrees_with_line;
-    }
-    if (strcmp(line->operation, "read-into") == 0) {
-        judge_decoding(model, line->input, line->length, line->size, 0);
-        return is_model(line, model, model_error(model, line->size, line->size));
-    }
-    if (strcmp(line->operation, "read-pieces") == 0) {
-        judge_cuts(line);
-        return true;
-    }
-    if (strcmp(line->operation, "digits") == 0) {
-        return build->check_raw(line->input, line->length) == (line->wanted[0] == 't');
-    }
-    if (strcmp(line->operation, "message") == 0) {
-        return judge_message(line);
-    }
-    return strcmp(line->operation, "json") == 0;
+    const unsigned char *bytes = (const unsigned char *)line->input;
+    size_t length = model_text(bytes, line->length, CONST_HEX_NO_NUL, text);
+    judge_bytes(bytes, line->length, 0);
+    return line->is_sized && line->size != length
+               ? strcmp(line->wanted_cell, "!InvalidStringLength") == 0
+               : length == line->wanted_length && memcmp(text, line->wanted, length) == 0;
 }
 
-static const char *path;
+static bool digits(const struct line *line) {
+    return build->check_raw(line->input, line->length) == (strcmp(line->wanted_cell, "true") == 0);
+}
+
+static bool message(const struct line *line) {
+    struct const_hex_error error = UNSET;
+    char text[CONST_HEX_MESSAGE_SIZE];
+    bool result = line->is_sized
+                      ? build->decode_exact(line->input, line->length, areas.decoded, line->size, &error)
+                      : build->check(line->input, line->length, &error);
+    size_t length = build->error_message(&error, text, sizeof text);
+    return !result && length == line->wanted_length && memcmp(text, line->wanted, length) == 0;
+}
+
+/* What asks the functions for a line's operation. None reads JSON. */
+static const struct {
+    const char *operation;
+    bool (*agrees)(const struct line *line);
+} OPERATIONS[] = {
+    {"read", read_text},   {"read-into", read_into},   {"read-pieces", read_pieces}, {"digits", digits},
+    {"write", write_text}, {"write-into", write_text}, {"message", message},
+};
 
 static void table(void) {
     static struct line line;
-    FILE *file = fopen(path, "r");
+    FILE *file = fopen(TABLE, "r");
     size_t lines = 0;
-    for (; file != NULL && read_line(file, &line); lines++) {
-        holds(judge_line(&line), line.operation, line.length, lines);
+    while (file != NULL && read_line(file, &line)) {
+        bool is_known = strcmp(line.operation, "json") == 0;
+        for (size_t which = 0; which < sizeof OPERATIONS / sizeof *OPERATIONS; which++) {
+            if (strcmp(line.operation, OPERATIONS[which].operation) == 0) {
+                is_known = true;
+                holds(OPERATIONS[which].agrees(&line), line.operation, line.length, ++lines);
+            }
+        }
+        holds(is_known, line.operation, lines, 0);
     }
-    holds(lines >= 1000 && feof(file) && fclose(file) == 0, "the whole table", lines, 0);
+    holds(lines >= 300 && feof(file) && fclose(file) == 0, "the whole table", lines, 0);
 }
 
-int main(int words, char **argument) {
-    static const struct test tests[] = {TEST(table)};
-    path = words == 2 ? argument[1] : "";
-    return run_tests(tests, 1, 1, argument);
-}
+static const struct test TESTS[] = {
+    TEST(table),
+};
+MAIN(TESTS)
