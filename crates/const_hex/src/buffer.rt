@@ -12,14 +12,15 @@ use const_hex_arch::ascii_text;
 use std::alloc::{AllocError, Global};
 use std::fmt;
 
-/// The text of N bytes in an array of its own, behind `0x` if PREFIX is true.
+/// The text of N bytes in an array of its own, with `0x` before it if PREFIX is true.
 ///
 /// LEN must be the length of that text: `2 * N`, plus 2 if PREFIX is true. Each call that writes
 /// requires this, and writes the prefix again. Only [`to_string`](Self::to_string) and
 /// [`to_vec`](Self::to_vec) allocate.
 ///
-/// If LEN is wrong, the check refuses the line that makes the buffer: "it is not proved that what
-/// `new` requires holds". The line `must prove` of its report ends in the right number, as `≡ 42`.
+/// If LEN is wrong, verification rejects the line that makes the buffer: "it is not proved that
+/// what `new` requires holds". The line `must prove` of its report ends in the right number, as `≡
+/// 42`.
 ///
 /// ```rust
 /// let mut buffer = Buffer::<4, true, 10>::new();

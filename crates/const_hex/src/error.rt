@@ -9,8 +9,8 @@ use std::{error, fmt};
 
 /// Why a text cannot be decoded, or a text does not fit into an output.
 ///
-/// A text is judged in this order: an odd length, then the length that a sized call needs, then the
-/// characters.
+/// These are checked in this order: whether the length is odd, then the length that a sized call needs,
+/// then the characters.
 ///
 /// ```rust
 /// let error = const_hex::check(b"0xzz").unwrap_err();
@@ -30,7 +30,7 @@ pub enum FromHexError {
         /// The byte's position, counted from 0 at the start of the whole text, prefix included.
         index: usize,
     },
-    /// Memory could not be allocated.
+    /// An allocation failed.
     NoMemory,
 }
 

@@ -1,4 +1,4 @@
-//! Owned text and owned bytes, in a vector with room for exactly these.
+//! Owned text and owned bytes, in a vector with space for exactly these.
 
 ghost use Rattle.std.specs.Prelude.{◌≡◌, ◌≤◌, length, Some, IfOk};
 ghost use Rattle.const_hex_arch.specs.Texts.{full_text};
@@ -10,15 +10,15 @@ pub(crate) use crate::reserved::decoding::decode_reserved;
 use const_hex_arch::{Kernel, Output, encode_full};
 use std::alloc::{AllocError, Global};
 
-/// Puts each piece behind what a vector holds, into its spare room.
+/// Puts each piece after what a vector holds, into its spare capacity.
 #[derive(Drop)]
 struct ReservedOutput {
     bytes: Vec<u8>,
 }
 
 impl ReservedOutput {
-    /// Puts bytes behind what the vector holds.
-    // Where their number is known at compile time, the machine stores them whole.
+    /// Puts bytes after what the vector holds.
+    // Where their number is known at compile time, they are stored by whole registers.
     #[inline(always)]
     #[tactic(auto, using(crate::proofs::lemmas::Reserving::pieces))]
     fn put(&mut self, bytes: &[u8])
@@ -60,8 +60,8 @@ impl Output for ReservedOutput {
     ghost shrinks = { λ s piece t h. Prim.grind (arith) };
 }
 
-/// The bytes of the text, behind `0x` if `prefix` is true. Allocates once, for exactly the text; for no
-/// text, not at all.
+/// The bytes of the text, with `0x` before it if `prefix` is true. Allocates once, for exactly the
+/// text; for no text, not at all.
 #[inline(always)]
 #[tactic(auto, using(const_hex_arch::proofs::lemmas::Texts::full_text_size))]
 pub(crate) fn encode_reserved<K: Kernel>(
@@ -72,9 +72,11 @@ pub(crate) fn encode_reserved<K: Kernel>(
 ) -> Result<Vec<u8>, AllocError>
     ensures { IfOk result (λ v. v.items ≡ full_text prefix upper input.now) }
 {
-    // As `text_length`, which tests twice whether its result is too large: 6 or 7 instructions more.
+    // Computes what `text_length` does, which tests twice whether its result is too large: that
+    // would be 6 or 7 instructions more.
     let length = (2 * input.len()).saturating_add(if prefix { 2 } else { 0 });
-    // Apart, so that below there is a block for certain. A call then takes some ten instructions less.
+    // Returned early, so that below the vector is known to be allocated. A call then takes some ten
+    // instructions less.
     if length == 0 {
         return Ok(Vec::new(alloc));
     }

@@ -1,7 +1,7 @@
 //! Hexadecimal text in JSON values.
 //!
-//! [`serialize`] writes a text with `0x` in front, as the byte strings of JSON-RPC have it, and
-//! [`no_prefix`] writes one without. [`deserialize`] reads both.
+//! [`serialize`] writes `0x` before the digits, as the byte strings of JSON-RPC have it, and
+//! [`no_prefix`] writes the digits alone. [`deserialize`] reads both.
 
 ghost use Rattle.std.specs.Prelude.{◌≡◌, ◌↔◌, true, false, Err, None, IfOk, IfSome};
 ghost use Rattle.serde_json.specs.Data.{string};
@@ -50,7 +50,7 @@ pub fn serialize_upper(alloc: Global, bytes: &[u8]) -> Result<Value, AllocError>
     Ok(Value::String(encode_upper_prefixed(alloc, bytes)?))
 }
 
-/// The value that a JSON string spells, with or without a prefix, in either case.
+/// Decodes a JSON string, with or without a prefix, in either case.
 ///
 /// Returns [`JsonError::NotText`] if the JSON value is not a string. This does not allocate. An error
 /// of [`from_hex`](FromHex::from_hex) is returned inside [`JsonError::Hex`]. It may mean that memory

@@ -10,10 +10,10 @@ ghost use Rattle.const_hex.specs.Writers.{WriteStep, WritesBeginning, sink_write
 use const_hex_arch::{BufferedHex, Sink, SinkError};
 use std::io::{self, ErrorKind, Write};
 
-/// Hands pieces on to a writer until a write fails, and keeps that error.
+/// Passes pieces on to a writer until a write fails, and keeps that error.
 ///
 /// A piece may need several calls of `write`. A call that a signal interrupts is made again. After
-/// a failed write, the writer has a beginning of what was offered, and nothing more is written:
+/// a failed write the writer has received a beginning of the text, and nothing more is written:
 /// [`write_hex`](WriteSink::write_hex) only returns the error, and `write_str` may not be called.
 /// No call flushes the writer. Only the writer itself allocates.
 ///

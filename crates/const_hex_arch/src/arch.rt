@@ -1,4 +1,4 @@
-//! Kernels, which turn bytes into digits, and digits into bytes.
+//! Kernels, which encode bytes as digits and decode digits to bytes.
 
 ghost use Rattle.std.specs.Prelude.{◌≡◌, Bool, ◌+◌, ◌*◌, ◌<◌, ◌≤◌, ◌↔◌, IsTrue, true, false, length, take, drop};
 ghost use Rattle.const_hex_arch.specs.Outputs.{HasRoom, Writes};
@@ -25,7 +25,7 @@ use crate::output::slice::SliceOutput;
 /// ```
 pub type FixedKernel = Lanes32;
 
-/// Turns bytes into digits, and digits into bytes.
+/// Encodes bytes as digits, and decodes digits to bytes.
 ///
 /// The codec relies only on the contracts of these calls, so it runs over any type that meets
 /// them. None of them allocates.
@@ -47,7 +47,7 @@ pub trait Kernel {
     const USE_CHECK_FN: bool;
 
     /// Writes two digits for each byte, in order, in pieces of 1 to 64 bytes. The output must have
-    /// room for them.
+    /// space for them.
     ///
     /// ```rust
     /// let mut text = [0; 8];
@@ -85,9 +85,9 @@ pub trait Kernel {
     fn check(input: &[u8]) -> bool
         ensures { IsTrue result ↔ AllDigits input.now };
 
-    /// Fills the output with the bytes that the input spells, and returns true. Returns false if
-    /// some byte is not a digit. Then a front of the output may be decoded, no longer than the
-    /// pairs before the bad byte, and the rest is unchanged. If the kernel checks first, the whole
+    /// Decodes the input into the output and returns true. Returns false if some byte is not a
+    /// digit. Then some of the pairs before that byte may have been decoded to the front of the
+    /// output, and the rest of the output is unchanged. If the kernel checks first, all of the
     /// output is unchanged. The input must have two bytes for each byte of the output.
     ///
     /// ```rust
@@ -101,9 +101,9 @@ pub trait Kernel {
         ensures refused { result ≡ false → Partial output.old input.now output.new }
         ensures unchanged { result ≡ false → USE_CHECK_FN ≡ true → output.new ≡ output.old };
 
-    /// Fills the output with the bytes that a part of the input spells, and returns true. Returns
-    /// false if some byte of this part is not a digit. The part begins `start` pairs behind the start
-    /// of the input, and must have two bytes for each byte of the output.
+    /// Decodes a part of the input into the output and returns true. Returns false if some byte of
+    /// this part is not a digit. The part begins after the first `start` pairs of the input, and
+    /// has two bytes for each byte of the output.
     ///
     /// This is for a caller that puts each part into an array. A kernel may have shorter code for
     /// arrays of 16, 32 and 64 bytes.
@@ -124,8 +124,8 @@ pub trait Kernel {
         Self::decode_checked(&input[2 * start..2 * end], output)
     }
 
-    /// Fills the output with the bytes that the input spells. The input must have two bytes for
-    /// each byte of the output, and only digits.
+    /// Decodes the input into the output. The input must have two bytes for each byte of the
+    /// output, and only digits.
     ///
     /// ```rust
     /// let mut bytes = [0; 4];

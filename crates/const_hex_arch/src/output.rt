@@ -1,4 +1,4 @@
-//! Outputs, which text is written to.
+//! Outputs, to which text is written.
 
 ghost use Rattle.std.specs.Prelude.{◌≡◌, ℕ, ◌+◌, ◌-◌, ◌*◌, ◌<◌, ◌≤◌, List, [], ◌∷◌, ◌++◌, length, take, Option};
 ghost use Rattle.std.specs.Str.{IsAscii};
@@ -63,7 +63,7 @@ pub trait Output {
         self.write(&[byte])
     }
 
-    /// Writes the piece of `count` bytes, at most 64, that begins with `first` and ends with `last`.
+    /// Writes a piece of `count` bytes, at most 64, that begins with `first` and ends with `last`.
     /// Both have the same length, and together they cover the piece. Where they overlap, the bytes
     /// of `last` are written.
     ///
@@ -86,7 +86,7 @@ pub trait Output {
         self.write(&join_ends(first, last, count)[..count])
     }
 
-    /// A write leaves less room, by its length.
+    /// A write takes its length from the remaining space.
     ghost shrinks: { (s : Self) (piece : List ℕ) (t : Self) → step s piece t
         → room t ≡ less_room (room s) (length piece) };
 }

@@ -46,7 +46,7 @@ pub trait Sink {
     /// Whether it has refused a piece.
     ghost is_refused: { Self → Bool };
 
-    /// The pieces that it accepted, in order, if its contract gives them.
+    /// The pieces that it accepted, in order, if its contract tells them.
     ghost told: { Self → Option (List (List ℕ)) };
 
     /// Whether it has refused a piece.
@@ -75,7 +75,7 @@ pub trait Sink {
 
 /// An error if the sink has refused.
 #[inline]
-pub(crate) fn refusal_of<S: Sink>(sink: &S) -> Result<(), SinkError>
+pub(crate) fn fail_if_refused<S: Sink>(sink: &S) -> Result<(), SinkError>
     ensures { is_ok result ≡ not (S.is_refused sink.now) }
 {
     if sink.refused() {

@@ -8,8 +8,8 @@ ghost use Rattle.const_hex_arch.specs.Texts.{full_text, prefix_of, text_length};
 use crate::arch::Kernel;
 use crate::output::Output;
 
-/// The length of the text of `count` bytes, behind `0x` if `prefix` is true. If that does not fit
-/// into a `usize`, the answer is the greatest one, and no text has that length.
+/// The length of the text of `count` bytes, with `0x` before it if `prefix` is true. If that does
+/// not fit into a `usize`, this is `usize::MAX`, which no text has, since it is odd.
 ///
 /// ```rust
 /// assert_eq!(rt; text_length(true, 20), 42);
@@ -24,8 +24,8 @@ pub fn text_length(prefix: bool, count: usize) -> usize
         .saturating_add(if prefix { 2 } else { 0 })
 }
 
-/// Fills the output with the text of the input, by the kernel `K`, behind `0x` if `prefix` is true.
-/// The output must have exactly the length of that text. Does not allocate.
+/// Fills the output with the text of the input, by the kernel `K`, with `0x` before it if `prefix`
+/// is true. The output must have exactly the length of that text. Does not allocate.
 ///
 /// ```rust
 /// let mut text = [0; 10];
@@ -55,7 +55,7 @@ fn put_prefix(prefix: bool, output: &mut [u8])
 }
 
 /// Writes `0x` if `prefix` is true, and then two digits for each byte, by the kernel `K`. The
-/// output must have room for them. Allocates only what the output allocates.
+/// output must have space for them. Allocates only what the output allocates.
 ///
 /// ```rust
 /// let mut text = [0; 10];

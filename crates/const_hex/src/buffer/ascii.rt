@@ -33,8 +33,8 @@ impl<const LEN: usize> AsciiArray<LEN> {
         self.bytes[index] = byte;
     }
 
-    /// Fills the array with the text of the input, behind `0x` if `prefix` is true. The array must
-    /// have the length of that text.
+    /// Fills the array with the text of the input, with `0x` before it if `prefix` is true. The
+    /// array must have the length of that text.
     #[inline]
     #[tactic(auto, using(const_hex_arch::proofs::lemmas::Texts::full_text_size))]
     pub(crate) fn fill(&mut self, input: &[u8], prefix: bool, upper: bool)

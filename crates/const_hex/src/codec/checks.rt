@@ -43,7 +43,7 @@ pub fn check_with<K: Kernel>(input: &[u8]) -> Result<(), FromHexError>
     }
 }
 
-/// As [`check`], with the same answer on every text. Does not allocate.
+/// As [`check`], with the same result for every text. Does not allocate.
 ///
 /// ```rust
 /// let error = FromHexError::InvalidHexCharacter { c: 'z', index: 2 };
@@ -70,7 +70,7 @@ pub fn check_raw(input: &[u8]) -> bool
     FixedKernel::check(input)
 }
 
-/// As [`check_raw`], with the same answer on every text. Does not allocate.
+/// As [`check_raw`], with the same result for every text. Does not allocate.
 ///
 /// ```rust
 /// assert!(rt; const_hex::const_check_raw(b"6B6"));

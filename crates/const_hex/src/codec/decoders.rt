@@ -1,4 +1,4 @@
-//! From text to bytes.
+//! Decoding a whole text.
 
 ghost use Rattle.std.specs.Prelude.{◌≡◌, ◌≢◌, ◌*◌, ◌↔◌, false, length, IfOk, IfErr, IsTrue, Result, Ok, Err};
 ghost use Rattle.const_hex.specs.Results.{body_of, IsOdd, Reads, ReadsSized, all_digits, Decodes, DecodesToSlice, DecodesToFront, DecodesToArray};
@@ -11,12 +11,12 @@ use crate::reserved::decode_reserved;
 use const_hex_arch::{FixedKernel, Kernel};
 use std::alloc::Global;
 
-/// The bytes that a text spells, with or without a prefix, in either case.
+/// Decodes a text, with or without a prefix, in either case, to a vector of its bytes.
 ///
 /// The first of these errors is returned:
 ///
 /// - [`FromHexError::OddLength`], before anything is allocated;
-/// - [`FromHexError::NoMemory`], if memory cannot be allocated;
+/// - [`FromHexError::NoMemory`], if the allocation fails;
 /// - [`FromHexError::InvalidHexCharacter`], with the first byte after the prefix that is not a
 ///   digit.
 ///
@@ -44,7 +44,7 @@ pub fn decode_with<K: Kernel>(alloc: Global, input: &[u8]) -> Result<Vec<u8>, Fr
     decode_owned::<K>(alloc, input)
 }
 
-/// The bytes that a text spells. Allocates once, for exactly these bytes; for none, not at all.
+/// Decodes a text to a vector. Allocates once, for exactly these bytes; for none, not at all.
 #[inline(always)]
 fn decode_owned<K: Kernel>(alloc: Global, input: &[u8]) -> Result<Vec<u8>, FromHexError>
     ensures ok { IfOk result (λ v. Reads input.now (Ok v.items)) }
@@ -57,15 +57,16 @@ fn decode_owned<K: Kernel>(alloc: Global, input: &[u8]) -> Result<Vec<u8>, FromH
     }
 }
 
-/// Fills the output with the bytes that a text spells, with or without a prefix, in either case.
+/// Decodes a text, with or without a prefix, in either case, to exactly the bytes of the output.
 ///
 /// The first of these errors is returned:
 ///
 /// - [`FromHexError::OddLength`], and the output is unchanged;
-/// - [`FromHexError::InvalidStringLength`], if the text spells another number of bytes than the
+/// - [`FromHexError::InvalidStringLength`], if the text decodes to another number of bytes than the
 ///   output has, and the output is unchanged;
-/// - [`FromHexError::InvalidHexCharacter`]. Bytes that stand before the invalid character may
-///   have been decoded into the output. Its rest is unchanged.
+/// - [`FromHexError::InvalidHexCharacter`], with the first invalid character. Some of the bytes
+///   before it may already have been written to the front of the output; the rest of the output is
+///   unchanged.
 ///
 /// Does not allocate.
 ///
@@ -103,8 +104,8 @@ pub fn decode_to_slice_with<K: Kernel>(input: &[u8], output: &mut [u8]) -> Resul
     Ok(())
 }
 
-/// Fills the front of the output with the bytes that a text spells, with or without a prefix, in
-/// either case, and returns their number. The rest of the output is unchanged.
+/// Decodes a text, with or without a prefix, in either case, to the front of the output, and returns
+/// the number of bytes. The rest of the output is unchanged.
 ///
 /// The text must be whole. If it comes in chunks, use a [`Decoder`](crate::Decoder): this call would
 /// remove a prefix from each chunk.
@@ -112,10 +113,11 @@ pub fn decode_to_slice_with<K: Kernel>(input: &[u8], output: &mut [u8]) -> Resul
 /// The first of these errors is returned:
 ///
 /// - [`FromHexError::OddLength`], and the output is unchanged;
-/// - [`FromHexError::InvalidStringLength`], if the text spells more bytes than the output has, and
-///   the output is unchanged;
-/// - [`FromHexError::InvalidHexCharacter`]. Bytes that stand before the invalid character may
-///   have been decoded into the output. Its rest is unchanged.
+/// - [`FromHexError::InvalidStringLength`], if the text decodes to more bytes than the output has,
+///   and the output is unchanged;
+/// - [`FromHexError::InvalidHexCharacter`], with the first invalid character. Some of the bytes
+///   before it may already have been written to the front of the output; the rest of the output is
+///   unchanged.
 ///
 /// Does not allocate.
 ///
@@ -157,7 +159,7 @@ pub fn decode_to_front_with<K: Kernel>(
     Ok(count)
 }
 
-/// The N bytes that a text spells, with or without a prefix, in either case.
+/// Decodes a text, with or without a prefix, in either case, to an array of N bytes.
 ///
 /// The first of these errors is returned: [`FromHexError::OddLength`];
 /// [`FromHexError::InvalidStringLength`], if the text after the prefix does not have 2 * N bytes;
@@ -174,7 +176,7 @@ pub fn decode_to_array<const N: usize>(input: &[u8]) -> Result<[u8; N], FromHexE
     read_array(input)
 }
 
-/// The N bytes that a text spells.
+/// Decodes a text to N bytes.
 #[inline(always)]
 fn read_array<const N: usize>(input: &[u8]) -> Result<[u8; N], FromHexError>
     ensures { ReadsSized input.now N result }
@@ -184,7 +186,7 @@ fn read_array<const N: usize>(input: &[u8]) -> Result<[u8; N], FromHexError>
     Ok(array)
 }
 
-/// As [`decode_to_array`], with the same answer on every text. Does not allocate.
+/// As [`decode_to_array`], with the same result for every text. Does not allocate.
 ///
 /// ```rust
 /// let bytes = const_hex::const_decode_to_array::<4>(b"6B697769")?;
@@ -197,10 +199,10 @@ pub fn const_decode_to_array<const N: usize>(input: &[u8]) -> Result<[u8; N], Fr
     decode_to_array(input)
 }
 
-/// The N bytes that a constant text spells. The check proves that it spells them.
+/// Decodes a constant text to N bytes. Verification proves that it decodes to N bytes.
 ///
-/// The text must be 2 * N digits, with or without a prefix. If a digit is wrong, or the length, the
-/// check refuses the program, and it never runs. Does not allocate.
+/// The text must be 2 * N digits, with or without a prefix. If a character is not a digit, or the
+/// length is another, verification of the program fails, so it never runs. Does not allocate.
 ///
 /// ```rust
 /// let bytes: [u8; 4] = const_hex::bytes_of(b"0x6b697769");

@@ -6,7 +6,7 @@ ghost use Rattle.const_hex.specs.Writers.{FormatterStep, sink_formatter, formatt
 use const_hex_arch::{Sink, SinkError};
 use std::fmt;
 
-/// Hands pieces on to a formatter, until its first error.
+/// Passes pieces on to a formatter, until its first error.
 ///
 /// ```rust
 /// fn in_upper_digits<W: fmt::Write>(bytes: &[u8], f: &mut fmt::Formatter<W>) -> fmt::Result {

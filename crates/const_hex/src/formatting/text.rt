@@ -11,8 +11,8 @@ use std::fmt;
 
 /// Bytes that are printed as text: two digits for each.
 ///
-/// `{}` and `LowerHex` print lowercase digits, `UpperHex` uppercase digits. With `#` they put `0x`
-/// in front. Width and fill are ignored. If the formatter fails, nothing more is written, and the
+/// `{}` and `LowerHex` print lowercase digits, `UpperHex` uppercase digits. With `#` they print
+/// `0x` first. Width and fill are ignored. If the formatter fails, nothing more is written, and the
 /// error is returned. Does not allocate.
 ///
 /// ```rust
@@ -28,7 +28,7 @@ pub struct Display<'a> {
 }
 
 impl Display<'_> {
-    /// Writes the text, with `0x` in front if the formatter has `#`.
+    /// Writes the text, with `0x` before it if the formatter has `#`.
     fn write<const UPPER: bool, W: fmt::Write>(&self, f: &mut fmt::Formatter<W>) -> fmt::Result
         ensures { WritesStyledOnOk W.write_str_gives f.old result
             (printed_text (spec_alternate (formatter_spec f.old)) UPPER self.now) f.new }
@@ -40,7 +40,7 @@ impl Display<'_> {
         }
     }
 
-    /// Writes the text, with or without `0x` in front.
+    /// Writes the text, with or without `0x` before it.
     fn write_full<const UPPER: bool, const PREFIX: bool, W: fmt::Write>(
         &self,
         f: &mut fmt::Formatter<W>,

@@ -1,7 +1,7 @@
-//! The bytes that digits spell, in a vector with room for exactly these.
+//! Decoding digits into a vector with space for exactly their bytes.
 //!
-//! A kernel fills slices, and no slice may lie over memory that holds nothing yet. So it fills arrays,
-//! which the machine keeps in registers, and each array is put into the vector whole.
+//! A kernel fills slices, and no slice may cover memory that is not initialized. So it fills
+//! arrays, which stay in registers, and each array is put into the vector whole.
 
 ghost use Rattle.std.specs.Prelude.{◌≡◌, ◌+◌, ◌*◌, ◌<◌, ◌≤◌, [], length, IfOk, IfSome, IsNone, vec_len};
 ghost use Rattle.const_hex_arch.specs.Texts.{AllDigits, Spells};
@@ -13,8 +13,8 @@ use crate::reserved::ReservedOutput;
 use const_hex_arch::{Kernel, Output};
 use std::alloc::{AllocError, Global};
 
-/// The bytes that the digits spell, or `None` if some byte is not a digit. Allocates once, for exactly
-/// these bytes; for none, not at all.
+/// Decodes digits to a vector, or returns `None` if some byte is not a digit. Allocates once, for
+/// exactly these bytes; for none, not at all.
 #[inline(always)]
 pub(crate) fn decode_reserved<K: Kernel>(
     alloc: Global,
@@ -34,8 +34,9 @@ pub(crate) fn decode_reserved<K: Kernel>(
     Ok(decode::<K>(digits, output))
 }
 
-/// The bytes that the digits spell, in the vector of an output that holds nothing yet.
-// The output is no `&mut`: as far as the compiler knows, stores of bytes might change what is behind one.
+/// Decodes digits into the vector of an output that holds nothing yet.
+// The output is passed by value: behind a `&mut` the compiler would have to assume that each store
+// of bytes may change its pointer and length.
 #[inline(always)]
 fn decode<K: Kernel>(digits: &[u8], output: ReservedOutput) -> Option<Vec<u8>>
     requires even { IsEven (length digits.now) }
@@ -60,7 +61,7 @@ fn decode<K: Kernel>(digits: &[u8], output: ReservedOutput) -> Option<Vec<u8>>
     Some(bytes)
 }
 
-/// As `decode`, for less than 16 bytes. They are decoded in their place, over zeros.
+/// As `decode`, for fewer than 16 bytes. They are decoded in place, over zeros.
 #[inline(always)]
 fn decode_few<K: Kernel>(digits: &[u8], output: ReservedOutput) -> Option<Vec<u8>>
     requires even { IsEven (length digits.now) }
@@ -79,7 +80,7 @@ fn decode_few<K: Kernel>(digits: &[u8], output: ReservedOutput) -> Option<Vec<u8
     Some(bytes)
 }
 
-/// Puts less than 16 zeros.
+/// Puts fewer than 16 zeros.
 // Not by `resize`, which would be a call.
 #[inline(always)]
 fn put_zeros(output: ReservedOutput, count: usize) -> ReservedOutput
@@ -101,7 +102,7 @@ fn put_zeros(output: ReservedOutput, count: usize) -> ReservedOutput
     output
 }
 
-/// Puts at least half of the bytes: 32, or 64 and again 64 while so many are left.
+/// Puts at least half of the bytes: 32 bytes, or 64 at a time while so many are left.
 #[inline(always)]
 fn put_front<K: Kernel>(digits: &[u8], output: ReservedOutput) -> Option<ReservedOutput>
     requires even { IsEven (length digits.now) }
@@ -123,7 +124,7 @@ fn put_front<K: Kernel>(digits: &[u8], output: ReservedOutput) -> Option<Reserve
     Some(output)
 }
 
-/// Puts the rest, of less than 64 bytes, by the last 16, 32 or 64 bytes.
+/// Puts the rest, of fewer than 64 bytes, by decoding the last 16, 32 or 64 bytes.
 #[inline(always)]
 fn put_rest<K: Kernel>(digits: &[u8], output: ReservedOutput) -> Option<ReservedOutput>
     requires even { IsEven (length digits.now) }

@@ -8,7 +8,7 @@ use std::fmt;
 /// Why a JSON value cannot be read into a type.
 ///
 /// It prints `expected a hex encoded string`, or the message of the type's error. It is an `Error`,
-/// so `?` hands it on, also to an `anyhow::Error`.
+/// so `?` passes it on, also as an `anyhow::Error`.
 ///
 /// ```rust
 /// let error = const_hex::deserialize::<[u8; 2]>(rt.alloc(), &Value::Null).unwrap_err();

@@ -9,11 +9,11 @@ use const_hex_arch::{
     BufferedHex, FixedKernel, Sink, SinkError, ascii_text, fill_text, text_length,
 };
 
-/// The largest number of bytes whose text is handed over in one call.
+/// The largest number of bytes whose text is written in one call.
 const AT_ONCE: usize = 128;
 
-/// Hands the text of some bytes to a sink that has not refused. Up to 128 bytes go in one call,
-/// even for the empty text. More bytes go as [`BufferedHex`] hands them.
+/// Writes the text of some bytes to a sink that has not refused. The text of up to 128 bytes is
+/// written in one call, even if it is empty. More bytes are written as [`BufferedHex`] does.
 ///
 /// Returns [`SinkError`] if the sink refused a piece. Only the sink allocates.
 ///
@@ -32,7 +32,8 @@ pub fn serialize_inner<const UPPER: bool, const PREFIX: bool, S: Sink>(
     ensures long { 128 < length bytes.now
         → Streams S.step S.is_refused sink.old (full_text PREFIX UPPER bytes.now) sink.new }
     ensures flag { is_ok result ≡ not (S.is_refused sink.new) }
-    // If the sink's contract gives its pieces and it accepted all of them, they are together the text.
+    // If the sink's contract tells its pieces and it accepted all of them, they are together the
+    // text.
     ensures told { S.is_refused sink.new ≡ false
         → TellsWhole (S.told sink.old) (full_text PREFIX UPPER bytes.now) (S.told sink.new) }
     // More than 128 bytes are cut into pieces of a known size.
@@ -46,7 +47,7 @@ pub fn serialize_inner<const UPPER: bool, const PREFIX: bool, S: Sink>(
     sink.write_str(write_text(&mut buffer, bytes, PREFIX, UPPER))
 }
 
-/// The text, at the start of a buffer that has room for it and a prefix.
+/// The text, at the start of a buffer that has space for it and a prefix.
 #[inline(always)]
 fn write_text<'a>(buffer: &'a mut [u8], bytes: &[u8], prefix: bool, upper: bool) -> &'a str
     requires { 2 + 2 * length bytes.now ≤ length buffer.old }

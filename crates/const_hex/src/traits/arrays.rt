@@ -9,7 +9,7 @@ use crate::error::FromHexError;
 use crate::traits::reading::FromHex;
 use std::alloc::Global;
 
-/// N bytes, with the answers of [`decode_to_array`](crate::decode_to_array). Does not allocate.
+/// N bytes, with the results of [`decode_to_array`](crate::decode_to_array). Does not allocate.
 impl<const N: usize> FromHex for [u8; N] {
     type Error = FromHexError;
 

@@ -1,4 +1,4 @@
-//! Which errors are of memory.
+//! Which errors mean out of memory.
 
 ghost use Rattle.std.specs.Prelude.{◌≡◌, Bool, true};
 ghost use Rattle.const_hex.specs.Types.{is_no_memory};
@@ -6,7 +6,7 @@ ghost use Rattle.const_hex.specs.declared.error.FromHexError.TheVariants.{NoMemo
 
 use crate::error::FromHexError;
 
-/// An error type that says which of its errors are of memory.
+/// An error type that says which of its errors mean out of memory.
 ///
 /// Generic code may rely on this: [`is_memory`](HexFault::is_memory) is true of every error that
 /// [`of_memory`](HexFault::of_memory) returns.
@@ -16,10 +16,10 @@ use crate::error::FromHexError;
 /// assert!(rt; !FromHexError::OddLength.is_memory());
 /// ```
 pub trait HexFault: Sized {
-    /// Which errors are of memory.
+    /// Which errors mean out of memory.
     ghost is_of_memory: { Self → Bool };
 
-    /// An error of memory.
+    /// The error for out of memory.
     ///
     /// ```rust
     /// assert_eq!(rt; <FromHexError as HexFault>::of_memory(), FromHexError::NoMemory);
@@ -27,7 +27,7 @@ pub trait HexFault: Sized {
     fn of_memory() -> Self
         ensures { is_of_memory result ≡ true };
 
-    /// Whether this is an error of memory.
+    /// Whether this error means out of memory.
     ///
     /// ```rust
     /// assert!(rt; !FromHexError::OddLength.is_memory());
@@ -36,7 +36,7 @@ pub trait HexFault: Sized {
         ensures { result ≡ is_of_memory self.now };
 }
 
-/// Only [`FromHexError::NoMemory`] is of memory.
+/// Only [`FromHexError::NoMemory`] means out of memory.
 impl HexFault for FromHexError {
     ghost is_of_memory = { is_no_memory };
 

@@ -8,10 +8,10 @@ use crate::traits::reading::FromHex;
 use std::alloc::Global;
 use std::rc::Rc;
 
-/// A value behind a pointer.
+/// A value that a pointer owns.
 ///
-/// An error of the value is returned as it is. If the pointer cannot be allocated, the error is of
-/// memory.
+/// An error of the value is returned as it is. If the pointer cannot be allocated, the error is the
+/// one for out of memory.
 impl<T: FromHex + Drop> FromHex for Box<T> {
     type Error = T::Error;
 
@@ -30,10 +30,10 @@ impl<T: FromHex + Drop> FromHex for Box<T> {
     }
 }
 
-/// A value behind a shared pointer.
+/// A value that shared pointers own.
 ///
-/// An error of the value is returned as it is. If the pointer cannot be allocated, the error is of
-/// memory.
+/// An error of the value is returned as it is. If the pointer cannot be allocated, the error is the
+/// one for out of memory.
 impl<T: FromHex + Drop> FromHex for Rc<T> {
     type Error = T::Error;
 

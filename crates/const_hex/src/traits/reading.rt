@@ -8,10 +8,10 @@ use std::alloc::Global;
 
 /// A type that is read from hexadecimal text.
 ///
-/// A type defines the bytes of each value, the numbers of bytes that a value may have, and its
-/// answers for each text. Generic code may rely on one law, `faithful`: a value has the bytes that
-/// the text spells, and a fitting number of them. An error is of memory, or the text cannot be
-/// decoded, or its number of bytes does not fit.
+/// A type defines the bytes of each value, the numbers of bytes that a value may have, and the
+/// results that each text may have. Generic code may rely on one law, `faithful`: a value has the
+/// decoded bytes, and a number of them that the type allows. An error means that an allocation
+/// failed, that the text cannot be decoded, or that its number of bytes is not allowed.
 ///
 /// ```rust
 /// fn read<T: FromHex>(alloc: Global, text: &[u8]) -> Result<T, T::Error> {
@@ -30,10 +30,10 @@ pub trait FromHex: Sized {
     /// The numbers of bytes that a value may have.
     ghost fits: { ℕ → Type 0 };
 
-    /// The answers that a text may have.
+    /// The results that a text may have.
     ghost answers: { List ℕ → Result Self Self.Error → Type 0 };
 
-    /// The value with the bytes that a text spells, with or without a prefix, in either case.
+    /// Decodes a text, with or without a prefix, in either case, to a value with its bytes.
     ///
     /// May allocate. If that fails, [`HexFault::is_memory`] is true of the error.
     ///
@@ -43,8 +43,9 @@ pub trait FromHex: Sized {
     fn from_hex(alloc: Global, hex: &[u8]) -> Result<Self, Self::Error>
         ensures { answers hex.now result };
 
-    /// A value has the bytes that the text spells, and a fitting number of them. An error is of
-    /// memory, or the text cannot be decoded, or its number of bytes does not fit.
+    /// A value has the decoded bytes, and a number of them that the type allows. An error means
+    /// that an allocation failed, that the text cannot be decoded, or that its number of bytes is
+    /// not allowed.
     ghost faithful: { (t : List ℕ) (r : Result Self Self.Error) → answers t r
         → IsFaithful bytes fits Self.Error.is_of_memory t r };
 }

@@ -23,7 +23,7 @@ fn fill_signed(bytes: &[u8], numbers: &mut [i8])
     }
 }
 
-/// The numbers with the bits of the bytes, with the answers of [`decode`](crate::decode).
+/// The numbers with the bits of the bytes, with the results of [`decode`](crate::decode).
 impl FromHex for Vec<i8> {
     type Error = FromHexError;
 
@@ -44,7 +44,7 @@ impl FromHex for Vec<i8> {
     }
 }
 
-/// The numbers with the bits of the bytes, with the answers of [`decode`](crate::decode).
+/// The numbers with the bits of the bytes, with the results of [`decode`](crate::decode).
 impl FromHex for BoxedSlice<i8> {
     type Error = FromHexError;
 
@@ -63,7 +63,7 @@ impl FromHex for BoxedSlice<i8> {
     }
 }
 
-/// The N numbers with the bits of the bytes, with the answers of
+/// The N numbers with the bits of the bytes, with the results of
 /// [`decode_to_array`](crate::decode_to_array). Does not allocate.
 impl<const N: usize> FromHex for [i8; N] {
     type Error = FromHexError;

@@ -10,7 +10,7 @@ use crate::traits::reading::FromHex;
 use std::alloc::Global;
 use std::boxed::BoxedSlice;
 
-/// The bytes, with the answers of [`decode`](crate::decode).
+/// The bytes, with the results of [`decode`](crate::decode).
 impl FromHex for Vec<u8> {
     type Error = FromHexError;
 
@@ -27,7 +27,7 @@ impl FromHex for Vec<u8> {
     }
 }
 
-/// The bytes, with the answers of [`decode`](crate::decode).
+/// The bytes, with the results of [`decode`](crate::decode).
 impl FromHex for BoxedSlice<u8> {
     type Error = FromHexError;
 

@@ -83,7 +83,7 @@ impl<T: HoldsBytes> ToHex for T {
     }
 }
 
-/// As [`ToHex`], with and without `0x` in front.
+/// As [`ToHex`], with and without `0x` before the digits.
 ///
 /// ```rust
 /// let text = "kiwi".to_string(rt.alloc())?.encode_hex_with_prefix(rt.alloc())?;

@@ -11,9 +11,10 @@ use crate::arch::{Kernel, drivers, short};
 use crate::output::Output;
 use std::simd::prelude::*;
 
-/// Works in the steps of [`Lanes16`], and computes digits, their values and the tests. It is for
-/// targets for which the compiler makes loads of a look-up in a vector, as for WebAssembly. There a
-/// look-up by a digit of a key would show in the caches. Only a text with a bad byte is looked up.
+/// A kernel that works in the steps of [`Lanes16`], and computes digits, their values and the
+/// tests. It is for targets on which the compiler turns a shuffle into loads from memory. There the
+/// digits of a secret would show in the cache. Only a text with an invalid character is looked up
+/// in a table.
 ///
 /// ```rust
 /// let mut bytes = [0; 4];
@@ -58,8 +59,8 @@ impl Vectors<16> for Arithmetic16 {
         ensures text { concat result ≡ hex_text upper v }
         ensures lanes { map length result ≡ 16 ∷ 16 ∷ [] }
     {
-        let [_, factors] = *lanes16::row(upper, copy);
-        lanes16::in_two(lanes::digits(lanes16::halves(v, factors), upper))
+        let [_, factors] = *lanes16::select_row(upper, copy);
+        lanes16::in_two(lanes::to_digits(lanes16::split_lanes(v, factors), upper))
     }
 
     #[inline(always)]

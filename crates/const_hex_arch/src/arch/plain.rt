@@ -6,7 +6,7 @@ use crate::arch::Kernel;
 use crate::output::Output;
 use crate::tables::{NIL, digit_at, value_at};
 
-/// Works byte by byte, with the tables.
+/// A kernel that works byte by byte, with tables in memory.
 ///
 /// ```rust
 /// let mut bytes = [0; 2];

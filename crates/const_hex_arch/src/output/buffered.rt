@@ -8,11 +8,11 @@ ghost use Rattle.const_hex_arch.specs.Outputs.{HasRoom, less_room, Gathers, piec
 use crate::output::Output;
 use std::marker::Model;
 
-/// Gathers up to `N` bytes before it hands them on to an output.
+/// Gathers up to `N` bytes before it passes them on to an output.
 ///
-/// Contracts see it as a pair: the output, and the pending text. If a piece does not fit behind the
-/// pending text, that text is handed on first. Then a piece of at least `N` bytes is handed on at
-/// once, and a shorter piece becomes pending. An empty pending text is never handed on. If the
+/// Contracts see it as a pair: the output, and the pending text. If a piece does not fit after the
+/// pending text, that text is passed on first. Then a piece of at least `N` bytes is passed on at
+/// once, and a shorter piece becomes pending. An empty pending text is never passed on. If the
 /// `BufferedOutput` is dropped without [`finish`](BufferedOutput::finish), the pending text is
 /// lost.
 ///
@@ -60,7 +60,7 @@ impl<O: Output, const N: usize> BufferedOutput<O, N> {
         }
     }
 
-    /// Hands on the pending text, if there is any, and returns the output.
+    /// Passes on the pending text, if there is any, and returns the output.
     ///
     /// ```rust
     /// let mut text = [0; 6];
@@ -90,7 +90,7 @@ impl<O: Output, const N: usize> BufferedOutput<O, N> {
         output
     }
 
-    /// Hands on the pending text, if there is any.
+    /// Passes on the pending text, if there is any.
     #[inline]
     pub(crate) fn flush(&mut self)
         ensures run { FoldsTo O.step self.old.0 (piece_of self.old.1) self.new.0 }
@@ -136,7 +136,7 @@ impl<O: Output, const N: usize> Output for BufferedOutput<O, N> {
 
     ghost room = { λ s. less_room (O.room s.0) (length s.1) };
 
-    /// The room of the output, less the pending bytes.
+    /// The remaining space of the output, less the pending bytes.
     #[inline]
     fn remaining(&self) -> Option<usize> {
         match self.output.remaining() {

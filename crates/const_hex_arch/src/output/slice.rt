@@ -8,7 +8,7 @@ use std::simd::prelude::*;
 
 /// Writes into a slice, from its start.
 ///
-/// A write puts the piece behind what was written, and leaves the rest of the slice unchanged.
+/// Each piece is written after the pieces before it, and the rest of the slice is unchanged.
 ///
 /// ```rust
 /// let mut text = [b'.'; 4];
@@ -72,9 +72,9 @@ impl Output for SliceOutput<'_> {
     ghost shrinks = { λ s piece t h. Prim.grind (arith) };
 }
 
-/// Replaces bytes by as many others.
-// The piece of a step, or half of a shorter one, goes through registers. Byte by byte, the compiler may write it
-// to memory first, and test there whether both overlap.
+/// Copies bytes to a target of the same length.
+// A piece of 2, 4, 8, 16, 32 or 64 bytes goes through registers. If it is copied byte by byte, the
+// compiler may store it in memory first, and test there whether both overlap.
 #[inline(always)]
 fn copy_over(target: &mut [u8], bytes: &[u8])
     requires { length target.old ≡ length bytes.now }

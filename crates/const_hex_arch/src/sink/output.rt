@@ -4,7 +4,7 @@ ghost use Rattle.std.specs.Prelude.{◌≡◌, false, not, is_ok, None};
 ghost use Rattle.const_hex_arch.specs.Sinks.{SinkStep, output_sink, sink_name};
 
 use crate::output::Output;
-use crate::sink::{Sink, SinkError, refusal_of};
+use crate::sink::{Sink, SinkError, fail_if_refused};
 use crate::text::ascii_text;
 
 /// Writes to a sink. After the first error it writes nothing more.
@@ -51,7 +51,7 @@ impl<'a, S: Sink> SinkOutput<'a, S> {
         ensures flag { is_ok result ≡ not (S.is_refused (output_sink self.entry)) }
         ensures unchanged { self.exit.0.now ≡ output_sink self.entry }
     {
-        refusal_of(&*self.sink)
+        fail_if_refused(&*self.sink)
     }
 
     /// The sink, lent again.

@@ -1,7 +1,7 @@
 use Rattle.std.proofs.Common.{refl, arith, ◌-◌, length, drop, length-drop}
 use Rattle.std.proofs.lemmas.List.{take_all}
 use Rattle.const_hex.proofs.lemmas.Decoding.{pair_refused, pairs_spell, rest_refused}
-use Rattle.const_hex.proofs.codec.decoder.decode_behind.Goals as goal
+use Rattle.const_hex.proofs.codec.decoder.decode_after.Goals as goal
 
 pub returns-then-decode_body-clause-spells : goal.returns-then-decode_body-clause-spells
 returns-then-decode_body-clause-spells g c = λ h.

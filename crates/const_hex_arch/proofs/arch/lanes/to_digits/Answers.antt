@@ -1,7 +1,7 @@
 use Rattle.std.proofs.Common.{true, false}
 use Rattle.const_hex_arch.proofs.lemmas.LaneValues.{digits_are}
-use Rattle.const_hex_arch.proofs.arch.lanes.digits.Goals as goal
-use Rattle.const_hex_arch.proofs.arch.lanes.digits.Goals.{then-upper, else-upper}
+use Rattle.const_hex_arch.proofs.arch.lanes.to_digits.Goals as goal
+use Rattle.const_hex_arch.proofs.arch.lanes.to_digits.Goals.{then-upper, else-upper}
 
 pub returns : goal.returns
 returns g c =

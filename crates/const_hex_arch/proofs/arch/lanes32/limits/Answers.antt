@@ -1,6 +1,0 @@
-use Rattle.const_hex_arch.specs.Lanes.{IsLimitOf}
-use Rattle.const_hex_arch.proofs.lemmas.LaneLookups.{by_halves}
-use Rattle.const_hex_arch.proofs.arch.lanes32.limits.Goals as goal
-
-pub returns : goal.returns
-returns c = rw c.join.ensures (by_halves IsLimitOf 16 c.args.v _ _ c.fits-v.0 c.limits-first.ensures c.limits-second.ensures)
