@@ -265,21 +265,17 @@ fn count_pairs(waiting: Option<u8>, digits: &[u8]) -> usize
     (digits.len() + usize::from(waiting.is_some())) / 2
 }
 
-/// The digit after so many pairs.
+/// The digit after so many pairs, if there is one.
 #[inline(always)]
 fn left_over(waiting: Option<u8>, digits: &[u8], count: usize) -> Option<u8>
     requires { count ≡ length (listed waiting ++ digits.now) / 2 }
     ensures { listed result ≡ drop (2 * count) (listed waiting ++ digits.now) }
 {
-    match digits {
-        [] => waiting,
-        [.., last] => {
-            if digits.len() + usize::from(waiting.is_some()) > 2 * count {
-                Some(*last)
-            } else {
-                None
-            }
-        }
+    match (waiting, digits) {
+        (None, [.., last]) if digits.len() > 2 * count => Some(*last),
+        (Some(_), [.., last]) if digits.len() == 2 * count => Some(*last),
+        (Some(_), []) => waiting,
+        _ => None,
     }
 }
 
@@ -344,10 +340,14 @@ fn check_last(last: &[u8]) -> bool
     }
 }
 
-/// Whether a byte is a digit. It is compared, for a table would be read at a place that the digit tells.
+/// Whether a byte is a digit.
+// Constant time: `is_ascii_hexdigit` would be compiled to branches on the byte.
 #[inline(always)]
 fn is_digit(byte: u8) -> bool
     ensures { IsTrue result ↔ IsDigit byte }
 {
-    byte.wrapping_sub(b'0') < 10 || (byte | 0x20).wrapping_sub(b'a') < 6
+    let decimal = byte.wrapping_sub(b'0');
+    let upper = byte.wrapping_sub(b'A').saturating_add(4);
+    let lower = byte.wrapping_sub(b'a').saturating_add(4);
+    decimal.min(upper).min(lower) < 10
 }
