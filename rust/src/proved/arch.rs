@@ -1,5 +1,5 @@
 // Made by rust/erase from crates/const_hex_arch/src/arch.rt. Do not edit.
-//! Kernels, which turn bytes into digits, and digits into bytes.
+//! Kernels, which encode bytes as digits and decode digits to bytes.
 
 use crate::rattle::prelude::*;
 
@@ -20,7 +20,7 @@ use crate::proved::output::slice::SliceOutput;
 /// The kernel of every call that does not name one. It is named here and nowhere else.
 pub type FixedKernel = crate::processor::Native;
 
-/// Turns bytes into digits, and digits into bytes.
+/// Encodes bytes as digits, and decodes digits to bytes.
 ///
 /// The codec relies only on the contracts of these calls, so it runs over any type that meets
 /// them. None of them allocates.
@@ -30,7 +30,7 @@ pub trait Kernel {
     const USE_CHECK_FN: bool;
 
     /// Writes two digits for each byte, in order, in pieces of 1 to 64 bytes. The output must have
-    /// room for them.
+    /// space for them.
     fn encode<O: Output>(input: &[u8], upper: bool, output: &mut O);
 
     /// Fills the output with two digits for each byte, in order. The output must have exactly the
@@ -45,15 +45,15 @@ pub trait Kernel {
     /// Whether every byte is a digit.
     fn check(input: &[u8]) -> bool;
 
-    /// Fills the output with the bytes that the input spells, and returns true. Returns false if
-    /// some byte is not a digit. Then a front of the output may be decoded, no longer than the
-    /// pairs before the bad byte, and the rest is unchanged. If the kernel checks first, the whole
+    /// Decodes the input into the output and returns true. Returns false if some byte is not a
+    /// digit. Then some of the pairs before that byte may have been decoded to the front of the
+    /// output, and the rest of the output is unchanged. If the kernel checks first, all of the
     /// output is unchanged. The input must have two bytes for each byte of the output.
     fn decode_checked(input: &[u8], output: &mut [u8]) -> bool;
 
-    /// Fills the output with the bytes that a part of the input spells, and returns true. Returns
-    /// false if some byte of this part is not a digit. The part begins `start` pairs behind the start
-    /// of the input, and must have two bytes for each byte of the output.
+    /// Decodes a part of the input into the output and returns true. Returns false if some byte of
+    /// this part is not a digit. The part begins after the first `start` pairs of the input, and
+    /// has two bytes for each byte of the output.
     ///
     /// This is for a caller that puts each part into an array. A kernel may have shorter code for
     /// arrays of 16, 32 and 64 bytes.
@@ -63,7 +63,7 @@ pub trait Kernel {
         Self::decode_checked(input.within(2 * start..2 * end), output)
     }
 
-    /// Fills the output with the bytes that the input spells. The input must have two bytes for
-    /// each byte of the output, and only digits.
+    /// Decodes the input into the output. The input must have two bytes for each byte of the
+    /// output, and only digits.
     fn decode_unchecked(input: &[u8], output: &mut [u8]);
 }

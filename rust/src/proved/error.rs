@@ -7,8 +7,8 @@ use crate::rattle::{error, fmt};
 
 /// Why a text cannot be decoded, or a text does not fit into an output.
 ///
-/// A text is judged in this order: an odd length, then the length that a sized call needs, then the
-/// characters.
+/// These are checked in this order: whether the length is odd, then the length that a sized call needs,
+/// then the characters.
 #[derive(Clone, Copy, PartialEq, Eq, Debug)]
 pub enum FromHexError {
     /// The text, its prefix included, has an odd number of bytes.

@@ -35,7 +35,7 @@ pub use self::text::{ascii_text, encode_full, fill_text, text_length};
 //
 //   11  Rattle's std is the module rattle
 //    4  a formatter does not name its writer
-//   49  a function for AVX2 takes in all that it calls
+//   48  a function for AVX2 takes in all that it calls
 //   16  a kernel is compiled for each kind of register, so it names the others beside it
 //   36  a range that is proved to be within its slice is not tested in release builds
 //    4  an allocation never fails: without memory the program ends

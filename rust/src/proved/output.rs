@@ -1,5 +1,5 @@
 // Made by rust/erase from crates/const_hex_arch/src/output.rt. Do not edit.
-//! Outputs, which text is written to.
+//! Outputs, to which text is written.
 
 use crate::rattle::prelude::*;
 
@@ -23,7 +23,7 @@ pub trait Output {
         self.write(&[byte])
     }
 
-    /// Writes the piece of `count` bytes, at most 64, that begins with `first` and ends with `last`.
+    /// Writes a piece of `count` bytes, at most 64, that begins with `first` and ends with `last`.
     /// Both have the same length, and together they cover the piece. Where they overlap, the bytes
     /// of `last` are written.
     #[inline(always)]

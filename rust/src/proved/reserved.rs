@@ -1,5 +1,5 @@
 // Made by rust/erase from crates/const_hex/src/reserved.rt. Do not edit.
-//! Owned text and owned bytes, in a vector with room for exactly these.
+//! Owned text and owned bytes, in a vector with space for exactly these.
 
 use crate::rattle::prelude::*;
 
@@ -9,14 +9,14 @@ pub(crate) use crate::proved::reserved::decoding::decode_reserved;
 use crate::proved::{Kernel, Output, encode_full};
 use crate::rattle::alloc::{AllocError, Global};
 
-/// Puts each piece behind what a vector holds, into its spare room.
+/// Puts each piece after what a vector holds, into its spare capacity.
 struct ReservedOutput {
     bytes: Vec<u8>,
 }
 
 impl ReservedOutput {
-    /// Puts bytes behind what the vector holds.
-    // Where their number is known at compile time, the machine stores them whole.
+    /// Puts bytes after what the vector holds.
+    // Where their number is known at compile time, they are stored by whole registers.
     #[inline(always)]
     
     fn put(&mut self, bytes: &[u8]) {
@@ -45,8 +45,8 @@ impl Output for ReservedOutput {
     }
 }
 
-/// The bytes of the text, behind `0x` if `prefix` is true. Allocates once, for exactly the text; for no
-/// text, not at all.
+/// The bytes of the text, with `0x` before it if `prefix` is true. Allocates once, for exactly the
+/// text; for no text, not at all.
 #[inline(always)]
 pub(crate) fn encode_reserved<K: Kernel>(
     alloc: Global,
@@ -54,9 +54,11 @@ pub(crate) fn encode_reserved<K: Kernel>(
     prefix: bool,
     upper: bool,
 ) -> Result<Vec<u8>, AllocError> {
-    // As `text_length`, which tests twice whether its result is too large: 6 or 7 instructions more.
+    // Computes what `text_length` does, which tests twice whether its result is too large: that
+    // would be 6 or 7 instructions more.
     let length = (2 * input.len()).saturating_add(if prefix { 2 } else { 0 });
-    // Apart, so that below there is a block for certain. A call then takes some ten instructions less.
+    // Returned early, so that below the vector is known to be allocated. A call then takes some ten
+    // instructions less.
     if length == 0 {
         return Ok(Vec::new(alloc));
     }

@@ -36,7 +36,7 @@ pub trait Sink {
 
 /// An error if the sink has refused.
 #[inline(always)]
-pub(crate) fn refusal_of<S: Sink>(sink: &S) -> Result<(), SinkError> {
+pub(crate) fn fail_if_refused<S: Sink>(sink: &S) -> Result<(), SinkError> {
     if sink.refused() {
         Err(SinkError)
     } else {

@@ -1,24 +1,24 @@
 // Made by rust/erase from crates/const_hex_arch/src/stream.rt. Do not edit.
-//! The text of bytes, handed to a sink in large pieces.
+//! The text of bytes, written to a sink in large pieces.
 
 use crate::rattle::prelude::*;
 use crate::proved::arch::{FixedKernel, Kernel};
 use crate::proved::output::buffered::BufferedOutput;
 use crate::proved::sink::output::SinkOutput;
-use crate::proved::sink::{Sink, SinkError, refusal_of};
+use crate::proved::sink::{Sink, SinkError, fail_if_refused};
 use crate::proved::text::{ascii_text, encode_full, fill_text, text_length};
 
-/// How many bytes are gathered for one call of a sink. A text of at most this length is handed over
-/// whole.
+/// How many bytes are gathered for one call of a sink. A text of at most this length is written in
+/// one call.
 const GATHERED: usize = 4096;
 
-/// The room for a short text. A smaller buffer is cleared faster.
+/// The size of the buffer for a short text. A smaller buffer is cleared faster.
 const SHORT: usize = 256;
 
-/// The room for a text of middle length.
+/// The size of the buffer for a text of medium length.
 const MIDDLE: usize = 1024;
 
-/// Bytes that are written as text, in uppercase or lowercase, with or without `0x` in front.
+/// Bytes that are written as text, in uppercase or lowercase, with or without `0x` before it.
 ///
 /// Each piece has at most 4096 bytes, and each but the last at least 4033. No call follows an
 /// error. An empty text makes no call. Only the sink allocates.
@@ -75,11 +75,13 @@ impl<'a, const UPPER: bool, const PREFIX: bool> BufferedHex<'a, UPPER, PREFIX> {
             UPPER,
             &mut output,
         );
-        // `flush` works in place, and `finish` would move the buffer first.
+        // Not `finish`: it takes the output by value, so the buffer of 4096 bytes would be copied
+        // first.
         output.flush();
         let back = output.into_output().into_inner();
-        // This does nothing. The proof reads here what the loan has left.
+        // This has no effect at run time. The proof reads the state of the sink here, through the
+        // reference that came back.
         let _ = &*back;
-        refusal_of(sink)
+        fail_if_refused(sink)
     }
 }

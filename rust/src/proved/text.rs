@@ -5,8 +5,8 @@ use crate::rattle::prelude::*;
 use crate::proved::arch::Kernel;
 use crate::proved::output::Output;
 
-/// The length of the text of `count` bytes, behind `0x` if `prefix` is true. If that does not fit
-/// into a `usize`, the answer is the greatest one, and no text has that length.
+/// The length of the text of `count` bytes, with `0x` before it if `prefix` is true. If that does
+/// not fit into a `usize`, this is `usize::MAX`, which no text has, since it is odd.
 #[inline(always)]
 pub fn text_length(prefix: bool, count: usize) -> usize {
     count
@@ -14,8 +14,8 @@ pub fn text_length(prefix: bool, count: usize) -> usize {
         .saturating_add(if prefix { 2 } else { 0 })
 }
 
-/// Fills the output with the text of the input, by the kernel `K`, behind `0x` if `prefix` is true.
-/// The output must have exactly the length of that text. Does not allocate.
+/// Fills the output with the text of the input, by the kernel `K`, with `0x` before it if `prefix`
+/// is true. The output must have exactly the length of that text. Does not allocate.
 #[inline(always)]
 pub fn fill_text<K: Kernel>(input: &[u8], prefix: bool, upper: bool, output: &mut [u8]) {
     let (front, digits) = output.split_at_mut(if prefix { 2 } else { 0 });
@@ -32,7 +32,7 @@ fn put_prefix(prefix: bool, output: &mut [u8]) {
 }
 
 /// Writes `0x` if `prefix` is true, and then two digits for each byte, by the kernel `K`. The
-/// output must have room for them. Allocates only what the output allocates.
+/// output must have space for them. Allocates only what the output allocates.
 #[inline(always)]
 pub fn encode_full<K: Kernel, O: Output>(input: &[u8], prefix: bool, upper: bool, output: &mut O) {
     write_prefix(prefix, output);

@@ -8,9 +8,10 @@ use super::{Kernel, drivers, short};
 use crate::proved::output::Output;
 use super::simd::prelude::*;
 
-/// Works in the steps of [`Lanes16`], and computes digits, their values and the tests. It is for
-/// targets for which the compiler makes loads of a look-up in a vector, as for WebAssembly. There a
-/// look-up by a digit of a key would show in the caches. Only a text with a bad byte is looked up.
+/// A kernel that works in the steps of [`Lanes16`], and computes digits, their values and the
+/// tests. It is for targets on which the compiler turns a shuffle into loads from memory. There the
+/// digits of a secret would show in the cache. Only a text with an invalid character is looked up
+/// in a table.
 pub struct Arithmetic16;
 
 impl Kernel for Arithmetic16 {
@@ -43,8 +44,8 @@ impl Kernel for Arithmetic16 {
 impl Vectors<16> for Arithmetic16 {
     #[inline(always)]
     fn digits_of(v: u8x16, upper: bool, copy: bool) -> [u8x16; 2] {
-        let [_, factors] = *lanes16::row(upper, copy);
-        lanes16::in_two(lanes::digits(lanes16::halves(v, factors), upper))
+        let [_, factors] = *lanes16::select_row(upper, copy);
+        lanes16::in_two(lanes::to_digits(lanes16::split_lanes(v, factors), upper))
     }
 
     #[inline(always)]

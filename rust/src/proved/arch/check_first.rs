@@ -1,5 +1,5 @@
 // Made by rust/erase from crates/const_hex_arch/src/arch/check_first.rt. Do not edit.
-//! A kernel that checks a text before it decodes.
+//! A kernel that checks all of a text before it decodes it.
 
 use crate::rattle::prelude::*;
 use super::Kernel;
@@ -12,8 +12,8 @@ pub struct CheckFirst<K> {
     kernel: PhantomData<K>,
 }
 
-// No contract or test fixes that it checks by `K`, since every kernel gives the same answers. It
-// was read.
+// Neither a contract nor a test notices whether it checks by `K`, since every kernel gives the same
+// results.
 impl<K: Kernel> Kernel for CheckFirst<K> {
     const USE_CHECK_FN: bool = true;
 
@@ -27,8 +27,8 @@ impl<K: Kernel> Kernel for CheckFirst<K> {
         K::check(input)
     }
 
-    // Not `always`: decoders name this call in a branch that most kernels never take. With its body
-    // in that branch, they would be too large to be inlined.
+    // Not `always`: `decode_body` calls this in a branch that is never taken for most kernels. With
+    // its body in that branch, the decoders would be too large to be inlined.
     #[inline(always)]
     fn decode_checked(input: &[u8], output: &mut [u8]) -> bool {
         if !K::check(input) {

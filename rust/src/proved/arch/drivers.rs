@@ -1,9 +1,10 @@
 // Made by rust/erase from crates/const_hex_arch/src/arch/drivers.rt. Do not edit.
-//! Drivers: a text or an input in steps, and then the remainder.
+//! Drivers: they take the input step by step, and then the remainder.
 //!
-//! `V` has the lanes of a step: `N`, which is twice `H`. `W` has the 16 lanes of what is shorter.
-//! No contract or test fixes which steps are taken where others give the same result. All of this was
-//! compared with the table of steps in docs/DESIGN.md, for each kernel.
+//! `V` has the `N` lanes of a step, and `H` is half of `N`. `W` has the 16 lanes of what is shorter
+//! than a step. Neither a contract nor a test notices which steps are taken where others give the
+//! same result. Compare a change with the table "Steps and remainders" in docs/DESIGN.md, for each
+//! kernel.
 
 use crate::rattle::prelude::*;
 use super::lanes::Vectors;
@@ -22,17 +23,17 @@ pub(crate) fn encode_in_steps<
 >(input: &[u8], upper: bool, output: &mut O) {
     let mut rest = input;
     while rest.len() >= 2 * N {
-        let (first, behind) = rest.split_at(N);
-        let (second, behind) = behind.split_at(N);
+        let (first, after) = rest.split_at(N);
+        let (second, after) = after.split_at(N);
         let copy = lanes16::copy_for(input.len());
         steps::encode_step::<N, V, O>(first, upper, copy, output);
         steps::encode_step::<N, V, O>(second, upper, copy, output);
-        rest = behind;
+        rest = after;
     }
     if rest.len() >= N {
-        let (bytes, behind) = rest.split_at(N);
+        let (bytes, after) = rest.split_at(N);
         steps::encode_step::<N, V, O>(bytes, upper, false, output);
-        rest = behind;
+        rest = after;
     }
     if rest.len() > 0 {
         encode_remainder::<H, N, V, W, O>(rest, upper, output);
@@ -62,8 +63,10 @@ fn encode_remainder<const H: usize, const N: usize, V: Vectors<N>, W: Vectors<16
     }
 }
 
-/// Checks an input of at least one step: four steps by one test while more than four are left, two if
-/// more than two are left, and then the remainder by one test. The last step may begin before it.
+/// Whether every byte is a digit. The input has at least one step. While more than four steps are
+/// left, four of them share one test; then two, if more than two are left. One test covers the
+/// rest: the next step, if more than one is left, and the last `N` bytes, which may overlap what
+/// was already checked.
 #[inline(always)]
 pub(crate) fn check_in_steps<const N: usize, V: Vectors<N>>(input: &[u8]) -> bool {
     let mut at = 0;
@@ -89,10 +92,12 @@ pub(crate) fn check_in_steps<const N: usize, V: Vectors<N>>(input: &[u8]) -> boo
     }
 }
 
-/// Decodes two steps at a time, then single steps, and then 16 bytes if they are left. If two steps
-/// are refused, single steps decode the first of them if possible. The last 16 bytes are one step,
-/// which decodes some again. If it is refused, it has written nothing, and `short::decode` decodes
-/// what is left, as it decodes a text of less than 16 bytes.
+/// Decodes the input and returns true. Returns false if some character is invalid; then the front
+/// of the output may already be decoded. Two steps share one test. If it fails, single steps take
+/// over, so that the first of the two is decoded if it is valid. A step with an invalid character
+/// writes nothing. The remainder is covered by the last 16 bytes of the output, some of which are
+/// decoded twice. If that step fails, `short::decode` decodes what is left. It also decodes every
+/// text of fewer than 16 bytes.
 #[inline(always)]
 pub(crate) fn decode_in_steps<const N: usize, V: Vectors<N>, W: Vectors<16>>(
     input: &[u8],
@@ -134,8 +139,8 @@ pub(crate) fn decode_in_steps<const N: usize, V: Vectors<N>, W: Vectors<16>>(
     short::decode::<W>(input.within(2 * at..), output.within_mut(at..))
 }
 
-/// Decodes two steps, one step or 16 bytes by one test. A part of any other size goes the way of a
-/// whole text.
+/// Decodes two steps, one step or 16 bytes by one test. A part of any other size is decoded as a
+/// whole text is.
 #[inline(always)]
 pub(crate) fn decode_part<const N: usize, V: Vectors<N>, W: Vectors<16>>(
     input: &[u8],
@@ -157,7 +162,7 @@ pub(crate) fn decode_part<const N: usize, V: Vectors<N>, W: Vectors<16>>(
 }
 
 /// As `decode_in_steps`.
-// A call of its own: with its body, `decode_part` would be too large to be inlined.
+// Not inlined: with this body `decode_part` would be too large to be inlined.
 #[inline(always)]
 fn decode_any_part<const N: usize, V: Vectors<N>, W: Vectors<16>>(
     text: &[u8],
@@ -166,8 +171,8 @@ fn decode_any_part<const N: usize, V: Vectors<N>, W: Vectors<16>>(
     decode_in_steps::<N, V, W>(text, output)
 }
 
-/// Decodes digits in steps, and then by the last 16 bytes, some of them again. A text of less than 16
-/// bytes is left to `short::decode`.
+/// Decodes digits in steps, and then by the last 16 bytes, some of them again. A text of fewer than
+/// 16 bytes is left to `short::decode`.
 #[inline(always)]
 pub(crate) fn decode_digits_in_steps<const N: usize, V: Vectors<N>, W: Vectors<16>>(
     input: &[u8],

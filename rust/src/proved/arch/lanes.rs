@@ -1,11 +1,15 @@
 // Made by rust/erase from crates/const_hex_arch/src/arch/lanes.rt. Do not edit.
-//! The values of digits and the tests of lanes, for vectors of any number of lanes.
+//! Arithmetic on vectors of hexadecimal characters, for any number of lanes: the value of a digit,
+//! the digit of a value, and the test whether all lanes are digits. docs/DESIGN.md works through an
+//! example.
 
 use crate::rattle::prelude::*;
 use super::simd::prelude::*;
 
-/// What differs between vectors of different `N`. The rest of a kernel is the same for every `N`.
-/// What [`lanes16::row`](super::lanes16::row) says of `copy` holds for each call that takes one.
+/// The operations that depend on the number of lanes `N`, or on whether the target has a byte
+/// shuffle. Everything else in a kernel is written once, over this trait. The argument `copy` never
+/// changes a result: it selects one of two equal rows, as
+/// [`lanes16::select_row`](super::lanes16::select_row) explains.
 pub(crate) trait Vectors<const N: usize> {
     /// Two digits for each lane, in order: the text of the first half, and the text of the second.
     fn digits_of(v: Simd<u8, N>, upper: bool, copy: bool) -> [Simd<u8, N>; 2];
@@ -13,8 +17,9 @@ pub(crate) trait Vectors<const N: usize> {
     /// The value of each lane that is a digit.
     fn values(v: Simd<u8, N>) -> Simd<u8, N>;
 
-    /// Sets at least one of the bits 7, 6, 4 and 3 in each lane that is not a digit, and clears all
-    /// four in every other lane.
+    /// A mark for each lane. The lane is a digit if and only if the bits 7, 6, 4 and 3 (the mask
+    /// `0xD8`) of its mark are clear. Marks of several vectors can be joined with `|` and tested at
+    /// once.
     fn marks(v: Simd<u8, N>) -> Simd<u8, N>;
 
     /// One byte for each two values, the higher half first.
@@ -30,12 +35,12 @@ pub(crate) trait Vectors<const N: usize> {
 pub(crate) fn nibbles<const N: usize>(v: Simd<u8, N>) -> Simd<u8, N> {
     let decimal = (v + Simd::splat(0xC6)).saturating_sub(Simd::splat(6)) - Simd::splat(0xF0);
     let letter = (v & Simd::splat(0xDF)) - Simd::splat(0x41);
-    // The algorithm adds 10 with a sum that stops at 255: that is min(byte, 245) + 10.
+    // The paper adds 10 with saturation. `min(letter, 245) + 10` is the same, and does not wrap.
     let letter = letter.simd_min(Simd::splat(245)) + Simd::splat(10);
     decimal.simd_min(letter)
 }
 
-/// Whether no lane has a mark, so all have the bits 7, 6, 4 and 3 clear.
+/// Whether every mark has the bits 7, 6, 4 and 3 clear.
 #[inline(always)]
 pub(crate) fn are_unmarked<const N: usize>(marks: Simd<u8, N>) -> bool {
     (marks & Simd::splat(0xD8)).reduce_or() == 0
@@ -48,15 +53,16 @@ pub(crate) fn unhex<const N: usize>(v: Simd<u8, N>) -> Simd<u8, N> {
     (v & Simd::splat(15)) + v.simd_gt(Simd::splat(64)).select(nine, Simd::splat(0))
 }
 
-/// The lane less 48, but at most its limit. If the lane is a digit, this is its value.
+/// `min(lane - 48, limit)` for each lane. If the lane is a digit, this is its value. Otherwise it
+/// is a number by which [`marks_beyond`] rejects the lane.
 #[inline(always)]
 pub(crate) fn values_within<const N: usize>(v: Simd<u8, N>, limits: Simd<u8, N>) -> Simd<u8, N> {
     (v - Simd::splat(0x30)).simd_min(limits)
 }
 
 /// The lane less 48, less its value: the marks of [`Vectors::marks`].
-// Not by `saturating_sub` of the limits: the limits and the values would both be kept until the
-// test of the marks is done. The default processor has too few registers for that.
+// `(v - 48).saturating_sub(limits)` is the same number. But then the limits of all vectors would
+// stay in registers beside the values until the marks are tested, and SSE has only 16 registers.
 #[inline(always)]
 pub(crate) fn marks_beyond<const N: usize>(v: Simd<u8, N>, values: Simd<u8, N>) -> Simd<u8, N> {
     v - Simd::splat(0x30) - values
@@ -72,7 +78,7 @@ pub(crate) fn marks_of_nibbles<const N: usize>(v: Simd<u8, N>) -> Simd<u8, N> {
 
 /// The digit of each lane, which must be a value.
 #[inline(always)]
-pub(crate) fn digits<const N: usize>(values: Simd<u8, N>, upper: bool) -> Simd<u8, N> {
+pub(crate) fn to_digits<const N: usize>(values: Simd<u8, N>, upper: bool) -> Simd<u8, N> {
     let gap = if upper { 7 } else { 39 };
     let is_letter = values.simd_gt(Simd::splat(9));
     values + Simd::splat(48) + is_letter.select(Simd::splat(gap), Simd::splat(0))
@@ -93,8 +99,8 @@ pub(crate) fn joint_marks<const N: usize, V: Vectors<N>>(
     V::marks(first) | V::marks(second)
 }
 
-/// The bytes that the text of two vectors spells, if each of its lanes is a digit. Otherwise they
-/// mean nothing.
+/// Decodes two vectors of digits to one vector of bytes. If some lane is not a digit, the result is
+/// unspecified: test the marks before you use it.
 #[inline(always)]
 pub(crate) fn decode<const N: usize, V: Vectors<N>>(
     first: Simd<u8, N>,
@@ -104,7 +110,7 @@ pub(crate) fn decode<const N: usize, V: Vectors<N>>(
     V::merge(V::values(first), V::values(second), copy)
 }
 
-/// As [`decode`], by [`unhex`], for a text that was tested before.
+/// As [`decode`], by [`unhex`], for lanes that were tested before.
 #[inline(always)]
 pub(crate) fn decode_digits<const N: usize, V: Vectors<N>>(
     first: Simd<u8, N>,

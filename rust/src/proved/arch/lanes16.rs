@@ -10,23 +10,24 @@ use super::{Kernel, drivers, short};
 use crate::proved::output::Output;
 use super::simd::prelude::*;
 
-/// The limit for each low half of a byte: no digit with this low half has a greater value.
-// A byte less 48 is the value of `0` to `9`, and more than the value of a letter. So the value of a
-// digit is the lesser of that and the limit. If a letter from `A` to `F` has this low half, the
-// limit is the letter's value. If only a digit from `0` to `9` has it, the limit is one more than
-// the digit's value. If neither has it, the limit is 0.
-// A digit less 48, less its value, is 0 for `0` to `9`, 7 for `A` to `F` and 39 for `a` to `f`. All
-// have the bits 7, 6, 4 and 3 clear. No other byte leaves such a number. (If the limits were not
-// one more, `P`, `W`, `X` and `Y` would leave 32.)
+/// For each low half of a byte the limit: no digit with this low half has a greater value.
+// `byte - 48` is the value of `0` to `9`, and more than the value of a letter. For a low half that
+// a letter has (1 to 6), the limit is the value of the letter, so the minimum of both is the value
+// of every digit. The mark is `byte - 48 - value`: 0 for `0` to `9`, 7 for `A` to `F` and 39 for
+// `a` to `f`, none of which has a bit of 0xD8. Every other byte leaves a mark that has one. For a
+// low half that only a decimal digit has (0, 7, 8, 9), the limit is one more than its value. With
+// the value itself, `P`, `W`, `X` and `Y` would leave the mark 32, and pass as digits.
 const LIMITS: [u8; 16] = [1, 10, 11, 12, 13, 14, 15, 8, 9, 10, 0, 0, 0, 0, 0, 0];
 
-/// The digits of all values, and 4097 in each lane of 16 bits: in lowercase and in uppercase, twice.
-// Why two copies: a compiler that knows a factor of 4097 multiplies by a shift and a sum (LLVM 22, for x86-64).
-// Then 2048 bytes cost more instructions: in Rattle's build 2563 in place of 2057 to encode in a case that is known,
-// and with AVX2 1316 in place of 1162; to decode, 3645 in place of 3347. By rustc 1.95 with AVX2 it is 1919 in place
-// of 1827 to decode, and no more to encode. So the loops choose a copy by a bit that is known only at run time.
-// All else takes the first one: the choice would cost up to 4 instructions a call.
-// The last pair is never read. Without it all factors would be the same, and the compiler would know them.
+/// A row for lowercase and one for uppercase, in two equal copies: the 16 digits, and the factor
+/// 4097 in each lane of 16 bits.
+// Why two copies: a compiler that knows a factor of 4097 multiplies by a shift and a sum (LLVM 22,
+// for x86-64). Then 2048 bytes cost more instructions: in Rattle's build 2563 in place of 2057 to
+// encode in a case that is known, and with AVX2 1316 in place of 1162; to decode, 3645 in place of
+// 3347. By rustc 1.95 with AVX2 it is 1919 in place of 1827 to decode, and no more to encode. So
+// the loops choose a copy by a bit that is known only at run time. All else takes the first one:
+// the choice would cost up to 4 instructions a call. The last pair of rows is never read. Without
+// it all factors would be the same, and the compiler would know them.
 const ROWS: &[[Row; 2]; 3] = &[CASES, CASES, [[[0; 16]; 2]; 2]];
 
 const CASES: [Row; 2] = [
@@ -36,17 +37,18 @@ const CASES: [Row; 2] = [
 
 const FACTORS: [u8; 16] = [1, 16, 1, 16, 1, 16, 1, 16, 1, 16, 1, 16, 1, 16, 1, 16];
 
-/// 16 digits, and the factors.
+/// The 16 digits, and the factors.
 type Row = [[u8; 16]; 2];
 
-/// The row of a case, from the first copy or the second. Both are equal, so no result depends on it.
+/// The row of a case, from the first copy or the second. Both are equal, so no result depends on
+/// `copy`. The comment at [`ROWS`] says why there are two.
 #[inline(always)]
-pub(crate) fn row(upper: bool, copy: bool) -> &'static Row {
+pub(crate) fn select_row(upper: bool, copy: bool) -> &'static Row {
     let cases = &ROWS[if copy { 1 } else { 0 }];
     &cases[if upper { 1 } else { 0 }]
 }
 
-/// The copy for a loop over something of that length: any bit that is known only at run time.
+/// The copy for a loop over so many bytes. Any bit that is known only at run time would do.
 // Bit 6 is the offset of the second copy, since the rows of a copy have 64 bytes.
 #[inline(always)]
 pub(crate) fn copy_for(length: usize) -> bool {
@@ -80,7 +82,7 @@ pub fn nibbles(v: u8x16) -> u8x16 {
     lanes::nibbles(v)
 }
 
-/// The bytes that the lanes of a text spell, or `None` if one of these lanes is not a digit.
+/// Decodes the lanes of a text, or returns `None` if one of these lanes is not a digit.
 #[inline(always)]
 pub fn decode_chunk(text: [u8x16; 2]) -> Option<u8x16> {
     let (bytes, are_digits) = decode_flagged(text);
@@ -93,9 +95,10 @@ pub fn unhex(v: u8x16) -> u8x16 {
     lanes::unhex(v)
 }
 
-/// Works in steps of 16 bytes, and decodes in steps of 32 bytes of text. What follows the last
-/// whole step is encoded as one piece, and is checked and decoded with the last bytes before it. If
-/// it has a bad byte, the pairs before that byte are decoded.
+/// A kernel for vectors of 16 lanes. It encodes 16 bytes, checks 16 characters and decodes 32
+/// characters at a time. The remainder is encoded as one piece. It is checked and decoded together
+/// with the characters before it, as one more vector that overlaps the last one. If it has an
+/// invalid character, the pairs before that are decoded.
 pub struct Lanes16;
 
 impl Kernel for Lanes16 {
@@ -106,8 +109,8 @@ impl Kernel for Lanes16 {
         drivers::encode_in_steps::<8, 16, Lanes16, Lanes16, O>(input, upper, output);
     }
 
-    // Not `always`: decoders name `CheckFirst` in a branch that this kernel never takes. With all
-    // of `check` in that branch, they would be too large to be inlined.
+    // Not `always`: `decode_body` calls `CheckFirst::<K>` in a branch that is never taken for this
+    // kernel. With all of `check` in that branch, the decoders would be too large to be inlined.
     #[inline(always)]
     fn check(input: &[u8]) -> bool {
         if input.len() < 16 {
@@ -136,12 +139,12 @@ impl Vectors<16> for Lanes16 {
     #[inline(always)]
     
     fn values(v: u8x16) -> u8x16 {
-        lanes::values_within(v, limits(v))
+        lanes::values_within(v, look_up_limits(v))
     }
 
     #[inline(always)]
     fn marks(v: u8x16) -> u8x16 {
-        lanes::marks_beyond(v, lanes::values_within(v, limits(v)))
+        lanes::marks_beyond(v, lanes::values_within(v, look_up_limits(v)))
     }
 
     #[inline(always)]
@@ -151,11 +154,12 @@ impl Vectors<16> for Lanes16 {
 }
 
 /// The limit of each lane. If the lane is a digit, its value is at most the limit.
-// The look-up is in a register: no byte decides which memory is read. `swizzle_dyn` takes
-// positions below 16, and from 128 on, which read as 0. The mask leaves only such positions. It
-// costs nothing, since the machine looks only at the same five bits.
+// Constant time: this is a shuffle within a register, so no byte selects a memory address.
+// `swizzle_dyn` takes indices from 0 to 15, and from 128 on, for which it returns 0. The mask
+// leaves only such indices. On x86-64 it costs nothing, since `pshufb` looks at exactly these five
+// bits.
 #[inline(always)]
-pub(crate) fn limits(v: u8x16) -> u8x16 {
+pub(crate) fn look_up_limits(v: u8x16) -> u8x16 {
     u8x16::from_array(LIMITS).swizzle_dyn(v & u8x16::splat(0x8F))
 }
 
@@ -168,23 +172,23 @@ pub(crate) fn in_two(v: u8x32) -> [u8x16; 2] {
 /// Two digits for each lane, in order.
 #[inline(always)]
 pub(crate) fn encode_lanes(v: u8x16, upper: bool, copy: bool) -> u8x32 {
-    let [digits, factors] = *row(upper, copy);
-    in_both_halves(digits).swizzle_dyn_within::<16>(halves(v, factors))
+    let [digits, factors] = *select_row(upper, copy);
+    in_both_halves(digits).swizzle_dyn_within::<16>(split_lanes(v, factors))
 }
 
 /// Both halves of each lane, the upper one first.
-// A lane of 16 bits takes a byte. Times 4097, the byte stands there a second time, 12 bits higher, and
-// its upper half drops out. Moved down by 4 bits, the upper half is the first byte of the lane, and the
-// lower half the second.
+// Each byte is widened to 16 bits and multiplied by 4097 = 0x1001. That adds a copy 12 bits higher,
+// of which only the lower half fits: 0x00B4 becomes 0x40B4. Shifted right by 4 it is 0x040B, in
+// memory the bytes 0x0B and 0x04: the upper half first.
 #[inline(always)]
-pub(crate) fn halves(v: u8x16, factors: [u8; 16]) -> u8x32 {
+pub(crate) fn split_lanes(v: u8x16, factors: [u8; 16]) -> u8x32 {
     let wide: u16x16 = v.cast();
     let halves = (wide * u16x16::from_le_bytes(in_both_halves(factors))) >> u16x16::splat(4);
     halves.to_le_bytes()
 }
 
-/// The bytes that the lanes of a text spell, and whether each of these lanes is a digit. If one is
-/// not, the bytes mean nothing.
+/// Decodes the lanes of a text, and says whether each of these lanes is a digit. If one is not, the
+/// bytes are unspecified.
 #[inline(always)]
 fn decode_flagged(text: [u8x16; 2]) -> (u8x16, bool) {
     let marks = lanes::joint_marks::<16, Lanes16>(text[0], text[1]);
@@ -205,10 +209,12 @@ pub(crate) fn join(first: u8x16, second: u8x16) -> u8x32 {
 }
 
 /// One byte for each two lanes, which must be values.
-// Two lanes make one of 16 bits, high + 256 * low. Times 4097, its upper byte is 16 * high + low.
+// Two values, the upper half first, are read as one number of 16 bits, high + 256 * low. Multiplied
+// by 4097 = 0x1001, its upper byte is 16 * high + low: 0x040B becomes 0xB40B. The shift leaves
+// 0xB4.
 #[inline(always)]
 fn pack(nibbles: u8x32, copy: bool) -> u8x16 {
     let pairs = u16x16::from_le_bytes(nibbles);
-    let factors = u16x16::from_le_bytes(in_both_halves(row(false, copy)[1]));
+    let factors = u16x16::from_le_bytes(in_both_halves(select_row(false, copy)[1]));
     ((pairs * factors) >> u16x16::splat(8)).cast()
 }

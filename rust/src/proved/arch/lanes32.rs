@@ -31,7 +31,7 @@ pub fn nibbles(v: u8x32) -> u8x32 {
     lanes::nibbles(v)
 }
 
-/// The bytes that the lanes of a text spell, or `None` if one of these lanes is not a digit.
+/// Decodes the lanes of a text, or returns `None` if one of these lanes is not a digit.
 #[inline(always)]
 pub fn decode_chunk(text: [u8x32; 2]) -> Option<u8x32> {
     let (bytes, are_digits) = decode_flagged(text);
@@ -44,9 +44,10 @@ pub fn unhex(v: u8x32) -> u8x32 {
     lanes::unhex(v)
 }
 
-/// Works in steps of 32 bytes, and decodes in steps of 64 bytes of text. What follows the last
-/// whole step is encoded as one piece, and is checked with the last bytes before it. Decoding takes
-/// at most one step of half that size, by 16 lanes, and then goes on as [`Lanes16`].
+/// A kernel for vectors of 32 lanes. It encodes 32 bytes, checks 32 characters and decodes 64
+/// characters at a time. The remainder is encoded as one piece, and is checked together with the
+/// characters before it. Decoding takes at most one step of half that size, by 16 lanes, and then
+/// goes on as [`Lanes16`].
 pub struct Lanes32;
 
 impl Kernel for Lanes32 {
@@ -57,8 +58,8 @@ impl Kernel for Lanes32 {
         drivers::encode_in_steps::<16, 32, Lanes32, Lanes16, O>(input, upper, output);
     }
 
-    // Not `always`: decoders name `CheckFirst` in a branch that this kernel never takes. With all
-    // of `check` in that branch, they would be too large to be inlined.
+    // Not `always`: `decode_body` calls `CheckFirst::<K>` in a branch that is never taken for this
+    // kernel. With all of `check` in that branch, the decoders would be too large to be inlined.
     #[inline(always)]
     fn check(input: &[u8]) -> bool {
         if input.len() < 32 {
@@ -94,12 +95,12 @@ impl Vectors<32> for Lanes32 {
     #[inline(always)]
     
     fn values(v: u8x32) -> u8x32 {
-        lanes::values_within(v, limits(v))
+        lanes::values_within(v, look_up_limits(v))
     }
 
     #[inline(always)]
     fn marks(v: u8x32) -> u8x32 {
-        lanes::marks_beyond(v, lanes::values_within(v, limits(v)))
+        lanes::marks_beyond(v, lanes::values_within(v, look_up_limits(v)))
     }
 
     #[inline(always)]
@@ -109,17 +110,17 @@ impl Vectors<32> for Lanes32 {
 }
 
 /// The limit of each lane. If the lane is a digit, its value is at most the limit.
-// In halves of 16 lanes, for which the mask costs nothing. With AVX2 the compiler makes one
-// look-up of both. The rest uses 32 lanes, or the compiler would use halves there too.
+// In halves of 16 lanes, for which the mask costs nothing. With AVX2 the compiler makes one shuffle
+// of both. The other functions use 32 lanes, since the compiler would keep halves there.
 #[inline(always)]
-fn limits(v: u8x32) -> u8x32 {
-    let first = lanes16::limits(v.extract::<0, 16>());
-    let second = lanes16::limits(v.extract::<16, 16>());
+fn look_up_limits(v: u8x32) -> u8x32 {
+    let first = lanes16::look_up_limits(v.extract::<0, 16>());
+    let second = lanes16::look_up_limits(v.extract::<16, 16>());
     lanes16::join(first, second)
 }
 
-/// The bytes that the lanes of a text spell, and whether each of these lanes is a digit. If one is
-/// not, the bytes mean nothing.
+/// Decodes the lanes of a text, and says whether each of these lanes is a digit. If one is not, the
+/// bytes are unspecified.
 #[inline(always)]
 fn decode_flagged(text: [u8x32; 2]) -> (u8x32, bool) {
     let marks = lanes::joint_marks::<32, Lanes32>(text[0], text[1]);
@@ -141,11 +142,13 @@ fn join(first: u8x32, second: u8x32) -> u8x64 {
 }
 
 /// One byte for each two lanes, which must be values.
-// Two lanes make one of 16 bits, high + 256 * low. Times 4097, its upper byte is 16 * high + low.
+// Two values, the upper half first, are read as one number of 16 bits, high + 256 * low. Multiplied
+// by 4097 = 0x1001, its upper byte is 16 * high + low: 0x040B becomes 0xB40B. The shift leaves
+// 0xB4.
 #[inline(always)]
 fn pack(nibbles: u8x64, copy: bool) -> u8x32 {
     let pairs = u16x32::from_le_bytes(nibbles);
-    let half = lanes16::in_both_halves(lanes16::row(false, copy)[1]);
+    let half = lanes16::in_both_halves(lanes16::select_row(false, copy)[1]);
     let factors = u16x32::from_le_bytes(join(half, half));
     ((pairs * factors) >> u16x32::splat(8)).cast()
 }

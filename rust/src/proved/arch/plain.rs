@@ -6,7 +6,7 @@ use super::Kernel;
 use crate::proved::output::Output;
 use crate::proved::tables::{NIL, digit_at, value_at};
 
-/// Works byte by byte, with the tables.
+/// A kernel that works byte by byte, with tables in memory.
 pub struct Plain;
 
 impl Kernel for Plain {

@@ -27,9 +27,11 @@ fn check_ends<const H: usize, W: Vectors<16>>(text: &[u8]) -> bool {
     steps::check_step::<16, W>(&steps::load_ends::<H, 16>(text, b'0'))
 }
 
-/// Fills an output of at most 16 bytes with the bytes that the text spells, and returns true.
-/// Returns false if some byte is not a digit. Then a front of the output may be decoded.
-// A call of its own: with its body, the calls that decode would be too large to be inlined.
+/// Decodes a text to at most 16 bytes and returns true. If some character is invalid, decodes the
+/// pairs before it and returns false. A valid text takes one vector operation on its first and last
+/// characters. Only if that finds an invalid character does [`Plain`] go through the pairs, with
+/// its table.
+// Not inlined: with this body the public decoders would be too large to be inlined.
 #[inline(always)]
 pub(crate) fn decode<W: Vectors<16>>(text: &[u8], output: &mut [u8]) -> bool {
     let is_decoded = if output.len() >= 8 {
@@ -49,8 +51,8 @@ pub(crate) fn decode<W: Vectors<16>>(text: &[u8], output: &mut [u8]) -> bool {
     Plain::decode_checked(text, output)
 }
 
-/// Fills an output of `H` to `2 * H` bytes with the bytes that the text spells, and returns true.
-/// Otherwise the output stays unchanged, and the answer is false. `D` digits spell `H` bytes.
+/// Decodes a text to `H` to `2 * H` bytes and returns true. If some byte is not a digit, returns
+/// false, and the output is unchanged. `D` is `2 * H`, the number of digits of `H` bytes.
 #[inline(always)]
 fn decode_ends<const H: usize, const D: usize, W: Vectors<16>>(
     text: &[u8],
@@ -69,7 +71,8 @@ fn decode_ends<const H: usize, const D: usize, W: Vectors<16>>(
     are_digits
 }
 
-/// Fills the output with the first bytes and the last ones. Where both overlap, the last ones count.
+/// Stores the first bytes and the last bytes, which together fill the output. Where both overlap,
+/// the last bytes are kept.
 #[inline(always)]
 fn put<const H: usize>(first: Simd<u8, H>, last: Simd<u8, H>, output: &mut [u8]) {
     let start = output.len() - H;

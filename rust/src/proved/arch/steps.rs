@@ -42,7 +42,9 @@ fn encode_to_array<const N: usize, V: Vectors<N>>(bytes: &[u8], upper: bool, cop
     text
 }
 
-/// A step of `N` bytes: the first `H` bytes, then the last `H`, and then only `fill`.
+/// Packs the first `H` bytes and the last `H` bytes into an array of `N` bytes, and puts `fill`
+/// after them. Of `H` to `2 * H` bytes this has every one, some of them twice. So a short input
+/// takes one vector operation and no loop.
 #[inline(always)]
 pub(crate) fn load_ends<const H: usize, const N: usize>(bytes: &[u8], fill: u8) -> [u8; N] {
     let mut step = [fill; N];
@@ -78,14 +80,14 @@ pub(crate) fn check_four_steps<const N: usize, V: Vectors<N>>(text: &[u8]) -> bo
     lanes::are_unmarked(marks_of_two_steps::<N, V>(front) | marks_of_two_steps::<N, V>(back))
 }
 
-/// Marks of the text of two steps: there are none exactly if each byte is a digit.
+/// Joined marks of the text of two steps. They are clear if and only if each byte is a digit.
 #[inline(always)]
 fn marks_of_two_steps<const N: usize, V: Vectors<N>>(text: &[u8]) -> Simd<u8, N> {
     lanes::joint_marks::<N, V>(Simd::from_slice(text), Simd::from_slice(text.within(N..)))
 }
 
-/// Fills the output with the bytes that the text of a step spells, and returns true. If some byte
-/// is not a digit, the output stays unchanged, and the answer is false.
+/// Decodes the text of a step into the output and returns true. If some byte is not a digit,
+/// returns false, and the output is unchanged.
 #[inline(always)]
 pub(crate) fn decode_step<const N: usize, V: Vectors<N>>(
     text: &[u8],
@@ -118,14 +120,14 @@ pub(crate) fn decode_two_steps<const N: usize, V: Vectors<N>>(
     are_digits
 }
 
-/// The bytes that the text of a step spells.
-// The values are computed again here. The compiler reuses the test's values.
+/// Decodes the digits of a step.
+// The test has already computed these values for the marks. The compiler merges both computations.
 #[inline(always)]
 fn decode_vector<const N: usize, V: Vectors<N>>(text: &[u8], copy: bool) -> Simd<u8, N> {
     lanes::decode::<N, V>(Simd::from_slice(text), Simd::from_slice(text.within(N..)), copy)
 }
 
-/// Fills the output with the bytes that the digits of a step spell.
+/// Decodes the digits of a step into the output.
 #[inline(always)]
 pub(crate) fn decode_digits_step<const N: usize, V: Vectors<N>>(
     text: &[u8],

@@ -1,5 +1,6 @@
 // Made by rust/erase from crates/const_hex/src/codec/body.rt. Do not edit.
-//! The body of a text: the prefix rule, the first invalid character, and decoding by a kernel.
+//! The body of a text, which is what follows the prefix: the rule of the prefix, the first invalid
+//! character, and decoding by a kernel.
 
 use crate::rattle::prelude::*;
 use crate::proved::error::FromHexError;
@@ -24,7 +25,9 @@ pub(crate) const fn strip_even(text: &[u8]) -> Result<&[u8], FromHexError> {
 }
 
 /// Whether two bytes are `0x` or `0X`.
-// Both are compared at once: byte by byte, a text that begins with `0` would run a path of its own.
+// Constant time: both characters are compared as one number of 16 bits. If they were compared one
+// after the other, a valid text without a prefix would take another path when its first digit is
+// `0`.
 #[inline(always)]
 pub(crate) const fn is_prefix(first: u8, second: u8) -> bool {
     let pair = u16::from_le_bytes([first, second]);
@@ -44,8 +47,9 @@ pub(crate) const fn find_invalid_character(text: &[u8]) -> FromHexError {
 }
 
 /// The first byte that is not a digit, and its index.
-// If there is none, as when another process changes the text meanwhile, this names a NUL after the
-// last byte.
+// Callers have already seen an invalid character. If another process removes it from shared memory
+// in between, the result is a NUL character at the index after the last byte, and nothing is read
+// out of bounds.
 #[cold]
 pub(crate) const fn find_first_bad(digits: &[u8]) -> (u8, usize) {
     let mut index = 0;
@@ -59,9 +63,9 @@ pub(crate) const fn find_first_bad(digits: &[u8]) -> (u8, usize) {
     (0, digits.len())
 }
 
-/// Fills the output with the bytes that the body spells, and returns true. Returns false if some
-/// byte is not a digit. The kernel decides whether the body is checked first. The body must have
-/// two bytes for each byte of the output.
+/// Decodes the body into the output and returns true. Returns false if some byte is not a digit.
+/// The kernel decides whether the body is checked first. The body must have two bytes for each byte
+/// of the output.
 // A kernel that checks first may itself be a `CheckFirst`. Then this runs its `check` once, and its
 // `decode_unchecked`: `CheckFirst` calls these two of its kernel, and never `decode_checked`.
 #[inline(always)]

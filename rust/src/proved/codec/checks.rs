@@ -26,7 +26,7 @@ pub fn check_with<K: Kernel>(input: &[u8]) -> Result<(), FromHexError> {
     }
 }
 
-/// As [`check`], with the same answer on every text. Does not allocate.
+/// As [`check`], with the same result for every text. Does not allocate.
 #[inline(always)]
 pub fn const_check(input: &[u8]) -> Result<(), FromHexError> {
     check(input)
@@ -39,7 +39,7 @@ pub fn check_raw(input: &[u8]) -> bool {
     FixedKernel::check(input)
 }
 
-/// As [`check_raw`], with the same answer on every text. Does not allocate.
+/// As [`check_raw`], with the same result for every text. Does not allocate.
 #[inline(always)]
 pub fn const_check_raw(input: &[u8]) -> bool {
     check_raw(input)

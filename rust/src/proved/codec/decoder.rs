@@ -1,5 +1,5 @@
 // Made by rust/erase from crates/const_hex/src/codec/decoder.rt. Do not edit.
-//! From a text in chunks to bytes.
+//! Decoding a text that arrives in chunks.
 
 use crate::rattle::prelude::*;
 use crate::proved::codec::body::{decode_body, find_first_bad, is_prefix, strip_prefix};
@@ -13,7 +13,7 @@ const WAITING: u8 = 1;
 /// The state of a decoder that found an invalid character.
 const FAILED: u8 = 2;
 
-/// Decodes a text that comes in chunks, as from a file or a socket.
+/// Decodes a text that arrives in chunks, as from a file or a socket.
 ///
 /// Together the chunks are read as one text, however it was cut: between `0` and `x`, between two
 /// digits, or into empty chunks. Only a prefix at the start of the whole text is removed.
@@ -44,19 +44,21 @@ impl Decoder {
         }
     }
 
-    /// Reads the next chunk of the text. Puts the bytes that are spelled now, and were not before,
-    /// at the front of the output, and returns their number. The rest of the output is unchanged.
+    /// Decodes the next chunk. Writes the newly decoded bytes to the front of the output, and returns
+    /// their number. The rest of the output is unchanged.
     ///
-    /// A chunk of n bytes gives at most (n + 1) / 2: a digit without its other half waits for the
-    /// next chunk. The first of these errors is returned:
+    /// A chunk of n characters decodes to at most (n + 1) / 2 bytes, so an output of that size always
+    /// suffices. A digit without its other half is kept for the next chunk. The first of these errors
+    /// is returned:
     ///
-    /// - [`FromHexError::InvalidHexCharacter`], if a chunk before had an invalid character: the
+    /// - [`FromHexError::InvalidHexCharacter`], if an earlier chunk had an invalid character: the
     ///   same error again. Nothing changes;
     /// - [`FromHexError::InvalidStringLength`], if the output has too little space for the pairs of
-    ///   digits, whatever bytes they are. Nothing changes, and the chunk may be passed again;
+    ///   digits, even if one of them is invalid. Nothing changes, and the chunk may be passed again;
     /// - [`FromHexError::InvalidHexCharacter`], with the first byte after the prefix that is not a
-    ///   digit, and its position in the whole text, or `usize::MAX` for a position beyond it. Bytes
-    ///   that stand before it may have been decoded into the output. Its rest is unchanged.
+    ///   digit, and its position in the whole text, or `usize::MAX` for a position beyond it. Some of
+    ///   the bytes before it may already have been written to the front of the output; the rest of
+    ///   the output is unchanged.
     ///
     /// Does not allocate.
     #[inline(always)]
@@ -181,35 +183,30 @@ fn count_pairs(waiting: Option<u8>, digits: &[u8]) -> usize {
     (digits.len() + usize::from(waiting.is_some())) / 2
 }
 
-/// The digit after so many pairs.
+/// The digit after so many pairs, if there is one.
 #[inline(always)]
 fn left_over(waiting: Option<u8>, digits: &[u8], count: usize) -> Option<u8> {
-    match digits {
-        [] => waiting,
-        [.., last] => {
-            if digits.len() + usize::from(waiting.is_some()) > 2 * count {
-                Some(*last)
-            } else {
-                None
-            }
-        }
+    match (waiting, digits) {
+        (None, [.., last]) if digits.len() > 2 * count => Some(*last),
+        (Some(_), [.., last]) if digits.len() == 2 * count => Some(*last),
+        (Some(_), []) => waiting,
+        _ => None,
     }
 }
 
-/// Fills the output with the bytes that the pairs spell, and returns true. Returns false if some
-/// byte is not a digit.
+/// Decodes the pairs into the output and returns true. Returns false if some byte is not a digit.
 #[inline(always)]
 fn decode_next<K: Kernel>(waiting: Option<u8>, digits: &[u8], output: &mut [u8]) -> bool {
     match waiting {
-        Some(high) => decode_behind::<K>(high, digits, output),
+        Some(high) => decode_after::<K>(high, digits, output),
         None => decode_digits::<K>(digits, output),
     }
 }
 
 /// As `decode_next`, after a digit that waits.
-// A call of its own: with its body too, `decode_with` would be too large to be inlined.
+// Not inlined: with this body `decode_with` would be too large to be inlined.
 #[inline(always)]
-fn decode_behind<K: Kernel>(high: u8, digits: &[u8], output: &mut [u8]) -> bool {
+fn decode_after<K: Kernel>(high: u8, digits: &[u8], output: &mut [u8]) -> bool {
     match digits {
         [low, rest @ ..] => {
             let (first, others) = output.split_at_mut(1);
@@ -219,27 +216,29 @@ fn decode_behind<K: Kernel>(high: u8, digits: &[u8], output: &mut [u8]) -> bool 
     }
 }
 
-/// Fills the output with the bytes that the digits spell, and returns true. A last digit without
-/// its other half is only tested. Returns false if some byte is not a digit.
+/// Decodes the digits into the output and returns true. A last digit without its other half is only
+/// tested. Returns false if some byte is not a digit.
 #[inline(always)]
 fn decode_digits<K: Kernel>(digits: &[u8], output: &mut [u8]) -> bool {
     let (pairs, last) = digits.split_at(2 * output.len());
-    decode_body::<K>(pairs, output) && check_last::<K>(last)
+    decode_body::<K>(pairs, output) && check_last(last)
 }
 
 /// Whether the byte after the pairs, if there is one, is a digit.
 #[inline(always)]
-fn check_last<K: Kernel>(last: &[u8]) -> bool {
+fn check_last(last: &[u8]) -> bool {
     match last {
-        [digit] => check_digit::<K>(*digit),
+        [digit] => is_digit(*digit),
         _ => true,
     }
 }
 
-/// Whether a byte is a digit. It is decoded after a `0`: then a program that decodes alone has no code
-/// that checks alone.
-// A call of its own: with its body in them, all calls that decode a chunk take 20 instructions more.
+/// Whether a byte is a digit.
+// Constant time: `is_ascii_hexdigit` would be compiled to branches on the byte.
 #[inline(always)]
-fn check_digit<K: Kernel>(digit: u8) -> bool {
-    decode_body::<K>(&[b'0', digit], &mut [0])
+fn is_digit(byte: u8) -> bool {
+    let decimal = byte.wrapping_sub(b'0');
+    let upper = byte.wrapping_sub(b'A').saturating_add(4);
+    let lower = byte.wrapping_sub(b'a').saturating_add(4);
+    decimal.min(upper).min(lower) < 10
 }

@@ -1,5 +1,5 @@
 // Made by rust/erase from crates/const_hex/src/codec/decoders.rt. Do not edit.
-//! From text to bytes.
+//! Decoding a whole text.
 
 use crate::rattle::prelude::*;
 use crate::proved::codec::body::{decode_body, find_invalid_character, strip_even};
@@ -9,12 +9,12 @@ use crate::proved::reserved::decode_reserved;
 use crate::proved::{FixedKernel, Kernel};
 use crate::rattle::alloc::Global;
 
-/// The bytes that a text spells, with or without a prefix, in either case.
+/// Decodes a text, with or without a prefix, in either case, to a vector of its bytes.
 ///
 /// The first of these errors is returned:
 ///
 /// - [`FromHexError::OddLength`], before anything is allocated;
-/// - [`FromHexError::NoMemory`], if memory cannot be allocated;
+/// - [`FromHexError::NoMemory`], if the allocation fails;
 /// - [`FromHexError::InvalidHexCharacter`], with the first byte after the prefix that is not a
 ///   digit.
 #[cfg(feature = "alloc")]
@@ -30,7 +30,7 @@ pub fn decode_with<K: Kernel>(alloc: Global, input: &[u8]) -> Result<Vec<u8>, Fr
     decode_owned::<K>(alloc, input)
 }
 
-/// The bytes that a text spells. Allocates once, for exactly these bytes; for none, not at all.
+/// Decodes a text to a vector. Allocates once, for exactly these bytes; for none, not at all.
 #[inline(always)]
 #[cfg(feature = "alloc")]
 fn decode_owned<K: Kernel>(alloc: Global, input: &[u8]) -> Result<Vec<u8>, FromHexError> {
@@ -40,15 +40,16 @@ fn decode_owned<K: Kernel>(alloc: Global, input: &[u8]) -> Result<Vec<u8>, FromH
     }
 }
 
-/// Fills the output with the bytes that a text spells, with or without a prefix, in either case.
+/// Decodes a text, with or without a prefix, in either case, to exactly the bytes of the output.
 ///
 /// The first of these errors is returned:
 ///
 /// - [`FromHexError::OddLength`], and the output is unchanged;
-/// - [`FromHexError::InvalidStringLength`], if the text spells another number of bytes than the
+/// - [`FromHexError::InvalidStringLength`], if the text decodes to another number of bytes than the
 ///   output has, and the output is unchanged;
-/// - [`FromHexError::InvalidHexCharacter`]. Bytes that stand before the invalid character may
-///   have been decoded into the output. Its rest is unchanged.
+/// - [`FromHexError::InvalidHexCharacter`], with the first invalid character. Some of the bytes
+///   before it may already have been written to the front of the output; the rest of the output is
+///   unchanged.
 ///
 /// Does not allocate.
 #[inline(always)]
@@ -70,8 +71,8 @@ pub fn decode_to_slice_with<K: Kernel>(input: &[u8], output: &mut [u8]) -> Resul
     Ok(())
 }
 
-/// Fills the front of the output with the bytes that a text spells, with or without a prefix, in
-/// either case, and returns their number. The rest of the output is unchanged.
+/// Decodes a text, with or without a prefix, in either case, to the front of the output, and returns
+/// the number of bytes. The rest of the output is unchanged.
 ///
 /// The text must be whole. If it comes in chunks, use a [`Decoder`](crate::Decoder): this call would
 /// remove a prefix from each chunk.
@@ -79,10 +80,11 @@ pub fn decode_to_slice_with<K: Kernel>(input: &[u8], output: &mut [u8]) -> Resul
 /// The first of these errors is returned:
 ///
 /// - [`FromHexError::OddLength`], and the output is unchanged;
-/// - [`FromHexError::InvalidStringLength`], if the text spells more bytes than the output has, and
-///   the output is unchanged;
-/// - [`FromHexError::InvalidHexCharacter`]. Bytes that stand before the invalid character may
-///   have been decoded into the output. Its rest is unchanged.
+/// - [`FromHexError::InvalidStringLength`], if the text decodes to more bytes than the output has,
+///   and the output is unchanged;
+/// - [`FromHexError::InvalidHexCharacter`], with the first invalid character. Some of the bytes
+///   before it may already have been written to the front of the output; the rest of the output is
+///   unchanged.
 ///
 /// Does not allocate.
 #[inline(always)]
@@ -107,7 +109,7 @@ pub fn decode_to_front_with<K: Kernel>(
     Ok(count)
 }
 
-/// The N bytes that a text spells, with or without a prefix, in either case.
+/// Decodes a text, with or without a prefix, in either case, to an array of N bytes.
 ///
 /// The first of these errors is returned: [`FromHexError::OddLength`];
 /// [`FromHexError::InvalidStringLength`], if the text after the prefix does not have 2 * N bytes;
@@ -117,7 +119,7 @@ pub fn decode_to_array<const N: usize>(input: &[u8]) -> Result<[u8; N], FromHexE
     read_array(input)
 }
 
-/// The N bytes that a text spells.
+/// Decodes a text to N bytes.
 #[inline(always)]
 fn read_array<const N: usize>(input: &[u8]) -> Result<[u8; N], FromHexError> {
     let mut array = [0; N];
@@ -125,16 +127,16 @@ fn read_array<const N: usize>(input: &[u8]) -> Result<[u8; N], FromHexError> {
     Ok(array)
 }
 
-/// As [`decode_to_array`], with the same answer on every text. Does not allocate.
+/// As [`decode_to_array`], with the same result for every text. Does not allocate.
 #[inline(always)]
 pub fn const_decode_to_array<const N: usize>(input: &[u8]) -> Result<[u8; N], FromHexError> {
     decode_to_array(input)
 }
 
-/// The N bytes that a constant text spells. The check proves that it spells them.
+/// Decodes a constant text to N bytes. Verification proves that it decodes to N bytes.
 ///
-/// The text must be 2 * N digits, with or without a prefix. If a digit is wrong, or the length, the
-/// check refuses the program, and it never runs. Does not allocate.
+/// The text must be 2 * N digits, with or without a prefix. If a character is not a digit, or the
+/// length is another, verification of the program fails, so it never runs. Does not allocate.
 #[inline(always)]
 pub fn bytes_of<const N: usize>(text: &[u8]) -> [u8; N] {
     decode_to_array(text).unwrap()

@@ -1,5 +1,5 @@
 // Made by rust/erase from crates/const_hex/src/codec/encoders.rt. Do not edit.
-//! From bytes to text.
+//! Encoding bytes as text.
 
 use crate::rattle::prelude::*;
 use crate::proved::error::FromHexError;
@@ -95,8 +95,8 @@ pub fn encode_to_slice_upper(input: &[u8], output: &mut [u8]) -> Result<(), From
     encode_full_to_slice(input, false, true, output)
 }
 
-/// Fills the output with the text of the input, in uppercase or lowercase, behind `0x` if `prefix`
-/// is true.
+/// Fills the output with the text of the input, in uppercase or lowercase, with `0x` before it if
+/// `prefix` is true.
 ///
 /// The output must have exactly two bytes for each byte of the input, and two more for a prefix.
 /// Otherwise returns [`FromHexError::InvalidStringLength`], and the output is unchanged. Does not

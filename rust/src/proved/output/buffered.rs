@@ -4,11 +4,11 @@
 use crate::rattle::prelude::*;
 use crate::proved::output::Output;
 
-/// Gathers up to `N` bytes before it hands them on to an output.
+/// Gathers up to `N` bytes before it passes them on to an output.
 ///
-/// Contracts see it as a pair: the output, and the pending text. If a piece does not fit behind the
-/// pending text, that text is handed on first. Then a piece of at least `N` bytes is handed on at
-/// once, and a shorter piece becomes pending. An empty pending text is never handed on. If the
+/// Contracts see it as a pair: the output, and the pending text. If a piece does not fit after the
+/// pending text, that text is passed on first. Then a piece of at least `N` bytes is passed on at
+/// once, and a shorter piece becomes pending. An empty pending text is never passed on. If the
 /// `BufferedOutput` is dropped without [`finish`](BufferedOutput::finish), the pending text is
 /// lost.
 pub struct BufferedOutput<O: Output, const N: usize> {
@@ -28,7 +28,7 @@ impl<O: Output, const N: usize> BufferedOutput<O, N> {
         }
     }
 
-    /// Hands on the pending text, if there is any, and returns the output.
+    /// Passes on the pending text, if there is any, and returns the output.
     #[inline(always)]
     pub fn finish(self) -> O {
         let mut this = self;
@@ -47,7 +47,7 @@ impl<O: Output, const N: usize> BufferedOutput<O, N> {
         output
     }
 
-    /// Hands on the pending text, if there is any.
+    /// Passes on the pending text, if there is any.
     #[inline(always)]
     pub(crate) fn flush(&mut self) {
         if self.count != 0 {
@@ -74,7 +74,7 @@ impl<O: Output, const N: usize> BufferedOutput<O, N> {
 }
 
 impl<O: Output, const N: usize> Output for BufferedOutput<O, N> {
-    /// The room of the output, less the pending bytes.
+    /// The remaining space of the output, less the pending bytes.
     #[inline(always)]
     fn remaining(&self) -> Option<usize> {
         match self.output.remaining() {

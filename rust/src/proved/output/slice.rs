@@ -7,7 +7,7 @@ use crate::rattle::simd::prelude::*;
 
 /// Writes into a slice, from its start.
 ///
-/// A write puts the piece behind what was written, and leaves the rest of the slice unchanged.
+/// Each piece is written after the pieces before it, and the rest of the slice is unchanged.
 pub struct SliceOutput<'a> {
     slice: &'a mut [u8],
     count: usize,
@@ -47,9 +47,9 @@ impl Output for SliceOutput<'_> {
     }
 }
 
-/// Replaces bytes by as many others.
-// The piece of a step, or half of a shorter one, goes through registers. Byte by byte, the compiler may write it
-// to memory first, and test there whether both overlap.
+/// Copies bytes to a target of the same length.
+// A piece of 2, 4, 8, 16, 32 or 64 bytes goes through registers. If it is copied byte by byte, the
+// compiler may store it in memory first, and test there whether both overlap.
 #[inline(always)]
 fn copy_over(target: &mut [u8], bytes: &[u8]) {
     if bytes.len() == 64 {

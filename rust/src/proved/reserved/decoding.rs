@@ -1,8 +1,8 @@
 // Made by rust/erase from crates/const_hex/src/reserved/decoding.rt. Do not edit.
-//! The bytes that digits spell, in a vector with room for exactly these.
+//! Decoding digits into a vector with space for exactly their bytes.
 //!
-//! A kernel fills slices, and no slice may lie over memory that holds nothing yet. So it fills arrays,
-//! which the machine keeps in registers, and each array is put into the vector whole.
+//! A kernel fills slices, and no slice may cover memory that is not initialized. So it fills
+//! arrays, which stay in registers, and each array is put into the vector whole.
 
 use crate::rattle::prelude::*;
 use crate::proved::codec::body::decode_body;
@@ -11,8 +11,8 @@ use crate::proved::reserved::ReservedOutput;
 use crate::proved::{Kernel, Output};
 use crate::rattle::alloc::{AllocError, Global};
 
-/// The bytes that the digits spell, or `None` if some byte is not a digit. Allocates once, for exactly
-/// these bytes; for none, not at all.
+/// Decodes digits to a vector, or returns `None` if some byte is not a digit. Allocates once, for
+/// exactly these bytes; for none, not at all.
 #[inline(always)]
 pub(crate) fn decode_reserved<K: Kernel>(
     alloc: Global,
@@ -28,8 +28,9 @@ pub(crate) fn decode_reserved<K: Kernel>(
     Ok(decode::<K>(digits, output))
 }
 
-/// The bytes that the digits spell, in the vector of an output that holds nothing yet.
-// The output is no `&mut`: as far as the compiler knows, stores of bytes might change what is behind one.
+/// Decodes digits into the vector of an output that holds nothing yet.
+// The output is passed by value: behind a `&mut` the compiler would have to assume that each store
+// of bytes may change its pointer and length.
 #[inline(always)]
 fn decode<K: Kernel>(digits: &[u8], output: ReservedOutput) -> Option<Vec<u8>> {
     if digits.len() < 32 {
@@ -47,7 +48,7 @@ fn decode<K: Kernel>(digits: &[u8], output: ReservedOutput) -> Option<Vec<u8>> {
     Some(bytes)
 }
 
-/// As `decode`, for less than 16 bytes. They are decoded in their place, over zeros.
+/// As `decode`, for fewer than 16 bytes. They are decoded in place, over zeros.
 #[inline(always)]
 fn decode_few<K: Kernel>(digits: &[u8], output: ReservedOutput) -> Option<Vec<u8>> {
     let ReservedOutput { bytes } = put_zeros(output, digits.len() / 2);
@@ -58,7 +59,7 @@ fn decode_few<K: Kernel>(digits: &[u8], output: ReservedOutput) -> Option<Vec<u8
     Some(bytes)
 }
 
-/// Puts less than 16 zeros.
+/// Puts fewer than 16 zeros.
 // Not by `resize`, which would be a call.
 #[inline(always)]
 fn put_zeros(output: ReservedOutput, count: usize) -> ReservedOutput {
@@ -75,7 +76,7 @@ fn put_zeros(output: ReservedOutput, count: usize) -> ReservedOutput {
     output
 }
 
-/// Puts at least half of the bytes: 32, or 64 and again 64 while so many are left.
+/// Puts at least half of the bytes: 32 bytes, or 64 at a time while so many are left.
 #[inline(always)]
 fn put_front<K: Kernel>(digits: &[u8], output: ReservedOutput) -> Option<ReservedOutput> {
     if digits.len() < 128 {
@@ -88,7 +89,7 @@ fn put_front<K: Kernel>(digits: &[u8], output: ReservedOutput) -> Option<Reserve
     Some(output)
 }
 
-/// Puts the rest, of less than 64 bytes, by the last 16, 32 or 64 bytes.
+/// Puts the rest, of fewer than 64 bytes, by decoding the last 16, 32 or 64 bytes.
 #[inline(always)]
 fn put_rest<K: Kernel>(digits: &[u8], output: ReservedOutput) -> Option<ReservedOutput> {
     let left = digits.len() / 2 - output.bytes.len();

@@ -3,7 +3,7 @@
 
 use crate::rattle::prelude::*;
 use crate::proved::output::Output;
-use crate::proved::sink::{Sink, SinkError, refusal_of};
+use crate::proved::sink::{Sink, SinkError, fail_if_refused};
 use crate::proved::text::ascii_text;
 
 /// Writes to a sink. After the first error it writes nothing more.
@@ -20,7 +20,7 @@ impl<'a, S: Sink> SinkOutput<'a, S> {
 
     /// `Ok` if the sink accepted all that was written, and an error if it refused.
     pub fn finish(self) -> Result<(), SinkError> {
-        refusal_of(&*self.sink)
+        fail_if_refused(&*self.sink)
     }
 
     /// The sink, lent again.
