@@ -1,0 +1,299 @@
+"""The calls of const_hex.h, and what has to be proved of each.
+
+A call has forms (contracts.py) for each length, and cases without a loop: `start` gives the state at the first
+instruction, for lengths and sizes that may have symbols, and `ends` compares a state that has returned.
+"""
+
+import pathlib
+import re
+
+from conditions import Condition
+from contracts import (
+    BEFORE, INVALID_CHARACTER, INVALID_LENGTH, NO_NUL, ODD_LENGTH, PREFIX, SIZE_MAX,
+    Check, CheckRaw, Decode, DecodeExact, DecoderUpdate, Encode,
+    answer_of, assume_prefix, cases_of_answer, is_same, require_error, require_value, unchanged,
+)
+from exploration import outcomes, require
+from induction import prove_class, prove_length, with_nulls
+from linear import Linear, symbol
+from memory import Pointer, Region, as_lane, as_value
+from values import CONSTANTS, ZERO, apply, constants, kept, unknown, variable
+
+HEADER = pathlib.Path(__file__).resolve().parent.parent / "c" / "const_hex.h"
+N, K, OVER = symbol("n"), symbol("k"), symbol("over")
+
+
+class Case:
+    """A call whose arguments are made by `make(front_end)`: arguments, regions, and what else is known of the state."""
+
+    def __init__(self, name, arguments, regions, judge, assume=None):
+        self.name, self.arguments, self.regions, self.judge, self.assume = name, arguments, regions, judge, assume
+
+    def prove(self, code, function):
+        state = code.front_end.start(code, function, self.arguments, self.regions())
+        if self.assume:
+            self.assume(state)
+        ends = [end for begin in with_nulls(code, state) for end in outcomes(code, begin)]
+        for end in ends:
+            code.front_end.has_returned(end)
+            require(not end.leaks, "an address depends on an unknown byte")
+            self.judge(code, end)
+        return len(ends)
+
+
+# Encoding
+
+
+def _size_beside(flags):
+    return 2 * bool(flags & PREFIX) + int(not flags & NO_NUL)
+
+
+def _encoded_size_cases():
+    """The greatest length whose size fits is `most`."""
+    for flags in range(8):
+        beside = _size_beside(flags)
+        most = (SIZE_MAX - beside) // 2
+        fits, too_long = symbol(f"up to {most}", most), symbol(f"beyond {most}", SIZE_MAX - most - 1)
+        for length, size in ((fits, fits * 2 + beside), (too_long + (most + 1), SIZE_MAX)):
+            yield Case(f"flags {flags}, {length} bytes", [length, constants(flags, 4)], list, _returns(size))
+    yield Case("unknown flags", [symbol("any", SIZE_MAX), _flags_beyond(0)], list, _returns(SIZE_MAX), _beyond(0))
+
+
+def _returns(wanted):
+    def judge(code, end):
+        found = code.front_end.result(end, 8)
+        require(is_same(end.path, as_lane(found), as_lane(as_value(wanted))), f"the result is not {wanted}")
+
+    return judge
+
+
+def _with_low_bits(byte, low):
+    return byte & 0xF8 | low
+
+
+def _flags_beyond(low):
+    """Flags with these three lowest bits."""
+    first, *others = [unknown("flags", at) for at in range(4)]
+    return (*apply(_with_low_bits, 1, [(first,)], (low,)), *others)
+
+
+def _is_null(byte):
+    return int(byte == 0)
+
+
+def _beyond(low):
+    """One of the other bits is set."""
+    beyond = _flags_beyond(low)
+    high = apply(_xor, 1, [beyond[:1]], (low,)) + beyond[1:]
+
+    def assume(state):
+        state.path.assume(Condition(tuple([apply(_is_null, 1, [(byte,)])[0] for byte in high]), True))
+
+    return assume
+
+
+def _xor(byte, low):
+    return byte ^ low
+
+
+def _encode_failures():
+    """Sizes that are too small: 2k + odd, for n bytes; and unknown flags."""
+    for flags in range(8):
+        beside = _size_beside(flags)
+        for odd in (0, 1):
+            # The least length for which the size is too small is k + least.
+            least = -(-(odd + 1 - beside) // 2)
+            sizes = [(N + K + least, K * 2 + odd)] if least >= 0 else [(N, odd), (N + K, K * 2 + 2 + odd)]
+            for length, size in sizes:
+                yield _encode_failure(f"flags {flags}", length, size, constants(flags, 4), flags)
+        for odd in (0, 1):
+            yield _encode_failure(f"unknown flags, of which {flags}", N, K * 2 + odd, _flags_beyond(flags), flags, _beyond(flags))
+
+
+def _encode_failure(what, length, size, lane, flags, assume=None):
+    arguments = [Pointer("bytes", 0), length, Pointer("text", 0), size, lane]
+
+    def regions():
+        return [Region("bytes", length), Region("text", size, True)]
+
+    def judge(code, end):
+        require(not answer_of(code, end), "it succeeds")
+        written, left = end.memory.written("text"), end.memory.regions["text"].size
+        ends = not flags & NO_NUL and not (type(left) is int and left == 0)
+        require(set(written) == ({0} if ends else set()), "what is written on failure")
+        require(not ends or written[0] is ZERO, "the text is not the empty string")
+
+    return Case(f"{what}: {length} bytes for a size of {size}", arguments, regions, judge, assume)
+
+
+# Decoding
+
+
+def _text_failures(call):
+    """Lengths and sizes that do not fit, whatever the characters are."""
+    yield _text_failure(call, ODD_LENGTH, None, N * 2 + 1, OVER)
+    for body in (0, 2) if call != "check" else ():
+        yield _text_failure(call, INVALID_LENGTH, body, (N + K + 1) * 2 + body, N)
+        if call == "decode_exact":
+            yield _text_failure(call, INVALID_LENGTH, body, N * 2 + body, N + OVER + 1)
+
+
+def _text_failure(call, kind, body, length, size):
+    arguments = [Pointer("text", 0), length]
+    arguments += {"check": [], "decode_exact": [Pointer("bytes", 0), size]}.get(
+        call, [Pointer("bytes", 0), size, Pointer("written", 0)])
+
+    def regions():
+        buffers = [Region("bytes", size, True), Region("written", 8, True, 8), Region("error", 16, True, 8)]
+        return [Region("text", length), *buffers]
+
+    def judge(code, end):
+        require(not answer_of(code, end), "it succeeds")
+        unchanged(end, "bytes")
+        require_error(end, kind)
+        if call == "decode":
+            require_value(end, "written", 0, constants(0, 8))
+
+    def assume(state):
+        if body is not None:
+            assume_prefix(state, body)
+
+    return Case(f"kind {kind}: a text of {length} for {size} bytes", [*arguments, Pointer("error", 0)], regions, judge, assume)
+
+
+# Decoders
+
+
+def _updates():
+    """The states of a decoder, and whether the chunk has a prefix or its second half."""
+    yield DecoderUpdate("at the start, without a prefix", 0, 0, 0)
+    yield DecoderUpdate("at the start, with a prefix", 0, 0, 2)
+    yield DecoderUpdate("after 1 character, with the rest of a prefix", 1, 0, 1, True)
+    yield DecoderUpdate("after 1 character, without a prefix", 1, 1, 0, False)
+    yield DecoderUpdate("after 2 or more characters", BEFORE + 2, 0, 0)
+    yield DecoderUpdate("after 2 or more characters, the last of which waits", BEFORE + 2, 1, 0)
+
+
+BEYOND_WAITING = kept(bytes(value > 1 for value in range(256)))
+
+
+def _decoder(index, state):
+    """A decoder with this position and state; its other bytes may be anything."""
+    bytes_ = [unknown("decoder", at) for at in range(16)]
+    index = bytes_[:8] if index is None else as_lane(as_value(index))
+    return (*index, bytes_[8], bytes_[9] if state is None else CONSTANTS[state], *bytes_[10:])
+
+
+def _assume_failed(state):
+    state.path.sets[variable("decoder", 9)] = BEYOND_WAITING
+
+
+def _require_failed(end):
+    """The error of an earlier chunk, again."""
+    content = end.memory.regions["decoder"].content
+    require_value(end, "error", 0, constants(INVALID_CHARACTER, 4) + (content[8], ZERO, ZERO, ZERO) + content[:8])
+
+
+def _update_failures():
+    yield _update_failure("after an error", _decoder(None, None), N, OVER, None, _assume_failed)
+    for form in _updates():
+        content = _decoder(form.index, int(form.waits or form.index == 1))
+
+        def assume(state, form=form):
+            form.assume(state)
+
+        # So many digits with the one that waits: 2n + 2k + 2, or one more, for n bytes.
+        for odd in (0, 1):
+            length = (N + K + 1) * 2 + odd + form.digits - form.waits
+            yield _update_failure(form.name, content, length, N, INVALID_LENGTH, assume)
+
+
+def _update_failure(name, content, length, size, kind, assume):
+    arguments = [Pointer("decoder", 0), Pointer("text", 0), length, Pointer("bytes", 0), size, Pointer("written", 0)]
+
+    def regions():
+        decoder = Region("decoder", 16, True, 8, content)
+        buffers = [Region("bytes", size, True), Region("written", 8, True, 8), Region("error", 16, True, 8)]
+        return [decoder, Region("text", length), *buffers]
+
+    def judge(code, end):
+        require(not answer_of(code, end), "it succeeds")
+        unchanged(end, "decoder", "bytes")
+        require_value(end, "written", 0, constants(0, 8))
+        require_error(end, kind) if kind else _require_failed(end)
+
+    return Case(f"{name}: a chunk of {length} for {size} bytes", [*arguments, Pointer("error", 0)], regions, judge, assume)
+
+
+def _finishes():
+    for state, name in ((0, "no digit waits"), (1, "a digit waits"), (None, "after an error")):
+
+        def regions(state=state):
+            return [Region("decoder", 16, False, 8, _decoder(None, state)), Region("error", 16, True, 8)]
+
+        def judge(code, end, state=state):
+            require(answer_of(code, end) == (state == 0), "the result is another")
+            if state == 0:
+                unchanged(end, "error")
+            elif state == 1:
+                require_error(end, ODD_LENGTH)
+            else:
+                _require_failed(end)
+
+        assume = _assume_failed if state is None else None
+        yield Case(name, [Pointer("decoder", 0), Pointer("error", 0)], regions, judge, assume)
+
+
+def _version():
+    wanted = int(re.search(r"#define CONST_HEX_VERSION (\d+)", HEADER.read_text())[1])
+
+    def judge(code, end):
+        require(is_same(end.path, code.front_end.result(end, 4), constants(wanted, 4)), f"the version is not {wanted}")
+
+    yield Case(f"version {wanted}", [], list, judge)
+
+
+class Call:
+    """Its forms for each length, by rounds of `size` bytes, its other cases, and whether each length is possible."""
+
+    def __init__(self, forms, cases, size=0, step=1, has_nonnull=False):
+        self.forms, self.cases, self.size, self.step = list(forms), list(cases), size, step
+        self.suffix = "_nonnull" if has_nonnull else ""
+
+    def parts(self):
+        """What is proved alone: the cases, the short lengths, and the classes of all others."""
+        yield from (("case", at) for at in range(len(self.cases)))
+        for at, form in enumerate(self.forms):
+            lengths = range(0, 2 * self.size + 2, self.step)
+            yield from (("length" if length < self.size + 2 else "class", at, length) for length in lengths)
+
+    def prove(self, code, function, part):
+        """Gives how many states were judged."""
+        kind, at, *rest = part
+        if kind == "case":
+            return self.cases[at].prove(code, function)
+        form = self.forms[at]
+        if kind == "length":
+            return prove_length(code, function, form, rest[0] + form.body)
+        return prove_class(code, function, form, self.size, rest[0] + form.body)
+
+    def name_of(self, part):
+        kind, at, *rest = part
+        if kind == "case":
+            return self.cases[at].name
+        length = rest[0] + self.forms[at].body
+        lengths = f"length {length}" if kind == "length" else f"lengths {length} + {self.size} * n"
+        return f"{self.forms[at].name}, {lengths}"
+
+
+CALLS = {
+    "encoded_size": Call([], _encoded_size_cases()),
+    "encode": Call([Encode(flags) for flags in range(8)], _encode_failures(), 128),
+    "decode": Call([Decode(0), Decode(2)], _text_failures("decode"), 128, 2, True),
+    "decode_exact": Call([DecodeExact(0), DecodeExact(2)], _text_failures("decode_exact"), 128, 2, True),
+    "decoder_update": Call(_updates(), _update_failures(), 128, 1, True),
+    "decoder_finish": Call([], _finishes(), has_nonnull=True),
+    "check": Call([Check(0), Check(2)], _text_failures("check"), 128, 2, True),
+    "check_raw": Call([CheckRaw()], [], 128),
+    "version": Call([], _version()),
+}

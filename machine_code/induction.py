@@ -1,0 +1,345 @@
+"""The induction over the rounds of loops. README.md has the argument.
+
+The state at the head of a loop after `done` rounds, with `left` rounds to go, is guessed from the first visit and one
+a round later, and made weaker until it is right: until each arrival at the head, with none done, and each round from
+it, with one more done, leads to it again. What is proved is the last pass of that, in `_generalised`.
+"""
+
+import collections
+import itertools
+
+from contracts import cases_of_answer
+from digits import IS_DIGIT
+from exploration import RETURNED, outcomes, require, require_one_path
+from linear import Linear, in_terms_of, symbol
+from memory import Pointer, as_lane, as_value, is_whole, with_replaced
+from values import TooWide, WholeByte, kept, parts_of, unknown, variable
+
+DONE, LEFT = symbol("done"), symbol("left")
+IS_NO_DIGIT = kept(bytes(not allowed for allowed in IS_DIGIT))
+
+
+class Head:
+    """The head of a loop, which reads `size` bytes of the input in so many visits. A search writes no output."""
+
+    def __init__(self, at, visits, size, is_search):
+        self.at, self.visits, self.size, self.is_search = at, visits, size, is_search
+
+
+# Where the loops are. This is only guessed: a wrong list is refused.
+
+
+def _visits(code, state):
+    """How often each place is jumped back to, on the one path of a state."""
+    found = collections.Counter()
+    while state.at is not RETURNED:
+        before = state.at
+        code.step(state)
+        if state.at is not RETURNED and state.at <= before and code.front_end.is_jump(code.at(before)):
+            if code.object.section_at(before) is code.object.section_at(state.at):
+                found[state.at] += 1
+    return found
+
+
+def heads_of(code, function, form, size):
+    """The loops that turn more often if the input is `size` bytes longer: on valid inputs, and on texts whose last
+    character is invalid."""
+    heads = {}
+    for last in (IS_DIGIT,) if form.input == "bytes" else (IS_DIGIT, IS_NO_DIGIT):
+        found = []
+        for length in (4 * size + form.body, 5 * size + form.body):
+            state = form.start(code, function, length).replaced("more", 0)
+            if form.input == "text":
+                known = {variable("text", at): IS_DIGIT for at in range(form.digits, length)}
+                state.path.know(known | {variable("text", length - 1): last})
+            found.append(_visits(code, state))
+        few, many = found
+        for at in many:
+            if many[at] > few[at] and at not in heads:
+                more, is_search = many[at] - few[at], last is IS_NO_DIGIT
+                require(size % more == 0 or not is_search, "a search that takes several bytes at once")
+                heads[at] = Head(at, 1, size // more, True) if is_search else Head(at, more, size, False)
+    return heads
+
+
+# The state at a head, for any number of rounds
+
+
+def _forgotten(name, size):
+    """Any value at all. If it is used, it is an unknown one."""
+    return tuple([unknown("forgotten", name, at) for at in range(size)])
+
+
+def _is_forgotten(value, name):
+    return type(value) is tuple and value == _forgotten(name, len(value))
+
+
+def _size_of(value):
+    return 8 if is_whole(value) else len(value)
+
+
+def _depends_on_round(lane):
+    """Whether a lane depends on a byte whose place has symbols, or on what was forgotten elsewhere."""
+    for byte in lane:
+        for name in map(parts_of, byte.support):
+            if name[0] == "forgotten" or any(type(part) is Linear for part in name):
+                return True
+    return False
+
+
+def _by_length(value, old, new):
+    """A value of a state that arrives at a head, by the new form of the length; or None if it has none."""
+    if type(value) is Pointer:
+        offset = in_terms_of(value.offset, old, new)
+        return None if offset is None else Pointer(value.region, offset)
+    if type(value) is Linear:
+        number = in_terms_of(value, old, new)
+        return None if number is None else as_value(number)
+    try:
+        return None if _depends_on_round(value) else value
+    except TooWide:
+        return None
+
+
+def _byte_by_length(byte, old, new):
+    if type(byte) is WholeByte:
+        whole = _by_length(byte.whole, old, new)
+        return None if whole is None else as_lane(whole)[byte.index]
+    return None if _depends_on_round((byte,)) else byte
+
+
+def _kept_cells(state, form):
+    """The cells that a state at a head may have: of the stack, and none of what is written for the caller."""
+    for name, at in state.memory.cells:
+        require(name == "stack", f"{name}[{at}] is written before the first round")
+    return state.memory.written("stack")
+
+
+def arrived(form, state, head, rest):
+    """A state that arrives at a head for the first time, with `left` rounds to go."""
+    form.set_aside(state)
+    if head.is_search:
+        form.before_search(state)
+        require(state.ghost.get("bad") or form.has_bad(state), "a search for an invalid character that may not be there")
+        for at in state.memory.written(form.output) if form.output else ():
+            state.memory.forget(form.output, at)
+    cells = _kept_cells(state, form)
+    read = form.digits if head.is_search else form.body
+    require(head.is_search or state.ghost["read"] == read, "bytes are read before the first round")
+    old, new = state.ghost["length"], LEFT * head.size + (read if head.is_search else rest)
+    other = state.copy()
+    other.steps, other.flags, other.trail, other.leaks = 0, None, (), ()
+    for name, value in state.registers.items():
+        value = _by_length(value, old, new)
+        other.registers[name] = _forgotten(name, _size_of(state.registers[name])) if value is None else value
+    for at, byte in cells.items():
+        byte = _byte_by_length(byte, old, new)
+        other.memory.cells["stack", at] = unknown("forgotten", "stack", at) if byte is None else byte
+    for name, region in state.memory.regions.items():
+        if head.is_search and name == form.output:
+            # It is done with: each access is refused.
+            other.memory.with_region(name, first=1, size=0)
+        elif name != "image":
+            size = in_terms_of(region.size, old, new)
+            require(size is not None, f"the size of {name} at the head")
+            other.memory.with_region(name, size=size)
+    other.ghost = {**state.ghost, "length": new, "read": read, "written": len(form.begin), "left": LEFT}
+    other.ghost |= {"bad": head.is_search, "begun": True}
+    return other
+
+
+def _generalised_value(first, second, name):
+    """The value of a register after `done` rounds, from those at the first visit and a round later."""
+    everywhere, moved = with_replaced(first, "left", DONE + LEFT), with_replaced(first, "left", LEFT + 1)
+    if moved == second or _is_forgotten(first, name):
+        return everywhere
+    if type(moved) is Pointer and type(second) is Pointer and moved.region == second.region:
+        change = second.offset - moved.offset
+        if type(change) is int:
+            return Pointer(moved.region, everywhere.offset + DONE * change)
+    numbers = [_number_of(value) for value in (moved, second, everywhere)]
+    if None not in numbers:
+        change = numbers[1] - numbers[0]
+        if type(change) is int:
+            return as_value(numbers[2] + DONE * change)
+    return _forgotten(name, _size_of(first))
+
+
+def _number_of(value):
+    """The number of a register, or None."""
+    if type(value) is Linear:
+        return value
+    if type(value) is tuple and len(value) == 8 and all(byte.is_constant for byte in value):
+        return int.from_bytes(bytes([byte.value for byte in value]), "little", signed=True)
+    return None
+
+
+class Loop:
+    """The proof of one loop, for a form and the class of lengths with one rest."""
+
+    def __init__(self, code, form, begin, head, heads, rest):
+        self.code, self.form, self.begin, self.head, self.heads = code, form, begin, head, heads
+        self.rest = form.digits if head.is_search else rest
+
+    def length(self, rounds):
+        return rounds * self.head.size + self.rest
+
+    def around(self, state):
+        """A round from the head: the states that are back at it, those at other heads, and those that returned."""
+        back, others, ends = [], [], []
+        waiting = [(state, self.head.visits)]
+        while waiting:
+            now, visits = waiting.pop()
+            for other in outcomes(self.code, now, self.heads):
+                if other.at is RETURNED:
+                    ends.append(other)
+                elif other.at != self.head.at:
+                    others.append(other)
+                elif visits == 1:
+                    other.ghost = {**other.ghost, "left": other.ghost["left"] - 1}
+                    back.append(other)
+                else:
+                    waiting.append((other, visits - 1))
+        return back, others, ends
+
+    def general(self, first, second):
+        """A guess of the state after `done` rounds, from the first visit and one a round later."""
+        state = first.replaced("left", DONE + LEFT)
+        for name, value in first.registers.items():
+            state.registers[name] = _generalised_value(value, second.registers[name], name)
+        done = self.head.size // self.form.unit * self.form.per_unit
+        read = first.ghost["read"] + DONE * self.head.size
+        written = len(self.form.begin) + DONE * done
+        state.ghost = {**first.ghost, "length": self.length(DONE + LEFT), "left": LEFT, "read": read, "written": written}
+        state.path = self.begin.path.copy()
+        if self.form.input == "text":
+            state.path.runs = (("text", first.ghost["read"], read, IS_DIGIT),)
+        if self.form.output and not self.head.is_search:
+            state.memory.with_region(self.form.output, first=written)
+        return state
+
+    def differences(self, general, state, done):
+        """The registers and cells in which a state at the head is no instance of the general one."""
+        wanted = general.replaced("done", done).replaced("left", state.ghost["left"])
+        for name, value in wanted.registers.items():
+            if not _is_forgotten(value, name) and state.registers[name] != value:
+                yield name
+        ours, theirs = wanted.memory.written("stack"), state.memory.written("stack")
+        for at in {*ours, *theirs}:
+            if ours.get(at) is not unknown("forgotten", "stack", at) and ours.get(at) != theirs.get(at):
+                yield at
+        for name, region in wanted.memory.regions.items():
+            require(region.size == state.memory.regions[name].size, f"the size of {name} at the head")
+        for name in ("length", "bad", "ended"):
+            require(wanted.ghost.get(name) == state.ghost.get(name), f"{name} at the head")
+
+    def forget(self, state, names):
+        for name in names:
+            if type(name) is int:
+                state.memory.store(Pointer("stack", name), (unknown("forgotten", "stack", name),))
+            else:
+                state.registers[name] = _forgotten(name, _size_of(state.registers[name]))
+
+    def guess(self, arrivals):
+        first = arrivals[0].copy()
+        for other in arrivals[1:]:
+            self.forget(first, list(self.differences(first, other, 0)))
+        once = first.replaced("left", LEFT + 1)
+        once.path = self.begin.path.copy()
+        if self.form.input == "text" and not self.head.is_search:
+            # The path of a valid text is enough here.
+            once.path.runs = (("text", self.form.digits, once.ghost["length"], IS_DIGIT),)
+        back, _, _ = self.around(once)
+        require(back, "no way back to the head of a loop")
+        second = back[0].replaced("left", LEFT + (LEFT - back[0].ghost["left"]))
+        return self.general(first, second)
+
+    def prove(self, arrivals):
+        """Proves the rounds, and gives the states at other heads, and those that returned, by what was left."""
+        general = self.guess(arrivals)
+        while True:
+            wrong = set(itertools.chain(*(self.differences(general, other, 0) for other in arrivals)))
+            back, others, ends = self.around(general.replaced("left", LEFT + 1))
+            wrong |= set(itertools.chain(*(self.differences(general, other, DONE + 1) for other in back)))
+            if not wrong:
+                break
+            self.forget(general, wrong)
+        for other in back:
+            self.form.after_round(other, self.head.size)
+        if not self.head.is_search:
+            require_one_path([*back, *self.accepted(ends)])
+            return self.last_rounds(general, others, ends)
+        require(not self.accepted(ends), "a text with an invalid character is accepted")
+        return others, ends
+
+    def last_rounds(self, general, others, ends):
+        """What comes after the last round. The rest of the input has a known length there."""
+        for last in general.replaced("left", 0).possible():
+            last_heads = {at: head for at, head in self.heads.items() if head.is_search}
+            last_states = list(outcomes(self.code, last, last_heads))
+            last_ends = [state for state in last_states if state.at is RETURNED]
+            require_one_path(self.accepted(last_ends))
+            others, ends = others + [state for state in last_states if state.at is not RETURNED], ends + last_ends
+        return others, ends
+
+    def accepted(self, ends):
+        return [state for end in ends for state in judged(self.code, self.form, end)]
+
+
+def judged(code, form, end):
+    """Compares a state that has returned with the contract. Gives the states that accept their input."""
+    code.front_end.has_returned(end)
+    for state in cases_of_answer(code, end):
+        form.set_aside(state)
+        if form.ends(code, state):
+            yield state
+
+
+def prove_class(code, function, form, size, rest):
+    """Proves a form for all lengths that leave this rest by rounds of `size` bytes. Gives how many states are judged."""
+    begin = form.start(code, function, LEFT * size + rest)
+    begin.ghost["left"] = LEFT
+    heads = heads_of(code, function, form, size)
+    arrivals, judged_states = collections.defaultdict(list), 0
+    for state in outcomes(code, begin.copy(), heads):
+        require(state.at is not RETURNED, "it returns before the first round")
+        arrivals[state.at].append(state)
+    loops = [head for head in heads.values() if not head.is_search]
+    require_one_path([state for head in loops for state in arrivals[head.at]])
+    for at, states in arrivals.items():
+        arrivals[at] = [arrived(form, state, heads[at], rest) for state in states]
+    for head in [*loops, *(head for head in heads.values() if head.is_search)]:
+        if arrivals[head.at]:
+            others, ends = Loop(code, form, begin, head, heads, rest).prove(arrivals[head.at])
+            for state in others:
+                require(heads[state.at].is_search and not head.is_search, "a loop after a loop")
+                arrivals[state.at].append(arrived(form, state, heads[state.at], rest))
+            judged_states += len(others) + len(ends)
+    return judged_states
+
+
+def prove_length(code, function, form, length):
+    """Proves a form for one length. Gives how many states are judged."""
+    judged_states = 0
+    for begin in with_nulls(code, form.start(code, function, length)):
+        ends = list(outcomes(code, begin))
+        require_one_path([state for end in ends for state in judged(code, form, end)])
+        judged_states += len(ends)
+    return judged_states
+
+
+def with_nulls(code, state):
+    """The state, and those with a null pointer for a buffer that is empty."""
+    states = [state]
+    for name in code.front_end.pointers(state):
+        for other in list(states):
+            size = other.memory.regions[other.registers[name].region].size
+            if type(size) is Linear and size.constant == 0:
+                for symbol_name, _ in size.terms:
+                    other = other.replaced(symbol_name, 0)
+                size = 0
+            if type(size) is int and size == 0:
+                other = other.copy()
+                other.registers[name] = as_value(0)
+                states.append(other)
+    return states

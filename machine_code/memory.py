@@ -1,0 +1,210 @@
+"""Memory as regions that lie apart, each at an unknown base, and pointers into them.
+
+Nothing is known of a base but its alignment, and that no region lies at or across address 0. So what is proved holds
+wherever the caller's memory lies. An access outside the region of its pointer is an error, as is a write to a region
+that may only be read.
+"""
+
+import copy
+from collections import namedtuple
+
+from linear import Linear, Unknown, constant_of, is_surely_below, linear, replaced, terms_of
+from values import CONSTANTS, WholeByte, constants, unknown
+
+Pointer = namedtuple("Pointer", "region offset")
+
+
+class Fault(Exception):
+    """The code does what it may not do, or what cannot be followed here."""
+
+
+def is_whole(value):
+    """Whether a value of 8 bytes is a pointer or a number with symbols, and so no lane."""
+    return type(value) is Pointer or type(value) is Linear
+
+
+def as_value(number):
+    """The value of a register that holds a number, modulo 2**64."""
+    return number if type(number) is Linear else constants(number, 8)
+
+
+def as_lane(value):
+    """The bytes of a value. Those of a pointer or of a number with symbols can only be moved."""
+    return tuple([WholeByte(value, index) for index in range(8)]) if is_whole(value) else value
+
+
+def from_lane(lane):
+    """The value of these bytes: a whole one if they are all of its bytes in their order."""
+    whole = lane[0].whole if len(lane) == 8 and type(lane[0]) is WholeByte else None
+    return whole if whole is not None and lane == as_lane(whole) else lane
+
+
+def with_replaced(value, name, by):
+    """A value with something else in the place of a symbol."""
+    if type(value) is Pointer:
+        return Pointer(value.region, replaced(value.offset, name, by))
+    if type(value) is Linear:
+        return as_value(replaced(value, name, by))
+    if type(value) is tuple and any(type(byte) is WholeByte for byte in value):
+        return tuple([byte_replaced(byte, name, by) for byte in value])
+    return value
+
+
+def byte_replaced(byte, name, by):
+    return as_lane(with_replaced(byte.whole, name, by))[byte.index] if type(byte) is WholeByte else byte
+
+
+def shown(pointer):
+    return f"{pointer.region}[{pointer.offset}]"
+
+
+class Region:
+    """So many bytes that may be read, and written if `is_writable`. What is before `first` may not be used.
+
+    `content` is what the bytes are at the start, if something is known of them.
+    """
+
+    def __init__(self, name, size, is_writable=False, alignment=1, content=None):
+        self.name = name
+        self.first = 0
+        self.size = size
+        self.is_writable = is_writable
+        self.alignment = alignment
+        self.content = content
+
+    def contains(self, offset, size):
+        return self.first <= offset and offset + size <= self.size
+
+    def may_write(self, offset):
+        return self.is_writable
+
+    def replaced(self, name, by):
+        other = copy.copy(self)
+        other.first = replaced(self.first, name, by)
+        other.size = replaced(self.size, name, by)
+        other.content = with_replaced(self.content, name, by)
+        return other
+
+    def old(self, offset):
+        """The byte at the start: its own unknown. A name may contain `done` alone, and so means one byte for good."""
+        if self.content:
+            return self.content[offset]
+        if any(name != "done" for name, _ in terms_of(offset)):
+            raise Fault(f"{self.name}[{offset}] is counted from a place that is still unknown")
+        return unknown(self.name, offset)
+
+    def is_aligned(self, offset, size):
+        return self.alignment % size == 0 and type(offset) is int and offset % size == 0
+
+
+class Image(Region):
+    """The object itself: its constants, in sections that lie apart, and bytes that it may write."""
+
+    def __init__(self, obj):
+        super().__init__("image", 0)
+        self.object = obj
+
+    def contains(self, offset, size):
+        section = self._section_at(offset)
+        return section is not None and not section.is_code and offset + size <= section.end
+
+    def may_write(self, offset):
+        return self._section_at(offset).is_writable
+
+    def old(self, offset):
+        section = self._section_at(offset)
+        if section.is_writable:
+            return unknown("image", offset)
+        return CONSTANTS[section.content[offset - section.address]]
+
+    def is_aligned(self, offset, size):
+        return self._section_at(offset).alignment % size == 0 and offset % size == 0
+
+    def _section_at(self, offset):
+        if type(offset) is not int:
+            raise Fault(f"image[{offset}] is at an unknown place")
+        return self.object.section_at(offset)
+
+
+class Memory:
+    """The regions, and the cells that were written since the start.
+
+    Two offsets into a region that is written differ by a known number, or surely do not meet. `spans` has the least
+    and the greatest constant of what is written, by the region and the unknown part of the offset.
+    """
+
+    def __init__(self, regions):
+        self.regions = {region.name: region for region in regions}
+        self.cells = {}
+        self.spans = {}
+
+    def copy(self):
+        other = Memory(())
+        other.regions, other.cells, other.spans = self.regions, self.cells.copy(), self.spans.copy()
+        return other
+
+    def replaced(self, name, by):
+        other = Memory([region.replaced(name, by) for region in self.regions.values()])
+        for (region, offset), byte in self.cells.items():
+            other._put(region, replaced(offset, name, by), byte_replaced(byte, name, by))
+        return other
+
+    def _put(self, region, offset, byte):
+        key, at = (region, terms_of(offset)), constant_of(offset)
+        least, most = self.spans.get(key, (at, at))
+        self.spans[key] = (min(least, at), max(most, at))
+        self.cells[region, offset] = byte
+
+    def _keep_apart(self, name, offset, size):
+        """An access may meet what was written only if their distance is known."""
+        for (region, terms), (least, most) in self.spans.items():
+            if region == name and terms != terms_of(offset):
+                is_after = is_surely_below(linear(most, terms), offset)
+                if not is_after and not is_surely_below(offset + (size - 1), linear(least, terms)):
+                    raise Fault(f"{name}[{offset}] may be a byte that is written elsewhere")
+
+    def region_of(self, pointer, size, what, alignment=1):
+        region = self.regions.get(pointer.region)
+        try:
+            if region is None or not region.contains(pointer.offset, size):
+                raise Fault(f"{what} of {size} bytes outside its region: {shown(pointer)}")
+        except Unknown as sign:
+            raise Fault(f"{what} of {size} bytes perhaps outside its region: {shown(pointer)}: {sign}")
+        if alignment > 1 and not region.is_aligned(pointer.offset, alignment):
+            raise Fault(f"{what} needs alignment {alignment}: {shown(pointer)}")
+        self._keep_apart(region.name, pointer.offset, size)
+        return region
+
+    def at(self, region, offset):
+        cell = self.cells.get((region.name, offset))
+        return region.old(offset) if cell is None else cell
+
+    def load(self, pointer, size, alignment=1):
+        region = self.region_of(pointer, size, "read", alignment)
+        return from_lane(tuple([self.at(region, pointer.offset + at) for at in range(size)]))
+
+    def store(self, pointer, value, alignment=1):
+        lane = as_lane(value)
+        region = self.region_of(pointer, len(lane), "write", alignment)
+        if not region.may_write(pointer.offset):
+            raise Fault(f"write to {shown(pointer)}")
+        for at, byte in enumerate(lane):
+            self._put(region.name, pointer.offset + at, byte)
+
+    def written(self, name):
+        """The cells of a region that were written, by their offsets."""
+        return {offset: byte for (region, offset), byte in self.cells.items() if region == name}
+
+    def with_region(self, name, **changes):
+        """Changes what may be used of a region."""
+        region = copy.copy(self.regions[name])
+        region.__dict__ |= changes
+        self.regions = {**self.regions, name: region}
+
+    def forget(self, name, offset):
+        """Takes a cell out. The byte there may not be used any more, which the caller has to see to."""
+        del self.cells[name, offset]
+        offsets = [other for other in self.written(name) if terms_of(other) == terms_of(offset)]
+        del self.spans[name, terms_of(offset)]
+        for other in offsets:
+            self._put(name, other, self.cells[name, other])

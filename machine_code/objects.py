@@ -1,0 +1,109 @@
+"""An object file as it lies in memory: its sections at fixed places, with relocations applied.
+
+This stands for the linker. Sections lie apart, so an access beyond one is seen. Addresses count from an unknown base
+(see memory.py), so nothing that is proved depends on where the object is loaded. A symbol that the object does not
+define gets a place of its own where nothing lies.
+"""
+
+import struct
+import subprocess
+
+FIRST = 0x10000
+GAP = 0x1000
+WRITABLE, ALLOCATED, EXECUTABLE = 1, 2, 4
+RELATIVE = (2, 4)  # R_X86_64_PC32 and R_X86_64_PLT32
+
+
+class Section:
+    def __init__(self, name, flags, address, alignment, content):
+        self.name = name
+        self.is_code = bool(flags & EXECUTABLE)
+        self.is_writable = bool(flags & WRITABLE)
+        self.address = address
+        self.alignment = alignment
+        self.content = content
+        # The bytes as they stand in the file, and where they refer to: offset, kind, and address.
+        self.bytes = bytes(content)
+        self.references = []
+
+    @property
+    def end(self):
+        return self.address + len(self.content)
+
+
+class Object:
+    """The sections, the address of each symbol that is defined, and the name at each place of one that is not."""
+
+    def __init__(self, sections, symbols, undefined):
+        self.sections = sections
+        self.symbols = symbols
+        self.undefined = undefined
+
+    def section_at(self, address):
+        for section in self.sections:
+            if section.address <= address < section.end:
+                return section
+        return None
+
+    def name_at(self, address):
+        """Where an address is, for messages."""
+        if type(address) is not int:
+            return address
+        section = self.section_at(address)
+        if section is None:
+            return self.undefined.get(address, hex(address))
+        starts = {value: name for name, value in self.symbols.items() if section.address <= value <= address}
+        start = max(starts, default=section.address)
+        return f"{starts.get(start, section.name)}+{address - start:#x}"
+
+
+def member(archive, name):
+    """The bytes of one object of an archive."""
+    return subprocess.run(["ar", "p", archive, name], check=True, capture_output=True).stdout
+
+
+def read(data):
+    """The object with these bytes."""
+    if data[:6] != b"\x7fELF\x02\x01" or data[18:20] != b"\x3e\0":
+        raise ValueError("not an ELF object for x86-64")
+    start, size, count, names = struct.unpack_from("<Q", data, 40)[0], *struct.unpack_from("<HHH", data, 58)
+    headers = [struct.unpack_from("<IIQQQQIIQQ", data, start + at * size) for at in range(count)]
+
+    def content(header):
+        return data[header[4] : header[4] + header[5]] if header[1] != 8 else bytes(header[5])
+
+    strings = content(headers[names])
+    placed, address = {}, FIRST
+    for at, header in enumerate(headers):
+        if header[2] & ALLOCATED and header[5]:
+            address += -address % max(header[8], 64)
+            name = _text(strings, header[0])
+            placed[at] = Section(name, header[2], address, header[8], bytearray(content(header)))
+            address = placed[at].end + GAP
+    symbols, undefined, addresses = {}, {}, []
+    for header in (header for header in headers if header[1] == 2):
+        for name, _, _, index, value, _ in struct.iter_unpack("<IBBHQQ", content(header)):
+            name = _text(content(headers[header[6]]), name)
+            if index in placed:
+                addresses.append(placed[index].address + value)
+                symbols |= {name: addresses[-1]} if name else {}
+            else:
+                address += GAP
+                addresses.append(address)
+                undefined[address] = name
+    for header in (header for header in headers if header[1] == 4 and header[7] in placed):
+        for offset, info, addend in struct.iter_unpack("<QQq", content(header)):
+            _relocate(placed[header[7]], offset, info & 0xFFFFFFFF, addresses[info >> 32] + addend)
+    return Object(list(placed.values()), symbols, undefined)
+
+
+def _text(strings, at):
+    return strings[at : strings.index(b"\0", at)].decode()
+
+
+def _relocate(section, offset, kind, value):
+    if kind not in RELATIVE:
+        raise ValueError(f"relocation of kind {kind} in {section.name}")
+    section.references.append((offset, kind, value))
+    word = value - (section.address + offset)
+    struct.pack_into("<I", section.content, offset, word & 0xFFFFFFFF)

@@ -1,0 +1,48 @@
+"""The sums of the code that `prove --all` has proved, in proved.txt. Code with another sum is not shown to be right.
+
+The sum of a function is over the sections that it reaches by relocations: their bytes, and what they refer to.
+"""
+
+import hashlib
+import pathlib
+import struct
+
+FILE = pathlib.Path(__file__).resolve().parent / "proved.txt"
+
+
+def sum_of(obj, function):
+    """It does not depend on where the sections lie, nor on their names."""
+    start = obj.symbols[function]
+    found = [obj.section_at(start)]
+    total = hashlib.sha256(struct.pack("<Q", start - found[0].address))
+    for section in found:
+        total.update(struct.pack("<QQ", len(section.bytes), section.alignment) + section.bytes)
+        for offset, kind, address in section.references:
+            # A reference to the end of a section, less some bytes, is to that section.
+            target = obj.section_at(address) or obj.section_at(address + 8)
+            if target and target not in found:
+                found.append(target)
+            place = f"{found.index(target)}" if target else obj.name_at(address)
+            total.update(f"{offset} {kind} {place} {address - target.address if target else 0}\n".encode())
+    return total.hexdigest()
+
+
+def recorded():
+    lines = FILE.read_text().splitlines() if FILE.exists() else []
+    return {tuple(line.split()[:2]): line.split()[2] for line in lines if line and not line.startswith("#")}
+
+
+def write(rows):
+    """Adds rows (call, build, sum) to what was proved before."""
+    found = recorded() | {(call, build): total for call, build, total in rows}
+    lines = [f"{call} {build} {total}" for (call, build), total in sorted(found.items())]
+    head = ["# The code that `prove --all` has proved, by call and build: the sums of what it reaches (sums.py)."]
+    FILE.write_text("\n".join(head + lines) + "\n")
+
+
+def differences(rows):
+    """What is not shown for code with these sums, in words."""
+    known = recorded()
+    for call, build, total in rows:
+        if known.get((call, build)) != total:
+            yield f"{call}, {build}: this code is not the one that `prove --all` has proved at every length"

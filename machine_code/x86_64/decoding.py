@@ -1,0 +1,95 @@
+"""The instructions of a section, as `objdump` reads them."""
+
+import re
+import subprocess
+import tempfile
+from collections import namedtuple
+
+Instruction = namedtuple("Instruction", "address size mnemonic operands text content")
+Register = namedtuple("Register", "family first size")
+Memory = namedtuple("Memory", "base index scale displacement size")
+# An immediate is a number.
+
+SIZES = {"BYTE": 1, "WORD": 2, "DWORD": 4, "QWORD": 8, "XMMWORD": 16, "YMMWORD": 32}
+LINE = re.compile(r"^\s*([0-9a-f]+):\t((?:[0-9a-f]{2} )+)\s*(?:\t(.*))?$")
+PREFIXES = ("cs ", "ds ", "data16 ", "notrack ", "bnd ")
+
+
+def _registers():
+    names = {"rip": Register("rip", 0, 8)}
+    for wide in ("rax", "rcx", "rdx", "rbx", "rsp", "rbp", "rsi", "rdi"):
+        short = wide[1:]
+        names |= {wide: Register(wide, 0, 8), "e" + short: Register(wide, 0, 4), short: Register(wide, 0, 2)}
+        names[short + "l" if short[1] in "pi" else short[0] + "l"] = Register(wide, 0, 1)
+    for letter in "abcd":
+        names[letter + "h"] = Register(f"r{letter}x", 1, 1)
+    for at in range(8, 16):
+        for end, size in (("", 8), ("d", 4), ("w", 2), ("b", 1)):
+            names[f"r{at}{end}"] = Register(f"r{at}", 0, size)
+    for at in range(16):
+        names |= {f"xmm{at}": Register(f"v{at}", 0, 16), f"ymm{at}": Register(f"v{at}", 0, 32)}
+    return names
+
+
+REGISTERS = _registers()
+
+
+def _operand(text):
+    text = text.strip()
+    if text in REGISTERS:
+        return REGISTERS[text]
+    found = re.fullmatch(r"(?:(\w+) PTR )?(?:[cd]s:)?\[(.*)\]", text)
+    if found:
+        return _memory(found[2], SIZES.get(found[1]))
+    return int(text, 16)
+
+
+def _memory(text, size):
+    base = index = None
+    scale, displacement = 1, 0
+    for part in re.findall(r"[+-]?[^+-]+", text):
+        word = part.lstrip("+")
+        if "*" in word:
+            name, factor = word.split("*")
+            # Without an index it is written as riz.
+            index, scale = None if name == "riz" else REGISTERS[name], int(factor)
+        elif word in REGISTERS:
+            base = REGISTERS[word]
+        else:
+            displacement += int(word, 16)
+    if any(register and register.size != 8 for register in (base, index)):
+        raise ValueError("an address of 32 bits")
+    return Memory(base, index, scale, displacement - (1 << 64) if displacement >= 1 << 63 else displacement, size)
+
+
+def _instruction(address, content, text):
+    text = text.split("#")[0].split("<")[0].strip()
+    bare = text
+    while bare.startswith(PREFIXES):
+        bare = bare.split(" ", 1)[1].strip()
+    mnemonic, _, rest = bare.partition(" ")
+    if mnemonic.startswith("nop") or bare.split() == ["xchg", "ax,ax"]:
+        return Instruction(address, len(content), "nop", (), text, content)
+    operands = tuple([_operand(part) for part in rest.split(",")]) if rest.strip() else ()
+    return Instruction(address, len(content), mnemonic, operands, text, content)
+
+
+def instructions(section):
+    """The instructions of a section, by address."""
+    with tempfile.NamedTemporaryFile() as file:
+        file.write(section.content)
+        file.flush()
+        command = ["objdump", "-D", "-b", "binary", "-m", "i386:x86-64", "-M", "intel", "-w"]
+        command += [f"--adjust-vma={section.address:#x}", file.name]
+        listing = subprocess.run(command, check=True, capture_output=True, text=True).stdout
+    found = {}
+    for line in listing.splitlines():
+        match = LINE.match(line)
+        if match and match[3]:
+            address, content = int(match[1], 16), bytes.fromhex(match[2])
+            try:
+                found[address] = _instruction(address, content, match[3])
+            except (ValueError, KeyError):
+                # An operand that is not known here. It is an error if it is run.
+                found[address] = Instruction(address, len(content), "unknown", (), match[3], content)
+    return found

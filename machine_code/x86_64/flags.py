@@ -1,0 +1,145 @@
+"""The flags, as what the last instruction that sets them made of its operands. They are found when they are asked for.
+
+An answer is a condition on unknown bytes. Flags that an instruction leaves undefined are an error if they are used.
+"""
+
+from conditions import FALSE, are_equal, are_zero, conjunction, constant
+from linear import GREATEST, GREATEST_SIGNED, Linear, Unknown, in_range, is_zero, least_of, most_value
+from memory import Fault, Pointer, with_replaced
+from values import TooWide, apply, are_constant, constants, number
+
+# The conditions of jumps by flags: each as one of seven, or its negation.
+CODES = {}
+for _names in ("e z/ne nz", "b c nae/ae nc nb", "be na/a nbe", "s/ns", "l nge/ge nl", "le ng/g nle", "o/no"):
+    for _is_negated, _side in enumerate(_names.split("/")):
+        CODES |= {_name: (_names.split("/")[0].split()[0], bool(_is_negated)) for _name in _side.split()}
+
+
+def signed(value, size=8):
+    value &= (1 << 8 * size) - 1
+    return value - (1 << 8 * size) if value >> 8 * size - 1 else value
+
+
+def as_number(value):
+    """The number that a register holds, if it is known but for symbols: from -2**63 on."""
+    if type(value) is Linear:
+        return value
+    if type(value) is Pointer:
+        raise Fault("a pointer is used as a number")
+    if not are_constant(value):
+        raise TooWide("a number that depends on an unknown byte")
+    return signed(number(value), len(value))
+
+
+def as_unsigned(value):
+    """As `as_number`, from 0 on."""
+    found = as_number(value)
+    return found + (1 << 64) if type(found) is int and found < 0 else found
+
+
+def _flag(first, second, code, is_sum, size, carry=0):
+    """A flag of a sum or a difference of numbers of `size` bytes."""
+    sign = 1 if is_sum else -1
+    total = first + sign * (second + carry)
+    result = total & (1 << 8 * size) - 1
+    is_below, is_null, is_negative = total != result, result == 0, signed(result, size) < 0
+    overflows = signed(first, size) + sign * (signed(second, size) + carry) != signed(result, size)
+    is_less = is_negative != overflows
+    answers = {"e": is_null, "b": is_below, "be": is_below or is_null, "s": is_negative, "o": overflows}
+    return int((answers | {"l": is_less, "le": is_less or is_null})[code])
+
+
+def _is_less(first, second):
+    return int(first < second)
+
+
+class Flags:
+    """Of `kind`: sub, add, logic, shift, inc, bit (the carry alone, that of `before`), or test (of vectors: then the
+    operands are conditions)."""
+
+    def __init__(self, kind, first=None, second=None, result=None, before=None):
+        self.kind = kind
+        self.first = first
+        self.second = second
+        self.result = result
+        self.before = before
+
+    def replaced(self, name, by):
+        operands = [with_replaced(value, name, by) for value in (self.first, self.second, self.result)]
+        return Flags(self.kind, *operands, self.before and self.before.replaced(name, by))
+
+    def condition(self, code, state):
+        """The condition that one of e, b, be, s, l, le, o stands for. The path may fork for it."""
+        kinds = {type(self.first), type(self.second), type(self.result)}
+        if self.kind == "test":
+            return {"e": self.first, "b": self.second}[code]
+        if code == "b" and self.kind in ("inc", "bit") and self.before:
+            return self.before.condition(code, state)
+        if self.kind == "bit":
+            raise Fault(f"flag {code} of bt")
+        if self.kind == "logic" and code in ("b", "o"):
+            return FALSE
+        if Pointer in kinds:
+            return constant(self._of_pointers(code, state.memory))
+        if Linear in kinds:
+            return constant(self._of_numbers(code))
+        return self._of_lanes(code, state.decide)
+
+    def _of_lanes(self, code, decide):
+        if code == "e" or (code == "be" and self.kind == "logic"):
+            return are_equal(self.first, self.second) if self.kind == "sub" else are_zero(self.result)
+        if self.kind in ("sub", "add"):
+            try:
+                parameters = (code, self.kind == "add", len(self.first))
+                return conjunction(apply(_flag, 1, [self.first, self.second], parameters))
+            except TooWide:
+                if self.kind == "sub" and code in ("b", "be"):
+                    return constant(self._is_below(code == "be", decide))
+                raise
+        if self.kind == "logic" or code == "s":
+            # Of shifts, and of inc and dec, only this is known.
+            return conjunction(apply(_flag, 1, [self.result, constants(0, 1)], (code, True, len(self.result))))
+        raise Fault(f"flag {code} of {self.kind}")
+
+    def _is_below(self, or_equal, decide):
+        """Compares byte by byte from the highest on, where both together depend on too much."""
+        for first, second in zip(reversed(self.first), reversed(self.second)):
+            if not decide(are_equal((first,), (second,))):
+                return decide(conjunction(apply(_is_less, 1, [(first,), (second,)])))
+        return or_equal
+
+    def _of_numbers(self, code):
+        if self.kind == "sub" and code in ("b", "be"):
+            first, second = (in_range(as_unsigned(value), 0, GREATEST) for value in (self.first, self.second))
+            return first < second if code == "b" else first <= second
+        if self.kind == "sub" and code in ("l", "le"):
+            first, second = (as_number(value) for value in (self.first, self.second))
+            first, second = (in_range(value, -1 << 63, GREATEST_SIGNED) for value in (first, second))
+            return first < second if code == "l" else first <= second
+        if self.kind == "add" and code == "b":
+            total = sum(in_range(as_unsigned(value), 0, GREATEST) for value in (self.first, self.second))
+            if least_of(total) > GREATEST or most_value(total) <= GREATEST:
+                return least_of(total) > GREATEST
+            raise Unknown(f"whether {total} is carried")
+        if code == "e":
+            return is_zero(as_number(self.first) - as_number(self.second) if self.kind == "sub" else self.result)
+        raise Fault(f"flag {code} of {self.kind} of a number with symbols")
+
+    def _of_pointers(self, code, memory):
+        """Pointers are never null. Two into a region are in the order of their offsets."""
+        first, second = self.first, self.second
+        if self.kind == "logic" and first == second and code in ("e", "be"):
+            return False
+        if self.kind == "sub" and code == "e":
+            if any(type(other) is tuple and are_constant(other) and number(other) == 0 for other in (first, second)):
+                return False
+        if self.kind == "sub" and type(first) is type(second) and first.region == second.region:
+            if code == "e":
+                return is_zero(first.offset - second.offset)
+            if code in ("b", "be"):
+                # Both lie in the region or at its end, so neither has wrapped.
+                size = memory.regions[first.region].size
+                if not all(0 <= pointer.offset <= size for pointer in (first, second)):
+                    raise Fault("an order of pointers outside their region")
+                return first.offset < second.offset if code == "b" else first.offset <= second.offset
+        raise Fault(f"flag {code} of {self.kind} of pointers")

@@ -1,0 +1,345 @@
+"""What the instructions of the vector registers do: SSE, and AVX with a `v` before the name.
+
+An SSE instruction writes its first operand, keeps the bytes above 16, and needs aligned memory unless it is a move that
+says otherwise. An AVX instruction has an operand more, clears the bytes above, and needs no alignment.
+"""
+
+from conditions import are_zero
+from memory import Fault, as_lane, from_lane
+from values import ZERO, apply, are_constant, each, joined, masked
+from x86_64.decoding import Register
+from x86_64.flags import Flags, signed
+from x86_64.general import HANDLERS, instruction
+
+# Functions of numbers
+
+
+def _sum(first, second):
+    return first + second
+
+
+def _difference(first, second):
+    return first - second
+
+
+def _difference_from_0(first, second):
+    return max(first - second, 0)
+
+
+def _product(first, second):
+    return first * second
+
+
+def _equal(first, second):
+    return -(first == second)
+
+
+def _greater(first, second, size):
+    return -(signed(first, size) > signed(second, size))
+
+
+def _and_not(first, second):
+    return ~first & second
+
+
+def _xor(first, second):
+    return first ^ second
+
+
+def _complement(value):
+    return ~value
+
+
+def _shifted_left(value, count):
+    return value << count
+
+
+def _shifted_right(value, count):
+    return value >> count
+
+
+def _sign_filled(value, count, size):
+    return signed(value, size) >> count
+
+
+def _as_unsigned_byte(value):
+    return min(max(signed(value, 2), 0), 255)
+
+
+def _products_summed(first, second):
+    """Unsigned bytes times signed ones; the sum of two, saturated to 16 bits with a sign."""
+    total = (first & 255) * signed(second & 255, 1) + (first >> 8) * signed(second >> 8, 1)
+    return min(max(total, -32768), 32767)
+
+
+def _pick(control, row):
+    """The entry of a row of 16 that a byte picks: 0 if its top bit is set."""
+    return 0 if control & 128 else row[control & 15]
+
+
+# Operations on vectors of bytes
+
+
+def _flat(lanes):
+    return sum(lanes, ())
+
+
+def _lanes(function, size, *parameters):
+    """An operation on each two lanes of this size."""
+
+    def operation(first, second):
+        places = range(0, len(first), size)
+        return _flat(apply(function, size, [first[at:][:size], second[at:][:size]], parameters) for at in places)
+
+    return operation
+
+
+def _by_count(function, size, *parameters):
+    """A shift of each lane by a constant."""
+
+    def operation(value, count):
+        count = min(count, 8 * size)
+        places = range(0, len(value), size)
+        return _flat(apply(function, size, [value[at:][:size]], (count, *parameters)) for at in places)
+
+    return operation
+
+
+def _in_halves(operation):
+    """An operation that AVX does in each 16 bytes alone."""
+
+    def whole(*operands):
+        halves = range(0, len(operands[0]), 16)
+        return _flat(operation(*(v if isinstance(v, int) else v[at:][:16] for v in operands)) for at in halves)
+
+    return whole
+
+
+def _shuffled(row, control):
+    result = []
+    for byte in control:
+        if byte.is_constant:
+            result.append(ZERO if byte.value & 128 else row[byte.value & 15])
+        elif are_constant(row):
+            result += apply(_pick, 1, [(byte,)], (tuple([entry.value for entry in row]),))
+        else:
+            raise Fault("an unknown byte picks from unknown bytes")
+    return tuple(result)
+
+
+def _interleaved(size, start):
+    def operation(first, second):
+        return _flat(first[at:][:size] + second[at:][:size] for at in range(start, start + 8, size))
+
+    return operation
+
+
+def _packed(first, second):
+    both = first + second
+    return _flat(apply(_as_unsigned_byte, 1, [both[at:][:2]]) for at in range(0, 32, 2))
+
+
+def _picked(vector, order, size):
+    """Four lanes of a vector, by two bits of a number each."""
+    return _flat(vector[(order >> 2 * at & 3) * size :][:size] for at in range(4))
+
+
+def _high_words_picked(vector, order):
+    return vector[:8] + _picked(vector[8:], order, 2)
+
+
+def _moved_down(vector, count):
+    return (vector + (ZERO,) * 16)[min(count, 16) :][:16]
+
+
+def _moved_up(vector, count):
+    return ((ZERO,) * min(count, 16) + vector)[:16]
+
+
+def _aligned(first, second, count):
+    return (second + first + (ZERO,) * 16)[min(count, 32) :][:16]
+
+
+def _blended(first, second, choice):
+    return _flat((second if choice >> at & 1 else first)[2 * at :][:2] for at in range(8))
+
+
+OPERATIONS = {
+    "por": joined,
+    "orps": joined,
+    "pand": masked,
+    "andps": masked,
+    "pxor": _lanes(_xor, 1),
+    "xorps": _lanes(_xor, 1),
+    "pandn": _lanes(_and_not, 1),
+    "paddb": _lanes(_sum, 1),
+    "paddw": _lanes(_sum, 2),
+    "paddd": _lanes(_sum, 4),
+    "psubb": _lanes(_difference, 1),
+    "psubw": _lanes(_difference, 2),
+    "psubusb": _lanes(_difference_from_0, 1),
+    "pminub": _lanes(min, 1),
+    "pmaxub": _lanes(max, 1),
+    "pmullw": _lanes(_product, 2),
+    "pmaddubsw": _lanes(_products_summed, 2),
+    "pcmpeqb": _lanes(_equal, 1),
+    "pcmpeqw": _lanes(_equal, 2),
+    "pcmpeqd": _lanes(_equal, 4),
+    "pcmpgtb": _lanes(_greater, 1, 1),
+    "pshufb": _in_halves(_shuffled),
+    "packuswb": _in_halves(_packed),
+    "punpcklbw": _in_halves(_interleaved(1, 0)),
+    "punpckhbw": _in_halves(_interleaved(1, 8)),
+    "punpcklwd": _in_halves(_interleaved(2, 0)),
+    "punpckhwd": _in_halves(_interleaved(2, 8)),
+    "punpckldq": _in_halves(_interleaved(4, 0)),
+    "punpckhdq": _in_halves(_interleaved(4, 8)),
+    "punpcklqdq": _in_halves(_interleaved(8, 0)),
+    "punpckhqdq": _in_halves(_interleaved(8, 8)),
+    # The last operand is an immediate.
+    "psllw": _by_count(_shifted_left, 2),
+    "pslld": _by_count(_shifted_left, 4),
+    "psllq": _by_count(_shifted_left, 8),
+    "psrlw": _by_count(_shifted_right, 2),
+    "psrld": _by_count(_shifted_right, 4),
+    "psrlq": _by_count(_shifted_right, 8),
+    "psraw": _by_count(_sign_filled, 2, 2),
+    "psrldq": _in_halves(_moved_down),
+    "pslldq": _in_halves(_moved_up),
+    "palignr": _in_halves(_aligned),
+    "pblendw": _in_halves(_blended),
+}
+
+# A vector is made of another one, by an immediate.
+ORDERED = {
+    "pshufd": _in_halves(lambda vector, order: _picked(vector, order, 4)),
+    "pshuflw": _in_halves(lambda vector, order: _picked(vector, order, 2) + vector[8:]),
+    "pshufhw": _in_halves(_high_words_picked),
+}
+
+
+def _is_avx(i):
+    return i.mnemonic.startswith("v")
+
+
+def _set_target(state, i, value):
+    state.set_vector(i.operands[0], value, keeps_rest=not _is_avx(i))
+
+
+def _handler(operation, is_ordered):
+    def handle(state, i):
+        if i.mnemonic in ("pxor", "vpxor", "xorps", "vxorps") and i.operands[-1] == i.operands[-2]:
+            # The result is 0, whatever the register held.
+            _set_target(state, i, (ZERO,) * i.operands[0].size)
+            return
+        skipped = is_ordered or (_is_avx(i) and len(i.operands) > 2)
+        sources, alignment = i.operands[skipped:], 1 if _is_avx(i) else 16
+        size = i.operands[0].size
+        values = [v if isinstance(v, int) else as_lane(state.read(v, size, alignment)) for v in sources]
+        _set_target(state, i, operation(*values))
+
+    return handle
+
+
+for _name, _operation in (OPERATIONS | ORDERED).items():
+    HANDLERS[_name] = HANDLERS["v" + _name] = _handler(_operation, _name in ORDERED)
+
+
+def _move(is_aligned):
+    def handle(state, i):
+        target, source = i.operands
+        if type(target) is Register:
+            _set_target(state, i, state.read(source, target.size, target.size if is_aligned else 1))
+        else:
+            state.memory.store(state.address(target), state.read(source), source.size if is_aligned else 1)
+
+    return handle
+
+
+for _name in ("movdqu", "movups", "lddqu"):
+    HANDLERS[_name] = HANDLERS["v" + _name] = _move(False)
+for _name in ("movdqa", "movaps"):
+    HANDLERS[_name] = HANDLERS["v" + _name] = _move(True)
+
+
+@instruction("movd", "vmovd", "movq", "vmovq")
+def movd(state, i):
+    """Between a vector register and 4 or 8 bytes. What is above in a vector register is cleared."""
+    size = 8 if i.mnemonic.endswith("q") else 4
+    target, source = i.operands
+    value = as_lane(state.register(source) if type(source) is Register else state.load(source, size))[:size]
+    if type(target) is Register and target.family.startswith("v"):
+        _set_target(state, i, value + (ZERO,) * (16 - size))
+    else:
+        state.write(target, from_lane(value))
+
+
+UNITS = {"b": 1, "w": 2, "d": 4, "q": 8}
+
+
+@instruction(*(v + "pinsr" + unit for v in ("", "v") for unit in UNITS))
+def insert(state, i):
+    size = UNITS[i.mnemonic[-1]]
+    vector, source, place = i.operands[-3:]
+    value, at = as_lane(state.read(source, size)), size * (place % (16 // size))
+    old = state.read(vector)
+    _set_target(state, i, old[:at] + value + old[at + size :])
+
+
+@instruction(*(v + "pextr" + unit for v in ("", "v") for unit in UNITS))
+def extract(state, i):
+    size = UNITS[i.mnemonic[-1]]
+    target, vector, place = i.operands
+    value = state.read(vector)[size * (place % (16 // size)) :][:size]
+    if type(target) is Register:
+        value += (ZERO,) * (target.size - size)
+    state.write(target, from_lane(value))
+
+
+@instruction("pmovzxbw", "vpmovzxbw")
+def widen(state, i):
+    size = i.operands[0].size
+    _set_target(state, i, _flat((byte, ZERO) for byte in as_lane(state.read(i.operands[1], size // 2))))
+
+
+@instruction("vbroadcasti128", "vbroadcastf128", "vpbroadcastb", "vpbroadcastw", "vpbroadcastd", "vpbroadcastq")
+def broadcast(state, i):
+    size = 16 if i.mnemonic.endswith("128") else UNITS[i.mnemonic[-1]]
+    _set_target(state, i, as_lane(state.read(i.operands[1], size)) * (i.operands[0].size // size))
+
+
+@instruction("vinserti128", "vinsertf128")
+def insert_half(state, i):
+    _, vector, half, place = i.operands
+    old, new = state.read(vector), state.read(half, 16)
+    _set_target(state, i, old[:16] + new if place & 1 else new + old[16:])
+
+
+@instruction("vextracti128", "vextractf128")
+def extract_half(state, i):
+    target, vector, place = i.operands
+    value = state.read(vector)[16 * (place & 1) :][:16]
+    if type(target) is Register:
+        _set_target(state, i, value)
+    else:
+        state.memory.store(state.address(target), value)
+
+
+@instruction("vpermq")
+def permute(state, i):
+    _set_target(state, i, _picked(state.read(i.operands[1], 32), i.operands[2], 8))
+
+
+@instruction("ptest", "vptest")
+def test(state, i):
+    first = state.read(i.operands[0])
+    second = as_lane(state.read(i.operands[1], len(first), 1 if _is_avx(i) else 16))
+    others = masked(each(_complement, first), second) if are_constant(first) else None
+    state.flags = Flags("test", are_zero(masked(first, second)), others and are_zero(others))
+
+
+@instruction("vzeroupper")
+def clear_upper(state, i):
+    for name, value in state.registers.items():
+        if name.startswith("v"):
+            state.registers[name] = value[:16] + (ZERO,) * 16
