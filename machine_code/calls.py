@@ -261,28 +261,27 @@ class Call:
         self.suffix = "_nonnull" if has_nonnull else ""
 
     def parts(self):
-        """What is proved alone: the cases, the short lengths, and the classes of all others."""
+        """What is proved alone: the cases, the short lengths, and the classes of all others: of those that are longer
+        by rounds."""
         yield from (("case", at) for at in range(len(self.cases)))
         for at, form in enumerate(self.forms):
-            lengths = range(0, 2 * self.size + 2, self.step)
-            yield from (("length" if length < self.size + 2 else "class", at, length) for length in lengths)
+            for length in range(form.shortest, 2 * self.size + 2 + form.body, self.step):
+                yield ("length" if length < self.size + 2 + form.body else "class", at, length)
 
     def prove(self, code, function, part):
         """Gives how many states were judged."""
         kind, at, *rest = part
         if kind == "case":
             return self.cases[at].prove(code, function)
-        form = self.forms[at]
         if kind == "length":
-            return prove_length(code, function, form, rest[0] + form.body)
-        return prove_class(code, function, form, self.size, rest[0] + form.body)
+            return prove_length(code, function, self.forms[at], *rest)
+        return prove_class(code, function, self.forms[at], self.size, *rest)
 
     def name_of(self, part):
         kind, at, *rest = part
         if kind == "case":
             return self.cases[at].name
-        length = rest[0] + self.forms[at].body
-        lengths = f"length {length}" if kind == "length" else f"lengths {length} + {self.size} * n"
+        lengths = f"length {rest[0]}" if kind == "length" else f"lengths {rest[0]} + {self.size} * n"
         return f"{self.forms[at].name}, {lengths}"
 
 

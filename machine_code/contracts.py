@@ -8,7 +8,7 @@ that the text from `read` on has an invalid character.
 
 from conditions import Condition, Impossible, are_equal, conjunction
 from digits import IS_DIGIT, decoded, digits_of, is_digit, is_prefix
-from exploration import Refused, require, _sides
+from exploration import Refused, require, sides
 from linear import Linear, constant_of, linear, symbol, terms_of
 from memory import Pointer, Region, as_lane, as_value
 from values import CONSTANTS, ZERO, TooWide, constants, unknown, variable
@@ -43,8 +43,8 @@ def unchanged(state, *names):
 
 def require_value(state, name, offset, wanted):
     """What a region has at an offset: a lane, or a whole value of 8 bytes."""
-    region, wanted = state.memory.regions[name], as_lane(wanted)
-    found = tuple([state.memory.at(region, offset + at) for at in range(len(wanted))])
+    wanted = as_lane(wanted)
+    found = tuple([state.memory.at(name, offset + at) for at in range(len(wanted))])
     require(is_same(state.path, found, wanted), f"{name}[{offset}] is not what it should be")
 
 
@@ -65,7 +65,7 @@ def answer_of(code, state):
 def cases_of_answer(code, state):
     """The state for each result alone, which may be a byte that is computed from the input."""
     condition = are_equal(code.front_end.result(state, 1), constants(1, 1))
-    return _sides(code, state, condition) if state.path.decide(condition) is None else (state,)
+    return sides(code, state, condition) if state.path.decide(condition) is None else (state,)
 
 
 class Form:
@@ -76,8 +76,8 @@ class Form:
     # Where the rounds of the input begin, and what the output has before what they write.
     body = 0
     begin = ()
-    # Where the digits of a text begin.
-    digits = 0
+    # Where the digits of a text begin, and how long the shortest input is.
+    digits = shortest = 0
     # Regions that are unchanged until the end.
     last = ()
 
@@ -89,9 +89,10 @@ class Form:
         """Checks what is written beside the rounds, and takes it out."""
         if not state.ghost.get("begun"):
             for at, byte in enumerate(self.begin):
-                found = state.memory.cells.get((self.output, at))
+                found = state.memory.written(self.output).get(at)
                 require(found and is_same(state.path, (found,), (byte,)), f"{self.output}[{at}] is not what it should be")
-                state.memory.forget(self.output, at)
+            if self.begin:
+                state.memory.forget(self.output, range(len(self.begin)))
             state.ghost = {**state.ghost, "begun": True}
 
     def written(self, state):
@@ -141,9 +142,9 @@ class Encode(Form):
         """The NUL may be written before the digits. From there on nothing is used any more."""
         super().set_aside(state)
         end = state.ghost["length"] * 2 + len(self.begin)
-        if self.has_nul and ("text", end) in state.memory.cells:
-            require(state.memory.cells["text", end] is ZERO, "the text does not end with a NUL")
-            state.memory.forget("text", end)
+        if self.has_nul and end in state.memory.written("text"):
+            require(state.memory.written("text")[end] is ZERO, "the text does not end with a NUL")
+            state.memory.forget("text", [end])
             state.ghost = {**state.ghost, "ended": True}
         if state.ghost.get("ended") or not self.has_nul:
             state.memory.with_region("text", size=end)
@@ -211,7 +212,7 @@ class Check(CheckRaw):
     last = ("error",)
 
     def __init__(self, body):
-        self.body = self.digits = body
+        self.body = self.digits = self.shortest = body
         self.name = "a text with a prefix" if body else "a text without a prefix"
 
     def arguments(self, length):
@@ -308,7 +309,8 @@ class DecoderUpdate(Decode):
     def __init__(self, name, index, waits, prefix, has_prefix=None):
         """So many of the chunk's characters belong to a prefix. `has_prefix` is None if the chunk cannot have one."""
         self.name, self.index, self.waits = name, index, waits
-        self.digits, self.has_prefix = prefix, has_prefix
+        self.digits = self.shortest = prefix
+        self.has_prefix = has_prefix
         self.body = prefix + waits
         self.begin = (decoded(WAITING_DIGIT, unknown("text", prefix)),) if waits else ()
 
@@ -340,7 +342,7 @@ class DecoderUpdate(Decode):
         """The first byte has the digit that waits and the chunk's first one, if that is a digit."""
         if not self.begin or state.ghost.get("begun"):
             super().set_aside(state)
-        elif ("bytes", 0) in state.memory.cells:
+        elif 0 in state.memory.written("bytes"):
             require(state.path.decide_atom(is_digit(unknown("text", 0))) is True, "what is not a digit is decoded")
             super().set_aside(state)
         else:
@@ -373,5 +375,5 @@ class DecoderUpdate(Decode):
         super().fails(state, byte, self.index + place)
         self.moves(state, place)
         require_value(state, "decoder", 8, (byte,))
-        found = state.memory.at(state.memory.regions["decoder"], 9)
+        found = state.memory.at("decoder", 9)
         require(found.is_constant and found.value > 1, "the decoder does not keep its error")

@@ -130,7 +130,7 @@ def _returned(code, state, error):
 def _judge_choice(code, state, build):
     """The build is the one that the byte names, or that the CPU asks for, and the byte is stored then."""
     picked = _picked_address(code)
-    byte, cell = unknown("image", picked), state.memory.cells.get(("image", picked))
+    byte, cell = unknown("image", picked), state.memory.written("image").get(picked)
     asked = set(state.memory.written("image"))
     require(asked <= {picked}, "another byte is stored")
     if asked:

@@ -22,6 +22,7 @@ class Fork(Exception):
     """The next instruction depends on a condition that is not decided."""
 
     def __init__(self, condition):
+        super().__init__("a jump that unknown bytes decide")
         self.condition = condition
 
 
@@ -89,7 +90,7 @@ def outcomes(code, state, places=(), may_stay=False):
                 raise Refused(f"{code.shown(state.at)}: too many cases of how long the input is")
             waiting += [(other, must_move) for other in split_states(state, split)]
         except Fork as fork:
-            waiting += [(other, must_move) for other in _sides(code, state, fork.condition)]
+            waiting += [(other, must_move) for other in sides(code, state, fork.condition)]
         except (Fault, TooWide, Unknown) as fault:
             raise Refused(f"{code.shown(state.at)}: {fault}")
 
@@ -101,7 +102,7 @@ def split_states(state, split):
         yield from other.possible()
 
 
-def _sides(code, state, condition):
+def sides(code, state, condition):
     """The states for both answers, where they are possible."""
     for side in (condition, condition.negated()):
         other = state.copy()

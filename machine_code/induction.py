@@ -6,13 +6,14 @@ it, with one more done, leads to it again. What is proved is the last pass of th
 """
 
 import collections
+import functools
 import itertools
 
 from contracts import cases_of_answer
 from digits import IS_DIGIT
-from exploration import RETURNED, outcomes, require, require_one_path
-from linear import Linear, in_terms_of, symbol
-from memory import Pointer, as_lane, as_value, is_whole, with_replaced
+from exploration import MOST_STEPS, RETURNED, Fork, Refused, outcomes, require, require_one_path, sides
+from linear import Linear, Split, Unknown, in_terms_of, symbol
+from memory import Fault, Pointer, as_lane, as_value, is_whole, with_replaced
 from values import TooWide, WholeByte, kept, parts_of, unknown, variable
 
 DONE, LEFT = symbol("done"), symbol("left")
@@ -30,17 +31,26 @@ class Head:
 
 
 def _visits(code, state):
-    """How often each place is jumped back to, on the one path of a state."""
+    """How often each place is jumped back to, on some path of a state."""
     found = collections.Counter()
     while state.at is not RETURNED:
         before = state.at
-        code.step(state)
+        try:
+            code.step(state)
+            if state.steps > MOST_STEPS:
+                raise Fault("it does not end")
+        except Fork as fork:
+            state = next(sides(code, state, fork.condition))
+            continue
+        except (Fault, Split, TooWide, Unknown) as fault:
+            raise Refused(f"{code.shown(before)}: {fault}")
         if state.at is not RETURNED and state.at <= before and code.front_end.is_jump(code.at(before)):
             if code.object.section_at(before) is code.object.section_at(state.at):
                 found[state.at] += 1
     return found
 
 
+@functools.lru_cache
 def heads_of(code, function, form, size):
     """The loops that turn more often if the input is `size` bytes longer: on valid inputs, and on texts whose last
     character is invalid."""
@@ -108,22 +118,16 @@ def _byte_by_length(byte, old, new):
     return None if _depends_on_round((byte,)) else byte
 
 
-def _kept_cells(state, form):
-    """The cells that a state at a head may have: of the stack, and none of what is written for the caller."""
-    for name, at in state.memory.cells:
-        require(name == "stack", f"{name}[{at}] is written before the first round")
-    return state.memory.written("stack")
-
-
 def arrived(form, state, head, rest):
     """A state that arrives at a head for the first time, with `left` rounds to go."""
     form.set_aside(state)
     if head.is_search:
         form.before_search(state)
         require(state.ghost.get("bad") or form.has_bad(state), "a search for an invalid character that may not be there")
-        for at in state.memory.written(form.output) if form.output else ():
-            state.memory.forget(form.output, at)
-    cells = _kept_cells(state, form)
+        if form.output and state.memory.written(form.output):
+            state.memory.forget(form.output, list(state.memory.written(form.output)))
+    for name in state.memory.written_regions():
+        require(name == "stack", f"{name} is written before the first round")
     read = form.digits if head.is_search else form.body
     require(head.is_search or state.ghost["read"] == read, "bytes are read before the first round")
     old, new = state.ghost["length"], LEFT * head.size + (read if head.is_search else rest)
@@ -132,9 +136,9 @@ def arrived(form, state, head, rest):
     for name, value in state.registers.items():
         value = _by_length(value, old, new)
         other.registers[name] = _forgotten(name, _size_of(state.registers[name])) if value is None else value
-    for at, byte in cells.items():
+    for at, byte in state.memory.written("stack").items():
         byte = _byte_by_length(byte, old, new)
-        other.memory.cells["stack", at] = unknown("forgotten", "stack", at) if byte is None else byte
+        other.memory.written("stack")[at] = unknown("forgotten", "stack", at) if byte is None else byte
     for name, region in state.memory.regions.items():
         if head.is_search and name == form.output:
             # It is done with: each access is refused.

@@ -23,6 +23,7 @@ class Split(Exception):
     """The answer depends on whether a symbol is 0, on which of two symbols is greater, or on whether one is odd."""
 
     def __init__(self, *symbols, by_parity=False):
+        super().__init__(f"a question of {' and '.join(symbols)}")
         self.symbols = symbols
         self.by_parity = by_parity
 
@@ -172,11 +173,12 @@ def is_zero(number):
 
 
 def _split_of(number):
-    """The split that decides the sign of a number: by the one symbol in it, or by which of two is greater."""
+    """The split that leads to the sign of a number: whether a symbol is 0, or which of two is greater."""
     names = [name for name, _ in number.terms if name != "done"]
-    if len(names) == 1:
-        return Split(*names)
-    if len(number.terms) == len(names) == 2 and number.terms[0][1] == -number.terms[1][1]:
+    factors = [factor for _, factor in number.terms]
+    if len(names) == 1 or names and (min(factors) > 0 or max(factors) < 0):
+        return Split(names[0])
+    if len(factors) == len(names) == 2 and sum(factors) == 0:
         return Split(*names)
     raise Unknown(f"the sign of {number}")
 

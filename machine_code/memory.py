@@ -127,38 +127,47 @@ class Image(Region):
 
 
 class Memory:
-    """The regions, and the cells that were written since the start.
+    """The regions, and the bytes that were written since the start: for each region by their offsets.
 
     Two offsets into a region that is written differ by a known number, or surely do not meet. `spans` has the least
-    and the greatest constant of what is written, by the region and the unknown part of the offset.
+    and the greatest constant of what is written, for each region by the unknown part of the offset.
     """
 
     def __init__(self, regions):
         self.regions = {region.name: region for region in regions}
-        self.cells = {}
-        self.spans = {}
+        self._written = {}
+        self._spans = {}
 
     def copy(self):
         other = Memory(())
-        other.regions, other.cells, other.spans = self.regions, self.cells.copy(), self.spans.copy()
+        other.regions = self.regions
+        other._written = {name: cells.copy() for name, cells in self._written.items()}
+        other._spans = {name: spans.copy() for name, spans in self._spans.items()}
         return other
 
     def replaced(self, name, by):
         other = Memory([region.replaced(name, by) for region in self.regions.values()])
-        for (region, offset), byte in self.cells.items():
-            other._put(region, replaced(offset, name, by), byte_replaced(byte, name, by))
+        for region, cells in self._written.items():
+            new = ((replaced(offset, name, by), byte_replaced(byte, name, by)) for offset, byte in cells.items())
+            other._written[region] = dict(new)
+            other._respan(region)
         return other
 
-    def _put(self, region, offset, byte):
-        key, at = (region, terms_of(offset)), constant_of(offset)
-        least, most = self.spans.get(key, (at, at))
-        self.spans[key] = (min(least, at), max(most, at))
-        self.cells[region, offset] = byte
+    def _span(self, name, first, count):
+        """So many offsets from one on are written."""
+        spans, terms, least = self._spans.setdefault(name, {}), terms_of(first), constant_of(first)
+        old = spans.get(terms, (least, least))
+        spans[terms] = min(old[0], least), max(old[1], least + count - 1)
+
+    def _respan(self, name):
+        self._spans[name] = {}
+        for offset in self._written[name]:
+            self._span(name, offset, 1)
 
     def _keep_apart(self, name, offset, size):
         """An access may meet what was written only if their distance is known."""
-        for (region, terms), (least, most) in self.spans.items():
-            if region == name and terms != terms_of(offset):
+        for terms, (least, most) in self._spans.get(name, {}).items():
+            if terms != terms_of(offset):
                 is_after = is_surely_below(linear(most, terms), offset)
                 if not is_after and not is_surely_below(offset + (size - 1), linear(least, terms)):
                     raise Fault(f"{name}[{offset}] may be a byte that is written elsewhere")
@@ -175,25 +184,31 @@ class Memory:
         self._keep_apart(region.name, pointer.offset, size)
         return region
 
-    def at(self, region, offset):
-        cell = self.cells.get((region.name, offset))
-        return region.old(offset) if cell is None else cell
+    def at(self, name, offset):
+        """The byte of a region at an offset."""
+        cell = self.written(name).get(offset)
+        return self.regions[name].old(offset) if cell is None else cell
 
     def load(self, pointer, size, alignment=1):
         region = self.region_of(pointer, size, "read", alignment)
-        return from_lane(tuple([self.at(region, pointer.offset + at) for at in range(size)]))
+        return from_lane(tuple([self.at(region.name, pointer.offset + at) for at in range(size)]))
 
     def store(self, pointer, value, alignment=1):
         lane = as_lane(value)
         region = self.region_of(pointer, len(lane), "write", alignment)
         if not region.may_write(pointer.offset):
             raise Fault(f"write to {shown(pointer)}")
+        self._span(region.name, pointer.offset, len(lane))
+        cells = self._written.setdefault(region.name, {})
         for at, byte in enumerate(lane):
-            self._put(region.name, pointer.offset + at, byte)
+            cells[pointer.offset + at] = byte
 
     def written(self, name):
-        """The cells of a region that were written, by their offsets."""
-        return {offset: byte for (region, offset), byte in self.cells.items() if region == name}
+        """The bytes of a region that were written, by their offsets."""
+        return self._written.get(name, {})
+
+    def written_regions(self):
+        return [name for name, cells in self._written.items() if cells]
 
     def with_region(self, name, **changes):
         """Changes what may be used of a region."""
@@ -201,10 +216,8 @@ class Memory:
         region.__dict__ |= changes
         self.regions = {**self.regions, name: region}
 
-    def forget(self, name, offset):
-        """Takes a cell out. The byte there may not be used any more, which the caller has to see to."""
-        del self.cells[name, offset]
-        offsets = [other for other in self.written(name) if terms_of(other) == terms_of(offset)]
-        del self.spans[name, terms_of(offset)]
-        for other in offsets:
-            self._put(name, other, self.cells[name, other])
+    def forget(self, name, offsets):
+        """Takes out what was written there. The bytes may not be used any more, which the caller has to see to."""
+        for offset in offsets:
+            del self._written[name][offset]
+        self._respan(name)

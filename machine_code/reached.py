@@ -1,24 +1,46 @@
-"""Which instructions of an object no proof has run, and why some need not be."""
+"""Which instructions of an object no proof has run, and why no input reaches them."""
 
+import itertools
 import re
 
-# (the function, its instruction, why no input reaches it)
-EXCEPTIONS = []
+# The function; a block of instructions that are not run; and the reason.
+EXCEPTIONS = [
+    ("find_invalid_character", r"mov rax,rdx; test rax,rax; jne \w+; jmp \w+",
+     "a text with an invalid character and an even length has two characters at least"),
+    ("find_invalid_character", r"xor eax,eax; xor ecx,ecx; xor esi,esi; jmp \w+",
+     "it is called only if a character after the prefix is invalid"),
+    ("find_invalid_character", r"xor r8d,r8d; mov rcx,rax", "it finds an invalid character"),
+    ("check_nonnull", r"movzx eax,BYTE PTR \[rax\]; v?movd xmm0,eax; (v?pinsrb [^;]+; |mov eax,0x30; )*v?pinsrb [^;]+",
+     "the number of digits is even"),
+    ("check_nonnull|decode", r"((xor eax,eax|xor esi,esi|mov ecx,0x[124]|mov r[ds][ix],rax|jmp \w+)(; |$))+",
+     "where a character is invalid, no other kind of error is returned"),
+    ("decoder_update", r"xor ecx,ecx; xor eax,eax; jmp \w+", "a chunk without digits has no invalid character"),
+    ("decoder_update", r"xor eax,eax; mov rcx,r15", "the search finds an invalid character"),
+]
 
 
-def not_reached(code, build, run):
-    """The instructions that were not run and have no reason, in words."""
-    left = []
-    for section in code.object.sections:
-        if section.is_code and not _is_message(section):
-            for address, instruction in sorted(code.front_end.instructions(section).items()):
-                if address not in run and instruction.mnemonic != "nop":
-                    place = code.object.name_at(address)
-                    if not any(re.search(f, place) and re.search(i, instruction.text) for f, i, _ in EXCEPTIONS):
-                        left.append(f"{place}: {instruction.text}")
-    return left
-
-
-def _is_message(section):
+def is_message(section):
     """The messages of errors are not covered."""
     return "error_message" in section.name or "core::fmt" in section.name
+
+
+def _blocks(instructions, run):
+    """Instructions that follow each other and were not run."""
+    left = (i for i in instructions if i.mnemonic != "nop")
+    for is_run, block in itertools.groupby(left, lambda instruction: instruction.address in run):
+        if not is_run:
+            yield list(block)
+
+
+def not_reached(code, run):
+    """The blocks that were not run and have no reason, in words."""
+    left = []
+    for section in code.object.sections:
+        if section.is_code and not is_message(section):
+            known = code.front_end.instructions(section)
+            for block in _blocks([known[address] for address in sorted(known)], run):
+                text = re.sub(" +", " ", "; ".join(instruction.text for instruction in block))
+                place = code.object.name_at(block[0].address)
+                if not any(re.search(f, place) and re.fullmatch(b, text) for f, b, _ in EXCEPTIONS):
+                    left.append(f"{place}: {text}")
+    return left

@@ -37,13 +37,13 @@ def as_unsigned(value):
     return found + (1 << 64) if type(found) is int and found < 0 else found
 
 
-def _flag(first, second, code, is_sum, size, carry=0):
+def _flag(first, second, code, is_sum, size):
     """A flag of a sum or a difference of numbers of `size` bytes."""
     sign = 1 if is_sum else -1
-    total = first + sign * (second + carry)
+    total = first + sign * second
     result = total & (1 << 8 * size) - 1
     is_below, is_null, is_negative = total != result, result == 0, signed(result, size) < 0
-    overflows = signed(first, size) + sign * (signed(second, size) + carry) != signed(result, size)
+    overflows = signed(first, size) + sign * signed(second, size) != signed(result, size)
     is_less = is_negative != overflows
     answers = {"e": is_null, "b": is_below, "be": is_below or is_null, "s": is_negative, "o": overflows}
     return int((answers | {"l": is_less, "le": is_less or is_null})[code])
@@ -54,8 +54,7 @@ def _is_less(first, second):
 
 
 class Flags:
-    """Of `kind`: sub, add, logic, shift, inc, bit (the carry alone, that of `before`), or test (of vectors: then the
-    operands are conditions)."""
+    """Of `kind`: sub, add, logic, shift, inc, or test (of vectors: then the operands are conditions)."""
 
     def __init__(self, kind, first=None, second=None, result=None, before=None):
         self.kind = kind
@@ -73,10 +72,8 @@ class Flags:
         kinds = {type(self.first), type(self.second), type(self.result)}
         if self.kind == "test":
             return {"e": self.first, "b": self.second}[code]
-        if code == "b" and self.kind in ("inc", "bit") and self.before:
+        if code == "b" and self.kind == "inc" and self.before:
             return self.before.condition(code, state)
-        if self.kind == "bit":
-            raise Fault(f"flag {code} of bt")
         if self.kind == "logic" and code in ("b", "o"):
             return FALSE
         if Pointer in kinds:

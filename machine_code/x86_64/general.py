@@ -33,10 +33,6 @@ def _difference(first, second):
     return first - second
 
 
-def _product(first, second):
-    return first * second
-
-
 def _xor(first, second):
     return first ^ second
 
@@ -92,7 +88,7 @@ def movzx(state, i):
     state.write(i.operands[0], value + (ZERO,) * (i.operands[0].size - len(value)))
 
 
-@instruction("movsx", "movsxd")
+@instruction("movsxd")
 def movsx(state, i):
     value = state.read(i.operands[1])
     state.write(i.operands[0], apply(_sign_extended, i.operands[0].size, [value], (len(value),)))
@@ -146,29 +142,6 @@ def sub(state, i):
 @instruction("cmp")
 def cmp(state, i):
     state.flags = Flags("sub", *_operands(state, i))
-
-
-@instruction("sbb")
-def sbb(state, i):
-    """Only of a register with itself, which gives 0 or -1 by the carry flag."""
-    if i.operands[0] != i.operands[1]:
-        raise Fault("sbb of two registers")
-    value = -1 if state.decide(state.flag("b")) else 0
-    _finish(state, i, constants(value, i.operands[0].size), None)
-
-
-@instruction("adc")
-def adc(state, i):
-    """The carry flag is decided first, and then it is a sum of three."""
-    first, second = _operands(state, i)
-    carry = int(state.decide(state.flag("b")))
-    if is_whole(first) or is_whole(second):
-        if type(first) is Pointer or type(second) is Pointer:
-            raise Fault("adc of a pointer")
-        _finish(state, i, as_value(as_number(first) + as_number(second) + carry), None)
-        return
-    result = apply(_sum, len(first), [apply(_sum, len(first), [first, second]), constants(carry, 1)])
-    _finish(state, i, result, None)
 
 
 @instruction("inc", "dec")
@@ -274,27 +247,6 @@ def _shifted(function, value, count):
     if function is _shifted_left:
         return zeros + value[: len(value) - len(zeros)]
     return value[len(zeros) :] + zeros
-
-
-@instruction("imul")
-def imul(state, i):
-    """The lower half of a product. Its flags are not known here."""
-    size = i.operands[0].size
-    factors = [state.read(operand, size) for operand in i.operands[-2:]]
-    if any(map(is_whole, factors)):
-        raise Fault("imul of a number with symbols")
-    _finish(state, i, apply(_product, size, factors), None)
-
-
-@instruction("bt")
-def bt(state, i):
-    """Tests one bit of a register. Of the flags, only the carry is known then."""
-    value, place = state.read(i.operands[0]), i.operands[1]
-    if is_whole(value) or not isinstance(place, int):
-        raise Fault("a test of a bit that cannot be followed")
-    byte = value[place // 8 % len(value)]
-    bit = apply(_shifted_right, 1, [masked((byte,), (CONSTANTS[1 << place % 8],))], (place % 8,))
-    state.flags = Flags("bit", before=Flags("sub", constants(0, 1), bit))
 
 
 @instruction("push")

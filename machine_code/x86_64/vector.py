@@ -34,14 +34,6 @@ def _equal(first, second):
     return -(first == second)
 
 
-def _greater(first, second, size):
-    return -(signed(first, size) > signed(second, size))
-
-
-def _and_not(first, second):
-    return ~first & second
-
-
 def _xor(first, second):
     return first ^ second
 
@@ -58,18 +50,8 @@ def _shifted_right(value, count):
     return value >> count
 
 
-def _sign_filled(value, count, size):
-    return signed(value, size) >> count
-
-
 def _as_unsigned_byte(value):
     return min(max(signed(value, 2), 0), 255)
-
-
-def _products_summed(first, second):
-    """Unsigned bytes times signed ones; the sum of two, saturated to 16 bits with a sign."""
-    total = (first & 255) * signed(second & 255, 1) + (first >> 8) * signed(second >> 8, 1)
-    return min(max(total, -32768), 32767)
 
 
 def _pick(control, row):
@@ -127,9 +109,9 @@ def _shuffled(row, control):
     return tuple(result)
 
 
-def _interleaved(size, start):
+def _interleaved(size):
     def operation(first, second):
-        return _flat(first[at:][:size] + second[at:][:size] for at in range(start, start + 8, size))
+        return _flat(first[at:][:size] + second[at:][:size] for at in range(0, 8, size))
 
     return operation
 
@@ -144,77 +126,25 @@ def _picked(vector, order, size):
     return _flat(vector[(order >> 2 * at & 3) * size :][:size] for at in range(4))
 
 
-def _high_words_picked(vector, order):
-    return vector[:8] + _picked(vector[8:], order, 2)
-
-
-def _moved_down(vector, count):
-    return (vector + (ZERO,) * 16)[min(count, 16) :][:16]
-
-
-def _moved_up(vector, count):
-    return ((ZERO,) * min(count, 16) + vector)[:16]
-
-
-def _aligned(first, second, count):
-    return (second + first + (ZERO,) * 16)[min(count, 32) :][:16]
-
-
-def _blended(first, second, choice):
-    return _flat((second if choice >> at & 1 else first)[2 * at :][:2] for at in range(8))
-
-
 OPERATIONS = {
     "por": joined,
-    "orps": joined,
     "pand": masked,
-    "andps": masked,
     "pxor": _lanes(_xor, 1),
-    "xorps": _lanes(_xor, 1),
-    "pandn": _lanes(_and_not, 1),
     "paddb": _lanes(_sum, 1),
     "paddw": _lanes(_sum, 2),
-    "paddd": _lanes(_sum, 4),
     "psubb": _lanes(_difference, 1),
-    "psubw": _lanes(_difference, 2),
     "psubusb": _lanes(_difference_from_0, 1),
     "pminub": _lanes(min, 1),
-    "pmaxub": _lanes(max, 1),
     "pmullw": _lanes(_product, 2),
-    "pmaddubsw": _lanes(_products_summed, 2),
-    "pcmpeqb": _lanes(_equal, 1),
-    "pcmpeqw": _lanes(_equal, 2),
     "pcmpeqd": _lanes(_equal, 4),
-    "pcmpgtb": _lanes(_greater, 1, 1),
     "pshufb": _in_halves(_shuffled),
     "packuswb": _in_halves(_packed),
-    "punpcklbw": _in_halves(_interleaved(1, 0)),
-    "punpckhbw": _in_halves(_interleaved(1, 8)),
-    "punpcklwd": _in_halves(_interleaved(2, 0)),
-    "punpckhwd": _in_halves(_interleaved(2, 8)),
-    "punpckldq": _in_halves(_interleaved(4, 0)),
-    "punpckhdq": _in_halves(_interleaved(4, 8)),
-    "punpcklqdq": _in_halves(_interleaved(8, 0)),
-    "punpckhqdq": _in_halves(_interleaved(8, 8)),
+    "punpckldq": _in_halves(_interleaved(4)),
+    "punpcklqdq": _in_halves(_interleaved(8)),
     # The last operand is an immediate.
     "psllw": _by_count(_shifted_left, 2),
-    "pslld": _by_count(_shifted_left, 4),
-    "psllq": _by_count(_shifted_left, 8),
     "psrlw": _by_count(_shifted_right, 2),
     "psrld": _by_count(_shifted_right, 4),
-    "psrlq": _by_count(_shifted_right, 8),
-    "psraw": _by_count(_sign_filled, 2, 2),
-    "psrldq": _in_halves(_moved_down),
-    "pslldq": _in_halves(_moved_up),
-    "palignr": _in_halves(_aligned),
-    "pblendw": _in_halves(_blended),
-}
-
-# A vector is made of another one, by an immediate.
-ORDERED = {
-    "pshufd": _in_halves(lambda vector, order: _picked(vector, order, 4)),
-    "pshuflw": _in_halves(lambda vector, order: _picked(vector, order, 2) + vector[8:]),
-    "pshufhw": _in_halves(_high_words_picked),
 }
 
 
@@ -226,13 +156,13 @@ def _set_target(state, i, value):
     state.set_vector(i.operands[0], value, keeps_rest=not _is_avx(i))
 
 
-def _handler(operation, is_ordered):
+def _handler(operation):
     def handle(state, i):
-        if i.mnemonic in ("pxor", "vpxor", "xorps", "vxorps") and i.operands[-1] == i.operands[-2]:
+        if i.mnemonic in ("pxor", "vpxor") and i.operands[-1] == i.operands[-2]:
             # The result is 0, whatever the register held.
             _set_target(state, i, (ZERO,) * i.operands[0].size)
             return
-        skipped = is_ordered or (_is_avx(i) and len(i.operands) > 2)
+        skipped = _is_avx(i) and len(i.operands) > 2
         sources, alignment = i.operands[skipped:], 1 if _is_avx(i) else 16
         size = i.operands[0].size
         values = [v if isinstance(v, int) else as_lane(state.read(v, size, alignment)) for v in sources]
@@ -241,8 +171,8 @@ def _handler(operation, is_ordered):
     return handle
 
 
-for _name, _operation in (OPERATIONS | ORDERED).items():
-    HANDLERS[_name] = HANDLERS["v" + _name] = _handler(_operation, _name in ORDERED)
+for _name, _operation in OPERATIONS.items():
+    HANDLERS[_name] = HANDLERS["v" + _name] = _handler(_operation)
 
 
 def _move(is_aligned):
@@ -256,7 +186,7 @@ def _move(is_aligned):
     return handle
 
 
-for _name in ("movdqu", "movups", "lddqu"):
+for _name in ("movdqu", "movups"):
     HANDLERS[_name] = HANDLERS["v" + _name] = _move(False)
 for _name in ("movdqa", "movaps"):
     HANDLERS[_name] = HANDLERS["v" + _name] = _move(True)
@@ -302,20 +232,20 @@ def widen(state, i):
     _set_target(state, i, _flat((byte, ZERO) for byte in as_lane(state.read(i.operands[1], size // 2))))
 
 
-@instruction("vbroadcasti128", "vbroadcastf128", "vpbroadcastb", "vpbroadcastw", "vpbroadcastd", "vpbroadcastq")
+@instruction("vbroadcasti128", "vpbroadcastd", "vpbroadcastq")
 def broadcast(state, i):
     size = 16 if i.mnemonic.endswith("128") else UNITS[i.mnemonic[-1]]
     _set_target(state, i, as_lane(state.read(i.operands[1], size)) * (i.operands[0].size // size))
 
 
-@instruction("vinserti128", "vinsertf128")
+@instruction("vinserti128")
 def insert_half(state, i):
     _, vector, half, place = i.operands
     old, new = state.read(vector), state.read(half, 16)
     _set_target(state, i, old[:16] + new if place & 1 else new + old[16:])
 
 
-@instruction("vextracti128", "vextractf128")
+@instruction("vextracti128")
 def extract_half(state, i):
     target, vector, place = i.operands
     value = state.read(vector)[16 * (place & 1) :][:16]

@@ -1,0 +1,99 @@
+"""Wrong machine code, made on purpose: an instruction or a constant of a build is changed in a copy of its object."""
+
+import re
+import struct
+import subprocess
+import tempfile
+from functools import lru_cache
+
+from x86_64.decoding import Memory
+
+
+@lru_cache
+def assembled(text):
+    """The bytes of instructions."""
+    with tempfile.TemporaryDirectory() as folder:
+        command = ["cc", "-c", "-x", "assembler", "-o", f"{folder}/code.o", "-"]
+        source = f".intel_syntax noprefix\n{text}\n"
+        subprocess.run(command, input=source.encode(), check=True, capture_output=True)
+        subprocess.run(["objcopy", "-O", "binary", "-j", ".text", f"{folder}/code.o", f"{folder}/code"], check=True)
+        with open(f"{folder}/code", "rb") as file:
+            return file.read()
+
+
+def find(code, function, pattern, which=0):
+    """The section of a function, and its instruction that matches. The name may be a part of a section's name."""
+    if function in code.object.symbols:
+        section = code.object.section_at(code.object.symbols[function])
+    else:
+        section = next(section for section in code.object.sections if function in section.name and section.is_code)
+    known = code.front_end.instructions(section)
+    found = [known[address] for address in sorted(known) if re.search(pattern, known[address].text)]
+    return section, found[which]
+
+
+def replaced(pattern, text, which=0):
+    """Another instruction stands in the place of one, with nops after it."""
+
+    def change(code, function):
+        section, old = find(code, function, pattern, which)
+        new = assembled(text)
+        if len(new) > old.size:
+            raise ValueError(f"{text} is longer than {old.text}")
+        at = old.address - section.address
+        section.content[at : at + old.size] = new + b"\x90" * (old.size - len(new))
+        return old
+
+    return change
+
+
+def byte(pattern, offset, value, which=0):
+    """A byte of an instruction is another one, such as an immediate. It is counted from the end."""
+
+    def change(code, function):
+        section, old = find(code, function, pattern, which)
+        section.content[old.address - section.address + old.size + offset] = value
+        return old
+
+    return change
+
+
+def inverted(pattern, which=0):
+    """A conditional jump is taken where it was not."""
+
+    def change(code, function):
+        section, old = find(code, function, pattern, which)
+        section.content[old.address - section.address + (old.content[0] == 0x0F)] ^= 1
+        return old
+
+    return change
+
+
+def constant(pattern, offset, value, which=0):
+    """A byte of the constant that an instruction reads from its place after the code is another one."""
+
+    def change(code, function):
+        _, user = find(code, function, pattern, which)
+        memory = next(operand for operand in user.operands if type(operand) is Memory)
+        address = user.address + user.size + memory.displacement
+        section = code.object.section_at(address)
+        section.content[address - section.address + offset] = value
+        return user
+
+    return change
+
+
+def detour(text, size=5):
+    """At the start of a function, other instructions run before the first ones, which have `size` bytes."""
+
+    def change(code, function):
+        start = code.object.symbols[function]
+        section = code.object.section_at(start)
+        first = section.content[start - section.address :][:size]
+        tail = section.end
+        section.content += assembled(text) + first
+        section.content += b"\xe9" + struct.pack("<i", start + size - (section.end + 5))
+        at = start - section.address
+        section.content[at : at + size] = b"\xe9" + struct.pack("<i", tail - (start + 5)) + b"\x90" * (size - 5)
+
+    return change
