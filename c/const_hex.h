@@ -51,9 +51,12 @@
  *    overlap any other argument. In particular, text cannot be decoded in place.
  *  - written, decoder, and the error that is passed to const_hex_error_message are not NULL.
  *  - No other thread writes an argument while the function runs, and none reads what the function writes.
- *    An exception: if something else changes the text meanwhile, such as a process that shares the memory,
- *    the function still returns and writes only where it may, but the result is unspecified. This is tested
- *    and not verified.
+ *    In the library that CMake builds there is one exception: if something else changes the text meanwhile,
+ *    such as a process that shares the memory, the function still returns and writes only to its own
+ *    arguments, but the result is unspecified. This is tested and not verified.
+ *
+ * The next three sections are about the library that CMake builds, for Linux. Cargo builds a library with the
+ * same functions for any platform: rust/capi/README.md says what holds for it.
  *
  * FORMAL VERIFICATION
  *
@@ -67,11 +70,12 @@
  *
  * CONSTANT TIME
  *
- * For valid input, branches and memory addresses do not depend on the bytes or digits, only on the other
- * arguments: the function, lengths, sizes, flags and pointers, and whether a text has a prefix. This is
- * tested for both builds on x86-64, and not verified. It does not hold for invalid text: the error states
- * the position of the invalid character, and timing reveals it too. How long an instruction takes is up to
- * the CPU. No memory is wiped. libsodium has sodium_bin2hex and sodium_hex2bin, which are made for secrets.
+ * For valid input, branches and memory addresses do not depend on the bytes or digits, but only on lengths,
+ * sizes, flags and pointers, on whether a text has a prefix, and on where the chunks of a text are split.
+ * This is tested for both builds on x86-64, and not verified; on AArch64 it is not examined. It does not hold
+ * for invalid text: the error states the position of the invalid character, and timing reveals it too. How
+ * long an instruction takes is up to the CPU. No memory is wiped. libsodium has sodium_bin2hex and
+ * sodium_hex2bin, which are made for secrets.
  *
  * PLATFORMS
  *
@@ -83,7 +87,7 @@
  *
  * A function uses less than 2 KB of stack. The object files have no unwind tables: a debugger or profiler
  * that stops inside a function may not find its caller. They have no IBT and SHSTK properties: a program
- * that links them runs without both.
+ * that links them statically runs without these protections.
  *
  * BUILDING
  *
@@ -223,8 +227,8 @@ size_t const_hex_encoded_size(size_t bytes_length, unsigned flags);
  *   flags                0, or any of CONST_HEX_UPPER, CONST_HEX_PREFIX and CONST_HEX_NO_NUL
  *
  * Returns true on success. Returns false if text_size is smaller than const_hex_encoded_size(bytes_length,
- * flags), or flags has an unknown bit. Then the buffer is unchanged, but its first byte is set to 0, so that
- * it holds the empty string, if it has one and CONST_HEX_NO_NUL is not passed.
+ * flags), or flags has an unknown bit. Then the buffer is unchanged, except that its first byte is set to 0
+ * (the empty string) if text_size is not 0 and CONST_HEX_NO_NUL is not passed.
  *
  *     char text[65];
  *     if (const_hex_encode(hash, 32, text, sizeof text, 0)) ...
@@ -338,7 +342,7 @@ bool const_hex_decoder_update(struct const_hex_decoder *decoder, const char *tex
  *   CONST_HEX_INVALID_CHARACTER  const_hex_decoder_update failed with this error
  *   CONST_HEX_ODD_LENGTH         the last byte has only one digit
  *
- * The decoder is unchanged: it is possible to continue with another chunk.
+ * The decoder is unchanged, so you can continue with another chunk.
  */
 CONST_HEX_NODISCARD
 CONST_HEX_NONNULL(1)
