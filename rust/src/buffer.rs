@@ -48,8 +48,8 @@ impl<const N: usize, const PREFIX: bool> Buffer<N, PREFIX> {
         }
     }
 
-    /// Returns a buffer with the text of `array` in lowercase. For constants: at run time
-    /// [`format`](Self::format) is faster, and takes the same time for all bytes.
+    /// Returns a buffer with the text of `array` in lowercase. For constants, since it looks digits up in a
+    /// table: at run time use [`format`](Self::format).
     ///
     /// ```
     /// const KIWI: const_hex_proved::Buffer<4> = const_hex_proved::Buffer::new().const_format(b"kiwi");
@@ -60,8 +60,8 @@ impl<const N: usize, const PREFIX: bool> Buffer<N, PREFIX> {
         Self::of(array, false)
     }
 
-    /// Returns a buffer with the text of `array` in uppercase. For constants: at run time
-    /// [`format_upper`](Self::format_upper) is faster, and takes the same time for all bytes.
+    /// Returns a buffer with the text of `array` in uppercase. For constants, since it looks digits up in a
+    /// table: at run time use [`format_upper`](Self::format_upper).
     ///
     /// ```
     /// const KIWI: const_hex_proved::Buffer<4> =
@@ -276,7 +276,7 @@ impl<const N: usize, const PREFIX: bool> Buffer<N, PREFIX> {
         unsafe { first.cast::<u8>().add(2 - Self::PREFIX_LEN) }
     }
 
-    /// Returns a pointer by which the text can be changed. The text must stay UTF-8.
+    /// Returns a pointer through which the text can be changed. The text must stay UTF-8.
     #[inline]
     pub fn as_mut_ptr(&mut self) -> *mut u8 {
         let first: *mut Self = self;

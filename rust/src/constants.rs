@@ -1,12 +1,12 @@
-//! Functions that constants can call. They look digits up in a table, so the time that they take at run
-//! time may tell something of the bytes.
+//! Functions that constants can call. They look digits up in a table, so at run time their timing may reveal
+//! the bytes.
 
 use crate::proved::codec::body::{find_first_bad, find_invalid_character, strip_even};
 use crate::proved::{value_at, NIL};
 use crate::{Buffer, FromHexError};
 
-/// Returns the `N` bytes that a text decodes to. In a constant, a text that does not decode to `N` bytes is
-/// an error of the compiler.
+/// Returns the `N` bytes that a text decodes to. In a constant, a text that does not decode to `N` bytes is a
+/// compile-time error.
 ///
 /// # Panics
 ///
@@ -45,7 +45,7 @@ pub const fn const_encode<const N: usize, const PREFIX: bool>(
     Buffer::new().const_format(input)
 }
 
-/// Returns what [`check`](crate::check) returns. At run time `check` is faster.
+/// Returns what [`check`](crate::check) returns. At run time use `check`.
 ///
 /// # Errors
 ///
@@ -64,7 +64,7 @@ pub const fn const_check(input: &[u8]) -> Result<(), FromHexError> {
     }
 }
 
-/// Returns what [`check_raw`](crate::check_raw) returns. At run time `check_raw` is faster.
+/// Returns what [`check_raw`](crate::check_raw) returns. At run time use `check_raw`.
 ///
 /// ```
 /// const _: () = assert!(const_hex_proved::const_check_raw(b"6b6"));
@@ -77,8 +77,7 @@ pub const fn const_check_raw(input: &[u8]) -> bool {
     index == input.len()
 }
 
-/// Returns what [`decode_to_array`](crate::decode_to_array) returns. At run time `decode_to_array` is
-/// faster.
+/// Returns what [`decode_to_array`](crate::decode_to_array) returns. At run time use `decode_to_array`.
 ///
 /// # Errors
 ///

@@ -5,9 +5,9 @@ use crate::FromHexError;
 
 /// Decodes a text that arrives in chunks, as from a file or a socket. Does not allocate.
 ///
-/// The text may be cut anywhere, also between the two digits of a byte or inside the prefix. A prefix is
-/// removed from the front of the whole text alone, while [`decode`](crate::decode()) of each chunk would
-/// remove one from the front of any chunk.
+/// The text may be split anywhere, even between the two digits of a byte or within the prefix. A prefix is
+/// removed only at the start of the whole text, while [`decode`](crate::decode()) would remove one at the
+/// start of every chunk.
 ///
 /// ```
 /// use const_hex_proved::Decoder;
@@ -41,8 +41,8 @@ impl Decoder {
     /// Returns [`FromHexError::InvalidStringLength`] if `output` is too short for the new bytes. Neither it
     /// nor the decoder has changed then, and the call may be made again with a longer output. Returns
     /// [`FromHexError::InvalidHexCharacter`] with a position in the whole text if the chunk has an invalid
-    /// character. Then `output` may hold decoded bytes, and each later call for this decoder returns the
-    /// same error.
+    /// character. Then `output` may already contain decoded bytes, and each later call for this decoder
+    /// returns the same error.
     ///
     /// ```
     /// use const_hex_proved::{Decoder, FromHexError};
@@ -62,8 +62,8 @@ impl Decoder {
         self.0.decode(chunk.as_ref(), output)
     }
 
-    /// Returns `Ok` if the chunks together are a text that can be decoded. The bytes that were written are
-    /// then all of it.
+    /// Finishes decoding. Returns `Ok` if the chunks together form a complete text, whose bytes have then all
+    /// been written.
     ///
     /// # Errors
     ///

@@ -11,8 +11,8 @@ use std::io::{BufRead, BufReader, BufWriter, Error, ErrorKind, Read, Result, Wri
 ///
 /// A read returns the other reader's error, and may be repeated. It returns an error of the kind
 /// `InvalidData` with the [`FromHexError`] inside for an invalid character, or for an odd length at the end
-/// of the text. Each later read returns that error too. Bytes less than a buffer before an invalid
-/// character may be lost.
+/// of the text. Each later read returns that error too. Bytes that the failing read has decoded before
+/// an invalid character are not returned.
 ///
 /// ```
 /// use const_hex_proved::DecodeReader;
@@ -77,7 +77,7 @@ impl<R: Read> Read for DecodeReader<R> {
 ///
 /// # Errors
 ///
-/// A write returns the other writer's error, and then none of the bytes is written, so it may be repeated.
+/// A write returns the other writer's error. None of its bytes is written then, so it may be repeated.
 ///
 /// ```
 /// use const_hex_proved::EncodeWriter;

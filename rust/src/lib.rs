@@ -1,7 +1,8 @@
 //! Encodes bytes as hexadecimal text, and decodes it again.
 //!
-//! The functions of this crate run the formally verified source of [const_hex], from which only the
-//! contracts and the proofs are deleted. They have the names of the crates `const-hex` and `hex`.
+//! The names are those of the crates `const-hex` and `hex`. The core of this crate is made from formally
+//! verified source: a script deletes the contracts and the proofs, and makes the changes that it lists. The
+//! rest is hand-written and tested. README.md says which part is which.
 //!
 //! ```
 //! # #[cfg(feature = "alloc")] {
@@ -12,19 +13,16 @@
 //! const KIWI: [u8; 4] = const_hex_proved::bytes_of(b"0x6b697769");
 //! ```
 //!
-//! A text may begin with one prefix, `0x` or `0X`; only [`check_raw`] and [`const_check_raw`] accept none.
-//! A text is checked in this order: an odd length, then a length that the output does not have, then an
-//! invalid character.
+//! A text may begin with one prefix, `0x` or `0X`, except for [`check_raw`] and [`const_check_raw`]. Errors are
+//! checked in this order: an odd length, a length that does not match the output, an invalid character.
 //!
 //! # Features
 //!
 //! - `std` (default): [`DecodeReader`] and [`EncodeWriter`], and `std::error::Error` for [`FromHexError`].
-//! - `alloc` (by `std`): `String`, `Vec` and the functions that return them.
+//! - `alloc` (enabled by `std`): `String`, `Vec` and the functions that return them.
 //! - `serde`: fields with `#[serde(with = "const_hex_proved")]`.
 //! - `core-error`: `core::error::Error` for [`FromHexError`] without `std`. Needs Rust 1.81.
-//! - `checked`: tests ranges of slices that are proved to be valid also in release builds.
-//!
-//! [const_hex]: https://docs.rs/const-hex
+//! - `checked`: bounds checks also in release builds, which leave them out where a proof covers them.
 #![no_std]
 #![deny(unsafe_code, unsafe_op_in_unsafe_fn)]
 #![warn(missing_docs)]
@@ -261,8 +259,8 @@ pub fn decode<T: AsRef<[u8]>>(data: T) -> Result<Vec<u8>, FromHexError> {
 /// # Errors
 ///
 /// Returns [`FromHexError::OddLength`]; or else [`FromHexError::InvalidStringLength`], unless the text has
-/// two digits for each byte of `out`; or else [`FromHexError::InvalidHexCharacter`]. Only after the last
-/// one `out` may hold decoded bytes, from before the invalid character.
+/// two digits for each byte of `out`; or else [`FromHexError::InvalidHexCharacter`]. After the last of these,
+/// `out` may already contain bytes decoded before the invalid character; after the others it is unchanged.
 ///
 /// ```
 /// let mut bytes = [0; 4];

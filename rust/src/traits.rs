@@ -139,7 +139,7 @@ pub mod signed {
 
 /// A value that has a hexadecimal text.
 ///
-/// Every type that lends its bytes has this trait: `str`, `String`, `[u8]`, `Vec<u8>`, arrays.
+/// Every type with `AsRef<[u8]>` has this trait: `str`, `String`, `[u8]`, `Vec<u8>`, arrays of bytes.
 ///
 /// ```
 /// use const_hex_proved::ToHex;
@@ -179,8 +179,8 @@ fn digits<const UPPER: bool>(bytes: &[u8]) -> impl Iterator<Item = char> + '_ {
 
 /// A value that has a hexadecimal text, as a `String`.
 ///
-/// Every type that lends its bytes has this trait: `&str`, `String`, `&[u8]`, `Vec<u8>`, arrays. Each method
-/// allocates.
+/// Every type with `AsRef<[u8]>` has this trait: `&str`, `String`, `&[u8]`, `Vec<u8>`, arrays of bytes. Each
+/// method allocates.
 ///
 /// ```
 /// use const_hex_proved::ToHexExt;
