@@ -1,9 +1,9 @@
 /**
- * Bytes: a Uint8Array, another view of a buffer, or a whole buffer. Each function throws a TypeError if an
- * argument has another type, or if its buffer is detached or too short.
+ * Bytes: a Uint8Array, another view of a buffer, or a whole buffer. A function that takes bytes or text throws
+ * a TypeError if the argument has another type, or if its buffer is detached or has become too short.
  */
 export type Bytes = ArrayBufferView | ArrayBufferLike;
-/** Text: a string, or the bytes of one. It may begin with `0x` or `0X`, and have digits of both cases. */
+/** Text: a string, or its bytes. It may begin with `0x` or `0X`, and may mix uppercase and lowercase digits. */
 export type Text = string | Bytes;
 /** A new array over a buffer that is not shared. From TypeScript 5.7 on this is `Uint8Array<ArrayBuffer>`. */
 export type NewBytes = ReturnType<typeof Uint8Array.of>;
@@ -17,7 +17,7 @@ export type NewBytes = ReturnType<typeof Uint8Array.of>;
 export function encode(bytes: Bytes, options?: { prefix?: boolean; upper?: boolean }): string;
 
 /**
- * Returns the bytes that the text encodes: `decode('0x6b69')` returns 107 and 105.
+ * Returns the bytes that the text decodes to: `decode('0x6b69')` returns 107 and 105.
  *
  * @throws {HexError} if the length is odd, or a character is not a digit
  * @throws {RangeError} if memory cannot be allocated
@@ -25,17 +25,17 @@ export function encode(bytes: Bytes, options?: { prefix?: boolean; upper?: boole
 export function decode(text: Text): NewBytes;
 
 /**
- * Fills `target` with the bytes that the text encodes, and returns it. After an error it is unchanged.
+ * Fills `target` with the bytes that the text decodes to, and returns it. After an error it is unchanged.
  *
- * @throws {HexError} if the length is odd, the text does not encode exactly as many bytes as `target` has, or
- *     a character is not a digit
+ * @throws {HexError} if the length is odd, the text does not decode to exactly `target.length` bytes, or a
+ *     character is not a digit
  * @throws {RangeError} if memory cannot be allocated. Text of up to 32,768 characters needs none
  */
 export function decodeInto<Target extends Uint8Array>(text: Text, target: Target): Target;
 
 /**
- * Returns a decoder of text that arrives in chunks, split anywhere. Only the start of the whole text may be
- * `0x`, while `decode` of each chunk would accept one at the start of any.
+ * Returns a decoder for text that arrives in chunks, split anywhere. It accepts a prefix only at the start of
+ * the whole text, while `decode` would accept one at the start of every chunk.
  *
  *     const { push, end } = decoder();
  *     push('0x6'); // Uint8Array []
@@ -51,14 +51,14 @@ export interface Decoder {
      * be pushed again.
      */
     push(chunk: Text): NewBytes;
-    /** Returns if the text is complete. Throws a HexError if a digit is left over, or what `push` threw. */
+    /** Throws a HexError if a digit is left over, or again the HexError that `push` threw. */
     end(): void;
 }
 
-/** Returns a stream that decodes chunks by a `decoder`: `response.body.pipeThrough(decoderStream())`. */
+/** Returns a stream that decodes chunks of text: `response.body.pipeThrough(decoderStream())`. */
 export function decoderStream(): TransformStream<Text, NewBytes>;
 
-/** Throws what `decode` throws for the text, but for a RangeError, and returns nothing. */
+/** Throws what `decode` would throw for the text, except for a RangeError. Returns nothing. */
 export function check(text: Text): void;
 
 /** Returns whether `decode` accepts the text. */
@@ -74,9 +74,9 @@ export { encode as bytesToHex, decode as hexToBytes };
 export class HexError extends SyntaxError {
     readonly name: 'HexError';
     readonly kind: 'OddLength' | 'InvalidStringLength' | 'InvalidHexCharacter';
-    /** For `'InvalidHexCharacter'`, its position, counting the prefix, or 4294967295 if it is greater. */
+    /** For `'InvalidHexCharacter'`, its position, counting the prefix. A greater one is 4294967295. */
     readonly index?: number;
-    /** For `'InvalidHexCharacter'`, the first byte of that character in UTF-8. */
+    /** For `'InvalidHexCharacter'`, the first byte of the character in UTF-8. */
     readonly byte?: number;
     private constructor();
 }
