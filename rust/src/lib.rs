@@ -22,7 +22,8 @@
 //! - `alloc` (enabled by `std`): `String`, `Vec` and the functions that return them.
 //! - `serde`: fields with `#[serde(with = "const_hex_proved")]`.
 //! - `core-error`: `core::error::Error` for [`FromHexError`] without `std`. Needs Rust 1.81.
-//! - `checked`: bounds checks also in release builds, which leave them out where a proof covers them.
+//! - `checked`: bounds checks also in release builds, which leave out those that a proof for lengths of 64 bits
+//!   makes unnecessary.
 #![no_std]
 #![deny(unsafe_code, unsafe_op_in_unsafe_fn)]
 #![warn(missing_docs)]
