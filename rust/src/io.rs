@@ -48,8 +48,8 @@ impl<R: Read> DecodeReader<R> {
             self.end = Some(self.decoder.clone().finish());
             return Ok(0);
         }
-        // With a digit that waits for its other half, so many digits fill the output.
-        let length = text.len().min(output.len().saturating_mul(2) - 1);
+        // So many digits fill the output, also if another one waits for its other half.
+        let length = text.len().min(output.len().saturating_mul(2));
         let decoded = self.decoder.decode(&text[..length], output);
         self.text.consume(length);
         self.end = decoded.err().map(Err);
