@@ -2,7 +2,7 @@
 
 #![allow(dead_code, unused_imports, unused_labels)]
 
-pub use crate::proved::arch::{plain, Kernel};
+pub use crate::proved::arch::Kernel;
 
 #[path = "proved/arch/drivers.rs"]
 #[rustfmt::skip]
@@ -43,5 +43,18 @@ pub mod short {
     #[inline(never)]
     unsafe fn decode_apart<W: Vectors<16>>(text: &[u8], output: &mut [u8]) -> bool {
         super::short_inlined::decode::<W>(text, output)
+    }
+}
+
+/// The proved kernel for an invalid text, as a function of its own: inlined, it would make `decode` save
+/// registers for each valid text.
+pub mod plain {
+    pub struct Plain;
+
+    impl Plain {
+        #[cold]
+        pub fn decode_checked(text: &[u8], output: &mut [u8]) -> bool {
+            <crate::proved::Plain as super::Kernel>::decode_checked(text, output)
+        }
     }
 }

@@ -39,7 +39,8 @@ macro_rules! by_kernel {
         }
         #[cfg(target_arch = "x86_64")]
         #[target_feature(enable = "avx2")]
-        #[inline(never)]
+        #[cfg_attr(target_feature = "avx2", inline)]
+        #[cfg_attr(not(target_feature = "avx2"), inline(never))]
         unsafe fn with_avx2$(<$o: $output>)?($($argument: $type),*) $(-> $result)? {
             type $k = Lanes32;
             $body
