@@ -2,7 +2,7 @@
 //!
 //! The names are those of the crates `const-hex` and `hex`. The core of this crate is made from formally
 //! verified source: a script deletes the contracts and the proofs, and makes the changes that it lists. The
-//! rest is hand-written and tested. README.md says which part is which.
+//! rest is hand-written and tested. README.md says which part is which, and lists the features.
 //!
 //! ```
 //! # #[cfg(feature = "alloc")] {
@@ -15,15 +15,6 @@
 //!
 //! A text may begin with one prefix, `0x` or `0X`, except for [`check_raw`] and [`const_check_raw`]. Errors are
 //! checked in this order: an odd length, a length that does not match the output, an invalid character.
-//!
-//! # Features
-//!
-//! - `std` (default): [`DecodeReader`] and [`EncodeWriter`], and `std::error::Error` for [`FromHexError`].
-//! - `alloc` (enabled by `std`): `String`, `Vec` and the functions that return them.
-//! - `serde`: fields with `#[serde(with = "const_hex_proved")]`.
-//! - `core-error`: `core::error::Error` for [`FromHexError`] without `std`. Needs Rust 1.81.
-//! - `checked`: bounds checks also in release builds, which leave out those that a proof for lengths of 64 bits
-//!   makes unnecessary.
 #![no_std]
 #![deny(unsafe_code, unsafe_op_in_unsafe_fn)]
 #![warn(missing_docs)]

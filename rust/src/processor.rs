@@ -3,6 +3,7 @@
 #[cfg(target_arch = "x86_64")]
 use crate::avx2::lanes32::Lanes32;
 use crate::proved::{Kernel, Output};
+use crate::rattle::registers::Portable;
 #[cfg(feature = "alloc")]
 use crate::FromHexError;
 #[cfg(feature = "alloc")]
@@ -10,26 +11,9 @@ use alloc::vec::Vec;
 #[cfg(target_arch = "x86_64")]
 pub use avx2::has_avx2;
 
-/// The kernel that each processor of the architecture can run. On x86-64 it computes digits, since SSE2 has
-/// no instruction that looks them up in a register.
-#[cfg(target_arch = "x86_64")]
-type Portable = crate::proved::Arithmetic16;
-#[cfg(any(
-    all(target_arch = "aarch64", target_endian = "little"),
-    all(target_arch = "wasm32", target_feature = "simd128"),
-))]
-type Portable = crate::proved::Lanes16;
-/// The kernel for other processors. It looks digits up in memory, so the time that it takes may tell
-/// something of the bytes.
-#[cfg(not(any(
-    target_arch = "x86_64",
-    all(target_arch = "aarch64", target_endian = "little"),
-    all(target_arch = "wasm32", target_feature = "simd128"),
-)))]
-type Portable = crate::proved::Plain;
-
 /// The body of a function that runs by the kernel `$k`: on x86-64 the one over AVX2 if the processor has it,
-/// and otherwise `Portable`. Each is a function of its own, so that the code of a caller stays small.
+/// and otherwise `Portable`. Each is a function of its own, so that the code of a caller stays small. In a build
+/// for AVX2 there is no choice, and the compiler may inline the function.
 macro_rules! by_kernel {
     ([$($o:ident: $output:ident)?] ($($argument:ident: $type:ty),*) $(-> $result:ty)?, $k:ident => $body:expr) => {{
         #[inline(never)]

@@ -88,38 +88,46 @@ fn files(folder: &Path) -> Vec<PathBuf> {
         .collect()
 }
 
-/// Each `unsafe` block has its reason, and UNSAFE.md has the number of each file.
+/// The numbers of `unsafe` blocks, each of which has its reason, and of `unsafe` functions.
+fn unsafe_code(text: &str) -> [usize; 2] {
+    let mut counts = [0, 0];
+    let lines: Vec<&str> = text.lines().collect();
+    for (number, line) in lines.iter().enumerate() {
+        if line.trim_start().starts_with("//") {
+            continue;
+        }
+        if line.contains("unsafe {") {
+            let before = &lines[number.saturating_sub(4)..number];
+            let has_reason = before.iter().any(|line| line.contains("// SAFETY: "));
+            assert!(has_reason, "no reason before `{}`", line.trim());
+            counts[0] += 1;
+        }
+        counts[1] += usize::from(line.contains("unsafe fn") || line.contains("unsafe extern"));
+    }
+    counts
+}
+
+/// UNSAFE.md lists all files with unsafe code.
 #[test]
 fn places_of_unsafe() {
-    let source = Path::new(FOLDER).join("src");
     let mut listed = BTreeMap::new();
-    for line in fs::read_to_string(Path::new(FOLDER).join("UNSAFE.md"))
-        .unwrap()
-        .lines()
-    {
+    let page = fs::read_to_string(Path::new(FOLDER).join("UNSAFE.md")).unwrap();
+    for line in page.lines() {
         let cells: Vec<&str> = line.split('|').map(str::trim).collect();
-        if let ["", file, count, _, ""] = cells[..] {
-            if let Ok(count) = count.parse::<usize>() {
-                listed.insert(file.trim_matches('`').to_string(), count);
+        if let ["", file, blocks, functions, _, ""] = cells[..] {
+            if let (Ok(blocks), Ok(functions)) = (blocks.parse(), functions.parse()) {
+                listed.insert(file.trim_matches('`').to_string(), [blocks, functions]);
             }
         }
     }
+    let folders = ["src", "capi/src"].map(|folder| files(&Path::new(FOLDER).join(folder)));
     let mut found = BTreeMap::new();
-    for file in files(&source) {
-        let text = fs::read_to_string(&file).unwrap();
-        let lines: Vec<&str> = text.lines().collect();
-        let code = |line: &&str| !line.trim_start().starts_with("//");
-        let blocks = |line: &str| line.contains("unsafe {");
-        for (number, line) in lines.iter().enumerate().filter(|(_, line)| code(line)) {
-            let before = lines[number.saturating_sub(4)..number].iter();
-            let has_reason = before.clone().any(|line| line.contains("// SAFETY: "));
-            let name = file.strip_prefix(&source).unwrap().display().to_string();
-            if blocks(line) {
-                assert!(has_reason, "{name}, line {}", number + 1);
-                *found.entry(name).or_insert(0) += 1;
-            }
+    for file in folders.concat() {
+        let counts = unsafe_code(&fs::read_to_string(&file).unwrap());
+        if counts != [0, 0] {
+            let name = file.strip_prefix(FOLDER).unwrap();
+            found.insert(name.display().to_string(), counts);
         }
     }
-    found.retain(|name, _| !name.ends_with("tests.rs"));
     assert_eq!(found, listed);
 }

@@ -3,6 +3,10 @@
 
 use super::Register;
 
+/// The kernel for processors without registers that are used here. It looks digits up in memory, so the time
+/// that it takes may tell something of the bytes.
+pub type Portable = crate::proved::Plain;
+
 /// 16 bytes.
 #[derive(Clone, Copy)]
 #[repr(transparent)]

@@ -27,7 +27,7 @@ mod array;
 #[cfg(test)]
 mod tests;
 
-pub use kind::{narrow, widen, V16};
+pub use kind::{narrow, widen, Portable, V16};
 pub type V32 = [V16; 2];
 pub type V64 = [V32; 2];
 

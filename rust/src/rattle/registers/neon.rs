@@ -3,6 +3,9 @@
 use super::Register;
 use core::arch::aarch64::*;
 
+/// The kernel over these registers.
+pub type Portable = crate::proved::Lanes16;
+
 /// 16 bytes.
 #[derive(Clone, Copy)]
 #[repr(transparent)]

@@ -4,6 +4,9 @@ use super::Register;
 use core::arch::x86_64::*;
 use core::mem::transmute;
 
+/// The kernel over these registers. It computes digits, since SSE2 cannot look them up in a register.
+pub type Portable = crate::proved::Arithmetic16;
+
 /// 16 bytes.
 #[derive(Clone, Copy)]
 #[repr(transparent)]

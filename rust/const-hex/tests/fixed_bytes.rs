@@ -1,7 +1,5 @@
-//! Types of fixed bytes, such as addresses and hashes, in constants and in JSON. The source builds with
-//! the Rust crate const-hex too.
-//!
-//!     cargo run --example fixed_bytes --features serde
+//! A program for const-hex: types of fixed bytes, such as addresses and hashes, in constants and in JSON.
+#![cfg(all(feature = "serde", feature = "std"))]
 
 use const_hex::{Buffer, FromHexError};
 use serde::{Deserialize, Deserializer, Serialize, Serializer};
@@ -78,7 +76,7 @@ const FROM: Address = FixedBytes::spelled("0x00000000219ab540356cbb839cbe05303d7
 const TO: Address = FixedBytes([0x5A; 20]);
 const MAGIC: Buffer<4, true> = const_hex::const_encode(b"kiwi");
 
-/// Returns what this program prints.
+/// Returns what the program prints.
 fn report() -> serde_json::Result<String> {
     let transfer = Transfer {
         from: FROM,
@@ -96,11 +94,6 @@ fn report() -> serde_json::Result<String> {
         "{json}\nfrom {FROM}, {FROM:#X}\nmagic {}\n{refused}: {refused:?}\n",
         MAGIC.as_str()
     ))
-}
-
-fn main() -> serde_json::Result<()> {
-    print!("{}", report()?);
-    Ok(())
 }
 
 /// The file is what the program prints with the Rust crate const-hex.
