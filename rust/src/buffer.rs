@@ -19,7 +19,7 @@ use core::{fmt, str};
 /// const PEAR: const_hex_proved::Buffer<4> = const_hex_proved::Buffer::new().const_format(b"pear");
 /// assert_eq!(PEAR.as_str(), "70656172");
 /// ```
-// `as_ptr` relies on the order of the fields, and that nothing lies between them. The text is UTF-8 at all times.
+// `as_ptr` relies on the order of the fields, and that nothing lies between them. The text is always UTF-8.
 #[must_use]
 #[repr(C)]
 #[derive(Clone)]
@@ -139,7 +139,7 @@ impl<const N: usize, const PREFIX: bool> Buffer<N, PREFIX> {
     #[inline]
     #[track_caller]
     fn write(&mut self, bytes: &[u8], upper: bool) -> &mut str {
-        // SAFETY: an error leaves the text unchanged, and otherwise it is digits and a prefix, which are ASCII.
+        // SAFETY: an error leaves the text unchanged, and otherwise it is digits and a prefix: ASCII.
         let text = unsafe { self.as_mut_bytes() };
         if encode_full_to_slice(bytes, PREFIX, upper, text).is_err() {
             panic!("the slice has {} bytes instead of {N}", bytes.len());

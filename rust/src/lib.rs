@@ -13,8 +13,8 @@
 //! const KIWI: [u8; 4] = const_hex_proved::bytes_of(b"0x6b697769");
 //! ```
 //!
-//! A text may begin with one prefix, `0x` or `0X`, except for [`check_raw`] and [`const_check_raw`]. Errors are
-//! checked in this order: an odd length, a length that does not match the output, an invalid character.
+//! A text may begin with one prefix, `0x` or `0X`, except for [`check_raw`] and [`const_check_raw`]. Errors
+//! are checked in this order: an odd length, a length that does not match the output, an invalid character.
 #![no_std]
 #![deny(unsafe_code, unsafe_op_in_unsafe_fn)]
 #![warn(missing_docs)]

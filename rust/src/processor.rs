@@ -12,10 +12,13 @@ use alloc::vec::Vec;
 pub use avx2::has_avx2;
 
 /// The body of a function that runs by the kernel `$k`: on x86-64 the one over AVX2 if the processor has it,
-/// and otherwise `Portable`. Each is a function of its own, so that the code of a caller stays small. In a build
-/// for AVX2 there is no choice, and the compiler may inline the function.
+/// and otherwise `Portable`. Each is a function of its own, so that the code of a caller stays small. In a
+/// build for AVX2 there is no choice, and the compiler may inline the function.
 macro_rules! by_kernel {
-    ([$($o:ident: $output:ident)?] ($($argument:ident: $type:ty),*) $(-> $result:ty)?, $k:ident => $body:expr) => {{
+    (
+        [$($o:ident: $output:ident)?] ($($argument:ident: $type:ty),*) $(-> $result:ty)?,
+        $k:ident => $body:expr
+    ) => {{
         #[inline(never)]
         fn portable$(<$o: $output>)?($($argument: $type),*) $(-> $result)? {
             type $k = Portable;

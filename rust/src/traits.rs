@@ -82,7 +82,7 @@ mod unsigned {
     use alloc::{borrow::Cow, borrow::ToOwned, boxed::Box, rc::Rc, vec::Vec};
 
     from_hex! {
-        /// A type that is read from hexadecimal text: bytes in arrays, vectors and boxes, and what holds them.
+        /// A type that is read from hexadecimal text: bytes in arrays, vectors and boxes, and their holders.
         ///
         /// ```
         /// use const_hex_proved::FromHex;
