@@ -55,7 +55,7 @@ pub fn ask(folder: &str, calls: impl Fn(&Line) -> Vec<(&'static str, String)>) {
         }
         asked += usize::from(!answers.is_empty());
     }
-    assert!(asked > 1000, "only {asked} lines are asked");
+    assert!(asked > 300, "only {asked} lines are asked");
 }
 
 /// The bytes that a cell shows.
