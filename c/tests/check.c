@@ -245,11 +245,16 @@ static void lengths_that_wrap(void) {
 }
 
 static const struct test TESTS[] = {
-    TEST(sizes_and_version), TEST(messages),
-    TEST(null_buffers),      TEST(null_errors),
-    TEST(unknown_flags),     TEST(every_length_and_alignment),
-    TEST(long_texts),        TEST(every_character_and_position),
-    TEST(every_cut),         TEST(any_contents_of_a_decoder),
+    TEST(sizes_and_version),
+    TEST(messages),
+    TEST(null_buffers),
+    TEST(null_errors),
+    TEST(unknown_flags),
+    TEST(every_length_and_alignment),
+    TEST(long_texts),
+    TEST(every_character_and_position),
+    TEST(every_cut),
+    TEST(any_contents_of_a_decoder),
     TEST(lengths_that_wrap),
 };
 MAIN(TESTS)
