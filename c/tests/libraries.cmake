@@ -28,11 +28,10 @@ foreach(row v3=ymm0 default=pshufb single=tbl|pshufb)
   string(REGEX MATCH "^([a-z0-9]+)=(.*)" row "${row}")
   set(object ${PROJECT_BINARY_DIR}/const_hex_${CMAKE_MATCH_1}.o)
   if(object IN_LIST PARTS)
-    test(library.lanes_of_${CMAKE_MATCH_1} COMMAND sh -c "'${CMAKE_OBJDUMP}' -d '${object}' > code &&
-      for name in encode decode decode_exact decoder_update; do
-        sed -nE \"/<const_hex_$name(_nonnull)?(_v3|_default)?>:/,/^$/p\" code |
-          grep -qwE '${CMAKE_MATCH_2}' || exit
-      done")
+    test(library.lanes_of_${CMAKE_MATCH_1} COMMAND sh -c
+      "for name in encode decode decode_exact decoder_update; do '${CMAKE_OBJDUMP}' -d '${object}' |
+        sed -nE \"/<const_hex_$name(_nonnull)?(_v3|_default)?>:/,/^$/p\" |
+        grep -qwE '${CMAKE_MATCH_2}' || exit; done")
   endif()
 endforeach()
 if(NOT CMAKE_CROSSCOMPILING)
