@@ -1,7 +1,7 @@
 """The calls of const_hex.h, and what has to be proved of each.
 
-A call has forms (contracts.py) for each length, and cases without a loop: `start` gives the state at the first
-instruction, for lengths and sizes that may have symbols, and `ends` compares a state that has returned.
+A call has forms (contracts.py) for each length, and cases without a loop: `start` gives the state at the
+first instruction, for lengths and sizes that may have symbols, and `ends` compares a state that has returned.
 """
 
 import pathlib
@@ -9,13 +9,29 @@ import re
 
 from conditions import Condition
 from contracts import (
-    BEFORE, INVALID_CHARACTER, INVALID_LENGTH, NO_NUL, ODD_LENGTH, PREFIX, SIZE_MAX,
-    Check, CheckRaw, Decode, DecodeExact, DecoderUpdate, Encode,
-    answer_of, assume_prefix, cases_of_answer, is_same, require_error, require_value, unchanged,
+    BEFORE,
+    INVALID_CHARACTER,
+    INVALID_LENGTH,
+    NO_NUL,
+    ODD_LENGTH,
+    PREFIX,
+    SIZE_MAX,
+    Check,
+    CheckRaw,
+    Decode,
+    DecodeExact,
+    DecoderUpdate,
+    Encode,
+    answer_of,
+    assume_prefix,
+    is_same,
+    require_error,
+    require_value,
+    unchanged,
 )
 from exploration import outcomes, require
 from induction import prove_class, prove_length, with_nulls
-from linear import Linear, symbol
+from linear import symbol
 from memory import Pointer, Region, as_lane, as_value
 from values import CONSTANTS, ZERO, apply, constants, kept, unknown, variable
 
@@ -24,10 +40,17 @@ N, K, OVER = symbol("n"), symbol("k"), symbol("over")
 
 
 class Case:
-    """A call whose arguments are made by `make(front_end)`: arguments, regions, and what else is known of the state."""
+    """A call whose arguments are made by `make(front_end)`: arguments, regions, and what else is known of the
+    state."""
 
     def __init__(self, name, arguments, regions, judge, assume=None):
-        self.name, self.arguments, self.regions, self.judge, self.assume = name, arguments, regions, judge, assume
+        self.name, self.arguments, self.regions, self.judge, self.assume = (
+            name,
+            arguments,
+            regions,
+            judge,
+            assume,
+        )
 
     def prove(self, code, function):
         state = code.front_end.start(code, function, self.arguments, self.regions())
@@ -56,7 +79,9 @@ def _encoded_size_cases():
         fits, too_long = symbol(f"up to {most}", most), symbol(f"beyond {most}", SIZE_MAX - most - 1)
         for length, size in ((fits, fits * 2 + beside), (too_long + (most + 1), SIZE_MAX)):
             yield Case(f"flags {flags}, {length} bytes", [length, constants(flags, 4)], list, _returns(size))
-    yield Case("unknown flags", [symbol("any", SIZE_MAX), _flags_beyond(0)], list, _returns(SIZE_MAX), _beyond(0))
+    yield Case(
+        "unknown flags", [symbol("any", SIZE_MAX), _flags_beyond(0)], list, _returns(SIZE_MAX), _beyond(0)
+    )
 
 
 def _returns(wanted):
@@ -107,7 +132,14 @@ def _encode_failures():
             for length, size in sizes:
                 yield _encode_failure(f"flags {flags}", length, size, constants(flags, 4), flags)
         for odd in (0, 1):
-            yield _encode_failure(f"unknown flags, of which {flags}", N, K * 2 + odd, _flags_beyond(flags), flags, _beyond(flags))
+            yield _encode_failure(
+                f"unknown flags, of which {flags}",
+                N,
+                K * 2 + odd,
+                _flags_beyond(flags),
+                flags,
+                _beyond(flags),
+            )
 
 
 def _encode_failure(what, length, size, lane, flags, assume=None):
@@ -141,7 +173,8 @@ def _text_failures(call):
 def _text_failure(call, kind, body, length, size):
     arguments = [Pointer("text", 0), length]
     arguments += {"check": [], "decode_exact": [Pointer("bytes", 0), size]}.get(
-        call, [Pointer("bytes", 0), size, Pointer("written", 0)])
+        call, [Pointer("bytes", 0), size, Pointer("written", 0)]
+    )
 
     def regions():
         buffers = [Region("bytes", size, True), Region("written", 8, True, 8), Region("error", 16, True, 8)]
@@ -158,7 +191,13 @@ def _text_failure(call, kind, body, length, size):
         if body is not None:
             assume_prefix(state, body)
 
-    return Case(f"kind {kind}: a text of {length} for {size} bytes", [*arguments, Pointer("error", 0)], regions, judge, assume)
+    return Case(
+        f"kind {kind}: a text of {length} for {size} bytes",
+        [*arguments, Pointer("error", 0)],
+        regions,
+        judge,
+        assume,
+    )
 
 
 # Decoders
@@ -191,7 +230,9 @@ def _assume_failed(state):
 def _require_failed(end):
     """The error of an earlier chunk, again."""
     content = end.memory.regions["decoder"].content
-    require_value(end, "error", 0, constants(INVALID_CHARACTER, 4) + (content[8], ZERO, ZERO, ZERO) + content[:8])
+    require_value(
+        end, "error", 0, constants(INVALID_CHARACTER, 4) + (content[8], ZERO, ZERO, ZERO) + content[:8]
+    )
 
 
 def _update_failures():
@@ -209,7 +250,14 @@ def _update_failures():
 
 
 def _update_failure(name, content, length, size, kind, assume):
-    arguments = [Pointer("decoder", 0), Pointer("text", 0), length, Pointer("bytes", 0), size, Pointer("written", 0)]
+    arguments = [
+        Pointer("decoder", 0),
+        Pointer("text", 0),
+        length,
+        Pointer("bytes", 0),
+        size,
+        Pointer("written", 0),
+    ]
 
     def regions():
         decoder = Region("decoder", 16, True, 8, content)
@@ -222,7 +270,13 @@ def _update_failure(name, content, length, size, kind, assume):
         require_value(end, "written", 0, constants(0, 8))
         require_error(end, kind) if kind else _require_failed(end)
 
-    return Case(f"{name}: a chunk of {length} for {size} bytes", [*arguments, Pointer("error", 0)], regions, judge, assume)
+    return Case(
+        f"{name}: a chunk of {length} for {size} bytes",
+        [*arguments, Pointer("error", 0)],
+        regions,
+        judge,
+        assume,
+    )
 
 
 def _finishes():
@@ -248,21 +302,25 @@ def _version():
     wanted = int(re.search(r"#define CONST_HEX_VERSION (\d+)", HEADER.read_text())[1])
 
     def judge(code, end):
-        require(is_same(end.path, code.front_end.result(end, 4), constants(wanted, 4)), f"the version is not {wanted}")
+        require(
+            is_same(end.path, code.front_end.result(end, 4), constants(wanted, 4)),
+            f"the version is not {wanted}",
+        )
 
     yield Case(f"version {wanted}", [], list, judge)
 
 
 class Call:
-    """Its forms for each length, by rounds of `size` bytes, its other cases, and whether each length is possible."""
+    """Its forms for each length, by rounds of `size` bytes, its other cases, and whether each length is
+    possible."""
 
     def __init__(self, forms, cases, size=0, step=1, has_nonnull=False):
         self.forms, self.cases, self.size, self.step = list(forms), list(cases), size, step
         self.suffix = "_nonnull" if has_nonnull else ""
 
     def parts(self):
-        """What is proved alone: the cases, the short lengths, and the classes of all others: of those that are longer
-        by rounds."""
+        """What is proved alone: the cases, the short lengths, and the classes of all others: of those that
+        are longer by rounds."""
         yield from (("case", at) for at in range(len(self.cases)))
         for at, form in enumerate(self.forms):
             for length in range(form.shortest, 2 * self.size + 2 + form.body, self.step):

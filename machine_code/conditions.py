@@ -1,11 +1,11 @@
 """Conditions on the unknown bytes, and what a path knows of them.
 
-An atom is a `Byte` whose table has only 0 and 1. A `Condition` is a conjunction of atoms, or the negation of one: the
-test whether a vector is zero has an atom for each byte.
+An atom is a `Byte` whose table has only 0 and 1. A `Condition` is a conjunction of atoms, or the negation of
+one: the test whether a vector is zero has an atom for each byte.
 
-A `Path` has a set of allowed values for each variable, and clauses: of each clause at least one atom is false. Where an
-atom depends on two variables, knowledge may be lost. So a path that is explored may be impossible, but no input is
-left out.
+A `Path` has a set of allowed values for each variable, and clauses: of each clause at least one atom is
+false. Where an atom depends on two variables, knowledge may be lost. So a path that is explored may be
+impossible, but no input is left out.
 """
 
 from linear import is_surely_below, replaced
@@ -130,11 +130,15 @@ class Path:
         return Path(self.sets, self.clauses, self.runs)
 
     def replaced(self, name, by):
-        runs = [(region, replaced(a, name, by), replaced(b, name, by), allowed) for region, a, b, allowed in self.runs]
+        runs = [
+            (region, replaced(a, name, by), replaced(b, name, by), allowed)
+            for region, a, b, allowed in self.runs
+        ]
         return Path(self.sets, self.clauses, runs)
 
     def allowed(self, variable):
-        """The values that a byte may have. What a run says of it stays true: a name means the same byte for good."""
+        """The values that a byte may have. What a run says of it stays true: a name means the same byte for
+        good."""
         found = self.sets.get(variable)
         if found is None:
             found = self.sets[variable] = self._allowed_by_runs(parts_of(variable))

@@ -1,12 +1,12 @@
 """The contracts of the functions that read or write text, in the words of c/const_hex.h.
 
-A form is a function with some of its arguments fixed, such as the flags, for an input of any length. Its `start` gives
-the state at the first instruction, for a length that may have symbols. A state has a `ghost`: the `length` of the
-input, how much of it is `read` and of the output `written`. What is judged is the part from there on. `bad` says
-that the text from `read` on has an invalid character.
+A form is a function with some of its arguments fixed, such as the flags, for an input of any length. Its
+`start` gives the state at the first instruction, for a length that may have symbols. A state has a `ghost`:
+the `length` of the input, how much of it is `read` and of the output `written`. What is judged is the part
+from there on. `bad` says that the text from `read` on has an invalid character.
 """
 
-from conditions import Condition, Impossible, are_equal, conjunction
+from conditions import Impossible, are_equal, conjunction
 from digits import IS_DIGIT, decoded, digits_of, is_digit, is_prefix
 from exploration import Refused, require, sides
 from linear import Linear, constant_of, linear, symbol, terms_of
@@ -90,7 +90,10 @@ class Form:
         if not state.ghost.get("begun"):
             for at, byte in enumerate(self.begin):
                 found = state.memory.written(self.output).get(at)
-                require(found and is_same(state.path, (found,), (byte,)), f"{self.output}[{at}] is not what it should be")
+                require(
+                    found and is_same(state.path, (found,), (byte,)),
+                    f"{self.output}[{at}] is not what it should be",
+                )
             if self.begin:
                 state.memory.forget(self.output, range(len(self.begin)))
             state.ghost = {**state.ghost, "begun": True}
@@ -108,7 +111,10 @@ class Form:
     def after_round(self, state, count):
         """So many bytes of the input were read, and just what belongs to them is written."""
         unchanged(state, *self.last)
-        require(self.written(state) == count // self.unit * self.per_unit, "another number of bytes is written in a round")
+        require(
+            self.written(state) == count // self.unit * self.per_unit,
+            "another number of bytes is written in a round",
+        )
 
     def left_to_read(self, state):
         count = state.ghost["length"] - state.ghost["read"]
@@ -118,7 +124,10 @@ class Form:
     def accepts(self, state):
         """The call has returned true: all of the rest is done."""
         count = self.left_to_read(state)
-        require(self.written(state) == count // self.unit * self.per_unit, "another number of bytes is written at the end")
+        require(
+            self.written(state) == count // self.unit * self.per_unit,
+            "another number of bytes is written at the end",
+        )
 
 
 class Encode(Form):
@@ -249,7 +258,7 @@ class Check(CheckRaw):
         require_error(state, INVALID_CHARACTER, byte, place)
 
     def before_search(self, state):
-        """At the head of the search for the first invalid character, which is there: what is written is right."""
+        """At the head of the search for the first invalid character: what is written so far is right."""
         unchanged(state, *self.last)
         self.written(state)
 
@@ -273,7 +282,10 @@ class DecodeExact(Check):
     def wanted(self, state, at):
         place = state.ghost["read"] + 2 * at
         pair = [unknown("text", place + half) for half in (0, 1)]
-        require(all(state.path.decide_atom(is_digit(byte)) is True for byte in pair), "what is not a digit is decoded")
+        require(
+            all(state.path.decide_atom(is_digit(byte)) is True for byte in pair),
+            "what is not a digit is decoded",
+        )
         return decoded(*pair)
 
 
@@ -307,7 +319,7 @@ class DecoderUpdate(Decode):
     last = ("error", "written", "decoder")
 
     def __init__(self, name, index, waits, prefix, has_prefix=None):
-        """So many of the chunk's characters belong to a prefix. `has_prefix` is None if the chunk cannot have one."""
+        """`prefix` characters of the chunk belong to one. `has_prefix` is None if that is out of question."""
         self.name, self.index, self.waits = name, index, waits
         self.digits = self.shortest = prefix
         self.has_prefix = has_prefix
@@ -343,7 +355,9 @@ class DecoderUpdate(Decode):
         if not self.begin or state.ghost.get("begun"):
             super().set_aside(state)
         elif 0 in state.memory.written("bytes"):
-            require(state.path.decide_atom(is_digit(unknown("text", 0))) is True, "what is not a digit is decoded")
+            require(
+                state.path.decide_atom(is_digit(unknown("text", 0))) is True, "what is not a digit is decoded"
+            )
             super().set_aside(state)
         else:
             require(not state.memory.written("bytes"), "bytes[0] is not the first that is written")
@@ -368,7 +382,6 @@ class DecoderUpdate(Decode):
 
     def moves(self, state, count):
         """The decoder's position is `count` characters on."""
-        index = state.memory.regions["decoder"].content[:8]
         require_value(state, "decoder", 0, as_value(self.index + count))
 
     def fails(self, state, byte, place):

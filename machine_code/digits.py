@@ -1,5 +1,5 @@
-"""The definition of hexadecimal digits, in one place. tests/test_digits.py shows that it is that of the contracts in
-crates/const_hex_arch/specs."""
+"""The definition of hexadecimal digits, in one place. tests/test_digits.py shows that it is that of the
+contracts in crates/const_hex_arch/specs."""
 
 from values import apply, byte_of, kept
 

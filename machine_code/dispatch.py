@@ -1,14 +1,15 @@
 """The object of c/dispatch.c: each function of const_hex.h, which jumps to one of the two builds.
 
-It does not look at its arguments, so what is proved holds for any: they arrive unchanged at a build, except that a
-NULL error becomes a pointer to a local one, and the result is what the build returns. The build is the one that the
-stored byte names. If it names none, the CPU is asked, and the build for x86-64-v3 is taken if and only if the CPU has
-all that this level needs. The byte may be anything at the start; so may all that `cpuid` and `xgetbv` return.
+It does not look at its arguments, so what is proved holds for any: they arrive unchanged at a build, except
+that a NULL error becomes a pointer to a local one, and the result is what the build returns. The build is the
+one that the stored byte names. If it names none, the CPU is asked, and the build for x86-64-v3 is taken if
+and only if the CPU has all that this level needs. The byte may be anything at the start; so may all that
+`cpuid` and `xgetbv` return.
 """
 
 from conditions import conjunction
 from contracts import is_same
-from exploration import RETURNED, outcomes, require, require_one_path
+from exploration import RETURNED, outcomes, require
 from memory import Pointer, as_lane
 from values import apply, constants, kept, unknown, variable
 
@@ -34,7 +35,10 @@ FEATURES = [
     (7, "rbx", 1 << 3 | 1 << 5 | 1 << 8),  # BMI1, AVX2, BMI2
     (0x80000001, "rcx", 1 << 5),  # LZCNT
 ]
-LEAVES = {0: 7, 0x80000000: 0x80000001}  # what `cpuid` of these leaves has to return at least, so that others exist
+LEAVES = {
+    0: 7,
+    0x80000000: 0x80000001,
+}  # what `cpuid` of these leaves has to return at least, so that others exist
 SAVED_REGISTERS = 6  # of `xgetbv`: the system saves the registers of SSE and AVX
 STACK = 2040
 
@@ -51,7 +55,9 @@ def _has_all(name, bits):
 def _bound(path, leaf, pick):
     """The least or the greatest value that `cpuid` may return in eax for a leaf."""
     sets = [path.allowed(variable("cpuid", leaf, "rax", at)) for at in range(4)]
-    return sum(pick(value for value in range(256) if allowed[value]) << 8 * at for at, allowed in enumerate(sets))
+    return sum(
+        pick(value for value in range(256) if allowed[value]) << 8 * at for at, allowed in enumerate(sets)
+    )
 
 
 def _has_v3(path):
@@ -89,7 +95,9 @@ def _argument(code, state, at):
 def _called(code, name, state, given, error):
     """Checks a call of a build, and gives which one it is."""
     suffix = "" if error is None else "_nonnull"
-    builds = {f"const_hex_{name}{suffix}_{build}": number for build, number in (("default", DEFAULT), ("v3", V3))}
+    builds = {
+        f"const_hex_{name}{suffix}_{build}": number for build, number in (("default", DEFAULT), ("v3", V3))
+    }
     callee = code.object.undefined[state.at]
     require(callee in builds, f"{callee} is called")
     top = state.registers["rsp"].offset
@@ -137,7 +145,9 @@ def _judge_choice(code, state, build):
         require(is_same(state.path, (cell,), constants(build, 1)), "another build is stored")
         require(_has_v3(state.path) is (build == V3), "the build is not the one for this CPU")
     else:
-        require(state.path.allowed(byte.support[0]) == _only(build), "the build is not the one that is stored")
+        require(
+            state.path.allowed(byte.support[0]) == _only(build), "the build is not the one that is stored"
+        )
 
 
 def _only(value):

@@ -27,7 +27,8 @@ class Fork(Exception):
 
 
 class Code:
-    """The instructions of an object, by a front end for its processor, and the addresses of those that were run."""
+    """The instructions of an object, by a front end for its processor, and the addresses of those that were
+    run."""
 
     def __init__(self, obj, front_end):
         self.object = obj
@@ -69,7 +70,8 @@ RETURNED = "returned"
 
 
 def outcomes(code, state, places=(), may_stay=False):
-    """The states at the next of these places, or where the call returns, on each path and for each case of symbols.
+    """The states at the next of these places, or where the call returns, on each path and for each case of
+    symbols.
 
     With `may_stay` the state's own place counts too.
     """
@@ -117,7 +119,7 @@ def sides(code, state, condition):
 
 
 def require_one_path(states):
-    """Of inputs that are accepted, only how long they are decides the path, and no byte decides an address."""
+    """Of accepted inputs, only how long they are decides the path, and no byte decides an address."""
     for state in states:
         require(not state.leaks, "an address depends on an unknown byte")
     for at, first in enumerate(states):

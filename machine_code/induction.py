@@ -1,8 +1,9 @@
 """The induction over the rounds of loops. README.md has the argument.
 
-The state at the head of a loop after `done` rounds, with `left` rounds to go, is guessed from the first visit and one
-a round later, and made weaker until it is right: until each arrival at the head, with none done, and each round from
-it, with one more done, leads to it again. What is proved is the last pass of that, in `_generalised`.
+The state at the head of a loop after `done` rounds, with `left` rounds to go, is guessed from the first visit
+and one a round later, and made weaker until it is right: until each arrival at the head, with none done, and
+each round from it, with one more done, leads to it again. What is proved is the last pass of that, in
+`Loop.prove`.
 """
 
 import collections
@@ -21,7 +22,7 @@ IS_NO_DIGIT = kept(bytes(not allowed for allowed in IS_DIGIT))
 
 
 class Head:
-    """The head of a loop, which reads `size` bytes of the input in so many visits. A search writes no output."""
+    """The head of a loop, which reads `size` bytes of the input in so many visits."""
 
     def __init__(self, at, visits, size, is_search):
         self.at, self.visits, self.size, self.is_search = at, visits, size, is_search
@@ -52,8 +53,8 @@ def _visits(code, state):
 
 @functools.lru_cache
 def heads_of(code, function, form, size):
-    """The loops that turn more often if the input is `size` bytes longer: on valid inputs, and on texts whose last
-    character is invalid."""
+    """The loops that turn more often if the input is `size` bytes longer: on valid inputs, and on texts whose
+    last character is invalid."""
     heads = {}
     for last in (IS_DIGIT,) if form.input == "bytes" else (IS_DIGIT, IS_NO_DIGIT):
         found = []
@@ -123,7 +124,10 @@ def arrived(form, state, head, rest):
     form.set_aside(state)
     if head.is_search:
         form.before_search(state)
-        require(state.ghost.get("bad") or form.has_bad(state), "a search for an invalid character that may not be there")
+        require(
+            state.ghost.get("bad") or form.has_bad(state),
+            "a search for an invalid character that may not be there",
+        )
         if form.output and state.memory.written(form.output):
             state.memory.forget(form.output, list(state.memory.written(form.output)))
     for name in state.memory.written_regions():
@@ -189,7 +193,8 @@ class Loop:
         return rounds * self.head.size + self.rest
 
     def around(self, state):
-        """A round from the head: the states that are back at it, those at other heads, and those that returned."""
+        """A round from the head: the states that are back at it, those at other heads, and those that
+        returned."""
         back, others, ends = [], [], []
         waiting = [(state, self.head.visits)]
         while waiting:
@@ -214,7 +219,13 @@ class Loop:
         done = self.head.size // self.form.unit * self.form.per_unit
         read = first.ghost["read"] + DONE * self.head.size
         written = len(self.form.begin) + DONE * done
-        state.ghost = {**first.ghost, "length": self.length(DONE + LEFT), "left": LEFT, "read": read, "written": written}
+        state.ghost = {
+            **first.ghost,
+            "length": self.length(DONE + LEFT),
+            "left": LEFT,
+            "read": read,
+            "written": written,
+        }
         state.path = self.begin.path.copy()
         if self.form.input == "text":
             state.path.runs = (("text", first.ghost["read"], read, IS_DIGIT),)
@@ -259,7 +270,7 @@ class Loop:
         return self.general(first, second)
 
     def prove(self, arrivals):
-        """Proves the rounds, and gives the states at other heads, and those that returned, by what was left."""
+        """Proves the rounds. Gives the states that arrive at other heads, and those that have returned."""
         general = self.guess(arrivals)
         while True:
             wrong = set(itertools.chain(*(self.differences(general, other, 0) for other in arrivals)))
@@ -283,7 +294,10 @@ class Loop:
             last_states = list(outcomes(self.code, last, last_heads))
             last_ends = [state for state in last_states if state.at is RETURNED]
             require_one_path(self.accepted(last_ends))
-            others, ends = others + [state for state in last_states if state.at is not RETURNED], ends + last_ends
+            others, ends = (
+                others + [state for state in last_states if state.at is not RETURNED],
+                ends + last_ends,
+            )
         return others, ends
 
     def accepted(self, ends):
@@ -300,7 +314,8 @@ def judged(code, form, end):
 
 
 def prove_class(code, function, form, size, rest):
-    """Proves a form for all lengths that leave this rest by rounds of `size` bytes. Gives how many states are judged."""
+    """Proves a form for all lengths that leave this rest by rounds of `size` bytes. Gives how many states are
+    judged."""
     begin = form.start(code, function, LEFT * size + rest)
     begin.ghost["left"] = LEFT
     heads = heads_of(code, function, form, size)

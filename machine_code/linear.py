@@ -1,9 +1,9 @@
 """Numbers that are linear in unknown whole numbers: `constant + factor * symbol + ...`.
 
-A symbol stands for any whole number from 0 up to a limit, such as how many rounds of a loop are left. A `Linear` in a
-register stands for its value modulo 2**64. It is compared as a whole number, and only if it surely lies in the range
-where the register holds just that number. A question that has another answer for other numbers raises `Split`, and is
-asked again for each case.
+A symbol stands for any whole number from 0 up to a limit, such as how many rounds of a loop are left. A
+`Linear` in a register stands for its value modulo 2**64. It is compared as a whole number, and only if it
+surely lies in the range where the register holds just that number. A question that has another answer for
+other numbers raises `Split`, and is asked again for each case.
 """
 
 import itertools
@@ -20,7 +20,8 @@ _count = itertools.count()
 
 
 class Split(Exception):
-    """The answer depends on whether a symbol is 0, on which of two symbols is greater, or on whether one is odd."""
+    """The answer depends on whether a symbol is 0, on which of two symbols is greater, or on whether one is
+    odd."""
 
     def __init__(self, *symbols, by_parity=False):
         super().__init__(f"a question of {' and '.join(symbols)}")

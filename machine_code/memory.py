@@ -1,8 +1,8 @@
 """Memory as regions that lie apart, each at an unknown base, and pointers into them.
 
-Nothing is known of a base but its alignment, and that no region lies at or across address 0. So what is proved holds
-wherever the caller's memory lies. An access outside the region of its pointer is an error, as is a write to a region
-that may only be read.
+Nothing is known of a base but its alignment, and that no region lies at or across address 0. So what is
+proved holds wherever the caller's memory lies. An access outside the region of its pointer is an error, as is
+a write to a region that may only be read.
 """
 
 import copy
@@ -86,7 +86,8 @@ class Region:
         return other
 
     def old(self, offset):
-        """The byte at the start: its own unknown. A name may contain `done` alone, and so means one byte for good."""
+        """The byte at the start: its own unknown. A name may contain `done` alone, and so means one byte for
+        good."""
         if self.content:
             return self.content[offset]
         if any(name != "done" for name, _ in terms_of(offset)):
@@ -129,8 +130,8 @@ class Image(Region):
 class Memory:
     """The regions, and the bytes that were written since the start: for each region by their offsets.
 
-    Two offsets into a region that is written differ by a known number, or surely do not meet. `spans` has the least
-    and the greatest constant of what is written, for each region by the unknown part of the offset.
+    Two offsets into a region that is written differ by a known number, or surely do not meet. `spans` has the
+    least and the greatest constant of what is written, for each region by the unknown part of the offset.
     """
 
     def __init__(self, regions):
@@ -148,7 +149,9 @@ class Memory:
     def replaced(self, name, by):
         other = Memory([region.replaced(name, by) for region in self.regions.values()])
         for region, cells in self._written.items():
-            new = ((replaced(offset, name, by), byte_replaced(byte, name, by)) for offset, byte in cells.items())
+            new = (
+                (replaced(offset, name, by), byte_replaced(byte, name, by)) for offset, byte in cells.items()
+            )
             other._written[region] = dict(new)
             other._respan(region)
         return other
@@ -217,7 +220,8 @@ class Memory:
         self.regions = {**self.regions, name: region}
 
     def forget(self, name, offsets):
-        """Takes out what was written there. The bytes may not be used any more, which the caller has to see to."""
+        """Takes out what was written there. The bytes may not be used any more, which the caller has to see
+        to."""
         for offset in offsets:
             del self._written[name][offset]
         self._respan(name)

@@ -1,10 +1,11 @@
 """An object file as it lies in memory: its sections at fixed places, with relocations applied.
 
-This stands for the linker. Sections lie apart, so an access beyond one is seen. Addresses count from an unknown base
-(see memory.py), so nothing that is proved depends on where the object is loaded. A symbol that the object does not
-define gets a place of its own where nothing lies.
+This stands for the linker. Sections lie apart, so an access beyond one is seen. Addresses count from an
+unknown base (see memory.py), so nothing that is proved depends on where the object is loaded. A symbol that
+the object does not define gets a place of its own where nothing lies.
 """
 
+import functools
 import struct
 import subprocess
 
@@ -32,13 +33,15 @@ class Section:
 
 
 class Object:
-    """The sections, the address of each symbol that is defined, and the name at each place of one that is not."""
+    """The sections, the address of each symbol that is defined, and the name at each place of one that is
+    not."""
 
     def __init__(self, sections, symbols, undefined):
         self.sections = sections
         self.symbols = symbols
         self.undefined = undefined
 
+    @functools.lru_cache(None)
     def section_at(self, address):
         for section in self.sections:
             if section.address <= address < section.end:

@@ -5,16 +5,32 @@ import re
 
 # The function; a block of instructions that are not run; and the reason.
 EXCEPTIONS = [
-    ("find_invalid_character", r"mov rax,rdx; test rax,rax; jne \w+; jmp \w+",
-     "a text with an invalid character and an even length has two characters at least"),
-    ("find_invalid_character", r"xor eax,eax; xor ecx,ecx; xor esi,esi; jmp \w+",
-     "it is called only if a character after the prefix is invalid"),
+    (
+        "find_invalid_character",
+        r"mov rax,rdx; test rax,rax; jne \w+; jmp \w+",
+        "a text with an invalid character and an even length has two characters at least",
+    ),
+    (
+        "find_invalid_character",
+        r"xor eax,eax; xor ecx,ecx; xor esi,esi; jmp \w+",
+        "it is called only if a character after the prefix is invalid",
+    ),
     ("find_invalid_character", r"xor r8d,r8d; mov rcx,rax", "it finds an invalid character"),
-    ("check_nonnull", r"movzx eax,BYTE PTR \[rax\]; v?movd xmm0,eax; (v?pinsrb [^;]+; |mov eax,0x30; )*v?pinsrb [^;]+",
-     "the number of digits is even"),
-    ("check_nonnull|decode", r"((xor eax,eax|xor esi,esi|mov ecx,0x[124]|mov r[ds][ix],rax|jmp \w+)(; |$))+",
-     "where a character is invalid, no other kind of error is returned"),
-    ("decoder_update", r"xor ecx,ecx; xor eax,eax; jmp \w+", "a chunk without digits has no invalid character"),
+    (
+        "check_nonnull",
+        r"movzx eax,BYTE PTR \[rax\]; v?movd xmm0,eax; (v?pinsrb [^;]+; |mov eax,0x30; )*v?pinsrb [^;]+",
+        "the number of digits is even",
+    ),
+    (
+        "check_nonnull|decode",
+        r"((xor eax,eax|xor esi,esi|mov ecx,0x[124]|mov r[ds][ix],rax|jmp \w+)(; |$))+",
+        "where a character is invalid, no other kind of error is returned",
+    ),
+    (
+        "decoder_update",
+        r"xor ecx,ecx; xor eax,eax; jmp \w+",
+        "a chunk without digits has no invalid character",
+    ),
     ("decoder_update", r"xor eax,eax; mov rcx,r15", "the search finds an invalid character"),
 ]
 

@@ -1,6 +1,8 @@
-"""The sums of the code that `prove --all` has proved, in proved.txt. Code with another sum is not shown to be right.
+"""The sums of the code that `prove --all` has proved, in proved.txt. Code with another sum is not shown to be
+right.
 
-The sum of a function is over the sections that it reaches by relocations: their bytes, and what they refer to.
+The sum of a function is over the sections that it reaches by relocations: their bytes, and what they refer
+to.
 """
 
 import hashlib
@@ -36,7 +38,9 @@ def write(rows):
     """Adds rows (call, build, sum) to what was proved before."""
     found = recorded() | {(call, build): total for call, build, total in rows}
     lines = [f"{call} {build} {total}" for (call, build), total in sorted(found.items())]
-    head = ["# The code that `prove --all` has proved, by call and build: the sums of what it reaches (sums.py)."]
+    head = [
+        "# The code that `prove --all` has proved, by call and build: the sums of what it reaches (sums.py)."
+    ]
     FILE.write_text("\n".join(head + lines) + "\n")
 
 

@@ -1,16 +1,17 @@
 """Values of bytes, as exact functions of the unknown bytes of a call.
 
-An unknown byte (of the input, of old memory, of a register at the start) is a variable, which is a number here. A
-`Byte` depends on at most two variables, its support, and has a table of its value for each of their 256 or 65,536
-combinations. A constant has an empty support and a table of one entry. So an operation is computed for all inputs at
-once, and nothing is approximated. Each table and each `Byte` exists once, and tables are reduced to the variables that
-they depend on, so two `Byte`s are the same function if and only if they are the same object.
+An unknown byte (of the input, of old memory, of a register at the start) is a variable, which is a number
+here. A `Byte` depends on at most two variables, its support, and has a table of its value for each of their
+256 or 65,536 combinations. A constant has an empty support and a table of one entry. So an operation is
+computed for all inputs at once, and nothing is approximated. Each table and each `Byte` exists once, and
+tables are reduced to the variables that they depend on, so two `Byte`s are the same function if and only if
+they are the same object.
 
-A lane is a tuple of bytes, the lowest first. An operation is a Python function of numbers, which `apply` tabulates
-once for each combination of tables that it meets.
+A lane is a tuple of bytes, the lowest first. An operation is a Python function of numbers, which `apply`
+tabulates once for each combination of tables that it meets.
 
-`Joined` is the OR of bytes that together depend on more than two variables. It may be joined further, masked by a
-constant, and tested for zero; everything else with it is refused.
+`Joined` is the OR of bytes that together depend on more than two variables. It may be joined further, masked
+by a constant, and tested for zero; everything else with it is refused.
 """
 
 MOST_VARIABLES = 2
@@ -69,7 +70,7 @@ class WholeByte:
     def __eq__(self, other):
         return type(other) is WholeByte and (self.whole, self.index) == (other.whole, other.index)
 
-    __hash__ = None
+    __hash__ = object.__hash__
 
 
 _tables = {}
@@ -114,8 +115,14 @@ def name_of(variable):
     return "".join(part if isinstance(part, str) else f"[{part}]" for part in _names[variable])
 
 
+_unknowns = {}
+
+
 def unknown(*name):
-    return byte_of((variable(*name),), IDENTITY)
+    byte = _unknowns.get(name)
+    if byte is None:
+        byte = _unknowns[name] = byte_of((variable(*name),), IDENTITY)
+    return byte
 
 
 def constants(value, size):
@@ -169,21 +176,32 @@ def _reduced(table, count):
 
 
 _results = {}
+_tabulated_results = {}
 
 
 def apply(function, size, lanes, parameters=()):
     """The lane of `size` bytes that a function of numbers makes of these lanes, for all inputs."""
+    key = (function, size, parameters, *lanes)
+    result = _results.get(key)
+    if result is None:
+        result = _results[key] = _applied(function, size, lanes, parameters)
+    return result
+
+
+def _applied(function, size, lanes, parameters):
     support = _support_of(lanes)
     if not support:
         return constants(function(*map(number, lanes), *parameters), size)
     if len(support) > MOST_VARIABLES:
         raise TooWide(f"{function.__name__.strip('_')} of {len(support)} unknown bytes")
     first = support[0]
-    shapes = [[(byte.table, len(byte.support) and byte.support[0] == first) for byte in lane] for lane in lanes]
+    shapes = [
+        [(byte.table, len(byte.support) and byte.support[0] == first) for byte in lane] for lane in lanes
+    ]
     key = (function, parameters, size, tuple(map(tuple, shapes)))
-    result = _results.get(key)
+    result = _tabulated_results.get(key)
     if result is None:
-        result = _results[key] = _tabulated(function, size, lanes, parameters, support)
+        result = _tabulated_results[key] = _tabulated(function, size, lanes, parameters, support)
     return tuple([byte_of(tuple([support[place] for place in places]), table) for places, table in result])
 
 
@@ -191,7 +209,9 @@ def _tabulated(function, size, lanes, parameters, support):
     columns = []
     for lane in lanes:
         tables = [_spread(byte, support) for byte in lane]
-        columns.append(tables[0] if len(tables) == 1 else [int.from_bytes(row, "little") for row in zip(*tables)])
+        columns.append(
+            tables[0] if len(tables) == 1 else [int.from_bytes(row, "little") for row in zip(*tables)]
+        )
     values = [function(*row, *parameters) for row in zip(*columns)]
     return [_reduced(bytes([value >> 8 * at & 255 for value in values]), len(support)) for at in range(size)]
 

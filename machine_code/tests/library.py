@@ -1,4 +1,5 @@
-"""The archive that is tested: build/c/libconst_hex.a, or the one that the variable CONST_HEX_ARCHIVE names."""
+"""The archive that is tested: build/c/libconst_hex.a, or the one that the variable CONST_HEX_ARCHIVE names.
+"""
 
 import os
 import pathlib

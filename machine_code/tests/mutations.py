@@ -1,4 +1,5 @@
-"""Wrong machine code, made on purpose: an instruction or a constant of a build is changed in a copy of its object."""
+"""Wrong machine code, made on purpose: an instruction or a constant of a build is changed in a copy of its
+object."""
 
 import re
 import struct
@@ -16,17 +17,22 @@ def assembled(text):
         command = ["cc", "-c", "-x", "assembler", "-o", f"{folder}/code.o", "-"]
         source = f".intel_syntax noprefix\n{text}\n"
         subprocess.run(command, input=source.encode(), check=True, capture_output=True)
-        subprocess.run(["objcopy", "-O", "binary", "-j", ".text", f"{folder}/code.o", f"{folder}/code"], check=True)
+        subprocess.run(
+            ["objcopy", "-O", "binary", "-j", ".text", f"{folder}/code.o", f"{folder}/code"], check=True
+        )
         with open(f"{folder}/code", "rb") as file:
             return file.read()
 
 
 def find(code, function, pattern, which=0):
-    """The section of a function, and its instruction that matches. The name may be a part of a section's name."""
+    """The section of a function, and its instruction that matches. The name may be a part of a section's
+    name."""
     if function in code.object.symbols:
         section = code.object.section_at(code.object.symbols[function])
     else:
-        section = next(section for section in code.object.sections if function in section.name and section.is_code)
+        section = next(
+            section for section in code.object.sections if function in section.name and section.is_code
+        )
     known = code.front_end.instructions(section)
     found = [known[address] for address in sorted(known) if re.search(pattern, known[address].text)]
     return section, found[which]
@@ -58,17 +64,6 @@ def byte(pattern, offset, value, which=0):
     return change
 
 
-def inverted(pattern, which=0):
-    """A conditional jump is taken where it was not."""
-
-    def change(code, function):
-        section, old = find(code, function, pattern, which)
-        section.content[old.address - section.address + (old.content[0] == 0x0F)] ^= 1
-        return old
-
-    return change
-
-
 def constant(pattern, offset, value, which=0):
     """A byte of the constant that an instruction reads from its place after the code is another one."""
 
@@ -94,6 +89,8 @@ def detour(text, size=5):
         section.content += assembled(text) + first
         section.content += b"\xe9" + struct.pack("<i", start + size - (section.end + 5))
         at = start - section.address
-        section.content[at : at + size] = b"\xe9" + struct.pack("<i", tail - (start + 5)) + b"\x90" * (size - 5)
+        section.content[at : at + size] = (
+            b"\xe9" + struct.pack("<i", tail - (start + 5)) + b"\x90" * (size - 5)
+        )
 
     return change

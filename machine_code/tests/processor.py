@@ -1,7 +1,9 @@
-"""Runs single instructions of an object on this processor, in place, and compares them with their meaning in x86_64/.
+"""Runs single instructions of an object on this processor, in place, and compares them with their meaning in
+x86_64/.
 
-The object lies in executable memory as it does for the tool, at some base. After the instruction stands a jump back, and
-so at its target if it is a jump. The registers are random; those that an address needs point into a scratch area.
+The object lies in executable memory as it does for the tool, at some base. After the instruction stands a
+jump back, and so at its target if it is a jump. The registers are random; those that an address needs point
+into a scratch area.
 """
 
 import ctypes
@@ -13,7 +15,7 @@ import subprocess
 import tempfile
 
 from conditions import constant
-from memory import Fault, Image, Memory, Pointer, Region, as_lane, is_whole
+from memory import Fault, Image, Memory, Pointer, Region
 from values import CONSTANTS, constants, number
 from x86_64.decoding import Memory as MemoryOperand, Register
 from x86_64.state import GENERAL, VECTORS, State

@@ -1,4 +1,5 @@
-"""The definition of digits is that of crates/const_hex_arch/specs, and agrees with the table of test vectors."""
+"""The definition of digits is that of crates/const_hex_arch/specs, and agrees with the table of test vectors.
+"""
 
 import re
 import unittest
@@ -42,10 +43,13 @@ class TestDigits(unittest.TestCase):
             letter = offsets[1] if is_upper else offsets[2]
             wanted = [value + (offsets[0] if value < limit else letter) for value in range(16)]
             for value in range(256):
-                pair = [at_inputs(digit, lambda variable: value) for digit in digits_of(unknown("byte"), is_upper)]
+                pair = [
+                    at_inputs(digit, lambda variable: value) for digit in digits_of(unknown("byte"), is_upper)
+                ]
                 self.assertEqual(pair, [wanted[value // 16], wanted[value % 16]])
 
 
 def _name(variable):
     from values import parts_of
+
     return parts_of(variable)

@@ -1,13 +1,12 @@
 """Wrong machine code, which the tool has to refuse by the check that is meant. See mutations.py."""
 
-import pathlib
 import re
 import unittest
 
 from calls import CALLS
 from exploration import Refused
 from tests.library import code_of
-from tests.mutations import byte, constant, inverted, replaced
+from tests.mutations import byte, constant, replaced
 
 SEARCH, BEHIND, SHORT = "find_invalid_character", "decode_behind", "short::decode"
 # Parts of the calls: a form, and a length; from 130 on it stands for all lengths that are longer by rounds.
@@ -17,8 +16,8 @@ DIGITS, TEXT = ("check_raw", 0), ("check", 0)
 DECODE, PREFIXED, START, WAITS = ("decode", 0), ("decode", 1), ("decoder_update", 0), ("decoder_update", 5)
 CALL = None
 
-# What is wrong; the build; the call's form and length that show it; the function, if it is not the call's own; the
-# change; and what the tool has to say.
+# What is wrong; the build; the call's form and length that show it; the function, if it is not the call's
+# own; the change; and what the tool has to say.
 MUTATIONS = [
     ("a digit of the loop's table", "v3", ENCODE, 150, CALL,
      constant(r"^lea +r9,\[rip", 11, ord("d")), r"text\[\d*done \+ \d+\] is not what"),
@@ -32,49 +31,62 @@ MUTATIONS = [
      r"text\[.*done.*\] is not what"),
     ("a store is missing", "v3", ENCODE, 150, CALL,
      replaced(r"^vmovdqu YMMWORD PTR \[rcx\+rdx\*1\+0x60\]", "nop"), "text: a place is written before"),
-    ("a stride of the text of 127", "v3", ENCODE, 150, CALL, byte(r"^add +rdx,0x80", -4, 0x7F), "outside its region"),
+    ("a stride of the text of 127", "v3", ENCODE, 150, CALL,
+     byte(r"^add +rdx,0x80", -4, 0x7F), "outside its region"),
     ("64 bytes, counted as 128", "v3", ENCODE, 150, CALL,
      byte(r"^add +rsi,0xffffffffffffffc0", -1, 0x80), "outside its region|written|may have wrapped"),
     ("the length is counted in 32 bits", "v3", ENCODE, 150, CALL,
      replaced(r"^add +rsi,0xffffffffffffffc0", "add esi,-64"), "unknown byte|number that depends|sum of"),
     ("the place in the text wraps at 2^32", "v3", ENCODE, 150, CALL,
      replaced(r"^add +rdx,0x80", "sub edx,-128"), "unknown byte|number that depends|difference of"),
-    ("the loop ends one turn early", "v3", ENCODE, 150, CALL, byte(r"^cmp +rsi,0x3f", -1, 0x7F), "written|outside|rest"),
-    ("the loop never ends", "v3", ENCODE, 150, CALL, replaced(r"^cmp +rsi,0x3f", "cmp rsp,0"), "flag be of sub of pointers"),
-    ("a saved register is changed", "v3", NO_NUL, 20, CALL, replaced(r"^pop +rbx", "pop rcx", 2), "rbx is not as before"),
+    ("the loop ends one turn early", "v3", ENCODE, 150, CALL,
+     byte(r"^cmp +rsi,0x3f", -1, 0x7F), "written|outside|rest"),
+    ("the loop never ends", "v3", ENCODE, 150, CALL,
+     replaced(r"^cmp +rsi,0x3f", "cmp rsp,0"), "flag be of sub of pointers"),
+    ("a saved register is changed", "v3", NO_NUL, 20, CALL,
+     replaced(r"^pop +rbx", "pop rcx", 2), "rbx is not as before"),
     ("the return address is written", "v3", ENCODE, 150, CALL,
-     replaced(r"^vmovdqu YMMWORD PTR \[rcx\+rdx\*1\+0x20\]", "mov [rsp+8],rdi"), "a jump to what is no code|written"),
+     replaced(r"^vmovdqu YMMWORD PTR \[rcx\+rdx\*1\+0x20\]", "mov [rsp+8],rdi"),
+     "a jump to what is no code|written"),
     ("a byte decides a jump", "v3", ENCODE, 150, CALL,
-     replaced(r"^vpmovzxbw ymm3,XMMWORD PTR \[rdi\+0x30\]", "cmp byte ptr [rdi],0; je .+2"), "more than one path|is not what"),
+     replaced(r"^vpmovzxbw ymm3,XMMWORD PTR \[rdi\+0x30\]", "cmp byte ptr [rdi],0; je .+2"),
+     "more than one path|is not what"),
     ("a size that is too small is accepted", "v3", ENCODE, "failure", CALL,
      replaced(r"^jae", "nop", 1), "outside its region|succeeds"),
     ("the NUL is another byte", "v3", ENCODE, 150, CALL,
      byte(r"^mov +BYTE PTR \[rax\+r11\*1\],0x0", -1, 1), "the text does not end with a NUL"),
-    ("the prefix is 0X", "v3", PREFIX, 150, CALL, byte(r"^mov +WORD PTR \[rax\],0x7830", -1, ord("X")), r"text\[1\] is not what"),
+    ("the prefix is 0X", "v3", PREFIX, 150, CALL,
+     byte(r"^mov +WORD PTR \[rax\],0x7830", -1, ord("X")), r"text\[1\] is not what"),
     ("one of four vectors is not tested", "v3", DIGITS, 150, CALL,
      replaced(r"^vpor +ymm1,ymm1,ymm2", "vpor ymm1,ymm1,ymm1"), "a round passes what is not a digit"),
     ("a limit that lets g pass", "v3", DIGITS, 150, CALL,
      constant(r"^vbroadcasti128 ymm4.*rip", 7, 0x57), "what is not a digit"),
     ("the wrong stride of a check", "v3", DIGITS, 150, CALL,
      replaced(r"^sub +rcx,0xffffffffffffff80", "sub rcx,-96"), "what is not a digit|at the head|rejected"),
-    ("what is rejected is accepted", "v3", DIGITS, 40, CALL, byte(r"^sete +al", -2, 0x95), "rejected|accepted"),
-    ("a test of a loop is left out", "v3", TEXT, 150, CALL, replaced(r"^vptest ymm", "test eax,0"), "what is not a digit"),
+    ("what is rejected is accepted", "v3", DIGITS, 40, CALL,
+     byte(r"^sete +al", -2, 0x95), "rejected|accepted"),
+    ("a test of a loop is left out", "v3", TEXT, 150, CALL,
+     replaced(r"^vptest ymm", "test eax,0"), "what is not a digit"),
     ("the factor 16 is 17", "v3", DECODE, 128, CALL,
      constant(r"^lea +r12,\[rip", 64 + 16 + 4, 17), r"bytes\[.*\] is not what"),
-    ("lanes in another order", "v3", DECODE, 150, CALL, byte(r"^vpermq", -1, 0xE4), r"bytes\[.*\] is not what"),
-    ("a stride of the bytes of 63", "v3", DECODE, 150, CALL, byte(r"^add +r11,0x40", -1, 0x3F), "outside its region"),
+    ("lanes in another order", "v3", DECODE, 150, CALL,
+     byte(r"^vpermq", -1, 0xE4), r"bytes\[.*\] is not what"),
+    ("a stride of the bytes of 63", "v3", DECODE, 150, CALL,
+     byte(r"^add +r11,0x40", -1, 0x3F), "outside its region"),
     ("a store one byte higher", "v3", DECODE, 150, CALL,
      byte(r"^vmovdqu YMMWORD PTR \[r14\+r11\*1-0x20\]", -1, 0xE1), "bytes.* written before|is not what"),
     ("another number of bytes is returned", "v3", DECODE, 150, CALL,
      replaced(r"^mov +QWORD PTR \[r8\],rbx", "mov [r8],rcx"), r"written\[0\] is not what"),
-    ("the kind of an error", "v3", DECODE, "failure", CALL, byte(r"^mov +ecx,0x1", -4, 2), r"error\[0\] is not what"),
+    ("the kind of an error", "v3", DECODE, "failure", CALL,
+     byte(r"^mov +ecx,0x1", -4, 2), r"error\[0\] is not what"),
     ("the number of bytes after a failure", "v3", DECODE, "failure", CALL,
      byte(r"^mov +QWORD PTR \[r8\],0x0", -4, 1, 1), r"written\[0\] is not what"),
     ("the search begins at the second byte", "v3", TEXT, 150, SEARCH,
      replaced(r"^xor +ecx,ecx", "mov cl,1", 1), "path|rejected|error|digit|number|flag"),
     ("the search's entry of g is a digit's", "v3", TEXT, 150, SEARCH,
      constant(r"^lea +r9,\[rip", ord("g"), 0), "not a digit"),
-    ("the search counts in 32 bits", "v3", TEXT, 150, SEARCH, replaced(r"^inc +rcx", "inc ecx"), "unknown byte|sum of"),
+    ("the search counts in 32 bits", "v3", TEXT, 150, SEARCH,
+     replaced(r"^inc +rcx", "inc ecx"), "unknown byte|sum of"),
     ("the search leaves the prefix out of the position", "v3", PREFIXED, 150, SEARCH,
      replaced(r"^sub +rdx,rax", "xor edx,edx"), r"error\[8\] is not what"),
     ("an old byte of the stack is decoded", "v3", WAITS, 150, BEHIND,
@@ -85,15 +97,19 @@ MUTATIONS = [
      replaced(r"^mov +QWORD PTR \[rdi\],rax", "nop", 1), r"decoder\[0\] is not what"),
     ("the decoder forgets an error", "v3", START, 150, CALL,
      byte(r"^mov +BYTE PTR \[rdi\+0x9\],0x2", -1, 0), "the decoder does not keep its error"),
-    ("a failed decoder goes on", "v3", START, "failure", CALL, byte(r"^cmp +r11b,0x2", -1, 0x80), "it succeeds|error"),
-    ("a digit of the table", "default", ENCODE, 150, CALL, constant(r"^lea +r9,\[rip", 3, ord("2")), r"text\[.*\] is not what"),
+    ("a failed decoder goes on", "v3", START, "failure", CALL,
+     byte(r"^cmp +r11b,0x2", -1, 0x80), "it succeeds|error"),
+    ("a digit of the table", "default", ENCODE, 150, CALL,
+     constant(r"^lea +r9,\[rip", 3, ord("2")), r"text\[.*\] is not what"),
     ("an aligned store", "default", ENCODE, 150, CALL,
      replaced(r"^movdqu XMMWORD PTR \[rcx\+rdx\*1\+0x70\]", "movdqa [rcx+rdx+0x70],xmm4"), "needs alignment"),
-    ("one vector is not tested", "default", EXACT, 150, CALL, replaced(r"^por +xmm", "nop"), "not a digit|is not what"),
+    ("one vector is not tested", "default", EXACT, 150, CALL,
+     replaced(r"^por +xmm", "nop"), "not a digit|is not what"),
     ("a shift by 7", "default", DECODE, 150, CALL, byte(r"^psrlw", -1, 7), r"bytes\[.*\] is not what"),
     ("a limit that lets g pass", "default", DIGITS, 150, CALL,
      constant(r"^movdqa xmm\d+,XMMWORD PTR \[rip", 7, 0x57, 1), "what is not a digit"),
-    ("one vector of a check is not tested", "default", TEXT, 150, CALL, replaced(r"^por +xmm", "nop", 1), "what is not a digit"),
+    ("one vector of a check is not tested", "default", TEXT, 150, CALL,
+     replaced(r"^por +xmm", "nop", 1), "what is not a digit"),
     ("the rest is taken from one place lower", "default", DECODE, 40, CALL,
      byte(r"^movdqu xmm\d+,XMMWORD PTR \[r10\+rbx\*2-0x20\]", -1, 0xDF), "is not what|not a digit|outside"),
 ]

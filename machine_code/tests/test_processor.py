@@ -1,4 +1,5 @@
-"""The instructions' meanings, compared with this processor on random states; and wrong meanings, which are noticed."""
+"""The instructions' meanings, compared with this processor on random states; and wrong meanings, which are
+noticed."""
 
 import pathlib
 import unittest
@@ -50,20 +51,24 @@ WRONG = {
     "pminub vpminub": vector._handler(vector._lanes(max, 1)),
     "psubusb vpsubusb": vector._handler(vector._lanes(vector._difference, 1)),
     "packuswb vpackuswb": vector._handler(
-        vector._in_halves(lambda a, b: sum(((a + b)[at : at + 1] for at in range(0, 32, 2)), ()))),
+        vector._in_halves(lambda a, b: sum(((a + b)[at : at + 1] for at in range(0, 32, 2)), ()))
+    ),
     "vpshufb pshufb": vector._handler(
-        vector._in_halves(lambda row, control: tuple(row[byte.value & 15] for byte in control))),
+        vector._in_halves(lambda row, control: tuple(row[byte.value & 15] for byte in control))
+    ),
     "psrlw vpsrlw": vector._handler(vector._by_count(vector._shifted_right, 4)),
     "pmullw vpmullw": vector._handler(vector._lanes(lambda a, b: (a * b) >> 16, 2)),
     "pmovzxbw vpmovzxbw": lambda state, i: vector._set_target(
-        state, i, vector._flat((ZERO, byte) for byte in state.read(i.operands[1], i.operands[0].size // 2))),
+        state, i, vector._flat((ZERO, byte) for byte in state.read(i.operands[1], i.operands[0].size // 2))
+    ),
     "vzeroupper": lambda state, i: None,
     "movzx": _no_zeros,
     "jb": _flags_swapped,
     "sete": lambda state, i: state.write(i.operands[0], (ZERO,)),
     "inc": lambda state, i: state.write(i.operands[0], state.read(i.operands[0])),
-    "shr": lambda state, i: state.write(i.operands[0], apply(
-        general._shifted_left, i.operands[0].size, [state.read(i.operands[0])], (1,))),
+    "shr": lambda state, i: state.write(
+        i.operands[0], apply(general._shifted_left, i.operands[0].size, [state.read(i.operands[0])], (1,))
+    ),
 }
 
 

@@ -6,7 +6,7 @@ from calls import CALLS
 from conditions import Condition, Path, are_equal
 from exploration import Refused, require_one_path
 from induction import DONE, LEFT
-from linear import GREATEST, Linear, Split, Unknown, in_terms_of, is_zero, symbol
+from linear import GREATEST, Split, Unknown, in_terms_of, is_zero, symbol
 from memory import Fault, Memory, Pointer, Region, as_lane, with_replaced
 from tests.library import code_of
 from tests.mutations import detour
@@ -98,7 +98,11 @@ class TestPointers(unittest.TestCase):
 
     def test_single_bytes(self):
         lane = as_lane(Pointer("text", 0))
-        for use in (lambda: each(_plus_1, lane), lambda: masked(lane, lane), lambda: are_equal(lane, constants(0, 8))):
+        for use in (
+            lambda: each(_plus_1, lane),
+            lambda: masked(lane, lane),
+            lambda: are_equal(lane, constants(0, 8)),
+        ):
             with self.assertRaises(TooWide):
                 use()
 
@@ -159,6 +163,7 @@ class TestMemory(unittest.TestCase):
 
 def Memory_operand(displacement):
     from x86_64.decoding import Memory as Operand
+
     return Operand(REGISTERS["rsp"], None, 1, displacement, 8)
 
 
@@ -217,13 +222,17 @@ class TestLengths(unittest.TestCase):
         CALLS["check_raw"].prove(code, "const_hex_check_raw_v3", ("class", 0, 150))
 
     def test_one_length(self):
-        self.assert_refused("movabs rax, 1 << 40; cmp rsi, rax; jne 1f; mov eax, 1; ret; 1:", "too many cases")
+        self.assert_refused(
+            "movabs rax, 1 << 40; cmp rsi, rax; jne 1f; mov eax, 1; ret; 1:", "too many cases"
+        )
 
     def test_all_lengths_from_one_on(self):
         self.assert_refused("movabs rax, 1 << 33; cmp rsi, rax; jb 1f; mov eax, 1; ret; 1:", "too many cases")
 
     def test_some_bits_of_a_length(self):
-        self.assert_refused("mov eax, esi; and eax, 15; cmp eax, 7; jne 1f; dec rsi; 1:", "not a digit|all is read", 151)
+        self.assert_refused(
+            "mov eax, esi; and eax, 15; cmp eax, 7; jne 1f; dec rsi; 1:", "not a digit|all is read", 151
+        )
 
     def test_length_of_32_bits(self):
         self.assert_refused("mov esi, esi", "unknown byte")

@@ -59,7 +59,9 @@ def _memory(text, size):
             displacement += int(word, 16)
     if any(register and register.size != 8 for register in (base, index)):
         raise ValueError("an address of 32 bits")
-    return Memory(base, index, scale, displacement - (1 << 64) if displacement >= 1 << 63 else displacement, size)
+    return Memory(
+        base, index, scale, displacement - (1 << 64) if displacement >= 1 << 63 else displacement, size
+    )
 
 
 def _instruction(address, content, text):

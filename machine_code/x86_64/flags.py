@@ -1,6 +1,8 @@
-"""The flags, as what the last instruction that sets them made of its operands. They are found when they are asked for.
+"""The flags, as what the last instruction that sets them made of its operands. They are found when they are
+asked for.
 
-An answer is a condition on unknown bytes. Flags that an instruction leaves undefined are an error if they are used.
+An answer is a condition on unknown bytes. Flags that an instruction leaves undefined are an error if they are
+used.
 """
 
 from conditions import FALSE, are_equal, are_zero, conjunction, constant
@@ -95,7 +97,9 @@ class Flags:
                 raise
         if self.kind == "logic" or code == "s":
             # Of shifts, and of inc and dec, only this is known.
-            return conjunction(apply(_flag, 1, [self.result, constants(0, 1)], (code, True, len(self.result))))
+            return conjunction(
+                apply(_flag, 1, [self.result, constants(0, 1)], (code, True, len(self.result)))
+            )
         raise Fault(f"flag {code} of {self.kind}")
 
     def _is_below(self, or_equal, decide):
@@ -119,7 +123,9 @@ class Flags:
                 return least_of(total) > GREATEST
             raise Unknown(f"whether {total} is carried")
         if code == "e":
-            return is_zero(as_number(self.first) - as_number(self.second) if self.kind == "sub" else self.result)
+            return is_zero(
+                as_number(self.first) - as_number(self.second) if self.kind == "sub" else self.result
+            )
         raise Fault(f"flag {code} of {self.kind} of a number with symbols")
 
     def _of_pointers(self, code, memory):
@@ -128,7 +134,10 @@ class Flags:
         if self.kind == "logic" and first == second and code in ("e", "be"):
             return False
         if self.kind == "sub" and code == "e":
-            if any(type(other) is tuple and are_constant(other) and number(other) == 0 for other in (first, second)):
+            if any(
+                type(other) is tuple and are_constant(other) and number(other) == 0
+                for other in (first, second)
+            ):
                 return False
         if self.kind == "sub" and type(first) is type(second) and first.region == second.region:
             if code == "e":

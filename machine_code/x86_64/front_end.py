@@ -10,14 +10,15 @@ from x86_64.state import State
 
 ARGUMENTS = ("rdi", "rsi", "rdx", "rcx", "r8", "r9")
 KEPT = ("rbx", "rbp", "r12", "r13", "r14", "r15")
-# The header promises less than 2 KB of stack. `dispatch.c` has a part of it. At a call, the stack is 8 bytes from a
-# multiple of 16.
+# The header promises less than 2 KB of stack, of which `dispatch.c` has a part. At a call, the stack pointer
+# is 8 bytes from a multiple of 16.
 STACK = 1912
 RETURN = Pointer("return", 0)
 
 
 def start(code, symbol, arguments, regions, stack=STACK):
-    """The state at the first instruction of a call. Regions beside the arguments' are the stack and the object.
+    """The state at the first instruction of a call. Regions beside the arguments' are the stack and the
+    object.
 
     An argument is a pointer, a number, or the lane of its lowest bytes: the others may be anything.
     """
@@ -57,7 +58,9 @@ def result(state, size):
 
 def has_returned(state):
     """What each call owes its caller, beside its contract."""
-    require(state.registers["rsp"] == Pointer("stack", state.ghost["stack"] + 8), "the stack is not as before")
+    require(
+        state.registers["rsp"] == Pointer("stack", state.ghost["stack"] + 8), "the stack is not as before"
+    )
     for name in KEPT:
         old = tuple([unknown(name, at) for at in range(8)])
         require(state.registers[name] == old, f"{name} is not as before")

@@ -1,7 +1,7 @@
 """What the instructions of the general registers do.
 
-A handler takes the state and the instruction. It raises `Fork` or `Split` before it changes anything, and returns where
-to go on if that is not the next instruction.
+A handler takes the state and the instruction. It raises `Fork` or `Split` before it changes anything, and
+returns where to go on if that is not the next instruction.
 """
 
 import itertools
@@ -9,7 +9,7 @@ import itertools
 from exploration import RETURNED
 from linear import GREATEST_SIGNED, Linear, Split, in_range, linear
 from memory import Fault, Pointer, as_value, is_whole
-from values import CONSTANTS, ZERO, apply, are_constant, constants, each, joined, masked, number, unknown
+from values import CONSTANTS, ZERO, TooWide, apply, are_constant, constants, each, joined, masked, number, unknown
 from x86_64.flags import CODES, Flags, as_number, signed
 
 HANDLERS = {}
@@ -128,6 +128,8 @@ def _subtracted(first, second):
         return as_value(first.offset - second.offset)
     if type(first) is Pointer:
         return _moved(first, -as_number(second))
+    if type(second) is Pointer:
+        raise Fault("a pointer is subtracted from a number")
     if type(first) is Linear or type(second) is Linear:
         return as_value(as_number(first) - as_number(second))
     return apply(_difference, len(first), [first, second])
@@ -306,18 +308,38 @@ def _jump(state, i):
     return i.operands[0] if state.decide(state.flag(i.mnemonic[1:])) else None
 
 
+def _bit(condition):
+    """The byte that is 1 if a condition holds, and 0 if not."""
+    bit = (CONSTANTS[1],)
+    for atom in condition.atoms:
+        bit = masked(bit, (atom,))
+    return each(_complement, bit) if condition.is_negated else bit
+
+
+def _selected(bit, value, other):
+    return value if bit else other
+
+
 def _set(state, i):
     condition = state.flag(i.mnemonic[3:])
-    if state.path.decide(condition) is None and len(condition.atoms) == 1:
-        state.write(i.operands[0], each(_complement, condition.atoms) if condition.is_negated else condition.atoms)
-    else:
-        state.write(i.operands[0], (CONSTANTS[state.decide(condition)],))
+    try:
+        bit = _bit(condition) if state.path.decide(condition) is None else None
+    except TooWide:
+        bit = None
+    state.write(i.operands[0], bit or (CONSTANTS[state.decide(condition)],))
 
 
 def _conditional_move(state, i):
-    is_taken = state.decide(state.flag(i.mnemonic[4:]))
-    value = state.read(i.operands[1])
-    state.write(i.operands[0], value if is_taken else state.read(i.operands[0]))
+    """Where unknown bytes decide, it is a function of them, and no jump. Only if it cannot be one, the path forks."""
+    target, condition = i.operands[0], state.flag(i.mnemonic[4:])
+    value, old, lane = state.read(i.operands[1]), state.read(target), None
+    if state.path.decide(condition) is None and not is_whole(value) and not is_whole(old):
+        try:
+            bit = _bit(condition)
+            lane = each(_selected, bit * len(value), value, old)
+        except TooWide:
+            pass
+    state.write(target, lane or (value if state.decide(condition) else old))
 
 
 for _name in CODES:
@@ -326,14 +348,16 @@ for _name in CODES:
 
 @instruction("cpuid")
 def cpuid(state, i):
-    """Anything, but for the same leaf always the same. Of the leaves that are known here, 7 has parts by ecx."""
+    """Anything, but for the same leaf always the same. Of the leaves here, only 7 has parts by ecx."""
     leaf, part = (state.registers[name][:4] for name in ("rax", "rcx"))
     if not are_constant(leaf) or number(leaf) not in (0, 1, 7, 0x80000000, 0x80000001):
         raise Fault("another leaf of cpuid")
     if number(leaf) == 7 and not (are_constant(part) and number(part) == 0):
         raise Fault("another part of leaf 7 of cpuid")
     for name in ("rax", "rbx", "rcx", "rdx"):
-        state.registers[name] = tuple([unknown("cpuid", number(leaf), name, at) for at in range(4)]) + (ZERO,) * 4
+        state.registers[name] = (
+            tuple([unknown("cpuid", number(leaf), name, at) for at in range(4)]) + (ZERO,) * 4
+        )
 
 
 @instruction("xgetbv")

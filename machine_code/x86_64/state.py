@@ -14,8 +14,9 @@ RED_ZONE = 128
 
 
 class State:
-    """`trail` has the decisions of the path, `leaks` where an address depended on an unknown byte, and `ghost` numbers
-    that only the proof has: how long the input is, and how much of it is read and of the output written."""
+    """`trail` has the decisions of the path, `leaks` where an address depended on an unknown byte, and
+    `ghost` numbers that only the proof has: how long the input is, and how much of it is read and of the
+    output written."""
 
     def __init__(self, memory, path=None):
         self.registers = {name: tuple([unknown(name, at) for at in range(8)]) for name in GENERAL}
@@ -33,7 +34,11 @@ class State:
     def copy(self):
         other = type(self).__new__(type(self))
         other.__dict__ |= self.__dict__
-        other.registers, other.memory, other.path = self.registers.copy(), self.memory.copy(), self.path.copy()
+        other.registers, other.memory, other.path = (
+            self.registers.copy(),
+            self.memory.copy(),
+            self.path.copy(),
+        )
         return other
 
     def replaced(self, name, by):
@@ -75,7 +80,7 @@ class State:
         return value if is_whole(value) else value[register.first : register.first + register.size]
 
     def set_register(self, register, value):
-        """Writes a general register. A write of 4 bytes clears the upper half, a shorter one keeps the rest."""
+        """A write of 4 bytes to a general register clears the upper half, a shorter one keeps the rest."""
         if register.size == 4:
             value = value + (ZERO,) * 4
         elif register.size < 8:
@@ -93,7 +98,8 @@ class State:
         self.registers[register.family] = value + rest
 
     def read(self, operand, size=None, alignment=1):
-        """The value of an operand. An immediate has the given size, and of a register or memory so much is read."""
+        """The value of an operand. An immediate has the given size, and of a register or memory so much is
+        read."""
         if isinstance(operand, int):
             return constants(operand, size)
         if type(operand) is Register:
@@ -141,7 +147,9 @@ class State:
         if type(pointer) is not Pointer:
             raise Fault("an access by a number that is no pointer")
         top = self.registers["rsp"]
-        if pointer.region == "stack" and not (type(top) is Pointer and pointer.offset >= top.offset - RED_ZONE):
+        if pointer.region == "stack" and not (
+            type(top) is Pointer and pointer.offset >= top.offset - RED_ZONE
+        ):
             raise Fault("an access below the red zone of the stack")
         return pointer
 

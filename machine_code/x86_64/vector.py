@@ -1,7 +1,8 @@
 """What the instructions of the vector registers do: SSE, and AVX with a `v` before the name.
 
-An SSE instruction writes its first operand, keeps the bytes above 16, and needs aligned memory unless it is a move that
-says otherwise. An AVX instruction has an operand more, clears the bytes above, and needs no alignment.
+An SSE instruction writes its first operand, keeps the bytes above 16, and needs aligned memory unless it is a
+move that says otherwise. An AVX instruction has an operand more, clears the bytes above, and needs no
+alignment.
 """
 
 from conditions import are_zero
@@ -71,7 +72,9 @@ def _lanes(function, size, *parameters):
 
     def operation(first, second):
         places = range(0, len(first), size)
-        return _flat(apply(function, size, [first[at:][:size], second[at:][:size]], parameters) for at in places)
+        return _flat(
+            apply(function, size, [first[at:][:size], second[at:][:size]], parameters) for at in places
+        )
 
     return operation
 
@@ -92,7 +95,9 @@ def _in_halves(operation):
 
     def whole(*operands):
         halves = range(0, len(operands[0]), 16)
-        return _flat(operation(*(v if isinstance(v, int) else v[at:][:16] for v in operands)) for at in halves)
+        return _flat(
+            operation(*(v if isinstance(v, int) else v[at:][:16] for v in operands)) for at in halves
+        )
 
     return whole
 
