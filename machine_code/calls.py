@@ -1,11 +1,13 @@
 """The calls of const_hex.h, and what has to be proved of each.
 
-A call has forms (contracts.py) for each length, and cases without a loop: `start` gives the state at the
-first instruction, for lengths and sizes that may have symbols, and `ends` compares a state that has returned.
+A call has forms (contracts.py), each of which is proved for each length. And it has cases, which run no loop:
+arguments that fail whatever the bytes are, and functions that read no text. Their lengths have symbols, too.
 """
 
 import pathlib
 import re
+from dataclasses import dataclass
+from typing import Callable
 
 from conditions import Condition
 from contracts import (
@@ -37,23 +39,23 @@ from values import CONSTANTS, ZERO, apply, constants, kept, unknown, variable
 
 HEADER = pathlib.Path(__file__).resolve().parent.parent / "c" / "const_hex.h"
 N, K, OVER = symbol("n"), symbol("k"), symbol("over")
+ERROR, WRITTEN = Region("error", 16, True, 8), Region("written", 8, True, 8)
 
 
+@dataclass
 class Case:
-    """A call whose arguments are made by `make(front_end)`: arguments, regions, and what else is known of the
-    state."""
+    """A call with these arguments and regions, where `assume` adds what else is known of the state at the
+    start, and `judge` compares each state that has returned."""
 
-    def __init__(self, name, arguments, regions, judge, assume=None):
-        self.name, self.arguments, self.regions, self.judge, self.assume = (
-            name,
-            arguments,
-            regions,
-            judge,
-            assume,
-        )
+    name: str
+    arguments: list
+    regions: list
+    judge: Callable
+    assume: Callable = None
 
     def prove(self, code, function):
-        state = code.front_end.start(code, function, self.arguments, self.regions())
+        """Gives how many states were judged."""
+        state = code.front_end.start(code, function, self.arguments, self.regions)
         if self.assume:
             self.assume(state)
         ends = [end for begin in with_nulls(code, state) for end in outcomes(code, begin)]
@@ -78,10 +80,9 @@ def _encoded_size_cases():
         most = (SIZE_MAX - beside) // 2
         fits, too_long = symbol(f"up to {most}", most), symbol(f"beyond {most}", SIZE_MAX - most - 1)
         for length, size in ((fits, fits * 2 + beside), (too_long + (most + 1), SIZE_MAX)):
-            yield Case(f"flags {flags}, {length} bytes", [length, constants(flags, 4)], list, _returns(size))
-    yield Case(
-        "unknown flags", [symbol("any", SIZE_MAX), _flags_beyond(0)], list, _returns(SIZE_MAX), _beyond(0)
-    )
+            yield Case(f"flags {flags}, {length} bytes", [length, constants(flags, 4)], [], _returns(size))
+    arguments = [symbol("any", SIZE_MAX), _flags_beyond(0)]
+    yield Case("unknown flags", arguments, [], _returns(SIZE_MAX), _beyond(0))
 
 
 def _returns(wanted):
@@ -130,24 +131,11 @@ def _encode_failures():
             least = -(-(odd + 1 - beside) // 2)
             sizes = [(N + K + least, K * 2 + odd)] if least >= 0 else [(N, odd), (N + K, K * 2 + 2 + odd)]
             for length, size in sizes:
-                yield _encode_failure(f"flags {flags}", length, size, constants(flags, 4), flags)
-        for odd in (0, 1):
-            yield _encode_failure(
-                f"unknown flags, of which {flags}",
-                N,
-                K * 2 + odd,
-                _flags_beyond(flags),
-                flags,
-                _beyond(flags),
-            )
+                yield _encode_failure(length, size, flags, constants(flags, 4))
+            yield _encode_failure(N, K * 2 + odd, flags, _flags_beyond(flags), _beyond(flags))
 
 
-def _encode_failure(what, length, size, lane, flags, assume=None):
-    arguments = [Pointer("bytes", 0), length, Pointer("text", 0), size, lane]
-
-    def regions():
-        return [Region("bytes", length), Region("text", size, True)]
-
+def _encode_failure(length, size, flags, lane, assume=None):
     def judge(code, end):
         require(not answer_of(code, end), "it succeeds")
         written, left = end.memory.written("text"), end.memory.regions["text"].size
@@ -155,7 +143,9 @@ def _encode_failure(what, length, size, lane, flags, assume=None):
         require(set(written) == ({0} if ends else set()), "what is written on failure")
         require(not ends or written[0] is ZERO, "the text is not the empty string")
 
-    return Case(f"{what}: {length} bytes for a size of {size}", arguments, regions, judge, assume)
+    name = f"flags {flags}{' and unknown ones' if assume else ''}: {length} bytes for a size of {size}"
+    arguments = [Pointer("bytes", 0), length, Pointer("text", 0), size, lane]
+    return Case(name, arguments, [Region("bytes", length), Region("text", size, True)], judge, assume)
 
 
 # Decoding
@@ -171,14 +161,8 @@ def _text_failures(call):
 
 
 def _text_failure(call, kind, body, length, size):
-    arguments = [Pointer("text", 0), length]
-    arguments += {"check": [], "decode_exact": [Pointer("bytes", 0), size]}.get(
-        call, [Pointer("bytes", 0), size, Pointer("written", 0)]
-    )
-
-    def regions():
-        buffers = [Region("bytes", size, True), Region("written", 8, True, 8), Region("error", 16, True, 8)]
-        return [Region("text", length), *buffers]
+    others = [Pointer("bytes", 0), size, Pointer("written", 0)]
+    others = others[: {"check": 0, "decode_exact": 2, "decode": 3}[call]]
 
     def judge(code, end):
         require(not answer_of(code, end), "it succeeds")
@@ -191,13 +175,9 @@ def _text_failure(call, kind, body, length, size):
         if body is not None:
             assume_prefix(state, body)
 
-    return Case(
-        f"kind {kind}: a text of {length} for {size} bytes",
-        [*arguments, Pointer("error", 0)],
-        regions,
-        judge,
-        assume,
-    )
+    arguments = [Pointer("text", 0), length, *others, Pointer("error", 0)]
+    regions = [Region("text", length), Region("bytes", size, True), WRITTEN, ERROR]
+    return Case(f"kind {kind}: a text of {length} for {size} bytes", arguments, regions, judge, assume)
 
 
 # Decoders
@@ -239,51 +219,28 @@ def _update_failures():
     yield _update_failure("after an error", _decoder(None, None), N, OVER, None, _assume_failed)
     for form in _updates():
         content = _decoder(form.index, int(form.waits or form.index == 1))
-
-        def assume(state, form=form):
-            form.assume(state)
-
         # So many digits with the one that waits: 2n + 2k + 2, or one more, for n bytes.
         for odd in (0, 1):
             length = (N + K + 1) * 2 + odd + form.digits - form.waits
-            yield _update_failure(form.name, content, length, N, INVALID_LENGTH, assume)
+            yield _update_failure(form.name, content, length, N, INVALID_LENGTH, form.assume)
 
 
 def _update_failure(name, content, length, size, kind, assume):
-    arguments = [
-        Pointer("decoder", 0),
-        Pointer("text", 0),
-        length,
-        Pointer("bytes", 0),
-        size,
-        Pointer("written", 0),
-    ]
-
-    def regions():
-        decoder = Region("decoder", 16, True, 8, content)
-        buffers = [Region("bytes", size, True), Region("written", 8, True, 8), Region("error", 16, True, 8)]
-        return [decoder, Region("text", length), *buffers]
-
     def judge(code, end):
         require(not answer_of(code, end), "it succeeds")
         unchanged(end, "decoder", "bytes")
         require_value(end, "written", 0, constants(0, 8))
         require_error(end, kind) if kind else _require_failed(end)
 
-    return Case(
-        f"{name}: a chunk of {length} for {size} bytes",
-        [*arguments, Pointer("error", 0)],
-        regions,
-        judge,
-        assume,
-    )
+    arguments = [Pointer("decoder", 0), Pointer("text", 0), length, Pointer("bytes", 0), size]
+    arguments += [Pointer("written", 0), Pointer("error", 0)]
+    regions = [Region("text", length), Region("bytes", size, True), WRITTEN, ERROR]
+    regions.append(Region("decoder", 16, True, 8, content))
+    return Case(f"{name}: a chunk of {length} for {size} bytes", arguments, regions, judge, assume)
 
 
 def _finishes():
     for state, name in ((0, "no digit waits"), (1, "a digit waits"), (None, "after an error")):
-
-        def regions(state=state):
-            return [Region("decoder", 16, False, 8, _decoder(None, state)), Region("error", 16, True, 8)]
 
         def judge(code, end, state=state):
             require(answer_of(code, end) == (state == 0), "the result is another")
@@ -294,6 +251,7 @@ def _finishes():
             else:
                 _require_failed(end)
 
+        regions = [Region("decoder", 16, False, 8, _decoder(None, state)), ERROR]
         assume = _assume_failed if state is None else None
         yield Case(name, [Pointer("decoder", 0), Pointer("error", 0)], regions, judge, assume)
 
@@ -302,17 +260,14 @@ def _version():
     wanted = int(re.search(r"#define CONST_HEX_VERSION (\d+)", HEADER.read_text())[1])
 
     def judge(code, end):
-        require(
-            is_same(end.path, code.front_end.result(end, 4), constants(wanted, 4)),
-            f"the version is not {wanted}",
-        )
+        found = code.front_end.result(end, 4)
+        require(is_same(end.path, found, constants(wanted, 4)), f"the version is not {wanted}")
 
-    yield Case(f"version {wanted}", [], list, judge)
+    yield Case(f"version {wanted}", [], [], judge)
 
 
 class Call:
-    """Its forms for each length, by rounds of `size` bytes, its other cases, and whether each length is
-    possible."""
+    """Its forms, with lengths in steps and by rounds of `size` bytes, and its other cases."""
 
     def __init__(self, forms, cases, size=0, step=1, has_nonnull=False):
         self.forms, self.cases, self.size, self.step = list(forms), list(cases), size, step

@@ -1,5 +1,4 @@
-"""The sums of the code that `prove --all` has proved, in proved.txt. Code with another sum is not shown to be
-right.
+"""The sums of the code that `prove --all` has proved, in proved.txt. Other code is not shown to be right.
 
 The sum of a function is over the sections that it reaches by relocations: their bytes, and what they refer
 to.
@@ -24,7 +23,7 @@ def sum_of(obj, function):
             target = obj.section_at(address) or obj.section_at(address + 8)
             if target and target not in found:
                 found.append(target)
-            place = f"{found.index(target)}" if target else obj.name_at(address)
+            place = f"{found.index(target)}" if target else obj.undefined[address + 4]
             total.update(f"{offset} {kind} {place} {address - target.address if target else 0}\n".encode())
     return total.hexdigest()
 
@@ -34,19 +33,10 @@ def recorded():
     return {tuple(line.split()[:2]): line.split()[2] for line in lines if line and not line.startswith("#")}
 
 
-def write(rows):
-    """Adds rows (call, build, sum) to what was proved before."""
-    found = recorded() | {(call, build): total for call, build, total in rows}
-    lines = [f"{call} {build} {total}" for (call, build), total in sorted(found.items())]
-    head = [
-        "# The code that `prove --all` has proved, by call and build: the sums of what it reaches (sums.py)."
-    ]
-    FILE.write_text("\n".join(head + lines) + "\n")
-
-
-def differences(rows):
-    """What is not shown for code with these sums, in words."""
-    known = recorded()
-    for call, build, total in rows:
-        if known.get((call, build)) != total:
-            yield f"{call}, {build}: this code is not the one that `prove --all` has proved at every length"
+def write(call, build, total):
+    """Adds a function of a build to what was proved before."""
+    found = recorded() | {(call, build): total}
+    head = "# The code that `prove --all` has proved: function, build, sum of what it reaches (sums.py)\n"
+    FILE.write_text(
+        head + "".join(f"{call} {build} {total}\n" for (call, build), total in sorted(found.items()))
+    )

@@ -14,6 +14,8 @@ tabulates once for each combination of tables that it meets.
 by a constant, and tested for zero; everything else with it is refused.
 """
 
+import operator
+
 MOST_VARIABLES = 2
 
 
@@ -221,14 +223,6 @@ def each(function, *lanes):
     return tuple([apply(function, 1, [(byte,) for byte in row])[0] for row in zip(*lanes)])
 
 
-def _or(first, second):
-    return first | second
-
-
-def _and(first, second):
-    return first & second
-
-
 def parts(byte):
     """The bytes whose OR this byte is."""
     return byte.parts if type(byte) is Joined else (byte,)
@@ -246,7 +240,7 @@ def _join(first, second):
         return first
     if type(first) is Byte and type(second) is Byte:
         if len({*first.support, *second.support}) <= MOST_VARIABLES:
-            return apply(_or, 1, [(first,), (second,)])[0]
+            return apply(operator.or_, 1, [(first,), (second,)])[0]
     return Joined((*parts(first), *parts(second)))
 
 
@@ -259,7 +253,7 @@ def _mask(first, second):
     if first is ZERO or second is ZERO:
         return ZERO
     if type(first) is not Joined and type(second) is not Joined:
-        return apply(_and, 1, [(first,), (second,)])[0]
+        return apply(operator.and_, 1, [(first,), (second,)])[0]
     first, second = (first, second) if type(first) is Joined else (second, first)
     if not second.is_constant:
         raise TooWide("AND of joined bytes")

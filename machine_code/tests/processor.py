@@ -172,7 +172,7 @@ def _random_bytes(some, count):
     if some.random() < 0.5:
         return some.randbytes(count)
     edges = bytes([0, 1, 0x7F, 0x80, 0xFF, 0x30, 0x39, 0x41, 0x66, 0x0F, 0x10])
-    return bytes([some.choice(edges) for _ in range(count)])
+    return bytes(some.choices(edges, k=count))
 
 
 def _point(state, operand, some):

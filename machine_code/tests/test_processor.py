@@ -1,6 +1,7 @@
 """The instructions' meanings, compared with this processor on random states; and wrong meanings, which are
 noticed."""
 
+import operator
 import pathlib
 import unittest
 from unittest import mock
@@ -9,7 +10,7 @@ from reached import is_message
 from tests.library import code_of
 from tests.processor import Processor, can_run_alone, form_of
 from values import ZERO, apply
-from x86_64 import general, vector
+from x86_64 import vector
 from x86_64.general import HANDLERS
 
 STATES, PLACES = 24, 3
@@ -49,14 +50,14 @@ def _no_zeros(state, i):
 # The mnemonics, and a meaning that is wrong in a way that is easy to overlook.
 WRONG = {
     "pminub vpminub": vector._handler(vector._lanes(max, 1)),
-    "psubusb vpsubusb": vector._handler(vector._lanes(vector._difference, 1)),
+    "psubusb vpsubusb": vector._handler(vector._lanes(operator.sub, 1)),
     "packuswb vpackuswb": vector._handler(
         vector._in_halves(lambda a, b: sum(((a + b)[at : at + 1] for at in range(0, 32, 2)), ()))
     ),
     "vpshufb pshufb": vector._handler(
         vector._in_halves(lambda row, control: tuple(row[byte.value & 15] for byte in control))
     ),
-    "psrlw vpsrlw": vector._handler(vector._by_count(vector._shifted_right, 4)),
+    "psrlw vpsrlw": vector._handler(vector._by_count(operator.rshift, 4)),
     "pmullw vpmullw": vector._handler(vector._lanes(lambda a, b: (a * b) >> 16, 2)),
     "pmovzxbw vpmovzxbw": lambda state, i: vector._set_target(
         state, i, vector._flat((ZERO, byte) for byte in state.read(i.operands[1], i.operands[0].size // 2))
@@ -67,7 +68,7 @@ WRONG = {
     "sete": lambda state, i: state.write(i.operands[0], (ZERO,)),
     "inc": lambda state, i: state.write(i.operands[0], state.read(i.operands[0])),
     "shr": lambda state, i: state.write(
-        i.operands[0], apply(general._shifted_left, i.operands[0].size, [state.read(i.operands[0])], (1,))
+        i.operands[0], apply(operator.lshift, i.operands[0].size, [state.read(i.operands[0])], (1,))
     ),
 }
 

@@ -5,11 +5,24 @@ returns where to go on if that is not the next instruction.
 """
 
 import itertools
+import operator
 
 from exploration import RETURNED
 from linear import GREATEST_SIGNED, Linear, Split, in_range, linear
 from memory import Fault, Pointer, as_value, is_whole
-from values import CONSTANTS, ZERO, TooWide, apply, are_constant, constants, each, joined, masked, number, unknown
+from values import (
+    CONSTANTS,
+    ZERO,
+    TooWide,
+    apply,
+    are_constant,
+    constants,
+    each,
+    joined,
+    masked,
+    number,
+    unknown,
+)
 from x86_64.flags import CODES, Flags, as_number, signed
 
 HANDLERS = {}
@@ -23,34 +36,6 @@ def instruction(*names):
         return function
 
     return register
-
-
-def _sum(first, second):
-    return first + second
-
-
-def _difference(first, second):
-    return first - second
-
-
-def _xor(first, second):
-    return first ^ second
-
-
-def _not(value):
-    return ~value
-
-
-def _negated(value):
-    return -value
-
-
-def _shifted_left(value, count):
-    return value << count
-
-
-def _shifted_right(value, count):
-    return value >> count
 
 
 def _sign_extended(value, size):
@@ -115,7 +100,7 @@ def add(state, i):
     if type(first) is Linear or type(second) is Linear:
         result = as_value(as_number(first) + as_number(second))
     else:
-        result = apply(_sum, len(first), [first, second])
+        result = apply(operator.add, len(first), [first, second])
     _finish(state, i, result, Flags("add", first, second, result))
 
 
@@ -132,7 +117,7 @@ def _subtracted(first, second):
         raise Fault("a pointer is subtracted from a number")
     if type(first) is Linear or type(second) is Linear:
         return as_value(as_number(first) - as_number(second))
-    return apply(_difference, len(first), [first, second])
+    return apply(operator.sub, len(first), [first, second])
 
 
 @instruction("sub")
@@ -155,7 +140,7 @@ def inc(state, i):
     if type(first) is Linear:
         result = first + change
     else:
-        result = apply(_sum, len(first), [first, constants(change, len(first))])
+        result = apply(operator.add, len(first), [first, constants(change, len(first))])
     _finish(state, i, result, Flags("inc", result=result, before=state.flags))
 
 
@@ -171,13 +156,15 @@ def not_(state, i):
     value = state.read(i.operands[0])
     if type(value) is Pointer:
         raise Fault("NOT of a pointer")
-    state.write(i.operands[0], as_value(-value - 1) if type(value) is Linear else each(_not, value))
+    state.write(
+        i.operands[0], as_value(-value - 1) if type(value) is Linear else each(operator.invert, value)
+    )
 
 
 def _logic(name, first, second):
     if name in ("and", "test"):
         return masked(first, second)
-    return joined(first, second) if name == "or" else each(_xor, first, second)
+    return joined(first, second) if name == "or" else each(operator.xor, first, second)
 
 
 def _logic_of_number(name, first, mask):
@@ -225,7 +212,7 @@ def shift(state, i):
         raise Fault("a shift by a register")
     count &= 63 if is_whole(value) or len(value) == 8 else 31
     if count:
-        result = _shifted(_shifted_left if i.mnemonic == "shl" else _shifted_right, value, count)
+        result = _shifted(operator.lshift if i.mnemonic == "shl" else operator.rshift, value, count)
         _finish(state, i, result, Flags("shift", result=result))
 
 
@@ -233,7 +220,7 @@ def _shifted(function, value, count):
     """By whole bytes it only moves them, so they may depend on anything."""
     if type(value) is Pointer:
         raise Fault("a shift of a pointer")
-    if type(value) is Linear and function is _shifted_left:
+    if type(value) is Linear and function is operator.lshift:
         return as_value(value * (1 << count))
     if type(value) is Linear:
         odd = [name for name, factor in value.terms if factor % 2]
@@ -246,7 +233,7 @@ def _shifted(function, value, count):
     if count % 8:
         return apply(function, len(value), [value], (count,))
     zeros = (ZERO,) * min(count // 8, len(value))
-    if function is _shifted_left:
+    if function is operator.lshift:
         return zeros + value[: len(value) - len(zeros)]
     return value[len(zeros) :] + zeros
 

@@ -5,6 +5,8 @@ move that says otherwise. An AVX instruction has an operand more, clears the byt
 alignment.
 """
 
+import operator
+
 from conditions import are_zero
 from memory import Fault, as_lane, from_lane
 from values import ZERO, apply, are_constant, each, joined, masked
@@ -15,40 +17,12 @@ from x86_64.general import HANDLERS, instruction
 # Functions of numbers
 
 
-def _sum(first, second):
-    return first + second
-
-
-def _difference(first, second):
-    return first - second
-
-
 def _difference_from_0(first, second):
     return max(first - second, 0)
 
 
-def _product(first, second):
-    return first * second
-
-
 def _equal(first, second):
     return -(first == second)
-
-
-def _xor(first, second):
-    return first ^ second
-
-
-def _complement(value):
-    return ~value
-
-
-def _shifted_left(value, count):
-    return value << count
-
-
-def _shifted_right(value, count):
-    return value >> count
 
 
 def _as_unsigned_byte(value):
@@ -67,25 +41,23 @@ def _flat(lanes):
     return sum(lanes, ())
 
 
-def _lanes(function, size, *parameters):
+def _lanes(function, size):
     """An operation on each two lanes of this size."""
 
     def operation(first, second):
         places = range(0, len(first), size)
-        return _flat(
-            apply(function, size, [first[at:][:size], second[at:][:size]], parameters) for at in places
-        )
+        return _flat(apply(function, size, [first[at:][:size], second[at:][:size]]) for at in places)
 
     return operation
 
 
-def _by_count(function, size, *parameters):
+def _by_count(function, size):
     """A shift of each lane by a constant."""
 
     def operation(value, count):
         count = min(count, 8 * size)
         places = range(0, len(value), size)
-        return _flat(apply(function, size, [value[at:][:size]], (count, *parameters)) for at in places)
+        return _flat(apply(function, size, [value[at:][:size]], (count,)) for at in places)
 
     return operation
 
@@ -134,22 +106,22 @@ def _picked(vector, order, size):
 OPERATIONS = {
     "por": joined,
     "pand": masked,
-    "pxor": _lanes(_xor, 1),
-    "paddb": _lanes(_sum, 1),
-    "paddw": _lanes(_sum, 2),
-    "psubb": _lanes(_difference, 1),
+    "pxor": _lanes(operator.xor, 1),
+    "paddb": _lanes(operator.add, 1),
+    "paddw": _lanes(operator.add, 2),
+    "psubb": _lanes(operator.sub, 1),
     "psubusb": _lanes(_difference_from_0, 1),
     "pminub": _lanes(min, 1),
-    "pmullw": _lanes(_product, 2),
+    "pmullw": _lanes(operator.mul, 2),
     "pcmpeqd": _lanes(_equal, 4),
     "pshufb": _in_halves(_shuffled),
     "packuswb": _in_halves(_packed),
     "punpckldq": _in_halves(_interleaved(4)),
     "punpcklqdq": _in_halves(_interleaved(8)),
     # The last operand is an immediate.
-    "psllw": _by_count(_shifted_left, 2),
-    "psrlw": _by_count(_shifted_right, 2),
-    "psrld": _by_count(_shifted_right, 4),
+    "psllw": _by_count(operator.lshift, 2),
+    "psrlw": _by_count(operator.rshift, 2),
+    "psrld": _by_count(operator.rshift, 4),
 }
 
 
@@ -269,7 +241,7 @@ def permute(state, i):
 def test(state, i):
     first = state.read(i.operands[0])
     second = as_lane(state.read(i.operands[1], len(first), 1 if _is_avx(i) else 16))
-    others = masked(each(_complement, first), second) if are_constant(first) else None
+    others = masked(each(operator.invert, first), second) if are_constant(first) else None
     state.flags = Flags("test", are_zero(masked(first, second)), others and are_zero(others))
 
 
