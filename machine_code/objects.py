@@ -23,7 +23,8 @@ class Section:
         self.address = address
         self.alignment = alignment
         self.content = content
-        # The bytes as they stand in the file, and where they refer to: offset, kind, and address.
+        # The bytes as they stand in the file, and what they refer to: offset, kind, address of a symbol, and
+        # what is added to it.
         self.bytes = bytes(content)
         self.references = []
 
@@ -96,7 +97,7 @@ def read(data):
                 undefined[address] = name
     for header in (header for header in headers if header[1] == 4 and header[7] in placed):
         for offset, info, addend in struct.iter_unpack("<QQq", content(header)):
-            _relocate(placed[header[7]], offset, info & 0xFFFFFFFF, addresses[info >> 32] + addend)
+            _relocate(placed[header[7]], offset, info & 0xFFFFFFFF, addresses[info >> 32], addend)
     return Object(list(placed.values()), symbols, undefined)
 
 
@@ -104,9 +105,9 @@ def _text(strings, at):
     return strings[at : strings.index(b"\0", at)].decode()
 
 
-def _relocate(section, offset, kind, value):
+def _relocate(section, offset, kind, symbol, addend):
     if kind not in RELATIVE:
         raise ValueError(f"relocation of kind {kind} in {section.name}")
-    section.references.append((offset, kind, value))
-    word = value - (section.address + offset)
+    section.references.append((offset, kind, symbol, addend))
+    word = symbol + addend - (section.address + offset)
     struct.pack_into("<I", section.content, offset, word & 0xFFFFFFFF)

@@ -18,13 +18,12 @@ def sum_of(obj, function):
     total = hashlib.sha256(struct.pack("<Q", start - found[0].address))
     for section in found:
         total.update(struct.pack("<QQ", len(section.bytes), section.alignment) + section.bytes)
-        for offset, kind, address in section.references:
-            # A reference to the end of a section, less some bytes, is to that section.
-            target = obj.section_at(address) or obj.section_at(address + 8)
-            if target and target not in found:
-                found.append(target)
-            place = f"{found.index(target)}" if target else obj.undefined[address + 4]
-            total.update(f"{offset} {kind} {place} {address - target.address if target else 0}\n".encode())
+        for offset, kind, symbol, addend in section.references:
+            target, place = obj.section_at(symbol), obj.undefined.get(symbol)
+            if target:
+                found += [target] if target not in found else []
+                place = f"{found.index(target)} {symbol - target.address}"
+            total.update(f"{offset} {kind} {addend} {place}\n".encode())
     return total.hexdigest()
 
 

@@ -79,7 +79,8 @@ def constant(pattern, offset, value, which=0):
 
 
 def detour(text, size=5):
-    """At the start of a function, other instructions run before the first ones, which have `size` bytes."""
+    """At the start of a function, other instructions run before the first ones, which have `size` bytes and
+    depend on no place."""
 
     def change(code, function):
         start = code.object.symbols[function]
@@ -89,8 +90,8 @@ def detour(text, size=5):
         section.content += assembled(text) + first
         section.content += b"\xe9" + struct.pack("<i", start + size - (section.end + 5))
         at = start - section.address
-        section.content[at : at + size] = (
-            b"\xe9" + struct.pack("<i", tail - (start + 5)) + b"\x90" * (size - 5)
-        )
+        jump = b"\xe9" + struct.pack("<i", tail - (start + 5)) + b"\x90" * (size - 5)
+        section.content[at : at + size] = jump
+        return code.front_end.instructions(section)[start]
 
     return change

@@ -1,4 +1,4 @@
-"""The definition of digits is that of crates/const_hex_arch/specs, and agrees with the table of test vectors."""
+"""The definition of digits is that of crates/const_hex_arch/specs, and agrees with the test vectors."""
 
 import codecs
 import re
