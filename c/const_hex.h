@@ -85,9 +85,10 @@
  * x86-64-v3 (AVX2 and what came with it), which is used if the CPU supports it. The first call detects that
  * and stores the result in one byte; nothing else is kept between calls.
  *
- * A function uses less than 2 KB of stack. The object files have no unwind tables: a debugger or profiler
- * that stops inside a function may not find its caller. They have no IBT and SHSTK properties: a program
- * that links them statically runs without these protections.
+ * A function uses less than 2 KB of stack: on x86-64 the tool machine_code checks this, except for
+ * const_hex_error_message; on AArch64 nothing does. The object files have no unwind tables: a debugger or
+ * profiler that stops inside a function may not find its caller. They have no IBT and SHSTK properties: a
+ * program that links them statically runs without these protections.
  *
  * BUILDING
  *
@@ -186,8 +187,9 @@ struct const_hex_error {
  *     fprintf(stderr, "%s\n", message);
  *
  * A single quote, a backslash, NUL, tab, newline and carriage return are shown as '\'', '\\', '\0', '\t',
- * '\n' and '\r'. Other control characters, a no-break space (0xa0) and a soft hyphen (0xad) are shown by their
- * number, as in '\u{1b}'. Any other byte above 127 is shown as the Unicode character with that number, in UTF-8.
+ * '\n' and '\r'. Other control characters, a no-break space (0xa0) and a soft hyphen (0xad) are shown by
+ * their number, as in '\u{1b}'. Any other byte above 127 is shown as the Unicode character with that number,
+ * in UTF-8.
  */
 CONST_HEX_NONNULL(1)
 CONST_HEX_WRITES(2, 3)

@@ -1,5 +1,5 @@
 #!/usr/bin/env python3
-"""Prints the SHA-256 of a file as 0x and 64 digits, by the shared library: hash.py LIBRARY FILE"""
+"""Prints the SHA-256 of a file as 0x and 64 digits, using the shared library: hash.py LIBRARY FILE"""
 import ctypes
 import hashlib
 import sys
@@ -8,7 +8,7 @@ PREFIX = 2  # CONST_HEX_PREFIX
 
 library, name = sys.argv[1:]
 encode = ctypes.CDLL(library).const_hex_encode
-# Without these types ctypes passes an int for each number.
+# Without these types ctypes would pass each number as an int.
 encode.restype = ctypes.c_bool
 encode.argtypes = [ctypes.c_char_p, ctypes.c_size_t, ctypes.c_char_p, ctypes.c_size_t, ctypes.c_uint]
 

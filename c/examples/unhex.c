@@ -3,15 +3,15 @@
  *
  *     unhex < FILE
  *
- * The status is 1 if the text is invalid, and 2 if a read or a write failed. The bytes before the
- * error may then be written already.
+ * The status is 1 if the text is invalid, and 2 if a read or a write failed. Bytes before the error
+ * may already have been written.
  */
 #include "const_hex.h"
 #include <stdio.h>
 
 enum { CHUNK = 65536 };
 
-/* Decodes a chunk, and writes the new bytes. A write that fails leaves its mark on the output. */
+/* Decodes a chunk, and writes the new bytes. The end of main tests whether a write failed. */
 static bool decode(struct const_hex_decoder *decoder, const char *text, size_t length,
                    struct const_hex_error *error) {
     static unsigned char bytes[(CHUNK + 1) / 2];
@@ -23,7 +23,7 @@ static bool decode(struct const_hex_decoder *decoder, const char *text, size_t l
     return true;
 }
 
-/* Decodes the input. False if it is invalid. */
+/* Decodes the input. Returns false if it is invalid. */
 static bool decode_input(struct const_hex_error *error) {
     static char text[CHUNK];
     struct const_hex_decoder decoder = {{0}};
