@@ -3,7 +3,7 @@
 use crate::{encode_to_slice, Decoder, FromHexError};
 use std::io::{BufRead, BufReader, BufWriter, Error, ErrorKind, Read, Result, Write};
 
-/// Wraps a reader of hexadecimal text, and reads the decoded bytes. Allocates a buffer for the text.
+/// Wraps a reader of hexadecimal text, and yields the decoded bytes. Allocates a buffer for the text.
 ///
 /// The text ends where the other reader first returns no bytes.
 ///
@@ -77,7 +77,7 @@ impl<R: Read> Read for DecodeReader<R> {
 ///
 /// # Errors
 ///
-/// A write returns the other writer's error. None of its bytes is written then, so it may be repeated.
+/// A write that returns the other writer's error has taken none of the bytes, so it may be repeated.
 ///
 /// ```
 /// use const_hex_proved::EncodeWriter;

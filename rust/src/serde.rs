@@ -1,7 +1,7 @@
 //! Fields of hexadecimal text, by `#[serde(with = "const_hex_proved")]`.
 //!
 //! The text that is written begins with `0x`; [`no_prefix`] writes none. Both read a text with or without a
-//! prefix. No function here allocates, but a serializer may.
+//! prefix. No function here allocates by itself, but a serializer may, and reading a `Vec<u8>` does.
 //!
 //! ```
 //! use serde::{Deserialize, Serialize};
