@@ -64,18 +64,22 @@
  * function meets its contract: it is memory-safe, terminates, and returns and writes what the contract
  * says, for all inputs. The contracts are in crates/const_hex_c; this header states them in prose.
  *
- * Tested and not verified are: the C code in c/dispatch.c, which detects the CPU and handles a NULL error;
- * that const_hex_error_message writes a message, and how it shows an invalid character; and that this
- * header agrees with the contracts.
+ * On x86-64 the machine code is verified too, against this header, by the separate tool in machine_code: both
+ * builds of every function except const_hex_error_message, for every length below 2^53, and the C code in
+ * c/dispatch.c, which detects the CPU and handles a NULL error.
+ *
+ * Tested and not verified are: that const_hex_error_message writes a message, and how it shows an invalid
+ * character; on AArch64 also the compiled code and c/dispatch.c. That this header agrees with the contracts
+ * of crates/const_hex_c and of machine_code was reviewed.
  *
  * CONSTANT TIME
  *
  * For valid input, branches and memory addresses do not depend on the bytes or digits, but only on lengths,
  * sizes, flags and pointers, on whether a text has a prefix, and on where the chunks of a text are split.
- * This is tested for both builds on x86-64, and not verified; on AArch64 it is not examined. It does not hold
- * for invalid text: the error states the position of the invalid character, and timing reveals it too. How
- * long an instruction takes is up to the CPU. No memory is wiped. libsodium has sodium_bin2hex and
- * sodium_hex2bin, which are made for secrets.
+ * On x86-64 this is verified in the machine code of both builds, for every length below 2^53; on AArch64 it
+ * is not examined. It does not hold for invalid text: the error states the position of the invalid character,
+ * and timing reveals it too. How long an instruction takes is up to the CPU. No memory is wiped. libsodium has
+ * sodium_bin2hex and sodium_hex2bin, which are made for secrets.
  *
  * PLATFORMS
  *
