@@ -1,5 +1,4 @@
-"""The archive that is tested: build/c/libconst_hex.a, or the one that the variable CONST_HEX_ARCHIVE names.
-"""
+"""The archive that is tested: build/c/libconst_hex.a, or what the variable CONST_HEX_ARCHIVE names."""
 
 import os
 import pathlib
@@ -12,9 +11,7 @@ TOP = pathlib.Path(__file__).resolve().parents[2]
 ARCHIVE = os.environ.get("CONST_HEX_ARCHIVE", TOP / "build" / "c" / "libconst_hex.a")
 
 
-def object_of(build):
-    return objects.read(objects.member(ARCHIVE, f"const_hex_{build}.o"))
-
-
 def code_of(build):
-    return Code(object_of(build), front_end)
+    """The code of a build, or that of dispatch.c."""
+    name = "dispatch.c.o" if build == "dispatch" else f"const_hex_{build}.o"
+    return Code(objects.read(objects.member(ARCHIVE, name)), front_end)

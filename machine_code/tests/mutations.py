@@ -25,16 +25,14 @@ def assembled(text):
 
 
 def find(code, function, pattern, which=0):
-    """The section of a function, and its instruction that matches. The name may be a part of a section's
-    name."""
-    if function in code.object.symbols:
-        section = code.object.section_at(code.object.symbols[function])
-    else:
-        section = next(
-            section for section in code.object.sections if function in section.name and section.is_code
-        )
+    """The section of a function, or with this in its name, and the function's instruction that matches."""
+    start = code.object.symbols.get(function, 0)
+    named = [section for section in code.object.sections if section.is_code and function in section.name]
+    section = code.object.section_at(start) or named[0]
     known = code.front_end.instructions(section)
-    found = [known[address] for address in sorted(known) if re.search(pattern, known[address].text)]
+    found = [known[at] for at in sorted(known) if at >= start and re.search(pattern, known[at].text)]
+    if len(found) <= which:
+        raise LookupError(f"{function} has no instruction like {pattern}")
     return section, found[which]
 
 

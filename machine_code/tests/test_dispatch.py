@@ -1,0 +1,58 @@
+"""Wrong machine code of dispatch.c, which the tool has to refuse by the check that is meant."""
+
+import re
+import unittest
+
+import dispatch
+from exploration import Refused
+from tests.library import code_of
+from tests.mutations import byte, replaced
+
+# What is wrong; the function that shows it; the one where it is; the change; and what the tool has to say.
+MUTATIONS = [
+    ("NULL is passed on", "decode", "const_hex_decode", replaced("^je", "nop"), "the local error"),
+    ("NULL is passed on, on the stack", "decoder_update", "const_hex_decoder_update",
+     replaced("^je", "nop"), "the local error"),
+    ("the stored byte names another build", "encode", "const_hex_encode",
+     byte("^cmp +BYTE PTR", -1, 1), "the build is not the one that is stored"),
+    ("a build is called without asking", "check", "const_hex_check",
+     replaced("^jne", "nop", 1), "the build is not the one that is stored"),
+    ("LZCNT is not needed", "version", "ask", byte("^and +cl,0x20", -1, 0x60), "not the one for this CPU"),
+    ("leaf 7 may not exist", "version", "ask", replaced("^jbe", "nop"), "not the one for this CPU"),
+    ("AVX2 is not looked at", "version", "ask", replaced("^jne", "nop", 1), "not the one for this CPU"),
+    ("the system does not save the registers", "version", "ask",
+     byte("^sete +dl", -2, 0x95), "another build is stored|not the one for this CPU"),
+    ("another byte is stored", "version", "ask",
+     byte(r"^mov +BYTE PTR \[rip", -5, 0x15), "another build is stored"),
+    ("a saved register is changed", "version", "ask",
+     replaced("^pop +rbx", "pop rcx"), "rbx is not as before"),
+    ("an argument is lost", "encode", "first_encode",
+     replaced("^mov +rcx,r11", "nop"), "argument 3 is another"),
+    ("the stack is not restored", "encode", "first_encode",
+     replaced("^pop +r9", "nop"), "the stack of a build"),
+]
+
+
+class TestDispatch(unittest.TestCase):
+    def test_each_function(self):
+        code = code_of("dispatch")
+        for name in dispatch.FUNCTIONS:
+            self.assertGreaterEqual(dispatch.prove(code, name), 4)
+
+
+def _test(name, function, change, wanted):
+    def test(self):
+        code = code_of("dispatch")
+        try:
+            changed = change(code, function)
+        except LookupError as another:
+            self.skipTest(f"the C compiler has built other code: {another}")
+        with self.assertRaisesRegex(Refused, wanted):
+            dispatch.prove(code, name)
+        self.assertIn(changed.address, code.run, "the instruction that was changed does not run")
+
+    return test
+
+
+for _what, *_row in MUTATIONS:
+    setattr(TestDispatch, "test_" + re.sub(r"\W+", "_", _what.lower()), _test(*_row))
