@@ -3,15 +3,15 @@
 It does not look at its arguments, so what is proved holds for any: they arrive unchanged at a build, except
 that a NULL error becomes a pointer to a local one, and the result is what the build returns. The build is the
 one that the stored byte names. If it names none, the CPU is asked, and the build for x86-64-v3 is taken if
-and only if the CPU has all that this level needs. The byte may be anything at the start; so may all that
-`cpuid` and `xgetbv` return.
+and only if the CPU has all that this level needs. The byte may be anything at the start, and another thread
+may store it at any time. All that `cpuid` and `xgetbv` return may be anything, too.
 """
 
 from conditions import conjunction
 from contracts import is_same
 from exploration import RETURNED, outcomes, require
 from memory import Pointer, as_lane
-from values import apply, constants, kept, unknown, variable
+from values import apply, constants, kept, parts_of, unknown, variable
 
 DEFAULT, V3 = 1, 2
 # How many arguments a function has, and which of them is an error that may be NULL.
@@ -138,16 +138,15 @@ def _returned(code, state, error):
 def _judge_choice(code, state, build):
     """The build is the one that the byte names, or that the CPU asks for, and the byte is stored then."""
     picked = _picked_address(code)
-    byte, cell = unknown("image", picked), state.memory.written("image").get(picked)
+    cell = state.memory.written("image").get(picked)
     asked = set(state.memory.written("image"))
     require(asked <= {picked}, "another byte is stored")
     if asked:
         require(is_same(state.path, (cell,), constants(build, 1)), "another build is stored")
         require(_has_v3(state.path) is (build == V3), "the build is not the one for this CPU")
     else:
-        require(
-            state.path.allowed(byte.support[0]) == _only(build), "the build is not the one that is stored"
-        )
+        read = [known for at, known in state.path.sets.items() if parts_of(at)[:2] == ("image", picked)]
+        require(_only(build) in read, "the build is not the one that is stored")
 
 
 def _only(value):

@@ -6,11 +6,13 @@ a write to a region that may only be read.
 """
 
 import copy
+import itertools
 from collections import namedtuple
 
 from linear import Linear, Unknown, constant_of, is_surely_below, linear, replaced, terms_of
 from values import CONSTANTS, WholeByte, constants, unknown
 
+_count = itertools.count()
 Pointer = namedtuple("Pointer", "region offset")
 
 
@@ -115,7 +117,8 @@ class Image(Region):
     def old(self, offset):
         section = self._section_at(offset)
         if section.is_writable:
-            return unknown("image", offset)
+            # Another thread may write it at any time, so it is another unknown byte at each read.
+            return unknown("image", offset, next(_count))
         return CONSTANTS[section.content[offset - section.address]]
 
     def is_aligned(self, offset, size):
