@@ -62,12 +62,6 @@ impl<const N: usize, const PREFIX: bool> Buffer<N, PREFIX> {
 
     /// Returns a buffer with the text of `array` in uppercase. For constants, since it looks digits up in a
     /// table: at run time use [`format_upper`](Self::format_upper).
-    ///
-    /// ```
-    /// const KIWI: const_hex_proved::Buffer<4> =
-    ///     const_hex_proved::Buffer::new().const_format_upper(b"kiwi");
-    /// assert_eq!(KIWI.as_str(), "6B697769");
-    /// ```
     #[inline]
     pub const fn const_format_upper(self, array: &[u8; N]) -> Self {
         Self::of(array, true)
@@ -96,10 +90,6 @@ impl<const N: usize, const PREFIX: bool> Buffer<N, PREFIX> {
     }
 
     /// Writes the text of `array` in uppercase, and returns the whole text.
-    ///
-    /// ```
-    /// assert_eq!(const_hex_proved::Buffer::<2>::new().format_upper(&[0, 255]), "00FF");
-    /// ```
     #[inline]
     pub fn format_upper(&mut self, array: &[u8; N]) -> &mut str {
         self.format_slice_upper(array)
@@ -125,10 +115,6 @@ impl<const N: usize, const PREFIX: bool> Buffer<N, PREFIX> {
     /// # Panics
     ///
     /// Panics unless `slice` has `N` bytes. The buffer is unchanged then.
-    ///
-    /// ```
-    /// assert_eq!(const_hex_proved::Buffer::<4>::new().format_slice_upper("kiwi"), "6B697769");
-    /// ```
     #[inline]
     #[track_caller]
     pub fn format_slice_upper<T: AsRef<[u8]>>(&mut self, slice: T) -> &mut str {
@@ -162,10 +148,6 @@ impl<const N: usize, const PREFIX: bool> Buffer<N, PREFIX> {
     }
 
     /// Returns a copy of the text as bytes. Allocates.
-    ///
-    /// ```
-    /// assert_eq!(const_hex_proved::const_encode::<1, true>(b"k").to_vec(), b"0x6b");
-    /// ```
     #[cfg(feature = "alloc")]
     #[inline]
     #[must_use]
@@ -204,10 +186,6 @@ impl<const N: usize, const PREFIX: bool> Buffer<N, PREFIX> {
     /// # Panics
     ///
     /// Panics unless `LEN` is [`Self::LEN`](Self::LEN).
-    ///
-    /// ```
-    /// assert_eq!(const_hex_proved::const_encode::<1, true>(b"k").as_byte_array::<4>(), b"0x6b");
-    /// ```
     #[inline]
     #[must_use]
     pub const fn as_byte_array<const LEN: usize>(&self) -> &[u8; LEN] {

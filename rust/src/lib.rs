@@ -103,10 +103,6 @@ pub fn encode<T: AsRef<[u8]>>(data: T) -> String {
 }
 
 /// Returns two uppercase digits per byte, in order. Allocates.
-///
-/// ```
-/// assert_eq!(const_hex_proved::encode_upper([1, 2, 254, 255]), "0102FEFF");
-/// ```
 #[cfg(feature = "alloc")]
 #[inline]
 #[must_use]
@@ -131,10 +127,6 @@ pub fn encode_prefixed<T: AsRef<[u8]>>(data: T) -> String {
 }
 
 /// Returns `0x`, and then two uppercase digits per byte. Allocates.
-///
-/// ```
-/// assert_eq!(const_hex_proved::encode_upper_prefixed([254, 255]), "0xFEFF");
-/// ```
 #[cfg(feature = "alloc")]
 #[inline]
 #[must_use]
@@ -165,13 +157,6 @@ pub fn encode_to_slice<T: AsRef<[u8]>>(input: T, output: &mut [u8]) -> Result<()
 /// # Errors
 ///
 /// Returns the errors of [`encode_to_slice`].
-///
-/// ```
-/// let mut text = [0; 8];
-/// const_hex_proved::encode_to_slice_upper("kiwi", &mut text)?;
-/// assert_eq!(&text, b"6B697769");
-/// # Ok::<(), const_hex_proved::FromHexError>(())
-/// ```
 #[inline]
 pub fn encode_to_slice_upper<T: AsRef<[u8]>>(
     input: T,
@@ -204,12 +189,6 @@ pub fn encode_to_str<T: AsRef<[u8]>>(
 /// # Errors
 ///
 /// Returns the errors of [`encode_to_slice`].
-///
-/// ```
-/// let mut text = [0; 8];
-/// assert_eq!(const_hex_proved::encode_to_str_upper("kiwi", &mut text)?, "6B697769");
-/// # Ok::<(), const_hex_proved::FromHexError>(())
-/// ```
 #[inline]
 pub fn encode_to_str_upper<T: AsRef<[u8]>>(
     input: T,

@@ -31,32 +31,29 @@ use core::fmt;
 /// `collect_str`.
 const AT_ONCE: usize = 128;
 
-/// Serializes bytes as `0x` and lowercase digits.
-///
-/// # Errors
-///
-/// Returns the serializer's error.
-#[inline]
-pub fn serialize<S, T>(data: T, serializer: S) -> Result<S::Ok, S::Error>
-where
-    S: Serializer,
-    T: AsRef<[u8]>,
-{
-    write::<false, true, S>(data.as_ref(), serializer)
+/// Defines the functions that serialize with a prefix or without one.
+macro_rules! serializers {
+    ($prefix:literal; $($(#[$doc:meta])+ $name:ident = $upper:literal;)+) => {$(
+        $(#[$doc])+
+        ///
+        /// # Errors
+        ///
+        /// Returns the serializer's error.
+        #[inline]
+        pub fn $name<S, T>(data: T, serializer: S) -> Result<S::Ok, S::Error>
+        where
+            S: Serializer,
+            T: AsRef<[u8]>,
+        {
+            write::<$upper, $prefix, S>(data.as_ref(), serializer)
+        }
+    )+};
 }
-
-/// Serializes bytes as `0x` and uppercase digits.
-///
-/// # Errors
-///
-/// Returns the serializer's error.
-#[inline]
-pub fn serialize_upper<S, T>(data: T, serializer: S) -> Result<S::Ok, S::Error>
-where
-    S: Serializer,
-    T: AsRef<[u8]>,
-{
-    write::<true, true, S>(data.as_ref(), serializer)
+serializers! { true;
+    /// Serializes bytes as `0x` and lowercase digits.
+    serialize = false;
+    /// Serializes bytes as `0x` and uppercase digits.
+    serialize_upper = true;
 }
 
 /// Deserializes a text, with or without a prefix.
@@ -143,31 +140,10 @@ pub mod no_prefix {
 
     pub use super::deserialize;
 
-    /// Serializes bytes as lowercase digits.
-    ///
-    /// # Errors
-    ///
-    /// Returns the serializer's error.
-    #[inline]
-    pub fn serialize<S, T>(data: T, serializer: S) -> Result<S::Ok, S::Error>
-    where
-        S: Serializer,
-        T: AsRef<[u8]>,
-    {
-        write::<false, false, S>(data.as_ref(), serializer)
-    }
-
-    /// Serializes bytes as uppercase digits.
-    ///
-    /// # Errors
-    ///
-    /// Returns the serializer's error.
-    #[inline]
-    pub fn serialize_upper<S, T>(data: T, serializer: S) -> Result<S::Ok, S::Error>
-    where
-        S: Serializer,
-        T: AsRef<[u8]>,
-    {
-        write::<true, false, S>(data.as_ref(), serializer)
+    serializers! { false;
+        /// Serializes bytes as lowercase digits.
+        serialize = false;
+        /// Serializes bytes as uppercase digits.
+        serialize_upper = true;
     }
 }
