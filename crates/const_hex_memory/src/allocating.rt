@@ -10,9 +10,9 @@ use const_hex::{
     const_encode, decode, decode_with, deserialize, encode, encode_prefixed, encode_upper,
     encode_upper_prefixed, encode_with, serialize, serialize_upper,
 };
+use const_hex_vectors::texts::invalid;
+use const_hex_vectors::{KernelCase, by_each_kernel};
 use hash_hex::{Address20, Hash32};
-use hex_testing::texts::bad;
-use hex_testing::{KernelCase, by_each_kernel};
 use serde_json::Value;
 use std::alloc::{AllocError, Global};
 use std::boxed::BoxedSlice;
@@ -29,9 +29,9 @@ pub(crate) fn make_calls(rt: &impl Print, alloc: Global, inputs: &Inputs, count:
     write_json(rt, alloc, count);
     read_json(rt, alloc, inputs, count);
     decode_all(rt, alloc, TEXT, Ok(KIWI), count);
-    decode_all(rt, alloc, BAD, Err(bad(b'z', 0)), count);
+    decode_all(rt, alloc, BAD, Err(invalid(b'z', 0)), count);
     decode_signed(rt, alloc, TEXT, Ok(&[107, 105, 119, 105]), count);
-    decode_signed(rt, alloc, BAD, Err(bad(b'z', 0)), count);
+    decode_signed(rt, alloc, BAD, Err(invalid(b'z', 0)), count);
     decode_pointers(rt, alloc, count);
     by_each_kernel!(by_kernel(rt, alloc, count));
     let mut sink = PieceSink::new(alloc, 0);
@@ -89,7 +89,7 @@ fn read_json(rt: &impl Print, alloc: Global, inputs: &Inputs, count: &mut usize)
     allocates!(rt, count, JsonError::Hex(NO_MEMORY);
         deserialize::<Vec<u8>>(alloc, text) => Ok(KIWI),
         no_prefix::deserialize::<Vec<u8>>(alloc, text) => Ok(KIWI),
-        deserialize::<Vec<u8>>(alloc, wrong) => Err(JsonError::Hex(bad(b'z', 0))),
+        deserialize::<Vec<u8>>(alloc, wrong) => Err(JsonError::Hex(invalid(b'z', 0))),
     );
 }
 
@@ -130,7 +130,14 @@ fn decode_pointers(rt: &impl Print, alloc: Global, count: &mut usize) {
     let array = <Rc<[i8; 4]>>::from_hex(alloc, TEXT).map(|array| *array == [107, 105, 119, 105]);
     judge_allocating(rt, "from_hex of Rc", array, right, error, count);
     let wrong = <Box<Rc<Vec<u8>>>>::from_hex(alloc, BAD).map(|_| true);
-    judge_allocating(rt, "from_hex of zz", wrong, Err(bad(b'z', 0)), error, count);
+    judge_allocating(
+        rt,
+        "from_hex of zz",
+        wrong,
+        Err(invalid(b'z', 0)),
+        error,
+        count,
+    );
 }
 
 /// The texts are a step of 32 lanes, one of 16, and a remainder.
@@ -143,8 +150,8 @@ fn by_kernel<K: Kernel>(rt: &impl Print, alloc: Global, count: &mut usize, _kern
     );
     allocates!(rt, count, NO_MEMORY;
         decode_with::<K>(alloc, &DIGITS) => Ok(&BYTES),
-        decode_with::<K>(alloc, &wrong) => Err(bad(b'g', 100)),
-        decode_with::<K>(alloc, BAD) => Err(bad(b'z', 0)),
+        decode_with::<K>(alloc, &wrong) => Err(invalid(b'g', 100)),
+        decode_with::<K>(alloc, BAD) => Err(invalid(b'z', 0)),
     );
     let mut sink = PieceSink::new(alloc, 0);
     let done = BufferedHex::<false, true>::new(&DATA).write_with::<K, PieceSink>(&mut sink);

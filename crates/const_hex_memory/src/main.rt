@@ -9,7 +9,6 @@
 mod allocating;
 mod inputs;
 mod judge;
-mod modes;
 mod nonallocating;
 mod printed;
 
@@ -28,7 +27,5 @@ fn main(rt: HostRuntime) {
 fn make_calls(rt: &impl Print, alloc: Global, inputs: &Inputs, count: &mut usize) {
     nonallocating::make_calls(rt, alloc, inputs);
     printed::make_calls(rt);
-    modes::make_nonallocating_calls(rt, alloc);
     allocating::make_calls(rt, alloc, inputs, count);
-    modes::make_calls(rt, alloc, count);
 }

@@ -13,10 +13,10 @@ use const_hex::{
     encode_to_str, encode_to_str_upper, fill_text, lanes16, lanes32, serialize_inner, text_length,
     value_at,
 };
-use const_hex_uses::chunks::decoded_or;
+use const_hex_vectors::chunks::decoded_or;
+use const_hex_vectors::texts::invalid;
+use const_hex_vectors::{Counting, KernelCase, by_each_kernel};
 use hash_hex::Hash32;
-use hex_testing::texts::bad;
-use hex_testing::{Counting, KernelCase, by_each_kernel};
 use serde_json::{Number, Value};
 use std::alloc::Global;
 use std::boxed::BoxedSlice;
@@ -55,7 +55,7 @@ fn check_all(rt: &impl Print) {
         digit_at(true, 11) => b'B',
         value_at(b'B') => 11,
         check(TEXT) => Ok(()),
-        check(BAD) => Err(bad(b'z', 0)),
+        check(BAD) => Err(invalid(b'z', 0)),
         const_check(TEXT) => Ok(()),
         const_check(ODD) => Err(ODD_LENGTH),
         check_raw(TEXT) => false,
@@ -88,9 +88,9 @@ fn decode_all(rt: &impl Print) {
         decode_to_slice(TEXT, &mut bytes) => Ok(()),
         decode_to_slice(BAD, &mut bytes) => Err(OTHER_LENGTH),
         decode_to_front(TEXT, &mut bytes) => Ok(4),
-        decode_to_front(BAD, &mut bytes) => Err(bad(b'z', 0)),
+        decode_to_front(BAD, &mut bytes) => Err(invalid(b'z', 0)),
         decode_to_array::<4>(TEXT) => Ok(*b"kiwi"),
-        decode_to_array::<1>(BAD) => Err(bad(b'z', 0)),
+        decode_to_array::<1>(BAD) => Err(invalid(b'z', 0)),
         const_decode_to_array::<4>(TEXT) => Ok(*b"kiwi"),
         const_decode_to_array::<4>(ODD) => Err(ODD_LENGTH),
     );
@@ -105,9 +105,9 @@ fn decode_chunks(rt: &impl Print) {
         decoder.position() => 9,
         decoder.finish() => Err(ODD_LENGTH),
         decoder.decode(b"9999999999", &mut bytes) => Err(OTHER_LENGTH),
-        decoder.decode(b"9z", &mut bytes) => Err(bad(b'z', 10)),
-        decoder.decode(b"9", &mut bytes) => Err(bad(b'z', 10)),
-        decoder.finish() => Err(bad(b'z', 10)),
+        decoder.decode(b"9z", &mut bytes) => Err(invalid(b'z', 10)),
+        decoder.decode(b"9", &mut bytes) => Err(invalid(b'z', 10)),
+        decoder.finish() => Err(invalid(b'z', 10)),
     );
 }
 
@@ -157,16 +157,16 @@ fn by_kernel<K: Kernel>(rt: &impl Print, alloc: Global, _kernel: KernelCase) {
         K::decode_checked(&wrong, &mut bytes) => false,
         K::decode_checked(&DIGITS, &mut bytes) => true,
         K::decode_part(&DIGITS, 0, &mut bytes) => true,
-        check_with::<K>(&wrong) => Err(bad(b'g', 100)),
+        check_with::<K>(&wrong) => Err(invalid(b'g', 100)),
         decode_with::<K>(alloc, ODD).err() => Some(ODD_LENGTH),
         decode_to_slice_with::<K>(&DIGITS, &mut bytes) => Ok(()),
-        decode_to_slice_with::<K>(&wrong, &mut bytes) => Err(bad(b'g', 100)),
+        decode_to_slice_with::<K>(&wrong, &mut bytes) => Err(invalid(b'g', 100)),
         decode_to_front_with::<K>(&DIGITS, &mut bytes) => Ok(57),
-        decode_to_front_with::<K>(&wrong, &mut bytes) => Err(bad(b'g', 100)),
+        decode_to_front_with::<K>(&wrong, &mut bytes) => Err(invalid(b'g', 100)),
         encode_full_to_slice_with::<K>(&BYTES, true, false, &mut full) => Ok(()),
         encode_full_to_slice_with::<K>(&BYTES, true, false, &mut text) => Err(OTHER_LENGTH),
         Decoder::new().decode_with::<K>(&DIGITS, &mut bytes) => Ok(57),
-        Decoder::new().decode_with::<K>(&wrong, &mut bytes) => Err(bad(b'g', 100)),
+        Decoder::new().decode_with::<K>(&wrong, &mut bytes) => Err(invalid(b'g', 100)),
     );
     K::fill(&BYTES, true, &mut text);
     if K::check(&text) {

@@ -5,8 +5,8 @@ use crate::judge::returns;
 use const_hex::{
     Buffer, BytesToHexChars, FromHexError, HexFault, JsonError, SinkError, const_encode, display,
 };
+use const_hex_vectors::{Counting, InHex};
 use hash_hex::{Address20, Hash32};
-use hex_testing::{Counting, InHex};
 use std::alloc::AllocError;
 use std::fmt::{self, Write};
 

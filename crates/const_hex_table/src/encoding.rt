@@ -10,7 +10,7 @@ use const_hex::{
     encode_prefixed, encode_to_slice, encode_to_slice_upper, encode_to_str, encode_to_str_upper,
     encode_upper, encode_upper_prefixed, serialize, serialize_inner, serialize_upper,
 };
-use hex_testing::InHex;
+use const_hex_vectors::InHex;
 use serde_json::Value;
 use std::alloc::{AllocError, Global};
 

@@ -1,3 +1,2 @@
-pub mod Backward
 pub mod Decoded
 pub mod Keys

@@ -1,4 +1,4 @@
-//! A request of Ethereum's JSON-RPC for a contract's code, and the answer to it.
+//! A request of Ethereum's JSON-RPC for a contract's code, and the response to it.
 
 ghost use Rattle.std.specs.Prelude.{◌≡◌, ◌↔◌, true, false, codes, string_bytes, None, Some, Ok, Err, IfOk, IfSome, option_and_then};
 ghost use Rattle.serde_json.specs.Data.{array, item, no_items, string};
@@ -8,7 +8,6 @@ ghost use Rattle.const_hex.specs.Results.{Reads};
 ghost use Rattle.const_hex.specs.Texts.{full_text};
 ghost use Rattle.const_hex.specs.declared.error.FromHexError.TheVariants.{OddLength};
 ghost use Rattle.const_hex.specs.declared.serde.error.JsonError.TheVariants.{Hex, NotText};
-ghost use Rattle.const_hex_uses.specs.Lines.{explained_text, marked_text};
 
 use const_hex::{FromHexError, JsonError, deserialize, serialize};
 use serde_json::{Value, json};
@@ -31,26 +30,26 @@ pub fn code_request(alloc: Global, address: &[u8; 20]) -> Result<Value, AllocErr
     })
 }
 
-/// The code in an answer, whose member `result` is `0x` and its bytes.
+/// The code in a response, whose member `result` is `0x` and its bytes.
 ///
 /// ```rust
-/// let answer = json!(in rt.alloc(); {"id": 1, "result": "0x6001"})?;
-/// assert_eq!(rt; code_of(rt.alloc(), &answer)?.as_slice(), [0x60, 0x01].as_slice());
+/// let response = json!(in rt.alloc(); {"id": 1, "result": "0x6001"})?;
+/// assert_eq!(rt; code_of(rt.alloc(), &response)?.as_slice(), [0x60, 0x01].as_slice());
 /// ```
-pub fn code_of(alloc: Global, answer: &Value) -> Result<Vec<u8>, JsonError<FromHexError>>
+pub fn code_of(alloc: Global, response: &Value) -> Result<Vec<u8>, JsonError<FromHexError>>
     ensures code { IfOk result (λ v.
-        IfSome (option_and_then as_str (get (codes "result") (view answer.now)))
+        IfSome (option_and_then as_str (get (codes "result") (view response.now)))
         (λ t. Reads t (Ok v.items))) }
     ensures not_text { (result ≡ Err NotText)
-        ↔ (option_and_then as_str (get (codes "result") (view answer.now)) ≡ None) }
+        ↔ (option_and_then as_str (get (codes "result") (view response.now)) ≡ None) }
 {
-    match answer.get("result") {
+    match response.get("result") {
         Some(code) => deserialize(alloc, code),
         None => Err(JsonError::NotText),
     }
 }
 
-/// What a user sees of an answer without code.
+/// What a user sees of a response without code.
 ///
 /// ```rust
 /// let error = code_of(rt.alloc(), &Value::Null).unwrap_err();
@@ -63,36 +62,4 @@ pub fn reason(alloc: Global, error: &JsonError<FromHexError>) -> Result<String, 
         → IfOk result (λ s. string_bytes s ≡ codes "odd number of digits") }
 {
     format!(in alloc; "{error}")
-}
-
-/// A text, and on the next line a mark under the byte at that index.
-///
-/// ```rust
-/// assert_eq!(rt; marked(rt.alloc(), "0xzz", 2)?.as_str(), "0xzz\n  ^");
-/// ```
-pub fn marked(alloc: Global, text: &str, index: usize) -> Result<String, AllocError>
-    ensures { IfOk result (λ s. string_bytes s ≡ marked_text text.now index) }
-{
-    let mut shown = String::from_str(alloc, text)?;
-    shown.push('\n')?;
-    for _ in 0..index {
-        shown.push(' ')?;
-    }
-    shown.push('^')?;
-    Ok(shown)
-}
-
-/// What a user sees of a text that cannot be decoded: a mark under the invalid character, or the message of another error.
-///
-/// ```rust
-/// let error = const_hex::check(b"0xzz").unwrap_err();
-/// assert_eq!(rt; explained(rt.alloc(), "0xzz", error)?.as_str(), "0xzz\n  ^");
-/// ```
-pub fn explained(alloc: Global, text: &str, error: FromHexError) -> Result<String, AllocError>
-    ensures { IfOk result (λ s. string_bytes s ≡ explained_text text.now error) }
-{
-    match error {
-        FromHexError::InvalidHexCharacter { index, .. } => marked(alloc, text, index),
-        other => format!(in alloc; "{text}\n{other}"),
-    }
 }

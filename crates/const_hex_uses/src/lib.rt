@@ -3,9 +3,6 @@
 //! Most have no proof by hand: the clauses of the codec are enough.
 #![tactic(auto)]
 
-pub mod accounts;
-pub mod addresses;
-pub mod chunks;
 pub mod constants;
 pub mod files;
 pub mod json_rpc;
@@ -14,4 +11,6 @@ pub mod readers;
 pub mod sinks;
 pub mod store;
 pub mod streams;
+#[cfg(test)]
+mod tests;
 pub mod writers;

@@ -1,70 +1,62 @@
 //! A kernel of your own, under the codec.
 
-ghost use Rattle.std.specs.Prelude.{◌≡◌, ◌≢◌, ◌*◌, ◌≤◌, ◌↔◌, List, ℕ, IsTrue, true, false, length, string_bytes, IfOk, IfErr, Ok, Err};
+ghost use Rattle.std.specs.Prelude.{◌≡◌, ◌≢◌, ◌*◌, ◌≤◌, List, ℕ, false, length, string_bytes, IfOk, IfErr, Ok, Err};
 ghost use Rattle.std.specs.List.{All, FoldsTo, concat};
 ghost use Rattle.const_hex.specs.Results.{Reads};
 ghost use Rattle.const_hex.specs.Outputs.{HasRoom};
-ghost use Rattle.const_hex.specs.Texts.{full_text, hex_text};
+ghost use Rattle.const_hex.specs.Texts.{hex_text};
 ghost use Rattle.const_hex.specs.declared.error.FromHexError.TheVariants.{NoMemory};
 
 use const_hex::{
-    CheckFirst, FromHexError, Kernel, NIL, Output, decode_with, digit_at, encode_with, value_at,
+    CheckFirst, FromHexError, Kernel, Lanes32, Output, Plain, decode_with, encode_with,
 };
 use std::alloc::{AllocError, Global};
 
-/// Checks and decodes from the last byte to the first. Encodes by one write for the two digits of a
-/// byte.
+/// Works byte by byte on short inputs, and in steps of 32 lanes on longer ones.
 ///
-/// The author of a kernel proves four contracts. `encode` writes the text of the bytes, in pieces
-/// of 1 to 64 bytes. `check` is true exactly if every byte is a digit. `decode_checked` leaves the
-/// bytes that are spelled; or it returns false because some byte is not a digit, and leaves at most
-/// a decoded front. `decode_unchecked` leaves the bytes that digits spell. Then the codec's calls
-/// by that kernel keep all their promises: [`encoded`] and [`decoded`] have no proof of their own.
+/// The author of a kernel proves the contracts of four functions. Then the codec's functions keep all
+/// their promises with that kernel: [`encoded`] and [`decoded`] have no proof of their own.
 ///
 /// ```rust
-/// let text = const_hex::encode_with::<Backward, true>(rt.alloc(), b"kiwi")?;
+/// let text = const_hex::encode_with::<BySize, true>(rt.alloc(), b"kiwi")?;
 /// assert_eq!(rt; text.as_str(), "6B697769");
-/// let mut bytes = [0; 4];
-/// const_hex::decode_to_slice_with::<CheckFirst<Backward>>(text.as_bytes(), &mut bytes)?;
-/// assert_eq!(rt; &bytes, b"kiwi");
 /// ```
-pub struct Backward;
+pub struct BySize;
 
-impl Kernel for Backward {
+impl Kernel for BySize {
     ghost USE_CHECK_FN = { false };
 
     const USE_CHECK_FN: bool = false;
 
     fn encode<O: Output>(input: &[u8], upper: bool, output: &mut O) {
-        for byte in input {
-            output.write(&[digit_at(upper, *byte / 16), digit_at(upper, *byte % 16)]);
+        if input.len() < 16 {
+            Plain::encode(input, upper, output);
+        } else {
+            Lanes32::encode(input, upper, output);
         }
     }
 
     fn check(input: &[u8]) -> bool {
-        let mut left = input.len();
-        while left > 0 {
-            left -= 1;
-            if value_at(input[left]) == NIL {
-                return false;
-            }
+        if input.len() < 32 {
+            Plain::check(input)
+        } else {
+            Lanes32::check(input)
         }
-        true
     }
 
     fn decode_checked(input: &[u8], output: &mut [u8]) -> bool {
-        if !Backward::check(input) {
-            return false;
+        if input.len() < 32 {
+            Plain::decode_checked(input, output)
+        } else {
+            Lanes32::decode_checked(input, output)
         }
-        Backward::decode_unchecked(input, output);
-        true
     }
 
     fn decode_unchecked(input: &[u8], output: &mut [u8]) {
-        let mut left = output.len();
-        while left > 0 {
-            left -= 1;
-            output[left] = value_at(input[2 * left]) * 16 + value_at(input[2 * left + 1]);
+        if input.len() < 32 {
+            Plain::decode_unchecked(input, output);
+        } else {
+            Lanes32::decode_unchecked(input, output);
         }
     }
 }
@@ -77,10 +69,10 @@ impl Kernel for Backward {
 pub fn encoded(alloc: Global, bytes: &[u8]) -> Result<String, AllocError>
     ensures { IfOk result (λ s. string_bytes s ≡ hex_text false bytes.now) }
 {
-    encode_with::<Backward, false>(alloc, bytes)
+    encode_with::<BySize, false>(alloc, bytes)
 }
 
-/// The bytes that a text spells, by this kernel after a check.
+/// The bytes that a text decodes to, by this kernel after a check.
 ///
 /// ```rust
 /// assert_eq!(rt; decoded(rt.alloc(), b"0x6B697769")?.as_slice(), b"kiwi".as_slice());
@@ -89,7 +81,7 @@ pub fn decoded(alloc: Global, text: &[u8]) -> Result<Vec<u8>, FromHexError>
     ensures ok { IfOk result (λ v. Reads text.now (Ok v.items)) }
     ensures err { IfErr result (λ e. e ≢ NoMemory → Reads text.now (Err e)) }
 {
-    decode_with::<CheckFirst<Backward>>(alloc, text)
+    decode_with::<CheckFirst<BySize>>(alloc, text)
 }
 
 /// Writes the text of bytes to any output, in pieces of 1 to 64 bytes. So an output may give an empty
@@ -106,5 +98,5 @@ pub fn write_pieces<O: Output>(bytes: &[u8], output: &mut O)
         × (concat pieces ≡ hex_text false bytes.now)
         × All (λ piece. (1 ≤ length piece) × (length piece ≤ 64)) pieces }
 {
-    Backward::encode(bytes, false, output);
+    BySize::encode(bytes, false, output);
 }

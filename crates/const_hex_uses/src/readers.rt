@@ -1,17 +1,18 @@
 //! Callers that read a text: as any type, by the law of such types alone; and into a key.
 
-ghost use Rattle.std.specs.Prelude.{◌≡◌, ◌↔◌, ◌⊎◌, ◌*◌, ℕ, false, drop, length, take, IfOk, IfErr, Ok, Err};
+ghost use Rattle.std.specs.Prelude.{◌≡◌, ◌↔◌, ◌⊎◌, ◌*◌, ℕ, false, drop, length, take, IsTrue, IfOk, IfErr, Ok, Err};
 ghost use Rattle.const_hex.specs.Results.{IsOdd, Reads, ReadsSized, body_of, lowered};
 ghost use Rattle.const_hex.specs.Texts.{Spells};
 ghost use Rattle.const_hex.specs.Types.{RefusesOrMisfits};
 ghost use Rattle.const_hex.specs.declared.error.FromHexError.TheVariants.{InvalidStringLength, OddLength};
 
 use const_hex::{FromHex, FromHexError, decode_to_front, decode_to_slice};
+use hash_hex::Address20;
 use std::alloc::Global;
 use std::rc::Rc;
 
-/// Reads a text. A value has the bytes that the text spells. If the error is not of memory, the
-/// text is no hex, or its number of bytes does not fit.
+/// Reads a text. A value has the bytes that the text decodes to. Unless an allocation failed, an error
+/// means that the text cannot be decoded, or that its number of bytes does not fit.
 ///
 /// ```rust
 /// assert_eq!(rt; read::<[u8; 2]>(rt.alloc(), b"0xff80")?, [0xff, 0x80]);
@@ -19,15 +20,14 @@ use std::rc::Rc;
 pub fn read<T: FromHex>(alloc: Global, text: &[u8]) -> Result<T, T::Error>
     ensures bytes { IfOk result (λ v. Reads text.now (Ok (T.bytes v))) }
     ensures fits { IfOk result (λ v. T.fits (length (T.bytes v))) }
-    ensures refused { IfErr result (λ e. T.Error.is_of_memory e ≡ false
+    ensures error { IfErr result (λ e. T.Error.is_of_memory e ≡ false
         → RefusesOrMisfits T.fits text.now) }
 {
     T::from_hex(alloc, text)
 }
 
-/// Reads two texts. Each value has the bytes that its text spells. The values have the same bytes
-/// exactly if the texts differ only in prefix and case. If the error is not of memory, one of the
-/// texts is no hex, or its number of bytes does not fit.
+/// Reads two texts. Each value has the bytes that its text decodes to. The values have the same bytes
+/// if and only if the texts differ only in prefix and case.
 ///
 /// ```rust
 /// let (one, two) = read_both::<[u8; 2]>(rt.alloc(), b"0xff80", b"FF80")?;
@@ -45,7 +45,7 @@ pub fn read_both<T: FromHex + Drop>(
     ensures second_fits { IfOk result (λ both. T.fits (length (T.bytes both.1))) }
     ensures agree { IfOk result (λ both. (T.bytes both.0 ≡ T.bytes both.1)
         ↔ (lowered (body_of first.now) ≡ lowered (body_of second.now))) }
-    ensures refused { IfErr result (λ e. T.Error.is_of_memory e ≡ false
+    ensures error { IfErr result (λ e. T.Error.is_of_memory e ≡ false
         → RefusesOrMisfits T.fits first.now ⊎ RefusesOrMisfits T.fits second.now) }
 {
     match read::<T>(alloc, first) {
@@ -57,8 +57,8 @@ pub fn read_both<T: FromHex + Drop>(
     }
 }
 
-/// The bytes that a text spells, behind a shared pointer. If the length of the text is odd, the error
-/// says so, even without memory.
+/// The bytes that a text decodes to, in a shared pointer. An odd length is reported as such even if an
+/// allocation would fail.
 ///
 /// ```rust
 /// assert_eq!(rt; read_shared(rt.alloc(), b"0x6b69")?.as_slice(), b"ki".as_slice());
@@ -68,6 +68,24 @@ pub fn read_shared(alloc: Global, text: &[u8]) -> Result<Rc<Vec<u8>>, FromHexErr
     ensures odd { IsOdd (length text.now) → result ≡ Err OddLength }
 {
     FromHex::from_hex(alloc, text)
+}
+
+/// Whether two texts name the same account. Their prefixes and their case make no difference.
+///
+/// Returns an error if one of the texts is not an address. Does not allocate.
+///
+/// ```rust
+/// assert!(rt; is_same_account(rt.alloc(), &[b'a'; 40], &[b'A'; 40])?);
+/// ```
+pub fn is_same_account(alloc: Global, first: &[u8], second: &[u8]) -> Result<bool, FromHexError>
+    ensures same { IfOk result (λ same. IsTrue same
+        ↔ (lowered (body_of first.now) ≡ lowered (body_of second.now))) }
+    ensures error { IfErr result (λ e. ReadsSized first.now 20 (Err e)
+        ⊎ ReadsSized second.now 20 (Err e)) }
+{
+    let one = Address20::from_hex(alloc, first)?;
+    let two = Address20::from_hex(alloc, second)?;
+    Ok(one == two)
 }
 
 /// Replaces a key by the 32 bytes that a text decodes to. If the number of digits is odd, or there is
@@ -82,7 +100,7 @@ pub fn read_shared(alloc: Global, text: &[u8]) -> Result<Rc<Vec<u8>>, FromHexErr
 #[tactic(auto, using(crate::proofs::lemmas::Keys::kept_behind_a_front))]
 pub fn replace_key(key: &mut [u8; 32], text: &[u8]) -> Result<(), FromHexError>
     ensures replaced { IfOk result (λ _. ReadsSized text.now 32 (Ok key.new)) }
-    ensures refused { IfErr result (λ e. ReadsSized text.now 32 (Err e)) }
+    ensures error { IfErr result (λ e. ReadsSized text.now 32 (Err e)) }
     ensures kept { IfErr result (λ e. (e ≡ OddLength) ⊎ (e ≡ InvalidStringLength)
         → key.new ≡ key.old) }
     ensures front { IfErr result (λ _. (n : ℕ) × (drop n key.new ≡ drop n key.old)

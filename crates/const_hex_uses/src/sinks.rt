@@ -9,7 +9,7 @@ use const_hex::serde::serialize_inner;
 use const_hex::{BufferedHex, PieceSink, Sink, SinkError};
 use std::alloc::Global;
 
-/// The text of some bytes, behind `0x`, in pieces of at most 4096 bytes, as for a network.
+/// The text of some bytes, with `0x`, in pieces of at most 4096 bytes, as for a network.
 ///
 /// Returns an error if there is too little memory.
 ///
@@ -26,8 +26,8 @@ pub fn packets(alloc: Global, bytes: &[u8]) -> Result<PieceSink, SinkError>
     Ok(sink)
 }
 
-/// Sends the text of a JSON string, behind `0x`, to a sink that has refused nothing so far. If the
-/// sink tells its pieces and accepts all, the new ones are together the text.
+/// Sends the text of a JSON string, with `0x`, to a sink that has not failed so far. If the sink reports
+/// its pieces and accepts all, the new ones are together the text.
 ///
 /// ```rust
 /// let mut sink = PieceSink::new(rt.alloc(), 0);

@@ -1,4 +1,4 @@
-//! A store whose keys are bytes. A key is found in every spelling, whichever one stored it.
+//! A store whose keys are bytes. A key is found with or without a prefix and in either case.
 
 ghost use Rattle.std.specs.Prelude.{◌≡◌, ◌≢◌, ℕ, List, Some, Err, string_bytes, IfOk, IfErr, OnOk, OnErr};
 ghost use Rattle.std.specs.HashMap.{get_by_text};
@@ -9,16 +9,16 @@ use const_hex::{FromHexError, decode, encode};
 use std::alloc::Global;
 use std::collections::HashMap;
 
-/// The one spelling of bytes that is stored: no prefix, and in lowercase.
+/// The form of a key that is stored: no prefix, and in lowercase.
 ///
 /// ```rust
 /// assert_eq!(rt; canonical(rt.alloc(), b"0x6B69")?.as_str(), "6b69");
 /// ```
-pub fn canonical(alloc: Global, spelling: &[u8]) -> Result<String, FromHexError>
-    ensures text { IfOk result (λ s. string_bytes s ≡ lowered (body_of spelling.now)) }
-    ensures refused { IfErr result (λ e. e ≢ NoMemory → Reads spelling.now (Err e)) }
+pub fn canonical(alloc: Global, key: &[u8]) -> Result<String, FromHexError>
+    ensures text { IfOk result (λ s. string_bytes s ≡ lowered (body_of key.now)) }
+    ensures error { IfErr result (λ e. e ≢ NoMemory → Reads key.now (Err e)) }
 {
-    let bytes = decode(alloc, spelling)?;
+    let bytes = decode(alloc, key)?;
     let text = encode(alloc, &bytes)?;
     Ok(text)
 }
@@ -40,7 +40,7 @@ pub fn put(
     ensures stored { OnOk result (get_by_text store.new (lowered (body_of key.now)) ≡ Some number) }
     ensures others { OnOk result ((other : List ℕ) → other ≢ lowered (body_of key.now)
         → get_by_text store.new other ≡ get_by_text store.old other) }
-    ensures refused { IfErr result (λ e. e ≢ NoMemory → Reads key.now (Err e)) }
+    ensures error { IfErr result (λ e. e ≢ NoMemory → Reads key.now (Err e)) }
     ensures unchanged { OnErr result ((other : List ℕ)
         → get_by_text store.new other ≡ get_by_text store.old other) }
 {
@@ -48,7 +48,7 @@ pub fn put(
     Ok(())
 }
 
-/// The number that was stored last under a key, in any spelling.
+/// The number that was stored last under a key, in any key.
 ///
 /// ```rust
 /// let store = HashMap::new(rt.alloc());
@@ -60,7 +60,7 @@ pub fn find(
     key: &[u8],
 ) -> Result<Option<u64>, FromHexError>
     ensures found { IfOk result (λ found. found ≡ get_by_text store.now (lowered (body_of key.now))) }
-    ensures refused { IfErr result (λ e. e ≢ NoMemory → Reads key.now (Err e)) }
+    ensures error { IfErr result (λ e. e ≢ NoMemory → Reads key.now (Err e)) }
 {
     let key = canonical(alloc, key)?;
     Ok(store.get(key.as_str()).copied())

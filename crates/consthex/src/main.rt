@@ -1,9 +1,19 @@
 //! The program `consthex`: encodes, decodes or checks its standard input.
 //!
-//! All of it is [`program`] of `consthex_modes`, over any host, reader and writer.
+//! [`run`](runs::run) does so over any reader and writer, and [`program`] on any host. The terms of the
+//! contracts are defined in `specs/`, and in `const_hex` what a text decodes to.
 #![tactic(auto)]
 
-use consthex_modes::program;
+mod answers;
+mod arguments;
+mod error;
+mod mode;
+mod process;
+mod runs;
+#[cfg(test)]
+mod tests;
+
+use crate::process::program;
 use std::io;
 use std::process::ExitCode;
 

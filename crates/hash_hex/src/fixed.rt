@@ -71,10 +71,10 @@ impl<const N: usize> FixedBytes<N> {
         serialize(alloc, &self.bytes)
     }
 
-    /// The value that a JSON string spells, with or without a prefix, in either case.
+    /// The value that a JSON string decodes to, with or without a prefix, in either case.
     ///
     /// Returns [`JsonError::NotText`] if the JSON value is not a string. Otherwise returns the
-    /// answer of [`from_hex`](FromHex::from_hex), with its errors inside [`JsonError::Hex`]. Does
+    /// result of [`from_hex`](FromHex::from_hex), with its errors inside [`JsonError::Hex`]. Does
     /// not allocate.
     ///
     /// ```rust
@@ -91,7 +91,7 @@ impl<const N: usize> FixedBytes<N> {
     }
 }
 
-/// With the answers of [`decode_to_array`](const_hex::decode_to_array). Does not allocate.
+/// With the results of [`decode_to_array`](const_hex::decode_to_array). Does not allocate.
 impl<const N: usize> FromHex for FixedBytes<N> {
     type Error = FromHexError;
 

@@ -6,38 +6,9 @@ mod devices;
 mod results;
 
 use const_hex::FromHexError;
-use hex_testing::{Testing, rests};
+use const_hex_vectors::Testing;
 use hexfilter_core::{Mode, RunError, run};
-use std::fmt::Debug;
 use std::io::{ErrorKind, Read};
-use std::process::Abort;
-
-/// Ends the test if a call did not return what is wanted. Prints the call, its row and both results.
-/// With no call and no row, it prints the expression that has the result.
-macro_rules! same {
-    ($rt:expr; $result:expr, $want:expr) => {
-        crate::tests::check($rt, stringify!($result), (), $result, $want)
-    };
-    ($rt:expr, $call:expr, $row:expr; $result:expr, $want:expr) => {
-        crate::tests::check($rt, $call, $row, $result, $want)
-    };
-}
-
-/// As `same`, for what lends bytes, from a little before the first byte that differs.
-macro_rules! same_bytes {
-    ($rt:expr, $call:expr, $row:expr; $bytes:expr, $want:expr) => {
-        crate::tests::check_bytes(
-            $rt,
-            $call,
-            $row,
-            std::convert::AsSlice::as_slice(&$bytes),
-            std::convert::AsSlice::as_slice(&$want),
-        )
-    };
-}
-
-pub(crate) use same;
-pub(crate) use same_bytes;
 
 const ENCODE: Mode = Mode::Encode {
     prefix: false,
@@ -84,23 +55,4 @@ fn run_on<R: Read>(rt: &impl Testing, mode: Mode, input: &mut R) -> (End, Vec<u8
     let mut output = Vec::new(rt.alloc());
     let end = end_of(run(mode, input, &mut output));
     (end, output)
-}
-
-fn check<R, A>(rt: &impl Abort, call: &str, row: R, answer: A, want: A)
-where
-    R: Debug + Drop,
-    A: Debug + PartialEq + Drop,
-{
-    assert!(rt;
-        answer == want,
-        "{call} at {row:?}: {answer:?}, but wanted {want:?}"
-    );
-}
-
-fn check_bytes<R>(rt: &impl Abort, call: &str, row: R, bytes: &[u8], want: &[u8])
-where
-    R: Debug + Drop,
-{
-    let [bytes, want] = rests(bytes, want);
-    check(rt, call, row, bytes, want);
 }

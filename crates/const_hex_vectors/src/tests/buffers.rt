@@ -3,10 +3,9 @@
 ghost use Rattle.std.specs.Prelude.{◌≡◌};
 ghost use Rattle.const_hex.specs.Texts.{text_length};
 
-use crate::tests::{same, same_bytes, same_read};
+use crate::texts::print;
+use crate::{Testing, same, same_bytes, same_read};
 use const_hex::{Buffer, const_decode_to_array, const_encode, decode_to_array};
-use hex_testing::Testing;
-use hex_testing::texts::printed;
 
 /// Each call that lends the text of a buffer lends this one.
 pub(crate) fn lends<const N: usize, const PREFIX: bool, const LEN: usize>(
@@ -50,7 +49,7 @@ fn agrees_with_std<const N: usize, const PREFIX: bool, const LEN: usize>(
     for i in 0..N {
         bytes[i] = ((i % 256) as u8).wrapping_mul(37).wrapping_add(11);
     }
-    let text = printed(rt.alloc(), &bytes, PREFIX, false).expect(rt, "memory");
+    let text = print(rt.alloc(), &bytes, PREFIX, false).expect(rt, "memory");
     same!(rt, "LEN", N; Buffer::<N, PREFIX, LEN>::LEN, text.len());
     same!(rt, "format", N; buffer.format(&bytes), text.as_str());
     lends(rt, &buffer, &text);

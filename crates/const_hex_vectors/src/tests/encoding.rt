@@ -1,14 +1,13 @@
 //! Every call that writes text, on worked examples.
 
-use crate::tests::{same, same_bytes, same_read};
+use crate::texts::{make_bytes, print};
+use crate::{Testing, Text, same, same_bytes, same_read};
 use const_hex::serde::no_prefix;
 use const_hex::{
     BytesToHexChars, FromHexError, Plain, ToHex, ToHexExt, decode, encode, encode_full_to_slice,
     encode_prefixed, encode_to_slice, encode_to_slice_upper, encode_to_str, encode_to_str_upper,
     encode_upper, encode_upper_prefixed, fill_text, serialize, serialize_upper, text_length,
 };
-use hex_testing::texts::{bytes, printed};
-use hex_testing::{Testing, Text};
 use serde_json::Value;
 use std::alloc::AllocError;
 
@@ -22,7 +21,7 @@ macro_rules! each_writes {
     };
 }
 
-/// Bytes, and their texts: in lowercase, in uppercase, and both behind a prefix.
+/// Bytes, and their texts: in lowercase, in uppercase, and both after a prefix.
 #[derive(Drop)]
 pub(crate) struct Written {
     pub(crate) bytes: Vec<u8>,
@@ -87,7 +86,7 @@ impl Written {
 fn text_of(value: Result<Value, AllocError>) -> Result<String, Option<AllocError>> {
     match value {
         Ok(Value::String(text)) => Ok(text),
-        answer => Err(answer.err()),
+        result => Err(result.err()),
     }
 }
 
@@ -115,8 +114,8 @@ fn owned_texts(rt: HostRuntime) {
 #[test]
 fn there_and_back(rt: HostRuntime) {
     for count in [1, 8, 20, 32, 64, 128] {
-        let bytes = bytes(rt.alloc(), count).expect(&rt, "memory");
-        let text = printed(rt.alloc(), &bytes, false, false).expect(&rt, "memory");
+        let bytes = make_bytes(rt.alloc(), count).expect(&rt, "memory");
+        let text = print(rt.alloc(), &bytes, false, false).expect(&rt, "memory");
         same_read!(&rt, "encode", count; encode(rt.alloc(), &bytes), Ok(text.as_bytes()));
         same_read!(&rt, "decode", count; decode(rt.alloc(), text.as_bytes()), Ok(&bytes));
     }
@@ -153,11 +152,11 @@ fn fills_with_digits(rt: &impl Testing, (bytes, lower, upper): Row<'_>, length: 
     fills(rt, (bytes, false, false), lower, length);
     fills(rt, (bytes, false, true), upper, length);
     let mut output = vec![in rt.alloc(); 0xEEu8; length].expect(rt, "memory");
-    let answer = encode_to_slice(bytes, &mut output);
-    leaves(rt, "encode_to_slice", lower, answer, &output);
+    let result = encode_to_slice(bytes, &mut output);
+    leaves(rt, "encode_to_slice", lower, result, &output);
     let mut output = vec![in rt.alloc(); 0xEEu8; length].expect(rt, "memory");
-    let answer = encode_to_slice_upper(bytes, &mut output);
-    leaves(rt, "encode_to_slice_upper", upper, answer, &output);
+    let result = encode_to_slice_upper(bytes, &mut output);
+    leaves(rt, "encode_to_slice_upper", upper, result, &output);
 }
 
 /// `encode_full_to_slice` fills an output of the length of the text, or leaves it unchanged.
@@ -169,8 +168,8 @@ fn fills(
 ) {
     same!(rt, "text_length", text; text_length(prefix, bytes.len()), text.len());
     let mut output = vec![in rt.alloc(); 0xEEu8; length].expect(rt, "memory");
-    let answer = encode_full_to_slice(bytes, prefix, upper, &mut output);
-    leaves(rt, "encode_full_to_slice", text, answer, &output);
+    let result = encode_full_to_slice(bytes, prefix, upper, &mut output);
+    leaves(rt, "encode_full_to_slice", text, result, &output);
 }
 
 /// What a call returned that wrote a text into an output of bytes 0xEE, and what the output holds.
@@ -178,16 +177,16 @@ fn leaves(
     rt: &impl Testing,
     call: &str,
     text: &str,
-    answer: Result<(), FromHexError>,
+    found: Result<(), FromHexError>,
     output: &[u8],
 ) {
     let row = (text, output.len());
     if text.len() == output.len() {
-        same!(rt, call, row; answer, Ok(()));
+        same!(rt, call, row; found, Ok(()));
         same_bytes!(rt, call, row; output, text);
     } else {
         let unchanged = vec![in rt.alloc(); 0xEEu8; output.len()].expect(rt, "memory");
-        same!(rt, call, row; answer, Err(FromHexError::InvalidStringLength));
+        same!(rt, call, row; found, Err(FromHexError::InvalidStringLength));
         same_bytes!(rt, call, row; output, unchanged);
     }
 }

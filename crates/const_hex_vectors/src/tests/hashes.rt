@@ -1,9 +1,8 @@
 //! Hashes and addresses, on examples.
 
-use crate::tests::{same, same_bytes};
+use crate::{Testing, Text, same, same_bytes};
 use const_hex::{FromHex, FromHexError, JsonError};
 use hash_hex::{Address20, FixedBytes, Hash32};
-use hex_testing::{Testing, Text};
 use serde_json::{Number, Value};
 use std::cmp::Ordering;
 use std::collections::HashSet;
@@ -45,7 +44,7 @@ fn texts_of_hashes(rt: HostRuntime) {
 }
 
 #[test]
-fn refused_texts(rt: HostRuntime) {
+fn invalid_texts(rt: HostRuntime) {
     let refused: [(&[u8], FromHexError); 4] = [
         (b"0x0", FromHexError::OddLength),
         (b"0xzz", FromHexError::InvalidStringLength),
@@ -59,8 +58,8 @@ fn refused_texts(rt: HostRuntime) {
         ),
     ];
     for (text, error) in refused {
-        let answer = Hash32::from_hex(rt.alloc(), text);
-        same!(&rt, "from_hex", Text(text); answer, Err(error));
+        let result = Hash32::from_hex(rt.alloc(), text);
+        same!(&rt, "from_hex", Text(text); result, Err(error));
     }
 }
 
@@ -104,9 +103,9 @@ fn order_of_values(rt: HostRuntime) {
 }
 
 fn ordered<T: Ord + Copy + fmt::Debug>(rt: &impl Testing, low: T, high: T) {
-    let answers = (low == high, low < high, low.cmp(&high), high.cmp(&low));
+    let results = (low == high, low < high, low.cmp(&high), high.cmp(&low));
     let want = (false, true, Ordering::Less, Ordering::Greater);
-    same!(rt, "==, <, cmp", low; answers, want);
+    same!(rt, "==, <, cmp", low; results, want);
 }
 
 #[test]

@@ -3,13 +3,12 @@
 mod suite;
 
 use crate::tests::decoding::{Read, checked};
-use crate::tests::{same, same_bytes, same_read};
+use crate::texts::{invalid, prepend, with_g};
+use crate::{KernelCase, Testing, Text, by_each_kernel, same, same_bytes, same_read};
 use const_hex::{Kernel, PieceSink, SinkOutput, check_with, decode_to_slice_with, decode_with};
-use hex_testing::texts::{bad, behind, with_g};
-use hex_testing::{KernelCase, Testing, Text, by_each_kernel};
 
-/// A figure for each kernel.
-type Figures = [usize; 4];
+/// A figure for each width of a kernel.
+type Figures = [usize; 3];
 
 /// What is tried with each kernel, by itself and behind `CheckFirst`.
 pub(crate) trait KernelTest {
@@ -20,8 +19,8 @@ pub(crate) trait KernelTest {
     }
 }
 
-/// Each call that reads a text by a kernel answers this, and an output of bytes 0xEE then holds `left`.
-pub(crate) fn answers<K: Kernel>(
+/// Each call that reads a text by a kernel returns this, and an output of bytes 0xEE then holds `left`.
+pub(crate) fn returns<K: Kernel>(
     rt: &impl Testing,
     kernel: KernelCase,
     text: &[u8],
@@ -37,23 +36,23 @@ pub(crate) fn answers<K: Kernel>(
     same_read!(rt, "decode_with", row; decode_with::<K>(rt.alloc(), text), want);
 }
 
-/// Each of these calls refuses a body behind a prefix, for its byte at that place. Before that place
-/// the body spells the first of these bytes.
-pub(crate) fn refuses<K: Kernel>(
+/// Each of these calls rejects a body after a prefix, for its byte at that index. The digits before it
+/// decode to the first of these bytes.
+pub(crate) fn rejects<K: Kernel>(
     rt: &impl Testing,
     kernel: KernelCase,
-    (prefix, body, place): (&str, &[u8], usize),
+    (prefix, body, index): (&str, &[u8], usize),
     bytes: &[u8],
 ) {
-    let byte = body.get(place).copied().unwrap_or(0);
-    let error = bad(byte, prefix.len().saturating_add(place));
+    let byte = body.get(index).copied().unwrap_or(0);
+    let error = invalid(byte, prefix.len().saturating_add(index));
     let mut left = bytes.to_vec(rt.alloc()).expect(rt, "memory");
-    let decoded = kernel.decoded(body.len(), place);
+    let decoded = kernel.decoded(body.len(), index);
     if decoded <= left.len() {
         left[decoded..].fill(0xEE);
     }
-    let text = behind(rt.alloc(), prefix, body).expect(rt, "memory");
-    answers::<K>(rt, kernel, &text, Err(error), &left)
+    let text = prepend(rt.alloc(), prefix, body).expect(rt, "memory");
+    returns::<K>(rt, kernel, &text, Err(error), &left)
 }
 
 #[test]
@@ -62,13 +61,13 @@ fn each_length(rt: HostRuntime) {
 }
 
 #[test]
-fn each_place(rt: HostRuntime) {
-    suite::Places(&[0x10, b'G', b'g', 0xC1]).with_each_kernel(&rt)
+fn each_index(rt: HostRuntime) {
+    suite::EachIndex(&[0x10, b'G', b'g', 0xC1]).with_each_kernel(&rt)
 }
 
 #[test]
-fn each_place_of_an_x(rt: HostRuntime) {
-    suite::Places(b"xX").with_each_kernel(&rt)
+fn each_index_of_an_x(rt: HostRuntime) {
+    suite::EachIndex(b"xX").with_each_kernel(&rt)
 }
 
 #[test]
@@ -76,13 +75,13 @@ fn each_byte(rt: HostRuntime) {
     suite::Letters.with_each_kernel(&rt)
 }
 
-/// A prefix and that many letters `a`, with `g` at a place, and how many bytes each kernel decodes.
+/// A prefix and that many letters `a`, with `g` at an index, and how many bytes each kernel decodes.
 #[derive(Drop)]
 struct Front(&'static str, usize, usize, Figures);
 
 impl KernelTest for Front {
     fn run<K: Kernel>(&self, rt: &impl Testing, kernel: KernelCase) {
-        let Front(prefix, length, place, counts) = self;
+        let Front(prefix, length, index, counts) = self;
         let count = match kernel.name.starts_with("CheckFirst") {
             true => Some(0),
             false => counts.get(kernel.number).copied(),
@@ -90,25 +89,25 @@ impl KernelTest for Front {
         let body = with_g(
             rt.alloc(),
             &vec![in rt.alloc(); b'a'; *length].expect(rt, "memory"),
-            *place,
+            *index,
         )
         .expect(rt, "memory");
         let bytes = vec![in rt.alloc(); 0xAAu8; *length / 2].expect(rt, "memory");
-        let decoded = kernel.decoded(*length, *place);
+        let decoded = kernel.decoded(*length, *index);
         same!(rt, "the figure", (kernel, Text(&body)); Some(decoded), count);
-        refuses::<K>(rt, kernel, (prefix, &body, *place), &bytes)
+        rejects::<K>(rt, kernel, (prefix, &body, *index), &bytes)
     }
 }
 
 #[test]
 fn worked_fronts(rt: HostRuntime) {
     let rows = [
-        Front("", 64, 31, [15, 0, 0, 0]),
-        Front("", 64, 32, [16, 16, 0, 0]),
-        Front("0x", 64, 33, [16, 16, 0, 0]),
-        Front("", 100, 98, [49, 49, 49, 0]),
-        Front("", 96, 63, [31, 16, 0, 0]),
-        Front("", 96, 70, [35, 32, 32, 0]),
+        Front("", 64, 31, [15, 0, 0]),
+        Front("", 64, 32, [16, 16, 0]),
+        Front("0x", 64, 33, [16, 16, 0]),
+        Front("", 100, 98, [49, 49, 49]),
+        Front("", 96, 63, [31, 16, 0]),
+        Front("", 96, 70, [35, 32, 32]),
     ];
     for row in &rows {
         row.with_each_kernel(&rt);
@@ -131,5 +130,5 @@ impl KernelTest for Pieces {
 
 #[test]
 fn worked_pieces(rt: HostRuntime) {
-    Pieces([98, 4, 2, 49]).with_each_kernel(&rt)
+    Pieces([98, 4, 2]).with_each_kernel(&rt)
 }

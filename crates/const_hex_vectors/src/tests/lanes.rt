@@ -1,9 +1,8 @@
 //! Worked values of the lane arithmetic, and the text of a step.
 
-use crate::tests::{same, same_bytes};
+use crate::chunks::decoded_or;
+use crate::{Text, same, same_bytes};
 use const_hex::{Lanes16, Lanes32, lanes16, lanes32};
-use const_hex_uses::chunks::decoded_or;
-use hex_testing::Text;
 use std::simd::prelude::*;
 
 // Bytes at the edges of the ranges of digits, and what the lane arithmetic makes of them.
@@ -19,8 +18,8 @@ const VALUES: [u8; 17] = [
 /// Checks each worked value, with the same byte in each lane.
 macro_rules! worked {
     ($rt:ident, $vector:ident, $lanes:ident) => {
-        for place in 0..BYTES.len() {
-            let (byte, value) = (BYTES[place], VALUES[place]);
+        for index in 0..BYTES.len() {
+            let (byte, value) = (BYTES[index], VALUES[index]);
             let lanes = $vector::splat(byte);
             let values = $vector::splat(value).to_array();
             same!(&$rt, "nibbles", byte; $lanes::nibbles(lanes).to_array(), values);
@@ -79,11 +78,11 @@ fn bytes_of_a_step(rt: HostRuntime) {
     let first = u8x16::from_array(*b"0011223344556677");
     let second = u8x16::from_array(*b"8899aAbBcCdDeEfF");
     let bytes = decoded_or::<u8x16, Lanes16>([first, second], other);
-    let spelled = *b"\x00\x11\x22\x33\x44\x55\x66\x77\x88\x99\xAA\xBB\xCC\xDD\xEE\xFF";
-    same_bytes!(&rt, "decode_chunk", "16 lanes"; bytes.to_array(), spelled);
-    let bad = u8x16::from_array(*b"001\x10223344556677");
-    let refused = decoded_or::<u8x16, Lanes16>([bad, second], other);
-    same_bytes!(&rt, "decode_chunk", "16 lanes, bad"; refused.to_array(), [0xEE; 16]);
+    let bytes_of_text = *b"\x00\x11\x22\x33\x44\x55\x66\x77\x88\x99\xAA\xBB\xCC\xDD\xEE\xFF";
+    same_bytes!(&rt, "decode_chunk", "16 lanes"; bytes.to_array(), bytes_of_text);
+    let invalid = u8x16::from_array(*b"001\x10223344556677");
+    let other_bytes = decoded_or::<u8x16, Lanes16>([invalid, second], other);
+    same_bytes!(&rt, "decode_chunk", "16 lanes, invalid"; other_bytes.to_array(), [0xEE; 16]);
 }
 
 #[test]
@@ -93,7 +92,7 @@ fn bytes_of_a_wide_step(rt: HostRuntime) {
     let bytes = decoded_or::<u8x32, Lanes32>([text, text], other).to_array();
     let half = [0x01, 0x23, 0x45, 0x67, 0x89, 0xAB, 0xCD, 0xEF];
     same!(&rt, "decode_chunk", "32 lanes"; bytes.as_chunks::<8>().0, [half; 4].as_slice());
-    let bad = u8x32::from_array(*b"0123456789abcdef0123456789ABCDEG");
-    let refused = decoded_or::<u8x32, Lanes32>([text, bad], other);
-    same_bytes!(&rt, "decode_chunk", "32 lanes, bad"; refused.to_array(), [0xEE; 32]);
+    let invalid = u8x32::from_array(*b"0123456789abcdef0123456789ABCDEG");
+    let other_bytes = decoded_or::<u8x32, Lanes32>([text, invalid], other);
+    same_bytes!(&rt, "decode_chunk", "32 lanes, invalid"; other_bytes.to_array(), [0xEE; 32]);
 }

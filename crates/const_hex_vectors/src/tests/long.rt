@@ -1,12 +1,11 @@
-//! Long texts, with ample memory: each call that allocates, and a bad byte late in a text.
+//! Long texts, with ample memory: each call that allocates, and an invalid character late in a text.
 
-use crate::tests::decoding::each_call_answers;
+use crate::tests::decoding::each_call_returns;
 use crate::tests::encoding::Written;
-use crate::tests::kernels::{KernelTest, answers, refuses};
-use crate::tests::{same, same_bytes, same_read};
+use crate::tests::kernels::{KernelTest, rejects, returns};
+use crate::texts::{invalid, make_bytes, prepend, print, with_g};
+use crate::{KernelCase, Testing, Text, same, same_bytes, same_read};
 use const_hex::{Buffer, Kernel, ToHex, ToHexExt, const_encode, decode_to_slice, encode_with};
-use hex_testing::texts::{bad, behind, bytes, printed, with_g};
-use hex_testing::{KernelCase, Testing, Text};
 
 /// Counts of blocks of 256 bytes: for 768 bytes, 1 MiB and 3 MiB.
 const SHORT: usize = 3;
@@ -17,9 +16,9 @@ const LONGEST: usize = 12_288;
 
 /// That many times the 256 bytes.
 fn long_text(rt: &impl Testing, blocks: usize) -> Written {
-    let block = bytes(rt.alloc(), 256).expect(rt, "memory");
-    let lower = printed(rt.alloc(), &block, false, false).expect(rt, "memory");
-    let upper = printed(rt.alloc(), &block, false, true).expect(rt, "memory");
+    let block = make_bytes(rt.alloc(), 256).expect(rt, "memory");
+    let lower = print(rt.alloc(), &block, false, false).expect(rt, "memory");
+    let upper = print(rt.alloc(), &block, false, true).expect(rt, "memory");
     Written::new(rt, (&block, &lower, &upper), blocks)
 }
 
@@ -36,40 +35,40 @@ fn owned_bytes(rt: HostRuntime) {
         let Written { bytes, texts } = long_text(&rt, blocks);
         let [lower, _, _, prefixed_upper] = texts;
         for text in [lower, prefixed_upper] {
-            each_call_answers(&rt, text.as_bytes(), Ok(&bytes));
+            each_call_returns(&rt, text.as_bytes(), Ok(&bytes));
         }
     }
 }
 
 #[test]
-fn late_bad_bytes(rt: HostRuntime) {
-    late_bad_bytes_of(&rt, SHORT);
-    late_bad_bytes_of(&rt, LONG)
+fn late_invalid_characters(rt: HostRuntime) {
+    late_invalid_characters_of(&rt, SHORT);
+    late_invalid_characters_of(&rt, LONG)
 }
 
 #[test]
-fn late_bad_bytes_of_the_longest(rt: HostRuntime) {
-    late_bad_bytes_of(&rt, LONGEST)
+fn late_invalid_characters_of_the_longest(rt: HostRuntime) {
+    late_invalid_characters_of(&rt, LONGEST)
 }
 
-/// Each decoder names a bad byte in the middle and at the end of a body, with a prefix and without.
-fn late_bad_bytes_of(rt: &impl Testing, blocks: usize) {
+/// Each decoder names an invalid character in the middle and at the end of a body, with a prefix and without.
+fn late_invalid_characters_of(rt: &impl Testing, blocks: usize) {
     let written = long_text(rt, blocks);
     let lower = written.texts[0].as_bytes();
-    for place in [lower.len() / 2, lower.len().saturating_sub(1)] {
-        let body = with_g(rt.alloc(), lower, place).expect(rt, "memory");
-        late_bad_byte(rt, "", &body, place);
-        late_bad_byte(rt, "0X", &body, place);
+    for index in [lower.len() / 2, lower.len().saturating_sub(1)] {
+        let body = with_g(rt.alloc(), lower, index).expect(rt, "memory");
+        late_invalid_character(rt, "", &body, index);
+        late_invalid_character(rt, "0X", &body, index);
     }
 }
 
-fn late_bad_byte(rt: &impl Testing, prefix: &str, body: &[u8], place: usize) {
-    let text = behind(rt.alloc(), prefix, body).expect(rt, "memory");
-    let error = bad(b'g', prefix.len().saturating_add(place));
+fn late_invalid_character(rt: &impl Testing, prefix: &str, body: &[u8], index: usize) {
+    let text = prepend(rt.alloc(), prefix, body).expect(rt, "memory");
+    let error = invalid(b'g', prefix.len().saturating_add(index));
     let mut output = vec![in rt.alloc(); 0u8; body.len() / 2].expect(rt, "memory");
-    let answer = decode_to_slice(&text, &mut output);
-    same!(rt, "decode_to_slice", Text(&text); answer, Err(error));
-    each_call_answers(rt, &text, Err(error))
+    let result = decode_to_slice(&text, &mut output);
+    same!(rt, "decode_to_slice", Text(&text); result, Err(error));
+    each_call_returns(rt, &text, Err(error))
 }
 
 #[test]
@@ -84,7 +83,7 @@ fn kernels_on_the_longest(rt: HostRuntime) {
 }
 
 impl KernelTest for Written {
-    /// Writes the text in both cases, and reads it, also with a bad byte at the end.
+    /// Writes the text in both cases, and reads it, also with an invalid character at the end.
     fn run<K: Kernel>(&self, rt: &impl Testing, kernel: KernelCase) {
         let (bytes, row) = (self.bytes.as_slice(), (kernel, Text(&self.bytes)));
         let [lower, upper, _, prefixed_upper] = &self.texts;
@@ -93,11 +92,11 @@ impl KernelTest for Written {
         let encoded = encode_with::<K, true>(rt.alloc(), bytes);
         same_read!(rt, "encode_with, upper", row; encoded, Ok(upper.as_bytes()));
         for text in [lower, prefixed_upper] {
-            answers::<K>(rt, kernel, text.as_bytes(), Ok(bytes), bytes);
+            returns::<K>(rt, kernel, text.as_bytes(), Ok(bytes), bytes);
         }
-        let place = lower.len().saturating_sub(1);
-        let body = with_g(rt.alloc(), lower.as_bytes(), place).expect(rt, "memory");
-        refuses::<K>(rt, kernel, ("0x", &body, place), bytes)
+        let index = lower.len().saturating_sub(1);
+        let body = with_g(rt.alloc(), lower.as_bytes(), index).expect(rt, "memory");
+        rejects::<K>(rt, kernel, ("0x", &body, index), bytes)
     }
 }
 

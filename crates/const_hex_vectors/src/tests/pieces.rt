@@ -1,13 +1,12 @@
-//! Texts that are decoded in pieces: at every cut, at random cuts, and with too little room.
+//! Texts that are decoded in pieces: at every cut, at random cuts, and with too little space.
 
 use crate::tests::decoding::Read;
 use crate::tests::kernels::KernelTest;
-use crate::tests::{same, same_bytes, same_read};
+use crate::texts::{PREFIXES, invalid, make_digits, prepend, read};
+use crate::{KernelCase, Testing, Text, same, same_bytes, same_read};
 use const_hex::{Decoder, FromHexError, Kernel};
-use hex_testing::texts::{PREFIXES, bad, behind, digits, read};
-use hex_testing::{KernelCase, Testing, Text};
 
-/// Texts and their answers. An odd length is found last.
+/// Texts and their results. An odd length is found last.
 const ROWS: [(&[u8], Read<'static>); 16] = [
     (b"", Ok(b"")),
     (b"0x", Ok(b"")),
@@ -51,7 +50,7 @@ const ROWS: [(&[u8], Read<'static>); 16] = [
     ),
 ];
 
-/// Adds to a list what a decoder gives for these pieces.
+/// Adds to a list what a decoder returns for these pieces.
 fn in_pieces<K: Kernel>(pieces: &[&[u8]], all: &mut Vec<u8>) -> Result<(), FromHexError> {
     let mut decoder = Decoder::new();
     for piece in pieces {
@@ -62,7 +61,7 @@ fn in_pieces<K: Kernel>(pieces: &[&[u8]], all: &mut Vec<u8>) -> Result<(), FromH
     decoder.finish()
 }
 
-/// A text and its answer.
+/// A text and its result.
 #[derive(Drop)]
 struct Row<'a> {
     text: &'a [u8],
@@ -70,7 +69,7 @@ struct Row<'a> {
 }
 
 impl KernelTest for Row<'_> {
-    /// Every cut of the text into three pieces has the answer of the text.
+    /// Every cut of the text into three pieces has the result of the text.
     fn run<K: Kernel>(&self, rt: &impl Testing, kernel: KernelCase) {
         for end in 0..=self.text.len() {
             let (front, last) = self.text.split_at(end);
@@ -78,8 +77,8 @@ impl KernelTest for Row<'_> {
                 let (first, middle) = front.split_at(cut);
                 let row = (Text(self.text), cut, end);
                 let mut bytes = Vec::new(rt.alloc());
-                let answer = in_pieces::<K>(&[first, middle, last], &mut bytes);
-                same!(rt, kernel.name, row; answer.and(Ok(bytes.as_slice())), self.want);
+                let result = in_pieces::<K>(&[first, middle, last], &mut bytes);
+                same!(rt, kernel.name, row; result.and(Ok(bytes.as_slice())), self.want);
             }
         }
     }
@@ -92,7 +91,7 @@ fn rows_at_every_cut(rt: HostRuntime) {
     }
 }
 
-/// Adds to a list what a decoder gives for a text that is cut at random, into pieces of up to 31 bytes.
+/// Adds to a list what a decoder returns for a text that is cut at random, into pieces of up to 31 bytes.
 fn at_random<K: Kernel>(
     text: &[u8],
     seed: &mut u64,
@@ -115,8 +114,8 @@ fn at_random<K: Kernel>(
     decoder.finish()
 }
 
-/// A text that is cut at random has this answer.
-fn has_answer<K: Kernel>(
+/// A text that is cut at random has this result.
+fn has_result<K: Kernel>(
     rt: &impl Testing,
     kernel: KernelCase,
     text: &[u8],
@@ -124,11 +123,11 @@ fn has_answer<K: Kernel>(
     want: Read<'_>,
 ) {
     let mut bytes = Vec::new(rt.alloc());
-    let answer = at_random::<K>(text, seed, &mut bytes).and(Ok(bytes.as_slice()));
-    same_read!(rt, "at random cuts", (kernel, Text(text)); answer, want);
+    let result = at_random::<K>(text, seed, &mut bytes).and(Ok(bytes.as_slice()));
+    same_read!(rt, "at random cuts", (kernel, Text(text)); result, want);
 }
 
-/// Texts of up to 64 bytes at random cuts, whole and with a bad byte at each place.
+/// Texts of up to 64 bytes at random cuts, whole and with an invalid character at each index.
 #[derive(Drop)]
 struct RandomCuts;
 
@@ -136,18 +135,18 @@ impl KernelTest for RandomCuts {
     fn run<K: Kernel>(&self, rt: &impl Testing, kernel: KernelCase) {
         let mut seed = 1;
         for half in 0..=64usize {
-            let mut body = digits(rt.alloc(), 2 * half).expect(rt, "memory");
+            let mut body = make_digits(rt.alloc(), 2 * half).expect(rt, "memory");
             let bytes = read(rt.alloc(), &body).expect(rt, "memory");
             for prefix in PREFIXES {
-                let text = behind(rt.alloc(), prefix, &body).expect(rt, "memory");
-                has_answer::<K>(rt, kernel, &text, &mut seed, Ok(&bytes));
-                for place in 0..body.len() {
-                    let digit = body[place];
-                    body[place] = b'g';
-                    let text = behind(rt.alloc(), prefix, &body).expect(rt, "memory");
-                    let error = bad(b'g', prefix.len().saturating_add(place));
-                    has_answer::<K>(rt, kernel, &text, &mut seed, Err(error));
-                    body[place] = digit;
+                let text = prepend(rt.alloc(), prefix, &body).expect(rt, "memory");
+                has_result::<K>(rt, kernel, &text, &mut seed, Ok(&bytes));
+                for index in 0..body.len() {
+                    let digit = body[index];
+                    body[index] = b'g';
+                    let text = prepend(rt.alloc(), prefix, &body).expect(rt, "memory");
+                    let error = invalid(b'g', prefix.len().saturating_add(index));
+                    has_result::<K>(rt, kernel, &text, &mut seed, Err(error));
+                    body[index] = digit;
                 }
             }
         }
@@ -160,7 +159,7 @@ fn random_cuts(rt: HostRuntime) {
 }
 
 #[test]
-fn too_little_room_and_refusals(rt: HostRuntime) {
+fn too_little_space_and_errors(rt: HostRuntime) {
     let mut decoder = Decoder::new();
     let mut bytes = *b"....";
     let short = Err(FromHexError::InvalidStringLength);
@@ -172,7 +171,7 @@ fn too_little_room_and_refusals(rt: HostRuntime) {
     same!(&rt, "decode", "7"; decoder.decode(b"7", &mut bytes[2..]), Ok(1));
     same_bytes!(&rt, "decode", "7"; &bytes, b"kiw.");
     same!(&rt, "decode", "69!9"; decoder.decode(b"69!9", &mut bytes[3..]), short);
-    let error = bad(b'!', 10);
+    let error = invalid(b'!', 10);
     for piece in [b"69!9".as_slice(), b"", b"69", b"!"] {
         same!(&rt, "decode", Text(piece); decoder.decode(piece, &mut [0; 2]), Err(error));
         same!(&rt, "position", Text(piece); decoder.position(), 10);

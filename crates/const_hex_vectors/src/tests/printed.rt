@@ -1,9 +1,8 @@
 //! What `display` prints.
 
-use crate::tests::{same, same_bytes};
+use crate::texts::{make_bytes, print};
+use crate::{Counting, InHex, Testing, same, same_bytes};
 use const_hex::{BufferedHex, FormatterSink, Lanes16, Sink, display};
-use hex_testing::texts::{bytes, printed};
-use hex_testing::{Counting, InHex, Testing};
 use std::fmt::{self, Write};
 
 /// Prints the uppercase text by 16 lanes, through the library's sink over a formatter.
@@ -21,7 +20,7 @@ impl fmt::Display for ByLanes<'_> {
     }
 }
 
-/// Hands the library's sink over a formatter an empty piece, and prints whether it was accepted.
+/// Writes an empty piece to the library's sink over a formatter, and prints whether it was accepted.
 #[derive(Drop)]
 struct EmptyPiece;
 
@@ -56,10 +55,10 @@ fn printed_forms(rt: HostRuntime) {
 
 #[test]
 fn printed_bytes(rt: HostRuntime) {
-    let data = bytes(rt.alloc(), 100_000).expect(&rt, "memory");
-    let lower = printed(rt.alloc(), &data, false, false).expect(&rt, "memory");
+    let data = make_bytes(rt.alloc(), 100_000).expect(&rt, "memory");
+    let lower = print(rt.alloc(), &data, false, false).expect(&rt, "memory");
     prints(&rt, &display(&data), &lower);
-    let upper = printed(rt.alloc(), &data, false, true).expect(&rt, "memory");
+    let upper = print(rt.alloc(), &data, false, true).expect(&rt, "memory");
     prints(&rt, &InHex::<true>(&data), &upper)
 }
 
@@ -86,7 +85,7 @@ fn nothing_follows_an_error(rt: HostRuntime) {
 /// A writer that fails at one call gets that many calls, and its error is returned.
 fn fails_once<D: fmt::Display>(rt: &impl Testing, text: &D, fail_at: usize, calls: usize) {
     let mut writer = Counting::new(fail_at);
-    let answer = write!(writer, "{text}");
-    same!(rt, "write!", fail_at; answer.is_err(), (fail_at < 4));
+    let result = write!(writer, "{text}");
+    same!(rt, "write!", fail_at; result.is_err(), (fail_at < 4));
     same!(rt, "calls of the writer", fail_at; writer.calls, calls);
 }

@@ -3,24 +3,23 @@
 ghost use Rattle.std.specs.Prelude.{◌<◌};
 
 use crate::tests::kernels::KernelTest;
-use crate::tests::{same, same_bytes};
+use crate::texts::{make_bytes, print};
+use crate::{KernelCase, Testing, same, same_bytes};
 use const_hex::{
     BufferedHex, BufferedOutput, Kernel, Output, PieceSink, Sink, SinkOutput, SliceOutput,
 };
-use hex_testing::texts::{bytes, printed};
-use hex_testing::{KernelCase, Testing};
 
 type ToSink<'a, const N: usize> = BufferedOutput<SinkOutput<'a, PieceSink>, N>;
 
 type ToSlice<'a, const N: usize> = BufferedOutput<SliceOutput<'a>, N>;
 
-// The pieces have 8 MB, and no call is refused.
+// The pieces have 8 MB, and no call fails.
 #[test]
 fn pieces_of_each_size(rt: HostRuntime) {
     let alloc = rt.alloc();
-    let text = printed(
+    let text = print(
         alloc,
-        &bytes(alloc, 2048).expect(&rt, "memory"),
+        &make_bytes(alloc, 2048).expect(&rt, "memory"),
         false,
         false,
     )
@@ -34,13 +33,13 @@ fn pieces_of_each_size(rt: HostRuntime) {
     }
     same!(&rt; sink.calls(), 4096);
     same!(&rt; sink.pieces().len(), 4096);
-    for (place, piece) in sink.pieces().iter().enumerate() {
-        let want = text.get(..place + 1).unwrap_or("");
-        same_bytes!(&rt, "write_str", place; piece, want);
+    for (index, piece) in sink.pieces().iter().enumerate() {
+        let want = text.get(..index + 1).unwrap_or("");
+        same_bytes!(&rt, "write_str", index; piece, want);
     }
 }
 
-/// Bytes, and their text behind a prefix.
+/// Bytes, and their text after a prefix.
 #[derive(Drop)]
 struct Stream<'a> {
     data: &'a [u8],
@@ -51,8 +50,8 @@ impl KernelTest for Stream<'_> {
     /// The pieces are the text, and each but the last has 4033 to 4096 bytes.
     fn run<K: Kernel>(&self, rt: &impl Testing, kernel: KernelCase) {
         let mut sink = PieceSink::new(rt.alloc(), 0);
-        let answer = BufferedHex::<false, true>::new(self.data).write_with::<K, _>(&mut sink);
-        same!(rt, "write_with", kernel; answer, Ok(()));
+        let result = BufferedHex::<false, true>::new(self.data).write_with::<K, _>(&mut sink);
+        same!(rt, "write_with", kernel; result, Ok(()));
         let mut rest = self.text;
         for piece in sink.pieces() {
             let least = rest.len().min(4033);
@@ -68,12 +67,12 @@ impl KernelTest for Stream<'_> {
 
 #[test]
 fn long_streams(rt: HostRuntime) {
-    let data = &bytes(rt.alloc(), 100_000).expect(&rt, "memory");
-    let text = &printed(rt.alloc(), data, true, false).expect(&rt, "memory");
+    let data = &make_bytes(rt.alloc(), 100_000).expect(&rt, "memory");
+    let text = &print(rt.alloc(), data, true, false).expect(&rt, "memory");
     Stream { data, text }.with_each_kernel(&rt)
 }
 
-// An output that gathers four bytes hands on a piece of four at once, after what it has gathered. A
+// An output that gathers four bytes passes on a piece of four at once, after what it has gathered. A
 // dropped output loses what it has gathered.
 #[test]
 fn pieces_of_just_the_size(rt: HostRuntime) {
@@ -96,7 +95,7 @@ pub(crate) fn has_pieces(rt: &impl Testing, row: usize, sink: &PieceSink, want: 
     }
 }
 
-/// Writes a piece for which the output says that there is room.
+/// Writes a piece for which the output says that there is space.
 fn put<O: Output>(rt: &impl Testing, output: &mut O, bytes: &[u8]) {
     let room = output.remaining().unwrap_or(usize::MAX);
     assert!(rt; bytes.len() <= room);

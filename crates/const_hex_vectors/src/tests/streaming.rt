@@ -1,18 +1,17 @@
-//! The text of bytes, handed to sinks in each way, also to sinks that refuse.
+//! The text of bytes, written to sinks in each way, also to sinks that fail.
 
 ghost use Rattle.std.specs.Prelude.{◌≡◌, false, None, refl};
 
 use crate::tests::kernels::KernelTest;
-use crate::tests::same;
 use crate::tests::sinks::has_pieces;
+use crate::texts::{cut, make_bytes, print};
+use crate::{KernelCase, Testing, same};
 use const_hex::serde::serialize_inner;
 use const_hex::{BufferedHex, Kernel, Output, PieceSink, Plain, Sink, SinkError, SinkOutput};
-use hex_testing::texts::{bytes, cut, printed};
-use hex_testing::{KernelCase, Testing};
 use std::alloc::{AllocError, Global};
 
-/// Keeps the text of every call, also of a call that it refuses, and beside it the accepted pieces. It
-/// refuses the call of the given number, and any call whose text it cannot keep.
+/// Keeps the text of every call, also of a call that fails, and beside it the accepted pieces. It
+/// fails at the call of the given number, and at any call whose text it cannot keep.
 #[derive(Drop)]
 struct NotingSink {
     alloc: Global,
@@ -57,7 +56,7 @@ impl Sink for NotingSink {
     ghost tells = { λ s piece t h. refl };
 }
 
-/// Adds a copy of a text, and answers whether there was memory for it.
+/// Adds a copy of a text, and returns whether there was memory for it.
 fn is_kept(alloc: Global, texts: &mut Vec<String>, text: &str) -> bool {
     match String::from_str(alloc, text) {
         Ok(copy) => texts.push(copy).is_ok(),
@@ -112,7 +111,7 @@ const ROWS: [Row; 21] = [
 #[test]
 fn calls_in_each_way(rt: HostRuntime) {
     for (count, prefix, sizes) in ROWS {
-        let data = bytes(rt.alloc(), count).expect(&rt, "memory");
+        let data = make_bytes(rt.alloc(), count).expect(&rt, "memory");
         match prefix {
             false => in_each_way::<false>(&rt, &data, sizes),
             true => in_each_way::<true>(&rt, &data, sizes),
@@ -132,7 +131,7 @@ struct Stream<'a, const UPPER: bool, const PREFIX: bool> {
     sizes: [&'static [usize]; 3],
 }
 
-/// How the text of bytes is handed to a sink: by a kernel, by the fixed kernel, or as a part of a
+/// How the text of bytes is written to a sink: by a kernel, by the fixed kernel, or as a part of a
 /// JSON text.
 #[derive(Clone, Copy, Debug)]
 enum Way {
@@ -154,7 +153,7 @@ impl<const UPPER: bool, const PREFIX: bool> Stream<'_, UPPER, PREFIX> {
         self.calls::<Plain>(rt, Way::AsJson)
     }
 
-    /// Tries sinks that never refuse, that refuse each call in turn, and that would refuse the call
+    /// Tries sinks that never fail, that fail at each call in turn, and that would fail at the call
     /// after the last. Only `Way::ByKernel` uses K. The fixed kernel has 32 lanes. In a JSON text, an
     /// empty text has a call too.
     fn calls<K: Kernel>(&self, rt: &impl Testing, way: Way) {
@@ -165,7 +164,7 @@ impl<const UPPER: bool, const PREFIX: bool> Stream<'_, UPPER, PREFIX> {
             Way::AsJson if by_lanes32.is_empty() => &[0],
             _ => by_lanes32,
         };
-        let text = printed(rt.alloc(), self.data, PREFIX, UPPER).expect(rt, "memory");
+        let text = print(rt.alloc(), self.data, PREFIX, UPPER).expect(rt, "memory");
         let pieces = cut(rt.alloc(), &text, sizes).expect(rt, "memory");
         let row = (way, self.data.len(), sizes);
         same!(rt, "the row's sizes", row; pieces.len(), sizes.len());
@@ -176,7 +175,7 @@ impl<const UPPER: bool, const PREFIX: bool> Stream<'_, UPPER, PREFIX> {
         }
     }
 
-    /// A noting sink that refuses the call of that number has these calls and accepted pieces.
+    /// A noting sink that fails at the call of that number has these calls and accepted pieces.
     fn noted<K: Kernel>(
         &self,
         rt: &impl Testing,
@@ -186,8 +185,8 @@ impl<const UPPER: bool, const PREFIX: bool> Stream<'_, UPPER, PREFIX> {
         let (way, _, refuse_at) = row;
         let is_refused = accepted.len() < noted.len();
         let mut sink = NotingSink::new(rt.alloc(), refuse_at);
-        let answer = self.hand_over::<K, NotingSink>(way, &mut sink);
-        same!(rt, "the noting sink's error", row; answer.is_err(), is_refused);
+        let result = self.hand_over::<K, NotingSink>(way, &mut sink);
+        same!(rt, "the noting sink's error", row; result.is_err(), is_refused);
         same!(rt, "its refused", row; sink.refused(), is_refused);
         same!(rt, "the noting sink's calls", row; sink.noted.as_slice(), noted);
         same!(rt, "its accepted pieces", row; sink.accepted.as_slice(), accepted);
@@ -203,8 +202,8 @@ impl<const UPPER: bool, const PREFIX: bool> Stream<'_, UPPER, PREFIX> {
         let (way, _, refuse_at) = row;
         let is_refused = accepted.len() < noted.len();
         let mut sink = PieceSink::new(rt.alloc(), refuse_at);
-        let answer = self.hand_over::<K, PieceSink>(way, &mut sink);
-        same!(rt, "PieceSink's error", row; answer.is_err(), is_refused);
+        let result = self.hand_over::<K, PieceSink>(way, &mut sink);
+        same!(rt, "PieceSink's error", row; result.is_err(), is_refused);
         same!(rt, "pieces", row; sink.pieces(), accepted);
         let counts = (sink.no_memory(), sink.calls());
         same!(rt, "no_memory, calls", row; counts, (false, noted.len()));
@@ -222,7 +221,7 @@ impl<const UPPER: bool, const PREFIX: bool> Stream<'_, UPPER, PREFIX> {
     }
 }
 
-/// The pieces of all calls, and the accepted ones, if the call of that number is refused.
+/// The pieces of all calls, and the accepted ones, if the call of that number fails.
 fn until(pieces: &[String], refuse_at: usize) -> (&[String], &[String]) {
     if refuse_at == 0 || refuse_at > pieces.len() {
         (pieces, pieces)

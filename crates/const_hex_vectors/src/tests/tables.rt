@@ -1,6 +1,6 @@
 //! The 288 entries of the three tables, seen from outside.
 
-use crate::tests::{same, same_bytes};
+use crate::{same, same_bytes};
 use const_hex::{HEX_CHARS_LOWER, HEX_CHARS_UPPER, HEX_DECODE_LUT, NIL, digit_at, value_at};
 
 #[test]

@@ -1,9 +1,8 @@
 //! `WriteSink`, over writers that fail, accept few bytes per call, or come back.
 
-use crate::tests::{same, same_bytes};
+use crate::texts::{make_bytes, print};
+use crate::{Fault, Target, Testing, Text, same, same_bytes};
 use const_hex::{BufferedHex, Plain, Sink, WriteSink};
-use hex_testing::texts::{bytes, printed};
-use hex_testing::{Fault, Target, Testing, Text};
 use std::io::{self, ErrorKind};
 
 // A text of 6002 bytes comes in pieces of 4096 and 1906. A writer that accepts 1000 per call gets
@@ -12,8 +11,8 @@ const TAKEN: [usize; 8] = [0, 1000, 2000, 3000, 4000, 4096, 5096, 6002];
 
 #[test]
 fn writers_that_fail_at_each_call(rt: HostRuntime) {
-    let bytes = bytes(rt.alloc(), 3000).expect(&rt, "memory");
-    let text = printed(rt.alloc(), &bytes, true, false).expect(&rt, "memory");
+    let bytes = make_bytes(rt.alloc(), 3000).expect(&rt, "memory");
+    let text = print(rt.alloc(), &bytes, true, false).expect(&rt, "memory");
     let case = (bytes.as_slice(), text.as_bytes());
     for before in 0..TAKEN.len() {
         at_call(&rt, (before + 1, TAKEN[before]), case);
@@ -46,8 +45,8 @@ fn writes(
 ) {
     let mut target = Target::new(rt.alloc(), 1000, fault);
     let mut sink = WriteSink::new(&mut target);
-    let answer = BufferedHex::<false, true>::new(bytes).write_with::<Plain, _>(&mut sink);
-    same!(rt, "write_with", fault; answer.is_err(), kind.is_some());
+    let result = BufferedHex::<false, true>::new(bytes).write_with::<Plain, _>(&mut sink);
+    same!(rt, "write_with", fault; result.is_err(), kind.is_some());
     same!(rt, "refused", fault; sink.refused(), kind.is_some());
     same!(rt, "error", fault; kind_of(sink.error()), kind);
     same!(rt, "finish", fault; kind_of(sink.finish().as_ref().err()), kind);

@@ -1,7 +1,7 @@
 //! What the arguments ask for.
 
-use crate::tests::{CHECK, CHECK_LINES, DECODE, DECODE_LINES, ENCODE, same};
-use hex_testing::Testing;
+use crate::tests::{CHECK, CHECK_LINES, DECODE, DECODE_LINES, ENCODE};
+use const_hex_vectors::{Testing, same};
 use hexfilter_core::{Mode, Request, request_of};
 
 fn encode(prefix: bool, upper: bool, columns: usize) -> Mode {

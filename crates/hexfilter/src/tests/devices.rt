@@ -1,7 +1,7 @@
 //! Readers and writers that fail at each call, or take no bytes.
 
-use crate::tests::{CHECK, DECODE, End, end_of, same, same_bytes};
-use hex_testing::{Fault, Source, Target, Testing};
+use crate::tests::{CHECK, DECODE, End, end_of};
+use const_hex_vectors::{Fault, Source, Target, Testing, same, same_bytes};
 use hexfilter_core::{Mode, run};
 use std::io::ErrorKind;
 

@@ -1,11 +1,9 @@
 //! What is written, and which error is returned: of given inputs, at every cut, and of long ones.
 
-use crate::tests::{
-    CHECK, CHECK_LINES, DECODE, DECODE_LINES, ENCODE, End, run_on, same, same_bytes,
-};
+use crate::tests::{CHECK, CHECK_LINES, DECODE, DECODE_LINES, ENCODE, End, run_on};
 use const_hex::FromHexError;
-use hex_testing::texts::bad;
-use hex_testing::{Fault, Source, Target, Testing, Text};
+use const_hex_vectors::texts::invalid;
+use const_hex_vectors::{Fault, Source, Target, Testing, Text, same, same_bytes};
 use hexfilter_core::{Mode, run};
 use std::io::{self, ErrorKind, Read};
 
@@ -82,19 +80,19 @@ fn invalid_texts(rt: HostRuntime) {
         (DECODE, b"0x6", odd),
         (CHECK, b"6b6", odd),
         (DECODE_LINES, b"6b\n6\n", odd),
-        (DECODE, b"z", bad(b'z', 0)),
-        (DECODE, b"6b69z", bad(b'z', 4)),
-        (CHECK, b"0xzz", bad(b'z', 2)),
-        (DECODE, b"0x0x6b", bad(b'x', 3)),
-        (DECODE, b"6b0x6b", bad(b'x', 3)),
-        (DECODE, b"x06b", bad(b'x', 0)),
-        (DECODE, b"0y6b", bad(b'y', 1)),
-        (DECODE, b"6b69\n", bad(b'\n', 4)),
-        (DECODE, b"6b\xff0", bad(0xff, 2)),
-        (DECODE_LINES, b"6b\n\nz", bad(b'z', 4)),
-        (CHECK_LINES, b"\n0\nx6b\n6g", bad(b'g', 8)),
-        (DECODE_LINES, b"6b\r\n69", bad(b'\r', 2)),
-        (DECODE_LINES, b"6b 69", bad(b' ', 2)),
+        (DECODE, b"z", invalid(b'z', 0)),
+        (DECODE, b"6b69z", invalid(b'z', 4)),
+        (CHECK, b"0xzz", invalid(b'z', 2)),
+        (DECODE, b"0x0x6b", invalid(b'x', 3)),
+        (DECODE, b"6b0x6b", invalid(b'x', 3)),
+        (DECODE, b"x06b", invalid(b'x', 0)),
+        (DECODE, b"0y6b", invalid(b'y', 1)),
+        (DECODE, b"6b69\n", invalid(b'\n', 4)),
+        (DECODE, b"6b\xff0", invalid(0xff, 2)),
+        (DECODE_LINES, b"6b\n\nz", invalid(b'z', 4)),
+        (CHECK_LINES, b"\n0\nx6b\n6g", invalid(b'g', 8)),
+        (DECODE_LINES, b"6b\r\n69", invalid(b'\r', 2)),
+        (DECODE_LINES, b"6b 69", invalid(b' ', 2)),
     ];
     for (mode, input, error) in rows {
         let row = (mode, Text(input));
@@ -123,7 +121,7 @@ fn every_cut(rt: HostRuntime) {
         same_bytes!(&rt, "decode lines", cut; written, BYTES);
         let (first, last) = faulty.split_at(cut);
         let (end, _) = run_on(&rt, CHECK, &mut first.chain(last));
-        same!(&rt, "check", cut; end, End::Text(bad(b'g', 63)));
+        same!(&rt, "check", cut; end, End::Text(invalid(b'g', 63)));
         let (first, last) = BYTES.split_at(cut / 2);
         let (end, written) = run_on(&rt, encode(false, false, 0), &mut first.chain(last));
         same!(&rt, "encode", cut; end, End::Done);
@@ -157,9 +155,9 @@ fn positions_in_long_inputs(rt: HostRuntime) {
             DECODE,
             &mut io::repeat(b'0').take(count).chain(&b"z"[..]),
         );
-        same!(&rt, "decode", count; end, End::Text(bad(b'z', index)));
+        same!(&rt, "decode", count; end, End::Text(invalid(b'z', index)));
         let lines = &mut io::repeat(b'\n').take(count).chain(&b"0\nz"[..]);
-        same!(&rt, "decode lines", count; run_on(&rt, DECODE_LINES, lines).0, End::Text(bad(b'z', index + 2)));
+        same!(&rt, "decode lines", count; run_on(&rt, DECODE_LINES, lines).0, End::Text(invalid(b'z', index + 2)));
     }
 }
 

@@ -1,13 +1,12 @@
 //! What is tried with each kernel on short texts.
 
-use crate::tests::kernels::{KernelTest, answers, refuses};
-use crate::tests::{same, same_bytes};
+use crate::tests::kernels::{KernelTest, rejects, returns};
+use crate::texts::{PREFIXES, cut, make_bytes, make_digits, prepend, print, read};
+use crate::{KernelCase, Testing, Text, same, same_bytes};
 use const_hex::{
     FromHexError, Kernel, PieceSink, SinkOutput, SliceOutput, check_raw, decode_to_front_with,
     encode_full_to_slice_with, encode_with,
 };
-use hex_testing::texts::{PREFIXES, behind, bytes, cut, digits, printed, read};
-use hex_testing::{KernelCase, Testing, Text};
 
 // Counts of the bytes 0, 1, 2 and on, near the steps of each kernel, and how their text ends.
 const ENDS: [(usize, &str); 12] = [
@@ -37,7 +36,11 @@ impl KernelTest for Lengths {
             }
         }
         for count in 0..=200usize {
-            there_and_back::<K>(rt, kernel, &bytes(rt.alloc(), count).expect(rt, "memory"));
+            there_and_back::<K>(
+                rt,
+                kernel,
+                &make_bytes(rt.alloc(), count).expect(rt, "memory"),
+            );
         }
         for (count, end) in ENDS {
             ends_in::<K>(rt, kernel, count, end);
@@ -62,19 +65,19 @@ fn ends_in<K: Kernel>(rt: &impl Testing, kernel: KernelCase, count: usize, end: 
     same!(rt, "encode_with", (kernel, count); last, Some(end));
 }
 
-/// A kernel reads digits behind a prefix as std does, and writes them in lowercase.
+/// A kernel reads digits after a prefix as std does, and writes them in lowercase.
 fn behind_prefix<K: Kernel>(rt: &impl Testing, kernel: KernelCase, prefix: &str, length: usize) {
-    let body = digits(rt.alloc(), length).expect(rt, "memory");
-    let text = behind(rt.alloc(), prefix, &body).expect(rt, "memory");
+    let body = make_digits(rt.alloc(), length).expect(rt, "memory");
+    let text = prepend(rt.alloc(), prefix, &body).expect(rt, "memory");
     if length % 2 == 1 {
         let odd = Err(FromHexError::OddLength);
-        return answers::<K>(rt, kernel, &text, odd, &[0xEE; 65]);
+        return returns::<K>(rt, kernel, &text, odd, &[0xEE; 65]);
     }
     let bytes = read(rt.alloc(), &body).expect(rt, "memory");
     let lower = encode_with::<K, false>(rt.alloc(), &bytes).expect(rt, "memory");
     let want = body.to_ascii_lowercase(rt.alloc()).expect(rt, "memory");
     same_bytes!(rt, "encode_with", (kernel, Text(&bytes)); lower, want);
-    answers::<K>(rt, kernel, &text, Ok(&bytes), &bytes)
+    returns::<K>(rt, kernel, &text, Ok(&bytes), &bytes)
 }
 
 /// A kernel writes bytes as std prints them, owned and in pieces, and reads them again.
@@ -82,12 +85,12 @@ fn there_and_back<K: Kernel>(rt: &impl Testing, kernel: KernelCase, bytes: &[u8]
     let lower = encode_with::<K, false>(rt.alloc(), bytes).expect(rt, "memory");
     let upper = encode_with::<K, true>(rt.alloc(), bytes).expect(rt, "memory");
     for (is_upper, owned) in [(false, &lower), (true, &upper)] {
-        let text = printed(rt.alloc(), bytes, false, is_upper).expect(rt, "memory");
+        let text = print(rt.alloc(), bytes, false, is_upper).expect(rt, "memory");
         same_bytes!(rt, "encode_with", (kernel, Text(bytes)); owned, &text);
         in_pieces::<K>(rt, kernel, bytes, (is_upper, &text));
         for prefix in ["", "0x"] {
-            let text = behind(rt.alloc(), prefix, text.as_bytes()).expect(rt, "memory");
-            answers::<K>(rt, kernel, &text, Ok(bytes), bytes);
+            let text = prepend(rt.alloc(), prefix, text.as_bytes()).expect(rt, "memory");
+            returns::<K>(rt, kernel, &text, Ok(bytes), bytes);
         }
     }
 }
@@ -113,7 +116,7 @@ const BYTES: &[u8; 49] = b"jklmnopqrstuvwxyz{|}~@[JKLMNOPQRSTUVWXYZ][0123456";
 fn own_calls<K: Kernel>(rt: &impl Testing, kernel: KernelCase) {
     let mut text = [0; 98];
     K::encode(BYTES, true, &mut SliceOutput::new(&mut text));
-    let printed = printed(rt.alloc(), BYTES, false, true).expect(rt, "memory");
+    let printed = print(rt.alloc(), BYTES, false, true).expect(rt, "memory");
     same_bytes!(rt, "encode", kernel; text, printed);
     assert!(rt; K::check(&text));
     let mut back = [0; 49];
@@ -124,58 +127,58 @@ fn own_calls<K: Kernel>(rt: &impl Testing, kernel: KernelCase) {
     same_bytes!(rt, "decode_unchecked", kernel; back, BYTES);
 }
 
-/// A kernel writes the same bytes behind a prefix, and reads them again.
+/// A kernel writes the same bytes after a prefix, and reads them again.
 fn calls_behind_prefix<K: Kernel>(rt: &impl Testing, kernel: KernelCase) {
     let mut full = [0; 100];
     let filled = encode_full_to_slice_with::<K>(BYTES, true, true, &mut full);
     same!(rt, "encode_full_to_slice_with", kernel; filled, Ok(()));
-    let text = printed(rt.alloc(), BYTES, true, true).expect(rt, "memory");
+    let text = print(rt.alloc(), BYTES, true, true).expect(rt, "memory");
     same_bytes!(rt, "encode_full_to_slice_with", kernel; full, text);
     let mut back = [0; 49];
     same!(rt, "decode_to_front_with", kernel; decode_to_front_with::<K>(&full, &mut back), Ok(49));
     same_bytes!(rt, "decode_to_front_with", kernel; back, BYTES);
 }
 
-/// Each of these bad bytes at each place of texts of up to 130 bytes.
+/// Each of these invalid bytes at each index of texts of up to 130 bytes.
 #[derive(Drop)]
-pub(crate) struct Places<'a>(pub(crate) &'a [u8]);
+pub(crate) struct EachIndex<'a>(pub(crate) &'a [u8]);
 
-impl KernelTest for Places<'_> {
+impl KernelTest for EachIndex<'_> {
     fn run<K: Kernel>(&self, rt: &impl Testing, kernel: KernelCase) {
         for half in 0..=65usize {
-            let mut body = digits(rt.alloc(), 2 * half).expect(rt, "memory");
+            let mut body = make_digits(rt.alloc(), 2 * half).expect(rt, "memory");
             let bytes = read(rt.alloc(), &body).expect(rt, "memory");
-            for place in 0..body.len() {
-                let digit = body[place];
+            for index in 0..body.len() {
+                let digit = body[index];
                 for byte in self.0 {
-                    body[place] = *byte;
+                    body[index] = *byte;
                     for prefix in PREFIXES {
-                        let row = (prefix, body.as_slice(), place);
-                        prefixed_or_refused::<K>(rt, kernel, row, &bytes);
+                        let row = (prefix, body.as_slice(), index);
+                        is_prefix_or_invalid::<K>(rt, kernel, row, &bytes);
                     }
                 }
-                body[place] = digit;
+                body[index] = digit;
             }
         }
     }
 }
 
-/// If the prefix is empty, a letter x at the second place makes one. Any other byte that is tried is
-/// bad.
-fn prefixed_or_refused<K: Kernel>(
+/// If the prefix is empty, a letter x at the second index makes one. Any other byte that is tried is
+/// invalid.
+fn is_prefix_or_invalid<K: Kernel>(
     rt: &impl Testing,
     kernel: KernelCase,
-    (prefix, body, place): (&str, &[u8], usize),
+    (prefix, body, index): (&str, &[u8], usize),
     bytes: &[u8],
 ) {
     if prefix.is_empty() && (body.starts_with(b"0x") || body.starts_with(b"0X")) {
         let bytes = read(rt.alloc(), body.get(2..).unwrap_or(&[])).expect(rt, "memory");
-        return answers::<K>(rt, kernel, body, Ok(&bytes), &bytes);
+        return returns::<K>(rt, kernel, body, Ok(&bytes), &bytes);
     }
-    refuses::<K>(rt, kernel, (prefix, body, place), bytes)
+    rejects::<K>(rt, kernel, (prefix, body, index), bytes)
 }
 
-/// Each byte at each place of a body of letters. The bad bytes are next to a range of digits, or
+/// Each byte at each index of a body of letters. The invalid bytes are next to a range of digits, or
 /// differ from a digit in one bit.
 #[derive(Drop)]
 pub(crate) struct Letters;
@@ -183,18 +186,18 @@ pub(crate) struct Letters;
 impl KernelTest for Letters {
     fn run<K: Kernel>(&self, rt: &impl Testing, kernel: KernelCase) {
         let mut body = [b'a'; 64];
-        for place in 0..64 {
+        for index in 0..64 {
             for byte in 0..=255u8 {
-                body[place] = byte;
+                body[index] = byte;
                 let is_digit = char::from(byte).to_digit(16).is_some();
-                same!(rt, "check", (kernel, byte, place); K::check(&body), is_digit);
+                same!(rt, "check", (kernel, byte, index); K::check(&body), is_digit);
             }
             for byte in [0x10, 0x2F, 0x3A, 0x40, 0x47, 0x60, 0x67, 0xC1, 0xE1] {
-                body[place] = byte;
-                refuses::<K>(rt, kernel, ("", &body, place), &[0xAA; 32]);
-                same!(rt, "check_raw", (byte, place); check_raw(&body), false);
+                body[index] = byte;
+                rejects::<K>(rt, kernel, ("", &body, index), &[0xAA; 32]);
+                same!(rt, "check_raw", (byte, index); check_raw(&body), false);
             }
-            body[place] = b'a';
+            body[index] = b'a';
         }
     }
 }

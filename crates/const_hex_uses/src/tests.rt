@@ -1,0 +1,146 @@
+//! One call of each function. Its contract says the rest.
+
+use crate::constants::{transfer, wrapped_ether};
+use crate::files::{write_line, write_text};
+use crate::json_rpc::{code_of, code_request, reason};
+use crate::own_kernel::{decoded, encoded, write_pieces};
+use crate::readers::{is_same_account, read_both, read_salt, read_shared, replace_key};
+use crate::sinks::{packets, send_json};
+use crate::store::{find, put};
+use crate::streams::decode_typed;
+use crate::writers::{address_text, array_text, joined_text};
+use const_hex::{FromHex, FromHexError, JsonError, PieceSink, SliceOutput};
+use const_hex_vectors::texts::invalid;
+use const_hex_vectors::{Testing, Text, same, same_bytes, same_read};
+use serde_json::json;
+use std::alloc::AllocError;
+use std::boxed::BoxedSlice;
+use std::collections::HashMap;
+use std::fmt::Debug;
+use std::rc::Rc;
+
+#[test]
+fn texts(rt: HostRuntime) {
+    let (alloc, address) = (rt.alloc(), "0xabababababababababababababababababababab");
+    same!(&rt; address_text(&[0xAB; 20]).as_str(), address);
+    gives(&rt, "array_text", array_text(alloc, b"kiwi"), "0x6b697769");
+    let text = joined_text(alloc, b"ki", b"wi");
+    gives(&rt, "joined_text", text, "6b697769");
+    gives(&rt, "encoded", encoded(alloc, b"kiwi"), "6b697769");
+    let bytes = decoded(alloc, b"0x6B697769");
+    same_read!(&rt, "decoded", "0x6B697769"; bytes, Ok(b"kiwi"));
+    let mut text = [0; 8];
+    write_pieces(b"kiwi", &mut SliceOutput::new(&mut text));
+    same_bytes!(&rt, "write_pieces", "kiwi"; text, "6b697769");
+}
+
+/// A call made this text.
+fn gives(rt: &impl Testing, call: &str, text: Result<String, AllocError>, want: &str) {
+    same_bytes!(rt, call, want; text.expect(rt, "memory"), want);
+}
+
+const LOWER: &[u8] = b"ff80";
+
+const UPPER: &[u8] = b"0XFF80";
+
+/// The two texts are read as the same value of a type.
+fn agree<T>(rt: &impl Testing, name: &str)
+where
+    T: FromHex + Debug + PartialEq + Drop,
+    T::Error: Debug + Drop,
+{
+    let (one, two) = read_both::<T>(rt.alloc(), LOWER, UPPER).expect(rt, name);
+    same!(rt, "read_both", name; one, two);
+}
+
+#[test]
+fn two_texts(rt: HostRuntime) {
+    agree::<Vec<u8>>(&rt, "Vec<u8>");
+    agree::<Vec<i8>>(&rt, "Vec<i8>");
+    agree::<BoxedSlice<u8>>(&rt, "BoxedSlice<u8>");
+    agree::<BoxedSlice<i8>>(&rt, "BoxedSlice<i8>");
+    agree::<[u8; 2]>(&rt, "[u8; 2]");
+    agree::<[i8; 2]>(&rt, "[i8; 2]");
+    agree::<Box<[u8; 2]>>(&rt, "Box<[u8; 2]>");
+    let (one, two) = read_both::<Rc<Vec<u8>>>(rt.alloc(), LOWER, b"ff81").expect(&rt, "two lists");
+    assert!(rt; *one != *two);
+    let shared = read_shared(rt.alloc(), UPPER).expect(&rt, "a list");
+    same_bytes!(&rt, "read_shared", Text(UPPER); shared.as_slice(), [0xFF, 0x80]);
+    for (digit, want) in [(b'A', true), (b'b', false)] {
+        let is_same = is_same_account(rt.alloc(), &[b'a'; 40], &[digit; 40]);
+        same!(&rt, "is_same_account", digit; is_same, Ok(want));
+    }
+}
+
+#[test]
+fn keys_salts_and_typed_texts(rt: HostRuntime) {
+    let mut key = [0xEE; 32];
+    same!(&rt; replace_key(&mut key, b"6b6"), Err(FromHexError::OddLength));
+    same_bytes!(&rt, "the key", "6b6"; key, [0xEE; 32]);
+    same!(&rt; replace_key(&mut key, &[b'a'; 64]), Ok(()));
+    same_bytes!(&rt, "the key", "64 letters"; key, [0xAA; 32]);
+    let mut salt = [0; 64];
+    same!(&rt; read_salt(b"0x6b69", &mut salt), Ok(2));
+    same!(&rt; read_salt(&[b'a'; 131], &mut salt), Err(FromHexError::OddLength));
+    let rows: [(&[u8], Result<usize, FromHexError>); 4] = [
+        (b"0x6b69", Ok(2)),
+        (b"0x6b6", Err(FromHexError::OddLength)),
+        (b"0x6bz", Err(invalid(b'z', 4))),
+        (b"zzzzzz", Err(FromHexError::InvalidStringLength)),
+    ];
+    for (text, want) in rows {
+        same!(&rt, "decode_typed", Text(text); decode_typed(text, &mut [0; 2]), want);
+    }
+}
+
+#[test]
+fn stored_numbers(rt: HostRuntime) {
+    let alloc = rt.alloc();
+    let mut store = HashMap::new(alloc);
+    same!(&rt; put(alloc, &mut store, b"0x6B69", 7), Ok(()));
+    same!(&rt; find(alloc, &store, b"6b69"), Ok(Some(7)));
+    same!(&rt; find(alloc, &store, b"6b6a"), Ok(None));
+}
+
+#[test]
+fn files_and_sinks(rt: HostRuntime) {
+    let mut file = Vec::new(rt.alloc());
+    assert!(rt; write_line(b"", &mut file).is_ok());
+    assert!(rt; write_text(b"kiwi", &mut file).is_ok());
+    same_bytes!(&rt, "write_line, write_text", "kiwi"; file, "0x\n0x6b697769");
+    let mut sink = PieceSink::new(rt.alloc(), 0);
+    send_json(b"kiwi", &mut sink).expect(&rt, "send_json");
+    same!(&rt, "send_json", "kiwi"; sink.pieces().len(), 1);
+    let sink = packets(rt.alloc(), &[0xAB; 5000]).expect(&rt, "packets");
+    same!(&rt, "packets", 5000; sink.pieces().len(), 3);
+}
+
+#[test]
+fn constants(rt: HostRuntime) {
+    let ether = [
+        0xC0, 0x2A, 0xAA, 0x39, 0xB2, 0x23, 0xFE, 0x8D, 0x0A, 0x0E, 0x5C, 0x4F, 0x27, 0xEA, 0xD9,
+        0x08, 0x3C, 0x75, 0x6C, 0xC2,
+    ];
+    let topic = [
+        0xDD, 0xF2, 0x52, 0xAD, 0x1B, 0xE2, 0xC8, 0x9B, 0x69, 0xC2, 0xB0, 0x68, 0xFC, 0x37, 0x8D,
+        0xAA, 0x95, 0x2B, 0xA7, 0xF1, 0x63, 0xC4, 0xA1, 0x16, 0x28, 0xF5, 0x5A, 0x4D, 0xF5, 0x23,
+        0xB3, 0xEF,
+    ];
+    same!(&rt; wrapped_ether(), ether);
+    same!(&rt; transfer(), topic);
+}
+
+#[test]
+fn requests_and_responses(rt: HostRuntime) {
+    let request = code_request(rt.alloc(), &[0xab; 20]).expect(&rt, "memory");
+    let text = "{\"id\":1,\"jsonrpc\":\"2.0\",\"method\":\"eth_getCode\",\
+        \"params\":[\"0xabababababababababababababababababababab\",\"latest\"]}";
+    gives(&rt, "code_request", request.to_string(rt.alloc()), text);
+    let response = json!(in rt.alloc(); {"id": 1, "result": "0x6001"}).expect(&rt, "memory");
+    let code = code_of(rt.alloc(), &response).expect(&rt, "code_of");
+    same_bytes!(&rt, "code_of", "0x6001"; code, b"\x60\x01");
+    let response = json!(in rt.alloc(); {"id": 1}).expect(&rt, "memory");
+    same!(&rt; code_of(rt.alloc(), &response).err(), Some(JsonError::NotText));
+    let message = reason(rt.alloc(), &JsonError::NotText);
+    gives(&rt, "reason", message, "expected a hex encoded string");
+}

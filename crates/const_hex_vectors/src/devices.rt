@@ -1,0 +1,112 @@
+//! Readers and writers that count their calls, and fail at some.
+
+use std::alloc::Global;
+use std::io::{self, ErrorKind, Read, Write};
+
+/// Returns one byte per call. One call fails, and later calls succeed.
+#[derive(Drop)]
+pub struct Source<'a> {
+    rest: &'a [u8],
+    fail_at: usize,
+    kind: ErrorKind,
+    pub reads: usize,
+}
+
+impl<'a> Source<'a> {
+    /// Returns these bytes. The read of that number, counted from 1, fails.
+    pub fn new(rest: &'a [u8], fail_at: usize, kind: ErrorKind) -> Source<'a> {
+        Source {
+            rest,
+            fail_at,
+            kind,
+            reads: 0,
+        }
+    }
+}
+
+impl Read for Source<'_> {
+    fn read(&mut self, buf: &mut [u8]) -> io::Result<usize> {
+        self.reads = self.reads.saturating_add(1);
+        if self.reads == self.fail_at {
+            return Err(io::Error::from(self.kind));
+        }
+        if self.rest.is_empty() || buf.is_empty() {
+            return Ok(0);
+        }
+        buf[0] = self.rest[0];
+        self.rest = &self.rest[1..];
+        Ok(1)
+    }
+}
+
+/// Returns up to 4096 digits `0` per call, without an end.
+#[derive(Drop)]
+pub struct Endless;
+
+impl Read for Endless {
+    fn read(&mut self, buf: &mut [u8]) -> io::Result<usize> {
+        let count = buf.len().min(4096);
+        buf[..count].fill(b'0');
+        Ok(count)
+    }
+}
+
+/// What goes wrong with a [`Target`]. The other calls succeed.
+#[derive(Clone, Copy, Debug)]
+pub enum Fault {
+    Nothing,
+    /// The writes from the first number to the second fail. Numbers begin at 1.
+    Writes(usize, usize, ErrorKind),
+    /// The write of that number accepts no bytes.
+    Full(usize),
+    /// The first flush fails.
+    Flush(ErrorKind),
+}
+
+/// Keeps what it takes: at most `most` bytes per call.
+#[derive(Drop)]
+pub struct Target {
+    pub taken: Vec<u8>,
+    most: usize,
+    fault: Fault,
+    pub writes: usize,
+    pub flushes: usize,
+}
+
+impl Target {
+    /// Keeps at most `most` bytes per call. The fault says which calls fail.
+    pub fn new(alloc: Global, most: usize, fault: Fault) -> Target {
+        Target {
+            taken: Vec::new(alloc),
+            most,
+            fault,
+            writes: 0,
+            flushes: 0,
+        }
+    }
+}
+
+impl Write for Target {
+    fn write(&mut self, buf: &[u8]) -> io::Result<usize> {
+        self.writes = self.writes.saturating_add(1);
+        match self.fault {
+            Fault::Writes(first, last, kind) if first <= self.writes && self.writes <= last => {
+                Err(io::Error::from(kind))
+            }
+            Fault::Full(call) if call == self.writes => Ok(0),
+            _ => {
+                let count = buf.len().min(self.most);
+                self.taken.extend_from_slice(&buf[..count])?;
+                Ok(count)
+            }
+        }
+    }
+
+    fn flush(&mut self) -> io::Result<()> {
+        self.flushes = self.flushes.saturating_add(1);
+        match self.fault {
+            Fault::Flush(kind) if self.flushes == 1 => Err(io::Error::from(kind)),
+            _ => Ok(()),
+        }
+    }
+}

@@ -1,0 +1,165 @@
+//! What a row of a test compares, and how a row that fails is printed.
+
+use std::convert::AsSlice;
+use std::fmt::Debug;
+use std::process::Abort;
+use std::{ascii, fmt};
+
+/// Ends the test if a call did not return what is wanted. Prints the call, its row and both results.
+/// With no call and no row, it prints the expression that has the result.
+#[macro_export]
+macro_rules! same {
+    ($rt:expr; $result:expr, $want:expr) => {
+        $crate::compare((), $result, $want).expect($rt, stringify!($result))
+    };
+    ($rt:expr, $call:expr, $row:expr; $result:expr, $want:expr) => {
+        $crate::compare($row, $result, $want).expect($rt, $call)
+    };
+}
+
+/// As `same`, for what lends bytes, from a little before the first byte that differs.
+#[macro_export]
+macro_rules! same_bytes {
+    ($rt:expr, $call:expr, $row:expr; $bytes:expr, $want:expr) => {
+        $crate::compare_bytes(
+            $row,
+            std::convert::AsSlice::as_slice(&$bytes),
+            std::convert::AsSlice::as_slice(&$want),
+        )
+        .expect($rt, $call)
+    };
+}
+
+/// As `same_bytes`, for what may be an error.
+#[macro_export]
+macro_rules! same_read {
+    ($rt:expr, $call:expr, $row:expr; $read:expr, $want:expr) => {
+        $crate::compare_read($row, $read, $want).expect($rt, $call)
+    };
+}
+
+/// What a test is given: it can end the process, and allocate.
+pub trait Testing: Abort + AllocGlobal {}
+
+impl<R: Abort + AllocGlobal> Testing for R {}
+
+/// A row whose call did not return what is wanted.
+#[derive(Drop)]
+pub struct Difference<R, A> {
+    row: R,
+    found: A,
+    want: A,
+}
+
+impl<R: Debug, A: Debug> Debug for Difference<R, A> {
+    fn fmt<W: fmt::Write>(&self, f: &mut fmt::Formatter<W>) -> fmt::Result {
+        let Difference { row, found, want } = self;
+        write!(f, "at {row:?}: {found:?}, but wanted {want:?}")
+    }
+}
+
+/// What `same` compares.
+pub fn compare<R, A>(row: R, found: A, want: A) -> Result<(), Difference<R, A>>
+where
+    R: Drop,
+    A: PartialEq + Drop,
+{
+    if found == want {
+        return Ok(());
+    }
+    Err(Difference { row, found, want })
+}
+
+/// What `same_bytes` compares.
+pub fn compare_bytes<R: Drop>(
+    row: R,
+    bytes: &[u8],
+    want: &[u8],
+) -> Result<(), Difference<R, Part>> {
+    let [bytes, want] = differing_parts(bytes, want);
+    compare(row, bytes, want)
+}
+
+/// What `same_read` compares.
+pub fn compare_read<R, B, E>(
+    row: R,
+    read: Result<B, E>,
+    want: Result<&[u8], E>,
+) -> Result<(), Difference<R, Result<Part, E>>>
+where
+    R: Drop,
+    B: AsSlice<u8> + Drop,
+    E: PartialEq + Drop,
+{
+    match (read, want) {
+        (Ok(bytes), Ok(want)) => {
+            let [bytes, want] = differing_parts(bytes.as_slice(), want);
+            compare(row, Ok(bytes), Ok(want))
+        }
+        (Ok(bytes), Err(error)) => compare(row, Ok(Part::new(bytes.as_slice(), 0)), Err(error)),
+        (Err(error), Ok(want)) => compare(row, Err(error), Ok(Part::new(want, 0))),
+        (Err(error), Err(want)) => compare(row, Err(error), Err(want)),
+    }
+}
+
+/// Bytes that print as a text: at most the first 64, and how many there are if there are more.
+#[derive(Clone, Copy, PartialEq, Eq)]
+pub struct Text<'a>(pub &'a [u8]);
+
+impl Debug for Text<'_> {
+    fn fmt<W: fmt::Write>(&self, f: &mut fmt::Formatter<W>) -> fmt::Result {
+        Part::new(self.0, 0).fmt(f)
+    }
+}
+
+/// At most 64 bytes of a text, from an index on, and how many bytes the text has from there on.
+#[derive(Clone, Copy, PartialEq, Eq)]
+pub struct Part {
+    index: usize,
+    bytes: [u8; 64],
+    length: usize,
+}
+
+impl Part {
+    /// The bytes from that index on.
+    pub fn new(text: &[u8], index: usize) -> Part {
+        let rest = text.get(index..).unwrap_or(&[]);
+        let mut bytes = [0; 64];
+        let count = rest.len().min(64);
+        bytes[..count].copy_from_slice(&rest[..count]);
+        Part {
+            index,
+            bytes,
+            length: rest.len(),
+        }
+    }
+}
+
+impl Debug for Part {
+    fn fmt<W: fmt::Write>(&self, f: &mut fmt::Formatter<W>) -> fmt::Result {
+        if self.index > 0 {
+            write!(f, "[{}..] ", self.index)?;
+        }
+        f.write_str("\"")?;
+        for byte in &self.bytes[..self.length.min(64)] {
+            write!(f, "{}", ascii::escape_default(*byte))?;
+        }
+        if self.length > 64 {
+            write!(f, "..\" of {} bytes", self.length)
+        } else {
+            f.write_str("\"")
+        }
+    }
+}
+
+/// Parts of two texts, from a little before the first byte that differs. They are equal if the texts are.
+pub fn differing_parts(bytes: &[u8], want: &[u8]) -> [Part; 2] {
+    // The comparison at once is the quick one.
+    let differs = match bytes == want {
+        true => None,
+        false => bytes.iter().zip(want).position(|(byte, want)| byte != want),
+    };
+    let index = differs.unwrap_or(bytes.len().min(want.len()));
+    let start = index.saturating_sub(8);
+    [Part::new(bytes, start), Part::new(want, start)]
+}

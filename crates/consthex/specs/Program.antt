@@ -1,0 +1,106 @@
+-- The program: its modes, what it returns for an input, and its errors.
+use Rattle.std.specs.Prelude.{ℕ, List, codes, ◌≡◌, ⊤, ◌<◌, ◌≤◌, true, false, [], ◌∷◌, ◌++◌, length, Result, Ok, Err, Option, Some, if◌then◌else◌}
+use Rattle.consthex.specs.declared.mode.Mode.{Mode}
+use Rattle.consthex.specs.declared.mode.Mode.TheVariants.{Encode, EncodeUpper, EncodePrefixed, EncodeUpperPrefixed, Decode, Check}
+use Rattle.std.specs.Io.BufRead.{strip_last}
+use Rattle.const_hex.specs.Texts.{full_text}
+use Rattle.const_hex.specs.Results.{IsEven, Reads, Checks, message_of}
+use Rattle.const_hex.specs.declared.error.FromHexError.{FromHexError}
+use Rattle.consthex.specs.declared.error.RunError.{RunError}
+use Rattle.consthex.specs.declared.error.RunError.TheVariants.{Text, ReadFailed, WriteFailed, TooLong, NoMemory}
+use Rattle.std.specs.Io.KnownBytes.{Consumes, IsAtEnd}
+use Rattle.const_hex.specs.Types.{is_no_memory}
+
+-- ---- the word of each mode
+
+-- the argument that names a mode
+abbrev pub word_of : Mode → List ℕ
+word_of Encode = codes "encode"
+word_of EncodeUpper = codes "encode-upper"
+word_of EncodePrefixed = codes "encode-prefixed"
+word_of EncodeUpperPrefixed = codes "encode-upper-prefixed"
+word_of Decode = codes "decode"
+word_of Check = codes "check"
+
+-- ---- what the program returns for an input
+
+-- the most bytes that an input may have
+abbrev pub limit : ℕ
+limit = 1048576
+
+-- one newline
+abbrev pub newline : List ℕ
+newline = 10 ∷ []
+
+-- a text without one newline at its end
+abbrev pub without_newline : List ℕ → List ℕ
+without_newline x = strip_last 10 x
+
+-- the mode makes the bytes bs of the input x
+abbrev pub Makes : Mode → List ℕ → List ℕ → Type 0
+Makes Encode x bs = bs ≡ full_text false false x ++ newline
+Makes EncodeUpper x bs = bs ≡ full_text false true x ++ newline
+Makes EncodePrefixed x bs = bs ≡ full_text true false x ++ newline
+Makes EncodeUpperPrefixed x bs = bs ≡ full_text true true x ++ newline
+Makes Decode x bs = Reads (without_newline x) (Ok bs)
+Makes Check x bs = Checks (without_newline x) (Ok tt) × (bs ≡ codes "ok" ++ newline)
+
+-- the mode ends with this error for the text in the input x
+abbrev pub Fails : Mode → List ℕ → FromHexError → Type 0
+Fails Encode x e = ⊥
+Fails EncodeUpper x e = ⊥
+Fails EncodePrefixed x e = ⊥
+Fails EncodeUpperPrefixed x e = ⊥
+Fails Decode x e = Reads (without_newline x) (Err e)
+Fails Check x e = Checks (without_newline x) (Err e)
+
+-- the one result of the mode for the input x
+abbrev pub Answer : Mode → List ℕ → Result (List ℕ) RunError → Type 0
+Answer m x (Ok bs) = (length x ≤ limit) × Makes m x bs
+Answer m x (Err (Text e)) = (length x ≤ limit) × Fails m x e
+Answer m x (Err TooLong) = limit < length x
+Answer m x (Err ReadFailed) = ⊥
+Answer m x (Err WriteFailed) = ⊥
+Answer m x (Err NoMemory) = ⊥
+
+-- the mode allocates for the input x: to decode, only if the length is even, and to check, only
+-- if the text is accepted
+abbrev pub TakesMemory : Mode → List ℕ → Type 0
+TakesMemory Encode x = ⊤
+TakesMemory EncodeUpper x = ⊤
+TakesMemory EncodePrefixed x = ⊤
+TakesMemory EncodeUpperPrefixed x = ⊤
+TakesMemory Decode x = IsEven (length (without_newline x))
+TakesMemory Check x = Checks (without_newline x) (Ok tt)
+
+-- ---- what a run reads and writes
+
+-- x is all that the reader had
+abbrev pub ReadsAll : Option (List ℕ) → Option (List ℕ) → List ℕ → Type 0
+ReadsAll had left x = Consumes had left x × IsAtEnd left
+
+-- all that the reader had was read, and r is the mode's result for it
+abbrev pub Answers : Mode → Option (List ℕ) → Option (List ℕ) → Result (List ℕ) RunError → Type 0
+Answers m had left r = (x : List ℕ) × ReadsAll had left x × Answer m x r
+
+-- ---- the line and the exit status of an error
+
+-- the line that is printed, if the contract of its error says so
+abbrev pub line_of : RunError → Option (List ℕ)
+line_of (Text e) = message_of e
+line_of ReadFailed = Some (codes "read failed")
+line_of WriteFailed = Some (codes "write failed")
+line_of TooLong = Some (codes "input too long")
+line_of NoMemory = Some (codes "out of memory")
+
+-- the exit status of the program
+abbrev pub status_of : RunError → ℕ
+status_of (Text e) = 1
+status_of ReadFailed = 3
+status_of WriteFailed = 3
+status_of TooLong = 3
+status_of NoMemory = 4
+
+-- the error of the program for an error of a call
+abbrev pub run_error_of : FromHexError → RunError
+run_error_of e = if is_no_memory e then NoMemory else Text e

@@ -1,0 +1,241 @@
+//! The whole program, from its arguments to its exit status and its line on standard error.
+
+use crate::mode::{Mode, USAGE, mode_of};
+use crate::process::program;
+use const_hex_vectors::{Endless, Fault, Source, Target, Testing, Text, same, same_bytes};
+use std::cell::Cell;
+use std::env::{Env, FillError};
+use std::fmt::{self, Debug, Display};
+use std::io::{self, Eprint, ErrorKind, Read, Write};
+use std::process::ExitCode;
+
+/// The arguments of a program, beginning with its name, and its standard error: the first 128 bytes
+/// that were printed, and how many were printed.
+#[derive(Drop)]
+struct Host<'a> {
+    arguments: &'a [&'a [u8]],
+    printed: Cell<([u8; 128], usize)>,
+    can_print: bool,
+}
+
+impl<'a> Host<'a> {
+    fn new(arguments: &'a [&'a [u8]], can_print: bool) -> Host<'a> {
+        Host {
+            arguments,
+            printed: Cell::new(([0; 128], 0)),
+            can_print,
+        }
+    }
+}
+
+impl Env for Host<'_> {
+    fn arg(&self, i: usize, buf: &mut [u8]) -> Result<usize, FillError> {
+        if i >= self.arguments.len() {
+            return Err(FillError::NotPresent);
+        }
+        let word = self.arguments[i];
+        if word.len() > buf.len() {
+            return Err(FillError::TooLong);
+        }
+        buf[..word.len()].copy_from_slice(word);
+        Ok(word.len())
+    }
+
+    fn var(&self, _name: &str, _buf: &mut [u8]) -> Result<usize, FillError> {
+        Err(FillError::NotPresent)
+    }
+
+    fn var_at(&self, _i: usize, _buf: &mut [u8]) -> Result<usize, FillError> {
+        Err(FillError::NotPresent)
+    }
+}
+
+impl Eprint for Host<'_> {
+    fn eprint<D: Display + Drop>(&self, value: D) -> io::Result<()> {
+        let (mut bytes, count) = self.printed.get();
+        let mut room = &mut bytes[count.min(128)..];
+        let _ = write!(room, "{value}");
+        let left = room.len();
+        self.printed.set((bytes, 128usize.saturating_sub(left)));
+        if self.can_print {
+            return Ok(());
+        }
+        Err(io::Error::from(ErrorKind::BrokenPipe))
+    }
+
+    fn eprintln<D: Display + Drop>(&self, value: D) -> io::Result<()> {
+        let _ = self.eprint(value);
+        self.eprint("\n")
+    }
+}
+
+const LONG_NAME: &[u8] = &[0xFF; 5000];
+
+const LONG_WORD: &[u8] = &[b'e'; 5000];
+
+const DECODE: &[&[u8]] = &[b"consthex", b"decode"];
+
+const ENCODE: &[&[u8]] = &[b"consthex", b"encode"];
+
+const ENCODE_UPPER_PREFIXED: &[&[u8]] = &[b"consthex", b"encode-upper-prefixed"];
+
+/// Arguments that print as texts.
+#[derive(Drop)]
+struct Shown<'a>(&'a [&'a [u8]]);
+
+impl Debug for Shown<'_> {
+    fn fmt<W: fmt::Write>(&self, f: &mut fmt::Formatter<W>) -> fmt::Result {
+        for word in self.0 {
+            write!(f, "{:?} ", Text(word))?;
+        }
+        Ok(())
+    }
+}
+
+/// The program on that host ends with that status, and prints that line.
+fn ends<R: Read>(
+    rt: &impl Testing,
+    host: Host<'_>,
+    input: &mut R,
+    output: &mut Target,
+    (status, line): (u8, &str),
+) {
+    let code = program(&(&host, rt.alloc()), input, output);
+    same!(rt, "program", Shown(host.arguments); code, ExitCode::from(status));
+    let (bytes, count) = host.printed.get();
+    let printed = &bytes[..count.min(128)];
+    let line = (status != 0).then_some(Text(line.as_bytes()));
+    let shown = printed.strip_suffix(b"\n").map(|line| Text(line));
+    same!(rt, "standard error", Shown(host.arguments); shown, line);
+    same!(rt, "standard error", Shown(host.arguments); printed.is_empty(), (status == 0));
+}
+
+// The name of the program does not matter.
+#[test]
+fn words_that_name_a_mode(rt: HostRuntime) {
+    let rows: [(&[&[u8]], &[u8], &[u8]); 10] = [
+        (&[b"consthex", b"encode"], b"kiwi", b"6b697769\n"),
+        (&[b"\xff\xfe/consthex", b"encode"], b"kiwi", b"6b697769\n"),
+        (&[b"", b"encode"], b"kiwi", b"6b697769\n"),
+        (&[LONG_NAME, b"encode"], b"kiwi", b"6b697769\n"),
+        (&[b"check", b"encode"], b"kiwi", b"6b697769\n"),
+        (&[b"consthex", b"encode-upper"], b"kiwi", b"6B697769\n"),
+        (&[b"consthex", b"encode-prefixed"], b"kiwi", b"0x6b697769\n"),
+        (ENCODE_UPPER_PREFIXED, b"kiwi", b"0x6B697769\n"),
+        (&[b"consthex", b"decode"], b"6b697769\n", b"kiwi"),
+        (&[b"consthex", b"check"], b"6b697769\n", b"ok\n"),
+    ];
+    for (arguments, input, answer) in rows {
+        let (mut input, mut output) = (input, Target::new(rt.alloc(), 1, Fault::Nothing));
+        ends(
+            &rt,
+            Host::new(arguments, true),
+            &mut input,
+            &mut output,
+            (0, ""),
+        );
+        same_bytes!(&rt, "program", Shown(arguments); output.taken, answer);
+    }
+}
+
+// The program reads and writes nothing. It makes no difference if standard error fails.
+#[test]
+fn words_that_name_none(rt: HostRuntime) {
+    let rows: [(&[&[u8]], bool); 14] = [
+        (&[], true),
+        (&[b"consthex"], true),
+        (&[b"encode"], false),
+        (&[b"consthex", b""], true),
+        (&[b"consthex", b"encode\0"], false),
+        (&[b"consthex", b"encode", b""], true),
+        (&[b"consthex", b"encode", b"encode"], true),
+        (&[b"consthex", b"encode", b"\xff"], true),
+        (&[b"consthex", b"encode", LONG_WORD], false),
+        (&[b"consthex", b"encode", b"", b""], true),
+        (&[b"consthex", b"", b"encode"], false),
+        (&[b"consthex", b"\xff"], true),
+        (&[b"consthex", b"encode\xff"], true),
+        (&[b"consthex", LONG_WORD], true),
+    ];
+    for (arguments, can_print) in rows {
+        let mut input = b"kiwi".as_slice();
+        let mut output = Target::new(rt.alloc(), 1, Fault::Nothing);
+        let host = Host::new(arguments, can_print);
+        ends(&rt, host, &mut input, &mut output, (2, USAGE));
+        same_bytes!(&rt, "what is left to read", Shown(arguments); input, "kiwi");
+        same!(&rt, "writes, flushes", Shown(arguments); (output.writes, output.flushes), (0, 0));
+    }
+}
+
+// A text that is refused, a failed read, and too long an input.
+#[test]
+fn statuses_and_lines(rt: HostRuntime) {
+    let mut output = Target::new(rt.alloc(), 1, Fault::Nothing);
+    let (host, line) = (Host::new(DECODE, false), (1, "odd number of digits"));
+    ends(&rt, host, &mut b"0x1\n".as_slice(), &mut output, line);
+    let (host, line) = (Host::new(ENCODE, true), (3, "read failed"));
+    let mut failing = Source::new(b"kiwi", 2, ErrorKind::Interrupted);
+    ends(&rt, host, &mut failing, &mut output, line);
+    let (host, line) = (Host::new(ENCODE, true), (3, "input too long"));
+    ends(&rt, host, &mut Endless, &mut output, line);
+    same!(&rt; (output.writes, output.flushes), (0, 0));
+}
+
+// The reader of the output goes away: at a write, or only at the flush.
+#[test]
+fn statuses_of_failed_writes(rt: HostRuntime) {
+    let kind = ErrorKind::BrokenPipe;
+    for fault in [
+        Fault::Writes(1, 1, kind),
+        Fault::Writes(2, 2, kind),
+        Fault::Full(2),
+        Fault::Flush(kind),
+    ] {
+        let (host, line) = (Host::new(ENCODE, true), (3, "write failed"));
+        let mut output = Target::new(rt.alloc(), 1, fault);
+        ends(&rt, host, &mut b"kiwi".as_slice(), &mut output, line);
+    }
+}
+
+#[test]
+fn six_words_name_a_mode(rt: HostRuntime) {
+    let rows = [
+        ("encode", Mode::Encode),
+        ("encode-upper", Mode::EncodeUpper),
+        ("encode-prefixed", Mode::EncodePrefixed),
+        ("encode-upper-prefixed", Mode::EncodeUpperPrefixed),
+        ("decode", Mode::Decode),
+        ("check", Mode::Check),
+    ];
+    for (word, mode) in rows {
+        name(&rt, &[word], Some(mode));
+        name(&rt, &[word, word], None);
+    }
+}
+
+#[test]
+fn other_words_name_none(rt: HostRuntime) {
+    for word in "|ENCODE|Decode|encode |encodes|--check|upper".split('|') {
+        name(&rt, &[word], None);
+    }
+    name(&rt, &[], None);
+    name(&rt, &["encode", "-upper"], None)
+}
+
+/// These arguments name that mode, or none.
+fn name(rt: &impl Testing, arguments: &[&str], mode: Option<Mode>) {
+    let mut strings = Vec::new(rt.alloc());
+    for word in arguments {
+        strings
+            .push(word.to_string(rt.alloc()).expect(rt, "memory"))
+            .expect(rt, "memory");
+    }
+    same!(rt, "mode_of", arguments; mode_of(&strings), mode);
+}
+
+#[test]
+fn usage(rt: HostRuntime) {
+    let line =
+        "usage: consthex encode|encode-upper|encode-prefixed|encode-upper-prefixed|decode|check";
+    same!(&rt; USAGE, line);
+}

@@ -1,0 +1,215 @@
+//! Runs of the program: worked inputs, refused texts, the limit, and devices that fail.
+
+use crate::answers::answer;
+use crate::error::RunError;
+use crate::mode::Mode;
+use crate::runs::run;
+use const_hex::FromHexError;
+use const_hex_vectors::{
+    Endless, Fault, Source, Target, Testing, Text, same, same_bytes, same_read,
+};
+use std::alloc::Global;
+use std::io::{self, ErrorKind, Read};
+
+/// A mode, an input, and the answer to it.
+type Answered<'a> = (Mode, &'a [u8], &'a [u8]);
+
+const ANSWERS: [Answered<'_>; 19] = [
+    (Mode::Encode, b"Hello world!", b"48656c6c6f20776f726c6421\n"),
+    (Mode::Encode, b"kiwi", b"6b697769\n"),
+    (Mode::Encode, b"", b"\n"),
+    (Mode::Encode, b"\n", b"0a\n"),
+    (Mode::EncodeUpper, b"kiwi", b"6B697769\n"),
+    (Mode::EncodePrefixed, b"kiwi", b"0x6b697769\n"),
+    (Mode::EncodePrefixed, b"", b"0x\n"),
+    (Mode::EncodeUpperPrefixed, b"kiwi", b"0x6B697769\n"),
+    (Mode::Decode, b"48656c6c6f20776f726c6421\n", b"Hello world!"),
+    (Mode::Decode, b"6b697769\n", b"kiwi"),
+    (Mode::Decode, b"0X6b697769\n", b"kiwi"),
+    (Mode::Decode, b"0X6B697769", b"kiwi"),
+    (Mode::Decode, b"\n", b""),
+    (Mode::Decode, b"", b""),
+    (Mode::Decode, b"0x\n", b""),
+    (Mode::Check, b"0X6B", b"ok\n"),
+    (Mode::Check, b"6b697769\n", b"ok\n"),
+    (Mode::Check, b"6B697769\n", b"ok\n"),
+    (Mode::Check, b"\n", b"ok\n"),
+];
+
+/// What a run with ample memory writes.
+fn written(alloc: Global, mode: Mode, input: &[u8]) -> Result<Vec<u8>, RunError> {
+    let mut input = input;
+    let mut output = Vec::new(alloc);
+    run(alloc, mode, &mut input, &mut output)?;
+    Ok(output)
+}
+
+#[test]
+fn answers_each_mode(rt: HostRuntime) {
+    for (mode, input, want) in ANSWERS {
+        answers(&rt, (mode, input), Ok(want));
+    }
+}
+
+/// A mode answers this to bytes in hand, and so does a run.
+fn answers(rt: &impl Testing, (mode, input): (Mode, &[u8]), want: Result<&[u8], RunError>) {
+    let row = (mode, Text(input));
+    same_read!(rt, "answer", row; answer(rt.alloc(), mode, input), want);
+    same_read!(rt, "run", row; written(rt.alloc(), mode, input), want);
+}
+
+#[test]
+fn names_oddness(rt: HostRuntime) {
+    let rows: [(Mode, &[u8]); 5] = [
+        (Mode::Decode, b"0x1\n"),
+        (Mode::Check, b"0x1\n"),
+        (Mode::Decode, b"6b\n\n"),
+        (Mode::Decode, b"123"),
+        (Mode::Check, b"123\n"),
+    ];
+    for row in rows {
+        refuses(&rt, row, FromHexError::OddLength, "odd number of digits");
+    }
+}
+
+#[test]
+fn names_the_first_bad_byte(rt: HostRuntime) {
+    let rows: [(Mode, &[u8], char, usize, &str); 7] = [
+        (Mode::Decode, b"zz", 'z', 0, "'z' at position 0"),
+        (Mode::Check, b"zz", 'z', 0, "'z' at position 0"),
+        (Mode::Decode, b"0xzz\n", 'z', 2, "'z' at position 2"),
+        (Mode::Check, b"0xzz\n", 'z', 2, "'z' at position 2"),
+        (Mode::Decode, b"6b\r\n6b", '\r', 2, "'\\r' at position 2"),
+        (Mode::Decode, b"6b\n\n\n", '\n', 2, "'\\n' at position 2"),
+        (Mode::Check, b"6b\xff0", '\u{ff}', 2, "'ÿ' at position 2"),
+    ];
+    for (mode, input, c, index, named) in rows {
+        let error = FromHexError::InvalidHexCharacter { c, index };
+        let line = ["invalid character ", named]
+            .concat(rt.alloc())
+            .expect(&rt, "memory");
+        refuses(&rt, (mode, input), error, &line);
+    }
+}
+
+/// An input is refused with that error, which prints that line and has the status 1.
+fn refuses(rt: &impl Testing, row: (Mode, &[u8]), error: FromHexError, line: &str) {
+    answers(rt, row, Err(RunError::Text(error)));
+    prints(rt, RunError::Text(error), 1, line);
+}
+
+/// An error has that status, and prints that line.
+fn prints(rt: &impl Testing, error: RunError, status: u8, line: &str) {
+    same!(rt, "status", error; error.status(), status);
+    let text = error.to_string(rt.alloc()).expect(rt, "memory");
+    same_bytes!(rt, "message", line; text, line);
+}
+
+#[test]
+fn prints_each_error(rt: HostRuntime) {
+    let rows = [
+        (RunError::ReadFailed, 3, "read failed"),
+        (RunError::WriteFailed, 3, "write failed"),
+        (RunError::TooLong, 3, "input too long"),
+        (RunError::NoMemory, 4, "out of memory"),
+    ];
+    for (error, status, line) in rows {
+        prints(&rt, error, status, line);
+    }
+}
+
+// The bytes 0 to 64.
+const TEXT: &str = "000102030405060708090a0b0c0d0e0f101112131415161718191a1b1c1d1e1f\
+                    202122232425262728292a2b2c2d2e2f303132333435363738393a3b3c3d3e3f40";
+
+#[test]
+fn handles_lengths_round_the_lanes(rt: HostRuntime) {
+    // The bytes below `count` are written as the front of `TEXT`, and read from it.
+    for count in [15u8, 16, 17, 31, 32, 33, 47, 48, 49, 63, 64, 65] {
+        let bytes: Vec<u8> = (0..count).collect(rt.alloc()).expect(&rt, "memory");
+        let digits = TEXT.get(..2 * usize::from(count)).unwrap_or("");
+        let text = [digits, "\n"].concat(rt.alloc()).expect(&rt, "memory");
+        answers(&rt, (Mode::Encode, &bytes), Ok(text.as_bytes()));
+        answers(&rt, (Mode::Decode, text.as_bytes()), Ok(&bytes));
+    }
+}
+
+#[test]
+fn accepts_1048576_bytes_and_no_more(rt: HostRuntime) {
+    let mut text = Vec::new(rt.alloc());
+    let mut zeros = io::repeat(0).take(1_048_576);
+    run(rt.alloc(), Mode::Encode, &mut zeros, &mut text).expect(&rt, "run");
+    same!(&rt; text.pop(), Some(b'\n'));
+    same_bytes!(&rt, "run", 1_048_576; text, vec![in rt.alloc(); b'0'; 2_097_152].expect(&rt, "memory"));
+    let mut nothing = Vec::new(rt.alloc());
+    let mut zeros = io::repeat(0).take(1_048_577);
+    let outcome = run(rt.alloc(), Mode::Encode, &mut zeros, &mut nothing);
+    same!(&rt, "run", 1_048_577; outcome, Err(RunError::TooLong));
+    assert!(rt; nothing.is_empty());
+}
+
+const KINDS: [ErrorKind; 2] = [ErrorKind::Interrupted, ErrorKind::Other];
+
+// The tenth call is the one at the end, and the eleventh is not made.
+#[test]
+fn names_a_failed_read(rt: HostRuntime) {
+    for kind in KINDS {
+        for call in 1..=11usize {
+            reads(&rt, kind, call);
+        }
+    }
+}
+
+/// A run whose reader fails at that call.
+fn reads(rt: &impl Testing, kind: ErrorKind, call: usize) {
+    let row = (kind, call);
+    let mut input = Source::new(b"6b697769\n", call, kind);
+    let mut output = Target::new(rt.alloc(), 1, Fault::Nothing);
+    let outcome = run(rt.alloc(), Mode::Decode, &mut input, &mut output);
+    let (want, written, calls) = match call {
+        11 => (Ok(()), "kiwi", (4, 1)),
+        _ => (Err(RunError::ReadFailed), "", (0, 0)),
+    };
+    same!(rt, "run", row; outcome, want);
+    same!(rt, "reads", row; input.reads, call.min(10));
+    same!(rt, "writes, flushes", row; (output.writes, output.flushes), calls);
+    same_bytes!(rt, "what the writer has", row; output.taken, written);
+}
+
+#[test]
+fn stops_an_endless_reader(rt: HostRuntime) {
+    let mut output = Target::new(rt.alloc(), 1, Fault::Nothing);
+    let outcome = run(rt.alloc(), Mode::Encode, &mut Endless, &mut output);
+    same!(&rt, "run", "an endless reader"; outcome, Err(RunError::TooLong));
+    same!(&rt; (output.writes, output.flushes), (0, 0));
+}
+
+// A write that fails or accepts nothing, at each call, and a flush that fails.
+#[test]
+fn names_a_failed_write(rt: HostRuntime) {
+    for row in ANSWERS {
+        writes(&rt, row, Fault::Nothing);
+        for kind in KINDS {
+            writes(&rt, row, Fault::Flush(kind));
+            for call in 1..=row.2.len() {
+                writes(&rt, row, Fault::Full(call));
+                writes(&rt, row, Fault::Writes(call, call, kind));
+            }
+        }
+    }
+}
+
+/// A run with that fault.
+fn writes(rt: &impl Testing, (mode, input, answer): Answered<'_>, fault: Fault) {
+    let (row, failed) = ((mode, Text(input), fault), Err(RunError::WriteFailed));
+    let (outcome, taken, calls) = match fault {
+        Fault::Nothing => (Ok(()), answer.len(), (answer.len(), 1)),
+        Fault::Flush(_) => (failed, answer.len(), (answer.len(), 1)),
+        Fault::Full(at) | Fault::Writes(at, _, _) => (failed, at.saturating_sub(1), (at, 0)),
+    };
+    let (mut input, mut output) = (input, Target::new(rt.alloc(), 1, fault));
+    same!(rt, "run", row; run(rt.alloc(), mode, &mut input, &mut output), outcome);
+    let front = answer.get(..taken).unwrap_or(&[]);
+    same_bytes!(rt, "what the writer has", row; output.taken, front);
+    same!(rt, "writes, flushes", row; (output.writes, output.flushes), calls);
+}
