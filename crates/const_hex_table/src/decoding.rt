@@ -12,7 +12,7 @@ use std::boxed::BoxedSlice;
 use std::convert::AsSlice;
 use std::rc::Rc;
 
-/// Asks a line by that method whether these calls give its answer.
+/// Asks a line by that method whether these calls give its result.
 macro_rules! each {
     ($line:ident.$method:ident: $($call:expr),+ $(,)?) => {
         $($line.$method(stringify!($call), $call);)+
@@ -20,52 +20,47 @@ macro_rules! each {
 }
 
 pub(crate) fn read(line: &mut Line<'_>) -> Result<(), AllocError> {
-    let text = line.asked;
-    each!(line.refuses: check(text).err(), const_check(text).err());
-    owned(line);
-    signed(line);
-    of_json(line)?;
-    into_front(line)?;
+    let text = line.input;
+    each!(line.fails: check(text).err(), const_check(text).err());
+    ask_owned(line);
+    ask_json_string(line)?;
+    ask_front(line)?;
     let has_prefix = text.starts_with(b"0x") || text.starts_with(b"0X");
     let prefix = if has_prefix { 2 } else { 0 };
     read_into(line, text.len().saturating_sub(prefix) / 2)?;
-    if line.answer != "!OddLength" || check_raw(text) {
+    if line.result != "!OddLength" || check_raw(text) {
         read_pieces(line);
     }
     Ok(())
 }
 
-fn owned(line: &mut Line<'_>) {
-    let (alloc, text) = (line.alloc, line.asked);
+fn ask_owned(line: &mut Line<'_>) {
+    let (alloc, text) = (line.alloc, line.input);
     each!(line.reads:
         decode(alloc, text),
         <Vec<u8>>::from_hex(alloc, text),
         <BoxedSlice<u8>>::from_hex(alloc, text),
     );
-    match <Box<Rc<Vec<u8>>>>::from_hex(alloc, text) {
-        Ok(bytes) => line.reads("from_hex", Ok(bytes.as_slice())),
-        Err(error) => line.refuses("from_hex", Some(error)),
-    }
-}
-
-fn signed(line: &mut Line<'_>) {
-    let (alloc, text) = (line.alloc, line.asked);
     each!(line.reads_signed:
         <Vec<i8>>::from_hex(alloc, text),
         <BoxedSlice<i8>>::from_hex(alloc, text),
     );
+    match <Box<Rc<Vec<u8>>>>::from_hex(alloc, text) {
+        Ok(bytes) => line.reads("from_hex", Ok(bytes.as_slice())),
+        Err(error) => line.fails("from_hex", Some(error)),
+    }
 }
 
-/// Asks what reads JSON strings. One whose text is not UTF-8 there cannot be.
-fn of_json(line: &mut Line<'_>) -> Result<(), AllocError> {
-    if let Ok(text) = str::from_utf8(line.asked) {
+/// Asks what reads JSON strings, if the text is UTF-8.
+fn ask_json_string(line: &mut Line<'_>) -> Result<(), AllocError> {
+    if let Ok(text) = str::from_utf8(line.input) {
         let value = Value::String(text.to_string(line.alloc)?);
-        deserialized(line, &value);
+        ask_json(line, &value);
     }
     Ok(())
 }
 
-fn deserialized(line: &mut Line<'_>, value: &Value) {
+fn ask_json(line: &mut Line<'_>, value: &Value) {
     let alloc = line.alloc;
     each!(line.reads_json:
         deserialize::<Vec<u8>>(alloc, value),
@@ -74,39 +69,36 @@ fn deserialized(line: &mut Line<'_>, value: &Value) {
     );
 }
 
-/// Asks for the front of an output that has more room.
-fn into_front(line: &mut Line<'_>) -> Result<(), AllocError> {
-    let mut output = vec![in line.alloc; 0xEEu8; line.asked.len()]?;
-    match decode_to_front(line.asked, &mut output) {
-        Ok(count) => {
-            output.truncate(count);
-            line.fills("decode_to_front", Ok(()), output, line.answer);
-        }
-        Err(error) => line.fills("decode_to_front", Err(error), output, line.answer),
+/// Asks for the front of an output that has more space.
+fn ask_front(line: &mut Line<'_>) -> Result<(), AllocError> {
+    let mut output = vec![in line.alloc; 0xEEu8; line.input.len()]?;
+    let done = decode_to_front(line.input, &mut output);
+    if let Ok(count) = done {
+        output.truncate(count);
     }
+    line.fills("decode_to_front", done, output, line.result);
     Ok(())
 }
 
 pub(crate) fn read_into(line: &mut Line<'_>, size: usize) -> Result<(), AllocError> {
     let mut output = vec![in line.alloc; 0xEEu8; size]?;
-    let done = decode_to_slice(line.asked, &mut output);
-    line.fills("decode_to_slice", done, output, line.answer);
+    let done = decode_to_slice(line.input, &mut output);
+    line.fills("decode_to_slice", done, output, line.result);
     match size {
-        0 => arrays(line, [0; 0]),
-        1 => arrays(line, [0; 1]),
-        2 => arrays(line, [0; 2]),
-        4 => arrays(line, [0; 4]),
-        20 => arrays(line, [0; 20]),
-        32 => arrays(line, [0; 32]),
-        65 => arrays(line, [0; 65]),
+        0 => ask_arrays(line, [0; 0]),
+        1 => ask_arrays(line, [0; 1]),
+        4 => ask_arrays(line, [0; 4]),
+        20 => ask_arrays(line, [0; 20]),
+        32 => ask_arrays(line, [0; 32]),
+        65 => ask_arrays(line, [0; 65]),
         _ => {}
     }
     Ok(())
 }
 
 /// Asks what reads arrays. The array shows that its size fits.
-fn arrays<const N: usize>(line: &mut Line<'_>, _array: [u8; N]) {
-    let (alloc, text) = (line.alloc, line.asked);
+fn ask_arrays<const N: usize>(line: &mut Line<'_>, _array: [u8; N]) {
+    let (alloc, text) = (line.alloc, line.input);
     each!(line.reads:
         decode_to_array::<N>(text),
         const_decode_to_array::<N>(text),
@@ -120,7 +112,7 @@ const SIZES: [usize; 7] = [1, 2, 3, 7, 31, 64, 200];
 
 pub(crate) fn read_pieces(line: &mut Line<'_>) {
     for size in SIZES {
-        line.reads("Decoder", in_pieces(line.alloc, line.asked, size));
+        line.reads("Decoder", in_pieces(line.alloc, line.input, size));
     }
 }
 
@@ -130,23 +122,23 @@ fn in_pieces(alloc: Global, text: &[u8], size: usize) -> Result<Vec<u8>, FromHex
     let mut bytes = Vec::new(alloc);
     let mut rest = text;
     for _ in 0..text.len() {
-        let (piece, behind) = rest.split_at(size.min(rest.len()));
+        let (piece, next) = rest.split_at(size.min(rest.len()));
         let mut output = [0; 128];
         let count = decoder.decode(piece, &mut output)?;
         bytes.extend_from_slice(&output[..count])?;
-        rest = behind;
+        rest = next;
     }
     decoder.finish()?;
     Ok(bytes)
 }
 
-pub(crate) fn digits(line: &mut Line<'_>) {
-    let text = line.asked;
+pub(crate) fn read_digits(line: &mut Line<'_>) {
+    let text = line.input;
     each!(line.decides: check_raw(text), const_check_raw(text));
 }
 
-pub(crate) fn message(line: &mut Line<'_>) {
-    let (alloc, text) = (line.alloc, line.asked);
+pub(crate) fn read_message(line: &mut Line<'_>) {
+    let (alloc, text) = (line.alloc, line.input);
     each!(line.says:
         decode(alloc, text).err(),
         check(text).err(),
@@ -155,17 +147,17 @@ pub(crate) fn message(line: &mut Line<'_>) {
     );
 }
 
-pub(crate) fn message_into(line: &mut Line<'_>, size: usize) -> Result<(), AllocError> {
+pub(crate) fn read_message_into(line: &mut Line<'_>, size: usize) -> Result<(), AllocError> {
     let mut output = vec![in line.alloc; 0xEEu8; size]?;
-    let error = decode_to_slice(line.asked, &mut output).err();
+    let error = decode_to_slice(line.input, &mut output).err();
     line.says("decode_to_slice", error);
     Ok(())
 }
 
-pub(crate) fn json(line: &mut Line<'_>) {
-    let text = str::from_utf8(line.asked).unwrap_or("");
+pub(crate) fn read_json(line: &mut Line<'_>) {
+    let text = str::from_utf8(line.input).unwrap_or("");
     match Value::from_str(line.alloc, text) {
-        Ok(value) => deserialized(line, &value),
-        Err(_) => line.is("serde_json", "no JSON", line.answer),
+        Ok(value) => ask_json(line, &value),
+        Err(_) => line.is("serde_json", "no JSON", line.result),
     }
 }

@@ -3,7 +3,7 @@
 ghost use Rattle.std.specs.Prelude.{◌≡◌, false, true};
 ghost use Rattle.const_hex.specs.Texts.{text_length};
 
-use crate::line::{Answer, Line, shown};
+use crate::line::{Cell, Line, show};
 use const_hex::serde::no_prefix;
 use const_hex::{
     Buffer, BufferedHex, ToHex, ToHexExt, WriteSink, const_encode, decode, display, encode,
@@ -14,54 +14,40 @@ use const_hex_vectors::InHex;
 use serde_json::Value;
 use std::alloc::{AllocError, Global};
 
-/// A text in lowercase, in uppercase, and both behind `0x`.
+/// A text in lowercase, in uppercase, and both after `0x`.
 type Texts<'a> = [&'a str; 4];
 
-/// Asks a line whether each of these calls gives the text behind it.
-macro_rules! each_gives {
-    ($line:ident; $($call:expr => $want:ident,)+) => {
-        $($line.gives(stringify!($call), $call, $want);)+
-    };
-}
-
-/// As `each_gives`, for calls that lend their text.
-macro_rules! each_lends {
-    ($line:ident; $($call:expr => $want:ident,)+) => {
-        $($line.is(stringify!($call), $call, $want);)+
+/// Asks a line by that method whether each of these calls gives the text after it.
+macro_rules! each {
+    ($line:ident.$method:ident: $($call:expr => $want:ident,)+) => {
+        $($line.$method(stringify!($call), $call, $want);)+
     };
 }
 
 pub(crate) fn write(line: &mut Line<'_>) -> Result<(), AllocError> {
-    write_into(line, line.answer.len())?;
-    let (alloc, lower) = (line.alloc, line.answer);
+    write_into(line, line.result.len())?;
+    let (alloc, lower) = (line.alloc, line.result);
     let upper = lower.to_ascii_uppercase(alloc)?;
     let full = ["0x", lower].concat(alloc)?;
     let full_upper = ["0x", upper.as_str()].concat(alloc)?;
     let texts = [lower, &upper, &full, &full_upper];
-    owned(line, texts);
-    serialized(line, texts);
-    of_a_type(line, texts)?;
-    in_form::<false, false>(line, lower);
-    in_form::<true, false>(line, &upper);
-    in_form::<false, true>(line, &full);
-    in_form::<true, true>(line, &full_upper);
-    of_a_size(line, texts);
+    ask_functions(line, texts);
+    ask_traits(line, texts)?;
+    ask_form::<false, false>(line, lower);
+    ask_form::<true, false>(line, &upper);
+    ask_form::<false, true>(line, &full);
+    ask_form::<true, true>(line, &full_upper);
+    ask_buffers(line, texts);
     Ok(())
 }
 
-fn owned(line: &mut Line<'_>, [lower, upper, full, full_upper]: Texts<'_>) {
-    let (alloc, bytes) = (line.alloc, line.asked);
-    each_gives!(line;
+fn ask_functions(line: &mut Line<'_>, [lower, upper, full, full_upper]: Texts<'_>) {
+    let (alloc, bytes) = (line.alloc, line.input);
+    each!(line.gives:
         encode(alloc, bytes) => lower,
         encode_upper(alloc, bytes) => upper,
         encode_prefixed(alloc, bytes) => full,
         encode_upper_prefixed(alloc, bytes) => full_upper,
-    );
-}
-
-fn serialized(line: &mut Line<'_>, [lower, upper, full, full_upper]: Texts<'_>) {
-    let (alloc, bytes) = (line.alloc, line.asked);
-    each_gives!(line;
         text_of(alloc, serialize(alloc, bytes)) => full,
         text_of(alloc, serialize_upper(alloc, bytes)) => full_upper,
         text_of(alloc, no_prefix::serialize(alloc, bytes)) => lower,
@@ -70,21 +56,20 @@ fn serialized(line: &mut Line<'_>, [lower, upper, full, full_upper]: Texts<'_>) 
 }
 
 /// The text of a JSON value.
-fn text_of(alloc: Global, value: Result<Value, AllocError>) -> Answer {
-    match value {
-        Ok(Value::String(text)) => Ok(text),
-        Ok(_) => "not a string".to_string(alloc),
-        Err(AllocError) => Err(AllocError),
+fn text_of(alloc: Global, value: Result<Value, AllocError>) -> Cell {
+    match value? {
+        Value::String(text) => Ok(text),
+        _ => "not a string".to_string(alloc),
     }
 }
 
-fn of_a_type(
+fn ask_traits(
     line: &mut Line<'_>,
     [lower, upper, full, full_upper]: Texts<'_>,
 ) -> Result<(), AllocError> {
     let alloc = line.alloc;
-    let bytes = line.asked.to_vec(alloc)?;
-    each_gives!(line;
+    let bytes = line.input.to_vec(alloc)?;
+    each!(line.gives:
         ToHex::encode_hex(&bytes, alloc) => lower,
         ToHex::encode_hex_upper(&bytes, alloc) => upper,
         ToHexExt::encode_hex(&bytes, alloc) => lower,
@@ -96,13 +81,12 @@ fn of_a_type(
 }
 
 /// Asks the calls that have these type parameters, and reads the text back.
-fn in_form<const UPPER: bool, const PREFIX: bool>(line: &mut Line<'_>, text: &str) {
-    let (alloc, bytes) = (line.alloc, line.asked);
-    each_gives!(line;
-        printed::<UPPER, PREFIX>(alloc, bytes) => text,
-        printed_wide::<UPPER, PREFIX>(alloc, bytes) => text,
-        streamed::<UPPER, PREFIX>(alloc, bytes) => text,
-        serialized_inner::<UPPER, PREFIX>(alloc, bytes) => text,
+fn ask_form<const UPPER: bool, const PREFIX: bool>(line: &mut Line<'_>, text: &str) {
+    let (alloc, bytes) = (line.alloc, line.input);
+    each!(line.gives:
+        print::<UPPER, PREFIX>(alloc, bytes) => text,
+        stream::<UPPER, PREFIX>(alloc, bytes) => text,
+        serialize_to_sink::<UPPER, PREFIX>(alloc, bytes) => text,
     );
     match decode(alloc, text.as_bytes()) {
         Ok(read) if read.as_slice() == bytes => {}
@@ -110,7 +94,7 @@ fn in_form<const UPPER: bool, const PREFIX: bool>(line: &mut Line<'_>, text: &st
     }
 }
 
-fn printed<const UPPER: bool, const PREFIX: bool>(alloc: Global, bytes: &[u8]) -> Answer {
+fn print<const UPPER: bool, const PREFIX: bool>(alloc: Global, bytes: &[u8]) -> Cell {
     match (UPPER, PREFIX) {
         (false, false) => format!(in alloc; "{}", display(bytes)),
         (true, false) => format!(in alloc; "{}", InHex::<true>(bytes)),
@@ -119,54 +103,37 @@ fn printed<const UPPER: bool, const PREFIX: bool>(alloc: Global, bytes: &[u8]) -
     }
 }
 
-/// As `printed`, in a field that is wider than most texts. No blanks come.
-fn printed_wide<const UPPER: bool, const PREFIX: bool>(alloc: Global, bytes: &[u8]) -> Answer {
-    match (UPPER, PREFIX) {
-        (false, false) => format!(in alloc; "{:300}", InHex::<false>(bytes)),
-        (true, false) => format!(in alloc; "{:300}", InHex::<true>(bytes)),
-        (false, true) => format!(in alloc; "{:#300}", InHex::<false>(bytes)),
-        (true, true) => format!(in alloc; "{:#300}", InHex::<true>(bytes)),
-    }
-}
-
-fn streamed<const UPPER: bool, const PREFIX: bool>(alloc: Global, bytes: &[u8]) -> Answer {
+fn stream<const UPPER: bool, const PREFIX: bool>(alloc: Global, bytes: &[u8]) -> Cell {
     let mut text = Vec::new(alloc);
     let mut sink = WriteSink::new(&mut text);
     let _ = BufferedHex::<UPPER, PREFIX>::new(bytes).write_to(&mut sink);
-    shown(alloc, &text)
+    show(alloc, &text)
 }
 
-fn serialized_inner<const UPPER: bool, const PREFIX: bool>(alloc: Global, bytes: &[u8]) -> Answer {
+fn serialize_to_sink<const UPPER: bool, const PREFIX: bool>(alloc: Global, bytes: &[u8]) -> Cell {
     let mut text = Vec::new(alloc);
     let mut sink = WriteSink::new(&mut text);
     let _ = serialize_inner::<UPPER, PREFIX, _>(bytes, &mut sink);
-    shown(alloc, &text)
+    show(alloc, &text)
 }
 
 /// Asks buffers, if they are asked for that number of bytes.
-fn of_a_size(line: &mut Line<'_>, texts: Texts<'_>) {
-    match line.asked.len() {
-        0 => buffered::<0, 0, 2>(line, texts, Buffer::new(), Buffer::new()),
-        1 => buffered::<1, 2, 4>(line, texts, Buffer::new(), Buffer::new()),
-        2 => buffered::<2, 4, 6>(line, texts, Buffer::new(), Buffer::new()),
-        3 => buffered::<3, 6, 8>(line, texts, Buffer::new(), Buffer::new()),
-        4 => buffered::<4, 8, 10>(line, texts, Buffer::new(), Buffer::new()),
-        8 => buffered::<8, 16, 18>(line, texts, Buffer::new(), Buffer::new()),
-        12 => buffered::<12, 24, 26>(line, texts, Buffer::new(), Buffer::new()),
-        16 => buffered::<16, 32, 34>(line, texts, Buffer::new(), Buffer::new()),
-        20 => buffered::<20, 40, 42>(line, texts, Buffer::new(), Buffer::new()),
-        32 => buffered::<32, 64, 66>(line, texts, Buffer::new(), Buffer::new()),
-        33 => buffered::<33, 66, 68>(line, texts, Buffer::new(), Buffer::new()),
-        48 => buffered::<48, 96, 98>(line, texts, Buffer::new(), Buffer::new()),
-        64 => buffered::<64, 128, 130>(line, texts, Buffer::new(), Buffer::new()),
-        65 => buffered::<65, 130, 132>(line, texts, Buffer::new(), Buffer::new()),
-        128 => buffered::<128, 256, 258>(line, texts, Buffer::new(), Buffer::new()),
+fn ask_buffers(line: &mut Line<'_>, texts: Texts<'_>) {
+    match line.input.len() {
+        0 => ask_buffer::<0, 0, 2>(line, texts, Buffer::new(), Buffer::new()),
+        1 => ask_buffer::<1, 2, 4>(line, texts, Buffer::new(), Buffer::new()),
+        4 => ask_buffer::<4, 8, 10>(line, texts, Buffer::new(), Buffer::new()),
+        12 => ask_buffer::<12, 24, 26>(line, texts, Buffer::new(), Buffer::new()),
+        20 => ask_buffer::<20, 40, 42>(line, texts, Buffer::new(), Buffer::new()),
+        32 => ask_buffer::<32, 64, 66>(line, texts, Buffer::new(), Buffer::new()),
+        33 => ask_buffer::<33, 66, 68>(line, texts, Buffer::new(), Buffer::new()),
+        65 => ask_buffer::<65, 130, 132>(line, texts, Buffer::new(), Buffer::new()),
         _ => {}
     }
 }
 
 /// Asks the calls for N bytes. The buffers are new: as parameters they show that their sizes fit.
-fn buffered<const N: usize, const DIGITS: usize, const FULL: usize>(
+fn ask_buffer<const N: usize, const DIGITS: usize, const FULL: usize>(
     line: &mut Line<'_>,
     texts: Texts<'_>,
     mut digits: Buffer<N, false, DIGITS>,
@@ -176,10 +143,10 @@ fn buffered<const N: usize, const DIGITS: usize, const FULL: usize>(
     requires with_prefix { FULL ≡ text_length true N }
 {
     let [lower, upper, full, full_upper] = texts;
-    let Some(bytes) = line.asked.first_chunk::<N>() else {
+    let Some(bytes) = line.input.first_chunk::<N>() else {
         return;
     };
-    each_lends!(line;
+    each!(line.is:
         digits.format(bytes) => lower,
         digits.format_upper(bytes) => upper,
         with_prefix.format(bytes) => full,
@@ -190,7 +157,7 @@ fn buffered<const N: usize, const DIGITS: usize, const FULL: usize>(
 }
 
 pub(crate) fn write_into(line: &mut Line<'_>, size: usize) -> Result<(), AllocError> {
-    let (alloc, bytes, lower) = (line.alloc, line.asked, line.answer);
+    let (alloc, bytes, lower) = (line.alloc, line.input, line.result);
     let upper = match lower.starts_with('!') {
         true => lower.to_string(alloc)?,
         false => lower.to_ascii_uppercase(alloc)?,
@@ -203,10 +170,7 @@ pub(crate) fn write_into(line: &mut Line<'_>, size: usize) -> Result<(), AllocEr
     line.fills("encode_to_slice_upper", done, output, &upper);
     let mut output = vec![in alloc; 0xEEu8; size]?;
     line.lends("encode_to_str", encode_to_str(bytes, &mut output), lower);
-    line.lends(
-        "encode_to_str_upper",
-        encode_to_str_upper(bytes, &mut output),
-        &upper,
-    );
+    let text = encode_to_str_upper(bytes, &mut output);
+    line.lends("encode_to_str_upper", text, &upper);
     Ok(())
 }

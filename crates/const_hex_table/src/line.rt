@@ -1,32 +1,24 @@
-//! A line of the table, and what calls answer to it.
+//! A line of the table, and what calls return for it.
 
 use const_hex::{FromHexError, JsonError};
+use const_hex_vectors::texts::value_of;
 use std::alloc::{AllocError, Global};
 use std::convert::AsSlice;
 use std::fmt::Write;
 
-/// An answer as the table shows it.
-pub(crate) type Answer = Result<String, AllocError>;
+/// A result as the table shows it.
+pub(crate) type Cell = Result<String, AllocError>;
 
-/// The bytes and the answer of a line, and the calls that answered otherwise, one in each line.
+/// The bytes and the result of a line, and the calls that returned something else, one per line.
 #[derive(Drop)]
 pub(crate) struct Line<'a> {
     pub(crate) alloc: Global,
-    pub(crate) asked: &'a [u8],
-    pub(crate) answer: &'a str,
+    pub(crate) input: &'a [u8],
+    pub(crate) result: &'a str,
     pub(crate) others: String,
 }
 
-impl<'a> Line<'a> {
-    pub(crate) fn new(alloc: Global, asked: &'a [u8], answer: &'a str) -> Line<'a> {
-        Line {
-            alloc,
-            asked,
-            answer,
-            others: String::new(alloc),
-        }
-    }
-
+impl Line<'_> {
     /// Notes a call and what it gives, unless that is wanted.
     pub(crate) fn is(&mut self, call: &str, given: &str, want: &str) {
         if given != want {
@@ -34,8 +26,8 @@ impl<'a> Line<'a> {
         }
     }
 
-    /// As `is`, for an answer that may lack memory.
-    pub(crate) fn gives(&mut self, call: &str, given: Answer, want: &str) {
+    /// As `is`, for a result that needs memory.
+    pub(crate) fn gives(&mut self, call: &str, given: Cell, want: &str) {
         match given {
             Ok(text) => self.is(call, &text, want),
             Err(AllocError) => self.is(call, "out of memory", want),
@@ -43,24 +35,24 @@ impl<'a> Line<'a> {
     }
 
     /// Whether a check gives the line's error, or none.
-    pub(crate) fn refuses(&mut self, call: &str, refused: Option<FromHexError>) {
-        match refused {
-            Some(error) => self.gives(call, named(self.alloc, error), self.answer),
-            None if self.answer.starts_with('!') => self.is(call, "no error", self.answer),
+    pub(crate) fn fails(&mut self, call: &str, error: Option<FromHexError>) {
+        match error {
+            Some(error) => self.gives(call, name(self.alloc, error), self.result),
+            None if self.result.starts_with('!') => self.is(call, "no error", self.result),
             None => {}
         }
     }
 
-    /// Whether bytes, or an error, are the line's answer.
+    /// Whether bytes, or an error, are the line's result.
     pub(crate) fn reads<B>(&mut self, call: &str, given: Result<B, FromHexError>)
     where
         B: AsSlice<u8> + Drop,
     {
         let given = match given {
-            Ok(bytes) => shown(self.alloc, bytes.as_slice()),
-            Err(error) => named(self.alloc, error),
+            Ok(bytes) => show(self.alloc, bytes.as_slice()),
+            Err(error) => name(self.alloc, error),
         };
-        self.gives(call, given, self.answer);
+        self.gives(call, given, self.result);
     }
 
     /// As `reads`, for numbers that have the bits of the bytes.
@@ -69,10 +61,10 @@ impl<'a> Line<'a> {
         B: AsSlice<i8> + Drop,
     {
         let given = match given {
-            Ok(numbers) => signed(self.alloc, numbers.as_slice()),
-            Err(error) => named(self.alloc, error),
+            Ok(numbers) => show_signed(self.alloc, numbers.as_slice()),
+            Err(error) => name(self.alloc, error),
         };
-        self.gives(call, given, self.answer);
+        self.gives(call, given, self.result);
     }
 
     /// As `reads`, for a JSON value.
@@ -82,34 +74,34 @@ impl<'a> Line<'a> {
     {
         match given {
             Ok(bytes) => self.reads(call, Ok(bytes)),
-            Err(JsonError::NotText) => self.is(call, "!NotText", self.answer),
-            Err(JsonError::Hex(error)) => self.refuses(call, Some(error)),
+            Err(JsonError::NotText) => self.is(call, "!NotText", self.result),
+            Err(JsonError::Hex(error)) => self.fails(call, Some(error)),
         }
     }
 
-    /// Whether an answer is the line's `true` or `false`.
+    /// Whether a result is the line's `true` or `false`.
     pub(crate) fn decides(&mut self, call: &str, given: bool) {
-        self.is(call, if given { "true" } else { "false" }, self.answer);
+        self.is(call, if given { "true" } else { "false" }, self.result);
     }
 
     /// Whether an error prints the line's message.
-    pub(crate) fn says(&mut self, call: &str, refused: Option<FromHexError>) {
-        match refused {
-            Some(error) => self.gives(call, printed(self.alloc, error), self.answer),
-            None => self.is(call, "no error", self.answer),
+    pub(crate) fn says(&mut self, call: &str, error: Option<FromHexError>) {
+        match error {
+            Some(error) => self.gives(call, print(self.alloc, error), self.result),
+            None => self.is(call, "no error", self.result),
         }
     }
 
     /// Whether an output of bytes 0xEE then holds what is wanted. An error for a length leaves it.
-    pub(crate) fn fills(
+    pub(crate) fn fills<T: Drop>(
         &mut self,
         call: &str,
-        done: Result<(), FromHexError>,
+        done: Result<T, FromHexError>,
         output: Vec<u8>,
         want: &str,
     ) {
         let given = match done {
-            Ok(()) => shown(self.alloc, &output),
+            Ok(_) => show(self.alloc, &output),
             Err(error) => left(self.alloc, error, &output),
         };
         self.gives(call, given, want);
@@ -119,13 +111,13 @@ impl<'a> Line<'a> {
     pub(crate) fn lends(&mut self, call: &str, lent: Result<&str, FromHexError>, want: &str) {
         match lent {
             Ok(text) => self.is(call, text, want),
-            Err(error) => self.gives(call, named(self.alloc, error), want),
+            Err(error) => self.gives(call, name(self.alloc, error), want),
         }
     }
 }
 
 /// The text of a column. An empty one is `""`.
-pub(crate) fn cell(column: Option<&str>) -> &str {
+pub(crate) fn read_cell(column: Option<&str>) -> &str {
     match column {
         None | Some("\"\"") => "",
         Some(text) => text,
@@ -133,8 +125,8 @@ pub(crate) fn cell(column: Option<&str>) -> &str {
 }
 
 /// How the table shows bytes: printable ASCII as itself, and any other byte and a backslash as
-/// `\xNN`. So is `!` in front.
-pub(crate) fn shown(alloc: Global, bytes: &[u8]) -> Answer {
+/// `\xNN`. So is a first `!`.
+pub(crate) fn show(alloc: Global, bytes: &[u8]) -> Cell {
     let mut text = String::new(alloc);
     for byte in bytes {
         let is_sign = *byte == b'\\' || text.is_empty() && *byte == b'!';
@@ -147,16 +139,16 @@ pub(crate) fn shown(alloc: Global, bytes: &[u8]) -> Answer {
     Ok(text)
 }
 
-fn signed(alloc: Global, numbers: &[i8]) -> Answer {
+fn show_signed(alloc: Global, numbers: &[i8]) -> Cell {
     let mut bytes = Vec::new(alloc);
     for number in numbers {
         bytes.push(number.cast_unsigned())?;
     }
-    shown(alloc, &bytes)
+    show(alloc, &bytes)
 }
 
-/// The name of an error, with the number and the place of a bad byte.
-fn named(alloc: Global, error: FromHexError) -> Answer {
+/// The name of an error, with the number and the position of an invalid character.
+fn name(alloc: Global, error: FromHexError) -> Cell {
     match error {
         FromHexError::InvalidHexCharacter { c, index } => {
             let c = u32::from(c);
@@ -167,41 +159,30 @@ fn named(alloc: Global, error: FromHexError) -> Answer {
 }
 
 /// The message of an error, as the table shows it.
-fn printed(alloc: Global, error: FromHexError) -> Answer {
+fn print(alloc: Global, error: FromHexError) -> Cell {
     let message = error.to_string(alloc)?;
-    shown(alloc, message.as_bytes())
+    show(alloc, message.as_bytes())
 }
 
-/// As `named`, of a call with an output of bytes 0xEE. It leaves them, except before a bad byte.
-fn left(alloc: Global, error: FromHexError, output: &[u8]) -> Answer {
+/// As `name`, of a call with an output of bytes 0xEE. It leaves them, except before an invalid character.
+fn left(alloc: Global, error: FromHexError, output: &[u8]) -> Cell {
     let before = vec![in alloc; 0xEEu8; output.len()]?;
     match error {
         FromHexError::OddLength | FromHexError::InvalidStringLength
             if output != before.as_slice() => { "a changed output".to_string(alloc) }
-        _ => named(alloc, error),
+        _ => name(alloc, error),
     }
 }
 
 /// The bytes that the table shows.
-pub(crate) fn bytes_of(alloc: Global, shown: &str) -> Result<Vec<u8>, AllocError> {
-    let mut bytes = Vec::new(alloc);
-    let mut rest = shown.as_bytes();
-    for _ in 0..shown.len() {
-        match rest {
-            [] => return Ok(bytes),
-            [b'\\', b'x', high, low, after @ ..] => {
-                bytes.push(value_of(*high) << 4 | value_of(*low))?;
-                rest = after;
-            }
-            [byte, after @ ..] => {
-                bytes.push(*byte)?;
-                rest = after;
-            }
+pub(crate) fn read_bytes(alloc: Global, shown: &str) -> Result<Vec<u8>, AllocError> {
+    let mut parts = shown.split("\\x");
+    let mut bytes = parts.next().unwrap_or("").as_bytes().to_vec(alloc)?;
+    for part in parts {
+        if let Some(([high, low], rest)) = part.as_bytes().split_first_chunk::<2>() {
+            bytes.push(value_of(*high) << 4 | value_of(*low))?;
+            bytes.extend_from_slice(rest)?;
         }
     }
     Ok(bytes)
-}
-
-fn value_of(digit: u8) -> u8 {
-    char::from(digit).to_digit(16).unwrap_or(0) as u8
 }

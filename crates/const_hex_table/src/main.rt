@@ -7,7 +7,7 @@ mod decoding;
 mod encoding;
 mod line;
 
-use crate::line::{Line, bytes_of, cell};
+use crate::line::{Line, read_bytes, read_cell};
 use std::alloc::{AllocError, Global};
 use std::fs::File;
 use std::io::{self, BufRead, BufReader};
@@ -27,55 +27,46 @@ fn main(rt: HostRuntime) -> io::Result<ExitCode> {
             continue;
         }
         lines = lines.saturating_add(1);
-        let others = other_answers(alloc, &line)?;
+        let others = compare(alloc, &line)?;
         if !others.is_empty() {
             wrong = wrong.saturating_add(1);
             println!(rt; "{line}{others}")?;
         }
     }
     println!(rt; "{lines} lines, {wrong} wrong")?;
-    Ok(if wrong == 0 {
-        ExitCode::SUCCESS
-    } else {
-        ExitCode::FAILURE
-    })
+    Ok(ExitCode::from((wrong > 0) as u8))
 }
 
-/// The calls that answer otherwise than a line, and their answers.
-fn other_answers(alloc: Global, line: &str) -> Result<String, AllocError> {
+/// The calls that return something else than a line says, and what they return.
+fn compare(alloc: Global, line: &str) -> Result<String, AllocError> {
     let mut columns = line.split('\t');
     let question = columns.next().unwrap_or("");
-    let asked = bytes_of(alloc, cell(columns.next()))?;
-    let mut line = Line::new(alloc, &asked, cell(columns.next()));
+    let input = read_bytes(alloc, read_cell(columns.next()))?;
+    let mut line = Line {
+        alloc,
+        input: &input,
+        result: read_cell(columns.next()),
+        others: String::new(alloc),
+    };
     match question.split_once(' ') {
-        None => ask(&mut line, question)?,
-        Some((name, number)) => ask_sized(&mut line, name, number)?,
+        Some((question, size)) => ask(&mut line, question, size.parse().ok())?,
+        None => ask(&mut line, question, None)?,
     }
     Ok(line.others)
 }
 
-fn ask(line: &mut Line<'_>, question: &str) -> Result<(), AllocError> {
-    match question {
-        "write" => encoding::write(line)?,
-        "read" => decoding::read(line)?,
-        "read-pieces" => decoding::read_pieces(line),
-        "digits" => decoding::digits(line),
-        "message" => decoding::message(line),
-        "json" => decoding::json(line),
+fn ask(line: &mut Line<'_>, question: &str, size: Option<usize>) -> Result<(), AllocError> {
+    match (question, size) {
+        ("write", None) => encoding::write(line)?,
+        ("write-into", Some(size)) => encoding::write_into(line, size)?,
+        ("read", None) => decoding::read(line)?,
+        ("read-into", Some(size)) => decoding::read_into(line, size)?,
+        ("read-pieces", None) => decoding::read_pieces(line),
+        ("digits", None) => decoding::read_digits(line),
+        ("message", None) => decoding::read_message(line),
+        ("message", Some(size)) => decoding::read_message_into(line, size)?,
+        ("json", None) => decoding::read_json(line),
         _ => line.is("no such question", question, ""),
     }
     Ok(())
-}
-
-fn ask_sized(line: &mut Line<'_>, question: &str, number: &str) -> Result<(), AllocError> {
-    let size = number.parse::<usize>().unwrap_or(0);
-    match question {
-        "write-into" => encoding::write_into(line, size),
-        "read-into" => decoding::read_into(line, size),
-        "message" => decoding::message_into(line, size),
-        _ => {
-            line.is("no such question", question, "");
-            Ok(())
-        }
-    }
 }
