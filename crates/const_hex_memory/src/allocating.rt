@@ -1,24 +1,15 @@
 //! Calls that allocate.
 
-use crate::inputs::{
-    BAD, BYTES, DATA, DIGITS, HASH, Inputs, KIWI, LARGE_DIGITS, LOWER, PREFIXED, TEXT, UPPER,
-};
+use crate::inputs::*;
 use crate::judge::{allocates, judge_allocating};
 use const_hex::serde::no_prefix;
-use const_hex::{
-    BufferedHex, FromHex, FromHexError, JsonError, Kernel, PieceSink, SinkError, ToHex, ToHexExt,
-    const_encode, decode, decode_with, deserialize, encode, encode_prefixed, encode_upper,
-    encode_upper_prefixed, encode_with, serialize, serialize_upper,
-};
-use const_hex_vectors::texts::invalid;
+use const_hex::*;
 use const_hex_vectors::{KernelCase, by_each_kernel};
 use hash_hex::{Address20, Hash32};
 use serde_json::Value;
 use std::alloc::{AllocError, Global};
 use std::boxed::BoxedSlice;
 use std::rc::Rc;
-
-const NO_MEMORY: FromHexError = FromHexError::NoMemory;
 
 /// Makes all these calls.
 pub(crate) fn make_calls(rt: &impl Print, alloc: Global, inputs: &Inputs, count: &mut usize) {
@@ -28,26 +19,19 @@ pub(crate) fn make_calls(rt: &impl Print, alloc: Global, inputs: &Inputs, count:
     encode_value(rt, alloc, &inputs.string, count);
     write_json(rt, alloc, count);
     read_json(rt, alloc, inputs, count);
-    decode_all(rt, alloc, TEXT, Ok(KIWI), count);
-    decode_all(rt, alloc, BAD, Err(invalid(b'z', 0)), count);
-    decode_signed(rt, alloc, TEXT, Ok(&[107, 105, 119, 105]), count);
-    decode_signed(rt, alloc, BAD, Err(invalid(b'z', 0)), count);
-    decode_pointers(rt, alloc, count);
+    decode_all(rt, alloc, count);
     by_each_kernel!(by_kernel(rt, alloc, count));
     let mut sink = PieceSink::new(alloc, 0);
     let done = BufferedHex::<false, true>::new(&DATA).write_to(&mut sink);
-    judge_stream(rt, "write_to", done, &sink, count);
+    judge_stream(rt, done, &sink, count);
 }
 
 fn encode_all(rt: &impl Print, alloc: Global, count: &mut usize) {
     let buffer = const_encode::<4, true, 10>(b"kiwi");
     allocates!(rt, count, AllocError;
-        encode(alloc, KIWI) => Ok(LOWER),
-        encode_upper(alloc, KIWI) => Ok(UPPER),
-        encode_prefixed(alloc, KIWI) => Ok(TEXT),
-        encode_upper_prefixed(alloc, KIWI) => Ok(PREFIXED),
-        buffer.to_string(alloc) => Ok(TEXT),
-        buffer.to_vec(alloc) => Ok(TEXT),
+        encode(alloc, KIWI) => Ok(LOWER), encode_upper(alloc, KIWI) => Ok(UPPER),
+        encode_prefixed(alloc, KIWI) => Ok(TEXT), encode_upper_prefixed(alloc, KIWI) => Ok(PREFIXED),
+        buffer.to_string(alloc) => Ok(TEXT), buffer.to_vec(alloc) => Ok(TEXT),
     );
 }
 
@@ -56,11 +40,9 @@ where
     T: ToHex + ToHexExt,
 {
     allocates!(rt, count, AllocError;
-        ToHex::encode_hex(value, alloc) => Ok(LOWER),
-        ToHex::encode_hex_upper(value, alloc) => Ok(UPPER),
-        ToHexExt::encode_hex(value, alloc) => Ok(LOWER),
+        ToHex::encode_hex(value, alloc) => Ok(LOWER), ToHex::encode_hex_upper(value, alloc) => Ok(UPPER),
+        ToHexExt::encode_hex(value, alloc) => Ok(LOWER), value.encode_hex_with_prefix(alloc) => Ok(TEXT),
         ToHexExt::encode_hex_upper(value, alloc) => Ok(UPPER),
-        value.encode_hex_with_prefix(alloc) => Ok(TEXT),
         value.encode_hex_upper_with_prefix(alloc) => Ok(PREFIXED),
     );
 }
@@ -75,8 +57,7 @@ fn text_of(value: Result<Value, AllocError>) -> Result<String, Option<AllocError
 
 fn write_json(rt: &impl Print, alloc: Global, count: &mut usize) {
     allocates!(rt, count, Some(AllocError);
-        text_of(serialize(alloc, KIWI)) => Ok(TEXT),
-        text_of(serialize_upper(alloc, KIWI)) => Ok(PREFIXED),
+        text_of(serialize(alloc, KIWI)) => Ok(TEXT), text_of(serialize_upper(alloc, KIWI)) => Ok(PREFIXED),
         text_of(no_prefix::serialize(alloc, KIWI)) => Ok(LOWER),
         text_of(no_prefix::serialize_upper(alloc, KIWI)) => Ok(UPPER),
         text_of(Hash32::from_bytes([0xAB; 32]).to_value(alloc)) => Ok(HASH),
@@ -85,39 +66,27 @@ fn write_json(rt: &impl Print, alloc: Global, count: &mut usize) {
 }
 
 fn read_json(rt: &impl Print, alloc: Global, inputs: &Inputs, count: &mut usize) {
-    let (text, wrong) = (&inputs.text, &inputs.bad);
     allocates!(rt, count, JsonError::Hex(NO_MEMORY);
-        deserialize::<Vec<u8>>(alloc, text) => Ok(KIWI),
-        no_prefix::deserialize::<Vec<u8>>(alloc, text) => Ok(KIWI),
-        deserialize::<Vec<u8>>(alloc, wrong) => Err(JsonError::Hex(invalid(b'z', 0))),
+        deserialize::<Vec<u8>>(alloc, &inputs.text) => Ok(KIWI),
+        no_prefix::deserialize::<Vec<u8>>(alloc, &inputs.text) => Ok(KIWI),
+        deserialize::<Vec<u8>>(alloc, &inputs.bad) => Err(JsonError::Hex(Z_AT_0)),
     );
 }
 
-fn decode_all(
-    rt: &impl Print,
-    alloc: Global,
-    text: &[u8],
-    want: Result<&[u8], FromHexError>,
-    count: &mut usize,
-) {
+fn decode_all(rt: &impl Print, alloc: Global, count: &mut usize) {
+    let wrong = Err(Z_AT_0);
     allocates!(rt, count, NO_MEMORY;
-        decode(alloc, text) => want,
-        <Vec<u8>>::from_hex(alloc, text) => want,
-        <BoxedSlice<u8>>::from_hex(alloc, text) => want,
+        decode(alloc, TEXT) => Ok(KIWI), decode(alloc, BAD) => wrong,
+        <Vec<u8>>::from_hex(alloc, TEXT) => Ok(KIWI), <Vec<u8>>::from_hex(alloc, BAD) => wrong,
+        <BoxedSlice<u8>>::from_hex(alloc, TEXT) => Ok(KIWI), <BoxedSlice<u8>>::from_hex(alloc, BAD) => wrong,
     );
-}
-
-fn decode_signed(
-    rt: &impl Print,
-    alloc: Global,
-    text: &[u8],
-    want: Result<&[i8], FromHexError>,
-    count: &mut usize,
-) {
+    let wrong = Err(Z_AT_0);
     allocates!(rt, count, NO_MEMORY;
-        <Vec<i8>>::from_hex(alloc, text) => want,
-        <BoxedSlice<i8>>::from_hex(alloc, text) => want,
+        <Vec<i8>>::from_hex(alloc, TEXT) => Ok(SIGNED), <Vec<i8>>::from_hex(alloc, BAD) => wrong,
+        <BoxedSlice<i8>>::from_hex(alloc, TEXT) => Ok(SIGNED),
+        <BoxedSlice<i8>>::from_hex(alloc, BAD) => wrong,
     );
+    decode_pointers(rt, alloc, count);
 }
 
 /// Pointers, by whether they point to the right bytes.
@@ -130,51 +99,34 @@ fn decode_pointers(rt: &impl Print, alloc: Global, count: &mut usize) {
     let array = <Rc<[i8; 4]>>::from_hex(alloc, TEXT).map(|array| *array == [107, 105, 119, 105]);
     judge_allocating(rt, "from_hex of Rc", array, right, error, count);
     let wrong = <Box<Rc<Vec<u8>>>>::from_hex(alloc, BAD).map(|_| true);
-    judge_allocating(
-        rt,
-        "from_hex of zz",
-        wrong,
-        Err(invalid(b'z', 0)),
-        error,
-        count,
-    );
+    judge_allocating(rt, "from_hex of zz", wrong, Err(Z_AT_0), error, count);
 }
 
 /// The texts are a step of 32 lanes, one of 16, and a remainder.
 fn by_kernel<K: Kernel>(rt: &impl Print, alloc: Global, count: &mut usize, _kernel: KernelCase) {
-    let mut wrong = DIGITS;
+    let (mut wrong, large) = (DIGITS, [b'A'; 114]);
     wrong[100] = b'g';
     allocates!(rt, count, AllocError;
         encode_with::<K, false>(alloc, &BYTES) => Ok(&DIGITS),
-        encode_with::<K, true>(alloc, &BYTES) => Ok(&LARGE_DIGITS),
+        encode_with::<K, true>(alloc, &BYTES) => Ok(&large),
     );
     allocates!(rt, count, NO_MEMORY;
-        decode_with::<K>(alloc, &DIGITS) => Ok(&BYTES),
-        decode_with::<K>(alloc, &wrong) => Err(invalid(b'g', 100)),
-        decode_with::<K>(alloc, BAD) => Err(invalid(b'z', 0)),
+        decode_with::<K>(alloc, &DIGITS) => Ok(&BYTES), decode_with::<K>(alloc, BAD) => Err(Z_AT_0),
+        decode_with::<K>(alloc, &wrong) => Err(G_AT_100),
     );
     let mut sink = PieceSink::new(alloc, 0);
     let done = BufferedHex::<false, true>::new(&DATA).write_with::<K, PieceSink>(&mut sink);
-    judge_stream(rt, "write_with", done, &sink, count);
+    judge_stream(rt, done, &sink, count);
 }
 
 /// Judges the stream of [`DATA`] behind `0x`, which has three pieces. If there is no memory for one,
 /// the sink keeps those before it.
-fn judge_stream(
-    rt: &impl Print,
-    call: &str,
-    done: Result<(), SinkError>,
-    sink: &PieceSink,
-    count: &mut usize,
-) {
+fn judge_stream(rt: &impl Print, done: Result<(), SinkError>, sink: &PieceSink, count: &mut usize) {
     let kept = sink.pieces().len();
     let state = (kept < 3, sink.no_memory(), sink.calls() == kept);
-    judge_allocating(
-        rt,
-        call,
-        (done, state),
+    let (right, error) = (
         (Ok(()), (false, false, true)),
         (Err(SinkError), (true, true, false)),
-        count,
     );
+    judge_allocating(rt, "a stream", (done, state), right, error, count);
 }

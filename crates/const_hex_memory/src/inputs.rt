@@ -1,10 +1,13 @@
 //! The values that calls are made of.
 
+use const_hex::FromHexError;
 use serde_json::{Value, json};
 use std::alloc::{AllocError, Global};
 
-/// The bytes that most calls encode, and their texts.
+/// The bytes that most calls encode, as signed bytes too, and their texts.
 pub(crate) const KIWI: &[u8] = b"kiwi";
+
+pub(crate) const SIGNED: &[i8] = &[107, 105, 119, 105];
 
 pub(crate) const LOWER: &[u8] = b"6b697769";
 
@@ -13,10 +16,24 @@ pub(crate) const UPPER: &[u8] = b"6B697769";
 pub(crate) const TEXT: &[u8] = b"0x6b697769";
 
 pub(crate) const PREFIXED: &[u8] = b"0x6B697769";
-/// A text of odd length.
+/// A text of odd length, one with invalid characters, and the errors.
 pub(crate) const ODD: &[u8] = b"0x1";
-/// A text with invalid characters.
+
 pub(crate) const BAD: &[u8] = b"zz";
+
+pub(crate) const ODD_LENGTH: FromHexError = FromHexError::OddLength;
+
+pub(crate) const OTHER_LENGTH: FromHexError = FromHexError::InvalidStringLength;
+
+pub(crate) const NO_MEMORY: FromHexError = FromHexError::NoMemory;
+/// Errors by their character and its position.
+pub(crate) const Z_AT_0: FromHexError = FromHexError::InvalidHexCharacter { c: 'z', index: 0 };
+
+pub(crate) const Z_AT_10: FromHexError = FromHexError::InvalidHexCharacter { c: 'z', index: 10 };
+
+pub(crate) const G_AT_100: FromHexError = FromHexError::InvalidHexCharacter { c: 'g', index: 100 };
+
+pub(crate) const LINE_AT_5: FromHexError = FromHexError::InvalidHexCharacter { c: '\n', index: 5 };
 /// The text of a hash of bytes 0xAB.
 pub(crate) const HASH: &[u8] =
     b"0xabababababababababababababababababababababababababababababababab";
@@ -24,8 +41,6 @@ pub(crate) const HASH: &[u8] =
 pub(crate) const BYTES: [u8; 57] = [0xAA; 57];
 
 pub(crate) const DIGITS: [u8; 114] = [b'a'; 114];
-
-pub(crate) const LARGE_DIGITS: [u8; 114] = [b'A'; 114];
 /// Bytes whose text goes to a sink in three calls.
 pub(crate) const DATA: [u8; 4097] = [0xAB; 4097];
 

@@ -19,18 +19,14 @@ macro_rules! allocates {
 pub(crate) use allocates;
 pub(crate) use returns;
 
-fn tell_wrong(rt: &impl Print, call: &str) {
-    let _ = println!(rt; "wrong: {call}");
-}
-
 /// Prints a call that did not return what is wanted.
 pub(crate) fn judge<A: PartialEq + Drop>(rt: &impl Print, call: &str, returned: A, wanted: A) {
     if returned != wanted {
-        tell_wrong(rt, call);
+        let _ = println!(rt; "wrong: {call}");
     }
 }
 
-/// As `judge`, for a call that returns `out_of_memory` if an allocation fails, and is counted then.
+/// As `judge`, for a call that returns `out_of_memory` if an allocation fails, which is counted.
 pub(crate) fn judge_allocating<A: PartialEq + Drop>(
     rt: &impl Print,
     call: &str,
@@ -41,8 +37,8 @@ pub(crate) fn judge_allocating<A: PartialEq + Drop>(
 ) {
     if returned == out_of_memory {
         *count = count.saturating_add(1);
-    } else if returned != wanted {
-        tell_wrong(rt, call);
+    } else {
+        judge(rt, call, returned, wanted);
     }
 }
 
@@ -69,7 +65,5 @@ where
         (Err(error), Err(wanted)) => error == wanted,
         _ => false,
     };
-    if !is_right {
-        tell_wrong(rt, call);
-    }
+    judge(rt, call, is_right, true);
 }

@@ -13,19 +13,17 @@ mod nonallocating;
 mod printed;
 
 use crate::inputs::Inputs;
-use std::alloc::{AllocError, Global};
+use std::alloc::AllocError;
 
 fn main(rt: HostRuntime) {
-    let mut out_of_memory: usize = 0;
-    match Inputs::new(rt.alloc()) {
-        Ok(inputs) => make_calls(&rt, rt.alloc(), &inputs, &mut out_of_memory),
+    let (alloc, mut out_of_memory) = (rt.alloc(), 0);
+    match Inputs::new(alloc) {
+        Ok(inputs) => {
+            nonallocating::make_calls(&rt, alloc, &inputs);
+            printed::make_calls(&rt);
+            allocating::make_calls(&rt, alloc, &inputs, &mut out_of_memory);
+        }
         Err(AllocError) => out_of_memory = 1,
     }
     let _ = println!(rt; "{out_of_memory} out of memory");
-}
-
-fn make_calls(rt: &impl Print, alloc: Global, inputs: &Inputs, count: &mut usize) {
-    nonallocating::make_calls(rt, alloc, inputs);
-    printed::make_calls(rt);
-    allocating::make_calls(rt, alloc, inputs, count);
 }

@@ -1,20 +1,10 @@
 //! Calls that do not allocate.
 
-use crate::inputs::{BAD, BYTES, DATA, DIGITS, HASH, Inputs, KIWI, ODD, TEXT};
+use crate::inputs::*;
 use crate::judge::returns;
 use const_hex::serde::no_prefix;
-use const_hex::{
-    BufferedHex, BufferedOutput, Decoder, FixedKernel, FromHex, FromHexError, JsonError, Kernel,
-    Lanes16, Lanes32, Output, PieceSink, Sink, SinkError, SinkOutput, SliceOutput, WriteSink,
-    ascii_text, bytes_of, check, check_raw, check_with, const_check, const_check_raw,
-    const_decode_to_array, decode, decode_to_array, decode_to_front, decode_to_front_with,
-    decode_to_slice, decode_to_slice_with, decode_with, deserialize, digit_at,
-    encode_full_to_slice, encode_full_to_slice_with, encode_to_slice, encode_to_slice_upper,
-    encode_to_str, encode_to_str_upper, fill_text, lanes16, lanes32, serialize_inner, text_length,
-    value_at,
-};
+use const_hex::*;
 use const_hex_vectors::chunks::decoded_or;
-use const_hex_vectors::texts::invalid;
 use const_hex_vectors::{Counting, KernelCase, by_each_kernel};
 use hash_hex::Hash32;
 use serde_json::{Number, Value};
@@ -22,10 +12,6 @@ use std::alloc::Global;
 use std::boxed::BoxedSlice;
 use std::rc::Rc;
 use std::simd::prelude::*;
-
-const ODD_LENGTH: FromHexError = FromHexError::OddLength;
-
-const OTHER_LENGTH: FromHexError = FromHexError::InvalidStringLength;
 
 /// Makes all these calls.
 pub(crate) fn make_calls(rt: &impl Print, alloc: Global, inputs: &Inputs) {
@@ -52,17 +38,10 @@ pub(crate) fn make_calls(rt: &impl Print, alloc: Global, inputs: &Inputs) {
 
 fn check_all(rt: &impl Print) {
     returns!(rt;
-        digit_at(true, 11) => b'B',
-        value_at(b'B') => 11,
-        check(TEXT) => Ok(()),
-        check(BAD) => Err(invalid(b'z', 0)),
-        const_check(TEXT) => Ok(()),
-        const_check(ODD) => Err(ODD_LENGTH),
-        check_raw(TEXT) => false,
-        const_check_raw(TEXT) => false,
-        text_length(true, 4) => 10,
-        ascii_text(b"0x6b") => "0x6b",
-        bytes_of::<4>(TEXT) => *b"kiwi",
+        digit_at(true, 11) => b'B', value_at(b'B') => 11,
+        check(TEXT) => Ok(()), check(BAD) => Err(Z_AT_0), check_raw(TEXT) => false,
+        const_check(TEXT) => Ok(()), const_check(ODD) => Err(ODD_LENGTH), const_check_raw(TEXT) => false,
+        text_length(true, 4) => 10, ascii_text(b"0x6b") => "0x6b", bytes_of::<4>(TEXT) => *b"kiwi",
     );
 }
 
@@ -71,13 +50,10 @@ fn encode_all(rt: &impl Print) {
     fill_text::<FixedKernel>(KIWI, true, false, &mut full);
     returns!(rt;
         full => *b"0x6b697769",
-        encode_to_slice(KIWI, &mut text) => Ok(()),
-        encode_to_slice_upper(KIWI, &mut text) => Ok(()),
-        encode_to_str(KIWI, &mut text).is_ok() => true,
-        encode_to_str_upper(KIWI, &mut text).is_ok() => true,
+        encode_to_slice(KIWI, &mut text) => Ok(()), encode_to_slice(KIWI, &mut full) => Err(OTHER_LENGTH),
+        encode_to_str(KIWI, &mut text).is_ok() => true, encode_to_slice_upper(KIWI, &mut text) => Ok(()),
+        encode_to_str(KIWI, &mut full).is_ok() => false, encode_to_str_upper(KIWI, &mut text).is_ok() => true,
         encode_full_to_slice(KIWI, true, false, &mut full) => Ok(()),
-        encode_to_slice(KIWI, &mut full) => Err(OTHER_LENGTH),
-        encode_to_str(KIWI, &mut full).is_ok() => false,
         encode_full_to_slice(KIWI, true, false, &mut text) => Err(OTHER_LENGTH),
     );
 }
@@ -85,14 +61,10 @@ fn encode_all(rt: &impl Print) {
 fn decode_all(rt: &impl Print) {
     let mut bytes = [0; 4];
     returns!(rt;
-        decode_to_slice(TEXT, &mut bytes) => Ok(()),
-        decode_to_slice(BAD, &mut bytes) => Err(OTHER_LENGTH),
-        decode_to_front(TEXT, &mut bytes) => Ok(4),
-        decode_to_front(BAD, &mut bytes) => Err(invalid(b'z', 0)),
-        decode_to_array::<4>(TEXT) => Ok(*b"kiwi"),
-        decode_to_array::<1>(BAD) => Err(invalid(b'z', 0)),
-        const_decode_to_array::<4>(TEXT) => Ok(*b"kiwi"),
-        const_decode_to_array::<4>(ODD) => Err(ODD_LENGTH),
+        decode_to_slice(TEXT, &mut bytes) => Ok(()), decode_to_slice(BAD, &mut bytes) => Err(OTHER_LENGTH),
+        decode_to_front(TEXT, &mut bytes) => Ok(4), decode_to_front(BAD, &mut bytes) => Err(Z_AT_0),
+        decode_to_array::<4>(TEXT) => Ok(*b"kiwi"), decode_to_array::<1>(BAD) => Err(Z_AT_0),
+        const_decode_to_array::<4>(TEXT) => Ok(*b"kiwi"), const_decode_to_array::<4>(ODD) => Err(ODD_LENGTH),
     );
 }
 
@@ -100,37 +72,31 @@ fn decode_all(rt: &impl Print) {
 fn decode_chunks(rt: &impl Print) {
     let (mut decoder, mut bytes) = (Decoder::new(), [0; 4]);
     returns!(rt;
-        decoder.decode(b"0x6", &mut bytes) => Ok(0),
-        decoder.decode(b"b69776", &mut bytes) => Ok(3),
-        decoder.position() => 9,
-        decoder.finish() => Err(ODD_LENGTH),
+        decoder.decode(b"0x6", &mut bytes) => Ok(0), decoder.decode(b"b69776", &mut bytes) => Ok(3),
+        decoder.position() => 9, decoder.finish() => Err(ODD_LENGTH),
         decoder.decode(b"9999999999", &mut bytes) => Err(OTHER_LENGTH),
-        decoder.decode(b"9z", &mut bytes) => Err(invalid(b'z', 10)),
-        decoder.decode(b"9", &mut bytes) => Err(invalid(b'z', 10)),
-        decoder.finish() => Err(invalid(b'z', 10)),
+        decoder.decode(b"9z", &mut bytes) => Err(Z_AT_10), decoder.finish() => Err(Z_AT_10),
+        decoder.decode(b"9", &mut bytes) => Err(Z_AT_10),
     );
 }
 
 /// Vectors and pointers. An odd length is found before memory is asked for.
 fn decode_odd(rt: &impl Print, alloc: Global) {
+    let error = Some(ODD_LENGTH);
     returns!(rt;
-        decode(alloc, ODD).err() => Some(ODD_LENGTH),
-        <Vec<u8>>::from_hex(alloc, ODD).err() => Some(ODD_LENGTH),
-        <Vec<i8>>::from_hex(alloc, ODD).err() => Some(ODD_LENGTH),
-        <BoxedSlice<u8>>::from_hex(alloc, ODD).err() => Some(ODD_LENGTH),
-        <BoxedSlice<i8>>::from_hex(alloc, ODD).err() => Some(ODD_LENGTH),
-        <Box<Rc<Vec<u8>>>>::from_hex(alloc, ODD).err() => Some(ODD_LENGTH),
+        decode(alloc, ODD).err() => error, <Box<Rc<Vec<u8>>>>::from_hex(alloc, ODD).err() => error,
+        <Vec<u8>>::from_hex(alloc, ODD).err() => error, <Vec<i8>>::from_hex(alloc, ODD).err() => error,
+        <BoxedSlice<u8>>::from_hex(alloc, ODD).err() => error,
+        <BoxedSlice<i8>>::from_hex(alloc, ODD).err() => error,
     );
 }
 
 fn read_arrays(rt: &impl Print, alloc: Global, inputs: &Inputs) {
     let hash = Hash32::from_bytes([0xAB; 32]);
     returns!(rt;
-        <[u8; 4]>::from_hex(alloc, TEXT) => Ok(*b"kiwi"),
         <[i8; 4]>::from_hex(alloc, TEXT) => Ok([107, 105, 119, 105]),
-        <[u8; 4]>::from_hex(alloc, BAD) => Err(OTHER_LENGTH),
-        Hash32::from_hex(alloc, HASH) => Ok(hash),
-        Hash32::from_hex(alloc, ODD) => Err(ODD_LENGTH),
+        <[u8; 4]>::from_hex(alloc, TEXT) => Ok(*b"kiwi"), Hash32::from_hex(alloc, HASH) => Ok(hash),
+        <[u8; 4]>::from_hex(alloc, BAD) => Err(OTHER_LENGTH), Hash32::from_hex(alloc, ODD) => Err(ODD_LENGTH),
         Hash32::from_value(alloc, &inputs.hash) => Ok(hash),
         Hash32::from_value(alloc, &inputs.odd) => Err(JsonError::Hex(ODD_LENGTH)),
         deserialize::<Vec<u8>>(alloc, &inputs.odd).err() => Some(JsonError::Hex(ODD_LENGTH)),
@@ -152,47 +118,36 @@ fn by_kernel<K: Kernel>(rt: &impl Print, alloc: Global, _kernel: KernelCase) {
     wrong[100] = b'g';
     K::encode(&BYTES, false, &mut SliceOutput::new(&mut text));
     returns!(rt;
-        text => DIGITS,
-        K::check(&wrong) => false,
-        K::decode_checked(&wrong, &mut bytes) => false,
-        K::decode_checked(&DIGITS, &mut bytes) => true,
-        K::decode_part(&DIGITS, 0, &mut bytes) => true,
-        check_with::<K>(&wrong) => Err(invalid(b'g', 100)),
-        decode_with::<K>(alloc, ODD).err() => Some(ODD_LENGTH),
+        text => DIGITS, K::check(&wrong) => false, K::decode_checked(&wrong, &mut bytes) => false,
+        K::decode_checked(&DIGITS, &mut bytes) => true, K::decode_part(&DIGITS, 0, &mut bytes) => true,
+        decode_with::<K>(alloc, ODD).err() => Some(ODD_LENGTH), check_with::<K>(&wrong) => Err(G_AT_100),
         decode_to_slice_with::<K>(&DIGITS, &mut bytes) => Ok(()),
-        decode_to_slice_with::<K>(&wrong, &mut bytes) => Err(invalid(b'g', 100)),
+        decode_to_slice_with::<K>(&wrong, &mut bytes) => Err(G_AT_100),
         decode_to_front_with::<K>(&DIGITS, &mut bytes) => Ok(57),
-        decode_to_front_with::<K>(&wrong, &mut bytes) => Err(invalid(b'g', 100)),
+        decode_to_front_with::<K>(&wrong, &mut bytes) => Err(G_AT_100),
         encode_full_to_slice_with::<K>(&BYTES, true, false, &mut full) => Ok(()),
         encode_full_to_slice_with::<K>(&BYTES, true, false, &mut text) => Err(OTHER_LENGTH),
         Decoder::new().decode_with::<K>(&DIGITS, &mut bytes) => Ok(57),
-        Decoder::new().decode_with::<K>(&wrong, &mut bytes) => Err(invalid(b'g', 100)),
+        Decoder::new().decode_with::<K>(&wrong, &mut bytes) => Err(G_AT_100),
     );
     K::fill(&BYTES, true, &mut text);
     if K::check(&text) {
         K::decode_unchecked(&text, &mut bytes);
     }
     let (hex, mut sink) = (BufferedHex::<false, true>::new(&DATA), Counting::new(0));
-    returns!(rt;
-        bytes => BYTES,
-        hex.write_with::<K, Counting>(&mut sink) => Ok(()),
-    );
+    returns!(rt; bytes => BYTES, hex.write_with::<K, Counting>(&mut sink) => Ok(()),);
 }
 
 /// The calls of a module of lanes.
 macro_rules! by_lanes {
     ($rt:ident, $lanes:ident, $vector:ident, $kernel:ident) => {{
         let (digits, wrong) = ($vector::splat(b'a'), $vector::splat(b'g'));
-        let bytes = $vector::splat(0xAA);
+        let (bytes, other, ten) = ($vector::splat(0xAA), $vector::splat(0), $vector::splat(10));
         let [first, second] = $lanes::encode_chunk::<false>(bytes);
-        let other = $vector::splat(0);
         returns!($rt;
-            $lanes::nibbles(digits).to_array() => $vector::splat(10).to_array(),
-            $lanes::unhex(digits).to_array() => $vector::splat(10).to_array(),
-            $lanes::check_chunk(digits) => true,
-            $lanes::check_chunk(wrong) => false,
-            first.to_array() => digits.to_array(),
-            second.to_array() => digits.to_array(),
+            $lanes::nibbles(digits).to_array() => ten.to_array(), $lanes::check_chunk(digits) => true,
+            $lanes::unhex(digits).to_array() => ten.to_array(), $lanes::check_chunk(wrong) => false,
+            first.to_array() => digits.to_array(), second.to_array() => digits.to_array(),
             decoded_or::<$vector, $kernel>([digits, digits], other).to_array() => bytes.to_array(),
             decoded_or::<$vector, $kernel>([digits, wrong], other).to_array() => other.to_array(),
         );
@@ -208,13 +163,6 @@ fn by_lanes32(rt: &impl Print) {
 }
 
 fn write_all(rt: &impl Print, alloc: Global) {
-    write_outputs(rt);
-    write_sinks(rt);
-    let mut sink = PieceSink::new(alloc, 1);
-    returns!(rt; sink.write_str("piece") => Err(SinkError), sink.calls() => 1,);
-}
-
-fn write_outputs(rt: &impl Print) {
     let mut text = [0; 12];
     let mut output = BufferedOutput::<SliceOutput<'_>, 4>::new(SliceOutput::new(&mut text));
     output.write(b"abc");
@@ -227,6 +175,9 @@ fn write_outputs(rt: &impl Print) {
     output.write_byte(b'2');
     output.write(b"three");
     returns!(rt; output.remaining() => None, output.finish() => Err(SinkError),);
+    let mut sink = PieceSink::new(alloc, 1);
+    returns!(rt; sink.write_str("piece") => Err(SinkError), sink.calls() => 1,);
+    write_sinks(rt);
 }
 
 fn write_sinks(rt: &impl Print) {
@@ -236,12 +187,10 @@ fn write_sinks(rt: &impl Print) {
         WriteSink::new(&mut file),
     );
     returns!(rt;
-        hex.write_to(&mut sink) => Ok(()),
-        writer.write_hex::<false, true>(&DATA) => Ok(()),
+        hex.write_to(&mut sink) => Ok(()), writer.write_hex::<false, true>(&DATA) => Ok(()),
         writer.finish().is_ok() => true,
     );
     for bytes in [&DATA[..0], &DATA[..128], &DATA] {
-        let mut sink = Counting::new(0);
-        returns!(rt; serialize_inner::<false, true, Counting>(bytes, &mut sink) => Ok(()),);
+        returns!(rt; serialize_inner::<false, true, Counting>(bytes, &mut Counting::new(0)) => Ok(()),);
     }
 }
