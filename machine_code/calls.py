@@ -31,7 +31,7 @@ from contracts import (
     require_value,
     unchanged,
 )
-from exploration import outcomes, require
+from exploration import named, outcomes, require
 from induction import prove_class, prove_length, with_nulls
 from linear import symbol
 from memory import Pointer, Region, as_lane, as_value
@@ -60,9 +60,10 @@ class Case:
             self.assume(state)
         ends = [end for begin in with_nulls(code, state) for end in outcomes(code, begin)]
         for end in ends:
-            code.front_end.has_returned(end)
-            require(not end.leaks, "an address depends on an unknown byte")
-            self.judge(code, end)
+            with named(code, "at the return", end.last):
+                code.front_end.has_returned(end)
+                require(not end.leaks, "an address depends on an unknown byte")
+                self.judge(code, end)
         return len(ends)
 
 

@@ -1,5 +1,7 @@
 """Runs code from a state to the next places of interest, on each path that some input takes."""
 
+import contextlib
+
 from conditions import Impossible
 from linear import Split, Unknown, cases_of
 from memory import Fault
@@ -57,6 +59,7 @@ class Code:
         self.run.add(instruction.address)
         state.next = instruction.address + instruction.size
         target = handler(state, instruction)
+        state.last = instruction.address
         state.steps += 1
         state.at = state.next if target is None else target
 
@@ -67,6 +70,15 @@ class Code:
 
 
 RETURNED = "returned"
+
+
+@contextlib.contextmanager
+def named(code, what, address):
+    """What is refused here is refused with the name of an instruction."""
+    try:
+        yield
+    except Refused as refused:
+        raise Refused(f"{refused}, {what} {code.shown(address)}")
 
 
 def outcomes(code, state, places=(), may_stay=False):

@@ -12,7 +12,7 @@ import itertools
 
 from contracts import cases_of_answer
 from digits import IS_DIGIT
-from exploration import MOST_STEPS, RETURNED, Fork, Refused, outcomes, require, require_one_path, sides
+from exploration import MOST_STEPS, RETURNED, Fork, Refused, named, outcomes, require, require_one_path, sides
 from linear import Linear, Split, Unknown, in_terms_of, symbol
 from memory import Fault, Pointer, as_lane, as_value, is_whole, with_replaced
 from values import TooWide, WholeByte, kept, parts_of, unknown, variable
@@ -294,10 +294,8 @@ class Loop:
             last_states = list(outcomes(self.code, last, last_heads))
             last_ends = [state for state in last_states if state.at is RETURNED]
             require_one_path(self.accepted(last_ends))
-            others, ends = (
-                others + [state for state in last_states if state.at is not RETURNED],
-                ends + last_ends,
-            )
+            others = others + [state for state in last_states if state.at is not RETURNED]
+            ends = ends + last_ends
         return others, ends
 
     def accepted(self, ends):
@@ -306,11 +304,13 @@ class Loop:
 
 def judged(code, form, end):
     """Compares a state that has returned with the contract. Gives the states that accept their input."""
-    code.front_end.has_returned(end)
-    for state in cases_of_answer(code, end):
-        form.set_aside(state)
-        if form.ends(code, state):
-            yield state
+    with named(code, "at the return", end.last):
+        code.front_end.has_returned(end)
+        accepted = []
+        for state in cases_of_answer(code, end):
+            form.set_aside(state)
+            accepted += [state] if form.ends(code, state) else []
+        return accepted
 
 
 def prove_class(code, function, form, size, rest):
@@ -326,13 +326,15 @@ def prove_class(code, function, form, size, rest):
     loops = [head for head in heads.values() if not head.is_search]
     require_one_path([state for head in loops for state in arrivals[head.at]])
     for at, states in arrivals.items():
-        arrivals[at] = [arrived(form, state, heads[at], rest) for state in states]
+        with named(code, "on the way to the loop at", at):
+            arrivals[at] = [arrived(form, state, heads[at], rest) for state in states]
     for head in [*loops, *(head for head in heads.values() if head.is_search)]:
         if arrivals[head.at]:
-            others, ends = Loop(code, form, begin, head, heads, rest).prove(arrivals[head.at])
-            for state in others:
-                require(heads[state.at].is_search and not head.is_search, "a loop after a loop")
-                arrivals[state.at].append(arrived(form, state, heads[state.at], rest))
+            with named(code, "in the loop at", head.at):
+                others, ends = Loop(code, form, begin, head, heads, rest).prove(arrivals[head.at])
+                for state in others:
+                    require(heads[state.at].is_search and not head.is_search, "a loop after a loop")
+                    arrivals[state.at].append(arrived(form, state, heads[state.at], rest))
             judged_states += len(others) + len(ends)
     return judged_states
 
@@ -342,7 +344,9 @@ def prove_length(code, function, form, length):
     judged_states = 0
     for begin in with_nulls(code, form.start(code, function, length)):
         ends = list(outcomes(code, begin))
-        require_one_path([state for end in ends for state in judged(code, form, end)])
+        accepted = [state for end in ends for state in judged(code, form, end)]
+        with named(code, "for what returns at", ends[0].last):
+            require_one_path(accepted)
         judged_states += len(ends)
     return judged_states
 

@@ -148,6 +148,7 @@ def _test(what, build, call_and_form, length, function, change, wanted):
         self.assertIsNotNone(said, "it is accepted")
         self.assertIn(changed.address, code.run, "the instruction that was changed does not run")
         self.assertRegex(said, wanted)
+        self.assertRegex(said, r"^\w+ \w+, .*\d.*: .*\+0x[0-9a-f]+: \w+")  # the call, length and instruction
 
     return test
 

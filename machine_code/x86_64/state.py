@@ -24,7 +24,7 @@ class State:
         self.flags = None
         self.memory = memory
         self.path = path or Path()
-        self.at = self.next = None
+        self.at = self.next = self.last = None
         self.steps = 0
         self.trail = ()
         self.leaks = ()
