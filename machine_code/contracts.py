@@ -9,7 +9,7 @@ from there on. `bad` says that the text from `read` on has an invalid character.
 from conditions import Impossible, are_equal, conjunction
 from digits import IS_DIGIT, decoded, digits_of, is_digit, is_prefix
 from exploration import Refused, require, sides
-from linear import Linear, constant_of, linear, symbol, terms_of
+from linear import constant_of, linear, symbol, terms_of
 from memory import Pointer, Region, as_lane, as_value
 from values import CONSTANTS, ZERO, TooWide, constants, unknown, variable
 
@@ -342,7 +342,7 @@ class DecoderUpdate(Decode):
         return [Pointer("decoder", 0), text, length, *others], regions
 
     def assume(self, state):
-        if type(self.index) is Linear or self.index == 1:
+        if self.waits or self.index == 1:
             state.path.sets[variable("decoder", 8)] = IS_DIGIT
         if self.index == 0:
             assume_prefix(state, self.digits)

@@ -324,7 +324,8 @@ def prove_class(code, function, form, size, rest):
         require(state.at is not RETURNED, "it returns before the first round")
         arrivals[state.at].append(state)
     loops = [head for head in heads.values() if not head.is_search]
-    require_one_path([state for head in loops for state in arrivals[head.at]])
+    with named(code, "on the way from", begin.at):
+        require_one_path([state for head in loops for state in arrivals[head.at]])
     for at, states in arrivals.items():
         with named(code, "on the way to the loop at", at):
             arrivals[at] = [arrived(form, state, heads[at], rest) for state in states]
