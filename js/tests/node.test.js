@@ -85,8 +85,7 @@ test('lengths above 2^31', async () => {
     const { decode } = await loadOver((exports) => ({ ...exports, ...functions }));
     assert.equal(decode(even).length, 0);
     assert.equal(chunks, 2 ** 16 + 1);
-    // More than a string can have.
-    assert.throws(() => hex.encode(even), RangeError);
+    assert.throws(() => hex.encode(even), RangeError); // No string is that long.
 });
 
 test('positions above 2^31 and 2^32', () => {
