@@ -77,9 +77,9 @@
  * For valid input, branches and memory addresses do not depend on the bytes or digits, but only on lengths,
  * sizes, flags and pointers, on whether a text has a prefix, and on where the chunks of a text are split.
  * On x86-64 this is verified in the machine code of both builds, for every length below 2^53; on AArch64 it
- * is not examined. It does not hold for invalid text: the error states the position of the invalid character,
- * and timing reveals it too. How long an instruction takes is up to the CPU. No memory is wiped. libsodium has
- * sodium_bin2hex and sodium_hex2bin, which are made for secrets.
+ * is not examined. It does not hold for invalid text: the error states the position of the invalid
+ * character, and timing reveals it too. How long an instruction takes is up to the CPU. No memory is wiped.
+ * libsodium has sodium_bin2hex and sodium_hex2bin, which are made for secrets.
  *
  * PLATFORMS
  *
