@@ -24,7 +24,7 @@ extern crate alloc;
 #[cfg(feature = "std")]
 extern crate std;
 
-#[cfg(target_arch = "x86_64")]
+#[cfg(all(target_arch = "x86_64", target_feature = "sse2"))]
 #[allow(unsafe_code)]
 mod avx2;
 #[allow(unsafe_code)]
@@ -176,12 +176,15 @@ pub fn encode_to_slice_upper<T: AsRef<[u8]>>(
 /// assert_eq!(const_hex_proved::encode_to_str("kiwi", &mut text)?, "6b697769");
 /// # Ok::<(), const_hex_proved::FromHexError>(())
 /// ```
+#[allow(unsafe_code)]
 #[inline]
 pub fn encode_to_str<T: AsRef<[u8]>>(
     input: T,
     output: &mut [u8],
 ) -> Result<&mut str, FromHexError> {
-    encode_to_slice(input, output).map(|()| text_of_digits(output))
+    encode_to_slice(input, output)?;
+    // SAFETY: the encoder has filled the output.
+    Ok(unsafe { text_of_digits(output) })
 }
 
 /// Does the same as [`encode_to_slice_upper`], and returns the output as a string. Does not allocate.
@@ -189,18 +192,25 @@ pub fn encode_to_str<T: AsRef<[u8]>>(
 /// # Errors
 ///
 /// Returns the errors of [`encode_to_slice`].
+#[allow(unsafe_code)]
 #[inline]
 pub fn encode_to_str_upper<T: AsRef<[u8]>>(
     input: T,
     output: &mut [u8],
 ) -> Result<&mut str, FromHexError> {
-    encode_to_slice_upper(input, output).map(|()| text_of_digits(output))
+    encode_to_slice_upper(input, output)?;
+    // SAFETY: the encoder has filled the output.
+    Ok(unsafe { text_of_digits(output) })
 }
 
 /// Returns what an encoder has filled as a string.
+///
+/// # Safety
+///
+/// An encoder has filled all of it.
 #[allow(unsafe_code)]
 #[inline]
-fn text_of_digits(digits: &mut [u8]) -> &mut str {
+unsafe fn text_of_digits(digits: &mut [u8]) -> &mut str {
     debug_assert!(digits.is_ascii());
     // SAFETY: it is proved of the encoders that what they write is ASCII.
     unsafe { core::str::from_utf8_unchecked_mut(digits) }

@@ -1,6 +1,6 @@
 //! The kernel for the processor, and the choice between two at run time.
 
-#[cfg(target_arch = "x86_64")]
+#[cfg(all(target_arch = "x86_64", target_feature = "sse2"))]
 use crate::avx2::lanes32::Lanes32;
 use crate::proved::{Kernel, Output};
 use crate::rattle::registers::Portable;
@@ -8,7 +8,7 @@ use crate::rattle::registers::Portable;
 use crate::FromHexError;
 #[cfg(feature = "alloc")]
 use alloc::vec::Vec;
-#[cfg(target_arch = "x86_64")]
+#[cfg(all(target_arch = "x86_64", target_feature = "sse2"))]
 pub use avx2::has_avx2;
 
 /// The body of a function that runs by the kernel `$k`: on x86-64 the one over AVX2 if the processor has it,
@@ -24,7 +24,7 @@ macro_rules! by_kernel {
             type $k = Portable;
             $body
         }
-        #[cfg(target_arch = "x86_64")]
+        #[cfg(all(target_arch = "x86_64", target_feature = "sse2"))]
         #[target_feature(enable = "avx2")]
         #[cfg_attr(target_feature = "avx2", inline)]
         #[cfg_attr(not(target_feature = "avx2"), inline(never))]
@@ -32,7 +32,7 @@ macro_rules! by_kernel {
             type $k = Lanes32;
             $body
         }
-        #[cfg(target_arch = "x86_64")]
+        #[cfg(all(target_arch = "x86_64", target_feature = "sse2"))]
         #[cold]
         #[inline(never)]
         fn otherwise$(<$o: $output>)?($($argument: $type),*) $(-> $result)? {
@@ -42,12 +42,12 @@ macro_rules! by_kernel {
             }
             portable($($argument),*)
         }
-        #[cfg(target_arch = "x86_64")]
+        #[cfg(all(target_arch = "x86_64", target_feature = "sse2"))]
         if avx2::is_known() {
             // SAFETY: the processor has AVX2.
             return unsafe { with_avx2($($argument),*) };
         }
-        #[cfg(not(target_arch = "x86_64"))]
+        #[cfg(not(all(target_arch = "x86_64", target_feature = "sse2")))]
         use portable as otherwise;
         otherwise($($argument),*)
     }};
@@ -101,7 +101,7 @@ fn decode_by<K: Kernel>(text: &[u8]) -> Result<Vec<u8>, FromHexError> {
 }
 
 /// Whether the processor has AVX2.
-#[cfg(target_arch = "x86_64")]
+#[cfg(all(target_arch = "x86_64", target_feature = "sse2"))]
 mod avx2 {
     use core::arch::x86_64::{__cpuid, __cpuid_count, _xgetbv};
     use core::sync::atomic::{AtomicU8, Ordering::Relaxed};
@@ -126,6 +126,10 @@ mod avx2 {
     /// Asks the processor whether it has AVX2, and whether the operating system keeps its registers.
     #[cold]
     fn detect() -> bool {
+        // In an enclave the instruction `cpuid` is not allowed.
+        if cfg!(target_env = "sgx") {
+            return false;
+        }
         #[target_feature(enable = "xsave")]
         unsafe fn kept_registers() -> u64 {
             // SAFETY: the processor has this instruction, and the operating system has enabled it.
@@ -147,7 +151,7 @@ mod avx2 {
     }
 }
 
-#[cfg(all(test, target_arch = "x86_64"))]
+#[cfg(all(test, target_arch = "x86_64", target_feature = "sse2"))]
 #[test]
 fn avx2_is_found_as_by_std() {
     assert_eq!(has_avx2(), std::is_x86_feature_detected!("avx2"));

@@ -22,7 +22,7 @@
 //! ```
 
 use crate::display;
-use crate::proved::codec::encoders::encode_full_to_slice;
+use crate::proved::{ascii_text, fill_text, text_length, FixedKernel};
 use ::serde::de::{Deserializer, Error, Visitor};
 use ::serde::Serializer;
 use core::fmt;
@@ -81,9 +81,9 @@ fn write<const UPPER: bool, const PREFIX: bool, S: Serializer>(
     if bytes.len() > AT_ONCE {
         return serializer.collect_str(&Printed::<UPPER, PREFIX>(bytes));
     }
-    let text = &mut text[..2 * usize::from(PREFIX) + 2 * bytes.len()];
-    encode_full_to_slice(bytes, PREFIX, UPPER, text).expect("the output has the text's length");
-    serializer.serialize_str(crate::text_of_digits(text))
+    let text = &mut text[..text_length(PREFIX, bytes.len())];
+    fill_text::<FixedKernel>(bytes, PREFIX, UPPER, text);
+    serializer.serialize_str(ascii_text(text))
 }
 
 /// Bytes that are printed as text.

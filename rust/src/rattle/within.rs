@@ -19,8 +19,8 @@ pub trait Within {
     ) -> &mut [Self::Item];
 }
 
-/// Whether ranges are tested.
-const IS_TESTED: bool = cfg!(any(debug_assertions, feature = "checked"));
+/// Whether what the proof covers is tested, too.
+pub(crate) const IS_TESTED: bool = cfg!(any(debug_assertions, feature = "checked"));
 
 impl<T> Within for [T] {
     type Item = T;

@@ -1,11 +1,16 @@
-//! Registers of 16, 32 and 64 bytes: what each processor of the architecture has, and pairs of it.
+//! Registers of 16, 32 and 64 bytes: what each processor of the target has, and pairs of it. A target for
+//! kernels of operating systems may be without them.
 
-#[cfg(target_arch = "x86_64")]
+#[cfg(all(target_arch = "x86_64", target_feature = "sse2"))]
 #[path = "sse2.rs"]
 mod kind;
 
 // On aarch64 with the most significant byte first, lanes are counted otherwise.
-#[cfg(all(target_arch = "aarch64", target_endian = "little"))]
+#[cfg(all(
+    target_arch = "aarch64",
+    target_endian = "little",
+    target_feature = "neon"
+))]
 #[path = "neon.rs"]
 mod kind;
 
@@ -14,8 +19,12 @@ mod kind;
 mod kind;
 
 #[cfg(not(any(
-    target_arch = "x86_64",
-    all(target_arch = "aarch64", target_endian = "little"),
+    all(target_arch = "x86_64", target_feature = "sse2"),
+    all(
+        target_arch = "aarch64",
+        target_endian = "little",
+        target_feature = "neon"
+    ),
     all(target_arch = "wasm32", target_feature = "simd128"),
 )))]
 #[path = "array.rs"]

@@ -1,4 +1,4 @@
-//! NEON, which every 64-bit ARM processor has.
+//! NEON.
 
 use super::Register;
 use core::arch::aarch64::*;

@@ -1,4 +1,4 @@
-//! SSE2, which every x86-64 processor has.
+//! SSE2.
 
 use super::Register;
 use core::arch::x86_64::*;

@@ -117,7 +117,7 @@ fn registers_of_the_architecture() {
     compare_widths!(crate::rattle::registers);
 }
 
-#[cfg(target_arch = "x86_64")]
+#[cfg(all(target_arch = "x86_64", target_feature = "sse2"))]
 #[test]
 fn registers_of_avx2() {
     use crate::avx2::registers;
