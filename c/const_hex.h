@@ -111,7 +111,7 @@
 #define CONST_HEX_VERSION 10000
 
 /*
- * The compiler warns if a result is ignored, and if NULL is passed where it is not allowed. GCC also warns
+ * GCC and Clang warn if a result is ignored, and if NULL is passed where it is not allowed. GCC also warns
  * if it sees that a buffer is smaller than the size that is passed with it.
  */
 #if defined(__has_attribute)
@@ -201,7 +201,7 @@ size_t const_hex_error_message(const struct const_hex_error *error, char *messag
 
 /* ---- Encoding ---- */
 
-/* Flags for encoding; combine them with |. With 0 the text is lowercase, has no prefix and ends with a NUL. */
+/* Flags for encoding; combine them with |. With 0 the text is lowercase, has no prefix, and a NUL follows. */
 #define CONST_HEX_UPPER 1u  /* uppercase digits: 6B instead of 6b */
 #define CONST_HEX_PREFIX 2u /* "0x" before the digits, also with CONST_HEX_UPPER */
 #define CONST_HEX_NO_NUL 4u /* no NUL terminator, as for a field of fixed length in a packet or a file */
