@@ -32,19 +32,19 @@ EndsEncoded up bytes slice result =
     Rests (Array u8 0) slice
     (λ new. MatchResult result (λ _. new ≡ hex_text up bytes) (λ _. new ≡ slice.now))
 
--- ---- writes to a vector that has room, and decoding into one
+-- ---- writes to a vector that has space, and decoding into one
 
 -- the capacity that is left
 abbrev pub spare_room : ReservedOutput → ℕ
 spare_room o = vec_capacity o.bytes - vec_len o.bytes
 
--- the piece stands behind what the vector held, and the capacity is unchanged
+-- the piece follows what the vector held, and the capacity is unchanged
 pub record ReservedStep (s : ReservedOutput) (piece : List ℕ) (t : ReservedOutput) : Type 0 where
   pub room : vec_capacity t.bytes ≡ vec_capacity s.bytes
   pub count : vec_len t.bytes ≡ vec_len s.bytes + length piece
   pub text : t.bytes.items ≡ s.bytes.items ++ piece
 
--- the vector holds the bytes that a front of the digits spells, and has room for the rest
+-- the vector holds the bytes that the first digits decode to, and has space for the rest
 pub record HoldsFront (digits : List ℕ) (o : ReservedOutput) : Type 0 where
   pub front : Spells (take (2 * vec_len o.bytes) digits) o.bytes.items
   pub within : 2 * vec_len o.bytes ≤ length digits

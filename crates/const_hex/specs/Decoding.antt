@@ -15,7 +15,7 @@ abbrev pub listed : Option ℕ → List ℕ
 listed None = []
 listed (Some b) = b ∷ []
 
--- the digit that waits for its other half, if there is one
+-- the digit that waits for the second digit of its byte, if there is one
 abbrev pub waiting_digit : Decoder → List ℕ
 waiting_digit d = if d.state == 1 then d.byte ∷ [] else []
 
@@ -31,7 +31,7 @@ error_of d = if nat_le d.state 1 then None else Some (InvalidHexCharacter d.byte
 abbrev pub zero_decoder : Decoder
 zero_decoder = record { index = 0; byte = 0; state = 0 }
 
--- the decoder has read the text t without an error, and has given the bytes bs: the body of t is
+-- the decoder has read the text t without an error, and has written the bytes bs: the body of t is
 -- two digits for each byte, and at most one digit more, which waits
 pub record HasRead (d : Decoder) (t bs : List ℕ) : Type 0 where
   pub no_error : error_of d ≡ None
@@ -45,8 +45,8 @@ pub record HasRead (d : Decoder) (t bs : List ℕ) : Type 0 where
 abbrev pub NamesCounted : List ℕ → ℕ → ℕ → Type 0
 NamesCounted t c index = (n : ℕ) × NamesFirstBad t c n × (index ≡ counted n)
 
--- the answer when t was read so far, the bytes bs were given before its last chunk, and there is
--- space for n bytes: the space is tested first, by the count of digits, and then each digit
+-- the result when t was read so far, the bytes bs were written before its last chunk, and there is
+-- space for n bytes: the space is tested first, by the number of digits, and then each digit
 abbrev pub ReadsOn : List ℕ → List ℕ → ℕ → Result ℕ FromHexError → Type 0
 ReadsOn t bs n (Ok more) =
     (more ≤ n) × (length (body_of t) / 2 ≡ length bs + more) × AllDigits (body_of t)
@@ -57,7 +57,7 @@ ReadsOn t bs n (Err (InvalidHexCharacter c i)) =
 ReadsOn t bs n (Err NoMemory) = ⊥
 
 -- `Decoder::decode`: the decoder `before` reads the chunk into an output that held `old`, with this
--- result, which is the number of new bytes; t is what was read so far, and bs the bytes given for it
+-- result, which is the number of new bytes; t is what was read before, and bs the bytes written for it
 pub record DecodesChunk (before : Decoder) (chunk old new : List ℕ) (after : Decoder) (r : Result ℕ FromHexError) : Type 0 where
   pub ok : (t bs : List ℕ) → HasRead before t bs → IfOk r (λ n. HasRead after (t ++ chunk) (bs ++ take n new))
   pub answer : (t bs : List ℕ) → HasRead before t bs → ReadsOn (t ++ chunk) bs (length old) r

@@ -8,7 +8,7 @@ use Rattle.std.specs.Option.{is_some}
 
 -- ---- a text without its prefix
 
--- the text without `0x` or `0X` at its start: one prefix is taken away, never two
+-- the text without `0x` or `0X` at its start: one prefix is removed, never two
 abbrev pub body_of : List ℕ → List ℕ
 body_of [] = []
 body_of (c ∷ []) = c ∷ []
@@ -23,7 +23,7 @@ abbrev pub NamesFirstBad : List ℕ → ℕ → ℕ → Type 0
 NamesFirstBad t c index =
     (p : ℕ) × FirstBad (body_of t) p × (c ≡ slice_index (body_of t) p) × (index ≡ p + (length t - length (body_of t)))
 
--- ---- the answers for a text
+-- ---- the results for a text
 
 abbrev pub IsOdd : ℕ → Type 0
 IsOdd n = n % 2 ≡ 1
@@ -35,8 +35,8 @@ IsEven n = n % 2 ≡ 0
 abbrev pub AreBytes : List ℕ → Type 0
 AreBytes bs = (k : ℕ) → slice_index bs k < 256
 
--- the answer when the text t is read: `OddLength` if the length of the whole text is odd; else the
--- bytes that its body spells, or else the first invalid character
+-- the result when the text t is read: `OddLength` if the length of the whole text is odd; else the
+-- bytes that its body decodes to, or else the first invalid character
 abbrev pub Reads : List ℕ → Result (List ℕ) FromHexError → Type 0
 Reads t (Ok bs) = IsEven (length t) × Spells (body_of t) bs
 Reads t (Err OddLength) = IsOdd (length t)
@@ -44,7 +44,7 @@ Reads t (Err InvalidStringLength) = ⊥
 Reads t (Err (InvalidHexCharacter c i)) = IsEven (length t) × NamesFirstBad t c i
 Reads t (Err NoMemory) = ⊥
 
--- the answer when t is read as n bytes: if the length is not odd, a body of another length is
+-- the result when t is read as n bytes: if the length is not odd, a body of another length is
 -- an error, before any of its bytes is tested
 abbrev pub ReadsSized : List ℕ → ℕ → Result (List ℕ) FromHexError → Type 0
 ReadsSized t n (Ok bs) = (length (body_of t) ≡ 2 * n) × Reads t (Ok bs)
@@ -62,7 +62,7 @@ all_digits u = list_all (λ b. is_some (hex_value b)) u
 abbrev pub is_text_of : ℕ → List ℕ → Bool
 is_text_of n t = (length (body_of t) == 2 * n) && all_digits (body_of t)
 
--- the answer when t is read into space for n bytes: if the length is not odd, a body with too many
+-- the result when t is read into space for n bytes: if the length is not odd, a body with too many
 -- digits is an error, before any of its bytes is tested
 abbrev pub ReadsWithin : List ℕ → ℕ → Result (List ℕ) FromHexError → Type 0
 ReadsWithin t n (Ok bs) = (length (body_of t) ≤ 2 * n) × Reads t (Ok bs)
@@ -72,7 +72,7 @@ ReadsWithin t n (Err (InvalidHexCharacter c i)) =
     (length (body_of t) ≤ 2 * n) × Reads t (Err (InvalidHexCharacter c i))
 ReadsWithin t n (Err NoMemory) = ⊥
 
--- the answer when t is checked: the answer when it is read, without the bytes
+-- the result when t is checked: the result when it is read, without the bytes
 abbrev pub Checks : List ℕ → Result Unit FromHexError → Type 0
 Checks t (Ok u) = (bs : List ℕ) × Reads t (Ok bs)
 Checks t (Err e) = Reads t (Err e)
@@ -93,7 +93,7 @@ message_of InvalidStringLength = Some (codes "invalid string length")
 message_of (InvalidHexCharacter c i) = None
 message_of NoMemory = Some (codes "out of memory")
 
--- ---- what the calls of the codec promise, once for each call and those that differ by a kernel alone
+-- ---- what the functions of the codec promise; functions that differ only by a kernel share a record
 
 -- `encode`: the text is two digits for each byte
 pub record Encodes {A E : Type 0} (up : Bool) (bs : List ℕ) (r : Result (String A) E) : Type 0 where
@@ -141,7 +141,7 @@ pub record DecodesToFront (t old new : List ℕ) (r : Result ℕ FromHexError) :
 -- `decode_to_array`: the result for the text t and n bytes
 pub record DecodesToArray (n : ℕ) (t : List ℕ) (r : Result (List ℕ) FromHexError) : Type 0 where
   pub answer : ReadsSized t n r
-  -- for a constant text this computes, so the check proves an `unwrap`
+  -- for a constant text this is computed, which proves that an `unwrap` succeeds
   pub accepts : IsOk r ↔ IsTrue (is_text_of n t)
   -- what was encoded of n bytes is decoded to the same bytes
   pub round_trip : (prefix up : Bool) (bs : List ℕ) → AreBytes bs → length bs ≡ n → t ≡ full_text prefix up bs → r ≡ Ok bs

@@ -5,17 +5,17 @@ use Rattle.std.proofs.lemmas.Bool.{cases_eq}
 use Rattle.std.proofs.lemmas.Bool.Decides.{nat_tests}
 use Rattle.const_hex_arch.proofs.lemmas.Spelling.{Spells-length, Spells-bytes, Spells-some, digits_or_bad}
 use Rattle.const_hex.specs.Results.{body_of, Reads, ReadsSized, AreBytes, IsEven}
-use Rattle.const_hex.specs.Types.{signed_of, byte_of, is_no_memory, AnyCount, IsCount, RefusesOrMisfits, IsFaithful, ReadsOwned, ReadsAs, ReadsSigned, ReadsThrough}
+use Rattle.const_hex.specs.Types.{signed_of, byte_of, is_no_memory, AnyCount, IsCount, IsRejected, IsFaithful, ReadsOwned, ReadsAs, ReadsSigned, ReadsThrough}
 use Rattle.const_hex.specs.declared.error.FromHexError.{FromHexError}
 use Rattle.const_hex.specs.declared.error.FromHexError.TheVariants.{OddLength, InvalidStringLength, InvalidHexCharacter, NoMemory}
 
--- ---- each text has an answer
+-- ---- each text has a result
 
 -- a prefix has two bytes
 pub body-parity : (t : List ℕ) → length (body_of t) % 2 ≡ length t % 2
 body-parity t = grind arith
 
--- every text has an answer
+-- every text has a result
 pub Reads-some : (t : List ℕ) → (r : Result (List ℕ) FromHexError) × Reads t r
 Reads-some t =
     elim (cases_eq (length t % 2) 1) [
@@ -39,7 +39,7 @@ ReadsOwned-faithful bytes t (Err e) h = λ known. inl (e, grind (arith, known))
 -- ---- arrays
 
 -- a body of another length is an error, or its bytes do not fit
-unfit : (n : ℕ) (t : List ℕ) → length (body_of t) ≢ 2 * n → (r : Result (List ℕ) FromHexError) × Reads t r → RefusesOrMisfits (IsCount n) t
+unfit : (n : ℕ) (t : List ℕ) → length (body_of t) ≢ 2 * n → (r : Result (List ℕ) FromHexError) × Reads t r → IsRejected (IsCount n) t
 unfit n t other (Ok bs, h) =
     inr (bs, h, λ same. let len = Spells-length (body_of t) bs h.1 in other (omega (arith, len, same)))
 unfit n t other (Err e, h) = inl (e, h)

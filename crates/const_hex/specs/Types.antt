@@ -19,16 +19,16 @@ abbrev pub byte_of : ℤ → ℕ
 byte_of (pos n) = n
 byte_of (negsuc n) = 255 - n
 
--- ---- a text that is read into a type: the answers that it may have, and their law
+-- ---- a text that is read into a type: the results that it may have, and their law
 
--- which errors for a text are of memory
+-- which errors for a text mean that memory ran out
 abbrev pub is_no_memory : FromHexError → Bool
 is_no_memory OddLength = false
 is_no_memory InvalidStringLength = false
 is_no_memory (InvalidHexCharacter c i) = false
 is_no_memory NoMemory = true
 
--- every count of bytes fits
+-- every number of bytes fits
 abbrev pub AnyCount : ℕ → Type 0
 AnyCount n = Unit {0}
 
@@ -36,20 +36,20 @@ AnyCount n = Unit {0}
 abbrev pub IsCount : ℕ → ℕ → Type 0
 IsCount n count = count ≡ n
 
--- there is an error for the text t, or it spells a number of bytes that does not fit
-abbrev pub RefusesOrMisfits : (ℕ → Type 0) → List ℕ → Type 0
-RefusesOrMisfits fits t =
+-- there is an error for the text t, or it decodes to a number of bytes that does not fit
+abbrev pub IsRejected : (ℕ → Type 0) → List ℕ → Type 0
+IsRejected fits t =
     ((e : FromHexError) × Reads t (Err e))
     ⊎ ((bs : List ℕ) × Reads t (Ok bs) × (fits (length bs) → ⊥))
 
--- the law of types that are read from text: a value has the bytes that the text spells, and a
--- fitting number of them; an error is of memory, or the text has an error without a type,
--- or its number of bytes does not fit
+-- the law of types that are read from text: a value has the bytes that the text decodes to, and
+-- their number fits; an error means that memory ran out, or that the text is rejected for each type,
+-- or that its number of bytes does not fit
 abbrev pub IsFaithful : {V E : Type 0} → (V → List ℕ) → (ℕ → Type 0) → (E → Bool) → List ℕ → Result V E → Type 0
 IsFaithful bytes fits is_memory t (Ok v) = Reads t (Ok (bytes v)) × fits (length (bytes v))
-IsFaithful bytes fits is_memory t (Err e) = is_memory e ≡ false → RefusesOrMisfits fits t
+IsFaithful bytes fits is_memory t (Err e) = is_memory e ≡ false → IsRejected fits t
 
--- the answers of a type that owns its bytes: the text's answer, or, if its length is even, no
+-- the results of a type that owns its bytes: the text's result, or, if its length is even, out of
 -- memory
 abbrev pub ReadsOwned : {V : Type 0} → (V → List ℕ) → List ℕ → Result V FromHexError → Type 0
 ReadsOwned bytes t (Ok v) = Reads t (Ok (bytes v))
@@ -58,18 +58,18 @@ ReadsOwned bytes t (Err InvalidStringLength) = ⊥
 ReadsOwned bytes t (Err (InvalidHexCharacter c i)) = Reads t (Err (InvalidHexCharacter c i))
 ReadsOwned bytes t (Err NoMemory) = IsEven (length t)
 
--- the answers of a type of your own: the answers for bytes, with a value that stands for its bytes
+-- the results of a type of your own: the results for bytes, with a value that stands for its bytes
 abbrev pub ReadsAs : {V : Type 0} → (V → List ℕ) → (List ℕ → Result (List ℕ) FromHexError → Type 0) → List ℕ → Result V FromHexError → Type 0
 ReadsAs bytes answers t (Ok v) = answers t (Ok (bytes v))
 ReadsAs bytes answers t (Err e) = answers t (Err e)
 
--- the answers of a type of signed elements: the answers for bytes, with the bits of the bytes
+-- the results of a type of signed elements: the results for bytes, with the bits of the bytes
 abbrev pub ReadsSigned : {V : Type 0} → (V → List ℤ) → (List ℕ → Result (List ℕ) FromHexError → Type 0) → List ℕ → Result V FromHexError → Type 0
 ReadsSigned items answers t (Ok v) = (bs : List ℕ) × answers t (Ok bs) × (items v ≡ map signed_of bs)
 ReadsSigned items answers t (Err e) = answers t (Err e)
 
--- the answers of a pointer: the answers of its target, or an error of memory if the target may have
--- a value
+-- the results of a pointer: the results of its target, or out of memory if the target may have a
+-- value
 abbrev pub ReadsThrough : {W V E : Type 0} → (W → V) → (E → Bool) → (List ℕ → Result V E → Type 0) → List ℕ → Result W E → Type 0
 ReadsThrough target is_memory answers t (Ok w) = answers t (Ok (target w))
 ReadsThrough {W} {V} target is_memory answers t (Err e) =
@@ -77,7 +77,7 @@ ReadsThrough {W} {V} target is_memory answers t (Err e) =
 
 -- ---- a JSON value that is read into a type
 
--- the answers for a JSON string: the type's answers for its bytes, with an error inside `Hex`
+-- the results for a JSON string: the type's results for its bytes, with an error inside `Hex`
 abbrev pub ReadsInside : {V E : Type 0} → (List ℕ → Result V E → Type 0) → List ℕ → Result V (JsonError E) → Type 0
 ReadsInside answers t (Ok v) = answers t (Ok v)
 ReadsInside answers t (Err NotText) = ⊥
@@ -90,8 +90,8 @@ json_message message (Hex e) = message e
 
 -- ---- the characters that are left in an iterator over the text of bytes
 
--- the second character of a byte that is begun, if there is one, and then the characters of the
--- rest
+-- the second digit of a byte whose first was returned, if there is one, and then the characters of
+-- the rest
 abbrev pub with_low : Option ℕ → List ℕ → List ℕ
 with_low None xs = xs
 with_low (Some c) xs = c ∷ xs

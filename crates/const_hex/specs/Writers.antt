@@ -18,7 +18,7 @@ use Rattle.const_hex_arch.specs.Sinks.{told_after}
 abbrev pub display_bytes : Display → List ℕ
 display_bytes d = d.input.now
 
--- their text, with `0x` in front if a prefix is wanted; a formatter wants one if it has `#`
+-- their text, after `0x` if a prefix is wanted; a formatter wants one if it has `#`
 abbrev pub printed_text : Bool → Bool → Display → List ℕ
 printed_text prefix up d = full_text prefix up (display_bytes d)
 
@@ -61,7 +61,7 @@ first_error s = s.error
 abbrev pub has_failed : {W : Type 0} → WriteSink W → Bool
 has_failed s = is_some s.error
 
--- the same writer has written the text if it did not fail, and a beginning of the text if it did;
+-- the same writer has written the text if it did not fail, and a beginning of the text if it failed;
 -- for an empty text nothing changes
 pub record WriteStep {W : Type 0} (contents : W → Option (List ℕ)) (s : WriteSink W) (text : List ℕ) (t : WriteSink W) : Type 0 where
   pub same_writer : writer_name t ≡ writer_name s
@@ -71,7 +71,7 @@ pub record WriteStep {W : Type 0} (contents : W → Option (List ℕ)) (s : Writ
 
 -- ---- text that is written to a sink
 
--- what a sink tells after is what it told before, and then pieces that together are the text
+-- the pieces that the sink reports after are those before, and then pieces that together are the text
 pub record TellsWhole (old : Option (List (List ℕ))) (text : List ℕ) (new : Option (List (List ℕ))) : Type 0 where
   pub pieces : List (List ℕ)
   pub whole : concat pieces ≡ text

@@ -47,8 +47,8 @@ as_value n = if nat_le n 15 then Some n else None
 abbrev pub IsValueOf : ℕ → ℕ → Type 0
 IsValueOf b n = IsDigit b → hex_value b ≡ Some n
 
--- if the byte is a digit, n is its value; the byte less 48, less n, has no mark exactly if the byte
--- is a digit
+-- if the byte is a digit, n is its value; the byte less 48, less n, has no mark if and only if the
+-- byte is a digit
 abbrev pub IsPartOf : ℕ → ℕ → Type 0
 IsPartOf b n = IsValueOf b n × (IsUnmarked (((b + 208) % 256 + (256 - n)) % 256) ↔ IsDigit b)
 

@@ -4,13 +4,13 @@ use Rattle.std.specs.List.{FoldsTo, concat, All}
 use Rattle.std.specs.Borrow.{GName}
 use Rattle.const_hex_arch.specs.declared.output.slice.SliceOutput.{SliceOutput}
 
--- ---- pieces of text that are written one after another, and the room that they leave
+-- ---- pieces of text that are written one after another, and the space that they leave
 
 -- n more bytes fit, or there is no limit
 abbrev pub HasRoom : Option ℕ → ℕ → Type 0
 HasRoom room n = n ≤ unwrap_or room n
 
--- the room that is left after n bytes
+-- the space that is left after n bytes
 abbrev pub less_room : Option ℕ → ℕ → Option ℕ
 less_room (Some room) n = Some (room - n)
 less_room None n = None
@@ -40,7 +40,7 @@ slice_written o = o.count
 abbrev pub slice_name : SliceOutput → GName
 slice_name o = o.slice.ghost_name
 
--- the piece stands in the slice behind what was written, and the rest of the slice is unchanged
+-- the piece stands in the slice after what was written, and the rest of the slice is unchanged
 pub record Placed (old : List ℕ) (at : ℕ) (piece : List ℕ) (new : List ℕ) (end : ℕ) : Type 0 where
   pub end_at : end ≡ at + length piece
   pub same_length : length new ≡ length old
@@ -58,20 +58,20 @@ abbrev pub piece_of : List ℕ → List (List ℕ)
 piece_of [] = []
 piece_of (b ∷ bs) = (b ∷ bs) ∷ []
 
--- a piece shorter than n: nothing is handed on; or, if the pending text and the piece do not fit
+-- a piece shorter than n: nothing is passed on; or, if the pending text and the piece do not fit
 -- together, only the pending text
 abbrev pub FlushesPending : ℕ → List ℕ → List ℕ → List (List ℕ) → Type 0
 FlushesPending n pending piece handed =
     (handed ≡ []) ⊎ ((handed ≡ pending ∷ []) × (n < length pending + length piece))
 
--- a piece of n bytes or more: the pending text is handed on, if there is any, and then the piece; a
+-- a piece of n bytes or more: the pending text is passed on, if there is any, and then the piece; a
 -- piece of exactly n bytes may stay pending instead
 abbrev pub HandsOnPiece : ℕ → List ℕ → List ℕ → List (List ℕ) → Type 0
 HandsOnPiece n pending piece handed =
     (handed ≡ piece_of pending ++ piece ∷ []) ⊎ ((handed ≡ piece_of pending) × (length piece ≡ n))
 
 -- a write of the piece to an output that gathers n bytes, from the pending text `pending` to the
--- pending text `rest`: some pieces are handed on; followed by `rest`, they are `pending` and then the
+-- pending text `rest`: some pieces are passed on; followed by `rest`, they are `pending` and then the
 -- piece; at most n bytes are pending, and they fit into the output
 pub record Gathers {O : Type 0} (step : O → List ℕ → O → Type 0) (room : O → Option ℕ) (n : ℕ) (old : O) (pending piece : List ℕ) (new : O)
     (rest : List ℕ) : Type 0 where

@@ -5,9 +5,9 @@ use Rattle.const_hex_arch.specs.declared.sink.output.SinkOutput.{SinkOutput}
 use Rattle.std.specs.List.{concat, All}
 use Rattle.const_hex_arch.specs.declared.stream.BufferedHex.{BufferedHex}
 
--- ---- what sinks tell of the accepted pieces, and what outputs over sinks do
+-- ---- what sinks report of the accepted pieces, and what outputs over sinks do
 
--- the pieces that were told, and then more, if a sink tells them
+-- the pieces that were reported, and then more, if a sink reports them
 abbrev pub told_after : Option (List (List ℕ)) → List (List ℕ) → Option (List (List ℕ))
 told_after (Some told) more = Some (told ++ more)
 told_after None more = None
@@ -20,7 +20,7 @@ output_sink o = o.sink.now
 abbrev pub sink_name : {S : Type 0} → SinkOutput S → GName
 sink_name o = o.sink.ghost_name
 
--- a step of the same sink if it has not refused, and nothing if it has
+-- a step of the same sink if it has not failed, and nothing if it has
 pub record SinkStep {S : Type 0} (step : S → List ℕ → S → Type 0) (is_refused : S → Bool) (s : SinkOutput S) (piece : List ℕ) (t : SinkOutput S) : Type 0 where
   pub same_sink : sink_name t ≡ sink_name s
   pub accepting : is_refused (output_sink s) ≡ false → step (output_sink s) piece (output_sink t)
@@ -28,25 +28,25 @@ pub record SinkStep {S : Type 0} (step : S → List ℕ → S → Type 0) (is_re
 
 -- ---- a sink that keeps its pieces
 
--- the accepted pieces, the number of the call that is to be refused, and whether one was refused
+-- the accepted pieces, the number of the call that is to fail, and whether one has failed
 pub record PieceState : Type 0 where
   pub pieces : List (List ℕ)
   pub refuse_at : ℕ
   pub refused : Bool
 
--- how many calls there were: one for each accepted piece, and the refused one
+-- how many calls there were: one for each accepted piece, and the one that failed
 abbrev pub count_of_calls : PieceState → ℕ
 count_of_calls s = length s.pieces + (if s.refused then 1 else 0)
 
--- one call: the piece is accepted and stands last, or it is refused and the pieces are unchanged;
--- the call with the given number is refused
+-- one call: the piece is accepted and stands last, or the call fails and the pieces are unchanged;
+-- the call with the given number fails
 pub record PieceStep (s : PieceState) (piece : List ℕ) (t : PieceState) : Type 0 where
   pub same_number : t.refuse_at ≡ s.refuse_at
   pub accepted : t.refused ≡ false → t.pieces ≡ s.pieces ++ piece ∷ []
   pub kept : t.refused ≡ true → t.pieces ≡ s.pieces
   pub due : length s.pieces + 1 ≡ s.refuse_at → t.refused ≡ true
 
--- ---- a text that is handed to a sink in large pieces
+-- ---- a text that is passed to a sink in large pieces
 
 -- the bytes that are written as text
 abbrev pub hex_bytes : {upper prefix : ℕ} → BufferedHex upper prefix → List ℕ
@@ -70,14 +70,14 @@ pub record Cut (text : List ℕ) (pieces : List (List ℕ)) : Type 0 where
   pub sizes : All IsCallPiece pieces
   pub large : All IsLargePiece (all_but_last pieces)
 
--- a sink takes a step for each piece, in order, and has not refused before any of them
+-- a sink takes a step for each piece, in order, and has not failed before any of them
 abbrev pub Offers : {S : Type 0} → (S → List ℕ → S → Type 0) → (S → Bool) → S → List (List ℕ) → S → Type 0
 Offers step is_refused s [] t = s ≡ t
 Offers {S} step is_refused s (p ∷ ps) t = (is_refused s ≡ false) × ((m : S) × step s p m × Offers step is_refused m ps t)
 
--- some cut of the text is offered to a sink, piece by piece, up to the first refusal or to the end;
--- if nothing is refused, that is all of the text; there are no more calls than pieces of 4033 bytes
--- would need
+-- the text, cut in some way, is passed to a sink piece by piece, up to the first error or to the end;
+-- without an error, that is all of the text; there are no more calls than pieces of 4033 bytes would
+-- need
 pub record Streams {S : Type 0} (step : S → List ℕ → S → Type 0) (is_refused : S → Bool) (old : S) (text : List ℕ) (new : S) : Type 0 where
   pub pieces : List (List ℕ)
   pub offered : ℕ
@@ -87,13 +87,13 @@ pub record Streams {S : Type 0} (step : S → List ℕ → S → Type 0) (is_ref
   pub complete : is_refused new ≡ false → offered ≡ length pieces
   pub calls : offered ≤ (length text + 4032) / 4033
 
--- what a sink tells after is what it told before, and then a cut of the text
+-- the pieces that the sink reports after are those before, and then the pieces of the text
 pub record TellsCut (old : Option (List (List ℕ))) (text : List ℕ) (new : Option (List (List ℕ))) : Type 0 where
   pub pieces : List (List ℕ)
   pub cut : Cut text pieces
   pub told : new ≡ told_after old pieces
 
--- what happens to a sink that is handed a text, and the answer
+-- what happens to a sink that is passed a text, and the result
 pub record Handed {S : Type 0} (step : S → List ℕ → S → Type 0) (is_refused : S → Bool) (tells : S → Option (List (List ℕ))) (old : S) (text : List ℕ)
     (ok : Bool) (new : S) : Type 0 where
   pub streams : Streams step is_refused old text new

@@ -1,4 +1,4 @@
--- Digits, the text of bytes, and the bytes that a text spells.
+-- Digits, the text of bytes, and the bytes that a text decodes to.
 use Rattle.std.specs.Prelude.{ℕ, ◌+◌, ◌-◌, nat_lt, nat_le, ◌&&◌, Bool, if◌then◌else◌, Option, Some, None, unwrap_or, IsSome, ◌≡◌, ◌*◌, ◌/◌, ◌%◌, ◌<◌, ◌≤◌, List, [], ◌∷◌, ◌++◌, length, take, drop, slice_index, IsNone}
 use Rattle.std.specs.List.{All}
 
@@ -24,7 +24,7 @@ IsDigit b = IsSome (hex_value b)
 abbrev pub hex_digit : Bool → ℕ → ℕ
 hex_digit up v = if nat_lt v 10 then v + 48 else if up then v + 55 else v + 87
 
--- ---- the text of bytes, and the bytes that a text spells
+-- ---- the text of bytes, and the bytes that a text decodes to
 
 -- two digits for each byte, in order: the high four bits, and then the low four
 unfoldable pub hex_text : Bool → List ℕ → List ℕ
@@ -35,15 +35,15 @@ hex_text up (b ∷ bs) = hex_digit up (b / 16) ∷ hex_digit up (b % 16) ∷ hex
 abbrev pub prefix_of : Bool → List ℕ
 prefix_of prefix = if prefix then 48 ∷ 120 ∷ [] else []
 
--- the text, with `0x` in front if a prefix is wanted
+-- the text, after `0x` if a prefix is wanted
 abbrev pub full_text : Bool → Bool → List ℕ → List ℕ
 full_text prefix up bs = prefix_of prefix ++ hex_text up bs
 
--- the length of the text of n bytes: two digits for each, and two bytes more for a prefix
+-- the length of the text of n bytes: two digits for each, and two characters more for a prefix
 abbrev pub text_length : Bool → ℕ → ℕ
 text_length prefix n = 2 * n + (if prefix then 2 else 0)
 
--- two digits spell one byte: 16 times the first value, and the second
+-- two digits make one byte: 16 times the first value, plus the second
 pub record IsPair (c d b : ℕ) : Type 0 where
   pub high : ℕ
   pub low : ℕ
@@ -69,8 +69,8 @@ pub record FirstBad (u : List ℕ) (p : ℕ) : Type 0 where
   pub before : AllDigits (take p u)
   pub here : IsNone (hex_value (slice_index u p))
 
--- what a refused text u leaves of an output: a front of it holds the bytes that are spelled there,
--- no more than the pairs before the first bad byte, and the rest is unchanged
+-- what a rejected text u leaves in an output: its beginning holds the bytes that digits of u decode
+-- to, no more than the pairs before the first invalid character, and the rest is unchanged
 pub record Partial (old u new : List ℕ) : Type 0 where
   pub bad : ℕ
   pub done : ℕ

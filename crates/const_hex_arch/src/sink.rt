@@ -46,7 +46,7 @@ pub trait Sink {
     /// Whether it has refused a piece.
     ghost is_refused: { Self → Bool };
 
-    /// The pieces that it accepted, in order, if its contract tells them.
+    /// The pieces that it accepted, in order, if its contract reports them.
     ghost told: { Self → Option (List (List ℕ)) };
 
     /// Whether it has refused a piece.

@@ -119,7 +119,7 @@ fn by_kernel<K: Kernel>(rt: &impl Print, alloc: Global, count: &mut usize, _kern
     judge_stream(rt, done, &sink, count);
 }
 
-/// Judges the stream of [`DATA`] behind `0x`, which has three pieces. If there is no memory for one,
+/// Judges the stream of [`DATA`] after `0x`, which has three pieces. If there is no memory for one,
 /// the sink keeps those before it.
 fn judge_stream(rt: &impl Print, done: Result<(), SinkError>, sink: &PieceSink, count: &mut usize) {
     let kept = sink.pieces().len();

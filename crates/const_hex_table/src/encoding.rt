@@ -17,7 +17,7 @@ use std::alloc::{AllocError, Global};
 /// A text in lowercase, in uppercase, and both after `0x`.
 type Texts<'a> = [&'a str; 4];
 
-/// Asks a line by that method whether each of these calls gives the text after it.
+/// Asks a line by that method whether each of these calls returns the text after it.
 macro_rules! each {
     ($line:ident.$method:ident: $($call:expr => $want:ident,)+) => {
         $($line.$method(stringify!($call), $call, $want);)+

@@ -19,7 +19,7 @@ pub(crate) struct Line<'a> {
 }
 
 impl Line<'_> {
-    /// Notes a call and what it gives, unless that is wanted.
+    /// Notes a call and what it returns, unless that is wanted.
     pub(crate) fn is(&mut self, call: &str, given: &str, want: &str) {
         if given != want {
             let _ = write!(self.others, "\n    {call}: {given}");
@@ -34,7 +34,7 @@ impl Line<'_> {
         }
     }
 
-    /// Whether a check gives the line's error, or none.
+    /// Whether a check returns the line's error, or none.
     pub(crate) fn fails(&mut self, call: &str, error: Option<FromHexError>) {
         match error {
             Some(error) => self.gives(call, name(self.alloc, error), self.result),

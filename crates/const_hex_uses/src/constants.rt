@@ -1,4 +1,4 @@
-//! Constants that the program writes as text. The check refuses a wrong one.
+//! Constants that the program writes as text. Verification rejects a wrong one.
 
 ghost use Rattle.std.specs.Prelude.{Ok};
 ghost use Rattle.const_hex.specs.Results.{ReadsSized};

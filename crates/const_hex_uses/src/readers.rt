@@ -3,7 +3,7 @@
 ghost use Rattle.std.specs.Prelude.{◌≡◌, ◌↔◌, ◌⊎◌, ◌*◌, ℕ, false, drop, length, take, IsTrue, IfOk, IfErr, Ok, Err};
 ghost use Rattle.const_hex.specs.Results.{IsOdd, Reads, ReadsSized, body_of, lowered};
 ghost use Rattle.const_hex.specs.Texts.{Spells};
-ghost use Rattle.const_hex.specs.Types.{RefusesOrMisfits};
+ghost use Rattle.const_hex.specs.Types.{IsRejected};
 ghost use Rattle.const_hex.specs.declared.error.FromHexError.TheVariants.{InvalidStringLength, OddLength};
 
 use const_hex::{FromHex, FromHexError, decode_to_front, decode_to_slice};
@@ -21,7 +21,7 @@ pub fn read<T: FromHex>(alloc: Global, text: &[u8]) -> Result<T, T::Error>
     ensures bytes { IfOk result (λ v. Reads text.now (Ok (T.bytes v))) }
     ensures fits { IfOk result (λ v. T.fits (length (T.bytes v))) }
     ensures error { IfErr result (λ e. T.Error.is_of_memory e ≡ false
-        → RefusesOrMisfits T.fits text.now) }
+        → IsRejected T.fits text.now) }
 {
     T::from_hex(alloc, text)
 }
@@ -46,7 +46,7 @@ pub fn read_both<T: FromHex + Drop>(
     ensures agree { IfOk result (λ both. (T.bytes both.0 ≡ T.bytes both.1)
         ↔ (lowered (body_of first.now) ≡ lowered (body_of second.now))) }
     ensures error { IfErr result (λ e. T.Error.is_of_memory e ≡ false
-        → RefusesOrMisfits T.fits first.now ⊎ RefusesOrMisfits T.fits second.now) }
+        → IsRejected T.fits first.now ⊎ IsRejected T.fits second.now) }
 {
     match read::<T>(alloc, first) {
         Ok(one) => match read::<T>(alloc, second) {

@@ -2,7 +2,7 @@
 
 use std::alloc::{AllocError, Global};
 
-/// A kernel, by itself or behind `CheckFirst`, and in which steps it works.
+/// A kernel, by itself or inside `CheckFirst`, and in which steps it works.
 #[derive(Clone, Copy, Debug)]
 pub struct KernelCase {
     pub name: &'static str,
@@ -37,7 +37,7 @@ impl KernelCase {
     }
 }
 
-/// Calls a function or a method with each kernel, by itself and behind `CheckFirst`. The last argument
+/// Calls a function or a method with each kernel, by itself and inside `CheckFirst`. The last argument
 /// is the kernel's case.
 #[macro_export]
 macro_rules! by_each_kernel {

@@ -72,7 +72,7 @@ pub fn value_of(digit: u8) -> u8 {
     char::from(digit).to_digit(16).unwrap_or(0) as u8
 }
 
-/// Cuts a text into pieces of these sizes. A size that is longer than the rest gives an empty piece.
+/// Cuts a text into pieces of these sizes. For a size that is longer than the rest the piece is empty.
 pub fn cut(alloc: Global, text: &str, sizes: &[usize]) -> Result<Vec<String>, AllocError> {
     let mut pieces = Vec::new(alloc);
     let mut start = 0usize;

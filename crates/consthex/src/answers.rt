@@ -32,13 +32,13 @@ pub fn answer(alloc: Global, mode: Mode, input: &[u8]) -> Result<Vec<u8>, RunErr
     ensures err { IfErr result (λ e. e ≢ NoMemory → Answer mode input.now (Err e)) }
     ensures too_long { (result ≡ Err TooLong) ↔ (limit < length input.now) }
     ensures no_memory { result ≡ Err NoMemory → TakesMemory mode input.now }
-    // Only a text that cannot be decoded gives an error of the text, whatever the mode.
+    // Only a text that cannot be decoded leads to an error of the text, whatever the mode.
     ensures invalid { (e : FromHexError) → result ≡ Err (Text e)
         → Reads (without_newline input.now) (Err e) }
-    // `ok` is said of a text that can be decoded, and of no other.
+    // `ok` is printed for a text that can be decoded, and for no other.
     ensures checked { mode ≡ Check → IfOk result (λ v. (v.items ≡ codes "ok" ++ newline)
         × ((bs : List ℕ) × Reads (without_newline input.now) (Ok bs))) }
-    // Memory is never blamed for an odd length.
+    // An odd length never leads to `NoMemory`.
     ensures odd { (mode ≡ Decode) ⊎ (mode ≡ Check) → length input.now ≤ limit
         → IsOdd (length (without_newline input.now)) → result ≡ Err (Text OddLength) }
 {

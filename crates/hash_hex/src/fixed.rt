@@ -107,11 +107,11 @@ impl<const N: usize> FromHex for FixedBytes<N> {
         ensures answers { ReadsFixed N hex.now result }
         // For a constant text this computes, so the check proves an `unwrap`.
         ensures accepts { IsOk result ↔ IsTrue (is_text_of N hex.now) }
-        // The text of N bytes, with or without a prefix and in either case, gives their value.
+        // The text of N bytes, with or without a prefix and in either case, is read as their value.
         ensures round_trip { (prefix up : Bool) (bs : List ℕ) → AreBytes bs → length bs ≡ N
             → hex.now ≡ full_text prefix up bs
             → MatchResult result (λ v. fixed_bytes v ≡ bs) (λ _. ⊥) }
-        // Another text gives an equal value exactly if the two bodies differ only in case.
+        // Another text is read as an equal value if and only if the two bodies differ only in case.
         ensures agree { (t : List ℕ) (w : FixedBytes N) → ReadsFixed N t (Ok w)
             → IfOk result (λ v. (w ≡ v) ↔ (lowered (body_of t) ≡ lowered (body_of hex.now))) }
     {

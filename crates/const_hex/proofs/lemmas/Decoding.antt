@@ -13,7 +13,7 @@ use Rattle.const_hex_arch.specs.Texts.{IsDigit, AllDigits, FirstBad, Partial, Sp
 use Rattle.std.proofs.lemmas.List.Elements.{All-drop}
 use Rattle.const_hex_arch.proofs.lemmas.Spelling.{FirstBad-after, Partial-after, Spells-append, Spells-digits, Spells-length, digits_append, digits_no_bad, first_bad}
 
--- ---- a bad byte, whatever follows
+-- ---- an invalid character, whatever follows
 
 within_front : (u v : List ℕ) (p : ℕ) → p < length u → slice_index u p ≡ slice_index (u ++ v) p
 within_front u v p h = grind (arith, common_steps)
@@ -48,11 +48,11 @@ Partial-longer old u new v p =
 
 -- ---- pairs, and one byte more
 
--- the pairs are refused
+-- the pairs are rejected
 pub pairs_refused : (old u new : List ℕ) (m : ℕ) → Partial old (take m u) new → Partial old u new
 pairs_refused old u new m p = rw (take-append-drop m u) at (Partial-longer old (take m u) new (drop m u) p)
 
--- the pairs are decoded, and a byte behind them is refused
+-- the pairs are decoded, and a byte after them is rejected
 pub last_refused : (old u new : List ℕ) (n : ℕ) → (AllDigits (drop (2 * n) u) → ⊥) → 2 * n ≤ length u → length new ≡ n → length old ≡ n
     → Spells (take (2 * n) u) new → Partial old u new
 last_refused old u new n bad h l o s =
@@ -81,13 +81,13 @@ pairs_spell c (d ∷ u) bs cs n m h e s t =
     let q : 2 * n ≡ suc (suc (2 * m)) = omega (arith, e) in
     rw q (Spells-append (c ∷ d ∷ []) bs (take (2 * m) u) cs s t)
 
--- the first pair is refused
+-- the first pair is rejected
 pub pair_refused : (c : ℕ) (u old new : List ℕ) → 1 ≤ length u → 1 ≤ length old → Partial (take 1 old) (c ∷ get_or u 0 0 ∷ []) new
     → Partial old (c ∷ u) (new ++ drop 1 old)
 pair_refused c [] old new h l p = absurd (omega (arith, h))
 pair_refused c (d ∷ u) old new h l p = Partial-longer old (c ∷ d ∷ []) (new ++ drop 1 old) u (partial_front old (c ∷ d ∷ []) new 1 l refl p)
 
--- the first pair is decoded, and what follows is refused
+-- the first pair is decoded, and what follows is rejected
 pub rest_refused : (c : ℕ) (u old bs new : List ℕ) → 1 ≤ length u → 1 ≤ length old → Spells (c ∷ get_or u 0 0 ∷ []) bs
     → Partial (drop 1 old) (drop 1 u) new → Partial old (c ∷ u) (bs ++ new)
 rest_refused c [] old bs new h l s p = absurd (omega (arith, h))
@@ -111,7 +111,7 @@ behind [] u p = let e : p ≡ 0 + p = omega arith in ap (slice_index u) e
 behind (c ∷ v) u p = let e : suc (length v + p) ≡ suc (length v) + p = omega arith in behind v u p ∙ ap (slice_index (c ∷ (v ++ u))) e
 
 module _ (d : Decoder) (t bs piece w digits : List ℕ) (r : HasRead d t bs) (whole : body_of (t ++ piece) ≡ r.pairs ++ (w ++ digits)) where
-  -- how many bytes are spelled by now
+  -- how many bytes are decoded by now
   pub spelled_by_now : (count : ℕ) → count ≡ length (w ++ digits) / 2 → length (body_of (t ++ piece)) / 2 ≡ length bs + count
   spelled_by_now count e =
       let twice = Spells-length r.pairs bs r.given in
@@ -143,7 +143,7 @@ module _ (d : Decoder) (t bs piece w digits : List ℕ) (r : HasRead d t bs) (wh
   pub added : drop (2 * length bs) (body_of (t ++ piece)) ≡ w ++ digits
   added = rw whole (drop_at r.pairs (w ++ digits) (2 * length bs) (Spells-length r.pairs bs r.given))
 
-  -- the first bad byte is in the piece
+  -- the first invalid character is in the piece
   pub bad_by_now : (skipped p : ℕ) → skipped ≡ length piece - length digits → length digits ≤ length piece → AllDigits w → FirstBad digits p
       → NamesCounted (t ++ piece) (slice_index digits p) (counted (position_of d + skipped + p))
   bad_by_now skipped p e shorter a f =
@@ -162,7 +162,7 @@ module _ (d : Decoder) (t bs piece w digits : List ℕ) (r : HasRead d t bs) (wh
         omega (arith, e, before, size, parts, bound),
       )
 
--- ---- a text with a bad byte, whatever follows
+-- ---- a text with an invalid character, whatever follows
 
 body-longer : (t u : List ℕ) (p : ℕ) → FirstBad (body_of t) p → body_of (t ++ u) ≡ body_of t ++ u
 body-longer [] u p f = absurd (let inside = f.within in omega arith)
@@ -180,7 +180,7 @@ NamesCounted-longer t u c i (n, (p, f, is, index), counts) =
     let same : slice_index (body_of t) p ≡ slice_index (body_of t ++ u) p = within_front (body_of t) u p inside in
     (n, (p, rw body (FirstBad-longer (body_of t) u p f), rw body (is ∙ same), rw (body, sizes) index), counts)
 
--- ---- what was read is spelled
+-- ---- what was read is decoded
 
 pub read_digits : (d : Decoder) (t bs : List ℕ) → HasRead d t bs → AllDigits (body_of t)
 read_digits d t bs r = rw r.whole ((digits_append r.pairs (waiting_digit d)).1 (Spells-digits _ _ r.given, r.waits))
@@ -204,7 +204,7 @@ read_front d (c ∷ e ∷ t) (b ∷ bs) u r =
     longer ((c == 48) && (e == 120 || e == 88)) t (c ∷ e ∷ t) u ∙ ap (λ x. x ++ u) r.whole ∙ append_assoc r.pairs (waiting_digit d) u in
     rw more (front_of r.pairs (waiting_digit d ++ u) (b ∷ bs) r.given)
 
--- ---- digits alone have no bad byte
+-- ---- digits alone have no invalid character
 
 pub not_all : (w digits old new : List ℕ) → Partial old (w ++ digits) new → AllDigits w → AllDigits digits → ⊥
 not_all w digits old new p a b = digits_no_bad (w ++ digits) p.bad ((digits_append w digits).1 (a, b)) p.first_bad

@@ -1,4 +1,4 @@
--- The canonical text of what a text spells.
+-- The canonical text of what a text decodes to.
 use Rattle.std.proofs.Common.{◌≡◌, ℕ, ◌+◌, ◌/◌, ◌%◌, nat_le, ◌&&◌, if◌then◌else◌, false, List, [], ◌∷◌, Some, refl, sym, ap, ◌∙◌, arith}
 use Rattle.std.specs.Prelude.{◌↔◌}
 use Rattle.std.proofs.lemmas.Bool.Decides.{nat_tests}
@@ -11,7 +11,7 @@ use Rattle.const_hex.specs.Results.{lowered, AreBytes}
 lowered_digit : (c v : ℕ) → hex_value c ≡ Some v → hex_digit false v ≡ (if nat_le 65 c && nat_le c 70 then c + 32 else c)
 lowered_digit c v h = grind (arith, nat_tests)
 
--- the text of the bytes that a text spells is that text in lowercase
+-- the text of the bytes that a text decodes to is that text in lowercase
 pub hex_text-lowered : (u bs : List ℕ) → Spells u bs → hex_text false bs ≡ lowered u
 unfolding hex_text
 hex_text-lowered [] [] s = refl
@@ -29,7 +29,7 @@ hex_text-lowered (c ∷ d ∷ u) (b ∷ bs) s =
 hex_text-same : (xs ys : List ℕ) → AreBytes xs → AreBytes ys → hex_text false xs ≡ hex_text false ys → xs ≡ ys
 hex_text-same xs ys hx hy e = Spells-same (hex_text false ys) xs ys (rw (sym e) (Spells-hex_text false xs hx)) (Spells-hex_text false ys hy)
 
--- two texts spell the same bytes exactly if they are the same in lowercase
+-- two texts decode to the same bytes if and only if they are the same in lowercase
 pub Spells-agree : (u v xs ys : List ℕ) → Spells u xs → Spells v ys → (xs ≡ ys) ↔ (lowered u ≡ lowered v)
 Spells-agree u v xs ys s t =
     let a = hex_text-lowered u xs s in

@@ -1,4 +1,4 @@
--- Texts that are handed to a formatter in pieces.
+-- Texts that are passed to a formatter in pieces.
 use Rattle.std.proofs.Common.{◌≡◌, ℕ, Bool, false, List, [], ◌∷◌, refl, subst, ◌∙◌}
 use Rattle.std.specs.List.{concat}
 use Rattle.std.specs.Prelude.{Result}

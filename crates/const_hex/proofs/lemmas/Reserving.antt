@@ -1,4 +1,4 @@
--- Writes to a vector that has room for all of them.
+-- Writes to a vector that has space for all of them.
 use Rattle.std.proofs.Common.{◌≡◌, ℕ, ◌+◌, ◌*◌, ◌<◌, ◌≤◌, List, [], ◌∷◌, ◌++◌, length, take, drop, get_or, refl, sym, ap, ◌∙◌, arith, length-take, take-add}
 use Rattle.std.proofs.lemmas.List.{append-nil, append_assoc, take_all, take_more, take-take}
 use Rattle.std.specs.Prelude.{vec_len, vec_capacity}

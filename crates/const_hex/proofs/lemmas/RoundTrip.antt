@@ -28,7 +28,7 @@ even-full_text prefix up bs = grind (arith, length-full_text)
 pub Reads-full_text : (t : List ℕ) (prefix up : Bool) (bs : List ℕ) → AreBytes bs → t ≡ full_text prefix up bs → Reads t (Ok bs)
 Reads-full_text t prefix up bs h e = rw e (even-full_text prefix up bs, rw (body-full_text prefix up bs) (Spells-hex_text up bs h))
 
--- so a decoder whose answer is the reader's, or no memory, gives these bytes
+-- so a decoder that returns the reader's result, or out of memory, returns these bytes
 pub round_trip : {V : Type 0} (items : V → List ℕ) (t : List ℕ) (r : Result V FromHexError)
     → IfOk r (λ v. Reads t (Ok (items v))) → IfErr r (λ e. e ≢ NoMemory → Reads t (Err e))
     → (prefix up : Bool) (bs : List ℕ) → AreBytes bs → t ≡ full_text prefix up bs
@@ -37,7 +37,7 @@ round_trip items t (Ok v) ok err prefix up bs h e = cc (one_answer t (Ok (items 
 round_trip items t (Err f) ok err prefix up bs h e =
     let other = λ (is : f ≢ NoMemory). one_answer t (Err f) (Ok bs) (err is) (Reads-full_text t prefix up bs h e) in grind (arith, other)
 
--- the text of n bytes is read as these bytes, and has no other answer
+-- the text of n bytes is read as these bytes, and has no other result
 pub sized_round_trip : (n : ℕ) (t : List ℕ) (r : Result (List ℕ) FromHexError) → ReadsSized t n r
     → (prefix up : Bool) (bs : List ℕ) → AreBytes bs → length bs ≡ n → t ≡ full_text prefix up bs
     → r ≡ Ok bs
@@ -53,7 +53,7 @@ pub canonical : {V : Type 0} (items : V → List ℕ) (t : List ℕ) (r : Result
 canonical items t (Ok v) h = hex_text-lowered (body_of t) (items v) h.1
 canonical items t (Err e) h = tt
 
--- another text is read as the same bytes exactly if the bodies are the same in lowercase
+-- another text is read as the same bytes if and only if the bodies are the same in lowercase
 pub agree : {V : Type 0} (items : V → List ℕ) (t : List ℕ) (r : Result V FromHexError) → IfOk r (λ v. Reads t (Ok (items v)))
     → (u bs : List ℕ) → Reads u (Ok bs) → IfOk r (λ v. (bs ≡ items v) ↔ (lowered (body_of u) ≡ lowered (body_of t)))
 agree items t (Ok v) h u bs k = Spells-agree (body_of u) (body_of t) bs (items v) k.1 h.1

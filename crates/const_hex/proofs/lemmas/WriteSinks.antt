@@ -1,4 +1,4 @@
--- Texts that a writer is handed in pieces.
+-- Texts that are passed to a writer in pieces.
 use Rattle.std.proofs.Common.{◌≡◌, ℕ, ◌+◌, ◌-◌, ◌≤◌, Bool, true, false, List, [], ◌∷◌, ◌++◌, length, take, drop, Option, refl, sym, ap, subst, ◌∙◌, arith}
 use Rattle.std.proofs.KnownBytes.{Appends-kept, Appends-nil, Appends-trans}
 use Rattle.std.proofs.Math.Seq.{take-add, take-append-add}
@@ -69,7 +69,7 @@ module _ {W : Type 0} (contents : W → Option (List ℕ)) where
   handed s (p ∷ ps) t left (e, (m, h, k)) none =
       rw append_assoc (joined s p m (concat ps ++ left) t (has_failed m) refl h (handed m ps t left k none) (none_after m ps t k))
 
-  -- a text that is handed over in pieces is written as if it were one piece
+  -- a text that is passed in pieces is written as if it were one piece
   pub streamed_text : (s : WriteSink W) (text : List ℕ) (t : WriteSink W)
       → Streams (WriteStep contents) has_failed s text t → WriteStep contents s text t
   streamed_text s text t h =

@@ -32,7 +32,7 @@ pub fn serialize_inner<const UPPER: bool, const PREFIX: bool, S: Sink>(
     ensures long { 128 < length bytes.now
         → Streams S.step S.is_refused sink.old (full_text PREFIX UPPER bytes.now) sink.new }
     ensures flag { is_ok result ≡ not (S.is_refused sink.new) }
-    // If the sink's contract tells its pieces and it accepted all of them, they are together the
+    // If the sink's contract reports its pieces and it accepted all of them, they are together the
     // text.
     ensures told { S.is_refused sink.new ≡ false
         → TellsWhole (S.told sink.old) (full_text PREFIX UPPER bytes.now) (S.told sink.new) }

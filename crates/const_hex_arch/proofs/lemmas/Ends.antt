@@ -71,7 +71,7 @@ put_ends h old first last p q least most =
     ∙ take_more_put_chunk start mid last (length old) (omega (arith, q)) (omega (arith, long))
     ∙ ap (λ x. x ++ last) (sym less ∙ ap (take start) front)
 
--- what the first d and the last d digits spell, put into place
+-- what the first d and the last d digits decode to, put into place
 pub spells_ends : (h d n : ℕ) (u step bytes : List ℕ) → d ≡ 2 * h → length u ≡ 2 * n → h ≤ n → n ≤ 2 * h
     → take (2 * d) step ≡ take d u ++ drop (length u - d) u → Spells step bytes → Spells u (take (n - h) (take h bytes) ++ take h (drop h bytes))
 spells_ends h d n u step bytes two long least most e s =

@@ -1,4 +1,4 @@
--- From the values in two vectors of text to the bytes that the text spells.
+-- From the values in two vectors of text to the bytes that the text decodes to.
 use Rattle.std.proofs.Common.{◌≡◌, ℕ, zero, suc, ◌+◌, ◌*◌, ◌%◌, ◌/◌, ◌≤◌, eqb, List, [], ◌∷◌, ◌++◌, map, length, take, drop, get_or, refl, sym, ap, subst, ◌∙◌, arith, Some, None, eqb→eq, le-leb, length-append}
 use Rattle.std.specs.List.{AllZip}
 use Rattle.std.proofs.lemmas.Grind.{common_steps}
@@ -32,7 +32,7 @@ merge_all (suc k) (h ∷ l ∷ ns) e a =
     let rest = merge_all k ns (omega arith) a.1.1 in
     rw (low, high, here, rest) refl
 
--- ---- the bytes that values spell
+-- ---- the bytes that values make
 
 value_is : (n b : ℕ) → as_value n ≡ hex_value b → n ≤ 15 → hex_value b ≡ Some n
 value_is n b e h = sym e ∙ rw (le-leb n 15 h) refl

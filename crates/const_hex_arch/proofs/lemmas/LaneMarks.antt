@@ -90,7 +90,7 @@ values_of_parts [] (n ∷ ns) z = absurd z
 values_of_parts (x ∷ v) [] z = absurd z
 values_of_parts (x ∷ v) (n ∷ ns) z = (z.0.0, values_of_parts v ns z.1)
 
--- the marks of lanes: there are none exactly if all lanes are digits
+-- the marks of lanes: there are none if and only if all lanes are digits
 pub unmarked_are_digits : (v ns : List ℕ) → AllZip IsPartOf v ns → AllUnmarked (zip2 sub8 (less_l (length v) v) ns) ↔ AllDigits v
 unmarked_are_digits [] [] z = (λ _. All-nil IsDigit, λ _. tt)
 unmarked_are_digits [] (n ∷ ns) z = absurd z

@@ -112,7 +112,7 @@ pub text_of_halves : (n : ℕ) (up : Bool) (v a b : List ℕ) → length v ≡ 2
 text_of_halves n up v a b long p q =
     concat_pair (a ∷ b ∷ []) refl ∙ rw (p, q) (sym (hex_text-append up _ _) ∙ ap (hex_text up) (halves n v long))
 
--- stored one behind the other
+-- stored one after the other
 pub stored_pair : (n : ℕ) (vs : List (List ℕ)) (old : List ℕ) → map (λ x. length x) vs ≡ n ∷ n ∷ [] → 2 * n ≤ length old
     → take (2 * n) (put_chunk n (put_chunk 0 old (get_or vs 0 [])) (get_or vs 1 [])) ≡ concat vs
 stored_pair n [] old e h = absurd (let q : zero ≡ 2 = ap length e in omega arith)

@@ -1,4 +1,4 @@
--- Runs of steps over pieces, and the room that they leave.
+-- Runs of steps over pieces, and the space that they leave.
 use Rattle.std.proofs.Common.{◌≡◌, ℕ, ◌+◌, ◌*◌, ◌≤◌, List, [], ◌∷◌, ◌++◌, length, refl, sym, ap, subst, ◌∙◌, arith, inl}
 use Rattle.std.specs.Prelude.{Option, Some, None}
 use Rattle.std.specs.List.{FoldsTo, concat}
@@ -8,26 +8,26 @@ use Rattle.std.proofs.lemmas.List.Folds.{concat-append}
 use Rattle.const_hex_arch.specs.Outputs.{Gathers, piece_of, HasRoom, less_room, IsKernelPiece, Writes}
 pub use Rattle.const_hex_arch.specs.Laws.{less_room-add, run_shrinks}
 
--- what is left of the room after m bytes
+-- what is left of the space after m bytes
 pub HasRoom-less : (room : Option ℕ) (m n : ℕ) → HasRoom room (m + n) → HasRoom (less_room room m) n
 HasRoom-less (Some r) m n h = omega arith
 HasRoom-less None m n h = omega arith
 
--- room for n bytes is room for fewer
+-- space for n bytes is space for fewer
 pub HasRoom-fewer : (room : Option ℕ) (m n : ℕ) → m ≤ n → HasRoom room n → HasRoom room m
 HasRoom-fewer (Some r) m n h k = omega arith
 HasRoom-fewer None m n h k = omega arith
 
 module _ {S : Type 0} (step : S → List ℕ → S → Type 0) (room : S → Option ℕ)
     (shrinks : (s : S) (piece : List ℕ) (t : S) → step s piece t → room t ≡ less_room (room s) (length piece)) where
-  -- two bytes leave room for the pairs that are left
+  -- two bytes leave space for the pairs that are left
   pub room_after_two : (s : S) (a b : ℕ) (m t : S) (k : ℕ) → step s (a ∷ []) m → step m (b ∷ []) t → (n : ℕ) → n ≡ k + 1 → HasRoom (room s) (2 * n)
       → HasRoom (room t) (2 * k)
   room_after_two s a b m t k h i n e r =
       rw (shrinks m (b ∷ []) t i, shrinks s (a ∷ []) m h, less_room-add)
       (HasRoom-less (room s) 2 (2 * k) (subst (λ m. HasRoom (room s) m) (let q : 2 * n ≡ 2 + 2 * k = omega arith in q) r))
 
-  -- what was written leaves room for the rest
+  -- what was written leaves space for the rest
   pub Writes_room : (s : S) (text : List ℕ) (t : S) (n : ℕ) → Writes step s text t → HasRoom (room s) (length text + n) → HasRoom (room t) n
   Writes_room s text t n w h =
       rw (run_shrinks step room shrinks s w.pieces t w.run, w.whole) (HasRoom-less (room s) (length text) n h)
@@ -61,7 +61,7 @@ module _ {S : Type 0} (step : S → List ℕ → S → Type 0) where
     sizes = All-append IsKernelPiece h.pieces k.pieces h.sizes k.sizes;
   }
 
--- ---- what an output that gathers hands on
+-- ---- what an output that gathers passes on
 
 pub concat-piece_of : (pending : List ℕ) → concat (piece_of pending) ≡ pending
 concat-piece_of [] = refl

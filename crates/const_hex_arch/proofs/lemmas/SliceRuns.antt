@@ -10,7 +10,7 @@ use Rattle.const_hex_arch.specs.Outputs.{Placed, SliceStep, slice_bytes, slice_w
 placed_none : (old : List ℕ) (at : ℕ) → Placed old at [] old at
 placed_none old at = record { end_at = grind arith; same_length = refl; bytes = grind (arith, common_steps) }
 
--- a piece stands behind the first part, which has length m
+-- a piece follows the first part, which has length m
 cut_at : (a rest q : List ℕ) (m : ℕ) → m ≡ length a → take m (a ++ rest) ++ q ++ drop (m + length q) (a ++ rest) ≡ (a ++ q) ++ drop (length q) rest
 cut_at a rest q m e = rw e (rw (take-append_seam, drop-append-add))
 

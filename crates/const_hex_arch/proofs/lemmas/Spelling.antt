@@ -1,4 +1,4 @@
--- What texts spell.
+-- What texts decode to.
 use Rattle.std.proofs.Common.{◌≡◌, ℕ, zero, suc, ◌+◌, ◌-◌, ◌*◌, ◌/◌, ◌%◌, ◌<◌, ◌≤◌, ◌≢◌, ◌↔◌, eqb, eqb→eq, List, [], ◌∷◌, ◌++◌, length, take, drop, get_or, set, slice_index, false, ◌⊎◌, Option, Some, None, IsSome, IsNone, inl, inr, refl, sym, ap, ◌∙◌, arith, take-add, drop-drop, length-take}
 use Rattle.std.proofs.lemmas.Bool.Decides.{nat_tests}
 use Rattle.std.proofs.lemmas.Grind.{common_steps}
@@ -21,7 +21,7 @@ IsDigit-from_value b v h = rw h refl
 pub hex_value-small : (b v : ℕ) → hex_value b ≡ Some v → v < 16
 hex_value-small b v h = grind (arith, nat_tests)
 
--- what the look-up tells of a byte
+-- what the look-up says of a byte
 pub value_found : (b r : ℕ) → r ≡ value_or_nil (hex_value b) → r ≢ 255 → hex_value b ≡ Some r
 value_found b r e n = grind (arith, nat_tests)
 
@@ -63,9 +63,9 @@ digits_more u i a h n = All-more IsDigit u i 0 h a (IsDigit-from_value (get_or u
 pub digit_values : (u : List ℕ) (i : ℕ) → AllDigits u → i < length u → value_or_nil (hex_value (get_or u i 0)) ≢ 255
 digit_values u i a h = let d = All-get_or IsDigit u i 0 h a in grind (arith, nat_tests)
 
--- ---- what is spelled
+-- ---- what is decoded
 
--- two digits that spell a byte
+-- two digits that make a byte
 pub IsPair-of : (c d h l b : ℕ) → hex_value c ≡ Some h → hex_value d ≡ Some l → b ≡ 16 * h + l → IsPair c d b
 IsPair-of c d h l b p q e = record { high = h; low = l; high_is = p; low_is = q; byte_is = e }
 
@@ -75,7 +75,7 @@ IsPair-byte c d b p =
     let low = hex_value-small d p.low p.low_is in
     omega arith
 
--- two texts, one behind the other
+-- two texts, one after the other
 pub Spells-append : (u bs v cs : List ℕ) → Spells u bs → Spells v cs → Spells (u ++ v) (bs ++ cs)
 Spells-append [] [] v cs s t = t
 Spells-append [] (b ∷ bs) v cs s t = absurd s
@@ -83,7 +83,7 @@ Spells-append (x ∷ []) bs v cs s t = absurd s
 Spells-append (x ∷ y ∷ u) [] v cs s t = absurd s
 Spells-append (x ∷ y ∷ u) (b ∷ bs) v cs s t = (s.0, Spells-append u bs v cs s.1 t)
 
--- a text that spells bytes has two digits for each
+-- a text that decodes to bytes has two digits for each
 pub Spells-length : (u bs : List ℕ) → Spells u bs → length u ≡ 2 * length bs
 Spells-length [] [] s = refl
 Spells-length [] (x ∷ bs) s = absurd s
@@ -91,7 +91,7 @@ Spells-length (x ∷ []) bs s = absurd s
 Spells-length (x ∷ y ∷ u) [] s = absurd s
 Spells-length (x ∷ y ∷ u) (z ∷ bs) s = let e = Spells-length u bs s.1 in omega (arith, e)
 
--- the first pairs of a text spell the first bytes, and the other pairs the other bytes
+-- the first pairs of a text decode to the first bytes, and the other pairs the other bytes
 pub Spells-parts : (u bs : List ℕ) (k m : ℕ) → m ≡ 2 * k → Spells u bs → Spells (take m u) (take k bs) × Spells (drop m u) (drop k bs)
 Spells-parts u bs zero zero e s = (tt, s)
 Spells-parts u bs zero (suc m) e s = absurd (omega (arith, e))
@@ -103,7 +103,7 @@ Spells-parts (x ∷ []) bs (suc k) (suc (suc m)) e s = absurd s
 Spells-parts (x ∷ y ∷ u) [] (suc k) (suc (suc m)) e s = absurd s
 Spells-parts (x ∷ y ∷ u) (b ∷ bs) (suc k) (suc (suc m)) e s = let more = Spells-parts u bs k m (omega (arith, e)) s.1 in ((s.0, more.0), more.1)
 
--- a text that spells bytes has only digits
+-- a text that decodes to bytes has only digits
 pub Spells-digits : (u bs : List ℕ) → Spells u bs → AllDigits u
 Spells-digits [] [] s = All-nil IsDigit
 Spells-digits [] (x ∷ bs) s = absurd s
@@ -113,7 +113,7 @@ Spells-digits (x ∷ y ∷ u) (z ∷ bs) s =
     All-cons IsDigit x (y ∷ u) (IsDigit-from_value x s.0.high s.0.high_is)
     (All-cons IsDigit y u (IsDigit-from_value y s.0.low s.0.low_is) (Spells-digits u bs s.1))
 
--- what a text spells are bytes
+-- what a text decodes to are bytes
 pub Spells-bytes : (u bs : List ℕ) → Spells u bs → (k : ℕ) → slice_index bs k < 256
 Spells-bytes [] [] s k = omega arith
 Spells-bytes [] (b ∷ bs) s k = absurd s
@@ -122,14 +122,14 @@ Spells-bytes (c ∷ d ∷ u) [] s k = absurd s
 Spells-bytes (c ∷ d ∷ u) (b ∷ bs) s zero = IsPair-byte c d b s.0
 Spells-bytes (c ∷ d ∷ u) (b ∷ bs) s (suc k) = Spells-bytes u bs s.1 k
 
--- a pair spells one byte
+-- a pair decodes to one byte
 IsPair-same : (c d a b : ℕ) → IsPair c d a → IsPair c d b → a ≡ b
 IsPair-same c d a b p q =
     let high : p.high ≡ q.high = cc in
     let low : p.low ≡ q.low = cc in
     omega arith
 
--- a text spells one list of bytes
+-- a text decodes to one list of bytes
 pub Spells-same : (u xs ys : List ℕ) → Spells u xs → Spells u ys → xs ≡ ys
 Spells-same [] [] [] s t = refl
 Spells-same [] [] (b ∷ ys) s t = absurd t
@@ -143,13 +143,13 @@ Spells-same (x ∷ y ∷ u) (a ∷ xs) (b ∷ ys) s t =
 
 pub ruleset spelled = (Spells-append, Spells-same)
 
--- ---- the first bad byte
+-- ---- the first invalid character
 
--- no text of digits has a bad byte
+-- no text of digits has an invalid character
 pub digits_no_bad : (u : List ℕ) (p : ℕ) → AllDigits u → FirstBad u p → ⊥
 digits_no_bad u p a f = no_value (hex_value (slice_index u p)) f.here (All-get_or IsDigit u p 0 f.within a)
 
--- a text has one first bad byte
+-- a text has one first invalid character
 not_before : (u : List ℕ) (p q : ℕ) → p < q → FirstBad u p → FirstBad u q → ⊥
 not_before u p q h f g =
     let len : p < length (take q u) = simp length-take (omega arith) in
@@ -161,7 +161,7 @@ FirstBad-same u p q f g =
     let above = λ (h : q < p). not_before u q p h g f in
     omega (arith, below, above)
 
--- a bad byte behind k digits
+-- an invalid character after k digits
 pub FirstBad-after : (k : ℕ) (u : List ℕ) (p : ℕ) → AllDigits (take k u) → k ≤ length u → FirstBad (drop k u) p → FirstBad u (k + p)
 FirstBad-after k u p a h f =
     record {
@@ -170,7 +170,7 @@ FirstBad-after k u p a h f =
       here = let e : get_or (drop k u) p 0 ≡ get_or u (k + p) 0 = grind (arith, common_steps) in rw e at f.here;
     }
 
--- a text has only digits, or it has a first bad byte
+-- a text has only digits, or it has a first invalid character
 pub digits_or_bad : (u : List ℕ) → AllDigits u ⊎ ((p : ℕ) × FirstBad u p)
 digits_or_bad [] = inl (All-nil IsDigit)
 digits_or_bad (b ∷ u) =
@@ -191,11 +191,11 @@ digits_or_bad (b ∷ u) =
       | inr n ↦ inr (zero, record { within = omega arith; before = All-nil IsDigit; here = n })
     ]
 
--- if not every byte is a digit, there is a first bad byte
+-- if not every byte is a digit, there is a first invalid character
 pub first_bad : (u : List ℕ) → (AllDigits u → ⊥) → (p : ℕ) × FirstBad u p
 first_bad u n = elim (digits_or_bad u) [ inl a ↦ absurd (n a) | inr f ↦ f ]
 
--- digits, two for each byte, spell bytes
+-- digits, two for each byte, decode to bytes
 pub Spells-some : (u : List ℕ) → length u % 2 ≡ 0 → AllDigits u → (bs : List ℕ) × Spells u bs
 Spells-some [] e a = ([], tt)
 Spells-some (c ∷ []) e a = absurd (omega arith)
@@ -232,7 +232,7 @@ none_decoded old u n =
     let r = first_bad u n in
     record { bad = r.0; done = 0; first_bad = r.1; not_past = omega arith; same_length = refl; front = tt; rest = refl }
 
--- a bad byte after i pairs: the first byte of its pair, or the second
+-- an invalid character after i pairs: the first of its pair, or the second
 refused_pair : (old u new : List ℕ) (i bad : ℕ) → FirstBad u bad → i ≤ bad / 2 → Spells (take (2 * i) u) (take i new) → drop i new ≡ drop i old
     → length new ≡ length old → Partial old u new
 refused_pair old u new i bad f n s d l = record { bad = bad; done = i; first_bad = f; not_past = n; same_length = l; front = s; rest = d }
@@ -249,7 +249,7 @@ refused_low old u new i v s d h l e n =
     let before = All-more IsDigit u (2 * i) 0 (omega arith) (Spells-digits _ _ s) (IsDigit-from_value (get_or u (2 * i) 0) v e) in
     refused_pair old u new i (2 * i + 1) (record { within = h; before = before; here = n }) (omega arith) s d l
 
--- a text that is refused after k bytes were decoded
+-- a text that is rejected after k bytes were decoded
 pub Partial-after : (old u new : List ℕ) (k m : ℕ) → m ≡ 2 * k → m ≤ length u → length new ≡ length old → k ≤ length new
     → Spells (take m u) (take k new) → Partial (drop k old) (drop m u) (drop k new) → Partial old u new
 Partial-after old u new k m e h l b s p =

@@ -20,7 +20,7 @@ parts n {u} f b = rw (f, b) (take-append-drop n u)
 pub digits_step : (u : List ℕ) (i n end : ℕ) → end ≡ i + n → AllDigits (take i u) → AllDigits (take n (drop i u)) → AllDigits (take end u)
 digits_step u i n end q d e = rw (q, take-add i n u) ((digits_append (take i u) (take n (drop i u))).1 (d, e))
 
--- the first i bytes are digits, and so are all bytes, from those behind e, which is not past i
+-- the first i bytes are digits, and so are all bytes, from those after e, which is not past i
 pub digits_last : (u : List ℕ) (i e : ℕ) → e ≤ i → AllDigits (take i u) → AllDigits (take (length u - e) (drop e u)) ↔ AllDigits u
 digits_last u i e h d = (
   λ last.
@@ -30,7 +30,7 @@ digits_last u i e h d = (
   λ whole. rw take_rest (All-drop IsDigit e u whole),
 )
 
--- ---- the text of the front is written, and there is room for the rest
+-- ---- the text of the front is written, and there is space for the rest
 pub record IsWritten {S : Type 0} (step : S → List ℕ → S → Type 0) (room : S → Option ℕ) (up : Bool) (u : List ℕ) (old new : S) (rest : List ℕ) : Type 0 where
   pub front : List ℕ
   pub whole : front ++ rest ≡ u
@@ -58,7 +58,7 @@ module _ {S : Type 0} {step : S → List ℕ → S → Type 0} {room : S → Opt
   pub all_written : {new : S} → IsWritten step room up u old new [] → Writes step old (hex_text up u) new
   all_written d = let whole : d.front ≡ u = sym (append-nil d.front) ∙ d.whole in rw whole at d.text
 
--- ---- the first bytes of an output hold what the first pairs of a text spell, and the rest of the
+-- ---- the first bytes of an output hold what the first pairs of a text decode to, and the rest of the
 -- output is unchanged
 pub record IsDecoded (u old new : List ℕ) (i : ℕ) : Type 0 where
   pub within : i ≤ length new
@@ -96,7 +96,7 @@ decoded_less {u} {old} {new} {i} e d h = record {
 pub kept_step : (new r : List ℕ) (i n : ℕ) → r ≡ take n (drop i new) → put_mid i n new r ≡ new
 kept_step new r i n e = rw e (ap (λ x. take i new ++ x) (take-append-drop n (drop i new)) ∙ take-append-drop i new)
 
--- a step that is refused, and wrote nothing
+-- a step that fails, and wrote nothing
 pub refused_step : {u old new r : List ℕ} {i : ℕ} (n m : ℕ) → IsDecoded u old new i → length u ≡ 2 * length old → r ≡ take n (drop i new)
     → (AllDigits (take m (drop (2 * i) u)) → ⊥) → Partial old u (put_mid i n new r)
 refused_step {u} {old} {new} {r} {i} n m d size e none =

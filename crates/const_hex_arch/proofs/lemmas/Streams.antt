@@ -12,7 +12,7 @@ use Rattle.const_hex_arch.specs.Sinks.{SinkStep, output_sink, sink_name, told_af
 use Rattle.const_hex_arch.specs.declared.sink.output.SinkOutput.{SinkOutput}
 use Rattle.const_hex_arch.proofs.lemmas.Runs.{run_append, concat-piece_of}
 
--- ---- what a run of small writes to a gathering output hands on
+-- ---- what a run of small writes to a gathering output passes on
 
 abbrev IsHandedOn : List ℕ → Type 0
 IsHandedOn p = (4033 ≤ length p) × (length p ≤ 4096)
@@ -55,7 +55,7 @@ module _ {O : Type 0} (step : O → List ℕ → O → Type 0) (room : O → Opt
         gathered_more (inner s) (pending s) p (inner m) (pending m) (concat ps) (inner t) (pending t) f (All-head IsKernelPiece p ps a) h
         (gathered_run m ps t h.bound (All-tail IsKernelPiece p ps a) k)
 
--- ---- what was handed on, and then the pending text, is a cut
+-- ---- what was passed on, and then the pending text, is a cut
 
 all_but_last-append : (ps : List (List ℕ)) (rest : List ℕ) → All IsHandedOn ps → All IsLargePiece (all_but_last (ps ++ piece_of rest))
 all_but_last-append ps [] a =
@@ -203,7 +203,7 @@ module _ {S : Type 0} (step : S → List ℕ → S → Type 0) (is_refused : S �
       let all : take h.offered h.pieces ≡ h.pieces = rw (h.complete e) (take_all (length h.pieces) h.pieces (omega arith)) in
       rw all at h.run
 
--- ---- what a sink tells
+-- ---- what a sink reports
 
 told_after-none : (o : Option (List (List ℕ))) → told_after o [] ≡ o
 told_after-none (Some told) = ap Some (append-nil told)
@@ -215,7 +215,7 @@ told_after-more None xs ys = refl
 
 module _ {S : Type 0} (step : S → List ℕ → S → Type 0) (is_refused : S → Bool) (told : S → Option (List (List ℕ)))
     (tells : (s : S) (piece : List ℕ) (t : S) → step s piece t → told t ≡ told_after (told s) (if is_refused t then [] else piece ∷ [])) where
-  -- what is offered to a sink that accepts all is told
+  -- what is passed to a sink that accepts all is reported
   told-Offers : (s : S) (ps : List (List ℕ)) (t : S) → is_refused t ≡ false → Offers step is_refused s ps t → told t ≡ told_after (told s) ps
   told-Offers s [] t e h = ap told (sym h) ∙ sym (told_after-none (told s))
   told-Offers s (p ∷ ps) t e (o, (m, h, k)) =

@@ -1,4 +1,4 @@
--- The text of bytes: its length, that it is ASCII, and that it spells the bytes.
+-- The text of bytes: its length, that it is ASCII, and that it decodes to the bytes.
 use Rattle.std.proofs.Common.{◌≡◌, ℕ, suc, ◌+◌, ◌*◌, ◌/◌, ◌%◌, ◌<◌, Bool, true, false, List, [], ◌∷◌, ◌++◌, length, take, get_or, slice_index, Some, refl, ap, ◌∙◌, sym, arith, length-append}
 use Rattle.std.specs.Str.{IsAscii}
 use Rattle.std.proofs.lemmas.Bool.Decides.{nat_tests}
@@ -53,7 +53,7 @@ IsAscii-full_text true up bs h =
     IsAscii-cons 48 (120 ∷ hex_text up bs) (omega arith) (IsAscii-cons 120 (hex_text up bs) (omega arith) (IsAscii-hex_text up bs h))
 IsAscii-full_text false up bs h = IsAscii-hex_text up bs h
 
--- ---- the text spells the bytes
+-- ---- the text decodes to the bytes
 
 -- a digit has its value
 hex_value-hex_digit : (up : Bool) (v : ℕ) → v < 16 → hex_value (hex_digit up v) ≡ Some v

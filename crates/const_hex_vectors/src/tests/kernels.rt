@@ -10,7 +10,7 @@ use const_hex::{Kernel, PieceSink, SinkOutput, check_with, decode_to_slice_with,
 /// A figure for each width of a kernel.
 type Figures = [usize; 3];
 
-/// What is tried with each kernel, by itself and behind `CheckFirst`.
+/// What is tried with each kernel, by itself and inside `CheckFirst`.
 pub(crate) trait KernelTest {
     fn run<K: Kernel>(&self, rt: &impl Testing, kernel: KernelCase);
 

@@ -11,7 +11,7 @@ take_two : (front piece rest : List ℕ) (n : ℕ) → n ≤ length piece
 take_two front piece rest n inside =
     take-append-add front (piece ++ rest) n ∙ ap (λ l. front ++ l) (take-append-le n piece rest inside)
 
--- n bytes were read into a vector, behind its first `count` bytes; that part then holds the piece
+-- n bytes were read into a vector, after its first `count` bytes; that part then holds the piece
 pub read_step : (o a b : Option (List ℕ)) (held xs piece : List ℕ) (count n len : ℕ)
     → n ≤ length piece → count + n ≤ len → count ≤ length xs
     → Consumes o a (take count xs) → Consumes a b (take n piece)

@@ -167,7 +167,7 @@ fn words_that_name_none(rt: HostRuntime) {
     }
 }
 
-// A text that is refused, a failed read, and too long an input.
+// A text that is rejected, a failed read, and too long an input.
 #[test]
 fn statuses_and_lines(rt: HostRuntime) {
     let mut output = Target::new(rt.alloc(), 1, Fault::Nothing);

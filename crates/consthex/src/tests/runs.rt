@@ -1,4 +1,4 @@
-//! Runs of the program: worked inputs, refused texts, the limit, and devices that fail.
+//! Runs of the program: worked inputs, rejected texts, the limit, and devices that fail.
 
 use crate::answers::answer;
 use crate::error::RunError;
@@ -11,7 +11,7 @@ use const_hex_vectors::{
 use std::alloc::Global;
 use std::io::{self, ErrorKind, Read};
 
-/// A mode, an input, and the answer to it.
+/// A mode, an input, and the result.
 type Answered<'a> = (Mode, &'a [u8], &'a [u8]);
 
 const ANSWERS: [Answered<'_>; 19] = [
@@ -51,7 +51,7 @@ fn answers_each_mode(rt: HostRuntime) {
     }
 }
 
-/// A mode answers this to bytes in hand, and so does a run.
+/// A mode returns this for bytes in memory, and so does a run.
 fn answers(rt: &impl Testing, (mode, input): (Mode, &[u8]), want: Result<&[u8], RunError>) {
     let row = (mode, Text(input));
     same_read!(rt, "answer", row; answer(rt.alloc(), mode, input), want);
@@ -92,7 +92,7 @@ fn names_the_first_bad_byte(rt: HostRuntime) {
     }
 }
 
-/// An input is refused with that error, which prints that line and has the status 1.
+/// An input fails with that error, which prints that line and has the status 1.
 fn refuses(rt: &impl Testing, row: (Mode, &[u8]), error: FromHexError, line: &str) {
     answers(rt, row, Err(RunError::Text(error)));
     prints(rt, RunError::Text(error), 1, line);

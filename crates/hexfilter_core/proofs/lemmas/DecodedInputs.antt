@@ -29,7 +29,7 @@ module _ (d : LineDecoder) (ig : Bool) (x y : List ℕ) (same : ignores d ≡ ig
   pub digits : AllDigits (body_of (text_of ig x))
   digits = rw (sym same) (read_digits d.decoder (text_of (ignores d) x) y has.text)
 
--- a beginning of what is spelled
+-- a beginning of what is decoded
 pub fewer_spelled : (ig : Bool) (x y : List ℕ) (k : ℕ) → SpellsBeginning ig x y → SpellsBeginning ig x (take k y)
 fewer_spelled ig x y k h =
     let n = length (take k y) in

@@ -63,7 +63,7 @@ NamesInvalid-longer ig x rest NoMemory h = h
 pub cut_at : (u : List ℕ) (k : ℕ) → k < length u → u ≡ take k u ++ slice_index u k ∷ drop (k + 1) u
 cut_at u k h = grind (arith, common_steps)
 
--- the first bad byte stands after digits
+-- the first invalid character follows digits
 bad_after : (u v : List ℕ) (p : ℕ) → AllDigits u → FirstBad (u ++ v) p → length u ≤ p
 bad_after u v p digits bad =
     let early = λ (h : p < length u). let start : p ≤ length u = omega arith in

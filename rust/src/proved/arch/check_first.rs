@@ -12,7 +12,7 @@ pub struct CheckFirst<K> {
     kernel: PhantomData<K>,
 }
 
-// Neither a contract nor a test notices whether it checks by `K`, since every kernel gives the same
+// Neither a contract nor a test notices whether it checks by `K`, since every kernel returns the same
 // results.
 impl<K: Kernel> Kernel for CheckFirst<K> {
     const USE_CHECK_FN: bool = true;

@@ -61,7 +61,7 @@ module _ {M : Type 1} {𝓤 : Ura M} (𝓛 : Logic 𝓤) where
       move ! (1 ∷ []) $ use1 𝓛 (‵ (fres s.ghost_name ((coded_list u8.coded).code s.now))) (finally-res 𝓛 u8 s.ghost_name s.now) $
       move ! (1 ∷ 0 ∷ 2 ∷ []) $ done !
 
-  -- the refusal's value
+  -- the error's value
   pub InvalidStringLength-of : ent 𝓤 (emp 𝓤) (sem 𝓛 (refusal.the_row.own_val InvalidStringLength (live 1 (of_list []) ∷ [])))
   InvalidStringLength-of =
       qed 𝓛 [] ∵ nothing ! $ feq_i ! (List Val) [] [] refl $ fjoin ! $ fpack ! (Valss []) (in_a_row [] (owns [] tt) []) tt $

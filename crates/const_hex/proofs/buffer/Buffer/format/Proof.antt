@@ -1,4 +1,4 @@
--- `format` hands on what `write_array` lends, as text.
+-- `format` passes on what `write_array` lends, as text.
 use Rattle.std.specs.Prelude.{false}
 use Rattle.const_hex.proofs.lemmas.Walks.LentText.{array_input, numbers, layout_of, hands_on}
 use Rattle.const_hex.specs.contracts.buffer.Buffer.format.Key.{name}

@@ -1,4 +1,4 @@
--- `format_slice` hands on what `write_text` lends, as text.
+-- `format_slice` passes on what `write_text` lends, as text.
 use Rattle.std.specs.Prelude.{false}
 use Rattle.const_hex.proofs.lemmas.Walks.LentText.{slice_input, numbers, layout_of, hands_on}
 use Rattle.const_hex.specs.contracts.buffer.Buffer.format_slice.Key.{name}

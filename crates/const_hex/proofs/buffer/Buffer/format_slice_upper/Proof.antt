@@ -1,4 +1,4 @@
--- `format_slice_upper` hands on what `write_text` lends, as text.
+-- `format_slice_upper` passes on what `write_text` lends, as text.
 use Rattle.std.specs.Prelude.{true}
 use Rattle.const_hex.proofs.lemmas.Walks.LentText.{slice_input, numbers, layout_of, hands_on}
 use Rattle.const_hex.specs.contracts.buffer.Buffer.format_slice_upper.Key.{name}

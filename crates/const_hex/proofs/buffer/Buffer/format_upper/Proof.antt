@@ -1,4 +1,4 @@
--- `format_upper` hands on what `write_array` lends, as text.
+-- `format_upper` passes on what `write_array` lends, as text.
 use Rattle.std.specs.Prelude.{true}
 use Rattle.const_hex.proofs.lemmas.Walks.LentText.{array_input, numbers, layout_of, hands_on}
 use Rattle.const_hex.specs.contracts.buffer.Buffer.format_upper.Key.{name}

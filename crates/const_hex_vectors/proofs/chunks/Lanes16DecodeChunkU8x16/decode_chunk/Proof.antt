@@ -1,4 +1,4 @@
--- One call, whose answer is returned.
+-- One call, whose result is returned.
 use Rattle.const_hex_arch.proofs.lemmas.Walks.LaneOptions.{List, ℕ, [], ◌∷◌, refl, proved, concat, Option, ftrue, id⊢, fact, tables, Array-Tells, Array-Lawful, u8, w8, yes, shows, uint_Lawful, nothing, peeks, calls_at, lasts, triple_of, framed, Stays, walk_of, stay_dropped, Goes-dropped, ends_at, Simd-Lawful, alloc_all, pass_all, free_all, look_at, get, lands_as, ‵, raw, ◌⊛◌, some, later, ◌$◌, ◌∵◌, !, qed, done, move, keep, drop, use1, split, join, pick, await, suffices, group, enter, no_more, and_then, returns, NoneClause, SpellsClause, Lanes, Pair, pair_vals, lanes_vals, lanes_Tells, Answer, Answer-Lawful}
 use Rattle.const_hex_vectors.specs.contracts.chunks.Lanes16DecodeChunkU8x16.decode_chunk as f
 use Rattle.const_hex_vectors.proofs.chunks.Lanes16DecodeChunkU8x16.decode_chunk.Statement.{statement}
