@@ -129,6 +129,11 @@ def symbol(name, most=MOST_TURNS):
     return Linear(0, ((name, 1),))
 
 
+def unknown_bit():
+    """A new symbol for 0 or 1."""
+    return symbol(f"bit {next(_count)}", 1)
+
+
 def most_of(name):
     return _limits.get(name, MOST_TURNS)
 

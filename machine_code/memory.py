@@ -9,7 +9,7 @@ import copy
 import itertools
 from collections import namedtuple
 
-from linear import Linear, Unknown, constant_of, is_surely_below, linear, replaced, terms_of
+from linear import Linear, Unknown, constant_of, is_surely_below, linear, most_of, replaced, terms_of
 from values import CONSTANTS, WholeByte, constants, unknown
 
 _count = itertools.count()
@@ -196,8 +196,19 @@ class Memory:
         return self.regions[name].old(offset) if cell is None else cell
 
     def load(self, pointer, size, alignment=1):
+        for name, _ in terms_of(pointer.offset):
+            if most_of(name) == 1:
+                return self._load_either(pointer, name, size, alignment)
         region = self.region_of(pointer, size, "read", alignment)
         return from_lane(tuple([self.at(region.name, pointer.offset + at) for at in range(size)]))
+
+    def _load_either(self, pointer, name, size, alignment):
+        """Where a symbol may be 0 or 1, the same has to lie at both places."""
+        places = [Pointer(pointer.region, replaced(pointer.offset, name, value)) for value in (0, 1)]
+        first, second = (self.load(place, size, alignment) for place in places)
+        if first != second:
+            raise Fault(f"other bytes are read at {shown(places[0])} than at {shown(places[1])}")
+        return first
 
     def store(self, pointer, value, alignment=1):
         lane = as_lane(value)

@@ -12,7 +12,47 @@ import subprocess
 FIRST = 0x10000
 GAP = 0x1000
 WRITABLE, ALLOCATED, EXECUTABLE = 1, 2, 4
-RELATIVE = (2, 4)  # R_X86_64_PC32 and R_X86_64_PLT32
+
+
+def _relative(word, place, target):
+    return target - place
+
+
+def _branch(word, place, target):
+    return word & ~0x3FFFFFF | target - place >> 2 & 0x3FFFFFF
+
+
+def _page(word, place, target):
+    """The distance of two pages of 4 KiB, in two parts."""
+    pages = (target >> 12) - (place >> 12)
+    return word & ~0x60FFFFE0 | (pages & 3) << 29 | (pages >> 2 & 0x7FFFF) << 5
+
+
+def _place_in_page(size):
+    """Of an access of so many bytes, or of an ADD if it is 1."""
+
+    def change(word, place, target):
+        if target % size:
+            raise ValueError(f"a place that is no multiple of {size} in an instruction")
+        return word & ~0x3FFC00 | target % 4096 // size << 10
+
+    return change
+
+
+# By the number of a processor in ELF and the kind: the new word of 32 bits, from the old one, its place, and
+# what it refers to.
+RELOCATIONS = {
+    62: {2: _relative, 4: _relative},  # R_X86_64_PC32 and R_X86_64_PLT32
+    183: {
+        261: _relative,  # R_AARCH64_PREL32
+        275: _page,  # R_AARCH64_ADR_PREL_PG_HI21
+        277: _place_in_page(1),  # R_AARCH64_ADD_ABS_LO12_NC
+        282: _branch,  # R_AARCH64_JUMP26
+        283: _branch,  # R_AARCH64_CALL26
+        286: _place_in_page(8),  # R_AARCH64_LDST64_ABS_LO12_NC
+        299: _place_in_page(16),  # R_AARCH64_LDST128_ABS_LO12_NC
+    },
+}
 
 
 class Section:
@@ -37,7 +77,8 @@ class Object:
     """The sections, the address of each symbol that is defined, and the name at each place of one that is
     not."""
 
-    def __init__(self, sections, symbols, undefined):
+    def __init__(self, machine, sections, symbols, undefined):
+        self.machine = machine
         self.sections = sections
         self.symbols = symbols
         self.undefined = undefined
@@ -68,8 +109,9 @@ def member(archive, name):
 
 def read(data):
     """The object with these bytes."""
-    if data[:6] != b"\x7fELF\x02\x01" or data[18:20] != b"\x3e\0":
-        raise ValueError("not an ELF object for x86-64")
+    machine = struct.unpack_from("<H", data, 18)[0]
+    if data[:6] != b"\x7fELF\x02\x01" or machine not in RELOCATIONS:
+        raise ValueError("not an ELF object for a processor that is known here")
     start, size, count, names = struct.unpack_from("<Q", data, 40)[0], *struct.unpack_from("<HHH", data, 58)
     headers = [struct.unpack_from("<IIQQQQIIQQ", data, start + at * size) for at in range(count)]
 
@@ -90,24 +132,26 @@ def read(data):
             name = _text(content(headers[header[6]]), name)
             if index in placed:
                 addresses.append(placed[index].address + value)
-                symbols |= {name: addresses[-1]} if name else {}
+                # Names such as $x only say what lies there.
+                symbols |= {name: addresses[-1]} if name and name[0] != "$" else {}
             else:
                 address += GAP
                 addresses.append(address)
                 undefined[address] = name
     for header in (header for header in headers if header[1] == 4 and header[7] in placed):
         for offset, info, addend in struct.iter_unpack("<QQq", content(header)):
-            _relocate(placed[header[7]], offset, info & 0xFFFFFFFF, addresses[info >> 32], addend)
-    return Object(list(placed.values()), symbols, undefined)
+            _relocate(machine, placed[header[7]], offset, info & 0xFFFFFFFF, addresses[info >> 32], addend)
+    return Object(machine, list(placed.values()), symbols, undefined)
 
 
 def _text(strings, at):
     return strings[at : strings.index(b"\0", at)].decode()
 
 
-def _relocate(section, offset, kind, symbol, addend):
-    if kind not in RELATIVE:
+def _relocate(machine, section, offset, kind, symbol, addend):
+    if kind not in RELOCATIONS[machine]:
         raise ValueError(f"relocation of kind {kind} in {section.name}")
     section.references.append((offset, kind, symbol, addend))
-    word = symbol + addend - (section.address + offset)
+    [old] = struct.unpack_from("<I", section.content, offset)
+    word = RELOCATIONS[machine][kind](old, section.address + offset, symbol + addend)
     struct.pack_into("<I", section.content, offset, word & 0xFFFFFFFF)

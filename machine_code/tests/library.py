@@ -1,17 +1,15 @@
-"""The archive that is tested: build/c/libconst_hex.a, or what the variable CONST_HEX_ARCHIVE names."""
+"""The archives that are tested: those in build/c and build/aarch64, or what these variables name."""
 
 import os
 import pathlib
 
-import objects
-from exploration import Code
-from x86_64 import front_end
+import library
 
 TOP = pathlib.Path(__file__).resolve().parents[2]
 ARCHIVE = os.environ.get("CONST_HEX_ARCHIVE", TOP / "build" / "c" / "libconst_hex.a")
+AARCH64 = os.environ.get("CONST_HEX_AARCH64", TOP / "build" / "aarch64" / "libconst_hex.a")
 
 
-def code_of(build):
+def code_of(build, archive=ARCHIVE):
     """The code of a build, or that of dispatch.c."""
-    name = "dispatch.c.o" if build == "dispatch" else f"const_hex_{build}.o"
-    return Code(objects.read(objects.member(ARCHIVE, name)), front_end)
+    return library.code_of(archive, build)

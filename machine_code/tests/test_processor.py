@@ -6,9 +6,10 @@ import pathlib
 import unittest
 from unittest import mock
 
+from arithmetic import by_count, by_lanes, flat
 from reached import is_message
 from tests.library import code_of
-from tests.processor import Processor, can_run_alone, form_of
+from tests.native import Native
 from values import ZERO, apply
 from x86_64 import vector
 from x86_64.general import HANDLERS
@@ -17,15 +18,14 @@ STATES, PLACES = 24, 3
 HAS_AVX2 = " avx2 " in pathlib.Path("/proc/cpuinfo").read_text()
 
 
-def forms_of(code):
+def forms_of(processor):
     """Some instructions of each form that the proofs may run."""
-    forms = {}
+    code, forms = processor.code, {}
     for section in code.object.sections:
         if section.is_code and not is_message(section):
-            for address in code.front_end.instructions(section):
-                instruction = code.at(section.address) and code.at(address)
-                if instruction.mnemonic != "nop" and can_run_alone(instruction):
-                    forms.setdefault(form_of(instruction), []).append(instruction)
+            for instruction in code.front_end.instructions(section).values():
+                if instruction.mnemonic != "nop" and processor.can_run_alone(instruction):
+                    forms.setdefault(processor.form_of(instruction), []).append(instruction)
     return {form: found[:: max(1, len(found) // PLACES)][:PLACES] for form, found in forms.items()}
 
 
@@ -49,18 +49,18 @@ def _no_zeros(state, i):
 
 # The mnemonics, and a meaning that is wrong in a way that is easy to overlook.
 WRONG = {
-    "pminub vpminub": vector._handler(vector._lanes(max, 1)),
-    "psubusb vpsubusb": vector._handler(vector._lanes(operator.sub, 1)),
+    "pminub vpminub": vector._handler(by_lanes(max, 1)),
+    "psubusb vpsubusb": vector._handler(by_lanes(operator.sub, 1)),
     "packuswb vpackuswb": vector._handler(
         vector._in_halves(lambda a, b: sum(((a + b)[at : at + 1] for at in range(0, 32, 2)), ()))
     ),
     "vpshufb pshufb": vector._handler(
         vector._in_halves(lambda row, control: tuple(row[byte.value & 15] for byte in control))
     ),
-    "psrlw vpsrlw": vector._handler(vector._by_count(operator.rshift, 4)),
-    "pmullw vpmullw": vector._handler(vector._lanes(lambda a, b: (a * b) >> 16, 2)),
+    "psrlw vpsrlw": vector._handler(by_count(operator.rshift, 4)),
+    "pmullw vpmullw": vector._handler(by_lanes(lambda a, b: (a * b) >> 16, 2)),
     "pmovzxbw vpmovzxbw": lambda state, i: vector._set_target(
-        state, i, vector._flat((ZERO, byte) for byte in state.read(i.operands[1], i.operands[0].size // 2))
+        state, i, flat((ZERO, byte) for byte in state.read(i.operands[1], i.operands[0].size // 2))
     ),
     "vzeroupper": lambda state, i: None,
     "movzx": _no_zeros,
@@ -77,8 +77,8 @@ class TestProcessor(unittest.TestCase):
     @classmethod
     def setUpClass(cls):
         builds = ["default", "v3"] if HAS_AVX2 else ["default"]
-        cls.processors = [Processor(code_of(build)) for build in builds]
-        cls.forms = [forms_of(processor.code) for processor in cls.processors]
+        cls.processors = [Native(code_of(build)) for build in builds]
+        cls.forms = [forms_of(processor) for processor in cls.processors]
 
     def test_each_form_of_an_instruction(self):
         for processor, forms in zip(self.processors, self.forms):

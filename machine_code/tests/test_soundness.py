@@ -12,7 +12,7 @@ from tests.library import code_of
 from tests.mutations import detour
 from values import CONSTANTS, TooWide, apply, constants, each, joined, masked, unknown
 from x86_64.decoding import Instruction, REGISTERS
-from x86_64.flags import Flags
+from flags import Flags
 from x86_64.general import HANDLERS
 from x86_64.state import State
 

@@ -4,29 +4,17 @@ A handler takes the state and the instruction. It raises `Fork` or `Split` befor
 returns where to go on if that is not the next instruction.
 """
 
-import itertools
 import operator
 
+from arithmetic import added, complement, logic, moved, selected, shifted, signed, subtracted
 from exploration import RETURNED
-from linear import GREATEST_SIGNED, Linear, Split, in_range, linear
-from memory import Fault, Pointer, as_value, is_whole
-from values import (
-    CONSTANTS,
-    ZERO,
-    TooWide,
-    apply,
-    are_constant,
-    constants,
-    each,
-    joined,
-    masked,
-    number,
-    unknown,
-)
-from x86_64.flags import CODES, Flags, as_number, signed
+from flags import Flags
+from linear import Linear
+from memory import Fault, Pointer, is_whole
+from values import ZERO, apply, are_constant, constants, number, unknown
+from x86_64.state import CODES
 
 HANDLERS = {}
-_count = itertools.count()
 
 
 def instruction(*names):
@@ -40,15 +28,6 @@ def instruction(*names):
 
 def _sign_extended(value, size):
     return signed(value, size)
-
-
-def _complement(value):
-    return 1 - value
-
-
-def _moved(pointer, distance):
-    offset = pointer.offset + distance
-    return Pointer(pointer.region, signed(offset) if type(offset) is int else offset)
 
 
 def _operands(state, i):
@@ -92,38 +71,14 @@ def lea(state, i):
 @instruction("add")
 def add(state, i):
     first, second = _operands(state, i)
-    if type(second) is Pointer:
-        first, second = second, first
-    if type(first) is Pointer:
-        _finish(state, i, _moved(first, as_number(second)), None)
-        return
-    if type(first) is Linear or type(second) is Linear:
-        result = as_value(as_number(first) + as_number(second))
-    else:
-        result = apply(operator.add, len(first), [first, second])
-    _finish(state, i, result, Flags("add", first, second, result))
-
-
-def _subtracted(first, second):
-    if type(first) is Pointer and type(second) is Pointer:
-        if first.region != second.region:
-            # It may be anything.
-            count = next(_count)
-            return tuple([unknown("difference", count, at) for at in range(8)])
-        return as_value(first.offset - second.offset)
-    if type(first) is Pointer:
-        return _moved(first, -as_number(second))
-    if type(second) is Pointer:
-        raise Fault("a pointer is subtracted from a number")
-    if type(first) is Linear or type(second) is Linear:
-        return as_value(as_number(first) - as_number(second))
-    return apply(operator.sub, len(first), [first, second])
+    result = added(first, second)
+    _finish(state, i, result, None if type(result) is Pointer else Flags("add", first, second, result))
 
 
 @instruction("sub")
 def sub(state, i):
     first, second = _operands(state, i)
-    _finish(state, i, _subtracted(first, second), Flags("sub", first, second))
+    _finish(state, i, subtracted(first, second), Flags("sub", first, second))
 
 
 @instruction("cmp")
@@ -133,55 +88,28 @@ def cmp(state, i):
 
 @instruction("inc", "dec")
 def inc(state, i):
-    first, change = state.read(i.operands[0]), 1 if i.mnemonic == "inc" else -1
-    if type(first) is Pointer:
-        _finish(state, i, _moved(first, change), None)
-        return
-    if type(first) is Linear:
-        result = first + change
-    else:
-        result = apply(operator.add, len(first), [first, constants(change, len(first))])
-    _finish(state, i, result, Flags("inc", result=result, before=state.flags))
+    first = state.read(i.operands[0])
+    result = added(
+        first, constants(1 if i.mnemonic == "inc" else -1, 8 if is_whole(first) else len(first))
+    )
+    is_number = type(result) is not Pointer
+    _finish(state, i, result, Flags("inc", result=result, before=state.flags) if is_number else None)
 
 
 @instruction("neg")
 def neg(state, i):
     first = state.read(i.operands[0])
     zero = constants(0, 8 if is_whole(first) else len(first))
-    _finish(state, i, _subtracted(zero, first), Flags("sub", zero, first))
+    _finish(state, i, subtracted(zero, first), Flags("sub", zero, first))
 
 
 @instruction("not")
 def not_(state, i):
-    value = state.read(i.operands[0])
-    if type(value) is Pointer:
-        raise Fault("NOT of a pointer")
-    state.write(
-        i.operands[0], as_value(-value - 1) if type(value) is Linear else each(operator.invert, value)
-    )
-
-
-def _logic(name, first, second):
-    if name in ("and", "test"):
-        return masked(first, second)
-    return joined(first, second) if name == "or" else each(operator.xor, first, second)
-
-
-def _logic_of_number(name, first, mask):
-    """AND and OR with a constant that concerns the bits that are known, or clears them."""
-    if type(first) is Linear and type(mask) is int:
-        is_low = 0 <= mask < 1 << first.known_bits
-        if name in ("and", "test") and is_low:
-            return first.constant & mask
-        if name == "or" and is_low:
-            return linear(first.constant | mask, first.terms)
-        if name == "and" and -(1 << first.known_bits) <= mask < 0 and -mask & (-mask - 1) == 0:
-            return linear(first.constant & mask, first.terms)
-    raise Fault(f"{name.upper()} of a number with symbols")
+    state.write(i.operands[0], complement(state.read(i.operands[0])))
 
 
 @instruction("and", "or", "xor", "test")
-def logic(state, i):
+def logic_(state, i):
     name = i.mnemonic
     if name == "xor" and i.operands[0] == i.operands[1]:
         # The result is 0, whatever the register held.
@@ -191,14 +119,7 @@ def logic(state, i):
         if type(first) is Pointer and name == "test":
             state.flags = Flags("logic", first, second)
             return
-        if type(first) is Pointer or type(second) is Pointer:
-            raise Fault(f"{name.upper()} of a pointer")
-        if type(first) is Linear and first == second and name != "xor":
-            result = first
-        elif type(first) is Linear or type(second) is Linear:
-            result = as_value(_logic_of_number(name, first, as_number(second)))
-        else:
-            result = _logic(name, first, second)
+        result = logic("and" if name == "test" else name, first, second)
     if name != "test":
         state.write(i.operands[0], result)
     state.flags = Flags("logic", result=result)
@@ -212,30 +133,8 @@ def shift(state, i):
         raise Fault("a shift by a register")
     count &= 63 if is_whole(value) or len(value) == 8 else 31
     if count:
-        result = _shifted(operator.lshift if i.mnemonic == "shl" else operator.rshift, value, count)
+        result = shifted(operator.lshift if i.mnemonic == "shl" else operator.rshift, value, count)
         _finish(state, i, result, Flags("shift", result=result))
-
-
-def _shifted(function, value, count):
-    """By whole bytes it only moves them, so they may depend on anything."""
-    if type(value) is Pointer:
-        raise Fault("a shift of a pointer")
-    if type(value) is Linear and function is operator.lshift:
-        return as_value(value * (1 << count))
-    if type(value) is Linear:
-        odd = [name for name, factor in value.terms if factor % 2]
-        if odd and not {"done", "left"} & {*odd}:
-            raise Split(odd[0], by_parity=True)
-        if count > value.known_bits:
-            raise Fault("a shift of a number with symbols")
-        value = in_range(value, 0, GREATEST_SIGNED)
-        return as_value(linear(value.constant >> count, [(name, f >> count) for name, f in value.terms]))
-    if count % 8:
-        return apply(function, len(value), [value], (count,))
-    zeros = (ZERO,) * min(count // 8, len(value))
-    if function is operator.lshift:
-        return zeros + value[: len(value) - len(zeros)]
-    return value[len(zeros) :] + zeros
 
 
 @instruction("push")
@@ -249,7 +148,7 @@ def pop(state, i):
 
 
 def _push(state, value):
-    top = _moved(state.registers["rsp"], -8)
+    top = moved(state.registers["rsp"], -8)
     state.memory.store(top, value)
     state.registers["rsp"] = top
 
@@ -257,7 +156,7 @@ def _push(state, value):
 def _pop(state):
     top = state.registers["rsp"]
     value = state.memory.load(top, 8)
-    state.registers["rsp"] = _moved(top, 8)
+    state.registers["rsp"] = moved(top, 8)
     return value
 
 
@@ -295,38 +194,13 @@ def _jump(state, i):
     return i.operands[0] if state.decide(state.flag(i.mnemonic[1:])) else None
 
 
-def _bit(condition):
-    """The byte that is 1 if a condition holds, and 0 if not."""
-    bit = (CONSTANTS[1],)
-    for atom in condition.atoms:
-        bit = masked(bit, (atom,))
-    return each(_complement, bit) if condition.is_negated else bit
-
-
-def _selected(bit, value, other):
-    return value if bit else other
-
-
 def _set(state, i):
-    condition = state.flag(i.mnemonic[3:])
-    try:
-        bit = _bit(condition) if state.path.decide(condition) is None else None
-    except TooWide:
-        bit = None
-    state.write(i.operands[0], bit or (CONSTANTS[state.decide(condition)],))
+    state.write(i.operands[0], selected(state, state.flag(i.mnemonic[3:]), constants(1, 1), constants(0, 1)))
 
 
 def _conditional_move(state, i):
-    """Where unknown bytes decide, it is a function of them, and no jump. Only if it cannot be one, the path forks."""
-    target, condition = i.operands[0], state.flag(i.mnemonic[4:])
-    value, old, lane = state.read(i.operands[1]), state.read(target), None
-    if state.path.decide(condition) is None and not is_whole(value) and not is_whole(old):
-        try:
-            bit = _bit(condition)
-            lane = each(_selected, bit * len(value), value, old)
-        except TooWide:
-            pass
-    state.write(target, lane or (value if state.decide(condition) else old))
+    target, value = i.operands[0], state.read(i.operands[1])
+    state.write(target, selected(state, state.flag(i.mnemonic[4:]), value, state.read(target)))
 
 
 for _name in CODES:

@@ -7,22 +7,15 @@ alignment.
 
 import operator
 
+from arithmetic import by_count, by_lanes, difference_from_0, equal, flat, interleaved, signed
 from conditions import are_zero
+from flags import Flags
 from memory import Fault, as_lane, from_lane
 from values import ZERO, apply, are_constant, each, joined, masked
 from x86_64.decoding import Register
-from x86_64.flags import Flags, signed
 from x86_64.general import HANDLERS, instruction
 
 # Functions of numbers
-
-
-def _difference_from_0(first, second):
-    return max(first - second, 0)
-
-
-def _equal(first, second):
-    return -(first == second)
 
 
 def _as_unsigned_byte(value):
@@ -37,37 +30,12 @@ def _pick(control, row):
 # Operations on vectors of bytes
 
 
-def _flat(lanes):
-    return sum(lanes, ())
-
-
-def _lanes(function, size):
-    """An operation on each two lanes of this size."""
-
-    def operation(first, second):
-        places = range(0, len(first), size)
-        return _flat(apply(function, size, [first[at:][:size], second[at:][:size]]) for at in places)
-
-    return operation
-
-
-def _by_count(function, size):
-    """A shift of each lane by a constant."""
-
-    def operation(value, count):
-        count = min(count, 8 * size)
-        places = range(0, len(value), size)
-        return _flat(apply(function, size, [value[at:][:size]], (count,)) for at in places)
-
-    return operation
-
-
 def _in_halves(operation):
     """An operation that AVX does in each 16 bytes alone."""
 
     def whole(*operands):
         halves = range(0, len(operands[0]), 16)
-        return _flat(
+        return flat(
             operation(*(v if isinstance(v, int) else v[at:][:16] for v in operands)) for at in halves
         )
 
@@ -87,41 +55,38 @@ def _shuffled(row, control):
 
 
 def _interleaved(size):
-    def operation(first, second):
-        return _flat(first[at:][:size] + second[at:][:size] for at in range(0, 8, size))
-
-    return operation
+    return lambda first, second: interleaved(first, second, size, 8)
 
 
 def _packed(first, second):
     both = first + second
-    return _flat(apply(_as_unsigned_byte, 1, [both[at:][:2]]) for at in range(0, 32, 2))
+    return flat(apply(_as_unsigned_byte, 1, [both[at:][:2]]) for at in range(0, 32, 2))
 
 
 def _picked(vector, order, size):
     """Four lanes of a vector, by two bits of a number each."""
-    return _flat(vector[(order >> 2 * at & 3) * size :][:size] for at in range(4))
+    return flat(vector[(order >> 2 * at & 3) * size :][:size] for at in range(4))
 
 
 OPERATIONS = {
     "por": joined,
     "pand": masked,
-    "pxor": _lanes(operator.xor, 1),
-    "paddb": _lanes(operator.add, 1),
-    "paddw": _lanes(operator.add, 2),
-    "psubb": _lanes(operator.sub, 1),
-    "psubusb": _lanes(_difference_from_0, 1),
-    "pminub": _lanes(min, 1),
-    "pmullw": _lanes(operator.mul, 2),
-    "pcmpeqd": _lanes(_equal, 4),
+    "pxor": by_lanes(operator.xor, 1),
+    "paddb": by_lanes(operator.add, 1),
+    "paddw": by_lanes(operator.add, 2),
+    "psubb": by_lanes(operator.sub, 1),
+    "psubusb": by_lanes(difference_from_0, 1),
+    "pminub": by_lanes(min, 1),
+    "pmullw": by_lanes(operator.mul, 2),
+    "pcmpeqd": by_lanes(equal, 4),
     "pshufb": _in_halves(_shuffled),
     "packuswb": _in_halves(_packed),
     "punpckldq": _in_halves(_interleaved(4)),
     "punpcklqdq": _in_halves(_interleaved(8)),
     # The last operand is an immediate.
-    "psllw": _by_count(operator.lshift, 2),
-    "psrlw": _by_count(operator.rshift, 2),
-    "psrld": _by_count(operator.rshift, 4),
+    "psllw": by_count(operator.lshift, 2),
+    "psrlw": by_count(operator.rshift, 2),
+    "psrld": by_count(operator.rshift, 4),
 }
 
 
@@ -206,7 +171,7 @@ def extract(state, i):
 @instruction("pmovzxbw", "vpmovzxbw")
 def widen(state, i):
     size = i.operands[0].size
-    _set_target(state, i, _flat((byte, ZERO) for byte in as_lane(state.read(i.operands[1], size // 2))))
+    _set_target(state, i, flat((byte, ZERO) for byte in as_lane(state.read(i.operands[1], size // 2))))
 
 
 @instruction("vbroadcasti128", "vpbroadcastd", "vpbroadcastq")

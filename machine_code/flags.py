@@ -1,43 +1,15 @@
-"""The flags, as what the last instruction that sets them made of its operands. They are found when they are
-asked for.
+"""The flags of a processor, as what the last instruction that sets them made of its operands. They are found
+when they are asked for.
 
 An answer is a condition on unknown bytes. Flags that an instruction leaves undefined are an error if they are
 used.
 """
 
+from arithmetic import as_number, as_unsigned, signed
 from conditions import FALSE, are_equal, are_zero, conjunction, constant
 from linear import GREATEST, GREATEST_SIGNED, Linear, Unknown, in_range, is_zero, least_of, most_value
 from memory import Fault, Pointer, with_replaced
 from values import TooWide, apply, are_constant, constants, number
-
-# The conditions of jumps by flags: each as one of seven, or its negation.
-CODES = {}
-for _names in ("e z/ne nz", "b c nae/ae nc nb", "be na/a nbe", "s/ns", "l nge/ge nl", "le ng/g nle", "o/no"):
-    for _is_negated, _side in enumerate(_names.split("/")):
-        CODES |= {_name: (_names.split("/")[0].split()[0], bool(_is_negated)) for _name in _side.split()}
-
-
-def signed(value, size=8):
-    value &= (1 << 8 * size) - 1
-    return value - (1 << 8 * size) if value >> 8 * size - 1 else value
-
-
-def as_number(value):
-    """The number that a register holds, if it is known but for symbols: from -2**63 on."""
-    if type(value) is Linear:
-        return value
-    if type(value) is Pointer:
-        raise Fault("a pointer is used as a number")
-    if not are_constant(value):
-        raise TooWide("a number that depends on an unknown byte")
-    return signed(number(value), len(value))
-
-
-def as_unsigned(value):
-    """As `as_number`, from 0 on."""
-    found = as_number(value)
-    return found + (1 << 64) if type(found) is int and found < 0 else found
-
 
 def _flag(first, second, code, is_sum, size):
     """A flag of a sum or a difference of numbers of `size` bytes."""

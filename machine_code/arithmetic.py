@@ -1,0 +1,197 @@
+"""What processors do alike with the values of registers: lanes, numbers with symbols, and pointers."""
+
+import itertools
+import operator
+
+from linear import GREATEST_SIGNED, Linear, Split, in_range, linear, unknown_bit
+from memory import Fault, Pointer, as_value, is_whole
+from values import CONSTANTS, ZERO, TooWide, apply, are_constant, each, joined, masked, number, unknown
+
+_count = itertools.count()
+
+
+def signed(value, size=8):
+    value &= (1 << 8 * size) - 1
+    return value - (1 << 8 * size) if value >> 8 * size - 1 else value
+
+
+def as_number(value):
+    """The number that a register holds, if it is known but for symbols: from -2**63 on."""
+    if type(value) is Linear:
+        return value
+    if type(value) is Pointer:
+        raise Fault("a pointer is used as a number")
+    if not are_constant(value):
+        raise TooWide("a number that depends on an unknown byte")
+    return signed(number(value), len(value))
+
+
+def as_unsigned(value):
+    """As `as_number`, from 0 on."""
+    found = as_number(value)
+    return found + (1 << 64) if type(found) is int and found < 0 else found
+
+
+def moved(pointer, distance):
+    offset = pointer.offset + distance
+    return Pointer(pointer.region, signed(offset) if type(offset) is int else offset)
+
+
+def added(first, second):
+    if type(second) is Pointer:
+        first, second = second, first
+    if type(first) is Pointer:
+        return moved(first, as_number(second))
+    if type(first) is Linear or type(second) is Linear:
+        return as_value(as_number(first) + as_number(second))
+    return apply(operator.add, len(first), [first, second])
+
+
+def subtracted(first, second):
+    if type(first) is Pointer and type(second) is Pointer:
+        if first.region != second.region:
+            # It may be anything.
+            count = next(_count)
+            return tuple([unknown("difference", count, at) for at in range(8)])
+        return as_value(first.offset - second.offset)
+    if type(first) is Pointer:
+        return moved(first, -as_number(second))
+    if type(second) is Pointer:
+        raise Fault("a pointer is subtracted from a number")
+    if type(first) is Linear or type(second) is Linear:
+        return as_value(as_number(first) - as_number(second))
+    return apply(operator.sub, len(first), [first, second])
+
+
+def complement(value):
+    if type(value) is Pointer:
+        raise Fault("NOT of a pointer")
+    return as_value(-value - 1) if type(value) is Linear else each(operator.invert, value)
+
+
+def exclusive(first, second):
+    """The XOR of two lanes."""
+    return each(operator.xor, first, second)
+
+
+LOGIC = {"and": masked, "or": joined, "xor": exclusive}
+
+
+def logic(name, first, second):
+    """AND, OR or XOR."""
+    if type(first) is Pointer or type(second) is Pointer:
+        raise Fault(f"{name.upper()} of a pointer")
+    if type(first) is Linear and first == second and name != "xor":
+        return first
+    if type(first) is Linear or type(second) is Linear:
+        return as_value(_logic_of_number(name, first, as_number(second)))
+    return LOGIC[name](first, second)
+
+
+def _logic_of_number(name, first, mask):
+    """AND and OR with a constant that concerns the bits that are known, or clears them. AND may also pick the
+    next bit."""
+    if type(first) is Linear and type(mask) is int:
+        is_low = 0 <= mask < 1 << first.known_bits
+        if name == "and" and is_low:
+            return first.constant & mask
+        if name == "and" and mask == 1 << first.known_bits:
+            return unknown_bit() * mask
+        if name == "or" and is_low:
+            return linear(first.constant | mask, first.terms)
+        if name == "and" and -(1 << first.known_bits) <= mask < 0 and -mask & (-mask - 1) == 0:
+            return linear(first.constant & mask, first.terms)
+    raise Fault(f"{name.upper()} of a number with symbols")
+
+
+def shifted(function, value, count):
+    """A shift by a number. By whole bytes it only moves them, so they may depend on anything."""
+    if type(value) is Pointer:
+        raise Fault("a shift of a pointer")
+    if type(value) is Linear and function is operator.lshift:
+        return as_value(value * (1 << count))
+    if type(value) is Linear:
+        odd = [name for name, factor in value.terms if factor % 2]
+        if odd and not {"done", "left"} & {*odd}:
+            raise Split(odd[0], by_parity=True)
+        if count > value.known_bits:
+            raise Fault("a shift of a number with symbols")
+        value = in_range(value, 0, GREATEST_SIGNED)
+        return as_value(linear(value.constant >> count, [(name, f >> count) for name, f in value.terms]))
+    if count % 8:
+        return apply(function, len(value), [value], (count,))
+    zeros = (ZERO,) * min(count // 8, len(value))
+    if function is operator.lshift:
+        return zeros + value[: len(value) - len(zeros)]
+    return value[len(zeros) :] + zeros
+
+
+# What unknown bytes decide
+
+
+def _complement_of_bit(value):
+    return 1 - value
+
+
+def _bit(condition):
+    """The byte that is 1 if a condition holds, and 0 if not."""
+    bit = (CONSTANTS[1],)
+    for atom in condition.atoms:
+        bit = masked(bit, (atom,))
+    return each(_complement_of_bit, bit) if condition.is_negated else bit
+
+
+def _picked(bit, value, other):
+    return value if bit else other
+
+
+def selected(state, condition, value, other):
+    """The first value if the condition holds. Where unknown bytes decide, it is a function of them, and no
+    jump. Only if it cannot be one, the path forks."""
+    if state.path.decide(condition) is None and not is_whole(value) and not is_whole(other):
+        try:
+            return each(_picked, _bit(condition) * len(value), value, other)
+        except TooWide:
+            pass
+    return value if state.decide(condition) else other
+
+
+# Vectors of bytes
+
+
+def flat(lanes):
+    return sum(lanes, ())
+
+
+def by_lanes(function, size):
+    """An operation on each two lanes of this size."""
+
+    def operation(first, second):
+        places = range(0, len(first), size)
+        return flat(apply(function, size, [first[at:][:size], second[at:][:size]]) for at in places)
+
+    return operation
+
+
+def by_count(function, size):
+    """A shift of each lane by a constant."""
+
+    def operation(value, count):
+        count = min(count, 8 * size)
+        places = range(0, len(value), size)
+        return flat(apply(function, size, [value[at:][:size]], (count,)) for at in places)
+
+    return operation
+
+
+def interleaved(first, second, size, count):
+    """The first `count` bytes of two vectors, in turns of `size`."""
+    return flat(first[at:][:size] + second[at:][:size] for at in range(0, count, size))
+
+
+def difference_from_0(first, second):
+    return max(first - second, 0)
+
+
+def equal(first, second):
+    return -(first == second)

@@ -1,0 +1,34 @@
+"""The builds of a library: the objects of its archive, each with the front end for its processor."""
+
+import functools
+import importlib
+import re
+import subprocess
+
+import objects
+from exploration import Code
+
+PROCESSORS = {62: "x86_64", 183: "aarch64"}  # by their number in ELF
+DISPATCH = "dispatch"
+
+
+@functools.lru_cache
+def _members(archive):
+    """The names of the builds, with that of dispatch.c, and of their objects. An only build has the name of its
+    processor."""
+    listed = subprocess.run(["ar", "t", archive], check=True, capture_output=True, text=True).stdout.split()
+    found = {match[1]: match[0] for name in listed if (match := re.fullmatch(r"const_hex_(\w+)\.o", name))}
+    if "single" in found:
+        machine = objects.read(objects.member(archive, found["single"])).machine
+        found[PROCESSORS[machine]] = found.pop("single")
+    return found | {DISPATCH: "dispatch.c.o"}
+
+
+def builds_of(archive):
+    return list(_members(archive))
+
+
+def code_of(archive, build):
+    """The code of a build, or that of dispatch.c."""
+    obj = objects.read(objects.member(archive, _members(archive)[build]))
+    return Code(obj, importlib.import_module(f"{PROCESSORS[obj.machine]}.front_end").FRONT_END)
