@@ -23,6 +23,8 @@ class FrontEnd:
     # How many bytes the call itself puts on the stack.
     PUSHED = 0
     STACK = DISPATCH_STACK = 0
+    # Lower limits of symbols.
+    LIMITS = {}
 
     def start(self, code, symbol, arguments, regions, stack=None):
         """The state at the first instruction of a call. Regions beside the arguments' are the stack and the

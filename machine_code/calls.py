@@ -17,6 +17,7 @@ from contracts import (
     NO_NUL,
     ODD_LENGTH,
     PREFIX,
+    SELECTS,
     SIZE_MAX,
     Check,
     CheckRaw,
@@ -26,20 +27,24 @@ from contracts import (
     Encode,
     answer_of,
     assume_prefix,
+    decoder_region,
+    error_region,
     is_same,
     require_error,
+    require_number,
     require_value,
     unchanged,
+    written_region,
 )
 from exploration import named, outcomes, require
 from induction import prove_class, prove_length, with_nulls
-from linear import symbol
+from linear import lower, symbol
 from memory import Pointer, Region, as_lane, as_value
 from values import CONSTANTS, ZERO, apply, constants, kept, unknown, variable
 
 HEADER = pathlib.Path(__file__).resolve().parent.parent / "c" / "const_hex.h"
 N, K, OVER = symbol("n"), symbol("k"), symbol("over")
-ERROR, WRITTEN = Region("error", 16, True, 8), Region("written", 8, True, 8)
+ERROR, WRITTEN = error_region(8), written_region(8)
 
 
 @dataclass
@@ -63,6 +68,7 @@ class Case:
             with named(code, "at the return", end.last):
                 code.front_end.has_returned(end)
                 require(not end.leaks, "an address depends on an unknown byte")
+                require(not end.selects, SELECTS)
                 self.judge(code, end)
         return len(ends)
 
@@ -123,7 +129,7 @@ def _xor(byte, low):
     return byte ^ low
 
 
-def _encode_failures():
+def encode_failures():
     """Sizes that are too small: 2k + odd, for n bytes; and unknown flags."""
     for flags in range(8):
         beside = _size_beside(flags)
@@ -170,7 +176,7 @@ def _text_failure(call, kind, body, length, size):
         unchanged(end, "bytes")
         require_error(end, kind)
         if call == "decode":
-            require_value(end, "written", 0, constants(0, 8))
+            require_number(end, "written", 0, 0)
 
     def assume(state):
         if body is not None:
@@ -184,63 +190,60 @@ def _text_failure(call, kind, body, length, size):
 # Decoders
 
 
-def _updates():
+def updates(word):
     """The states of a decoder, and whether the chunk has a prefix or its second half."""
-    yield DecoderUpdate("at the start, without a prefix", 0, 0, 0)
-    yield DecoderUpdate("at the start, with a prefix", 0, 0, 2)
-    yield DecoderUpdate("after 1 character, with the rest of a prefix", 1, 0, 1, True)
-    yield DecoderUpdate("after 1 character, without a prefix", 1, 1, 0, False)
-    yield DecoderUpdate("after 2 or more characters", BEFORE + 2, 0, 0)
-    yield DecoderUpdate("after 2 or more characters, the last of which waits", BEFORE + 2, 1, 0)
+    yield DecoderUpdate(word, "at the start, without a prefix", 0, 0, 0)
+    yield DecoderUpdate(word, "at the start, with a prefix", 0, 0, 2)
+    yield DecoderUpdate(word, "after 1 character, with the rest of a prefix", 1, 0, 1, True)
+    yield DecoderUpdate(word, "after 1 character, without a prefix", 1, 1, 0, False)
+    yield DecoderUpdate(word, "after 2 or more characters", BEFORE + 2, 0, 0)
+    yield DecoderUpdate(word, "after 2 or more characters, the last of which waits", BEFORE + 2, 1, 0)
 
 
 BEYOND_WAITING = kept(bytes(value > 1 for value in range(256)))
 
 
-def _decoder(index, state):
-    """A decoder with this position and state; its other bytes may be anything."""
-    bytes_ = [unknown("decoder", at) for at in range(16)]
-    index = bytes_[:8] if index is None else as_lane(as_value(index))
-    return (*index, bytes_[8], bytes_[9] if state is None else CONSTANTS[state], *bytes_[10:])
+def _decoder(word, kind, is_writable):
+    """A decoder at any position; its state is None if it has failed."""
+    *index, byte, any_kind = [unknown("decoder", at) for at in range(word + 2)]
+    return decoder_region(word, index, byte, any_kind if kind is None else CONSTANTS[kind], is_writable)
 
 
 def _assume_failed(state):
-    state.path.sets[variable("decoder", 9)] = BEYOND_WAITING
+    state.path.sets[variable("decoder", state.word + 1)] = BEYOND_WAITING
 
 
 def _require_failed(end):
     """The error of an earlier chunk, again."""
-    content = end.memory.regions["decoder"].content
-    require_value(
-        end, "error", 0, constants(INVALID_CHARACTER, 4) + (content[8], ZERO, ZERO, ZERO) + content[:8]
-    )
+    content, word = end.memory.regions["decoder"].content, end.word
+    wanted = constants(INVALID_CHARACTER, 4) + (content[word], ZERO, ZERO, ZERO) + content[:word]
+    require_value(end, "error", 0, wanted)
 
 
-def _update_failures():
-    yield _update_failure("after an error", _decoder(None, None), N, OVER, None, _assume_failed)
-    for form in _updates():
-        content = _decoder(form.index, int(form.waits or form.index == 1))
+def update_failures(word):
+    yield _update_failure(word, "after an error", _decoder(word, None, True), N, OVER, None, _assume_failed)
+    for form in updates(word):
         # So many digits with the one that waits: 2n + 2k + 2, or one more, for n bytes.
         for odd in (0, 1):
             length = (N + K + 1) * 2 + odd + form.digits - form.waits
-            yield _update_failure(form.name, content, length, N, INVALID_LENGTH, form.assume)
+            yield _update_failure(word, form.name, form.decoder(), length, N, INVALID_LENGTH, form.assume)
 
 
-def _update_failure(name, content, length, size, kind, assume):
+def _update_failure(word, name, decoder, length, size, kind, assume):
     def judge(code, end):
         require(not answer_of(code, end), "it succeeds")
         unchanged(end, "decoder", "bytes")
-        require_value(end, "written", 0, constants(0, 8))
+        require_number(end, "written", 0, 0)
         require_error(end, kind) if kind else _require_failed(end)
 
     arguments = [Pointer("decoder", 0), Pointer("text", 0), length, Pointer("bytes", 0), size]
     arguments += [Pointer("written", 0), Pointer("error", 0)]
-    regions = [Region("text", length), Region("bytes", size, True), WRITTEN, ERROR]
-    regions.append(Region("decoder", 16, True, 8, content))
+    regions = [Region("text", length), Region("bytes", size, True), decoder]
+    regions += [written_region(word), error_region(word)]
     return Case(f"{name}: a chunk of {length} for {size} bytes", arguments, regions, judge, assume)
 
 
-def _finishes():
+def finishes(word):
     for state, name in ((0, "no digit waits"), (1, "a digit waits"), (None, "after an error")):
 
         def judge(code, end, state=state):
@@ -252,7 +255,7 @@ def _finishes():
             else:
                 _require_failed(end)
 
-        regions = [Region("decoder", 16, False, 8, _decoder(None, state)), ERROR]
+        regions = [_decoder(word, state, False), error_region(word)]
         assume = _assume_failed if state is None else None
         yield Case(name, [Pointer("decoder", 0), Pointer("error", 0)], regions, judge, assume)
 
@@ -285,11 +288,12 @@ class Call:
     def prove(self, code, function, part):
         """Gives how many states were judged."""
         kind, at, *rest = part
-        if kind == "case":
-            return self.cases[at].prove(code, function)
-        if kind == "length":
-            return prove_length(code, function, self.forms[at], *rest)
-        return prove_class(code, function, self.forms[at], self.size, *rest)
+        with lower(code.front_end.LIMITS):
+            if kind == "case":
+                return self.cases[at].prove(code, function)
+            if kind == "length":
+                return prove_length(code, function, self.forms[at], *rest)
+            return prove_class(code, function, self.forms[at], self.size, *rest)
 
     def name_of(self, part):
         kind, at, *rest = part
@@ -301,11 +305,11 @@ class Call:
 
 CALLS = {
     "encoded_size": Call([], _encoded_size_cases()),
-    "encode": Call([Encode(flags) for flags in range(8)], _encode_failures(), 128),
+    "encode": Call([Encode(flags) for flags in range(8)], encode_failures(), 128),
     "decode": Call([Decode(0), Decode(2)], _text_failures("decode"), 128, 2, True),
     "decode_exact": Call([DecodeExact(0), DecodeExact(2)], _text_failures("decode_exact"), 128, 2, True),
-    "decoder_update": Call(_updates(), _update_failures(), 128, 1, True),
-    "decoder_finish": Call([], _finishes(), has_nonnull=True),
+    "decoder_update": Call(updates(8), update_failures(8), 128, 1, True),
+    "decoder_finish": Call([], finishes(8), has_nonnull=True),
     "check": Call([Check(0), Check(2)], _text_failures("check"), 128, 2, True),
     "check_raw": Call([CheckRaw()], [], 128),
     "version": Call([], _version()),

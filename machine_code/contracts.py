@@ -13,6 +13,7 @@ from linear import constant_of, linear, symbol, terms_of
 from memory import Pointer, Region, as_lane, as_value
 from values import CONSTANTS, ZERO, TooWide, constants, unknown, variable
 
+SELECTS = "a `select` depends on an unknown byte"
 ODD_LENGTH, INVALID_LENGTH, INVALID_CHARACTER = 1, 2, 3
 UPPER, PREFIX, NO_NUL = 1, 2, 4
 SIZE_MAX = (1 << 64) - 1
@@ -41,16 +42,40 @@ def unchanged(state, *names):
             require(is_same(state.path, (byte,), (region.old(at),)), f"{name}[{at}] is changed")
 
 
+def as_word(number, word):
+    """The bytes of a number in a memory whose numbers have so many bytes."""
+    return as_lane(as_value(number))[:word]
+
+
 def require_value(state, name, offset, wanted):
-    """What a region has at an offset: a lane, or a whole value of 8 bytes."""
-    wanted = as_lane(wanted)
+    """What a region has at an offset."""
     found = tuple([state.memory.at(name, offset + at) for at in range(len(wanted))])
     require(is_same(state.path, found, wanted), f"{name}[{offset}] is not what it should be")
 
 
+def require_number(state, name, offset, number):
+    """What a region has at an offset, as a number."""
+    require_value(state, name, offset, as_word(number, state.word))
+
+
 def require_error(state, kind, byte=ZERO, index=0):
     require_value(state, "error", 0, constants(kind, 4) + (byte, ZERO, ZERO, ZERO))
-    require_value(state, "error", 8, as_value(index))
+    require_number(state, "error", 8, index)
+
+
+def error_region(word):
+    """`struct const_hex_error`: its kind, its byte, and its index."""
+    return Region("error", 8 + word, True, word)
+
+
+def written_region(word):
+    return Region("written", word, True, word)
+
+
+def decoder_region(word, index, byte, kind, is_writable=True):
+    """`struct const_hex_decoder`: its position, its digit, and its state. The other bytes may be anything."""
+    padding = tuple([unknown("decoder", at) for at in range(word + 2, 2 * word)])
+    return Region("decoder", 2 * word, is_writable, word, (*index, byte, kind, *padding))
 
 
 def answer_of(code, state):
@@ -80,6 +105,8 @@ class Form:
     digits = shortest = 0
     # Regions that are unchanged until the end.
     last = ()
+    # How many bytes a number has in the memory.
+    word = 8
 
     def possible(self, state):
         """The state, or nothing if no input leads to it."""
@@ -115,6 +142,7 @@ class Form:
             self.written(state) == count // self.unit * self.per_unit,
             "another number of bytes is written in a round",
         )
+        require(not state.selects, SELECTS)
 
     def left_to_read(self, state):
         count = state.ghost["length"] - state.ghost["read"]
@@ -128,6 +156,11 @@ class Form:
             self.written(state) == count // self.unit * self.per_unit,
             "another number of bytes is written at the end",
         )
+        require(state.selects <= self.alone(state), SELECTS)
+
+    def alone(self, state):
+        """The unknown bytes of an accepted input that may decide a `select`."""
+        return frozenset()
 
 
 class Encode(Form):
@@ -230,7 +263,7 @@ class Check(CheckRaw):
 
     def start(self, code, symbol, length):
         arguments, regions = self.arguments(length)
-        regions.append(Region("error", 16, True, 8))
+        regions.append(error_region(self.word))
         state = code.front_end.start(code, symbol, [*arguments, Pointer("error", 0)], regions)
         state.ghost |= {"length": length, "read": self.body, "written": len(self.begin)}
         state.contract = self
@@ -296,21 +329,18 @@ class Decode(DecodeExact):
 
     def arguments(self, length):
         arguments, regions = super().arguments(length)
-        return [*arguments, Pointer("written", 0)], [*regions, Region("written", 8, True, 8)]
+        return [*arguments, Pointer("written", 0)], [*regions, written_region(self.word)]
 
     def size(self, length):
         return super().size(length) + MORE
 
     def accepts(self, state):
         super().accepts(state)
-        require_value(state, "written", 0, as_value(half(state.ghost["length"] - self.body)))
+        require_number(state, "written", 0, half(state.ghost["length"] - self.body))
 
     def fails(self, state, byte, place):
         super().fails(state, byte, place)
-        require_value(state, "written", 0, constants(0, 8))
-
-
-WAITING_DIGIT = unknown("decoder", 8)
+        require_number(state, "written", 0, 0)
 
 
 class DecoderUpdate(Decode):
@@ -318,13 +348,14 @@ class DecoderUpdate(Decode):
 
     last = ("error", "written", "decoder")
 
-    def __init__(self, name, index, waits, prefix, has_prefix=None):
+    def __init__(self, word, name, index, waits, prefix, has_prefix=None):
         """`prefix` characters of the chunk belong to one. `has_prefix` is None if that is out of question."""
-        self.name, self.index, self.waits = name, index, waits
+        self.word, self.name, self.index, self.waits = word, name, index, waits
+        self.digit = unknown("decoder", word)
         self.digits = self.shortest = prefix
         self.has_prefix = has_prefix
         self.body = prefix + waits
-        self.begin = (decoded(WAITING_DIGIT, unknown("text", prefix)),) if waits else ()
+        self.begin = (decoded(self.digit, unknown("text", prefix)),) if waits else ()
 
     def count_of(self, length):
         """How many digits there are, with the one that waits."""
@@ -333,21 +364,22 @@ class DecoderUpdate(Decode):
     def size(self, length):
         return half(self.count_of(length)) + MORE
 
+    def decoder(self):
+        kind = CONSTANTS[self.waits or self.index == 1]
+        return decoder_region(self.word, as_word(self.index, self.word), self.digit, kind)
+
     def arguments(self, length):
         (text, length, *others), regions = super().arguments(length)
-        state = constants(int(self.waits or self.index == 1), 1)
-        padding = tuple([unknown("decoder", at) for at in range(10, 16)])
-        content = as_lane(as_value(self.index)) + (WAITING_DIGIT,) + state + padding
-        regions.append(Region("decoder", 16, True, 8, content))
+        regions.append(self.decoder())
         return [Pointer("decoder", 0), text, length, *others], regions
 
     def assume(self, state):
         if self.waits or self.index == 1:
-            state.path.sets[variable("decoder", 8)] = IS_DIGIT
+            state.path.sets[variable("decoder", self.word)] = IS_DIGIT
         if self.index == 0:
             assume_prefix(state, self.digits)
         elif self.has_prefix is not None:
-            condition = conjunction(is_prefix(WAITING_DIGIT, unknown("text", 0)))
+            condition = conjunction(is_prefix(self.digit, unknown("text", 0)))
             state.path.assume(condition if self.has_prefix else condition.negated())
 
     def set_aside(self, state):
@@ -372,21 +404,27 @@ class DecoderUpdate(Decode):
             CheckRaw.accepts(self, state)
         unchanged(state, "error")
         count = self.count_of(length)
-        require_value(state, "written", 0, as_value(half(count)))
+        require_number(state, "written", 0, half(count))
         self.moves(state, length)
         is_odd = constant_of(count) % 2
-        require_value(state, "decoder", 9, constants(is_odd, 1))
+        require_value(state, "decoder", self.word + 1, constants(is_odd, 1))
         if is_odd:
-            last = WAITING_DIGIT if length == 0 else unknown("text", length - 1)
-            require_value(state, "decoder", 8, (last,))
+            last = self.digit if length == 0 else unknown("text", length - 1)
+            require_value(state, "decoder", self.word, (last,))
+
+    def alone(self, state):
+        """The digit whose other half comes in the next chunk."""
+        length = state.ghost["length"]
+        is_odd = constant_of(self.count_of(length)) % 2
+        return frozenset([variable("text", length - 1)] if is_odd else ())
 
     def moves(self, state, count):
         """The decoder's position is `count` characters on."""
-        require_value(state, "decoder", 0, as_value(self.index + count))
+        require_number(state, "decoder", 0, self.index + count)
 
     def fails(self, state, byte, place):
         super().fails(state, byte, self.index + place)
         self.moves(state, place)
-        require_value(state, "decoder", 8, (byte,))
-        found = state.memory.at("decoder", 9)
+        require_value(state, "decoder", self.word, (byte,))
+        found = state.memory.at("decoder", self.word + 1)
         require(found.is_constant and found.value > 1, "the decoder does not keep its error")

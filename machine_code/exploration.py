@@ -7,7 +7,7 @@ from linear import Split, Unknown, cases_of
 from memory import Fault
 from values import TooWide
 
-MOST_STEPS = 20_000
+MOST_STEPS = 50_000
 MOST_SPLITS = 32
 
 

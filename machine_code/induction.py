@@ -14,8 +14,8 @@ from contracts import cases_of_answer
 from digits import IS_DIGIT
 from exploration import MOST_STEPS, RETURNED, Fork, Refused, named, outcomes, require, require_one_path, sides
 from linear import Linear, Split, Unknown, in_terms_of, symbol
-from memory import Fault, Pointer, as_lane, as_value, is_whole, with_replaced
-from values import TooWide, WholeByte, kept, parts_of, unknown, variable
+from memory import Fault, Pointer, as_lane, as_value, with_replaced
+from values import TooWide, WholeByte, constants, kept, parts_of, unknown, variable
 
 DONE, LEFT = symbol("done"), symbol("left")
 IS_NO_DIGIT = kept(bytes(not allowed for allowed in IS_DIGIT))
@@ -85,10 +85,6 @@ def _is_forgotten(value, name):
     return type(value) is tuple and value == _forgotten(name, len(value))
 
 
-def _size_of(value):
-    return 8 if is_whole(value) else len(value)
-
-
 def _depends_on_round(lane):
     """Whether a lane depends on a byte whose place has symbols, or on what was forgotten elsewhere."""
     for byte in lane:
@@ -139,7 +135,7 @@ def arrived(form, state, head, rest):
     other.steps, other.flags, other.trail, other.leaks = 0, None, (), ()
     for name, value in state.registers.items():
         value = _by_length(value, old, new)
-        other.registers[name] = _forgotten(name, _size_of(state.registers[name])) if value is None else value
+        other.registers[name] = _forgotten(name, state.size_of(name)) if value is None else value
     for at, byte in state.memory.written("stack").items():
         byte = _byte_by_length(byte, old, new)
         other.memory.written("stack")[at] = unknown("forgotten", "stack", at) if byte is None else byte
@@ -156,8 +152,9 @@ def arrived(form, state, head, rest):
     return other
 
 
-def _generalised_value(first, second, name):
+def _generalised_value(state, second, name):
     """The value of a register after `done` rounds, from those at the first visit and a round later."""
+    first = state.registers[name]
     everywhere, moved = with_replaced(first, "left", DONE + LEFT), with_replaced(first, "left", LEFT + 1)
     if moved == second or _is_forgotten(first, name):
         return everywhere
@@ -165,19 +162,19 @@ def _generalised_value(first, second, name):
         change = second.offset - moved.offset
         if type(change) is int:
             return Pointer(moved.region, everywhere.offset + DONE * change)
-    numbers = [_number_of(value) for value in (moved, second, everywhere)]
+    numbers = [_number_of(value, state.word) for value in (moved, second, everywhere)]
     if None not in numbers:
         change = numbers[1] - numbers[0]
         if type(change) is int:
             return as_value(numbers[2] + DONE * change)
-    return _forgotten(name, _size_of(first))
+    return _forgotten(name, state.size_of(name))
 
 
-def _number_of(value):
+def _number_of(value, size):
     """The number of a register, or None."""
     if type(value) is Linear:
         return value
-    if type(value) is tuple and len(value) == 8 and all(byte.is_constant for byte in value):
+    if type(value) is tuple and len(value) == size and all(byte.is_constant for byte in value):
         return int.from_bytes(bytes([byte.value for byte in value]), "little", signed=True)
     return None
 
@@ -214,8 +211,8 @@ class Loop:
     def general(self, first, second):
         """A guess of the state after `done` rounds, from the first visit and one a round later."""
         state = first.replaced("left", DONE + LEFT)
-        for name, value in first.registers.items():
-            state.registers[name] = _generalised_value(value, second.registers[name], name)
+        for name in first.registers:
+            state.registers[name] = _generalised_value(first, second.registers[name], name)
         done = self.head.size // self.form.unit * self.form.per_unit
         read = first.ghost["read"] + DONE * self.head.size
         written = len(self.form.begin) + DONE * done
@@ -236,6 +233,7 @@ class Loop:
     def differences(self, general, state, done):
         """The registers and cells in which a state at the head is no instance of the general one."""
         wanted = general.replaced("done", done).replaced("left", state.ghost["left"])
+        require(wanted.frames == state.frames, "the calls that are open at the head")
         for name, value in wanted.registers.items():
             if not _is_forgotten(value, name) and state.registers[name] != value:
                 yield name
@@ -253,7 +251,7 @@ class Loop:
             if type(name) is int:
                 state.memory.store(Pointer("stack", name), (unknown("forgotten", "stack", name),))
             else:
-                state.registers[name] = _forgotten(name, _size_of(state.registers[name]))
+                state.registers[name] = _forgotten(name, state.size_of(name))
 
     def guess(self, arrivals):
         first = arrivals[0].copy()
@@ -364,6 +362,6 @@ def with_nulls(code, state):
                 size = 0
             if type(size) is int and size == 0:
                 other = other.copy()
-                other.registers[name] = as_value(0)
+                other.registers[name] = constants(0, state.word)
                 states.append(other)
     return states

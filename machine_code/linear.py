@@ -6,6 +6,7 @@ surely lies in the range where the register holds just that number. A question t
 other numbers raises `Split`, and is asked again for each case.
 """
 
+import contextlib
 import itertools
 from fractions import Fraction
 
@@ -16,6 +17,7 @@ MOST_TURNS = 1 << 53
 GREATEST = (1 << 64) - 1
 GREATEST_SIGNED = (1 << 63) - 1
 _limits = {}
+_lower_limits = {}
 _count = itertools.count()
 
 
@@ -135,7 +137,17 @@ def unknown_bit():
 
 
 def most_of(name):
-    return _limits.get(name, MOST_TURNS)
+    return _lower_limits.get(name, _limits.get(name, MOST_TURNS))
+
+
+@contextlib.contextmanager
+def lower(limits):
+    """Here some symbols have lower limits."""
+    _lower_limits.update(limits)
+    try:
+        yield
+    finally:
+        _lower_limits.clear()
 
 
 def terms_of(number):

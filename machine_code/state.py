@@ -4,7 +4,7 @@ from arithmetic import as_number, moved
 from conditions import Path, conjunction
 from exploration import Fork
 from linear import Linear, replaced
-from memory import Fault, Pointer, as_value, from_lane, with_replaced
+from memory import Fault, Pointer, as_value, from_lane, is_whole, with_replaced
 from values import apply, are_constant, constants, parts_of, unknown
 
 
@@ -16,6 +16,9 @@ class State:
     # The names of the registers and their sizes, which of them is the stack pointer, and how many bytes below
     # it may be used.
     sizes, top, red_zone = {}, None, 0
+    # How many bytes a number and a pointer have; the calls that are open, if the registers do not say it; and
+    # the unknown bytes that decide a `select`, which may be a branch.
+    word, frames, selects = 8, (), frozenset()
 
     def __init__(self, memory):
         self.registers = {
@@ -50,6 +53,11 @@ class State:
         other.path = self.path.replaced(name, by)
         other.ghost = {key: replaced(value, name, by) for key, value in self.ghost.items()}
         return other
+
+    def size_of(self, name):
+        """How many bytes a register has."""
+        value = self.registers[name]
+        return self.word if is_whole(value) else len(value)
 
     def possible(self):
         """The state, with what its contract adds to it; or nothing if no input leads to it."""
