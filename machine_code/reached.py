@@ -3,7 +3,7 @@
 import itertools
 import re
 
-# The function; a block of instructions that are not run; and the reason.
+# The function; a block of instructions that are not run; and the reason. First those of x86-64.
 EXCEPTIONS = [
     (
         "find_invalid_character",
@@ -32,6 +32,39 @@ EXCEPTIONS = [
         "a chunk without digits has no invalid character",
     ),
     ("decoder_update", r"xor eax,eax; mov rcx,r15", "the search finds an invalid character"),
+    # Those of AArch64.
+    (
+        "find_invalid_character",
+        r"mov x8, x2; cbnz x2, \w+; b \w+",
+        "a text with an invalid character and an even length has two characters at least",
+    ),
+    (
+        "find_invalid_character",
+        r"mov x9, xzr; mov w10, wzr",
+        "it is called only if a character after the prefix is invalid",
+    ),
+    (
+        "find_invalid_character",
+        r"mov w10, wzr; mov x9, x8; sub x8, x2, x8; mov w11, #0x2; add x8, x8, x9; .*; ret",
+        "it finds an invalid character",
+    ),
+    (
+        "check_nonnull|decode",
+        r"mov x\d+, x2[01]; cbnz w8, \w+; mov w10, #0x1; mov x9, x8; b \w+"
+        r"|(mov w8, wzr; mov x9, xzr; mov w10, #0x[24]; b \w+(; |$))+",
+        "where a character is invalid, no other kind of error is returned",
+    ),
+    (
+        "decode_after|decoder_update",
+        r"b \w+",
+        "the rest of a text is decoded by itself only if it has an invalid character",
+    ),
+    (
+        "decoder_update",
+        r"mov x10, xzr; mov w8, wzr; mov x5, x24; mov x6, x25; b \w+",
+        "a chunk without digits has no invalid character",
+    ),
+    ("decoder_update", r"mov w8, wzr; mov x10, x22", "the search finds an invalid character"),
 ]
 
 

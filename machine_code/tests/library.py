@@ -2,6 +2,8 @@
 
 import os
 import pathlib
+import shutil
+import unittest
 
 import library
 
@@ -10,6 +12,13 @@ ARCHIVE = os.environ.get("CONST_HEX_ARCHIVE", TOP / "build" / "c" / "libconst_he
 AARCH64 = os.environ.get("CONST_HEX_AARCH64", TOP / "build" / "aarch64" / "libconst_hex.a")
 
 
-def code_of(build, archive=ARCHIVE):
+NEEDED = ("aarch64-linux-gnu-gcc", "qemu-aarch64")
+needs_aarch64 = unittest.skipUnless(
+    pathlib.Path(AARCH64).exists() and all(map(shutil.which, NEEDED)),
+    f"{AARCH64} is not built, or {' or '.join(NEEDED)} is missing",
+)
+
+
+def code_of(build, archive=None):
     """The code of a build, or that of dispatch.c."""
-    return library.code_of(archive, build)
+    return library.code_of(archive or (AARCH64 if build == "aarch64" else ARCHIVE), build)

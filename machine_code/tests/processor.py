@@ -30,6 +30,9 @@ class Processor:
         self.code, self.object = code, code.object
         self.end = max(section.end for section in self.object.sections)
 
+    def close(self):
+        """Ends what runs beside this process."""
+
     def form_of(self, instruction):
         """The mnemonic and the kinds of the operands."""
         return " ".join([instruction.mnemonic, *map(self.kind_of, instruction.operands)])

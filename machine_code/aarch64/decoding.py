@@ -1,0 +1,89 @@
+"""The instructions of a section, as `objdump` reads them."""
+
+import re
+import subprocess
+import tempfile
+from collections import namedtuple
+
+Instruction = namedtuple("Instruction", "address size mnemonic operands text content")
+# `size` bytes of a register from `first` on. A vector has lanes of so many bytes; an element is one of them.
+Register = namedtuple("Register", "kind family first size lane")
+# `after` is added to the base after the access. With `is_moved` the base becomes the address before it.
+Address = namedtuple("Address", "base index extension displacement after is_moved")
+# How the last operand or the index is changed before it is used, and by how much.
+Extension = namedtuple("Extension", "kind count")
+# A condition is its name, and an immediate is a number.
+
+SIZES = {"b": 1, "h": 2, "s": 4, "d": 8, "q": 16}
+CONDITIONS = ("eq", "ne", "cs", "cc", "mi", "pl", "vs", "vc", "hi", "ls", "ge", "lt", "gt", "le")
+LINE = re.compile(r"^\s*([0-9a-f]+):\t([0-9a-f]{8}) +\t(\S+)(?:\t(.*))?$")
+# An operand: an address, registers in braces, or anything else without a comma.
+OPERAND = re.compile(r"\[[^]]*\]!?|\{[^}]*\}(?:\[\d+\])?|[^,\s][^,]*")
+
+
+def _register(text):
+    if match := re.fullmatch(r"([xw])(\d+|zr)", text):
+        return Register("general", f"x{match[2]}", 0, 8 if match[1] == "x" else 4, None)
+    if text in ("sp", "wsp"):
+        return Register("general", "sp", 0, 8 if text == "sp" else 4, None)
+    if match := re.fullmatch(r"([bhsdq])(\d+)", text):
+        return Register("vector", f"v{match[2]}", 0, SIZES[match[1]], SIZES[match[1]])
+    if match := re.fullmatch(r"\{?v(\d+)\.(\d+)([bhsd])\}?", text):
+        lane = SIZES[match[3]]
+        return Register("vector", f"v{match[1]}", 0, int(match[2]) * lane, lane)
+    if match := re.fullmatch(r"\{?v(\d+)\.([bhsd])\}?\[(\d+)\]", text):
+        lane = SIZES[match[2]]
+        return Register("element", f"v{match[1]}", int(match[3]) * lane, lane, lane)
+    return None
+
+
+def _operand(text):
+    if match := re.fullmatch(r"(lsl|lsr|asr|ror|msl|[us]xt[bhwx])(?: #(\d+))?", text):
+        return Extension(match[1], int(match[2] or 0))
+    if text in CONDITIONS:
+        return text
+    return _register(text) or int(text.removeprefix("#"), 0 if text.startswith("#") else 16)
+
+
+def _address(text, after):
+    base, *others = [_operand(part.strip()) for part in text.strip("[]!").split(",")]
+    index = others.pop(0) if others and type(others[0]) is Register else None
+    displacement = others.pop(0) if others and index is None else 0
+    extension = others.pop(0) if others else Extension("lsl", 0)
+    if others or base.size != 8 or not isinstance(displacement, int):
+        raise ValueError("an address of another form")
+    return Address(base, index, extension, displacement, after, text.endswith("!"))
+
+
+def _operands(text):
+    parts = [part.strip() for part in OPERAND.findall(text)]
+    at = next((at for at, part in enumerate(parts) if part.startswith("[")), len(parts))
+    found = [_operand(part) for part in parts[:at]]
+    if at < len(parts):
+        # What stands after an address is added to its base.
+        after = [_operand(part) for part in parts[at + 1 :]] or [0]
+        if len(after) > 1:
+            raise ValueError("operands after an address")
+        found.append(_address(parts[at], after[0]))
+    return tuple(found)
+
+
+def instructions(section):
+    """The instructions of a section, by address."""
+    with tempfile.NamedTemporaryFile() as file:
+        file.write(section.content)
+        file.flush()
+        command = ["aarch64-linux-gnu-objdump", "-D", "-b", "binary", "-m", "aarch64"]
+        command += [f"--adjust-vma={section.address:#x}", file.name]
+        listing = subprocess.run(command, check=True, capture_output=True, text=True).stdout
+    found = {}
+    for match in filter(None, map(LINE.match, listing.splitlines())):
+        address, content = int(match[1], 16), int(match[2], 16).to_bytes(4, "little")
+        rest = re.split("//|<", match[4] or "")[0].strip()
+        text = f"{match[3]} {rest}".strip()
+        try:
+            found[address] = Instruction(address, 4, match[3], _operands(rest), text, content)
+        except ValueError:
+            # An operand that is not known here. It is an error if it is run.
+            found[address] = Instruction(address, 4, "unknown", (), text, content)
+    return found

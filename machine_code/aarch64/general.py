@@ -1,0 +1,221 @@
+"""What the instructions of the general registers do, and those that load and store.
+
+A handler takes the state and the instruction. It raises `Fork` or `Split` before it changes anything, and
+returns where to go on if that is not the next instruction.
+"""
+
+import operator
+
+from aarch64.state import CODES, Known, extended
+from arithmetic import added, complement, logic, selected, shifted, subtracted
+from exploration import RETURNED
+from flags import Flags
+from memory import Fault, Pointer, as_lane
+from values import ZERO, constants
+
+HANDLERS = {}
+
+
+def instruction(*names):
+    def register(function):
+        for name in names:
+            HANDLERS[name] = function
+        return function
+
+    return register
+
+
+SHIFTS = {
+    "lsl": lambda value, count: shifted(operator.lshift, value, count),
+    "lsr": lambda value, count: shifted(operator.rshift, value, count),
+}
+
+
+def _last(state, i, at, size):
+    """The last operand, which begins at `at`, with its shift or extension."""
+    value = state.read(i.operands[at], size)
+    if len(i.operands) == at + 1:
+        return value
+    kind, count = i.operands[at + 1]
+    if kind in SHIFTS:
+        return SHIFTS[kind](value, count)
+    return shifted(operator.lshift, extended(value, kind, size), count)
+
+
+def _operands(state, i):
+    """The first operand but the target, if there is one, and the last one."""
+    at = 0 if i.mnemonic in ("cmp", "cmn", "tst") else 1
+    size = i.operands[at].size
+    return state.read(i.operands[at]), _last(state, i, at + 1, size)
+
+
+@instruction("add", "adds", "cmn")
+def add(state, i):
+    first, second = _operands(state, i)
+    result = added(first, second)
+    if i.mnemonic != "cmn":
+        state.write(i.operands[0], result)
+    if i.mnemonic != "add":
+        state.flags = None if type(result) is Pointer else Flags("add", first, second, result)
+
+
+@instruction("sub", "subs", "cmp")
+def sub(state, i):
+    first, second = _operands(state, i)
+    if i.mnemonic != "cmp":
+        state.write(i.operands[0], subtracted(first, second))
+    if i.mnemonic != "sub":
+        state.flags = Flags("sub", first, second)
+
+
+@instruction("neg")
+def neg(state, i):
+    zero, second = constants(0, i.operands[0].size), _last(state, i, 1, i.operands[0].size)
+    state.write(i.operands[0], subtracted(zero, second))
+
+
+LOGIC = {"and": "and", "tst": "and", "orr": "or", "eor": "xor"}
+
+
+@instruction(*LOGIC)
+def logic_(state, i):
+    first, second = _operands(state, i)
+    result = logic(LOGIC[i.mnemonic], first, second)
+    if i.mnemonic == "tst":
+        state.flags = Flags("logic", result=result)
+    else:
+        state.write(i.operands[0], result)
+
+
+@instruction("mvn")
+def mvn(state, i):
+    state.write(i.operands[0], complement(_last(state, i, 1, i.operands[0].size)))
+
+
+@instruction("lsl", "lsr")
+def shift(state, i):
+    value, count = state.read(i.operands[1]), i.operands[2]
+    if not isinstance(count, int):
+        raise Fault("a shift by a register")
+    state.write(i.operands[0], SHIFTS[i.mnemonic](value, count))
+
+
+@instruction("bfxil")
+def low_bits(state, i):
+    """The lowest bits of the target are replaced by some of the source."""
+    target, source, first, count = i.operands
+    mask = constants((1 << count) - 1, target.size)
+    value = logic("and", shifted(operator.rshift, state.read(source), first), mask)
+    state.write(target, logic("or", logic("and", state.read(target), complement(mask)), value))
+
+
+@instruction("adrp")
+def address_of(state, i):
+    state.write(i.operands[0], Pointer("image", i.operands[1]))
+
+
+# Choices
+
+
+CHANGES = {"csel": lambda value: value, "csinv": complement}
+
+
+@instruction(*CHANGES)
+def choose(state, i):
+    target, first, second, name = i.operands
+    other = CHANGES[i.mnemonic](state.read(second))
+    state.write(target, selected(state, state.flag(name), state.read(first), other))
+
+
+@instruction("cset")
+def cset(state, i):
+    target, name = i.operands
+    one, zero = constants(1, target.size), constants(0, target.size)
+    state.write(target, selected(state, state.flag(name), one, zero))
+
+
+@instruction("ccmp")
+def compare_if(state, i):
+    first, second, bits, name = i.operands
+    is_compared = state.decide(state.flag(name))
+    operands = state.read(first), state.read(second, first.size)
+    state.flags = Flags("sub", *operands) if is_compared else Known(bits)
+
+
+# Jumps
+
+
+@instruction("nop")
+def nop(state, i):
+    pass
+
+
+@instruction("b", "bl")
+def jump(state, i):
+    if i.mnemonic == "bl":
+        state.registers["x30"] = Pointer("image", state.next)
+    return i.operands[0]
+
+
+@instruction("ret")
+def ret(state, i):
+    pointer = state.read(i.operands[0]) if i.operands else state.registers["x30"]
+    if type(pointer) is not Pointer or pointer.region not in ("image", "return"):
+        raise Fault("a jump to what is no code")
+    return pointer.offset if pointer.region == "image" else RETURNED
+
+
+def _jump_if(state, i):
+    return i.operands[0] if state.decide(state.flag(i.mnemonic[2:])) else None
+
+
+HANDLERS |= {"b." + _name: _jump_if for _name in CODES}
+
+
+@instruction("cbz", "cbnz")
+def jump_if_zero(state, i):
+    value = state.read(i.operands[0])
+    is_zero = state.decide(Flags("logic", value, value, value).condition("e", state))
+    return i.operands[1] if is_zero == (i.mnemonic == "cbz") else None
+
+
+@instruction("tbz", "tbnz")
+def jump_if_bit(state, i):
+    register, bit, target = i.operands
+    value = logic("and", state.read(register), constants(1 << bit, register.size))
+    is_zero = state.decide(Flags("logic", result=value).condition("e", state))
+    return target if is_zero == (i.mnemonic == "tbz") else None
+
+
+# Loads and stores
+
+# The mnemonics, and how many bytes are of each register, if not all.
+LOADS = {"ldr": None, "ldur": None, "ldp": None, "ld1": None, "ldrb": 1, "ldurb": 1, "ldrh": 2}
+STORES = {"str": None, "stur": None, "stp": None, "strb": 1, "sturb": 1, "strh": 2}
+
+
+def _move_base(state, address, base):
+    """Moves the base of an address, as it was before the access, if the address says so."""
+    if address.is_moved:
+        state.write(address.base, added(base, constants(address.displacement, 8)))
+    elif address.after:
+        state.write(address.base, added(base, state.read(address.after, 8)))
+
+
+@instruction(*LOADS)
+def load(state, i):
+    *targets, address = i.operands
+    size, base = LOADS[i.mnemonic] or targets[0].size, state.read(address.base)
+    lane = as_lane(state.load(address, size * len(targets)))
+    _move_base(state, address, base)
+    for at, target in enumerate(targets):
+        state.write(target, lane[size * at :][:size] + (ZERO,) * (target.size - size))
+
+
+@instruction(*STORES)
+def store(state, i):
+    *sources, address = i.operands
+    size, base = STORES[i.mnemonic] or sources[0].size, state.read(address.base)
+    lane = sum((as_lane(state.read(source))[:size] for source in sources), ())
+    state.memory.store(state.address(address), lane)
+    _move_base(state, address, base)
