@@ -41,6 +41,9 @@ static void messages(void) {
         {{CONST_HEX_INVALID_CHARACTER, 0xE9, 0}, "invalid character '\xC3\xA9' at position 0"},
         {{CONST_HEX_INVALID_CHARACTER, 0x80, SIZE_MAX},
          "invalid character '\\u{80}' at position 18446744073709551615"},
+        /* No function sets these two. */
+        {{CONST_HEX_INVALID_CHARACTER, 0x20AC, 7}, "invalid character '\xE2\x82\xAC' at position 7"},
+        {{CONST_HEX_INVALID_CHARACTER, 0x110000, 7}, ""},
         {{0, 0, 0}, ""},
         {{5, 0, 0}, ""},
     };

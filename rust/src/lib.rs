@@ -51,14 +51,12 @@ mod rattle;
 pub mod serde;
 pub mod traits;
 
-/// What `capi` calls of the proved source: functions without conditions. Kernels and outputs have some, which
-/// nothing here would test, so they are not exported.
+/// The functions for C, which `capi` exports. They have no conditions. What they call has some, which nothing here
+/// would test, so it is not exported.
 #[doc(hidden)]
-pub mod source {
-    pub use crate::proved::codec::checks::{check, check_raw};
-    pub use crate::proved::codec::decoder::Decoder;
-    pub use crate::proved::codec::decoders::{decode_to_front, decode_to_slice};
-    pub use crate::proved::codec::encoders::encode_full_to_slice;
+pub mod c {
+    pub use crate::proved::c::*;
+    pub use crate::proved::Decoder;
 }
 
 pub use crate::buffer::Buffer;

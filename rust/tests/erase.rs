@@ -109,6 +109,11 @@ fn what_each_rule_changes() {
             "use super::simd::prelude::*;",
         ),
         (
+            "c/message",
+            "use crate::error::HexError;\nuse const_hex::Decoder;",
+            "use crate::proved::c::error::HexError;\nuse crate::proved::Decoder;",
+        ),
+        (
             "stream",
             "use crate::sink::Sink;\nuse const_hex_arch::Kernel;",
             "use crate::proved::sink::Sink;\nuse crate::proved::Kernel;",
@@ -139,6 +144,22 @@ fn what_each_rule_changes() {
             "error",
             "enum FromHexError {\n    OddLength,\n    NoMemory,\n}",
             "enum FromHexError {\n    OddLength,\n}",
+        ),
+        (
+            "c/error",
+            "match kind {\n    4 => Some(FromHexError::NoMemory),\n    _ => None,\n}",
+            "match kind {\n    _ => None,\n}",
+        ),
+        (
+            "c",
+            "#[unsafe(no_mangle)]\npub extern \"C\" fn f(bytes: &[u8]) {}",
+            "pub fn f(bytes: &[u8]) {}",
+        ),
+        ("c", "mod callers;\nmod error;", "mod error;"),
+        (
+            "c/message",
+            "fn f() {\n    fmt::Write::write(&mut message, error);\n}",
+            "fn f() {\n    fmt::Write::write_fmt(&mut message, format_args!(\"{}\", error));\n}",
         ),
         (
             "reserved",
@@ -191,8 +212,8 @@ fn what_is_an_error() {
         ("fn f(x: &mut [u8]) {\n    x.fill(1);\n}", "the call .fill"),
         // A function by a path: `char::from` is known, and the source has a `from` of its own.
         (
-            "fn f(x: u8) -> u32 {\n    u32::from(x)\n}",
-            "the call u32::from",
+            "fn f(x: u8) -> u64 {\n    u64::from(x)\n}",
+            "the call u64::from",
         ),
         ("fn f(x: u8) {\n    Box::new(x);\n}", "the call Box::new"),
         (
@@ -210,5 +231,10 @@ fn what_is_an_error() {
         if let Some(found) = erased("unknown", source) {
             assert_eq!(found, Err(format!("erase: {wanted}")), "{source}");
         }
+    }
+    let conditional = "pub fn f(x: u8)\n    requires { x < 9 }\n{\n}";
+    if let Some(found) = erased("c", conditional) {
+        let wanted = "erase: a condition of a function that is exported";
+        assert_eq!(found, Err(wanted.to_string()));
     }
 }

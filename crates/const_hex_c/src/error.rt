@@ -16,13 +16,15 @@ pub const INVALID_CHARACTER: u32 = 3;
 /// The kind of a failed allocation. No function for C allocates, so none returns it.
 pub const NO_MEMORY: u32 = 4;
 
-/// Why a text was rejected. For an invalid character, `byte` is that byte, and `index` its position
-/// in the whole text. For any other kind both are 0.
+/// Why a text was rejected.
 #[repr(C)]
 #[derive(Clone, Copy)]
 pub struct HexError {
+    /// One of the kinds above.
     pub kind: u32,
+    /// The first invalid character. For any other kind 0.
     pub byte: u32,
+    /// The position of that character in the whole text. For any other kind 0.
     pub index: usize,
 }
 

@@ -5,8 +5,8 @@
 //! function allocates, and none requires anything of its arguments. A slice is a pointer and a
 //! length; the pointer may be null if the length is 0.
 //!
-//! The header `c/const_hex.h` says the same for C. There an error may be NULL: `c/dispatch.c` defines
-//! the functions that end in `_nonnull` here, and passes them an error of its own then.
+//! The header `c/const_hex.h` says the same for C. There an error may be NULL: `c/dispatch.c` and
+//! `rust/capi` pass an error of their own to the functions that end in `_nonnull` here.
 //!
 //! The contracts use the terms of `const_hex`, and those defined in `specs/`.
 #![tactic(auto)]
@@ -24,7 +24,7 @@ mod error;
 mod flags;
 mod message;
 
-use crate::error::HexError;
+pub use crate::error::HexError;
 use crate::flags::{are_flags, clear, end_text, has_prefix, is_upper, length_of, size_beside};
 use const_hex::{Decoder, FixedKernel, Kernel};
 

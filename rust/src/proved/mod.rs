@@ -11,6 +11,7 @@ pub(crate) mod codec;
 pub(crate) mod error;
 #[cfg(feature = "alloc")]
 pub(crate) mod reserved;
+pub(crate) mod c;
 #[cfg(all(test, feature = "std"))]
 mod examples;
 
@@ -30,22 +31,30 @@ pub use self::tables::{
     HEX_CHARS_LOWER, HEX_CHARS_UPPER, HEX_DECODE_LUT, NIL, digit_at, value_at,
 };
 pub use self::text::{ascii_text, encode_full, fill_text, text_length};
+pub use self::codec::checks::*;
+pub use self::codec::decoder::*;
+pub use self::codec::decoders::*;
+pub use self::codec::encoders::*;
+pub use self::error::*;
 
 // The places that each rule of rust/erase has changed:
 //
-//   11  Rattle's std is the module rattle
+//   12  Rattle's std is the module rattle
 //    4  a formatter does not name its writer
 //   48  a function for AVX2 takes in all that it calls
+//   10  a function for C takes slices, which capi makes of pointers and lengths
 //   16  a kernel is compiled for each kind of register, so it names the others beside it
 //   36  a range that is proved to be within its slice is not tested in release builds
-//    4  an allocation never fails: without memory the program ends
+//    1  a value is printed by its formatter
+//   54  all crates are one module
+//    6  an allocation never fails: without memory the program ends
 //  124  an assertion names no runtime
 //    1  and a constant converts by a cast
 //    6  and the vectors of its kind
-//   44  both crates are one module
-//   39  deleted: attribute
-//  182  deleted: contract
-//  135  deleted: ghost item
+//    1  callers that only show what a proof is worth are left out
+//   43  deleted: attribute
+//  205  deleted: contract
+//  153  deleted: ghost item
 //    4  deleted: model
 //    1  each value may be dropped
 //   22  the allocator is a value
@@ -53,3 +62,4 @@ pub use self::text::{ascii_text, encode_full, fill_text, text_length};
 //    1  the kernel is chosen for the processor
 //    7  what a constant calls is constant
 //   14  what allocates is there with the feature alloc
+//    3  what is for C is a module of const_hex

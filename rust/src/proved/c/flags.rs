@@ -1,0 +1,65 @@
+// Made by rust/erase from crates/const_hex_c/src/flags.rt. Do not edit.
+//! How a text is written: the flags that C passes.
+
+use crate::rattle::prelude::*;
+
+/// Whether the flags are known ones: 1 asks for uppercase digits, 2 for a prefix, and 4 for no NUL.
+#[inline(always)]
+pub(crate) fn are_flags(flags: u32) -> bool {
+    flags < 8
+}
+
+/// Whether uppercase digits are asked for.
+#[inline(always)]
+pub(crate) fn is_upper(flags: u32) -> bool {
+    flags % 2 == 1
+}
+
+/// Whether a prefix is asked for.
+#[inline(always)]
+pub(crate) fn has_prefix(flags: u32) -> bool {
+    flags / 2 % 2 == 1
+}
+
+/// Whether a NUL is written after the text.
+#[inline(always)]
+pub(crate) fn has_nul(flags: u32) -> bool {
+    flags / 4 % 2 == 0
+}
+
+/// The length of the text of so many bytes, which must fit.
+#[inline(always)]
+pub(crate) fn length_of(flags: u32, bytes_length: usize) -> usize {
+    2 * bytes_length + if has_prefix(flags) { 2 } else { 0 }
+}
+
+/// The size of what is written beside the digits: the prefix and the NUL.
+#[inline(always)]
+pub(crate) fn size_beside(flags: u32) -> usize {
+    (if has_prefix(flags) { 2 } else { 0 }) + if has_nul(flags) { 1 } else { 0 }
+}
+
+/// Writes the NUL after a text of `end` bytes, if one is asked for. Returns false if the text and its
+/// NUL do not fit, or if a flag is not known; the buffer is then unchanged.
+#[inline(always)]
+pub(crate) fn end_text(text: &mut [u8], end: usize, flags: u32) -> bool {
+    match flags {
+        0..=3 if end < text.len() => {
+            text[end] = 0;
+            true
+        }
+        4..=7 => end <= text.len(),
+        _ => false,
+    }
+}
+
+/// Makes the buffer the empty string, unless no NUL is asked for. A call of this, with the frame that
+/// it needs, would cost the caller two instructions where the text fits.
+#[inline(always)]
+pub(crate) fn clear(text: &mut [u8], flags: u32) {
+    if has_nul(flags) {
+        if let Some(first) = text.first_mut() {
+            *first = 0;
+        }
+    }
+}
