@@ -3,8 +3,9 @@
 #![cfg(not(target_family = "wasm"))]
 
 use std::fs;
-use std::path::{Path, PathBuf};
+use std::path::Path;
 use std::process::{Command, Output};
+use std::thread;
 
 const FOLDER: &str = env!("CARGO_MANIFEST_DIR");
 
@@ -32,8 +33,10 @@ fn the_generated_source() {
 
 /// What a file becomes at a place in the source, or why it is an error.
 fn erased(place: &str, source: &str) -> Option<Result<String, String>> {
-    let folder = PathBuf::from(env!("CARGO_TARGET_TMPDIR")).join("src");
-    let file = folder.join(place).with_extension("rt");
+    // Each test has a folder of its own, since they run at the same time.
+    let test = thread::current();
+    let folder = Path::new(env!("CARGO_TARGET_TMPDIR")).join(test.name().unwrap());
+    let file = folder.join("src").join(place).with_extension("rt");
     fs::create_dir_all(file.parent().unwrap()).unwrap();
     fs::write(&file, source).unwrap();
     let output = erase(&file)?;
