@@ -1,5 +1,5 @@
 -- Digits, letters and arguments, one after another.
-use Rattle.std.proofs.Common.{◌≡◌, ◌≢◌, ℕ, ◌+◌, ◌-◌, ◌<◌, ◌≤◌, List, [], ◌∷◌, length, take, drop, get_or, map, Option, Some, refl, sym, ap, ◌∙◌, arith}
+use Rattle.std.proofs.Common.{◌≡◌, ◌≢◌, ℕ, ◌+◌, ◌-◌, ◌<◌, ◌≤◌, List, length, take, drop, get_or, map, Option, Some, refl, sym, ap, ◌∙◌, arith}
 use Rattle.std.proofs.lemmas.List.{drop_all, drop_more, get_or-map, length-drop, length-map, take_all}
 use Rattle.std.specs.Prelude.{option_and_then}
 use Rattle.hexfilter_core.specs.Options.{with_argument, with_arguments, with_digit, with_digits, with_letter, with_letters, with_value}

@@ -1,11 +1,10 @@
 -- What was decoded so far, and the error of an input.
-use Rattle.std.proofs.Common.{◌≡◌, ℕ, ◌*◌, ◌≤◌, Bool, List, [], ◌++◌, length, take, Option, Result, Ok, Err, refl, sym, ap, ◌∙◌, arith}
+use Rattle.std.proofs.Common.{◌≡◌, ℕ, ◌*◌, ◌≤◌, Bool, List, [], ◌++◌, length, take, Option, Result, Err, refl, sym, ap, ◌∙◌, arith}
 use Rattle.std.proofs.lemmas.List.{append-nil, length-take, take-take, take_min}
 use Rattle.std.specs.Io.KnownBytes.{IsAtEnd}
-use Rattle.std.specs.Prelude.{min}
 use Rattle.const_hex.proofs.lemmas.Decoding.{read_digits, read_front}
 use Rattle.const_hex.specs.Results.{IsOdd, body_of}
-use Rattle.const_hex.specs.Texts.{AllDigits, Spells}
+use Rattle.const_hex.specs.Texts.{AllDigits}
 use Rattle.const_hex.specs.declared.error.FromHexError.{FromHexError}
 use Rattle.const_hex.specs.declared.error.FromHexError.TheVariants.{OddLength, InvalidStringLength, InvalidHexCharacter, NoMemory}
 use Rattle.const_hex_arch.proofs.lemmas.Spelling.{Spells-parts}

@@ -1,5 +1,5 @@
 -- Parts of a text that are written one after another.
-use Rattle.std.proofs.Common.{◌≡◌, ◌≢◌, ℕ, ◌+◌, ◌-◌, ◌≤◌, ◌==◌, Bool, true, false, List, [], ◌∷◌, ◌++◌, length, take, drop, if◌then◌else◌, Option, Result, Ok, Err, refl, sym, ap, subst, ◌∙◌, arith, append_assoc}
+use Rattle.std.proofs.Common.{◌≡◌, ◌≢◌, ℕ, ◌+◌, ◌-◌, ◌≤◌, Bool, List, [], ◌++◌, length, take, drop, Option, Result, Ok, Err, refl, sym, ap, ◌∙◌, arith, append_assoc}
 use Rattle.std.proofs.KnownBytes.{Appends-trans}
 use Rattle.std.proofs.Math.Seq.{take-append-add, take-append_seam}
 use Rattle.std.proofs.lemmas.List.{append-nil, take-append-drop}
@@ -8,7 +8,6 @@ use Rattle.std.specs.Prelude.{OnErr, OnOk}
 use Rattle.const_hex.specs.Texts.{full_text, hex_text, prefix_of}
 use Rattle.const_hex.specs.Writers.{WritesBeginning}
 use Rattle.const_hex_arch.proofs.lemmas.Texts.{hex_text-append, hex_text-nil}
-use Rattle.hexfilter_core.specs.Encoded.{encoded}
 use Rattle.hexfilter_core.specs.Lines.{Begins, Lays, ended, laid_out, lines_from}
 
 pub if_ok : {T E P : Type 0} (r : Result T E) → P → OnOk r P

@@ -4,7 +4,7 @@ use Rattle.std.proofs.lemmas.Grind.{common_steps}
 use Rattle.std.proofs.lemmas.List.{get_or-append_right, length-take, take-append-le}
 use Rattle.const_hex.proofs.lemmas.Decoding.{FirstBad-longer, read_digits}
 use Rattle.const_hex.specs.Results.{NamesFirstBad, body_of}
-use Rattle.const_hex.specs.Decoding.{ReadsOn, counted}
+use Rattle.const_hex.specs.Decoding.{ReadsOn}
 use Rattle.const_hex.specs.Texts.{AllDigits, FirstBad}
 use Rattle.const_hex.specs.declared.error.FromHexError.{FromHexError}
 use Rattle.const_hex.specs.declared.error.FromHexError.TheVariants.{OddLength, InvalidStringLength, InvalidHexCharacter, NoMemory}

@@ -5,8 +5,6 @@ use Rattle.std.proofs.Math.Seq.{take-append-add}
 use Rattle.const_hex.specs.declared.error.FromHexError.TheVariants.{OddLength}
 use Rattle.hexfilter_core.proofs.lemmas.DecodedInputs.{digits, fewer_spelled, character_error, odd_error, same_error, spelled, spelled_before}
 use Rattle.hexfilter_core.proofs.lemmas.Encoding.{if_err, if_ok}
-use Rattle.hexfilter_core.specs.Decoding.{HasDecoded, ignores}
-use Rattle.hexfilter_core.specs.Inputs.{SpellsBeginning}
 use Rattle.hexfilter_core.proofs.decoding.decode_stream.Goals as goal
 
 pub returns-in_err-count-clause-begun : goal.returns-in_err-count-clause-begun

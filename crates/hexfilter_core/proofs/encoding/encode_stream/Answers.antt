@@ -1,10 +1,8 @@
 use Rattle.std.proofs.Common.{[], ◌++◌, take, refl, arith, append-nil}
 use Rattle.std.proofs.KnownBytes.{Appends-nil, Appends-trans, Consumes-kept, Consumes-nil, Consumes-trans}
 use Rattle.std.proofs.lemmas.Result.{on_err_weaker, on_ok_weaker}
-use Rattle.std.specs.Prelude.{length}
-use Rattle.const_hex.specs.Texts.{full_text, prefix_of}
+use Rattle.const_hex.specs.Texts.{prefix_of}
 use Rattle.hexfilter_core.proofs.lemmas.Encoding.{Lays-trans, full_text-more, full_text-nil, if_err, so_far, then_begins, then_begins_to_end, then_ends}
-use Rattle.hexfilter_core.specs.Lines.{Lays, laid_out}
 use Rattle.hexfilter_core.proofs.encoding.encode_stream.Goals as goal
 
 pub returns-in_err-column-clause-begun : goal.returns-in_err-column-clause-begun

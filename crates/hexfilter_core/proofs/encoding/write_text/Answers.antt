@@ -1,4 +1,4 @@
-use Rattle.std.proofs.Common.{take, arith}
+use Rattle.std.proofs.Common.{take}
 use Rattle.hexfilter_core.proofs.lemmas.Encoding.{Begins-lays, Lays-lines, Lays-plain, if_err}
 use Rattle.hexfilter_core.proofs.encoding.write_text.Goals as goal
 

@@ -1,4 +1,4 @@
-use Rattle.std.proofs.Common.{arith, length}
+use Rattle.std.proofs.Common.{arith}
 use Rattle.hexfilter_core.proofs.lemmas.LineBreaks.{ends, goes_on}
 use Rattle.hexfilter_core.proofs.lines.break_lines.Goals as goal
 

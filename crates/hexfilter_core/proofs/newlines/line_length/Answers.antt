@@ -1,4 +1,4 @@
-use Rattle.std.proofs.Common.{◌≡◌, ◌+◌, ◌-◌, ◌<◌, ◌≤◌, ◌==◌, ℕ, true, length, take, drop, get_or, sym, arith}
+use Rattle.std.proofs.Common.{◌+◌, ◌≤◌, ◌==◌, length, sym, arith}
 use Rattle.std.proofs.lemmas.List.Sums.{position_or_len_is}
 use Rattle.std.proofs.lemmas.Simd.{run_in_chunk_le, run_in_chunk_stops}
 use Rattle.hexfilter_core.proofs.lemmas.ChunkLines.{line_goes_on, none_in_block}

@@ -1,4 +1,4 @@
-use Rattle.std.proofs.Common.{None, Some, map, string_bytes, sym, ap, ◌∙◌, arith}
+use Rattle.std.proofs.Common.{None, Some, string_bytes, sym, ap, ◌∙◌, arith}
 use Rattle.std.specs.Prelude.{option_and_then}
 use Rattle.hexfilter_core.proofs.lemmas.Arguments.{arguments_at, arguments_end}
 use Rattle.hexfilter_core.specs.Options.{request}

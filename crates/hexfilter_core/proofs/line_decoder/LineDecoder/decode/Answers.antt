@@ -1,4 +1,3 @@
-use Rattle.std.proofs.Common.{sym}
 use Rattle.hexfilter_core.proofs.line_decoder.LineDecoder.decode.Goals as goal
 
 pub returns-then-self-clause-err : goal.returns-then-self-clause-err

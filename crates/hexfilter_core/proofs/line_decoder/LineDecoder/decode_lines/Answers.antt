@@ -4,8 +4,7 @@ use Rattle.std.proofs.lemmas.Result.{err_from_is_err_and}
 use Rattle.hexfilter_core.proofs.lemmas.ChunkLines.{line_and_more, line_and_newline, line_at_end, size_of_rest, take_put}
 use Rattle.hexfilter_core.proofs.lemmas.InputTexts.{plain_line}
 use Rattle.hexfilter_core.proofs.lemmas.InvalidCharacters.{NamesInvalid-longer}
-use Rattle.hexfilter_core.specs.Decoding.{HasDecoded, ignores}
-use Rattle.hexfilter_core.specs.Inputs.{NamesInvalid}
+use Rattle.hexfilter_core.specs.Decoding.{ignores}
 use Rattle.hexfilter_core.proofs.line_decoder.LineDecoder.decode_lines.Goals as goal
 
 pub decode_line-requires-clause-plain : goal.decode_line-requires-clause-plain
