@@ -36,7 +36,8 @@ fn erased(place: &str, source: &str) -> Option<Result<String, String>> {
     // Each test has a folder of its own, since they run at the same time.
     let test = thread::current();
     let folder = Path::new(env!("CARGO_TARGET_TMPDIR")).join(test.name().unwrap());
-    let file = folder.join("src").join(place).with_extension("rt");
+    // `rt` takes no file .rt outside of a crate.
+    let file = folder.join("src").join(place).with_extension("txt");
     fs::create_dir_all(file.parent().unwrap()).unwrap();
     fs::write(&file, source).unwrap();
     let output = erase(&file)?;
