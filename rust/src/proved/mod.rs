@@ -45,13 +45,13 @@ pub use self::error::*;
 //   10  a function for C takes slices, which capi makes of pointers and lengths
 //   16  a kernel is compiled for each kind of register, so it names the others beside it
 //   36  a range that is proved to be within its slice is not tested in release builds
-//    1  a value is printed by its formatter
+//    1  a value is printed by a format
 //   54  all crates are one module
 //    6  an allocation never fails: without memory the program ends
 //  124  an assertion names no runtime
 //    1  and a constant converts by a cast
 //    6  and the vectors of its kind
-//    1  callers that only show what a proof is worth are left out
+//    1  callers that nothing exports are left out
 //   43  deleted: attribute
 //  205  deleted: contract
 //  153  deleted: ghost item
