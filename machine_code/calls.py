@@ -314,3 +314,9 @@ CALLS = {
     "check_raw": Call([CheckRaw()], [], 128),
     "version": Call([], _version()),
 }
+
+
+def function_of(code, call, build):
+    """The name of a function in a build. It ends in that of the build if there are two."""
+    name = f"const_hex_{call}{CALLS[call].suffix}"
+    return name if name in code.object.symbols else f"{name}_{build}"

@@ -58,7 +58,10 @@ class Code:
             raise Fault("an instruction without a meaning here")
         self.run.add(instruction.address)
         state.next = instruction.address + instruction.size
-        target = handler(state, instruction)
+        try:
+            target = handler(state, instruction)
+        except (AttributeError, IndexError, KeyError, TypeError, ValueError) as error:
+            raise Fault(f"a form without a meaning here: {error!r}")
         state.last = instruction.address
         state.steps += 1
         state.at = state.next if target is None else target

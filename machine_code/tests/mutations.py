@@ -5,23 +5,35 @@ import re
 import struct
 import subprocess
 import tempfile
+from collections import namedtuple
 from functools import lru_cache
 
-from x86_64.decoding import Memory
+# What assembles for a processor: the compiler, `objcopy`, and a first line; and an instruction that does nothing.
+Tools = namedtuple("Tools", "compiler objcopy first_line nop")
+TOOLS = {
+    62: Tools("cc", "objcopy", ".intel_syntax noprefix", b"\x90"),
+    183: Tools("aarch64-linux-gnu-gcc", "aarch64-linux-gnu-objcopy", "", b"\x1f\x20\x03\xd5"),
+}
 
 
 @lru_cache
-def assembled(text):
+def assembled(machine, text):
     """The bytes of instructions."""
+    tools = TOOLS[machine]
     with tempfile.TemporaryDirectory() as folder:
-        command = ["cc", "-c", "-x", "assembler", "-o", f"{folder}/code.o", "-"]
-        source = f".intel_syntax noprefix\n{text}\n"
+        command = [tools.compiler, "-c", "-x", "assembler", "-o", f"{folder}/code.o", "-"]
+        source = f"{tools.first_line}\n{text}\n"
         subprocess.run(command, input=source.encode(), check=True, capture_output=True)
-        subprocess.run(
-            ["objcopy", "-O", "binary", "-j", ".text", f"{folder}/code.o", f"{folder}/code"], check=True
-        )
+        command = [tools.objcopy, "-O", "binary", "-j", ".text", f"{folder}/code.o", f"{folder}/code"]
+        subprocess.run(command, check=True)
         with open(f"{folder}/code", "rb") as file:
             return file.read()
+
+
+def jump(machine, place, target):
+    if machine == 62:
+        return b"\xe9" + struct.pack("<i", target - (place + 5))
+    return struct.pack("<I", 0x14000000 | (target - place) // 4 & 0x3FFFFFF)
 
 
 def find(code, function, pattern, which=0):
@@ -41,11 +53,11 @@ def replaced(pattern, text, which=0):
 
     def change(code, function):
         section, old = find(code, function, pattern, which)
-        new = assembled(text)
+        new, nop = assembled(code.object.machine, text), TOOLS[code.object.machine].nop
         if len(new) > old.size:
             raise ValueError(f"{text} is longer than {old.text}")
         at = old.address - section.address
-        section.content[at : at + old.size] = new + b"\x90" * (old.size - len(new))
+        section.content[at : at + old.size] = new + nop * ((old.size - len(new)) // len(nop))
         return old
 
     return change
@@ -63,33 +75,38 @@ def byte(pattern, offset, value, which=0):
 
 
 def constant(pattern, offset, value, which=0):
-    """A byte of the constant that an instruction reads from its place after the code is another one."""
+    """A byte of the constant whose address an instruction has is another one."""
 
     def change(code, function):
-        _, user = find(code, function, pattern, which)
-        memory = next(operand for operand in user.operands if type(operand) is Memory)
-        address = user.address + user.size + memory.displacement
-        section = code.object.section_at(address)
-        section.content[address - section.address + offset] = value
-        return user
+        section, user = find(code, function, pattern, which)
+        end = user.address + user.size
+        for at, _, symbol, addend in section.references:
+            at += section.address
+            if user.address <= at < end:
+                # On x86-64 it is counted from the end of the instruction.
+                place = symbol + addend + (end - at if code.object.machine == 62 else 0) + offset
+                target = code.object.section_at(place)
+                target.content[place - target.address] = value
+                return user
+        raise LookupError(f"{user.text} refers to no constant")
 
     return change
 
 
 def detour(text, size=5):
-    """At the start of a function, other instructions run before the first ones, which have `size` bytes and
-    depend on no place."""
+    """At the start of a function, other instructions run before the first ones, which depend on no place. They have
+    `size` bytes on x86-64, and 4 on AArch64."""
 
     def change(code, function):
-        start = code.object.symbols[function]
+        machine, start = code.object.machine, code.object.symbols[function]
+        count = size if machine == 62 else 4
         section = code.object.section_at(start)
-        first = section.content[start - section.address :][:size]
-        tail = section.end
-        section.content += assembled(text) + first
-        section.content += b"\xe9" + struct.pack("<i", start + size - (section.end + 5))
-        at = start - section.address
-        jump = b"\xe9" + struct.pack("<i", tail - (start + 5)) + b"\x90" * (size - 5)
-        section.content[at : at + size] = jump
+        at, tail = start - section.address, section.end
+        first = section.content[at : at + count]
+        section.content += assembled(machine, text) + first
+        section.content += jump(machine, section.end, start + count)
+        there = jump(machine, start, tail)
+        section.content[at : at + count] = there + TOOLS[machine].nop * (count - len(there))
         return code.front_end.instructions(section)[start]
 
     return change

@@ -5,7 +5,7 @@ import unittest
 
 import dispatch
 from exploration import Refused
-from tests.library import code_of
+from tests.library import AARCH64, ARCHIVE, code_of, needs_aarch64
 from tests.mutations import byte, replaced
 
 # What is wrong; the function that shows it; the one where it is; the change; and what the tool has to say.
@@ -31,6 +31,21 @@ MUTATIONS = [
     ("the stack is not restored", "encode", "first_encode",
      replaced("^pop +r9", "nop"), "the stack of a build"),
 ]
+# Of AArch64, where there is one build.
+NO_ERROR = "no_error_{}.constprop.0"
+MUTATIONS_AARCH64 = [
+    ("NULL is passed on", "decode", "const_hex_decode", replaced("^cbz", "nop"), "the local error"),
+    ("the local error is too far up", "check", NO_ERROR.format("check"),
+     replaced("^add x2, sp, #0x10", "add x2, sp, #0x18"), "the local error"),
+    ("an argument is lost", "decode_exact", NO_ERROR.format("decode_exact"),
+     replaced("^mov x29, sp", "mov x1, sp"), "argument 1 is another"),
+    ("the stack is not restored", "decoder_update", NO_ERROR.format("decoder_update"),
+     replaced("^ldp x29, x30", "ldp x29, x30, [sp], #16"), "the stack is not as before"),
+    ("the frame pointer is not restored", "decode", NO_ERROR.format("decode"),
+     replaced("^ldp x29, x30", "ldp x28, x30, [sp], #32"), "x28 is not as before"),
+    ("the return address is lost", "check", NO_ERROR.format("check"),
+     replaced("^ldp x29, x30", "ldp x30, x29, [sp], #32"), "a jump to what is no code"),
+]
 
 
 class TestDispatch(unittest.TestCase):
@@ -40,9 +55,18 @@ class TestDispatch(unittest.TestCase):
             self.assertGreaterEqual(dispatch.prove(code, name), 4)
 
 
-def _test(name, function, change, wanted):
+@needs_aarch64
+class TestAArch64(unittest.TestCase):
+    def test_each_function(self):
+        code = code_of("dispatch", AARCH64)
+        for name, (_, error) in dispatch.FUNCTIONS.items():
+            if error is not None:
+                self.assertEqual(dispatch.prove(code, name), 2)
+
+
+def _test(archive, name, function, change, wanted):
     def test(self):
-        code = code_of("dispatch")
+        code = code_of("dispatch", archive)
         try:
             changed = change(code, function)
         except LookupError as another:
@@ -54,5 +78,7 @@ def _test(name, function, change, wanted):
     return test
 
 
-for _what, *_row in MUTATIONS:
-    setattr(TestDispatch, "test_" + re.sub(r"\W+", "_", _what.lower()), _test(*_row))
+for _class, _archive, _rows in (
+    (TestDispatch, ARCHIVE, MUTATIONS), (TestAArch64, AARCH64, MUTATIONS_AARCH64)):
+    for _what, *_row in _rows:
+        setattr(_class, "test_" + re.sub(r"\W+", "_", _what.lower()), _test(_archive, *_row))

@@ -3,7 +3,7 @@
 import re
 import unittest
 
-from calls import CALLS
+from calls import CALLS, function_of
 from exploration import Refused
 from tests.library import code_of
 from tests.mutations import byte, constant, detour, replaced
@@ -125,10 +125,9 @@ def parts_of(call, form, length):
 
 def refusal(code, build, call, parts):
     """What the tool says of changed code, or None if it accepts it."""
-    function = f"const_hex_{call}{CALLS[call].suffix}_{build}"
     for part in parts:
         try:
-            CALLS[call].prove(code, function, part)
+            CALLS[call].prove(code, function_of(code, call, build), part)
         except Refused as refused:
             return f"{build} {call}, {CALLS[call].name_of(part)}: {refused}"
     return None
@@ -143,7 +142,7 @@ def _test(what, build, call_and_form, length, function, change, wanted):
     def test(self):
         call, form = call_and_form
         code = code_of(build)
-        changed = change(code, function or f"const_hex_{call}{CALLS[call].suffix}_{build}")
+        changed = change(code, function or function_of(code, call, build))
         said = refusal(code, build, call, parts_of(call, form, length))
         self.assertIsNotNone(said, "it is accepted")
         self.assertIn(changed.address, code.run, "the instruction that was changed does not run")
@@ -153,6 +152,10 @@ def _test(what, build, call_and_form, length, function, change, wanted):
     return test
 
 
-for _row in MUTATIONS:
-    _name = re.sub(r"[^a-z0-9]+", "_", f"{_row[2][0]} {_row[1]} {_row[0]}".lower())
-    setattr(TestMutations, f"test_{_name}", _test(*_row))
+def add_tests(test_case, mutations):
+    for row in mutations:
+        name = re.sub(r"[^a-z0-9]+", "_", f"{row[2][0]} {row[1]} {row[0]}".lower())
+        setattr(test_case, f"test_{name}", _test(*row))
+
+
+add_tests(TestMutations, MUTATIONS)

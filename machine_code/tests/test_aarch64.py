@@ -1,0 +1,131 @@
+"""What the front end for AArch64 has to refuse, or to see."""
+
+import unittest
+
+from aarch64.decoding import Address, Extension, Instruction, Register
+from aarch64.front_end import HANDLERS
+from aarch64.state import State
+from arithmetic import logic
+from calls import CALLS
+from exploration import Refused
+from flags import Flags
+from induction import LEFT
+from linear import Linear
+from memory import Fault, Memory, Pointer, Region
+from tests.library import code_of, needs_aarch64
+from tests.mutations import detour
+from values import TooWide, constants, unknown
+
+FUNCTION = "const_hex_check_raw"
+SP, X0, W0 = (Register("general", name, 0, size, None) for name, size in (("sp", 8), ("x0", 8), ("x0", 4)))
+
+
+def state_with(*regions):
+    state = State(Memory([Region("stack", 64, True, 16), *regions]))
+    state.registers["sp"] = Pointer("stack", 32)
+    return state
+
+
+def run(state, mnemonic, *operands):
+    HANDLERS[mnemonic](state, Instruction(0, 4, mnemonic, operands, mnemonic, b""))
+
+
+def at(base, displacement, after=0, is_moved=False):
+    return Address(base, None, Extension("lsl", 0), displacement, after, is_moved)
+
+
+@needs_aarch64
+class TestRefused(unittest.TestCase):
+    def assert_refused(self, text, wanted):
+        code = code_of("aarch64")
+        detour(text)(code, FUNCTION)
+        with self.assertRaisesRegex(Refused, wanted):
+            CALLS["check_raw"].prove(code, FUNCTION, ("length", 0, 20))
+
+    def test_instruction_without_a_meaning(self):
+        self.assert_refused("rbit x9, x9", "rbit x9, x9: an instruction without a meaning here")
+
+    def test_operand_that_is_not_known(self):
+        self.assert_refused("ld1 {v0.8b, v1.8b}, [x0]", r"ld1 .*: an instruction without a meaning here")
+
+    def test_form_that_is_not_known(self):
+        self.assert_refused("lsl x9, x9, x1", "lsl x9, x9, x1: a shift by a register")
+        self.assert_refused("movi v0.4s, #1, lsl #8", "movi v0.4s, .*: a form without a meaning here")
+
+    def test_flags_that_are_not_known(self):
+        self.assert_refused("b.eq 1f; nop; 1:", "b.eq .*: flags that are not known are used")
+
+
+class TestState(unittest.TestCase):
+    def test_unaligned_stack_pointer(self):
+        state = state_with()
+        run(state, "ldr", X0, at(SP, 8))
+        state.registers["sp"] = Pointer("stack", 24)
+        with self.assertRaisesRegex(Fault, "not aligned"):
+            run(state, "ldr", X0, at(SP, 8))
+
+    def test_below_the_stack(self):
+        state = state_with()
+        with self.assertRaisesRegex(Fault, "below the stack"):
+            run(state, "str", X0, at(SP, -16))
+        run(state, "str", X0, at(SP, -16, is_moved=True))
+        self.assertEqual(state.registers["sp"], Pointer("stack", 16))
+        run(state, "ldr", X0, at(SP, 0, after=32))
+        with self.assertRaisesRegex(Fault, "below the stack"):
+            run(state, "ldr", X0, at(SP, -8))
+
+    def test_half_of_a_register(self):
+        """The upper half is cleared, and a half of a pointer is no number."""
+        state = state_with()
+        run(state, "mov", W0, W0)
+        self.assertEqual(state.registers["x0"][4:], constants(0, 4))
+        state.registers["x0"] = Pointer("stack", 0)
+        with self.assertRaises(TooWide):
+            run(state, "add", W0, W0, 1)
+
+    def test_carry(self):
+        """It is set by a sum that is too great, and by a difference that is not below zero."""
+        state = state_with()
+        state.flags = Flags("add", constants(-1, 8), constants(1, 8), constants(0, 8))
+        self.assertTrue(state.decide(state.flag("cs")))
+        with self.assertRaises(Fault):
+            state.flag("hi")
+        state.flags = Flags("sub", constants(1, 8), constants(1, 8))
+        self.assertTrue(state.decide(state.flag("cs")))
+        self.assertFalse(state.decide(state.flag("hi")))
+        state.flags = Flags("logic", result=constants(1, 8))
+        self.assertFalse(state.decide(state.flag("cs")))
+        self.assertTrue(state.decide(state.flag("ls")))
+
+
+class TestUnknownBit(unittest.TestCase):
+    """A bit of a length that is not known picks one of two places, where the same has to lie."""
+
+    def bit(self):
+        found = logic("and", LEFT * 64 + 3, constants(64, 8))
+        self.assertEqual((type(found), found.least, found.most), (Linear, 0, 64))
+        return found
+
+    def test_same_bytes(self):
+        content = tuple([unknown("table", at % 64) for at in range(128)])
+        memory = Memory([Region("table", 128, content=content)])
+        self.assertEqual(memory.load(Pointer("table", self.bit() + 5), 1), (content[5],))
+
+    def test_other_bytes(self):
+        memory = Memory([Region("table", 128)])
+        with self.assertRaisesRegex(Fault, "other bytes are read"):
+            memory.load(Pointer("table", self.bit() + 5), 1)
+
+    def test_outside(self):
+        content = tuple([unknown("table", at % 64) for at in range(128)])
+        memory = Memory([Region("table", 127, content=content)])
+        with self.assertRaisesRegex(Fault, "outside"):
+            memory.load(Pointer("table", self.bit() + 63), 1)
+
+    def test_each_bit_is_another(self):
+        self.assertNotEqual(self.bit(), self.bit())
+
+    def test_other_bits(self):
+        for mask in (128, 192, 32 + 64):
+            with self.assertRaises(Fault):
+                logic("and", LEFT * 64 + 3, constants(mask, 8))
