@@ -14,6 +14,9 @@ def as_argument(argument):
 class FrontEnd:
     """What the engine needs to know of a processor and of its calls.
 
+    Beside what stands here, a front end has the `instructions` of a section, their HANDLERS, and the State that
+    they change; it tells what `is_jump`, and has the `return_address` of a call, and how to `set_return` to it.
+
     The header promises less than 2 KB of stack. A function of c/dispatch.c and the one that it calls use at
     most DISPATCH_STACK bytes, and the latter alone STACK.
     """

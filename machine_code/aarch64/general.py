@@ -116,7 +116,6 @@ def address_of(state, i):
 
 # Choices
 
-
 CHANGES = {"csel": lambda value: value, "csinv": complement}
 
 

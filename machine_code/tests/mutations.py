@@ -8,7 +8,7 @@ import tempfile
 from collections import namedtuple
 from functools import lru_cache
 
-# What assembles for a processor: the compiler, `objcopy`, and a first line; and an instruction that does nothing.
+# What assembles for a processor: the compiler, `objcopy`, and a first line; and what does nothing.
 Tools = namedtuple("Tools", "compiler objcopy first_line nop")
 TOOLS = {
     62: Tools("cc", "objcopy", ".intel_syntax noprefix", b"\x90"),
@@ -94,8 +94,8 @@ def constant(pattern, offset, value, which=0):
 
 
 def detour(text, size=5):
-    """At the start of a function, other instructions run before the first ones, which depend on no place. They have
-    `size` bytes on x86-64, and 4 on AArch64."""
+    """At the start of a function, other instructions run before the first ones, which depend on no place. These
+    have `size` bytes on x86-64, and 4 on AArch64."""
 
     def change(code, function):
         machine, start = code.object.machine, code.object.symbols[function]

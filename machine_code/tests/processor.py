@@ -19,8 +19,8 @@ Result = namedtuple("Result", "registers flags is_taken scratch")
 
 
 class Processor:
-    """What processors have in common. Each runs an instruction, finds the target of a jump, and lets the address
-    of an operand lie in the scratch area."""
+    """What processors have in common. Each runs an instruction, finds the target of a jump, and lets the
+    address of an operand lie in the scratch area."""
 
     # Instructions that leave the place, or ask the processor what it is; those with an address that they do not
     # use; the bits of the flags; and the names of their conditions.

@@ -1,4 +1,5 @@
-"""The instructions' meanings, compared with processors on random states; and wrong meanings, which are noticed."""
+"""The instructions' meanings, compared with processors on random states; and wrong meanings, which are
+noticed."""
 
 import pathlib
 import unittest
