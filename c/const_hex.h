@@ -64,22 +64,22 @@
  * function meets its contract: it is memory-safe, terminates, and returns and writes what the contract
  * says, for all inputs. The contracts are in crates/const_hex_c; this header states them in prose.
  *
- * On x86-64 the machine code is verified too, against this header, by the separate tool in machine_code: both
- * builds of every function except const_hex_error_message, for every length below 2^53, and the C code in
+ * The machine code is verified too, against this header, by the separate tool in machine_code: every function
+ * except const_hex_error_message, on x86-64 in both builds, for every length below 2^53, and the C code in
  * c/dispatch.c, which detects the CPU and handles a NULL error.
  *
  * Tested and not verified are: that const_hex_error_message writes a message, and how it shows an invalid
- * character; on AArch64 also the compiled code and c/dispatch.c. That this header agrees with the contracts
- * of crates/const_hex_c and of machine_code was reviewed.
+ * character. That this header agrees with the contracts of crates/const_hex_c and of machine_code was
+ * reviewed.
  *
  * CONSTANT TIME
  *
  * For valid input, branches and memory addresses do not depend on the bytes or digits, but only on lengths,
  * sizes, flags and pointers, on whether a text has a prefix, and on where the chunks of a text are split.
- * On x86-64 this is verified in the machine code of both builds, for every length below 2^53; on AArch64 it
- * is not examined. It does not hold for invalid text: the error states the position of the invalid
- * character, and timing reveals it too. How long an instruction takes is up to the CPU. No memory is wiped.
- * libsodium has sodium_bin2hex and sodium_hex2bin, which are made for secrets.
+ * This is verified in the machine code, on x86-64 of both builds, for every length below 2^53. It does not
+ * hold for invalid text: the error states the position of the invalid character, and timing reveals it too.
+ * How long an instruction takes is up to the CPU. No memory is wiped. libsodium has sodium_bin2hex and
+ * sodium_hex2bin, which are made for secrets.
  *
  * PLATFORMS
  *
@@ -89,10 +89,10 @@
  * x86-64-v3 (AVX2 and what came with it), which is used if the CPU supports it. The first call detects that
  * and stores the result in one byte; nothing else is kept between calls.
  *
- * A function uses less than 2 KB of stack: on x86-64 the tool machine_code checks this, except for
- * const_hex_error_message; on AArch64 nothing does. The object files have no unwind tables: a debugger or
- * profiler that stops inside a function may not find its caller. They have no IBT and SHSTK properties: a
- * program that links them statically runs without these protections.
+ * A function uses less than 2 KB of stack: the tool machine_code checks this, except for
+ * const_hex_error_message. The object files have no unwind tables: a debugger or profiler that stops inside a
+ * function may not find its caller. They have no IBT and SHSTK properties: a program that links them
+ * statically runs without these protections.
  *
  * BUILDING
  *

@@ -1,6 +1,6 @@
 /*
  * Defines the functions of const_hex.h over those that are written in Rattle. Their proof does not cover this file:
- * its machine code is verified on x86-64 by machine_code, and it is tested.
+ * its machine code is verified by machine_code, and it is tested.
  *
  * On x86-64 the library has two builds of each function, and this file picks one: the build for x86-64-v3 if the CPU
  * has AVX2 and the rest of that level, otherwise the default one. The first call asks the CPU, and stores the result
