@@ -273,9 +273,8 @@ def _version():
 class Call:
     """Its forms, with lengths in steps and by rounds of `size` bytes, and its other cases."""
 
-    def __init__(self, forms, cases, size=0, step=1, has_nonnull=False):
+    def __init__(self, forms, cases, size=0, step=1):
         self.forms, self.cases, self.size, self.step = list(forms), list(cases), size, step
-        self.suffix = "_nonnull" if has_nonnull else ""
 
     def parts(self):
         """What is proved alone: the cases, the short lengths, and the classes of all others: of those that
@@ -306,17 +305,19 @@ class Call:
 CALLS = {
     "encoded_size": Call([], _encoded_size_cases()),
     "encode": Call([Encode(flags) for flags in range(8)], encode_failures(), 128),
-    "decode": Call([Decode(0), Decode(2)], _text_failures("decode"), 128, 2, True),
-    "decode_exact": Call([DecodeExact(0), DecodeExact(2)], _text_failures("decode_exact"), 128, 2, True),
-    "decoder_update": Call(updates(8), update_failures(8), 128, 1, True),
-    "decoder_finish": Call([], finishes(8), has_nonnull=True),
-    "check": Call([Check(0), Check(2)], _text_failures("check"), 128, 2, True),
+    "decode": Call([Decode(0), Decode(2)], _text_failures("decode"), 128, 2),
+    "decode_exact": Call([DecodeExact(0), DecodeExact(2)], _text_failures("decode_exact"), 128, 2),
+    "decoder_update": Call(updates(8), update_failures(8), 128),
+    "decoder_finish": Call([], finishes(8)),
+    "check": Call([Check(0), Check(2)], _text_failures("check"), 128, 2),
     "check_raw": Call([CheckRaw()], [], 128),
     "version": Call([], _version()),
 }
 
 
 def function_of(code, call, build):
-    """The name of a function in a build. It ends in that of the build if there are two."""
-    name = f"const_hex_{call}{CALLS[call].suffix}"
-    return name if name in code.object.symbols else f"{name}_{build}"
+    """The name of a function in a build. It ends in that of the build if there are two, and before that it says
+    if c/dispatch.c handles a NULL error."""
+    stem = f"const_hex_{call}"
+    names = (f"{stem}_nonnull", f"{stem}_nonnull_{build}", f"{stem}_{build}")
+    return next((name for name in names if name in code.object.symbols), stem)

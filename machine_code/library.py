@@ -1,4 +1,5 @@
-"""The builds of a library: the objects of its archive, each with the front end for its processor."""
+"""The builds of a library: the objects of its archive, each with the front end for its processor; or a module
+for WebAssembly."""
 
 import functools
 import importlib
@@ -6,10 +7,14 @@ import re
 import subprocess
 
 import objects
+import wasm.calls
+import wasm.front_end
+import wasm.module
+from calls import CALLS
 from exploration import Code
 
 PROCESSORS = {62: "x86_64", 183: "aarch64"}  # by their number in ELF
-DISPATCH = "dispatch"
+DISPATCH, WASM = "dispatch", "wasm"
 
 
 @functools.lru_cache
@@ -24,11 +29,22 @@ def _members(archive):
     return found | {DISPATCH: "dispatch.c.o"}
 
 
+def _is_module(archive):
+    with open(archive, "rb") as file:
+        return file.read(4) == b"\0asm"
+
+
 def builds_of(archive):
-    return list(_members(archive))
+    return [WASM] if _is_module(archive) else list(_members(archive))
+
+
+def calls_of(build):
+    return wasm.calls.CALLS if build == WASM else CALLS
 
 
 def code_of(archive, build):
     """The code of a build, or that of dispatch.c."""
+    if build == WASM:
+        return Code(wasm.module.read(archive), wasm.front_end)
     obj = objects.read(objects.member(archive, _members(archive)[build]))
     return Code(obj, importlib.import_module(f"{PROCESSORS[obj.machine]}.front_end").FRONT_END)

@@ -77,6 +77,9 @@ class Object:
     """The sections, the address of each symbol that is defined, and the name at each place of one that is
     not."""
 
+    # The file, if all of it belongs to each function.
+    content = None
+
     def __init__(self, machine, sections, symbols, undefined):
         self.machine = machine
         self.sections = sections

@@ -65,6 +65,24 @@ EXCEPTIONS = [
         "a chunk without digits has no invalid character",
     ),
     ("decoder_update", r"mov w8, wzr; mov x10, x22", "the search finds an invalid character"),
+    # Of the module for WebAssembly:
+    (
+        "",
+        r"(?=.*unreachable)((local\.get \d+|i32\.const \d+|i32\.add|call \d+|unreachable|return)(; |$))*",
+        "a bound that always holds",
+    ),
+    (
+        "function",
+        r"local\.get \d+; local\.get \d+; .*i8x16\.narrow_i16x8_u; .*i32\.const 1; local\.set \d+; br \d",
+        "the last vector has shown that the rest has an invalid character",
+    ),
+    ("function", r"i32\.const 0; local\.set \d; br 1", "a chunk without digits has no invalid character"),
+    ("function", r"i32\.const 0; local\.set \d", "the search finds an invalid character"),
+    (
+        "decoder_finish",
+        r"i32\.const 0; local\.set \d; i32\.const 2; local\.set \d; i32\.const 0; local\.set \d; br 1",
+        "a decoder does not end with a wrong length",
+    ),
 ]
 
 
@@ -75,7 +93,7 @@ def is_message(section):
 
 def _blocks(instructions, run):
     """Instructions that follow each other and were not run."""
-    left = (i for i in instructions if i.mnemonic != "nop")
+    left = (i for i in instructions if i.mnemonic not in ("nop", "end"))
     for is_run, block in itertools.groupby(left, lambda instruction: instruction.address in run):
         if not is_run:
             yield list(block)

@@ -1,4 +1,4 @@
-"""The archives that are tested: those in build/c and build/aarch64, or what these variables name."""
+"""The archives that are tested, in build/c and build/aarch64, and the module; or what these variables name."""
 
 import os
 import pathlib
@@ -10,15 +10,20 @@ import library
 TOP = pathlib.Path(__file__).resolve().parents[2]
 ARCHIVE = os.environ.get("CONST_HEX_ARCHIVE", TOP / "build" / "c" / "libconst_hex.a")
 AARCH64 = os.environ.get("CONST_HEX_AARCH64", TOP / "build" / "aarch64" / "libconst_hex.a")
-
+RELEASE = TOP / "rust" / "capi" / "target" / "wasm32-unknown-unknown" / "release"
+MODULE = os.environ.get("CONST_HEX_MODULE", RELEASE / "const_hex.wasm")
 
 NEEDED = ("aarch64-linux-gnu-gcc", "qemu-aarch64")
 needs_aarch64 = unittest.skipUnless(
     pathlib.Path(AARCH64).exists() and all(map(shutil.which, NEEDED)),
     f"{AARCH64} is not built, or {' or '.join(NEEDED)} is missing",
 )
+needs_module = unittest.skipUnless(
+    pathlib.Path(MODULE).exists() and all(map(shutil.which, ("node", "wat2wasm"))),
+    f"{MODULE} is not built, or node or wat2wasm is missing",
+)
 
 
 def code_of(build, archive=None):
     """The code of a build, or that of dispatch.c."""
-    return library.code_of(archive or (AARCH64 if build == "aarch64" else ARCHIVE), build)
+    return library.code_of(archive or {"aarch64": AARCH64, library.WASM: MODULE}.get(build, ARCHIVE), build)

@@ -1,0 +1,52 @@
+"""The front end for WebAssembly: what the engine needs to know of a module and of its calls.
+
+The caller's regions lie at unknown addresses from `__heap_base` on, and so after the module's stack and data.
+"""
+
+from exploration import RETURNED, require
+from memory import Image, Memory, Pointer, Region
+from values import ZERO, constants, number
+from wasm import vector  # noqa: F401 (adds its instructions)
+from wasm.general import HANDLERS  # noqa: F401
+from wasm.module import instructions  # noqa: F401
+from wasm.state import State
+
+# A memory of 64 KiB has no longer inputs, and a decoder's positions have 32 bits.
+LIMITS = {name: 1 << 16 for name in ("more", "n", "k", "over")}
+LIMITS |= {"done": 1 << 9, "left": 1 << 9, "before": 1 << 31}
+
+
+def start(code, symbol, arguments, regions):
+    """The state at the first instruction of a call. Regions beside the arguments' are the stack, which begins
+    at address 0, and the data."""
+    module = code.object
+    require(symbol in module.symbols, f"there is no {symbol}")
+    stack = Region("stack", number(module.globals[0]), True)
+    state = State(Memory([*regions, stack, Image(module)]))
+    state.registers = {f"global {at}": value for at, value in enumerate(module.globals)}
+    values = [constants(argument, 4) if type(argument) is int else argument for argument in arguments]
+    state.at = state.enter(module.function_at(module.symbols[symbol]), values, RETURNED)
+    return state
+
+
+def pointers(state):
+    """The registers of a call that hold pointers."""
+    return [name for name, value in state.registers.items() if type(value) is Pointer]
+
+
+def result(state, size):
+    """The result of a call, of which the bytes above are zero."""
+    [value] = state.operands
+    require(value[size:] == (ZERO,) * (4 - size), "a result with more bytes")
+    return value[:size]
+
+
+def has_returned(state):
+    """What each call owes its caller, beside its contract."""
+    module = state.memory.regions["image"].object
+    for at, value in enumerate(module.globals):
+        require(state.registers[f"global {at}"] == value, f"global {at} is not as before")
+
+
+def is_jump(instruction):
+    return instruction.mnemonic.startswith("br")
