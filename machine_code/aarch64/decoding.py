@@ -1,11 +1,10 @@
-"""The instructions of a section, as `objdump` reads them."""
+"""The operands of AArch64, as `objdump` writes them."""
 
 import re
-import subprocess
-import tempfile
 from collections import namedtuple
 
-Instruction = namedtuple("Instruction", "address size mnemonic operands text content")
+import disassembly
+
 # `size` bytes of a register from `first` on. A vector has lanes of so many bytes; an element is one of them.
 Register = namedtuple("Register", "kind family first size lane")
 # `after` is added to the base after the access. With `is_moved` the base becomes the address before it.
@@ -16,7 +15,6 @@ Extension = namedtuple("Extension", "kind count")
 
 SIZES = {"b": 1, "h": 2, "s": 4, "d": 8, "q": 16}
 CONDITIONS = ("eq", "ne", "cs", "cc", "mi", "pl", "vs", "vc", "hi", "ls", "ge", "lt", "gt", "le")
-LINE = re.compile(r"^\s*([0-9a-f]+):\t([0-9a-f]{8}) +\t(\S+)(?:\t(.*))?$")
 # An operand: an address, registers in braces, or anything else without a comma.
 OPERAND = re.compile(r"\[[^]]*\]!?|\{[^}]*\}(?:\[\d+\])?|[^,\s][^,]*")
 
@@ -68,22 +66,11 @@ def _operands(text):
     return tuple(found)
 
 
+def _instruction(text):
+    mnemonic, _, rest = text.partition("\t")
+    rest = re.split("//|<", rest)[0].strip()
+    return mnemonic, _operands(rest), f"{mnemonic} {rest}".strip()
+
+
 def instructions(section):
-    """The instructions of a section, by address."""
-    with tempfile.NamedTemporaryFile() as file:
-        file.write(section.content)
-        file.flush()
-        command = ["aarch64-linux-gnu-objdump", "-D", "-b", "binary", "-m", "aarch64"]
-        command += [f"--adjust-vma={section.address:#x}", file.name]
-        listing = subprocess.run(command, check=True, capture_output=True, text=True).stdout
-    found = {}
-    for match in filter(None, map(LINE.match, listing.splitlines())):
-        address, content = int(match[1], 16), int(match[2], 16).to_bytes(4, "little")
-        rest = re.split("//|<", match[4] or "")[0].strip()
-        text = f"{match[3]} {rest}".strip()
-        try:
-            found[address] = Instruction(address, 4, match[3], _operands(rest), text, content)
-        except ValueError:
-            # An operand that is not known here. It is an error if it is run.
-            found[address] = Instruction(address, 4, "unknown", (), text, content)
-    return found
+    return disassembly.read(section, ["aarch64-linux-gnu-objdump", "-m", "aarch64"], _instruction)

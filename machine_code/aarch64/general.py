@@ -8,21 +8,14 @@ import operator
 
 from aarch64.state import CODES, Known, extended
 from arithmetic import added, complement, logic, selected, shifted, subtracted
+from disassembly import adding_to
 from exploration import RETURNED
 from flags import Flags
 from memory import Fault, Pointer, as_lane
 from values import ZERO, constants
 
 HANDLERS = {}
-
-
-def instruction(*names):
-    def register(function):
-        for name in names:
-            HANDLERS[name] = function
-        return function
-
-    return register
+instruction = adding_to(HANDLERS)
 
 
 SHIFTS = {

@@ -2,11 +2,12 @@
 
 import unittest
 
-from aarch64.decoding import Address, Extension, Instruction, Register
+from aarch64.decoding import Address, Extension, Register
 from aarch64.front_end import HANDLERS
 from aarch64.state import State
 from arithmetic import logic
 from calls import CALLS
+from disassembly import Instruction
 from exploration import Refused
 from flags import Flags
 from induction import LEFT
@@ -27,7 +28,7 @@ def state_with(*regions):
 
 
 def run(state, mnemonic, *operands):
-    HANDLERS[mnemonic](state, Instruction(0, 4, mnemonic, operands, mnemonic, b""))
+    HANDLERS[mnemonic](state, Instruction(0, 4, mnemonic, operands, mnemonic))
 
 
 def at(base, displacement, after=0, is_moved=False):

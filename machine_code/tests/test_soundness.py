@@ -4,6 +4,7 @@ import unittest
 
 from calls import CALLS
 from conditions import Condition, Path, are_equal
+from disassembly import Instruction
 from exploration import Refused, require_one_path
 from induction import DONE, LEFT
 from linear import GREATEST, Split, Unknown, in_terms_of, is_zero, symbol
@@ -11,7 +12,7 @@ from memory import Fault, Memory, Pointer, Region, as_lane, with_replaced
 from tests.library import code_of
 from tests.mutations import detour
 from values import CONSTANTS, TooWide, apply, constants, each, joined, masked, unknown
-from x86_64.decoding import Instruction, REGISTERS
+from x86_64.decoding import REGISTERS
 from flags import Flags
 from x86_64.general import HANDLERS
 from x86_64.state import State
@@ -23,7 +24,7 @@ def state_with(*regions):
 
 def run(state, mnemonic, *operands):
     operands = tuple(REGISTERS.get(operand, operand) for operand in operands)
-    HANDLERS[mnemonic](state, Instruction(0, 4, mnemonic, operands, mnemonic, b""))
+    HANDLERS[mnemonic](state, Instruction(0, 4, mnemonic, operands, mnemonic))
 
 
 class TestNumbers(unittest.TestCase):

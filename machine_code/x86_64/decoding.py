@@ -1,17 +1,15 @@
-"""The instructions of a section, as `objdump` reads them."""
+"""The operands of x86-64, as `objdump` writes them."""
 
 import re
-import subprocess
-import tempfile
 from collections import namedtuple
 
-Instruction = namedtuple("Instruction", "address size mnemonic operands text content")
+import disassembly
+
 Register = namedtuple("Register", "family first size")
 Memory = namedtuple("Memory", "base index scale displacement size")
 # An immediate is a number.
 
 SIZES = {"BYTE": 1, "WORD": 2, "DWORD": 4, "QWORD": 8, "XMMWORD": 16, "YMMWORD": 32}
-LINE = re.compile(r"^\s*([0-9a-f]+):\t((?:[0-9a-f]{2} )+)\s*(?:\t(.*))?$")
 PREFIXES = ("cs ", "ds ", "data16 ", "notrack ", "bnd ")
 
 
@@ -64,34 +62,16 @@ def _memory(text, size):
     )
 
 
-def _instruction(address, content, text):
+def _instruction(text):
     text = text.split("#")[0].split("<")[0].strip()
     bare = text
     while bare.startswith(PREFIXES):
         bare = bare.split(" ", 1)[1].strip()
     mnemonic, _, rest = bare.partition(" ")
     if mnemonic.startswith("nop") or bare.split() == ["xchg", "ax,ax"]:
-        return Instruction(address, len(content), "nop", (), text, content)
-    operands = tuple([_operand(part) for part in rest.split(",")]) if rest.strip() else ()
-    return Instruction(address, len(content), mnemonic, operands, text, content)
+        return "nop", (), text
+    return mnemonic, tuple([_operand(part) for part in rest.split(",")]) if rest.strip() else (), text
 
 
 def instructions(section):
-    """The instructions of a section, by address."""
-    with tempfile.NamedTemporaryFile() as file:
-        file.write(section.content)
-        file.flush()
-        command = ["objdump", "-D", "-b", "binary", "-m", "i386:x86-64", "-M", "intel", "-w"]
-        command += [f"--adjust-vma={section.address:#x}", file.name]
-        listing = subprocess.run(command, check=True, capture_output=True, text=True).stdout
-    found = {}
-    for line in listing.splitlines():
-        match = LINE.match(line)
-        if match and match[3]:
-            address, content = int(match[1], 16), bytes.fromhex(match[2])
-            try:
-                found[address] = _instruction(address, content, match[3])
-            except (ValueError, KeyError):
-                # An operand that is not known here. It is an error if it is run.
-                found[address] = Instruction(address, len(content), "unknown", (), match[3], content)
-    return found
+    return disassembly.read(section, ["objdump", "-m", "i386:x86-64", "-M", "intel", "-w"], _instruction)

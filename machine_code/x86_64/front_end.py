@@ -1,7 +1,6 @@
 """The front end for x86-64: its instructions, and the System V ABI."""
 
 from calling import FrontEnd
-from memory import Pointer
 from x86_64 import choice, vector  # noqa: F401 (the latter adds its instructions)
 from x86_64.decoding import instructions
 from x86_64.general import HANDLERS

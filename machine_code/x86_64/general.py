@@ -7,6 +7,7 @@ returns where to go on if that is not the next instruction.
 import operator
 
 from arithmetic import added, complement, logic, moved, selected, shifted, signed, subtracted
+from disassembly import adding_to
 from exploration import RETURNED
 from flags import Flags
 from linear import Linear
@@ -15,15 +16,7 @@ from values import ZERO, apply, are_constant, constants, number, unknown
 from x86_64.state import CODES
 
 HANDLERS = {}
-
-
-def instruction(*names):
-    def register(function):
-        for name in names:
-            HANDLERS[name] = function
-        return function
-
-    return register
+instruction = adding_to(HANDLERS)
 
 
 def _sign_extended(value, size):
