@@ -1,8 +1,7 @@
 //! Functions that constants can call. They look digits up in a table, so at run time their timing may reveal
 //! the bytes.
 
-use crate::proved::codec::body::{find_first_bad, find_invalid_character, strip_even};
-use crate::proved::{value_at, NIL};
+use crate::proved::codec::{checks, decoders};
 use crate::{Buffer, FromHexError};
 
 /// Returns the `N` bytes that a text decodes to. In a constant, a text that does not decode to `N` bytes is a
@@ -57,11 +56,7 @@ pub const fn const_encode<const N: usize, const PREFIX: bool>(
 /// ```
 #[inline]
 pub const fn const_check(input: &[u8]) -> Result<(), FromHexError> {
-    match strip_even(input) {
-        Ok(body) if const_check_raw(body) => Ok(()),
-        Ok(_) => Err(find_invalid_character(input)),
-        Err(error) => Err(error),
-    }
+    checks::const_check(input)
 }
 
 /// Returns what [`check_raw`](crate::check_raw) returns. At run time use `check_raw`.
@@ -73,8 +68,7 @@ pub const fn const_check(input: &[u8]) -> Result<(), FromHexError> {
 #[inline]
 #[must_use]
 pub const fn const_check_raw(input: &[u8]) -> bool {
-    let (_, index) = find_first_bad(input);
-    index == input.len()
+    checks::const_check_raw(input)
 }
 
 /// Returns what [`decode_to_array`](crate::decode_to_array) returns. At run time use `decode_to_array`.
@@ -92,22 +86,5 @@ pub const fn const_check_raw(input: &[u8]) -> bool {
 /// ```
 #[inline]
 pub const fn const_decode_to_array<const N: usize>(input: &[u8]) -> Result<[u8; N], FromHexError> {
-    let body = match strip_even(input) {
-        Ok(body) => body,
-        Err(error) => return Err(error),
-    };
-    if body.len() / 2 != N {
-        return Err(FromHexError::InvalidStringLength);
-    }
-    let mut bytes = [0; N];
-    let mut index = 0;
-    while index < N {
-        let (high, low) = (value_at(body[2 * index]), value_at(body[2 * index + 1]));
-        if high == NIL || low == NIL {
-            return Err(find_invalid_character(input));
-        }
-        bytes[index] = 16 * high + low;
-        index += 1;
-    }
-    Ok(bytes)
+    decoders::const_decode_to_array(input)
 }

@@ -21,8 +21,7 @@
 //! # Ok::<(), serde_json::Error>(())
 //! ```
 
-use crate::display;
-use crate::proved::{ascii_text, fill_text, text_length, FixedKernel};
+use crate::proved::{ascii_text, fill_text, formatting, text_length, FixedKernel};
 use ::serde::de::{Deserializer, Error, Visitor};
 use ::serde::Serializer;
 use core::fmt;
@@ -91,7 +90,7 @@ struct Printed<'a, const UPPER: bool, const PREFIX: bool>(&'a [u8]);
 
 impl<const UPPER: bool, const PREFIX: bool> fmt::Display for Printed<'_, UPPER, PREFIX> {
     fn fmt(&self, f: &mut fmt::Formatter<'_>) -> fmt::Result {
-        display::write::<UPPER, PREFIX>(self.0, f)
+        formatting::display(self.0).write_full::<UPPER, PREFIX>(f)
     }
 }
 

@@ -140,8 +140,8 @@ fn what_each_rule_changes() {
         ),
         (
             "error",
-            "fn fmt<W: fmt::Write>(f: &mut fmt::Formatter<W>) {}",
-            "fn fmt(f: &mut fmt::Formatter<'_>) {}",
+            "fn fmt<W: fmt::Write>(f: &mut fmt::Formatter<W>) {}\n\nfn g() {\n    fmt::<W, 8>(f);\n}",
+            "fn fmt<'w>(f: &mut fmt::Formatter<'w>) {}\n\nfn g() {\n    fmt::<8>(f);\n}",
         ),
         ("sink", "struct S<T: Drop>(T);", "struct S<T>(T);"),
         (
@@ -175,6 +175,7 @@ fn what_each_rule_changes() {
             "pub fn owned(alloc: Global) {}",
             "#[cfg(feature = \"alloc\")]\npub fn owned(alloc: Global) {}",
         ),
+        ("sink", "pub mod pieces;\npub mod output;", "pub mod output;"),
         (
             "tables",
             "pub fn value_at(byte: u8) -> u8 {}",

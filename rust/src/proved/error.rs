@@ -26,7 +26,7 @@ pub enum FromHexError {
 }
 
 impl fmt::Display for FromHexError {
-    fn fmt(&self, f: &mut fmt::Formatter<'_>) -> fmt::Result {
+    fn fmt<'w>(&self, f: &mut fmt::Formatter<'w>) -> fmt::Result {
         match *self {
             FromHexError::OddLength => f.write_str("odd number of digits"),
             FromHexError::InvalidStringLength => f.write_str("invalid string length"),

@@ -9,6 +9,7 @@ pub(crate) mod tables;
 pub(crate) mod text;
 pub(crate) mod codec;
 pub(crate) mod error;
+pub(crate) mod formatting;
 #[cfg(feature = "alloc")]
 pub(crate) mod reserved;
 pub(crate) mod c;
@@ -36,30 +37,34 @@ pub use self::codec::decoder::*;
 pub use self::codec::decoders::*;
 pub use self::codec::encoders::*;
 pub use self::error::*;
+pub use self::formatting::*;
+pub use self::formatting::sink::*;
+pub use self::formatting::text::*;
 
 // The places that each rule of rust/erase has changed:
 //
-//   12  Rattle's std is the module rattle
-//    4  a formatter does not name its writer
-//   48  a function for AVX2 takes in all that it calls
+//   13  Rattle's std is the module rattle
+//   26  a formatter has a lifetime in place of its writer's type
+//   52  a function for AVX2 takes in all that it calls
 //   10  a function for C takes slices, which capi makes of pointers and lengths
 //   16  a kernel is compiled for each kind of register, so it names the others beside it
 //   36  a range that is proved to be within its slice is not tested in release builds
 //    1  a value is printed by a format
-//   54  all crates are one module
+//   57  all crates are one module
 //    6  an allocation never fails: without memory the program ends
-//  124  an assertion names no runtime
+//  114  an assertion names no runtime
 //    1  and a constant converts by a cast
 //    6  and the vectors of its kind
 //    1  callers that nothing exports are left out
-//   43  deleted: attribute
-//  205  deleted: contract
-//  153  deleted: ghost item
-//    4  deleted: model
+//   45  deleted: attribute
+//  206  deleted: contract
+//  161  deleted: ghost item
+//    2  deleted: model
 //    1  each value may be dropped
-//   22  the allocator is a value
+//    1  nothing in Rust uses a sink that keeps its pieces
+//   17  the allocator is a value
 //    1  the bytes of a slice are appended at once, and not one by one
 //    1  the kernel is chosen for the processor
-//    7  what a constant calls is constant
-//   14  what allocates is there with the feature alloc
+//   10  what a constant calls is constant
+//   12  what allocates is there with the feature alloc
 //    3  what is for C is a module of const_hex

@@ -4,8 +4,6 @@
 use crate::rattle::prelude::*;
 
 pub mod output;
-#[cfg(feature = "alloc")]
-pub mod pieces;
 
 use crate::rattle::error::Error;
 use crate::rattle::fmt;
@@ -15,7 +13,7 @@ use crate::rattle::fmt;
 pub struct SinkError;
 
 impl fmt::Display for SinkError {
-    fn fmt(&self, f: &mut fmt::Formatter<'_>) -> fmt::Result {
+    fn fmt<'w>(&self, f: &mut fmt::Formatter<'w>) -> fmt::Result {
         write!(f, "sink refused")
     }
 }

@@ -7,8 +7,6 @@ use Rattle.const_hex.specs.Results.{IsOdd, Reads, body_of}
 use Rattle.const_hex.specs.Decoding.{HasRead, NamesCounted, counted, error_of, position_of, waiting_digit}
 use Rattle.const_hex.specs.TypeLaws.{body-parity}
 use Rattle.const_hex.specs.declared.codec.decoder.Decoder.{Decoder}
-use Rattle.const_hex.specs.declared.error.FromHexError.TheVariants.{OddLength, InvalidStringLength, InvalidHexCharacter, NoMemory}
-use Rattle.const_hex.specs.declared.error.FromHexError.{FromHexError}
 use Rattle.const_hex_arch.specs.Texts.{IsDigit, AllDigits, FirstBad, Partial, Spells}
 use Rattle.std.proofs.lemmas.List.Elements.{All-drop}
 use Rattle.const_hex_arch.proofs.lemmas.Spelling.{FirstBad-after, Partial-after, Spells-append, Spells-digits, Spells-length, digits_append, digits_no_bad, first_bad}

@@ -4,10 +4,10 @@ use Rattle.std.specs.Prelude.{MatchResult, IfOk, IfErr, ◌≢◌, ◌↔◌}
 use Rattle.std.proofs.lemmas.Bool.Decides.{nat_tests}
 use Rattle.const_hex_arch.specs.Texts.{hex_digit, hex_text, full_text}
 use Rattle.const_hex_arch.proofs.lemmas.Texts.{Spells-hex_text, length-hex_text, length-full_text}
-use Rattle.const_hex.specs.Results.{body_of, lowered, Reads, ReadsSized, IsEven, AreBytes}
+use Rattle.const_hex.specs.Results.{body_of, lowered, Reads, ReadsSized, IsEven, AreBytes, DecodesToArray}
 use Rattle.const_hex.specs.declared.error.FromHexError.{FromHexError}
 use Rattle.const_hex.specs.declared.error.FromHexError.TheVariants.{NoMemory}
-use Rattle.const_hex.proofs.lemmas.Reading.{one_answer, one_sized_answer}
+use Rattle.const_hex.proofs.lemmas.Reading.{one_answer, one_sized_answer, sized_accepts}
 use Rattle.const_hex.proofs.lemmas.Lowering.{hex_text-lowered, Spells-agree}
 
 -- the second byte of a text is no `x`
@@ -63,3 +63,13 @@ pub sized_agree : (n : ℕ) (t : List ℕ) (r : Result (List ℕ) FromHexError) 
     → (u bs : List ℕ) → ReadsSized u n (Ok bs) → IfOk r (λ v. (bs ≡ v) ↔ (lowered (body_of u) ≡ lowered (body_of t)))
 sized_agree n t (Ok v) h u bs k = Spells-agree (body_of u) (body_of t) bs v k.1.1 h.1.1
 sized_agree n t (Err e) h u bs k = tt
+
+-- a result for n bytes keeps all that `decode_to_array` promises
+pub DecodesToArray-from_ReadsSized : (n : ℕ) (t : List ℕ) (r : Result (List ℕ) FromHexError) → ReadsSized t n r → DecodesToArray n t r
+DecodesToArray-from_ReadsSized n t r h = record {
+  answer = h;
+  accepts = sized_accepts n t r h;
+  round_trip = sized_round_trip n t r h;
+  agree = sized_agree n t r h;
+  unique = λ s k. one_sized_answer t n s r k h;
+}

@@ -1,7 +1,7 @@
 //! The body of a text, which is what follows the prefix: the rule of the prefix, the first invalid
 //! character, and decoding by a kernel.
 
-ghost use Rattle.std.specs.Prelude.{◌≡◌, ◌*◌, ◌%◌, ◌≤◌, ◌==◌, ◌&&◌, ◌||◌, true, false, length, slice_index, Err, IfErr, IfOk, IsTrue};
+ghost use Rattle.std.specs.Prelude.{◌≡◌, ◌*◌, ◌%◌, ◌≤◌, ◌==◌, ◌&&◌, ◌||◌, ◌↔◌, true, false, length, slice_index, Err, IfErr, IfOk, IsTrue};
 ghost use Rattle.const_hex_arch.specs.Texts.{AllDigits, FirstBad, Spells, Partial};
 ghost use Rattle.const_hex.specs.Results.{IsEven, IsOdd, Reads, body_of};
 ghost use Rattle.const_hex.specs.declared.error.FromHexError.TheVariants.{OddLength};
@@ -63,15 +63,16 @@ pub(crate) fn find_invalid_character(text: &[u8]) -> FromHexError
     }
 }
 
-/// The first byte that is not a digit, and its index.
-// Callers have already seen an invalid character. If another process removes it from shared memory
-// in between, the result is a NUL character at the index after the last byte, and nothing is read
-// out of bounds.
+/// The first byte that is not a digit, and its index. If every byte is a digit, a NUL character and
+/// the index after the last byte.
+// A caller that has already seen an invalid character may get the latter, if another process has
+// removed it from shared memory in between. Nothing is read out of bounds then.
 #[cold]
 pub(crate) fn find_first_bad(digits: &[u8]) -> (u8, usize)
     ensures bad { (AllDigits digits.now → ⊥) → FirstBad digits.now result.1 }
     ensures byte { result.0 ≡ slice_index digits.now result.1 }
     ensures within { result.1 ≤ length digits.now }
+    ensures all { (result.1 ≡ length digits.now) ↔ AllDigits digits.now }
 {
     let mut index = 0;
     'digits: while index < digits.len() {

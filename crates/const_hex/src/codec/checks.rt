@@ -5,7 +5,7 @@ ghost use Rattle.const_hex_arch.specs.Texts.{AllDigits};
 ghost use Rattle.const_hex.specs.Results.{ChecksText};
 ghost use Rattle.const_hex.specs.declared.error.FromHexError.{FromHexError};
 
-use crate::codec::body::{find_invalid_character, strip_even};
+use crate::codec::body::{find_first_bad, find_invalid_character, strip_even};
 use crate::error::FromHexError;
 use const_hex_arch::{FixedKernel, Kernel};
 
@@ -43,7 +43,10 @@ pub fn check_with<K: Kernel>(input: &[u8]) -> Result<(), FromHexError>
     }
 }
 
-/// As [`check`], with the same result for every text. Does not allocate.
+/// Returns what [`check`](crate::check) returns, for constants. Does not allocate.
+///
+/// It looks each digit up in a table, so its timing may depend on the text. At run time call
+/// `check`.
 ///
 /// ```rust
 /// let error = FromHexError::InvalidHexCharacter { c: 'z', index: 2 };
@@ -53,7 +56,11 @@ pub fn check_with<K: Kernel>(input: &[u8]) -> Result<(), FromHexError>
 pub fn const_check(input: &[u8]) -> Result<(), FromHexError>
     ensures { ChecksText input.now result }
 {
-    check(input)
+    match strip_even(input) {
+        Ok(body) if const_check_raw(body) => Ok(()),
+        Ok(_) => Err(find_invalid_character(input)),
+        Err(error) => Err(error),
+    }
 }
 
 /// Whether every byte is a digit. No prefix is allowed, and the length does not matter. Does not
@@ -70,7 +77,10 @@ pub fn check_raw(input: &[u8]) -> bool
     FixedKernel::check(input)
 }
 
-/// As [`check_raw`], with the same result for every text. Does not allocate.
+/// Returns what [`check_raw`](crate::check_raw) returns, for constants. Does not allocate.
+///
+/// It looks each digit up in a table, so its timing may depend on the text. At run time call
+/// `check_raw`.
 ///
 /// ```rust
 /// assert!(rt; const_hex::const_check_raw(b"6B6"));
@@ -79,5 +89,6 @@ pub fn check_raw(input: &[u8]) -> bool
 pub fn const_check_raw(input: &[u8]) -> bool
     ensures { IsTrue result ↔ AllDigits input.now }
 {
-    check_raw(input)
+    let (_, index) = find_first_bad(input);
+    index == input.len()
 }

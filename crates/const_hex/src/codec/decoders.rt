@@ -8,7 +8,7 @@ ghost use Rattle.const_hex.specs.declared.error.FromHexError.TheVariants.{OddLen
 use crate::codec::body::{decode_body, find_invalid_character, strip_even};
 use crate::error::FromHexError;
 use crate::reserved::decode_reserved;
-use const_hex_arch::{FixedKernel, Kernel};
+use const_hex_arch::{FixedKernel, Kernel, NIL, value_at};
 use std::alloc::Global;
 
 /// Decodes a text, with or without a prefix, in either case, to a vector of its bytes.
@@ -186,7 +186,11 @@ fn read_array<const N: usize>(input: &[u8]) -> Result<[u8; N], FromHexError>
     Ok(array)
 }
 
-/// As [`decode_to_array`], with the same result for every text. Does not allocate.
+/// Returns what [`decode_to_array`](crate::decode_to_array) returns, for constants. Does not
+/// allocate.
+///
+/// It looks each digit up in a table, so its timing may depend on the text. At run time call
+/// `decode_to_array`.
 ///
 /// ```rust
 /// let bytes = const_hex::const_decode_to_array::<4>(b"6B697769")?;
@@ -196,7 +200,25 @@ fn read_array<const N: usize>(input: &[u8]) -> Result<[u8; N], FromHexError>
 pub fn const_decode_to_array<const N: usize>(input: &[u8]) -> Result<[u8; N], FromHexError>
     ensures { DecodesToArray N input.now result }
 {
-    decode_to_array(input)
+    let body = match strip_even(input) {
+        Ok(body) => body,
+        Err(error) => return Err(error),
+    };
+    if body.len() / 2 != N {
+        return Err(FromHexError::InvalidStringLength);
+    }
+    let mut bytes = [0; N];
+    let mut index = 0;
+    'pairs: while index < N {
+        let high = value_at(body[2 * index]);
+        let low = value_at(body[2 * index + 1]);
+        if high == NIL || low == NIL {
+            return Err(find_invalid_character(input));
+        }
+        bytes[index] = high * 16 + low;
+        index += 1;
+    }
+    Ok(bytes)
 }
 
 /// Decodes a constant text to N bytes. Verification proves that it decodes to N bytes.

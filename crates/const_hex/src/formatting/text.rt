@@ -29,19 +29,19 @@ pub struct Display<'a> {
 
 impl Display<'_> {
     /// Writes the text, with `0x` before it if the formatter has `#`.
-    fn write<const UPPER: bool, W: fmt::Write>(&self, f: &mut fmt::Formatter<W>) -> fmt::Result
+    fn write<W: fmt::Write, const UPPER: bool>(&self, f: &mut fmt::Formatter<W>) -> fmt::Result
         ensures { WritesStyledOnOk W.write_str_gives f.old result
             (printed_text (spec_alternate (formatter_spec f.old)) UPPER self.now) f.new }
     {
         if f.alternate() {
-            self.write_full::<UPPER, true, W>(f)
+            self.write_full::<W, UPPER, true>(f)
         } else {
-            self.write_full::<UPPER, false, W>(f)
+            self.write_full::<W, UPPER, false>(f)
         }
     }
 
     /// Writes the text, with or without `0x` before it.
-    fn write_full<const UPPER: bool, const PREFIX: bool, W: fmt::Write>(
+    pub(crate) fn write_full<W: fmt::Write, const UPPER: bool, const PREFIX: bool>(
         &self,
         f: &mut fmt::Formatter<W>,
     ) -> fmt::Result
@@ -72,7 +72,7 @@ impl fmt::LowerHex for Display<'_> {
         ensures { WritesStyledOnOk W.write_str_gives f.old result
             (printed_text (spec_alternate (formatter_spec f.old)) false self.now) f.new }
     {
-        self.write::<false, W>(f)
+        self.write::<W, false>(f)
     }
 }
 
@@ -81,6 +81,6 @@ impl fmt::UpperHex for Display<'_> {
         ensures { WritesStyledOnOk W.write_str_gives f.old result
             (printed_text (spec_alternate (formatter_spec f.old)) true self.now) f.new }
     {
-        self.write::<true, W>(f)
+        self.write::<W, true>(f)
     }
 }

@@ -46,10 +46,10 @@ pub(crate) const fn find_invalid_character(text: &[u8]) -> FromHexError {
     }
 }
 
-/// The first byte that is not a digit, and its index.
-// Callers have already seen an invalid character. If another process removes it from shared memory
-// in between, the result is a NUL character at the index after the last byte, and nothing is read
-// out of bounds.
+/// The first byte that is not a digit, and its index. If every byte is a digit, a NUL character and
+/// the index after the last byte.
+// A caller that has already seen an invalid character may get the latter, if another process has
+// removed it from shared memory in between. Nothing is read out of bounds then.
 #[cold]
 pub(crate) const fn find_first_bad(digits: &[u8]) -> (u8, usize) {
     let mut index = 0;

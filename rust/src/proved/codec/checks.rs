@@ -2,7 +2,7 @@
 //! Whether a text can be decoded.
 
 use crate::rattle::prelude::*;
-use crate::proved::codec::body::{find_invalid_character, strip_even};
+use crate::proved::codec::body::{find_first_bad, find_invalid_character, strip_even};
 use crate::proved::error::FromHexError;
 use crate::proved::{FixedKernel, Kernel};
 
@@ -26,10 +26,17 @@ pub fn check_with<K: Kernel>(input: &[u8]) -> Result<(), FromHexError> {
     }
 }
 
-/// As [`check`], with the same result for every text. Does not allocate.
+/// Returns what [`check`](crate::check) returns, for constants. Does not allocate.
+///
+/// It looks each digit up in a table, so its timing may depend on the text. At run time call
+/// `check`.
 #[inline(always)]
-pub fn const_check(input: &[u8]) -> Result<(), FromHexError> {
-    check(input)
+pub const fn const_check(input: &[u8]) -> Result<(), FromHexError> {
+    match strip_even(input) {
+        Ok(body) if const_check_raw(body) => Ok(()),
+        Ok(_) => Err(find_invalid_character(input)),
+        Err(error) => Err(error),
+    }
 }
 
 /// Whether every byte is a digit. No prefix is allowed, and the length does not matter. Does not
@@ -39,8 +46,12 @@ pub fn check_raw(input: &[u8]) -> bool {
     FixedKernel::check(input)
 }
 
-/// As [`check_raw`], with the same result for every text. Does not allocate.
+/// Returns what [`check_raw`](crate::check_raw) returns, for constants. Does not allocate.
+///
+/// It looks each digit up in a table, so its timing may depend on the text. At run time call
+/// `check_raw`.
 #[inline(always)]
-pub fn const_check_raw(input: &[u8]) -> bool {
-    check_raw(input)
+pub const fn const_check_raw(input: &[u8]) -> bool {
+    let (_, index) = find_first_bad(input);
+    index == input.len()
 }

@@ -1,0 +1,33 @@
+use Rattle.std.proofs.Common.{◌*◌, arith, rules}
+use Rattle.std.proofs.lemmas.Grind.{common_steps}
+use Rattle.std.proofs.lemmas.List.{take_all}
+use Rattle.const_hex_arch.proofs.lemmas.Spelling.{pair_more}
+use Rattle.const_hex.proofs.lemmas.RoundTrip.{DecodesToArray-from_ReadsSized}
+use Rattle.const_hex.proofs.codec.decoders.const_decode_to_array.Goals as goal
+
+pub returns-in-Err : goal.returns-in-Err
+returns-in-Err g c = DecodesToArray-from_ReadsSized g.row.N c.args.input.now _ (search rules)
+
+pub returns-then-body : goal.returns-then-body
+returns-then-body g c = DecodesToArray-from_ReadsSized g.row.N c.args.input.now _ (search rules)
+
+pub returns-then-high : goal.returns-then-high
+returns-then-high g c = DecodesToArray-from_ReadsSized g.row.N c.args.input.now _ (search rules)
+
+pub pairs-preserved : goal.pairs-preserved
+pairs-preserved g c = record {
+  front =
+      pair_more c.in-Ok.body.now c.pairs.bytes c.pairs.index c.value_at-high.result c.value_at-low.result c.pairs.invariant.front (omega arith)
+      (omega arith) c.value_at-high.ensures c.value_at-low.ensures c.if-high.false c.if-low.false;
+  size = grind (arith, common_steps);
+  within = omega arith;
+}
+
+pub returns : goal.returns
+returns g c =
+    let body = c.in-Ok.ensures.body in
+    let even = c.in-Ok.ensures.even in
+    let spelled =
+    rw (take_all (2 * c.pairs.index) c.in-Ok.body.now (omega (arith, even.1)), take_all c.pairs.index c.pairs.bytes (omega arith)) at
+    c.pairs.invariant.front in
+    DecodesToArray-from_ReadsSized g.row.N c.args.input.now _ (rw (← body) (omega (arith, even.1)), (even.0, rw (← body) spelled))

@@ -1,0 +1,13 @@
+use Rattle.std.proofs.Common.{◌≡◌, ◌≤◌, ◌-◌, ◌*◌, length, take}
+use Rattle.const_hex_arch.specs.Texts.{Spells}
+use Rattle.const_hex.proofs.codec.decoders.const_decode_to_array.Given as goal
+
+abbrev pub invariant-pairs : goal.invariant-pairs
+invariant-pairs g l = record {
+  front : Spells (take (2 * l.index) l.body) (take l.index l.bytes);
+  size : length l.bytes ≡ g.row.N;
+  within : l.index ≤ g.row.N;
+}
+
+abbrev pub decreases-pairs : goal.decreases-pairs
+decreases-pairs g l = g.row.N - l.index
