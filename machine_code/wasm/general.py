@@ -14,15 +14,19 @@ from values import ZERO, are_constant, constants, number
 from wasm.module import SIZES
 from wasm.state import GREATEST, cut, merged, size_of
 
-HANDLERS = {}
+HANDLERS = {
+    "block": lambda state, i: state.open(i.operands[0]),
+    "end": lambda state, i: state.close(),
+    "br": lambda state, i: state.branch(i.operands[0]),
+    "return": lambda state, i: state.leave(),
+}
 
 
 def control(*names):
     """Gives a handler to instructions that do more than to compute a value of operands."""
 
     def register(function):
-        for name in names:
-            HANDLERS[name] = function
+        HANDLERS.update(dict.fromkeys(names, function))
         return function
 
     return register
@@ -46,8 +50,7 @@ def computed(takes, function):
 
 def instruction(*names, takes=()):
     def register(function):
-        for name in names:
-            HANDLERS[name] = computed(takes, function)
+        HANDLERS.update(dict.fromkeys(names, computed(takes, function)))
         return function
 
     return register
@@ -56,26 +59,11 @@ def instruction(*names, takes=()):
 # Blocks, branches and calls
 
 
-@control("block")
-def block(state, i):
-    state.open(i.operands[0])
-
-
 @control("loop")
 def loop(state, i):
     if state.operands:
         raise Fault("a loop above operands")
     state.open(state.next)
-
-
-@control("end")
-def end(state, i):
-    state.close()
-
-
-@control("br")
-def br(state, i):
-    return state.branch(i.operands[0])
 
 
 @control("br_if")
@@ -102,35 +90,24 @@ def call(state, i):
     return state.enter(function, arguments, state.next)
 
 
-@control("return")
-def return_(state, i):
-    return state.leave()
-
-
 @control("unreachable")
 def unreachable(state, i):
     raise Fault("the module traps")
 
 
-@instruction("local.get")
-def local_get(state, i):
-    return state.registers[state.local(i.operands[0])]
+def _register(state, i):
+    return state.local(i.operands[0]) if i.mnemonic.startswith("local") else f"global {i.operands[0]}"
 
 
-@control("local.set", "local.tee")
-def local_set(state, i):
+@instruction("local.get", "global.get")
+def get(state, i):
+    return state.registers[_register(state, i)]
+
+
+@control("local.set", "local.tee", "global.set")
+def set_(state, i):
     value = state.operands[-1] if i.mnemonic == "local.tee" else state.operands.pop()
-    state.registers[state.local(i.operands[0])] = value
-
-
-@instruction("global.get")
-def global_get(state, i):
-    return state.registers[f"global {i.operands[0]}"]
-
-
-@control("global.set")
-def global_set(state, i):
-    state.registers[f"global {i.operands[0]}"] = state.operands.pop()
+    state.registers[_register(state, i)] = value
 
 
 @control("select")
@@ -150,6 +127,11 @@ def select(state, i):
 @instruction("i32.const", "i64.const")
 def const(state, i):
     return constants(i.operands[0], SIZES[i.mnemonic[:3]])
+
+
+@instruction("v128.const")
+def vector_const(state, i):
+    return i.operands[0]
 
 
 def _shift(function):
@@ -228,20 +210,9 @@ def _store(width):
     return store
 
 
-for _name, _size, _width in [
-    ("i32.load", 4, 4),
-    ("i32.load8_u", 4, 1),
-    ("i32.load16_u", 4, 2),
-    ("i64.load", 8, 8),
-    ("v128.load", 16, 16),
-    ("v128.load64_zero", 16, 8),
-]:
-    HANDLERS[_name] = computed((4,), _load(_size, _width))
-for _name, _size, _width in [
-    ("i32.store", 4, 4),
-    ("i32.store8", 4, 1),
-    ("i32.store16", 4, 2),
-    ("i64.store", 8, 8),
-    ("v128.store", 16, 16),
-]:
-    HANDLERS[_name] = computed((4, _size), _store(_width))
+# How many bytes are read and written.
+LOADS = {"load": 4, "load8_u": 1, "load16_u": 2}, {"load": 8}, {"load": 16, "load64_zero": 8}
+STORES = {"store": 4, "store8": 1, "store16": 2}, {"store": 8}, {"store": 16}
+for (_type, _size), _loads, _stores in zip(SIZES.items(), LOADS, STORES):
+    HANDLERS |= {f"{_type}.{name}": computed((4,), _load(_size, width)) for name, width in _loads.items()}
+    HANDLERS |= {f"{_type}.{name}": computed((4, _size), _store(width)) for name, width in _stores.items()}

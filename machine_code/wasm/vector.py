@@ -56,11 +56,6 @@ def _handler(operation):
 HANDLERS |= {name: _handler(operation) for name, operation in OPERATIONS.items()}
 
 
-@instruction("v128.const")
-def const(state, i):
-    return i.operands[0]
-
-
 @instruction("i16x8.shr_u", takes=(V, I))
 def shift(state, i, vector, count):
     if not are_constant(count):
