@@ -6,7 +6,7 @@ returns where to go on if that is not the next instruction.
 
 import operator
 
-from aarch64.state import CODES, Known, extended
+from aarch64.state import CODES, PAGE, Known, extended
 from arithmetic import added, complement, logic, selected, shifted, subtracted
 from disassembly import adding_to
 from exploration import RETURNED
@@ -45,7 +45,10 @@ def _operands(state, i):
 @instruction("add", "adds", "cmn")
 def add(state, i):
     first, second = _operands(state, i)
-    result = added(first, second)
+    if (place := state.place_named_here()) is not None:
+        result = state.place_in_page(first, place)
+    else:
+        result = added(first, second)
     if i.mnemonic != "cmn":
         state.write(i.operands[0], result)
     if i.mnemonic != "add":
@@ -103,8 +106,11 @@ def low_bits(state, i):
 
 
 @instruction("adrp")
-def address_of(state, i):
-    state.write(i.operands[0], Pointer("image", i.operands[1]))
+def page_of(state, i):
+    place = state.place_named_here()
+    if place is None:
+        raise Fault("the page of no symbol")
+    state.write(i.operands[0], Pointer(PAGE, place))
 
 
 # Choices

@@ -7,6 +7,7 @@ from linear import Linear
 from memory import Fault, Pointer, as_lane, from_lane, is_whole
 from values import ZERO, apply, constants
 
+PAGE = "page of image"  # the region of a pointer to the page of a place, which is its offset
 GENERAL = (*(f"x{at}" for at in range(31)), "sp")
 VECTORS = tuple(f"v{at}" for at in range(32))
 
@@ -78,12 +79,26 @@ class State(state.State):
             rest = self.sizes[register.family] - len(value)
             self.registers[register.family] = from_lane(value + (ZERO,) * rest)
 
+    def place_named_here(self):
+        """The place that this instruction refers to by a relocation, or None."""
+        image = self.memory.regions.get("image")
+        return image and image.object.place_named_at(self.at)
+
+    def place_in_page(self, base, place):
+        """The place whose page an address has and whose lower bits an instruction adds. Only the linker knows
+        where pages begin, so both have to be of the same place."""
+        if base != Pointer(PAGE, place):
+            raise Fault("the lower bits of another place than the page")
+        return Pointer("image", place)
+
     def parts(self, address):
-        found = [(self.read(address.base), 1)]
+        found, displacement = [(self.read(address.base), 1)], address.displacement
+        if (place := self.place_named_here()) is not None:
+            found, displacement = [(self.place_in_page(found[0][0], place), 1)], 0
         if address.index:
             index = extended(self.read(address.index), address.extension.kind, 8)
             found.append((index, 1 << address.extension.count))
-        return found, address.displacement
+        return found, displacement
 
     def stack_pointer(self, address):
         """It has to be aligned if it is a base, and is moved before the access if the address says so."""

@@ -6,7 +6,7 @@ import subprocess
 import tempfile
 
 from aarch64.decoding import Address, Extension, Register
-from aarch64.state import CODES, GENERAL, VECTORS, Known
+from aarch64.state import CODES, GENERAL, PAGE, VECTORS, Known
 from memory import Pointer
 from tests.processor import MIDDLE, SIZE, Processor, Result
 from values import constants
@@ -72,6 +72,17 @@ class Emulated(Processor):
         if operand.base.family != "sp":
             place = MIDDLE + 64 * some.randrange(16)
             state.registers[operand.base.family] = Pointer("scratch", place - offset - operand.displacement)
+
+    def prepare(self, state, instruction):
+        """Where the lower bits of a place are added, its page is the base."""
+        if (place := state.place_named_here()) is not None and instruction.mnemonic != "adrp":
+            base = next((o.base for o in instruction.operands if type(o) is Address), instruction.operands[1])
+            state.registers[base.family] = Pointer(PAGE, place)
+
+    def number(self, pointer):
+        if pointer.region == PAGE:
+            return self.text_base + pointer.offset & -4096
+        return super().number(pointer)
 
     def run(self, instruction, given):
         registers = b"".join(given.registers[name] for name in GENERAL)

@@ -93,6 +93,20 @@ def constant(pattern, offset, value, which=0):
     return change
 
 
+def relocated(pattern, distance, which=0):
+    """The relocation of an instruction is for a place that is so far away."""
+
+    def change(code, function):
+        section, user = find(code, function, pattern, which)
+        for at, (offset, kind, symbol, addend) in enumerate(section.references):
+            if section.address + offset == user.address:
+                section.references[at] = offset, kind, symbol, addend + distance
+                return user
+        raise LookupError(f"{user.text} has no relocation")
+
+    return change
+
+
 def detour(text, size=5):
     """At the start of a function, other instructions run before the first ones, which depend on no place. These
     have `size` bytes on x86-64, and 4 on AArch64."""

@@ -33,6 +33,9 @@ class Processor:
     def close(self):
         """Ends what runs beside this process."""
 
+    def prepare(self, state, instruction):
+        """Changes what else an instruction needs."""
+
     def form_of(self, instruction):
         """The mnemonic and the kinds of the operands."""
         return " ".join([instruction.mnemonic, *map(self.kind_of, instruction.operands)])
@@ -44,14 +47,16 @@ class Processor:
         content = tuple([CONSTANTS[byte] for byte in scratch])
         memory = Memory([Region("scratch", SIZE, True, 4096, content), Image(self.object)])
         state = self.code.front_end.State(memory)
+        state.at = instruction.address
         for name, size in state.sizes.items():
             state.registers[name] = tuple([CONSTANTS[byte] for byte in _random_bytes(some, size)])
         state.registers[state.top] = Pointer("scratch", MIDDLE)
         if instruction.mnemonic not in self.NO_ACCESS:
             for operand in instruction.operands:
                 self.point(state, operand, some)
+        self.prepare(state, instruction)
         flags = some.getrandbits(32) & self.FLAGS
-        state.flags, state.at = self.known(flags), instruction.address
+        state.flags = self.known(flags)
         given = {name: bytes(map(self.byte, as_lane(value))) for name, value in state.registers.items()}
         found = self.run(instruction, Result(given, flags, False, scratch))
         self.code.step(state)
@@ -85,8 +90,10 @@ class Processor:
         """The number of a byte, which may be one of a pointer."""
         if hasattr(byte, "table"):
             return byte.value
-        base = self.scratch_base if byte.whole.region == "scratch" else self.text_base
-        return (base + byte.whole.offset) % (1 << 64) >> 8 * byte.index & 255
+        return self.number(byte.whole) % (1 << 64) >> 8 * byte.index & 255
+
+    def number(self, pointer):
+        return pointer.offset + (self.scratch_base if pointer.region == "scratch" else self.text_base)
 
 
 def _random_bytes(some, count):

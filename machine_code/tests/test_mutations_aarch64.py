@@ -3,7 +3,7 @@
 import unittest
 
 from tests.library import needs_aarch64
-from tests.mutations import constant, detour, replaced
+from tests.mutations import constant, detour, relocated, replaced
 from tests.test_mutations import (
     CALL, DECODE, DIGITS, ENCODE, EXACT, PREFIX, PREFIXED, SEARCH, START, TEXT, WAITS, add_tests)
 
@@ -65,6 +65,8 @@ MUTATIONS = [
      detour("movi v8.16b, #1"), "v8 is not as before"),
     ("the stack is not restored", DIGITS, 20, CALL,
      replaced(r"^ldp x29, x30, \[sp\], #16", "ldp x29, x30, [sp]"), "the stack is not as before"),
+    ("the lower bits of another constant", ENCODE, 150, CALL,
+     relocated(r"^add x13, x13, #", 16), "the lower bits of another place than the page"),
     ("a store below the stack", DIGITS, 20, CALL,
      replaced(r"^stp x29, x30, \[sp, #-16\]!", "stp x29, x30, [sp, #-16]"), "an access below the stack"),
     ("a saved register is not restored", DECODE, 20, CALL,
