@@ -39,16 +39,12 @@ _Static_assert(sizeof(unsigned) == 4 && sizeof(bool) == 1, "flags or a result ha
 
 #include <cpuid.h>
 
-/* Which registers the system saves, by the bits of xgetbv: 2 are those of SSE, 4 those of AVX. A test has its own. */
-#ifdef CONST_HEX_TESTED_REGISTERS
-unsigned saved_registers(void);
-#else
+/* Which registers the system saves, by the bits of xgetbv: 2 are those of SSE, 4 those of AVX. */
 static inline unsigned saved_registers(void) {
     unsigned low, high;
     __asm__ volatile("xgetbv" : "=a"(low), "=d"(high) : "c"(0));
     return low;
 }
-#endif
 
 /* Whether the word has all the bits. */
 #define HAS(bits, word) (((word) & (bits)) == (bits))
