@@ -65,11 +65,11 @@
  * says, for all inputs. The contracts are in crates/const_hex_c; this header states them in prose.
  *
  * The machine code is verified too, against this header, by the separate tool in machine_code: every function
- * except const_hex_error_message, on x86-64 in both builds, for every length below 2^53, and the C code in
- * c/dispatch.c, which detects the CPU and handles a NULL error.
+ * except const_hex_error_message on AArch64, on x86-64 in both builds, for every length below 2^53, and the C
+ * code in c/dispatch.c, which detects the CPU and handles a NULL error.
  *
- * Tested and not verified are: that const_hex_error_message writes a message, and how it shows an invalid
- * character. That this header agrees with the contracts of crates/const_hex_c and of machine_code was
+ * Tested and not verified are, on AArch64: that const_hex_error_message writes a message, and how it shows an
+ * invalid character. That this header agrees with the contracts of crates/const_hex_c and of machine_code was
  * reviewed.
  *
  * CONSTANT TIME
@@ -89,10 +89,10 @@
  * x86-64-v3 (AVX2 and what came with it), which is used if the CPU supports it. The first call detects that
  * and stores the result in one byte; nothing else is kept between calls.
  *
- * A function uses less than 2 KB of stack: the tool machine_code checks this, except for
- * const_hex_error_message. The object files have no unwind tables: a debugger or profiler that stops inside a
- * function may not find its caller. They have no IBT and SHSTK properties: a program that links them
- * statically runs without these protections.
+ * A function uses less than 2 KB of stack, apart from what memcpy and memmove use: the tool machine_code checks
+ * this, except for const_hex_error_message on AArch64. The object files have no unwind tables: a debugger or
+ * profiler that stops inside a function may not find its caller. They have no IBT and SHSTK properties: a
+ * program that links them statically runs without these protections.
  *
  * BUILDING
  *

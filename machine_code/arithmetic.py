@@ -3,9 +3,34 @@
 import itertools
 import operator
 
-from linear import GREATEST_SIGNED, Linear, Split, in_range, linear, unknown_bit
+from decimals import Product, is_decimal, low_bytes, of_low_bytes
+from linear import (
+    GREATEST,
+    GREATEST_SIGNED,
+    Linear,
+    Split,
+    constant_of,
+    in_range,
+    linear,
+    terms_of,
+    unknown_bit,
+)
 from memory import Fault, Pointer, as_value, is_whole
-from values import CONSTANTS, ZERO, TooWide, apply, are_constant, each, joined, masked, number, unknown
+from values import (
+    CONSTANTS,
+    ZERO,
+    Byte,
+    TooWide,
+    apply,
+    are_constant,
+    constants,
+    each,
+    joined,
+    masked,
+    number,
+    parts_of,
+    unknown,
+)
 
 _count = itertools.count()
 
@@ -19,8 +44,8 @@ def as_number(value):
     """The number that a register holds, if it is known but for symbols: from -2**63 on."""
     if type(value) is Linear:
         return value
-    if type(value) is Pointer:
-        raise Fault("a pointer is used as a number")
+    if is_whole(value):
+        raise Fault("a pointer or a product is used as a number")
     if not are_constant(value):
         raise TooWide("a number that depends on an unknown byte")
     return signed(number(value), len(value))
@@ -32,6 +57,18 @@ def as_unsigned(value):
     return found + (1 << 64) if type(found) is int and found < 0 else found
 
 
+def anything(*name):
+    """A number of 8 bytes that may be any, with a name that says what it is."""
+    return tuple([unknown(*name, at) for at in range(8)])
+
+
+def named(lane, kind):
+    """What the name of a number that may be any says, if it is of this kind; or None."""
+    first = lane[0] if type(lane) is tuple else None
+    name = parts_of(first.support[0])[:-1] if type(first) is Byte and len(first.support) == 1 else ("",)
+    return name[1:] if name[0] == kind and lane == anything(*name) else None
+
+
 def moved(pointer, distance):
     offset = pointer.offset + distance
     return Pointer(pointer.region, signed(offset) if type(offset) is int else offset)
@@ -41,7 +78,8 @@ def added(first, second):
     if type(second) is Pointer:
         first, second = second, first
     if type(first) is Pointer:
-        return moved(first, as_number(second))
+        negated = named(second, "negated")
+        return subtracted(first, Pointer(*negated)) if negated else moved(first, as_number(second))
     if type(first) is Linear or type(second) is Linear:
         return as_value(as_number(first) + as_number(second))
     return apply(operator.add, len(first), [first, second])
@@ -50,17 +88,49 @@ def added(first, second):
 def subtracted(first, second):
     if type(first) is Pointer and type(second) is Pointer:
         if first.region != second.region:
-            # It may be anything.
-            count = next(_count)
-            return tuple([unknown("difference", count, at) for at in range(8)])
+            is_known = type(first.offset) is type(second.offset) is int
+            return anything("difference", *first, *second) if is_known else anything("number", next(_count))
         return as_value(first.offset - second.offset)
     if type(first) is Pointer:
         return moved(first, -as_number(second))
     if type(second) is Pointer:
+        if first == constants(0, 8) and type(second.offset) is int:
+            return anything("negated", *second)
         raise Fault("a pointer is subtracted from a number")
+    low = _by_low_bytes(operator.sub, first, second)
+    if low:
+        return low
     if type(first) is Linear or type(second) is Linear:
         return as_value(as_number(first) - as_number(second))
     return apply(operator.sub, len(first), [first, second])
+
+
+def _by_low_bytes(function, first, second):
+    """A function of numbers by their digits, of which the lanes are the lowest bytes; or None."""
+    numbers = [None if is_whole(lane) else of_low_bytes(lane) for lane in (first, second)]
+    if None in numbers or not any(map(is_decimal, numbers)):
+        return None
+    result, size = function(*numbers), len(first)
+    return low_bytes(linear(constant_of(result) % (1 << 8 * size), terms_of(result)), size)
+
+
+def multiplied(first, second):
+    """The product, with as many bytes as a factor."""
+    return _by_low_bytes(operator.mul, first, second) or apply(operator.mul, len(first), [first, second])
+
+
+def product(first, second):
+    """The lower and the upper half of a product of 8 bytes each. The lower one of a number by its digits may
+    be anything."""
+    if type(first) is not Product and not is_decimal(first):
+        first, second = second, first
+    if is_decimal(first):
+        first = Product(in_range(first, 0, GREATEST))
+    if type(first) is Product:
+        upper = first.times(as_unsigned(second))
+        return anything("number", next(_count)), upper
+    both = apply(operator.mul, 16, [first, second])
+    return both[:8], both[8:]
 
 
 def complement(value):
@@ -81,7 +151,7 @@ def logic(name, first, second):
     """AND, OR or XOR."""
     if type(first) is Pointer or type(second) is Pointer:
         raise Fault(f"{name.upper()} of a pointer")
-    if type(first) is Linear and first == second and name != "xor":
+    if first == second and name != "xor":
         return first
     if type(first) is Linear or type(second) is Linear:
         return as_value(_logic_of_number(name, first, as_number(second)))
@@ -110,6 +180,12 @@ def shifted(function, value, count):
         raise Fault("a shift of a pointer")
     if type(value) is Linear and function is operator.lshift:
         return as_value(value * (1 << count))
+    if type(value) is Product or is_decimal(value):
+        if function is operator.lshift:
+            raise Fault("a shift of a product to the left")
+        whole = value if type(value) is Product else Product(in_range(value, 0, GREATEST))
+        result = whole.shifted(count)
+        return constants(result, 8) if type(result) is int else result
     if type(value) is Linear:
         odd = [name for name, factor in value.terms if factor % 2]
         if odd and not {"done", "left"} & {*odd}:

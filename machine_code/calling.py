@@ -1,7 +1,8 @@
 """How a function is called and returns: what the front ends for processors have in common."""
 
-from exploration import require
-from memory import Fault, Image, Memory, Pointer, Region, is_whole
+from arithmetic import as_number
+from exploration import RETURNED, require
+from memory import Fault, Image, Memory, Pointer, Region, as_lane, from_lane, is_whole
 from values import constants, unknown
 
 RETURN = Pointer("return", 0)
@@ -62,6 +63,39 @@ class FrontEnd:
             return state.registers[self.ARGUMENTS[at]]
         place = state.registers[state.top].offset + self.PUSHED + 8 * (at - len(self.ARGUMENTS))
         return state.memory.load(Pointer("stack", place), 8)
+
+    def return_from_call(self, state, count, result):
+        """The state after a function with so many arguments, which is not in the object, has returned: what
+        it need not keep may be anything."""
+        top, calls = state.registers[state.top].offset, state.memory.regions["stack"].calls
+        back = self.return_address(state)
+        require(type(back) is Pointer and back.region in ("image", "return"), "where a call returns to")
+        state.last, state.at = state.at, back.offset if back.region == "image" else RETURNED
+        kept = self.KEPT | {state.top: 8}
+        for name, size in state.sizes.items():
+            value = as_lane(state.registers[name])[: kept.get(name, 0)]
+            value += tuple([unknown("after the call", calls, name, at) for at in range(len(value), size)])
+            state.registers[name] = from_lane(value)
+        state.memory.change_below("stack", top + self.frame(count))
+        state.registers |= {state.top: Pointer("stack", top + self.PUSHED), self.RESULT: result}
+        state.flags = None
+
+    def copy_bytes(self, state):
+        """`memcpy` and `memmove`, by their specification: of bytes that do not overlap."""
+        target, source, count = (self.argument(state, at) for at in range(3))
+        count = as_number(count)
+        if type(count) is not int or count < 0:
+            raise Fault("a copy of an unknown number of bytes")
+        if count:
+            lane = state.memory.load(source, count)
+            distance = target.offset - source.offset if target.region == source.region else count
+            if type(distance) is not int or abs(distance) < count:
+                raise Fault("a copy of bytes that may overlap")
+            state.memory.store(target, lane)
+        self.return_from_call(state, 3, target)
+
+    # The functions of the C library that are called.
+    LIBRARY = {"memcpy": copy_bytes, "memmove": copy_bytes}
 
     def pointers(self, state):
         """The registers of a call that hold pointers."""

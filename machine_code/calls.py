@@ -40,6 +40,7 @@ from exploration import named, outcomes, require
 from induction import prove_class, prove_length, with_nulls
 from linear import lower, symbol
 from memory import Pointer, Region, as_lane, as_value
+from messages import messages
 from values import CONSTANTS, ZERO, apply, constants, kept, unknown, variable
 
 HEADER = pathlib.Path(__file__).resolve().parent.parent / "c" / "const_hex.h"
@@ -57,6 +58,8 @@ class Case:
     regions: list
     judge: Callable
     assume: Callable = None
+    may_leak: bool = False
+    is_quick: bool = True
 
     def prove(self, code, function):
         """Gives how many states were judged."""
@@ -67,7 +70,7 @@ class Case:
         for end in ends:
             with named(code, "at the return", end.last):
                 code.front_end.has_returned(end)
-                require(not end.leaks, "an address depends on an unknown byte")
+                require(self.may_leak or not end.leaks, "an address depends on an unknown byte")
                 require(not end.selects, SELECTS)
                 self.judge(code, end)
         return len(ends)
@@ -80,16 +83,25 @@ def _size_beside(flags):
     return 2 * bool(flags & PREFIX) + int(not flags & NO_NUL)
 
 
+def _any(first, last):
+    """Any number from the first to the last."""
+    return symbol(f"up to {last - first}", last - first) + first if first < last else first
+
+
 def _encoded_size_cases():
-    """The greatest length whose size fits is `most`."""
+    """The greatest length whose size fits is `most`. The code may compare a length as a signed number."""
+    middle = 1 << 63
     for flags in range(8):
         beside = _size_beside(flags)
         most = (SIZE_MAX - beside) // 2
-        fits, too_long = symbol(f"up to {most}", most), symbol(f"beyond {most}", SIZE_MAX - most - 1)
-        for length, size in ((fits, fits * 2 + beside), (too_long + (most + 1), SIZE_MAX)):
-            yield Case(f"flags {flags}, {length} bytes", [length, constants(flags, 4)], [], _returns(size))
-    arguments = [symbol("any", SIZE_MAX), _flags_beyond(0)]
-    yield Case("unknown flags", arguments, [], _returns(SIZE_MAX), _beyond(0))
+        for first, last in ((0, most), (most + 1, middle - 1), (middle, SIZE_MAX)):
+            length = _any(first, last)
+            size = length * 2 + beside if last == most else SIZE_MAX
+            if first <= last:
+                yield Case(f"flags {flags}, {length} bytes", [length, constants(flags, 4)], [], _returns(size))
+    for length in (_any(0, middle - 1), _any(middle, SIZE_MAX)):
+        arguments = [length, _flags_beyond(0)]
+        yield Case(f"unknown flags, {length} bytes", arguments, [], _returns(SIZE_MAX), _beyond(0))
 
 
 def _returns(wanted):
@@ -279,7 +291,7 @@ class Call:
     def parts(self):
         """What is proved alone: the cases, the short lengths, and the classes of all others: of those that
         are longer by rounds."""
-        yield from (("case", at) for at in range(len(self.cases)))
+        yield from (("case" if case.is_quick else "slow case", at) for at, case in enumerate(self.cases))
         for at, form in enumerate(self.forms):
             for length in range(form.shortest, 2 * self.size + 2 + form.body, self.step):
                 yield ("length" if length < self.size + 2 + form.body else "class", at, length)
@@ -288,7 +300,7 @@ class Call:
         """Gives how many states were judged."""
         kind, at, *rest = part
         with lower(code.front_end.LIMITS):
-            if kind == "case":
+            if "case" in kind:
                 return self.cases[at].prove(code, function)
             if kind == "length":
                 return prove_length(code, function, self.forms[at], *rest)
@@ -296,7 +308,7 @@ class Call:
 
     def name_of(self, part):
         kind, at, *rest = part
-        if kind == "case":
+        if "case" in kind:
             return self.cases[at].name
         lengths = f"length {rest[0]}" if kind == "length" else f"lengths {rest[0]} + {self.size} * n"
         return f"{self.forms[at].name}, {lengths}"
@@ -311,6 +323,7 @@ CALLS = {
     "decoder_finish": Call([], finishes(8)),
     "check": Call([Check(0), Check(2)], _text_failures("check"), 128, 2),
     "check_raw": Call([CheckRaw()], [], 128),
+    "error_message": Call([], messages(Case)),
     "version": Call([], _version()),
 }
 

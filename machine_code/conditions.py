@@ -14,6 +14,15 @@ from values import CONSTANTS, apply, byte_of, kept, parts, parts_of
 ALL = bytes([1]) * 256
 
 
+# What is no secret: bits of lengths and positions, what the CPU says that it is, and what the object itself
+# keeps between calls.
+PUBLIC = ("bits", "cpuid", "xgetbv", "image")
+
+
+def is_public(byte):
+    return all(parts_of(variable)[0] in PUBLIC for variable in byte.support)
+
+
 class Condition:
     __slots__ = ("atoms", "is_negated")
 
@@ -99,20 +108,19 @@ class Impossible(Exception):
     """No input takes this path."""
 
 
-_decided = {}
+_found = {}
 
 
-def _decide(table, sets):
-    """Whether an atom holds for all allowed values (True), for none (False), or for some (None)."""
+def _values(table, sets):
+    """The entries of a table for all allowed values."""
     key = (table, sets)
-    if key not in _decided:
+    if key not in _found:
         if len(sets) == 1:
-            found = {value for value, is_allowed in zip(table, sets[0]) if is_allowed}
+            _found[key] = {value for value, is_allowed in zip(table, sets[0]) if is_allowed}
         else:
             rows = [table[256 * at : 256 * at + 256] for at in range(256) if sets[0][at]]
-            found = {value for row in rows for value, is_allowed in zip(row, sets[1]) if is_allowed}
-        _decided[key] = (1 in found) if len(found) == 1 else None
-    return _decided[key]
+            _found[key] = {value for row in rows for value, is_allowed in zip(row, sets[1]) if is_allowed}
+    return _found[key]
 
 
 class Path:
@@ -150,10 +158,16 @@ class Path:
                 return allowed
         return ALL
 
+    def values(self, byte):
+        """The values that a byte may have."""
+        if byte.is_constant:
+            return {byte.value}
+        return _values(byte.table, tuple([self.allowed(variable) for variable in byte.support]))
+
     def decide_atom(self, atom):
-        if atom.is_constant:
-            return bool(atom.value)
-        return _decide(atom.table, tuple([self.allowed(variable) for variable in atom.support]))
+        """Whether an atom holds for all allowed values (True), for none (False), or for some (None)."""
+        found = self.values(atom)
+        return (1 in found) if len(found) == 1 else None
 
     def decide(self, condition):
         """True or False if the condition is decided by what is known, otherwise None."""

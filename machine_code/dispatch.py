@@ -5,8 +5,9 @@ that a NULL error becomes a pointer to a local one, and the result is what the b
 may be two builds, and x86_64/choice.py says which one has to be called.
 """
 
+from arithmetic import anything
 from exploration import RETURNED, outcomes, require
-from memory import Pointer, as_lane, from_lane
+from memory import Pointer, as_lane
 from values import constants, unknown
 
 # How many arguments a function has, and which of them is an error that may be NULL.
@@ -55,26 +56,11 @@ def _called(code, name, state, given, error):
 
 
 def _returned(code, state, count, error):
-    """The state after a build has returned: it has kept what it has to, and its result is anything."""
-    other, front_end = state.copy(), code.front_end
-    top, calls = state.registers[state.top].offset, len(other.trail)
-    back = front_end.return_address(state)
-    require(type(back) is Pointer and back.region in ("image", "return"), "where a build returns to")
-    other.at = back.offset if back.region == "image" else RETURNED
-    other.registers[state.top] = Pointer("stack", top + front_end.PUSHED)
-    kept = front_end.KEPT | {state.top: 8}
-    for name, size in other.sizes.items():
-        value = as_lane(other.registers[name])[: kept.get(name, 0)]
-        value += tuple([unknown("after the call", calls, name, at) for at in range(len(value), size)])
-        other.registers[name] = from_lane(value)
-    other.registers[front_end.RESULT] = tuple([unknown("result", at) for at in range(8)])
-    other.flags = None
-    # Its stack, its arguments there, and the error may hold anything.
-    changed = [at for at in other.memory.written("stack") if at < top]
-    changed += range(top, top + front_end.frame(count))
-    changed += range(error.offset, error.offset + 16) if error else ()
-    for at in changed:
-        other.memory.store(Pointer("stack", at), (unknown("after the call", calls, at),))
+    """The state after a build has returned: its result and the error may be anything."""
+    other = state.copy()
+    code.front_end.return_from_call(other, count, anything("result"))
+    for at in range(error.offset, error.offset + 16) if error else ():
+        other.memory.store(Pointer("stack", at), (unknown("after the call", at),))
     return other
 
 

@@ -2,13 +2,13 @@
 
 import contextlib
 
-from conditions import Impossible
+from conditions import Impossible, is_public
 from linear import Split, Unknown, cases_of
 from memory import Fault
 from values import TooWide
 
 MOST_STEPS = 50_000
-MOST_SPLITS = 32
+MOST_SPLITS = 64
 
 
 class Refused(Exception):
@@ -51,7 +51,12 @@ class Code:
         return found
 
     def step(self, state):
-        """Runs one instruction. It raises `Fork` or `Split` before it changes anything."""
+        """Runs one instruction, or a function of the C library. It raises `Fork` or `Split` before it changes
+        anything."""
+        library = self.front_end.LIBRARY
+        function = library.get(self.object.undefined.get(state.at)) if library else None
+        if function:
+            return function(self.front_end, state)
         instruction = self.at(state.at)
         handler = self.front_end.HANDLERS.get(instruction.mnemonic)
         if handler is None:
@@ -91,7 +96,6 @@ def outcomes(code, state, places=(), may_stay=False):
     With `may_stay` the state's own place counts too.
     """
     waiting = [(state, not may_stay)]
-    splits = 0
     while waiting:
         state, must_move = waiting.pop()
         try:
@@ -102,8 +106,7 @@ def outcomes(code, state, places=(), may_stay=False):
                     raise Fault("it does not end")
             yield state
         except Split as split:
-            splits += 1
-            if splits > MOST_SPLITS:
+            if sum(kind == "length" for kind, *_ in state.trail) == MOST_SPLITS:
                 raise Refused(f"{code.shown(state.at)}: too many cases of how long the input is")
             waiting += [(other, must_move) for other in split_states(state, split)]
         except Fork as fork:
@@ -129,7 +132,8 @@ def sides(code, state, condition):
             continue
         if other.path.decide(side) is not True:
             raise Refused(f"{code.shown(state.at)}: a condition that cannot be kept")
-        other.trail = (*state.trail, ("bytes", state.at, side is condition))
+        kind = "public" if all(map(is_public, condition.atoms)) else "bytes"
+        other.trail = (*state.trail, (kind, state.at, side is condition))
         yield other
 
 
@@ -140,4 +144,4 @@ def require_one_path(states):
     for at, first in enumerate(states):
         for second in states[at + 1 :]:
             kind = next((a[0] for a, b in zip(first.trail, second.trail) if a != b), "bytes")
-            require(kind == "length", "accepted inputs of one length have more than one path")
+            require(kind != "bytes", "accepted inputs of one length have more than one path")

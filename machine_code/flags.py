@@ -5,7 +5,7 @@ An answer is a condition on unknown bytes. Flags that an instruction leaves unde
 used.
 """
 
-from arithmetic import as_number, as_unsigned, signed
+from arithmetic import as_number, as_unsigned, named, signed
 from conditions import FALSE, are_equal, are_zero, conjunction, constant
 from linear import GREATEST, GREATEST_SIGNED, Linear, Unknown, in_range, is_zero, least_of, most_value
 from memory import Fault, Pointer, with_replaced
@@ -54,7 +54,18 @@ class Flags:
             return constant(self._of_pointers(code, state.memory))
         if Linear in kinds:
             return constant(self._of_numbers(code))
+        difference = self.kind == "sub" and named(self.first, "difference")
+        if difference and code in ("b", "be"):
+            return constant(self._is_within(difference, code == "be", state.memory))
         return self._of_lanes(code, state.decide)
+
+    def _is_within(self, difference, or_equal, memory):
+        """Whether a pointer is among so many bytes from another one on: it is not, if they lie in two
+        regions."""
+        region, offset, other, start = difference
+        memory.region_of(Pointer(region, offset), 1, "an order of pointers")
+        memory.region_of(Pointer(other, start), as_unsigned(self.second) + or_equal, "an order of pointers")
+        return False
 
     def _of_lanes(self, code, decide):
         if code == "e" or (code == "be" and self.kind == "logic"):
@@ -98,6 +109,10 @@ class Flags:
             return is_zero(
                 as_number(self.first) - as_number(self.second) if self.kind == "sub" else self.result
             )
+        if self.kind == "logic" and code == "s":
+            is_negative = least_of(self.result) > GREATEST_SIGNED
+            in_range(self.result, *((GREATEST_SIGNED + 1, GREATEST) if is_negative else (0, GREATEST_SIGNED)))
+            return is_negative
         raise Fault(f"flag {code} of {self.kind} of a number with symbols")
 
     def _of_pointers(self, code, memory):

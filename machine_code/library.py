@@ -39,7 +39,9 @@ def builds_of(archive):
 
 
 def calls_of(build):
-    return wasm.calls.CALLS if build == WASM else CALLS
+    if build == WASM:
+        return wasm.calls.CALLS
+    return {name: call for name, call in CALLS.items() if build != "aarch64" or name != "error_message"}
 
 
 def code_of(archive, build):

@@ -16,9 +16,15 @@ from values import CONSTANTS, apply, unknown
 MOST_TURNS = 1 << 53
 GREATEST = (1 << 64) - 1
 GREATEST_SIGNED = (1 << 63) - 1
+# The names of decimal digits begin with this (decimals.py). They stay what they are.
+DIGIT = "digit "
 _limits = {}
 _lower_limits = {}
 _count = itertools.count()
+
+
+class Unknown(Exception):
+    """A number is used in a way that has no answer here."""
 
 
 class Split(Exception):
@@ -26,13 +32,11 @@ class Split(Exception):
     odd."""
 
     def __init__(self, *symbols, by_parity=False):
+        if any(name.startswith(DIGIT) for name in symbols):
+            raise Unknown(f"a question of {' and '.join(symbols)}")
         super().__init__(f"a question of {' and '.join(symbols)}")
         self.symbols = symbols
         self.by_parity = by_parity
-
-
-class Unknown(Exception):
-    """A number is used in a way that has no answer here."""
 
 
 class Linear:

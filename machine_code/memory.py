@@ -9,6 +9,7 @@ import copy
 import itertools
 from collections import namedtuple
 
+from decimals import Product
 from linear import Linear, Unknown, constant_of, is_surely_below, linear, most_of, replaced, terms_of
 from values import CONSTANTS, WholeByte, constants, unknown
 
@@ -21,8 +22,8 @@ class Fault(Exception):
 
 
 def is_whole(value):
-    """Whether a value of 8 bytes is a pointer or a number with symbols, and so no lane."""
-    return type(value) is Pointer or type(value) is Linear
+    """Whether a value is a pointer, or a number with symbols or a product of one, and so no lane."""
+    return type(value) in (Pointer, Linear, Product)
 
 
 def as_value(number):
@@ -47,6 +48,8 @@ def with_replaced(value, name, by):
         return Pointer(value.region, replaced(value.offset, name, by))
     if type(value) is Linear:
         return as_value(replaced(value, name, by))
+    if type(value) is Product and replaced(value.number, name, by) != value.number:
+        raise Fault("a digit of a product is replaced")
     if type(value) is tuple and any(type(byte) is WholeByte for byte in value):
         return tuple([byte_replaced(byte, name, by) for byte in value])
     return value
@@ -73,6 +76,8 @@ class Region:
         self.is_writable = is_writable
         self.alignment = alignment
         self.content = content
+        # Below an offset, other functions may have changed it, in so many calls.
+        self.changed_below = self.calls = 0
 
     def contains(self, offset, size):
         return self.first <= offset and offset + size <= self.size
@@ -94,6 +99,8 @@ class Region:
             return self.content[offset]
         if any(name != "done" for name, _ in terms_of(offset)):
             raise Fault(f"{self.name}[{offset}] is counted from a place that is still unknown")
+        if self.calls and offset < self.changed_below:
+            return unknown("after the call", self.calls, offset)
         return unknown(self.name, offset)
 
     def is_aligned(self, offset, size):
@@ -152,10 +159,10 @@ class Memory:
     def replaced(self, name, by):
         other = Memory([region.replaced(name, by) for region in self.regions.values()])
         for region, cells in self._written.items():
-            new = (
-                (replaced(offset, name, by), byte_replaced(byte, name, by)) for offset, byte in cells.items()
-            )
-            other._written[region] = dict(new)
+            other._written[region] = {
+                offset if type(offset) is int else replaced(offset, name, by): byte_replaced(byte, name, by)
+                for offset, byte in cells.items()
+            }
             other._respan(region)
         return other
 
@@ -166,9 +173,12 @@ class Memory:
         spans[terms] = min(old[0], least), max(old[1], least + count - 1)
 
     def _respan(self, name):
-        self._spans[name] = {}
-        for offset in self._written[name]:
-            self._span(name, offset, 1)
+        offsets = self._written[name]
+        known = [offset for offset in offsets if type(offset) is int]
+        self._spans[name] = {(): (min(known), max(known))} if known else {}
+        for offset in offsets:
+            if type(offset) is not int:
+                self._span(name, offset, 1)
 
     def _keep_apart(self, name, offset, size):
         """An access may meet what was written only if their distance is known."""
@@ -232,6 +242,13 @@ class Memory:
         region = copy.copy(self.regions[name])
         region.__dict__ |= changes
         self.regions = {**self.regions, name: region}
+
+    def change_below(self, name, offset):
+        """What is below an offset may be anything, since another function has run."""
+        region, cells = self.regions[name], self._written.setdefault(name, {})
+        below = max(offset, region.changed_below)
+        self.with_region(name, changed_below=below, calls=region.calls + 1)
+        self.forget(name, [at for at in cells if at < offset])
 
     def forget(self, name, offsets):
         """Takes out what was written there. The bytes may not be used any more, which the caller has to see

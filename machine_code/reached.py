@@ -87,7 +87,7 @@ EXCEPTIONS = [
 
 
 def is_message(section):
-    """The messages of errors are not covered."""
+    """The code of messages is for characters above 255 and for padding, too, which no message has."""
     return "error_message" in section.name or "core::fmt" in section.name
 
 

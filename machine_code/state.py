@@ -1,11 +1,11 @@
 """The state of a processor in the middle of a call. Each front end adds its registers and operands."""
 
 from arithmetic import as_number, moved
-from conditions import Path, conjunction
+from conditions import Path, are_equal, conjunction, is_public
 from exploration import Fork
 from linear import Linear, replaced
 from memory import Fault, Pointer, as_value, from_lane, is_whole, with_replaced
-from values import apply, are_constant, constants, parts_of, unknown
+from values import CONSTANTS, apply, are_constant, constants, unknown
 
 
 class State:
@@ -70,6 +70,14 @@ class State:
             raise Fork(condition)
         return answer
 
+    def settled(self, lane):
+        """A lane as a constant. Where it may have more than one value, the path forks."""
+        values = [self.path.values(byte) for byte in lane]
+        for byte, found in zip(lane, values):
+            if len(found) > 1:
+                raise Fork(are_equal((byte,), (CONSTANTS[min(found)],)))
+        return tuple([CONSTANTS[min(found)] for found in values])
+
     # Addresses
 
     def parts(self, operand):
@@ -129,11 +137,6 @@ class State:
         if self.path.decide(inside) is not True:
             raise Fault(f"a look-up by unknown bytes outside {section.name}")
         return from_lane(apply(_entry, size, [offset], (content, size)))
-
-
-def is_public(byte):
-    """Whether a byte depends on nothing but bits of lengths and positions."""
-    return all(parts_of(variable)[0] == "bits" for variable in byte.support)
 
 
 def _sum_of(displacement, parts):

@@ -14,6 +14,8 @@ ENCODE, PREFIX, NO_NUL, EXACT = [
     ("encode", 0), ("encode", 3), ("encode", 4), ("decode_exact", 0)]
 DIGITS, TEXT = ("check_raw", 0), ("check", 0)
 DECODE, PREFIXED, START, WAITS = ("decode", 0), ("decode", 1), ("decoder_update", 0), ("decoder_update", 5)
+# Each kind of an error; and positions of five digits.
+KIND, POSITION = ("error_message", None), ("error_message", 8)
 CALL = None
 
 # What is wrong; the build; the call's form and length that show it; the function, if it is not the call's
@@ -113,12 +115,40 @@ MUTATIONS = [
      replaced(r"^por +xmm", "nop", 1), "a round passes what is not a digit"),
     ("the rest is taken from one place lower", "default", DECODE, 40, CALL,
      byte(r"^movdqu xmm\d+,XMMWORD PTR \[r10\+rbx\*2-0x20\]", -1, 0xDF), r"bytes\[.*\] is not what"),
+    ("a letter of a message", "v3", KIND, "failure", CALL,
+     constant(r"^vmovdqu xmm0,XMMWORD PTR \[rip", 0, ord("O"), 0), r"message\[0\] is not what"),
+    ("a length of a message", "default", KIND, "failure", CALL,
+     byte(r"^mov +QWORD PTR \[rsp\+0x[0-9a-f]+\],0x14", -4, 0x13), "a message that fits is truncated"),
+    ("a kind that is not known is the last one", "v3", KIND, "failure", CALL,
+     byte(r"^cmp +eax,0x3", -1, 4), "of 4 unknown bytes"),
+    ("there is no NUL", "v3", KIND, "failure", CALL,
+     replaced(r"^mov +BYTE PTR \[r14\+rbx\*1\],0x0", "nop"), "another part of the buffer is written"),
+    ("no space is left for the NUL", "v3", KIND, "failure", CALL,
+     replaced(r"^dec +rbx", "nop"), "outside its region"),
+    ("a message is not truncated", "default", KIND, "failure", CALL,
+     replaced(r"^cmovae +rbx,rax", "mov rbx,rax"), "outside its region"),
+    ("a tab is shown as a newline", "v3", POSITION, "position", CALL,
+     byte(r"^mov +r15d,0x74", -4, ord("n")), r"message\[20\] is not what"),
+    ("a soft hyphen is shown as it is", "default", POSITION, "position", "unicode::from_80",
+     replaced(r"^xor +al,0x1", "mov al,0"), "a message that fits is truncated"),
+    ("another divisor", "v3", POSITION, "position", CALL,
+     byte(r"^movabs rcx,0x28f5c28f5c28f5c3", -8, 0xC2), "a single byte of a pointer or of a number"),
+    ("a remainder of another product", "default", POSITION, "position", CALL,
+     byte(r"^imul +eax,edx,0x64", -1, 0x63), "a single byte of a pointer or of a number"),
+    ("a digit by another factor", "v3", POSITION, "position", CALL,
+     byte(r"^imul +esi,edx,0xcd", -4, 0xCC), r"message\[\d+\] is not what"),
+    ("the digits in another order", "default", POSITION, "position", CALL,
+     byte(r"^mov +BYTE PTR \[rsp\+rcx\*1\+0xce\],sil", -4, 0xCF), r"message\[\d+\] is not what"),
+    ("numbers of four digits have two", "v3", POSITION, "position", CALL,
+     replaced(r"^ja", "nop", 7), "a single byte of a pointer or of a number"),
 ]
 
 
 def parts_of(call, form, length):
     if length == "failure":
         return [part for part in CALLS[call].parts() if part[0] == "case"]
+    if length == "position":
+        return [("slow case", form)]
     kind = "class" if length > 129 + CALLS[call].forms[form].body else "length"
     return [(kind, form, length)]
 

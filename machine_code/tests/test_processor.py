@@ -5,7 +5,6 @@ import pathlib
 import unittest
 from unittest import mock
 
-from reached import is_message
 from tests.emulated import Emulated
 from tests.library import code_of, needs_aarch64
 from tests.native import Native
@@ -16,12 +15,13 @@ HAS_AVX2 = " avx2 " in pathlib.Path("/proc/cpuinfo").read_text()
 
 
 def forms_of(processor):
-    """Some instructions of each form that the proofs may run."""
+    """Some instructions of each form that has a meaning."""
     code, forms = processor.code, {}
     for section in code.object.sections:
-        if section.is_code and not is_message(section):
+        if section.is_code:
             for instruction in code.front_end.instructions(section).values():
-                if instruction.mnemonic != "nop" and processor.can_run_alone(instruction):
+                has_meaning = instruction.mnemonic in code.front_end.HANDLERS
+                if has_meaning and instruction.mnemonic != "nop" and processor.can_run_alone(instruction):
                     forms.setdefault(processor.form_of(instruction), []).append(instruction)
     return {form: found[:: max(1, len(found) // PLACES)][:PLACES] for form, found in forms.items()}
 

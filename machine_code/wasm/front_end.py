@@ -13,6 +13,8 @@ from wasm.state import State
 
 # A memory of 64 KiB has no longer inputs, and a decoder's positions have 32 bits.
 LIMITS = {name: 1 << 16 for name in ("more", "n", "k", "over")}
+# It calls no function of another library.
+LIBRARY = {}
 LIMITS |= {"done": 1 << 9, "left": 1 << 9, "before": 1 << 31}
 
 

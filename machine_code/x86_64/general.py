@@ -6,13 +6,26 @@ returns where to go on if that is not the next instruction.
 
 import operator
 
-from arithmetic import added, complement, logic, moved, selected, shifted, signed, subtracted
+from arithmetic import (
+    added,
+    complement,
+    logic,
+    moved,
+    multiplied,
+    named,
+    product,
+    selected,
+    shifted,
+    signed,
+    subtracted,
+)
+from conditions import are_equal, is_public
 from disassembly import adding_to
 from exploration import RETURNED
 from flags import Flags
 from linear import Linear
 from memory import Fault, Pointer, is_whole
-from values import ZERO, apply, are_constant, constants, number, unknown
+from values import ZERO, TooWide, apply, are_constant, constants, number, unknown
 from x86_64.state import CODES
 
 HANDLERS = {}
@@ -64,6 +77,11 @@ def lea(state, i):
 @instruction("add")
 def add(state, i):
     first, second = _operands(state, i)
+    if type(second) is Pointer:
+        first, second = second, first
+    if type(first) is Pointer and not is_whole(second) and not named(second, "negated"):
+        # Perhaps it is the distance of a case from a table of them.
+        second = state.settled(second)
     result = added(first, second)
     _finish(state, i, result, None if type(result) is Pointer else Flags("add", first, second, result))
 
@@ -81,12 +99,26 @@ def cmp(state, i):
 
 @instruction("inc", "dec")
 def inc(state, i):
-    first = state.read(i.operands[0])
-    result = added(
-        first, constants(1 if i.mnemonic == "inc" else -1, 8 if is_whole(first) else len(first))
-    )
+    first, change = state.read(i.operands[0]), 1 if i.mnemonic == "inc" else -1
+    try:
+        result = added(first, constants(change, 8 if is_whole(first) else len(first)))
+    except TooWide:
+        # A length is counted in 64 bits, and so is none of this.
+        if any(byte.support and is_public(byte) for byte in first):
+            raise
+        result = _changed(state, first, change)
     is_number = type(result) is not Pointer
     _finish(state, i, result, Flags("inc", result=result, before=state.flags) if is_number else None)
+
+
+def _changed(state, lane, change):
+    """A lane with one more or less, byte by byte: the path forks for each carry."""
+    last, result = constants(255 if change > 0 else 0, 1), ()
+    for at, byte in enumerate(lane):
+        result += added((byte,), constants(change, 1))
+        if not state.decide(are_equal((byte,), last)):
+            return result + lane[at + 1 :]
+    return result
 
 
 @instruction("neg")
@@ -128,6 +160,32 @@ def shift(state, i):
     if count:
         result = shifted(operator.lshift if i.mnemonic == "shl" else operator.rshift, value, count)
         _finish(state, i, result, Flags("shift", result=result))
+
+
+@instruction("mul")
+def mul(state, i):
+    if i.operands[0].size != 8:
+        raise Fault("a product of less than 8 bytes")
+    lower, upper = product(state.registers["rax"], state.read(i.operands[0]))
+    state.registers |= {"rax": lower, "rdx": upper}
+    state.flags = None
+
+
+@instruction("mulx")
+def mulx(state, i):
+    upper, lower, source = i.operands
+    if source.size != 8:
+        raise Fault("a product of less than 8 bytes")
+    for register, value in zip((lower, upper), product(state.registers["rdx"], state.read(source))):
+        state.write(register, value)
+
+
+@instruction("imul")
+def imul(state, i):
+    if len(i.operands) < 2:
+        raise Fault("a signed product of two registers")
+    first, second = (state.read(operand, i.operands[0].size) for operand in i.operands[-2:])
+    _finish(state, i, multiplied(first, second), None)
 
 
 @instruction("push")

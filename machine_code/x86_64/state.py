@@ -1,6 +1,7 @@
 """The registers and the operands of x86-64."""
 
 import state
+from decimals import low_bytes, of_small
 from linear import Linear
 from memory import Fault, Pointer, as_lane, is_whole
 from values import ZERO, constants
@@ -31,16 +32,17 @@ class State(state.State):
         value = self.registers[register.family]
         if is_whole(value) and register.size < 8:
             # The lowest bits of a number may be known. Those of a pointer may only be moved.
-            value = value.low_bytes(8) if type(value) is Linear else as_lane(value)
+            end = register.first + register.size
+            value = low_bytes(value, end) if type(value) is Linear else as_lane(value)
         return value if is_whole(value) else value[register.first : register.first + register.size]
 
     def set_register(self, register, value):
         """A write of 4 bytes to a general register clears the upper half, a shorter one keeps the rest."""
         if register.size == 4:
-            value = value + (ZERO,) * 4
+            value = of_small(value) or value + (ZERO,) * 4
         elif register.size < 8:
             old = self.registers[register.family]
-            old = old.low_bytes(8) if type(old) is Linear else as_lane(old)
+            old = low_bytes(old, 8) if type(old) is Linear else as_lane(old)
             value = old[: register.first] + value + old[register.first + register.size :]
         if not is_whole(value) and len(value) != 8:
             raise Fault("a register is written by a value of another size")
