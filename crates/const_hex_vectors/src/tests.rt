@@ -5,18 +5,11 @@ mod decoding;
 mod encoding;
 mod errors;
 mod hashes;
-mod kernels;
-mod lanes;
 mod long;
 mod owned;
-mod pieces;
-mod printed;
-mod sinks;
-mod streaming;
 mod tables;
-mod write_sink;
 
-use crate::{Part, Text, differing_parts, same, same_bytes, same_read};
+use crate::{Part, Testing, Text, differing_parts, same, same_bytes, same_read};
 use std::alloc::AllocError;
 
 #[test]
@@ -56,14 +49,14 @@ fn printed_texts(rt: HostRuntime) {
 
 #[test]
 fn differences(rt: HostRuntime) {
-    let rows: [(&[u8], &[u8], usize); 3] = [
-        (b"6b69", b"6b69", 0),
-        (b"0012345678!", b"0012345678a", 2),
-        (b"6b", b"6b69", 0),
-    ];
-    for (bytes, want, start) in rows {
-        let parts = [Part::new(bytes, start), Part::new(want, start)];
-        same!(&rt, "differing_parts", Text(bytes); differing_parts(bytes, want), parts);
-        same!(&rt, "==", Text(bytes); parts[0] == parts[1], bytes == want);
-    }
+    differ(&rt, b"6b69", b"6b69", 0);
+    differ(&rt, b"0012345678!", b"0012345678a", 2);
+    differ(&rt, b"6b", b"6b69", 0);
+}
+
+/// What is printed of two texts begins at that index.
+fn differ(rt: &impl Testing, bytes: &[u8], want: &[u8], start: usize) {
+    let parts = [Part::new(bytes, start), Part::new(want, start)];
+    same!(rt, "==", Text(bytes); parts[0] == parts[1], bytes == want);
+    same!(rt, "differing_parts", Text(bytes); differing_parts(bytes, want), parts);
 }

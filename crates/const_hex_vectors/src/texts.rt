@@ -4,6 +4,16 @@ use const_hex::FromHexError;
 use std::alloc::{AllocError, Global};
 use std::fmt::Write;
 
+/// The bytes of a text, or its error.
+pub type Read<'a> = Result<&'a [u8], FromHexError>;
+
+/// Counts of blocks of 256 bytes: for 768 bytes, 1 MiB and 3 MiB.
+pub const SHORT: usize = 3;
+
+pub const LONG: usize = 4096;
+
+pub const LONGEST: usize = 12_288;
+
 const DIGITS: &[u8; 22] = b"0123456789abcdefABCDEF";
 
 /// A text of that length, of digits in either case.
@@ -22,6 +32,22 @@ pub fn make_bytes(alloc: Global, count: usize) -> Result<Vec<u8>, AllocError> {
         bytes.push(((i % 256 * 37 + 11) % 256) as u8)?;
     }
     Ok(bytes)
+}
+
+/// That many blocks of 256 bytes.
+pub fn long_bytes(alloc: Global, blocks: usize) -> Result<Vec<u8>, AllocError> {
+    make_bytes(alloc, 256)?.repeat(alloc, blocks)
+}
+
+/// A prefix, and what std prints for these bytes.
+pub fn long_text(
+    alloc: Global,
+    blocks: usize,
+    prefix: &str,
+    upper: bool,
+) -> Result<String, AllocError> {
+    let block = print(alloc, &make_bytes(alloc, 256)?, false, upper)?;
+    [prefix, &block.repeat(alloc, blocks)?].concat(alloc)
 }
 
 pub const PREFIXES: [&str; 3] = ["", "0x", "0X"];

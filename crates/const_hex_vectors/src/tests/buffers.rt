@@ -32,6 +32,18 @@ fn formats<const N: usize, const PREFIX: bool, const LEN: usize>(
     buffer.format(&[0; N]);
     same!(rt, "format_upper", N; buffer.format_upper(bytes), upper);
     buffer.format_upper(&[0xFF; N]);
+    formats_slices(rt, buffer, bytes, lower, upper)
+}
+
+fn formats_slices<const N: usize, const PREFIX: bool, const LEN: usize>(
+    rt: &impl Testing,
+    buffer: &mut Buffer<N, PREFIX, LEN>,
+    bytes: &[u8; N],
+    lower: &str,
+    upper: &str,
+)
+    requires { LEN ≡ text_length PREFIX N }
+{
     same!(rt, "format_slice", N; buffer.format_slice(bytes), lower);
     buffer.format(&[0; N]);
     same!(rt, "format_slice_upper", N; buffer.format_slice_upper(bytes), upper);
@@ -93,13 +105,21 @@ fn made_at_once(rt: HostRuntime) {
 }
 
 #[test]
-fn debug_form(rt: HostRuntime) {
+fn debug_forms(rt: HostRuntime) {
     let mut buffer = Buffer::<1, false, 2>::new();
-    let form = format!(in rt.alloc(); "{buffer:?}").expect(&rt, "memory");
-    same_bytes!(&rt, "{:?}", "zeros"; form, "Buffer(\"\\0\\0\")");
+    has_debug_forms(
+        &rt,
+        &buffer,
+        "Buffer(\"\\0\\0\") Buffer(\n    \"\\0\\0\",\n)",
+    );
     buffer.format(&[0xAB]);
-    let forms = format!(in rt.alloc(); "{buffer:?} {buffer:#?}").expect(&rt, "memory");
-    same_bytes!(&rt, "{:?} {:#?}", "ab"; forms, "Buffer(\"ab\") Buffer(\n    \"ab\",\n)");
+    has_debug_forms(&rt, &buffer, "Buffer(\"ab\") Buffer(\n    \"ab\",\n)");
+}
+
+/// The buffer prints these texts by `{:?}` and by `{:#?}`.
+fn has_debug_forms(rt: &impl Testing, buffer: &Buffer<1, false, 2>, want: &str) {
+    let forms = format!(in rt.alloc(); "{buffer:?} {buffer:#?}").expect(rt, "memory");
+    same_bytes!(rt, "{:?} {:#?}", want; forms, want);
 }
 
 #[test]

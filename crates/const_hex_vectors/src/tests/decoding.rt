@@ -1,6 +1,6 @@
 //! Calls that check or read a text, on worked examples. `const_hex_table` asks many more.
 
-use crate::texts::{invalid, make_digits};
+use crate::texts::{Read, invalid, make_digits};
 use crate::{Testing, Text, same, same_bytes, same_read};
 use const_hex::serde::{JsonError, no_prefix};
 use const_hex::{
@@ -19,14 +19,11 @@ const OTHER_LENGTH: FromHexError = FromHexError::InvalidStringLength;
 
 const HELLO: &[u8] = b"48656c6c6f20776f726c6421";
 
-/// The bytes of a text, or its error.
-pub(crate) type Read<'a> = Result<&'a [u8], FromHexError>;
-
 /// The error of a text, if it has one.
 type Checked = Result<(), FromHexError>;
 
 /// What a check returns for a text for which decoders return this.
-pub(crate) fn checked(want: Read<'_>) -> Checked {
+fn checked(want: Read<'_>) -> Checked {
     want.and(Ok(()))
 }
 
@@ -37,6 +34,11 @@ pub(crate) fn each_call_returns(rt: &impl Testing, text: &[u8], want: Read<'_>) 
     same!(rt, "const_check", row; const_check(text), checked(want));
     same_read!(rt, "decode", row; decode(alloc, text), want);
     same_read!(rt, "from_hex of Vec<u8>", row; <Vec<u8>>::from_hex(alloc, text), want);
+    each_other_type_returns(rt, text, want)
+}
+
+fn each_other_type_returns(rt: &impl Testing, text: &[u8], want: Read<'_>) {
+    let (row, alloc) = (Text(text), rt.alloc());
     same_read!(rt, "from_hex of BoxedSlice<u8>", row; <BoxedSlice<u8>>::from_hex(alloc, text), want);
     same_read!(rt, "from_hex of BoxedSlice<i8>", row; bits(rt, text), want);
     if let Ok(string) = str::from_utf8(text) {
@@ -201,12 +203,16 @@ fn fronts_of_outputs(rt: HostRuntime) {
         (&[0xFF, 0x30], Err(invalid(0xFF, 0)), &[0xEE; 5]),
     ];
     for (text, want, left) in rows {
-        let mut output = vec![in rt.alloc(); 0xEEu8; left.len()].expect(&rt, "memory");
-        let result = decode_to_front(text, &mut output);
-        let row = (Text(text), left.len());
-        same!(&rt, "decode_to_front", row; result, want);
-        same_bytes!(&rt, "what it leaves", row; output, left);
+        fills_front(&rt, text, want, left);
     }
+}
+
+fn fills_front(rt: &impl Testing, text: &[u8], want: Result<usize, FromHexError>, left: &[u8]) {
+    let mut output = vec![in rt.alloc(); 0xEEu8; left.len()].expect(rt, "memory");
+    let result = decode_to_front(text, &mut output);
+    let row = (Text(text), left.len());
+    same!(rt, "decode_to_front", row; result, want);
+    same_bytes!(rt, "what it leaves", row; output, left);
 }
 
 #[test]

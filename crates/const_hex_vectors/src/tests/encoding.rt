@@ -16,8 +16,8 @@ type Row<'a> = (&'a [u8], &'a str, &'a str);
 
 /// Checks that each call writes the wanted text of the bytes.
 macro_rules! each_writes {
-    ($rt:ident, $bytes:ident; $($call:expr => $want:ident,)+) => {
-        $(same_read!($rt, stringify!($call), Text($bytes); $call, Ok($want.as_bytes()));)+
+    ($rt:ident, $written:ident; $($call:expr => $want:ident,)+) => {
+        $(same_read!($rt, stringify!($call), $written.bytes.len(); $call, Ok($written.$want.as_bytes()));)+
     };
 }
 
@@ -25,27 +25,28 @@ macro_rules! each_writes {
 #[derive(Drop)]
 pub(crate) struct Written {
     pub(crate) bytes: Vec<u8>,
-    pub(crate) texts: [String; 4],
+    pub(crate) lower: String,
+    pub(crate) upper: String,
+    pub(crate) prefixed_lower: String,
+    pub(crate) prefixed_upper: String,
 }
 
 impl Written {
-    /// The bytes and the texts of a row that many times.
-    pub(crate) fn new(rt: &impl Testing, (bytes, lower, upper): Row<'_>, times: usize) -> Self {
-        let lower = lower.repeat(rt.alloc(), times).expect(rt, "memory");
-        let upper = upper.repeat(rt.alloc(), times).expect(rt, "memory");
-        let prefixed_lower = ["0x", &lower].concat(rt.alloc()).expect(rt, "memory");
-        let prefixed_upper = ["0x", &upper].concat(rt.alloc()).expect(rt, "memory");
+    fn new(rt: &impl Testing, (bytes, lower, upper): Row<'_>) -> Written {
+        let alloc = rt.alloc();
         Written {
-            bytes: bytes.repeat(rt.alloc(), times).expect(rt, "memory"),
-            texts: [lower, upper, prefixed_lower, prefixed_upper],
+            bytes: bytes.to_vec(alloc).expect(rt, "memory"),
+            lower: lower.to_string(alloc).expect(rt, "memory"),
+            upper: upper.to_string(alloc).expect(rt, "memory"),
+            prefixed_lower: ["0x", lower].concat(alloc).expect(rt, "memory"),
+            prefixed_upper: ["0x", upper].concat(alloc).expect(rt, "memory"),
         }
     }
 
     /// Each call that makes a text of the bytes makes these.
     pub(crate) fn each_call_writes(&self, rt: &impl Testing) {
         let (bytes, alloc) = (&self.bytes, rt.alloc());
-        let [lower, upper, prefixed_lower, prefixed_upper] = &self.texts;
-        each_writes!(rt, bytes;
+        each_writes!(rt, self;
             encode(alloc, bytes) => lower,
             encode_upper(alloc, bytes) => upper,
             encode_prefixed(alloc, bytes) => prefixed_lower,
@@ -58,8 +59,7 @@ impl Written {
     /// Each call that makes a JSON string of the bytes makes these.
     fn each_call_serializes(&self, rt: &impl Testing) {
         let (bytes, alloc) = (&self.bytes, rt.alloc());
-        let [lower, upper, prefixed_lower, prefixed_upper] = &self.texts;
-        each_writes!(rt, bytes;
+        each_writes!(rt, self;
             text_of(serialize(alloc, bytes)) => prefixed_lower,
             text_of(serialize_upper(alloc, bytes)) => prefixed_upper,
             text_of(no_prefix::serialize(alloc, bytes)) => lower,
@@ -69,9 +69,8 @@ impl Written {
 
     /// The calls of the traits write these texts of a value.
     fn traits_write<T: ToHex + ToHexExt>(&self, rt: &impl Testing, value: &T) {
-        let (bytes, alloc) = (&self.bytes, rt.alloc());
-        let [lower, upper, prefixed_lower, prefixed_upper] = &self.texts;
-        each_writes!(rt, bytes;
+        let alloc = rt.alloc();
+        each_writes!(rt, self;
             ToHex::encode_hex(value, alloc) => lower,
             ToHex::encode_hex_upper(value, alloc) => upper,
             ToHexExt::encode_hex(value, alloc) => lower,
@@ -96,13 +95,14 @@ const HELLO: Row<'_> = (
     "48656C6C6F20776F726C6421",
 );
 
+const NUMBERS: Row<'_> = (&[1, 2, 3, 15, 16], "0102030f10", "0102030F10");
+
 #[test]
 fn owned_texts(rt: HostRuntime) {
-    let numbers: Row<'_> = (&[1, 2, 3, 15, 16], "0102030f10", "0102030F10");
-    for row in [(b"".as_slice(), "", ""), HELLO, numbers] {
-        Written::new(&rt, row, 1).each_call_writes(&rt);
+    for row in [(b"".as_slice(), "", ""), HELLO, NUMBERS] {
+        Written::new(&rt, row).each_call_writes(&rt);
     }
-    let want = Written::new(&rt, HELLO, 1);
+    let want = Written::new(&rt, HELLO);
     want.traits_write(&rt, b"Hello world!");
     want.traits_write(
         &rt,
@@ -137,13 +137,16 @@ fn texts_in_slices(rt: HostRuntime) {
 #[test]
 fn outputs_of_every_length(rt: HostRuntime) {
     for length in 0..=26usize {
-        let hello = (b"Hello world!".as_slice(), true, true);
-        fills(&rt, hello, "0x48656C6C6F20776F726C6421", length);
+        fills(
+            &rt,
+            (b"Hello world!", true, true),
+            "0x48656C6C6F20776F726C6421",
+            length,
+        );
         fills(&rt, (b"kiwi", true, false), "0x6b697769", length);
         fills(&rt, (b"", true, false), "0x", length);
         fills_with_digits(&rt, (b"kiwi", "6b697769", "6B697769"), length);
-        let numbers: Row<'_> = (&[1, 2, 3, 15, 16], "0102030f10", "0102030F10");
-        fills_with_digits(&rt, numbers, length);
+        fills_with_digits(&rt, NUMBERS, length);
     }
 }
 

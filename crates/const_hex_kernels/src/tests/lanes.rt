@@ -1,8 +1,8 @@
 //! Worked values of the lane arithmetic, and the text of a step.
 
-use crate::chunks::decoded_or;
-use crate::{Text, same, same_bytes};
 use const_hex::{Lanes16, Lanes32, lanes16, lanes32};
+use const_hex_vectors::chunks::decoded_or;
+use const_hex_vectors::{Text, same, same_bytes};
 use std::simd::prelude::*;
 
 // Bytes at the edges of the ranges of digits, and what the lane arithmetic makes of them.

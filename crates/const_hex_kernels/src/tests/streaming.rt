@@ -2,12 +2,12 @@
 
 ghost use Rattle.std.specs.Prelude.{◌≡◌, false, None, refl};
 
-use crate::tests::kernels::KernelTest;
+use crate::tests::KernelTest;
 use crate::tests::sinks::has_pieces;
-use crate::texts::{cut, make_bytes, print};
-use crate::{KernelCase, Testing, same};
 use const_hex::serde::serialize_inner;
 use const_hex::{BufferedHex, Kernel, Output, PieceSink, Plain, Sink, SinkError, SinkOutput};
+use const_hex_vectors::texts::{cut, make_bytes, print};
+use const_hex_vectors::{KernelCase, Testing, same};
 use std::alloc::{AllocError, Global};
 
 /// Keeps the text of every call, also of a call that fails, and beside it the accepted pieces. It

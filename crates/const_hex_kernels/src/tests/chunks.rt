@@ -1,10 +1,9 @@
-//! Texts that are decoded in pieces: at every cut, at random cuts, and with too little space.
+//! Texts that are decoded in chunks: at every cut, at random cuts, and with too little space.
 
-use crate::tests::decoding::Read;
-use crate::tests::kernels::KernelTest;
-use crate::texts::{PREFIXES, invalid, make_digits, prepend, read};
-use crate::{KernelCase, Testing, Text, same, same_bytes, same_read};
+use crate::tests::KernelTest;
 use const_hex::{Decoder, FromHexError, Kernel};
+use const_hex_vectors::texts::{PREFIXES, Read, invalid, make_digits, prepend, read};
+use const_hex_vectors::{KernelCase, Testing, Text, same, same_bytes, same_read};
 
 /// Texts and their results. An odd length is found last.
 const ROWS: [(&[u8], Read<'static>); 16] = [
@@ -50,12 +49,12 @@ const ROWS: [(&[u8], Read<'static>); 16] = [
     ),
 ];
 
-/// Adds to a list what a decoder returns for these pieces.
-fn in_pieces<K: Kernel>(pieces: &[&[u8]], all: &mut Vec<u8>) -> Result<(), FromHexError> {
+/// Adds to a list what a decoder returns for these chunks.
+fn in_chunks<K: Kernel>(chunks: &[&[u8]], all: &mut Vec<u8>) -> Result<(), FromHexError> {
     let mut decoder = Decoder::new();
-    for piece in pieces {
+    for chunk in chunks {
         let mut bytes = [0; 128];
-        let count = decoder.decode_with::<K>(piece, &mut bytes)?;
+        let count = decoder.decode_with::<K>(chunk, &mut bytes)?;
         all.extend_from_slice(&bytes[..count])?;
     }
     decoder.finish()
@@ -69,7 +68,7 @@ struct Row<'a> {
 }
 
 impl KernelTest for Row<'_> {
-    /// Every cut of the text into three pieces has the result of the text.
+    /// Every cut of the text into three chunks has the result of the text.
     fn run<K: Kernel>(&self, rt: &impl Testing, kernel: KernelCase) {
         for end in 0..=self.text.len() {
             let (front, last) = self.text.split_at(end);
@@ -77,7 +76,7 @@ impl KernelTest for Row<'_> {
                 let (first, middle) = front.split_at(cut);
                 let row = (Text(self.text), cut, end);
                 let mut bytes = Vec::new(rt.alloc());
-                let result = in_pieces::<K>(&[first, middle, last], &mut bytes);
+                let result = in_chunks::<K>(&[first, middle, last], &mut bytes);
                 same!(rt, kernel.name, row; result.and(Ok(bytes.as_slice())), self.want);
             }
         }
@@ -91,27 +90,19 @@ fn rows_at_every_cut(rt: HostRuntime) {
     }
 }
 
-/// Adds to a list what a decoder returns for a text that is cut at random, into pieces of up to 31 bytes.
-fn at_random<K: Kernel>(
-    text: &[u8],
-    seed: &mut u64,
-    all: &mut Vec<u8>,
-) -> Result<(), FromHexError> {
-    let mut decoder = Decoder::new();
+/// Cuts a text at random, into chunks of up to 31 bytes and a last one.
+fn cut_at_random<'a>(rt: &impl Testing, text: &'a [u8], seed: &mut u64) -> Vec<&'a [u8]> {
+    let mut chunks = Vec::new(rt.alloc());
     let mut rest = text;
-    for turn in 0..=text.len() {
+    for _ in 0..text.len() {
         *seed = seed.wrapping_mul(6_364_136_223_846_793_005).wrapping_add(1);
-        let count = match turn == text.len() {
-            true => rest.len(),
-            false => (*seed >> 59) as usize,
-        };
-        let (piece, behind) = rest.split_at(count.min(rest.len()));
-        let mut bytes = [0; 128];
-        let decoded = decoder.decode_with::<K>(piece, &mut bytes)?;
-        all.extend_from_slice(&bytes[..decoded])?;
-        rest = behind;
+        let count = (*seed >> 59) as usize;
+        let (chunk, after) = rest.split_at(count.min(rest.len()));
+        chunks.push(chunk).expect(rt, "memory");
+        rest = after;
     }
-    decoder.finish()
+    chunks.push(rest).expect(rt, "memory");
+    chunks
 }
 
 /// A text that is cut at random has this result.
@@ -122,8 +113,9 @@ fn has_result<K: Kernel>(
     seed: &mut u64,
     want: Read<'_>,
 ) {
+    let chunks = cut_at_random(rt, text, seed);
     let mut bytes = Vec::new(rt.alloc());
-    let result = at_random::<K>(text, seed, &mut bytes).and(Ok(bytes.as_slice()));
+    let result = in_chunks::<K>(&chunks, &mut bytes).and(Ok(bytes.as_slice()));
     same_read!(rt, "at random cuts", (kernel, Text(text)); result, want);
 }
 
@@ -159,7 +151,7 @@ fn random_cuts(rt: HostRuntime) {
 }
 
 #[test]
-fn too_little_space_and_errors(rt: HostRuntime) {
+fn too_little_space(rt: HostRuntime) {
     let mut decoder = Decoder::new();
     let mut bytes = *b"....";
     let short = Err(FromHexError::InvalidStringLength);
@@ -170,11 +162,18 @@ fn too_little_space_and_errors(rt: HostRuntime) {
     same!(&rt, "decode", "7"; decoder.decode(b"7", &mut []), short);
     same!(&rt, "decode", "7"; decoder.decode(b"7", &mut bytes[2..]), Ok(1));
     same_bytes!(&rt, "decode", "7"; &bytes, b"kiw.");
-    same!(&rt, "decode", "69!9"; decoder.decode(b"69!9", &mut bytes[3..]), short);
+}
+
+#[test]
+fn an_error_stays(rt: HostRuntime) {
+    let mut decoder = Decoder::new();
+    same!(&rt, "decode", "0x6b6977"; decoder.decode(b"0x6b6977", &mut [0; 4]), Ok(3));
+    let short = Err(FromHexError::InvalidStringLength);
+    same!(&rt, "decode", "69!9"; decoder.decode(b"69!9", &mut [0; 1]), short);
     let error = invalid(b'!', 10);
-    for piece in [b"69!9".as_slice(), b"", b"69", b"!"] {
-        same!(&rt, "decode", Text(piece); decoder.decode(piece, &mut [0; 2]), Err(error));
-        same!(&rt, "position", Text(piece); decoder.position(), 10);
+    for chunk in [b"69!9".as_slice(), b"", b"69", b"!"] {
+        same!(&rt, "decode", Text(chunk); decoder.decode(chunk, &mut [0; 2]), Err(error));
+        same!(&rt, "position", Text(chunk); decoder.position(), 10);
     }
     same!(&rt, "finish", "69!9"; decoder.finish(), Err(error));
 }

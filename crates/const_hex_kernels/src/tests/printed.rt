@@ -1,8 +1,8 @@
 //! What `display` prints.
 
-use crate::texts::{make_bytes, print};
-use crate::{Counting, InHex, Testing, same, same_bytes};
 use const_hex::{BufferedHex, FormatterSink, Lanes16, Sink, display};
+use const_hex_vectors::texts::{make_bytes, print};
+use const_hex_vectors::{Counting, InHex, Testing, same, same_bytes};
 use std::fmt::{self, Write};
 
 /// Prints the uppercase text by 16 lanes, through the library's sink over a formatter.
@@ -64,13 +64,11 @@ fn printed_bytes(rt: HostRuntime) {
 
 /// A value prints this text, and with `#` the prefix and this text.
 fn prints<D: fmt::Display>(rt: &impl Testing, v: &D, want: &str) {
-    let texts = [
-        v.to_string(rt.alloc()).expect(rt, "memory"),
-        format!(in rt.alloc(); "{v:#}").expect(rt, "memory"),
-    ];
+    let text = v.to_string(rt.alloc()).expect(rt, "memory");
+    same_bytes!(rt, "{}", want.len(); text, want);
+    let text = format!(in rt.alloc(); "{v:#}").expect(rt, "memory");
     let prefixed = ["0x", want].concat(rt.alloc()).expect(rt, "memory");
-    same_bytes!(rt, "{}", want.len(); &texts[0], want);
-    same_bytes!(rt, "{:#}", want.len(); &texts[1], &prefixed);
+    same_bytes!(rt, "{:#}", want.len(); text, prefixed);
 }
 
 #[test]

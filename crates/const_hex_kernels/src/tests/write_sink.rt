@@ -1,8 +1,8 @@
 //! `WriteSink`, over writers that fail, accept few bytes per call, or come back.
 
-use crate::texts::{make_bytes, print};
-use crate::{Fault, Target, Testing, Text, same, same_bytes};
 use const_hex::{BufferedHex, Plain, Sink, WriteSink};
+use const_hex_vectors::texts::{make_bytes, print};
+use const_hex_vectors::{Fault, Target, Testing, Text, same, same_bytes};
 use std::io::{self, ErrorKind};
 
 // A text of 6002 bytes comes in pieces of 4096 and 1906. A writer that accepts 1000 per call gets

@@ -1,12 +1,12 @@
 //! What is tried with each kernel on short texts.
 
-use crate::tests::kernels::{KernelTest, rejects, returns};
-use crate::texts::{PREFIXES, cut, make_bytes, make_digits, prepend, print, read};
-use crate::{KernelCase, Testing, Text, same, same_bytes};
+use crate::tests::{KernelTest, rejects, returns};
 use const_hex::{
     FromHexError, Kernel, PieceSink, SinkOutput, SliceOutput, check_raw, decode_to_front_with,
     encode_full_to_slice_with, encode_with,
 };
+use const_hex_vectors::texts::{PREFIXES, cut, make_bytes, make_digits, prepend, print, read};
+use const_hex_vectors::{KernelCase, Testing, Text, same, same_bytes};
 
 // Counts of the bytes 0, 1, 2 and on, near the steps of each kernel, and how their text ends.
 const ENDS: [(usize, &str); 12] = [

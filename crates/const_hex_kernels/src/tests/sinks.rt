@@ -2,12 +2,12 @@
 
 ghost use Rattle.std.specs.Prelude.{◌<◌};
 
-use crate::tests::kernels::KernelTest;
-use crate::texts::{make_bytes, print};
-use crate::{KernelCase, Testing, same, same_bytes};
+use crate::tests::KernelTest;
 use const_hex::{
     BufferedHex, BufferedOutput, Kernel, Output, PieceSink, Sink, SinkOutput, SliceOutput,
 };
+use const_hex_vectors::texts::{make_bytes, print};
+use const_hex_vectors::{KernelCase, Testing, same, same_bytes};
 
 type ToSink<'a, const N: usize> = BufferedOutput<SinkOutput<'a, PieceSink>, N>;
 
