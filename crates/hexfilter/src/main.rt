@@ -7,8 +7,9 @@
 mod tests;
 
 use hexfilter_core::program;
+use std::io;
 use std::process::ExitCode;
 
 fn main(rt: HostRuntime) -> ExitCode {
-    program(&rt)
+    program(&rt, &mut rt.reader(), &mut io::writer(&rt))
 }

@@ -1,6 +1,6 @@
 //! From a reader's bytes to a writer's text.
 
-ghost use Rattle.std.specs.Prelude.{◌≡◌, ◌+◌, ◌-◌, ◌*◌, ◌≤◌, ◌∷◌, [], List, ℕ, length, true, OnOk, OnErr, IfErr, IfOk};
+ghost use Rattle.std.specs.Prelude.{◌≡◌, ◌-◌, ◌*◌, ◌≤◌, List, ℕ, length, OnOk, OnErr, IfErr, IfOk};
 ghost use Rattle.std.specs.Io.KnownBytes.{Appends, Consumes};
 ghost use Rattle.const_hex.specs.Texts.{prefix_of};
 ghost use Rattle.const_hex.specs.Writers.{WritesBeginning};

@@ -1,6 +1,6 @@
 //! What the arguments of the program ask for.
 
-ghost use Rattle.std.specs.Prelude.{◌≡◌, ℕ, map, string_bytes};
+ghost use Rattle.std.specs.Prelude.{◌≡◌, map, string_bytes};
 ghost use Rattle.hexfilter_core.specs.Options.{decimal, mode_of, request, request_for, with_argument, with_columns, with_dashes, with_digit, with_digits, with_letter, with_letters, with_name, with_operand, with_value};
 
 use crate::mode::Mode;

@@ -1,16 +1,22 @@
 //! The whole program, from its arguments to its exit status.
 
-ghost use Rattle.std.specs.Prelude.{◌≡◌, ◌≤◌};
+ghost use Rattle.std.specs.Prelude.{◌≡◌, ◌≢◌, ◌≤◌, ◌⊎◌, List, ℕ};
+ghost use Rattle.std.specs.Io.KnownBytes.{Appends, Consumes};
 ghost use Rattle.std.specs.Process.{exit_status};
+ghost use Rattle.const_hex.specs.declared.error.FromHexError.{FromHexError};
 ghost use Rattle.hexfilter_core.specs.Errors.{status_of};
+ghost use Rattle.hexfilter_core.specs.Inputs.{ReadsAll};
+ghost use Rattle.hexfilter_core.specs.Outcome.{FailsWith, Makes};
+ghost use Rattle.hexfilter_core.specs.declared.mode.Mode.{Mode};
 
 use crate::error::RunError;
 use crate::mode::Mode;
 use crate::options::{Request, request_of};
 use crate::runs::run;
+use crate::transfer::{flush, write_piece};
 use std::env::{self, Env};
 use std::fs::File;
-use std::io::{self, Eprint, ErrorKind, Input, Print};
+use std::io::{self, Eprint, ErrorKind, Read, Write};
 use std::process::ExitCode;
 use std::rt::Files;
 
@@ -36,17 +42,35 @@ Exit status: 0 done, 1 the text cannot be decoded, 2 an argument is not valid,
 /// What `--version` prints.
 const VERSION: &str = "hexfilter 1.0.0\n";
 
-/// Does what the arguments ask for, and returns the exit status: 0 if that succeeds, 1 if the text
-/// cannot be decoded, 2 if the arguments are not valid or not UTF-8, and 3 if a read or a write fails. An
-/// error is one line on standard error, but none if the reader of standard output is gone.
+/// Does what the arguments ask for, with `input` and `output` as standard input and output. Returns the
+/// exit status: 0 if that succeeds, 1 if the text cannot be decoded, 2 if the arguments are not valid or not
+/// UTF-8, and 3 if a read or a write fails. An error is one line on standard error, but none if the reader
+/// of standard output is gone.
 ///
 /// ```rust
 /// fn main(rt: HostRuntime) -> ExitCode {
-///     program(&rt)
+///     program(&rt, &mut rt.reader(), &mut io::writer(&rt))
 /// }
 /// ```
-pub fn program(rt: &(impl Env + Files + Input + Print + Eprint + AllocGlobal)) -> ExitCode
-    ensures { exit_status result ≤ 3 }
+pub fn program<R: Read, W: Write>(
+    rt: &(impl Env + Files + Eprint + AllocGlobal),
+    input: &mut R,
+    output: &mut W,
+) -> ExitCode
+    // Standard input was not asked for, or what a mode makes of all of it was written.
+    ensures done { exit_status result ≡ 0 → (y : List ℕ)
+        × Appends (W.contents output.old) (W.contents output.new) y
+        × ((input.new ≡ input.old) ⊎ ((m : Mode) × (x : List ℕ)
+        × ReadsAll (R.remaining input.old) (R.remaining input.new) x × Makes m x y)) }
+    // Standard input was not asked for, or a mode fails with an error of its text.
+    ensures invalid { exit_status result ≡ 1
+        → (input.new ≡ input.old) ⊎ ((m : Mode) × (x : List ℕ) × (e : FromHexError)
+        × Consumes (R.remaining input.old) (R.remaining input.new) x
+        × FailsWith m (R.remaining input.new) x e) }
+    // Nothing was read or written.
+    ensures misused { exit_status result ≡ 2
+        → (input.new ≡ input.old) × (output.new ≡ output.old) }
+    ensures statuses { exit_status result ≤ 3 }
 {
     let arguments = match arguments(rt) {
         Ok(arguments) => arguments,
@@ -56,12 +80,12 @@ pub fn program(rt: &(impl Env + Files + Input + Print + Eprint + AllocGlobal)) -
         }
     };
     match request_of(&arguments) {
-        Some(Request::Help) => print(rt, HELP),
-        Some(Request::Version) => print(rt, VERSION),
-        Some(Request::Run(mode, None)) => run_standard_input(rt, mode),
+        Some(Request::Help) => print(rt, HELP, output),
+        Some(Request::Version) => print(rt, VERSION, output),
+        Some(Request::Run(mode, None)) => run_standard_input(rt, mode, input, output),
         Some(Request::Run(mode, Some(index))) => match arguments.get(index) {
-            Some(name) if name.as_str() != "-" => run_file(rt, mode, name.as_str()),
-            _ => run_standard_input(rt, mode),
+            Some(name) if name.as_str() != "-" => run_file(rt, mode, name.as_str(), output),
+            _ => run_standard_input(rt, mode, input, output),
         },
         None => {
             let _ = eprintln!(rt; "hexfilter: invalid arguments; try --help");
@@ -76,36 +100,62 @@ fn arguments(rt: &(impl Env + AllocGlobal)) -> io::Result<Vec<String>> {
 }
 
 /// Runs on standard input.
-fn run_standard_input(rt: &(impl Input + Print + Eprint), mode: Mode) -> ExitCode
-    ensures { exit_status result ≤ 3 }
+fn run_standard_input<R: Read, W: Write>(
+    rt: &impl Eprint,
+    mode: Mode,
+    input: &mut R,
+    output: &mut W,
+) -> ExitCode
+    ensures done { exit_status result ≡ 0 → (x : List ℕ) × (y : List ℕ)
+        × ReadsAll (R.remaining input.old) (R.remaining input.new) x × Makes mode x y
+        × Appends (W.contents output.old) (W.contents output.new) y }
+    ensures invalid { exit_status result ≡ 1 → (x : List ℕ) × (e : FromHexError)
+        × Consumes (R.remaining input.old) (R.remaining input.new) x
+        × FailsWith mode (R.remaining input.new) x e }
+    ensures used { exit_status result ≢ 2 }
+    ensures statuses { exit_status result ≤ 3 }
 {
-    match run(mode, &mut rt.reader(), &mut io::writer(rt)) {
+    match run(mode, input, output) {
         Ok(()) => ExitCode::SUCCESS,
         Err(error) => failed(rt, "standard input", error),
     }
 }
 
 /// Runs on the file with that name.
-fn run_file(rt: &(impl Files + Print + Eprint), mode: Mode, name: &str) -> ExitCode
-    ensures { exit_status result ≤ 3 }
+fn run_file<W: Write>(
+    rt: &(impl Files + Eprint),
+    mode: Mode,
+    name: &str,
+    output: &mut W,
+) -> ExitCode
+    ensures done { exit_status result ≡ 0 → (y : List ℕ)
+        × Appends (W.contents output.old) (W.contents output.new) y }
+    ensures used { exit_status result ≢ 2 }
+    ensures statuses { exit_status result ≤ 3 }
 {
     let mut file = match File::open(rt, name) {
         Ok(file) => file,
         Err(error) => return failed(rt, name, RunError::Read(error)),
     };
-    match run(mode, &mut file, &mut io::writer(rt)) {
+    match run(mode, &mut file, output) {
         Ok(()) => ExitCode::SUCCESS,
         Err(error) => failed(rt, name, error),
     }
 }
 
-/// Prints a text on standard output.
-fn print(rt: &(impl Print + Eprint), text: &str) -> ExitCode
-    ensures { exit_status result ≤ 3 }
+/// Writes a text, and flushes.
+fn print<W: Write>(rt: &impl Eprint, text: &str, output: &mut W) -> ExitCode
+    ensures done { exit_status result ≡ 0 → (y : List ℕ)
+        × Appends (W.contents output.old) (W.contents output.new) y }
+    ensures used { exit_status result ≢ 2 }
+    ensures statuses { exit_status result ≤ 3 }
 {
-    match rt.print(text) {
+    if let Err(error) = write_piece(output, text.as_bytes()) {
+        return failed(rt, "", error);
+    }
+    match flush(output) {
         Ok(()) => ExitCode::SUCCESS,
-        Err(error) => failed(rt, "", RunError::Write(error)),
+        Err(error) => failed(rt, "", error),
     }
 }
 
