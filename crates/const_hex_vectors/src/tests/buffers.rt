@@ -65,12 +65,21 @@ fn agrees_with_std<const N: usize, const PREFIX: bool, const LEN: usize>(
     same!(rt, "LEN", N; Buffer::<N, PREFIX, LEN>::LEN, text.len());
     same!(rt, "format", N; buffer.format(&bytes), text.as_str());
     lends(rt, &buffer, &text);
+    is_copied(rt, &buffer, &text);
+    same_read!(rt, "decode_to_array", N; decode_to_array::<N>(buffer.as_bytes()), Ok(&bytes));
+    let read = const_decode_to_array::<N>(buffer.as_bytes());
+    same_read!(rt, "const_decode_to_array", N; read, Ok(&bytes));
+}
+
+/// Each copy of the buffer has this text.
+fn is_copied<const N: usize, const PREFIX: bool, const LEN: usize>(
+    rt: &impl Testing,
+    buffer: &Buffer<N, PREFIX, LEN>,
+    text: &str,
+) {
     same_read!(rt, "to_string", N; buffer.to_string(rt.alloc()), Ok(text.as_bytes()));
     same_read!(rt, "to_vec", N; buffer.to_vec(rt.alloc()), Ok(text.as_bytes()));
-    let list = buffer.as_bytes();
-    same_read!(rt, "decode_to_array", N; decode_to_array::<N>(list), Ok(&bytes));
-    same_read!(rt, "const_decode_to_array", N; const_decode_to_array::<N>(list), Ok(&bytes));
-    lends(rt, &buffer.clone().expect(rt, "memory"), &text);
+    lends(rt, &buffer.clone().expect(rt, "memory"), text);
 }
 
 #[test]

@@ -221,6 +221,10 @@ fn raw_checks(rt: HostRuntime) {
         let checks = [check_raw(text), const_check_raw(text)];
         same!(&rt, "check_raw, const_check_raw", Text(text); checks, [want; 2]);
     }
+}
+
+#[test]
+fn checks_of_digits(rt: HostRuntime) {
     for length in 1..=130usize {
         let text = make_digits(rt.alloc(), length).expect(&rt, "memory");
         let result = if length % 2 == 0 { Ok(()) } else { Err(ODD) };
