@@ -1,7 +1,8 @@
 //! Calls that allocate.
 
 use crate::inputs::*;
-use crate::judge::{allocates, judge_allocating};
+use crate::judge::allocates;
+use const_hex::FromHexError::{InvalidStringLength, NoMemory, OddLength};
 use const_hex::serde::no_prefix;
 use const_hex::*;
 use const_hex_vectors::{KernelCase, by_each_kernel};
@@ -66,7 +67,7 @@ fn write_json(rt: &impl Print, alloc: Global, count: &mut usize) {
 }
 
 fn read_json(rt: &impl Print, alloc: Global, inputs: &Inputs, count: &mut usize) {
-    allocates!(rt, count, JsonError::Hex(NO_MEMORY);
+    allocates!(rt, count, JsonError::Hex(NoMemory);
         deserialize::<Vec<u8>>(alloc, &inputs.text) => Ok(KIWI),
         no_prefix::deserialize::<Vec<u8>>(alloc, &inputs.text) => Ok(KIWI),
         deserialize::<Vec<u8>>(alloc, &inputs.bad) => Err(JsonError::Hex(Z_AT_0)),
@@ -75,13 +76,13 @@ fn read_json(rt: &impl Print, alloc: Global, inputs: &Inputs, count: &mut usize)
 
 fn decode_all(rt: &impl Print, alloc: Global, count: &mut usize) {
     let wrong = Err(Z_AT_0);
-    allocates!(rt, count, NO_MEMORY;
+    allocates!(rt, count, NoMemory;
         decode(alloc, TEXT) => Ok(KIWI), decode(alloc, BAD) => wrong,
         <Vec<u8>>::from_hex(alloc, TEXT) => Ok(KIWI), <Vec<u8>>::from_hex(alloc, BAD) => wrong,
         <BoxedSlice<u8>>::from_hex(alloc, TEXT) => Ok(KIWI), <BoxedSlice<u8>>::from_hex(alloc, BAD) => wrong,
     );
     let wrong = Err(Z_AT_0);
-    allocates!(rt, count, NO_MEMORY;
+    allocates!(rt, count, NoMemory;
         <Vec<i8>>::from_hex(alloc, TEXT) => Ok(SIGNED), <Vec<i8>>::from_hex(alloc, BAD) => wrong,
         <BoxedSlice<i8>>::from_hex(alloc, TEXT) => Ok(SIGNED),
         <BoxedSlice<i8>>::from_hex(alloc, BAD) => wrong,
@@ -89,17 +90,13 @@ fn decode_all(rt: &impl Print, alloc: Global, count: &mut usize) {
     decode_pointers(rt, alloc, count);
 }
 
-/// Pointers, by whether they point to the right bytes.
 fn decode_pointers(rt: &impl Print, alloc: Global, count: &mut usize) {
-    let (right, error) = (Ok(true), Err(NO_MEMORY));
-    let list = <Box<Rc<Vec<u8>>>>::from_hex(alloc, TEXT).map(|list| list.as_slice() == KIWI);
-    judge_allocating(rt, "from_hex of Box<Rc>", list, right, error, count);
-    let array = <Box<[u8; 4]>>::from_hex(alloc, TEXT).map(|array| *array == *b"kiwi");
-    judge_allocating(rt, "from_hex of Box", array, right, error, count);
-    let array = <Rc<[i8; 4]>>::from_hex(alloc, TEXT).map(|array| *array == [107, 105, 119, 105]);
-    judge_allocating(rt, "from_hex of Rc", array, right, error, count);
-    let wrong = <Box<Rc<Vec<u8>>>>::from_hex(alloc, BAD).map(|_| true);
-    judge_allocating(rt, "from_hex of zz", wrong, Err(Z_AT_0), error, count);
+    allocates!(rt, count, NoMemory;
+        <Box<Rc<Vec<u8>>>>::from_hex(alloc, TEXT).map(|list| [list.as_slice() == KIWI]) => Ok(&[true]),
+        <Box<Rc<Vec<u8>>>>::from_hex(alloc, BAD).map(|_| [true]) => Err(Z_AT_0),
+        <Box<[u8; 4]>>::from_hex(alloc, TEXT).map(|array| *array) => Ok(KIWI),
+        <Rc<[i8; 4]>>::from_hex(alloc, TEXT).map(|array| *array) => Ok(SIGNED),
+    );
 }
 
 /// The texts are a step of 32 lanes, one of 16, and a remainder.
@@ -110,7 +107,7 @@ fn by_kernel<K: Kernel>(rt: &impl Print, alloc: Global, count: &mut usize, _kern
         encode_with::<K, false>(alloc, &BYTES) => Ok(&DIGITS),
         encode_with::<K, true>(alloc, &BYTES) => Ok(&large),
     );
-    allocates!(rt, count, NO_MEMORY;
+    allocates!(rt, count, NoMemory;
         decode_with::<K>(alloc, &DIGITS) => Ok(&BYTES), decode_with::<K>(alloc, BAD) => Err(Z_AT_0),
         decode_with::<K>(alloc, &wrong) => Err(G_AT_100),
     );
@@ -122,11 +119,15 @@ fn by_kernel<K: Kernel>(rt: &impl Print, alloc: Global, count: &mut usize, _kern
 /// Judges the stream of [`DATA`] after `0x`, which has three pieces. If there is no memory for one,
 /// the sink keeps those before it.
 fn judge_stream(rt: &impl Print, done: Result<(), SinkError>, sink: &PieceSink, count: &mut usize) {
-    let kept = sink.pieces().len();
-    let state = (kept < 3, sink.no_memory(), sink.calls() == kept);
-    let (right, error) = (
-        (Ok(()), (false, false, true)),
-        (Err(SinkError), (true, true, false)),
+    let is_short = sink.pieces().len() < 3;
+    let state = (
+        is_short,
+        sink.no_memory(),
+        sink.calls() > sink.pieces().len(),
     );
-    judge_allocating(rt, "a stream", (done, state), right, error, count);
+    let result = match done {
+        Ok(()) => Ok([state]),
+        Err(SinkError) => Err((SinkError, state)),
+    };
+    allocates!(rt, count, (SinkError, (true, true, true)); result => Ok(&[(false, false, false)]),);
 }

@@ -16,24 +16,14 @@ pub(crate) const UPPER: &[u8] = b"6B697769";
 pub(crate) const TEXT: &[u8] = b"0x6b697769";
 
 pub(crate) const PREFIXED: &[u8] = b"0x6B697769";
-/// A text of odd length, one with invalid characters, and the errors.
+/// A text of odd length, and one with invalid characters.
 pub(crate) const ODD: &[u8] = b"0x1";
 
 pub(crate) const BAD: &[u8] = b"zz";
-
-pub(crate) const ODD_LENGTH: FromHexError = FromHexError::OddLength;
-
-pub(crate) const OTHER_LENGTH: FromHexError = FromHexError::InvalidStringLength;
-
-pub(crate) const NO_MEMORY: FromHexError = FromHexError::NoMemory;
 /// Errors by their character and its position.
 pub(crate) const Z_AT_0: FromHexError = FromHexError::InvalidHexCharacter { c: 'z', index: 0 };
 
-pub(crate) const Z_AT_10: FromHexError = FromHexError::InvalidHexCharacter { c: 'z', index: 10 };
-
 pub(crate) const G_AT_100: FromHexError = FromHexError::InvalidHexCharacter { c: 'g', index: 100 };
-
-pub(crate) const LINE_AT_5: FromHexError = FromHexError::InvalidHexCharacter { c: '\n', index: 5 };
 /// The text of a hash of bytes 0xAB.
 pub(crate) const HASH: &[u8] =
     b"0xabababababababababababababababababababababababababababababababab";

@@ -26,23 +26,8 @@ pub(crate) fn judge<A: PartialEq + Drop>(rt: &impl Print, call: &str, returned: 
     }
 }
 
-/// As `judge`, for a call that returns `out_of_memory` if an allocation fails, which is counted.
-pub(crate) fn judge_allocating<A: PartialEq + Drop>(
-    rt: &impl Print,
-    call: &str,
-    returned: A,
-    wanted: A,
-    out_of_memory: A,
-    count: &mut usize,
-) {
-    if returned == out_of_memory {
-        *count = count.saturating_add(1);
-    } else {
-        judge(rt, call, returned, wanted);
-    }
-}
-
-/// As `judge_allocating`, for a call that returns items that it owns.
+/// As `judge`, for a call that returns items that it owns, or `out_of_memory` if an allocation fails,
+/// which is counted.
 pub(crate) fn judge_items<T, B, E>(
     rt: &impl Print,
     call: &str,

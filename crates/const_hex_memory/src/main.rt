@@ -10,7 +10,6 @@ mod allocating;
 mod inputs;
 mod judge;
 mod nonallocating;
-mod printed;
 
 use crate::inputs::Inputs;
 use std::alloc::AllocError;
@@ -20,7 +19,6 @@ fn main(rt: HostRuntime) {
     match Inputs::new(alloc) {
         Ok(inputs) => {
             nonallocating::make_calls(&rt, alloc, &inputs);
-            printed::make_calls(&rt);
             allocating::make_calls(&rt, alloc, &inputs, &mut out_of_memory);
         }
         Err(AllocError) => out_of_memory = 1,
