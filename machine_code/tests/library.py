@@ -10,8 +10,7 @@ import library
 TOP = pathlib.Path(__file__).resolve().parents[2]
 ARCHIVE = os.environ.get("CONST_HEX_ARCHIVE", TOP / "build" / "c" / "libconst_hex.a")
 AARCH64 = os.environ.get("CONST_HEX_AARCH64", TOP / "build" / "aarch64" / "libconst_hex.a")
-RELEASE = TOP / "rust" / "capi" / "target" / "wasm32-unknown-unknown" / "release"
-MODULE = os.environ.get("CONST_HEX_MODULE", RELEASE / "const_hex.wasm")
+MODULE = os.environ.get("CONST_HEX_MODULE", TOP / "build" / "const_hex.wasm")
 
 NEEDED = ("aarch64-linux-gnu-gcc", "qemu-aarch64")
 needs_aarch64 = unittest.skipUnless(
