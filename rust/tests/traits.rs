@@ -6,6 +6,14 @@ use const_hex_proved::{check, display, FromHexError, ToHex};
 const BYTES: [u8; 4] = [0, 127, 128, 255];
 const TEXT: &str = "007f80ff";
 
+/// Without the feature `std`, too.
+#[cfg(feature = "core-error")]
+#[test]
+fn an_error_of_core() {
+    let error: &dyn core::error::Error = &FromHexError::OddLength;
+    assert_eq!(error.to_string(), "odd number of digits");
+}
+
 #[test]
 fn printing() {
     assert_eq!(format!("{:>20}", display(BYTES)), TEXT);
