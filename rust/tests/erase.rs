@@ -175,7 +175,6 @@ fn what_each_rule_changes() {
             "pub fn owned(alloc: Global) {}",
             "#[cfg(feature = \"alloc\")]\npub fn owned(alloc: Global) {}",
         ),
-        ("sink", "pub mod pieces;\npub mod output;", "pub mod output;"),
         (
             "tables",
             "pub fn value_at(byte: u8) -> u8 {}",

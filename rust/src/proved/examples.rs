@@ -10,6 +10,7 @@ use crate::proved::output::Output;
 use crate::proved::output::buffered::BufferedOutput;
 use crate::proved::output::slice::SliceOutput;
 use crate::proved::sink::output::SinkOutput;
+use crate::proved::sink::pieces::PieceSink;
 use crate::proved::sink::{Sink, SinkError};
 use crate::proved::stream::BufferedHex;
 use crate::proved::tables::{
@@ -284,6 +285,126 @@ fn output_write_ends() -> Result<(), Box<dyn Error>> {
     let mut text = [b'.'; 4];
     SliceOutput::new(&mut text).write_ends(b"ab", b"bc", 3);
     assert_eq!(text, *b"abc.");
+    Ok(())
+}
+
+#[test]
+fn sink_output_sinkoutput() -> Result<(), Box<dyn Error>> {
+    let mut sink = PieceSink::new(Global, 2);
+    let mut output = SinkOutput::new(&mut sink);
+    output.write(b"one");
+    output.write(b"two");
+    output.write(b"three");
+    assert_eq!(output.finish(), Err(SinkError));
+    assert_eq!(sink.calls(), 2);
+    Ok(())
+}
+
+#[test]
+fn sink_output_new() -> Result<(), Box<dyn Error>> {
+    let mut sink = PieceSink::new(Global, 0);
+    assert_eq!(SinkOutput::new(&mut sink).remaining(), None);
+    Ok(())
+}
+
+#[test]
+fn sink_output_finish() -> Result<(), Box<dyn Error>> {
+    let mut sink = PieceSink::new(Global, 0);
+    let mut output = SinkOutput::new(&mut sink);
+    output.write(b"one");
+    assert!(output.finish().is_ok());
+    Ok(())
+}
+
+#[test]
+fn sink_pieces_piecesink() -> Result<(), Box<dyn Error>> {
+    let mut sink = PieceSink::new(Global, 0);
+    assert!(sink.write_str("one").is_ok());
+    assert_eq!(sink.pieces()[0].as_str(), "one");
+    assert_eq!(sink.calls(), 1);
+    Ok(())
+}
+
+#[test]
+fn sink_pieces_new() -> Result<(), Box<dyn Error>> {
+    let mut sink = PieceSink::new(Global, 2);
+    assert!(sink.write_str("one").is_ok());
+    assert_eq!(sink.write_str("two"), Err(SinkError));
+    Ok(())
+}
+
+#[test]
+fn sink_pieces_pieces() -> Result<(), Box<dyn Error>> {
+    assert!(PieceSink::new(Global, 0).pieces().is_empty());
+    Ok(())
+}
+
+#[test]
+fn sink_pieces_calls() -> Result<(), Box<dyn Error>> {
+    let mut sink = PieceSink::new(Global, 1);
+    assert!(sink.write_str("one").is_err());
+    assert_eq!((sink.calls(), sink.pieces().len()), (1, 0));
+    Ok(())
+}
+
+#[test]
+fn sink_pieces_no_memory() -> Result<(), Box<dyn Error>> {
+    let mut sink = PieceSink::new(Global, 1);
+    assert!(sink.write_str("one").is_err());
+    assert!(!sink.no_memory());
+    Ok(())
+}
+
+#[test]
+fn sink_sinkerror() -> Result<(), Box<dyn Error>> {
+    let mut sink = PieceSink::new(Global, 1);
+    assert_eq!(sink.write_str("one"), Err(SinkError));
+    Ok(())
+}
+
+#[test]
+fn sink_refused() -> Result<(), Box<dyn Error>> {
+    assert!(!PieceSink::new(Global, 1).refused());
+    Ok(())
+}
+
+#[test]
+fn sink_write_str() -> Result<(), Box<dyn Error>> {
+    assert!(PieceSink::new(Global, 0).write_str("one").is_ok());
+    Ok(())
+}
+
+#[test]
+fn stream_bufferedhex() -> Result<(), Box<dyn Error>> {
+    let mut sink = PieceSink::new(Global, 0);
+    let hex = BufferedHex::<false, true>::new(b"kiwi");
+    assert!(hex.write_to(&mut sink).is_ok());
+    assert_eq!(sink.pieces()[0].as_str(), "0x6b697769");
+    Ok(())
+}
+
+#[test]
+fn stream_new() -> Result<(), Box<dyn Error>> {
+    let mut sink = PieceSink::new(Global, 0);
+    assert!(BufferedHex::<true, false>::new(&[0xab]).write_to(&mut sink).is_ok());
+    assert_eq!(sink.pieces()[0].as_str(), "AB");
+    Ok(())
+}
+
+#[test]
+fn stream_write_to() -> Result<(), Box<dyn Error>> {
+    let mut sink = PieceSink::new(Global, 1);
+    let hex = BufferedHex::<false, false>::new(b"kiwi");
+    assert_eq!(hex.write_to(&mut sink), Err(SinkError));
+    Ok(())
+}
+
+#[test]
+fn stream_write_with() -> Result<(), Box<dyn Error>> {
+    let mut sink = PieceSink::new(Global, 0);
+    let hex = BufferedHex::<false, false>::new(b"kiwi");
+    assert!(hex.write_with::<Plain, PieceSink>(&mut sink).is_ok());
+    assert_eq!(sink.pieces()[0].as_str(), "6b697769");
     Ok(())
 }
 

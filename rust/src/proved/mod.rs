@@ -43,28 +43,27 @@ pub use self::formatting::text::*;
 
 // The places that each rule of rust/erase has changed:
 //
-//   13  Rattle's std is the module rattle
+//   14  Rattle's std is the module rattle
 //   26  a formatter has a lifetime in place of its writer's type
 //   52  a function for AVX2 takes in all that it calls
 //   10  a function for C takes slices, which capi makes of pointers and lengths
 //   16  a kernel is compiled for each kind of register, so it names the others beside it
 //   36  a range that is proved to be within its slice is not tested in release builds
 //    1  a value is printed by a format
-//   57  all crates are one module
+//   58  all crates are one module
 //    6  an allocation never fails: without memory the program ends
-//  114  an assertion names no runtime
+//  124  an assertion names no runtime
 //    1  and a constant converts by a cast
 //    6  and the vectors of its kind
 //    1  callers that nothing exports are left out
-//   45  deleted: attribute
-//  206  deleted: contract
-//  161  deleted: ghost item
-//    2  deleted: model
+//   46  deleted: attribute
+//  211  deleted: contract
+//  168  deleted: ghost item
+//    4  deleted: model
 //    1  each value may be dropped
-//    1  nothing in Rust uses a sink that keeps its pieces
-//   17  the allocator is a value
+//   22  the allocator is a value
 //    1  the bytes of a slice are appended at once, and not one by one
 //    1  the kernel is chosen for the processor
 //   10  what a constant calls is constant
-//   12  what allocates is there with the feature alloc
+//   14  what allocates is there with the feature alloc
 //    3  what is for C is a module of const_hex

@@ -4,6 +4,8 @@
 use crate::rattle::prelude::*;
 
 pub mod output;
+#[cfg(feature = "alloc")]
+pub mod pieces;
 
 use crate::rattle::error::Error;
 use crate::rattle::fmt;
