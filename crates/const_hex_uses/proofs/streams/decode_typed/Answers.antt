@@ -1,4 +1,4 @@
-use Rattle.std.proofs.Common.{Ok, Err, [], ◌++◌, length, refl, arith}
+use Rattle.std.proofs.Common.{Ok, Err, [], length, refl, arith}
 use Rattle.const_hex_uses.proofs.lemmas.Decoded.{names_character, tests_space}
 use Rattle.const_hex_uses.proofs.streams.decode_typed.Goals as goal
 
