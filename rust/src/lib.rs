@@ -93,11 +93,8 @@ use alloc::{string::String, vec::Vec};
 #[inline]
 #[must_use]
 pub fn encode<T: AsRef<[u8]>>(data: T) -> String {
-    allocated(encoders::encode_with::<FixedKernel, false>(
-        Global,
-        data.as_ref(),
-    ))
-    .0
+    let text = encoders::encode_with::<FixedKernel, false>(Global, data.as_ref());
+    allocated(text).0
 }
 
 /// Returns two uppercase digits per byte, in order. Allocates.
@@ -105,11 +102,8 @@ pub fn encode<T: AsRef<[u8]>>(data: T) -> String {
 #[inline]
 #[must_use]
 pub fn encode_upper<T: AsRef<[u8]>>(data: T) -> String {
-    allocated(encoders::encode_with::<FixedKernel, true>(
-        Global,
-        data.as_ref(),
-    ))
-    .0
+    let text = encoders::encode_with::<FixedKernel, true>(Global, data.as_ref());
+    allocated(text).0
 }
 
 /// Returns `0x`, and then two lowercase digits per byte. Allocates.
@@ -174,15 +168,12 @@ pub fn encode_to_slice_upper<T: AsRef<[u8]>>(
 /// assert_eq!(const_hex_proved::encode_to_str("kiwi", &mut text)?, "6b697769");
 /// # Ok::<(), const_hex_proved::FromHexError>(())
 /// ```
-#[allow(unsafe_code)]
 #[inline]
 pub fn encode_to_str<T: AsRef<[u8]>>(
     input: T,
     output: &mut [u8],
 ) -> Result<&mut str, FromHexError> {
-    encode_to_slice(input, output)?;
-    // SAFETY: the encoder has filled the output.
-    Ok(unsafe { text_of_digits(output) })
+    digits_in(output, input.as_ref(), false)
 }
 
 /// Does the same as [`encode_to_slice_upper`], and returns the output as a string. Does not allocate.
@@ -190,28 +181,26 @@ pub fn encode_to_str<T: AsRef<[u8]>>(
 /// # Errors
 ///
 /// Returns the errors of [`encode_to_slice`].
-#[allow(unsafe_code)]
 #[inline]
 pub fn encode_to_str_upper<T: AsRef<[u8]>>(
     input: T,
     output: &mut [u8],
 ) -> Result<&mut str, FromHexError> {
-    encode_to_slice_upper(input, output)?;
-    // SAFETY: the encoder has filled the output.
-    Ok(unsafe { text_of_digits(output) })
+    digits_in(output, input.as_ref(), true)
 }
 
-/// Returns what an encoder has filled as a string.
-///
-/// # Safety
-///
-/// An encoder has filled all of it.
+/// Fills `output` with two digits per byte, and returns it as a string.
 #[allow(unsafe_code)]
 #[inline]
-unsafe fn text_of_digits(digits: &mut [u8]) -> &mut str {
-    debug_assert!(digits.is_ascii());
-    // SAFETY: it is proved of the encoders that what they write is ASCII.
-    unsafe { core::str::from_utf8_unchecked_mut(digits) }
+fn digits_in<'a>(
+    output: &'a mut [u8],
+    input: &[u8],
+    upper: bool,
+) -> Result<&'a mut str, FromHexError> {
+    encoders::encode_full_to_slice(input, false, upper, output)?;
+    debug_assert!(output.is_ascii());
+    // SAFETY: the encoder has filled the output, and it is proved that what it writes is ASCII.
+    Ok(unsafe { core::str::from_utf8_unchecked_mut(output) })
 }
 
 /// Returns the bytes that a text decodes to. Allocates, also for a text that is invalid, but not for one of

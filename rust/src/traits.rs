@@ -2,8 +2,10 @@
 
 use crate::proved::codec::{decoders, encoders};
 use crate::FromHexError;
+#[cfg(all(feature = "alloc", target_has_atomic = "ptr"))]
+use alloc::sync::Arc;
 #[cfg(feature = "alloc")]
-use alloc::string::String;
+use alloc::{borrow::Cow, borrow::ToOwned, boxed::Box, rc::Rc, string::String, vec::Vec};
 
 /// Defines the trait `FromHex` and its impls.
 macro_rules! from_hex {
@@ -76,10 +78,6 @@ pub use unsigned::FromHex;
 
 mod unsigned {
     use super::*;
-    #[cfg(all(feature = "alloc", target_has_atomic = "ptr"))]
-    use alloc::sync::Arc;
-    #[cfg(feature = "alloc")]
-    use alloc::{borrow::Cow, borrow::ToOwned, boxed::Box, rc::Rc, vec::Vec};
 
     from_hex! {
         /// A type that is read from hexadecimal text: bytes in arrays, vectors and boxes, and their holders.
@@ -95,10 +93,6 @@ mod unsigned {
 /// The trait [`FromHex`](signed::FromHex) of the crate `const-hex`.
 pub mod signed {
     use super::*;
-    #[cfg(all(feature = "alloc", target_has_atomic = "ptr"))]
-    use alloc::sync::Arc;
-    #[cfg(feature = "alloc")]
-    use alloc::{borrow::Cow, borrow::ToOwned, boxed::Box, rc::Rc, vec::Vec};
 
     from_hex! {
         /// The same for arrays, vectors and boxes of `i8` too, in which a byte from 128 on is negative.
