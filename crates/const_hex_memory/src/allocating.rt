@@ -119,15 +119,11 @@ fn by_kernel<K: Kernel>(rt: &impl Print, alloc: Global, count: &mut usize, _kern
 /// Judges the stream of [`DATA`] after `0x`, which has three pieces. If there is no memory for one,
 /// the sink keeps those before it.
 fn judge_stream(rt: &impl Print, done: Result<(), SinkError>, sink: &PieceSink, count: &mut usize) {
-    let is_short = sink.pieces().len() < 3;
-    let state = (
-        is_short,
-        sink.no_memory(),
-        sink.calls() > sink.pieces().len(),
-    );
+    let kept = sink.pieces().len();
+    let state = [kept < 3, sink.no_memory(), sink.calls() > kept];
     let result = match done {
-        Ok(()) => Ok([state]),
+        Ok(()) => Ok(state),
         Err(SinkError) => Err((SinkError, state)),
     };
-    allocates!(rt, count, (SinkError, (true, true, true)); result => Ok(&[(false, false, false)]),);
+    allocates!(rt, count, (SinkError, [true; 3]); result => Ok(&[false; 3]),);
 }
