@@ -3,12 +3,8 @@
  */
 #include "model.h"
 
-static void sizes_and_version(void) {
-    static const struct {
-        size_t length;
-        unsigned flags;
-        size_t size;
-    } rows[] = {
+TEST(sizes_and_version) {
+    static const size_t rows[][3] = {
         {SIZE_MAX / 2, CONST_HEX_NO_NUL, SIZE_MAX - 1},
         {SIZE_MAX / 2, 0, SIZE_MAX},
         {SIZE_MAX / 2 - 1, CONST_HEX_PREFIX | CONST_HEX_NO_NUL, SIZE_MAX - 1},
@@ -20,8 +16,8 @@ static void sizes_and_version(void) {
         {1, 1u << 31, SIZE_MAX},
     };
     for (size_t row = 0; row < sizeof rows / sizeof *rows; row++) {
-        holds(build->encoded_size(rows[row].length, rows[row].flags) == rows[row].size, "encoded_size", row,
-              0);
+        size_t size = build->encoded_size(rows[row][0], (unsigned)rows[row][1]);
+        holds(size == rows[row][2], "encoded_size", row, 0);
     }
     holds(CONST_HEX_ENCODED_SIZE(3 + 1, 0) == 9 && CONST_HEX_ENCODED_SIZE(20, CONST_HEX_PREFIX) == 43 &&
               CONST_HEX_ENCODED_SIZE(32, CONST_HEX_UPPER | CONST_HEX_NO_NUL) == 64,
@@ -29,7 +25,7 @@ static void sizes_and_version(void) {
     holds(CONST_HEX_VERSION == 10000 && build->version() == CONST_HEX_VERSION, "the version", 0, 0);
 }
 
-static void messages(void) {
+TEST(messages) {
     static const struct {
         struct const_hex_error error;
         const char *message;
@@ -49,20 +45,18 @@ static void messages(void) {
     };
     for (size_t row = 0; row < sizeof rows / sizeof *rows; row++) {
         for (size_t size = 0; size <= CONST_HEX_MESSAGE_SIZE; size++) {
-            char *message = (char *)marked(areas.text, size, 0);
-            size_t length = build->error_message(&rows[row].error, message, size);
-            size_t wanted = size == 0 ? 0 : least(strlen(rows[row].message), size - 1),
-                   nul = size == 0 ? 0 : 1;
-            holds(length == wanted && memcmp(message, rows[row].message, wanted) == 0 &&
-                      memcmp(message + wanted, "", nul) == 0 &&
-                      is_rest_marked(areas.text, (unsigned char *)message, size, wanted + nul),
+            struct buffer message = marked(areas.text, size, 0);
+            size_t length = build->error_message(&rows[row].error, message.bytes, size), nul = least(size, 1);
+            size_t wanted = least(strlen(rows[row].message), size - nul);
+            holds(length == wanted && memcmp(message.bytes, rows[row].message, wanted) == 0 &&
+                      memcmp(message.bytes + wanted, "", nul) == 0 && is_rest_marked(message, wanted + nul),
                   "error_message", row, size);
         }
     }
 }
 
 /* A buffer of size 0 may be NULL. */
-static void null_buffers(void) {
+TEST(null_buffers) {
     struct const_hex_error error = UNSET;
     struct const_hex_decoder decoder = {{0, 0}};
     size_t written = 99, newly_written = 99;
@@ -81,7 +75,7 @@ static void null_buffers(void) {
 }
 
 /* Without an error a function of the library returns and writes the same. */
-static void null_errors(void) {
+TEST(null_errors) {
     static const char *const texts[] = {"", "0x6b697769", "6b6", "6b697z", "0x"};
     for (size_t which = 0; which < sizeof texts / sizeof *texts && build == BUILDS; which++) {
         const char *text = texts[which];
@@ -90,26 +84,26 @@ static void null_errors(void) {
         bool is_text = model->error.kind == 0;
         struct const_hex_decoder decoder = {{0, 0}};
         struct output output = new_output(4, 0);
-        output.result = build->decode(text, length, output.bytes, 4, &output.written, NULL);
+        output.result = build->decode(text, length, output.buffer.bytes, 4, &output.written, NULL);
         output.error = is_text ? UNSET : model->error;
         judge(output, model, 0, length, model->error, "decode");
-        holds(build->decode_exact(text, length, output.bytes, 4, NULL) == (is_text && model->count == 4) &&
+        holds(build->decode_exact(text, length, areas.decoded, 4, NULL) == (is_text && model->count == 4) &&
                   build->check(text, length, NULL) == is_text,
               "decode_exact or check", which, 0);
-        holds((build->decoder_update(&decoder, text, length, output.bytes, 4, &output.written, NULL) &&
+        holds((build->decoder_update(&decoder, text, length, areas.decoded, 4, &output.written, NULL) &&
                build->decoder_finish(&decoder, NULL)) == is_text,
               "a decoder", which, 0);
     }
 }
 
 /* An unknown flag fails, and leaves the empty string unless the flag for no NUL is set too. */
-static void unknown_flags(void) {
+TEST(unknown_flags) {
     for (unsigned bit = 3; bit < 32; bit++) {
         for (unsigned known = 0; known < 8; known++) {
-            char *text = (char *)marked(areas.text, 20, 0);
+            struct buffer text = marked(areas.text, 20, 0);
             size_t written = known & CONST_HEX_NO_NUL ? 0 : 1;
-            holds(!build->encode("kiwi", 4, text, 20, 1u << bit | known) && memcmp(text, "", written) == 0 &&
-                      is_rest_marked(areas.text, (unsigned char *)text, 20, written),
+            holds(!build->encode("kiwi", 4, text.bytes, 20, 1u << bit | known) &&
+                      memcmp(text.bytes, "", written) == 0 && is_rest_marked(text, written),
                   "encode", bit, known);
         }
     }
@@ -129,7 +123,7 @@ static void judge_both_ways(size_t count, size_t by) {
 }
 
 /* Every length up to 300 bytes at every alignment, at the end of an area and at its start. */
-static void every_length_and_alignment(void) {
+TEST(every_length_and_alignment) {
     for (size_t count = 0; count <= 300; count++) {
         for (size_t by = 0; by < 128; by += step) {
             judge_both_ways(count, by);
@@ -138,7 +132,7 @@ static void every_length_and_alignment(void) {
 }
 
 /* Lengths around a page and larger powers of two. */
-static void long_texts(void) {
+TEST(long_texts) {
     for (size_t power = 512; power <= 65536; power *= 2) {
         for (size_t count = power - 3; count <= power + 3; count++) {
             judge_both_ways(count, 0);
@@ -157,7 +151,7 @@ static char *random_text(size_t length, size_t form) {
 }
 
 /* Each ninth character, from another one each time, at every position of every length. */
-static void every_character_and_position(void) {
+TEST(every_character_and_position) {
     for (size_t length = 1; length <= 130; length++) {
         for (size_t index = 0; index < length; index++) {
             for (size_t form = 0; form < 3; form++) {
@@ -172,7 +166,7 @@ static void every_character_and_position(void) {
 }
 
 /* Every two cuts, of longer texts every cut, with an invalid character at each position or at none. */
-static void every_cut(void) {
+TEST(every_cut) {
     for (size_t length = 0; length <= 200; length += (length < 80 ? 1 : 3) * step) {
         for (size_t form = 0; form < 3; form++) {
             for (size_t invalid = 0; invalid <= length;
@@ -191,13 +185,13 @@ static void every_cut(void) {
 }
 
 /* A decoder with any contents: a function returns, and writes no more than it may. */
-static void any_contents_of_a_decoder(void) {
+TEST(any_contents_of_a_decoder) {
     static const char TEXT[] = "0x6b697769zz00112233445566778899aabbccddeeff0123456789abcdef0123456789";
     for (size_t turn = 0; turn < 200000; turn += step) {
         struct const_hex_decoder decoder;
         size_t length = (size_t)(rand() >> 4) % sizeof TEXT,
                start = (size_t)(rand() >> 4) % (sizeof TEXT - length);
-        const char *text = (const char *)memcpy(position(areas.text, length, 0), TEXT + start, length);
+        const char *text = memcpy(position(areas.text, length, 0), TEXT + start, length);
         struct output output = new_output((size_t)(rand() >> 4) % (length / 2 + 3), 0);
         /* Small values too, and those next to the greatest. */
         for (size_t word = 0; word < 2; word++) {
@@ -206,27 +200,26 @@ static void any_contents_of_a_decoder(void) {
             decoder.state[word] ^= (rand() >> 8) % 4 == 0 ? SIZE_MAX : 0;
         }
         update(&output, &decoder, text, length);
-        size_t changed = output.result ? output.written : output.size;
-        holds(is_rest_marked(areas.decoded, output.bytes, output.size, changed), "a write outside", length,
-              changed);
-        holds(output.result ? output.written <= output.size && output.written <= (length + 1) / 2
+        size_t size = output.buffer.size, changed = output.result ? output.written : size;
+        holds(is_rest_marked(output.buffer, changed), "a write outside", length, changed);
+        holds(output.result ? output.written <= size && output.written <= (length + 1) / 2
                             : output.written == 0 && (output.error.kind == CONST_HEX_INVALID_LENGTH ||
                                                       output.error.kind == CONST_HEX_INVALID_CHARACTER),
-              "decoder_update", length, output.size);
+              "decoder_update", length, size);
         bool result = build->decoder_finish(&decoder, &output.error);
         holds(result || output.error.kind == CONST_HEX_ODD_LENGTH ||
                   output.error.kind == CONST_HEX_INVALID_CHARACTER,
-              "decoder_finish", length, output.size);
+              "decoder_finish", length, size);
     }
 }
 
 /* Lengths that no buffer has, as from a failed read(): an error, before a byte is read or written. */
-static void lengths_that_wrap(void) {
+TEST(lengths_that_wrap) {
     const size_t half = SIZE_MAX / 2 + 1, most = SIZE_MAX;
-    const char *text = (const char *)memset(position(areas.text, 4096, 0), '1', 4096);
+    const char *text = memset(position(areas.text, 4096, 0), '1', 4096);
     for (size_t more = 0; more <= 40; more++) {
         struct output output = new_output(4096, 0);
-        char *buffer = (char *)output.bytes;
+        char *buffer = output.buffer.bytes;
         for (unsigned flags = 4; flags < 8; flags++) {
             size_t beside = flags & CONST_HEX_PREFIX ? 2 : 0;
             holds(!build->encode(text, half + more, buffer, 2 * more + beside, flags) &&
@@ -243,21 +236,6 @@ static void lengths_that_wrap(void) {
             uint32_t wanted = which == 3 ? CONST_HEX_ODD_LENGTH : CONST_HEX_INVALID_LENGTH;
             holds(errors[which].kind == wanted, "the error", more, which);
         }
-        holds(is_rest_marked(areas.decoded, output.bytes, 4096, 0), "a written buffer", more, 0);
+        holds(is_rest_marked(output.buffer, 0), "a written buffer", more, 0);
     }
 }
-
-static const struct test TESTS[] = {
-    TEST(sizes_and_version),
-    TEST(messages),
-    TEST(null_buffers),
-    TEST(null_errors),
-    TEST(unknown_flags),
-    TEST(every_length_and_alignment),
-    TEST(long_texts),
-    TEST(every_character_and_position),
-    TEST(every_cut),
-    TEST(any_contents_of_a_decoder),
-    TEST(lengths_that_wrap),
-};
-MAIN(TESTS)

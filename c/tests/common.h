@@ -58,16 +58,14 @@ static const struct build *builds_end(void) {
 
 /* ---- Memory ---- */
 
-/* The size of an area, what fills an output before it is written, and how many bytes around it are compared.
- */
-enum { AREA = 33 * 4096, MARK = 0xEE, AROUND = 64 };
+/* The size of an area, what fills an output before a call, and how many bytes around it are compared. */
+enum { AREA = 33 * 4096, MARK = 0x6E, AROUND = 64 };
 
 /* The areas of an input in bytes, of a text, and of decoded bytes, between pages that cannot be accessed. */
-static struct { unsigned char *bytes, *text, *decoded; } areas;
+static struct { char *bytes, *text, *decoded; } areas;
 
-static unsigned char *new_area(void) {
-    unsigned char *all =
-        (unsigned char *)mmap(NULL, AREA + 2 * 4096, PROT_NONE, MAP_PRIVATE | MAP_ANONYMOUS, -1, 0);
+static char *new_area(void) {
+    char *all = (char *)mmap(NULL, AREA + 2 * 4096, PROT_NONE, MAP_PRIVATE | MAP_ANONYMOUS, -1, 0);
     if (all == MAP_FAILED || mprotect(all + 4096, AREA, PROT_READ | PROT_WRITE) != 0) {
         puts("no area with pages of 4096 bytes");
         exit(2);
@@ -75,40 +73,36 @@ static unsigned char *new_area(void) {
     return all + 4096;
 }
 
-/* Where a buffer begins: `by` bytes before the end of the area for 0 to 63, and then `by - 64` after its
- * start. */
-static inline unsigned char *position(unsigned char *area, size_t size, size_t by) {
+static inline size_t least(size_t one, size_t other) { return one < other ? one : other; }
+
+/* Where a buffer begins: `by` bytes before the end of the area up to 63, then `by - 64` after its start. */
+static inline char *position(char *area, size_t size, size_t by) {
     return by < 64 ? area + AREA - size - by : area + by - 64;
 }
 
-static inline size_t least(size_t one, size_t other) { return one < other ? one : other; }
-static inline size_t before(const unsigned char *area, const unsigned char *buffer) {
-    return least(AROUND, (size_t)(buffer - area));
-}
-static inline size_t after(const unsigned char *area, const unsigned char *end) {
-    return least(AROUND, (size_t)(area + AREA - end));
-}
+/* A buffer, and how many bytes around it are compared, as far as the area goes. */
+struct buffer {
+    char *bytes;
+    size_t size, before, after;
+};
 
-/* A buffer at that position. It and the bytes around it, as far as the area goes, are marked. */
-static inline unsigned char *marked(unsigned char *area, size_t size, size_t by) {
-    unsigned char *buffer = position(area, size, by), *start = buffer - before(area, buffer);
-    memset(start, MARK, (size_t)(buffer - start) + size + after(area, buffer + size));
+/* A buffer at that position, in which each byte is marked, as are those around it. */
+static inline struct buffer marked(char *area, size_t size, size_t by) {
+    char *bytes = position(area, size, by);
+    size_t before = least(AROUND, (size_t)(bytes - area));
+    struct buffer buffer = {bytes, size, before, least(AROUND, (size_t)(area + AREA - bytes) - size)};
+    memset(bytes - before, MARK, before + size + buffer.after);
     return buffer;
 }
 
-static inline bool is_marked(const unsigned char *bytes, size_t count) {
-    size_t index = 0;
-    while (index < count && bytes[index] == MARK) {
-        index++;
-    }
-    return index == count;
+static inline bool is_marked(const char *bytes, size_t count) {
+    return count == 0 || (bytes[0] == MARK && memcmp(bytes, bytes + 1, count - 1) == 0);
 }
 
 /* Whether the buffer's bytes after the first `written`, and those around it, are still marked. */
-static inline bool is_rest_marked(const unsigned char *area, const unsigned char *buffer, size_t size,
-                                  size_t written) {
-    return is_marked(buffer - before(area, buffer), before(area, buffer)) &&
-           is_marked(buffer + written, size - written + after(area, buffer + size));
+static inline bool is_rest_marked(struct buffer buffer, size_t written) {
+    return is_marked(buffer.bytes - buffer.before, buffer.before) &&
+           is_marked(buffer.bytes + written, buffer.size - written + buffer.after);
 }
 
 /* ---- The runner ---- */
@@ -124,24 +118,29 @@ static inline void holds(bool fact, const char *what, size_t length, size_t deta
     }
 }
 
-struct test {
+/* Begins a test, and adds it to those that main runs. */
+#define TEST(name)                                                                       \
+    static void name(void);                                                              \
+    __attribute__((constructor)) static void add_##name(void) {                          \
+        struct test test = {#name, name};                                                \
+        tests[tests_count++] = test;                                                     \
+    }                                                                                    \
+    static void name(void)
+static struct test {
     const char *name;
     void (*run)(void);
-};
-#define TEST(name) \
-    { #name, name }
-#define MAIN(tests) \
-    int main(int words, char **argument) { return run(tests, sizeof tests / sizeof *tests, words, argument); }
+} tests[20];
+static size_t tests_count;
 
-static inline int run(const struct test *tests, size_t count, int words, char **argument) {
+int main(int words, char **argument) {
     const struct build *end = builds_end();
     areas.bytes = new_area();
     areas.text = new_area();
     areas.decoded = new_area();
     step = words > 2 ? strtoul(argument[2], NULL, 10) : 1;
-    for (size_t test = 0; test < count; test++) {
-        for (build = BUILDS; build < end && (words < 2 || strcmp(argument[1], tests[test].name) == 0);
-             build++) {
+    for (size_t test = 0; test < tests_count; test++) {
+        bool is_asked = words < 2 || strcmp(argument[1], tests[test].name) == 0;
+        for (build = BUILDS; is_asked && build < end; build++) {
             tests[test].run();
         }
     }

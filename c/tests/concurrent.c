@@ -21,7 +21,7 @@ static void *work(void *number) {
     return NULL;
 }
 
-static void threads(void) {
+TEST(threads) {
     pthread_t all[THREADS];
     for (size_t which = 0; which < THREADS; which++) {
         holds(pthread_create(&all[which], NULL, work, (void *)(which + 1)) == 0, "a thread begins", which, 0);
@@ -49,9 +49,9 @@ static bool read_once(size_t turn, struct output *output) {
     struct const_hex_decoder decoder = {{0, 0}};
     switch (turn % 5) {
     case 0:
-        return build->decode(text, LENGTH, output->bytes, COUNT, &output->written, &output->error);
+        return build->decode(text, LENGTH, output->buffer.bytes, COUNT, &output->written, &output->error);
     case 1:
-        return build->decode_exact(text, LENGTH, output->bytes, COUNT, &output->error);
+        return build->decode_exact(text, LENGTH, output->buffer.bytes, COUNT, &output->error);
     case 2:
         return build->check(text, LENGTH, &output->error);
     case 3:
@@ -63,7 +63,7 @@ static bool read_once(size_t turn, struct output *output) {
 }
 
 /* Each function returns, whatever it returns, and writes only where it may. */
-static void changing_text(void) {
+TEST(changing_text) {
     struct output output = new_output(COUNT, 0);
     pthread_t writer;
     memset((char *)changing, '0', LENGTH);
@@ -76,11 +76,5 @@ static void changing_text(void) {
         stops = turn > 200000 && changes > 10000;
     }
     holds(pthread_join(writer, NULL) == 0, "the other thread", 0, 0);
-    holds(is_rest_marked(areas.decoded, output.bytes, COUNT, COUNT), "a write outside", 0, 0);
+    holds(is_rest_marked(output.buffer, COUNT), "a write outside", 0, 0);
 }
-
-static const struct test TESTS[] = {
-    TEST(threads),
-    TEST(changing_text),
-};
-MAIN(TESTS)

@@ -28,7 +28,7 @@ static inline size_t model_text(const unsigned char *bytes, size_t count, unsign
 struct model {
     size_t start;
     size_t count;
-    unsigned char bytes[AREA / 2];
+    char bytes[AREA / 2];
     bool is_raw;
     struct const_hex_error error;
 };
@@ -49,8 +49,8 @@ static inline const struct model *model_of(const char *text, size_t length, bool
     model.error = none;
     for (size_t index = model.start; index < length; index++) {
         int value = model_value(text[index]);
-        unsigned char *byte = &model.bytes[(index - model.start) / 2];
-        *byte = (unsigned char)((index % 2 == 0 ? 0 : *byte << 4) | (value & 15));
+        char *byte = &model.bytes[(index - model.start) / 2];
+        *byte = (char)((index % 2 == 0 ? 0 : *byte << 4) | (value & 15));
         if (value < 0 && model.error.kind == 0) {
             struct const_hex_error error = {CONST_HEX_INVALID_CHARACTER, (unsigned char)text[index], index};
             model.error = error;
@@ -97,19 +97,19 @@ static inline bool agrees(bool result, struct const_hex_error error, struct cons
 /* What a function that decodes has returned and written, and the buffer for it. */
 struct output {
     bool result;
-    size_t written, size;
-    unsigned char *bytes;
+    size_t written;
+    struct buffer buffer;
     struct const_hex_error error;
 };
 
 static inline struct output new_output(size_t size, size_t by) {
-    struct output output = {false, 99, size, marked(areas.decoded, size, by), UNSET};
+    struct output output = {false, 99, marked(areas.decoded, size, by), UNSET};
     return output;
 }
 
 static inline void update(struct output *output, struct const_hex_decoder *decoder, const char *text,
                           size_t length) {
-    output->result = build->decoder_update(decoder, text, length, output->bytes, output->size,
+    output->result = build->decoder_update(decoder, text, length, output->buffer.bytes, output->buffer.size,
                                            &output->written, &output->error);
 }
 
@@ -123,11 +123,12 @@ static inline void judge(struct output output, const struct model *model, size_t
     size_t count = wanted.kind == 0 ? model_count_before(model, to) - first : 0;
     size_t most =
         wanted.kind == CONST_HEX_INVALID_CHARACTER ? model_count_before(model, wanted.index) - first : count;
-    while (done < most && done < output.size && output.bytes[done] == model->bytes[first + done]) {
+    most = least(most, output.buffer.size);
+    while (done < most && output.buffer.bytes[done] == model->bytes[first + done]) {
         done++;
     }
     holds(agrees(output.result, output.error, wanted) && output.written == count && done >= count &&
-              is_rest_marked(areas.decoded, output.bytes, output.size, done),
+              is_rest_marked(output.buffer, done),
           what, from, to);
 }
 
@@ -139,11 +140,11 @@ static inline void judge_bytes(const unsigned char *bytes, size_t count, size_t 
         size_t size = model_text(bytes, count, flags, wanted), cleared = flags & CONST_HEX_NO_NUL ? 0 : 1;
         holds(build->encoded_size(count, flags) == size, "encoded_size", count, flags);
         for (size_t text_size = size > 0 ? size - 1 : 0; text_size <= size + 2; text_size++) {
-            char *text = (char *)marked(areas.text, text_size, by);
-            bool fits = build->encode(input, count, text, text_size, flags);
+            struct buffer text = marked(areas.text, text_size, by);
+            bool fits = build->encode(input, count, text.bytes, text_size, flags);
             size_t written = fits ? size : least(cleared, text_size);
-            holds(fits == (text_size >= size) && memcmp(text, fits ? wanted : "", written) == 0 &&
-                      is_rest_marked(areas.text, (unsigned char *)text, text_size, written),
+            holds(fits == (text_size >= size) && memcmp(text.bytes, fits ? wanted : "", written) == 0 &&
+                      is_rest_marked(text, written),
                   "encode", count, flags);
         }
     }
@@ -153,10 +154,10 @@ static inline void judge_bytes(const unsigned char *bytes, size_t count, size_t 
 static inline void judge_decoding(const struct model *model, const char *text, size_t length, size_t size,
                                   size_t by) {
     struct output output = new_output(size, by);
-    output.result = build->decode(text, length, output.bytes, size, &output.written, &output.error);
+    output.result = build->decode(text, length, output.buffer.bytes, size, &output.written, &output.error);
     judge(output, model, 0, length, model_error(model, 0, size), "decode");
     output = new_output(size, by);
-    output.result = build->decode_exact(text, length, output.bytes, size, &output.error);
+    output.result = build->decode_exact(text, length, output.buffer.bytes, size, &output.error);
     output.written = output.result ? size : 0;
     judge(output, model, 0, length, model_error(model, size, size), "decode_exact");
 }
@@ -164,7 +165,7 @@ static inline void judge_decoding(const struct model *model, const char *text, s
 /* Reads the text with all functions but those for chunks, into buffers of about the right size. */
 static inline void judge_text(const char *text, size_t length, size_t by) {
     const struct model *model = model_of(text, length, false);
-    const char *input = (const char *)memmove(position(areas.text, length, by), text, length);
+    const char *input = memmove(position(areas.text, length, by), text, length);
     struct const_hex_error error = UNSET;
     bool result = build->check(input, length, &error);
     holds(agrees(result, error, model->error), "check", length, by);
@@ -178,7 +179,7 @@ static inline void judge_text(const char *text, size_t length, size_t by) {
 static inline void judge_chunk(const struct model *model, struct const_hex_decoder *decoder, const char *text,
                                size_t from, size_t to, size_t more) {
     static const struct const_hex_error too_small = {CONST_HEX_INVALID_LENGTH, 0, 0};
-    const char *chunk = (const char *)memcpy(position(areas.text, to - from, 0), text + from, to - from);
+    const char *chunk = memcpy(position(areas.text, to - from, 0), text + from, to - from);
     const struct const_hex_decoder old = *decoder;
     size_t count = model_count_before(model, to) - model_count_before(model, from);
     struct output output = new_output(count - (count > 0), 0);

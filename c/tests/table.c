@@ -111,7 +111,7 @@ static const struct {
     {"write", write_text}, {"write-into", write_text}, {"message", message},
 };
 
-static void table(void) {
+TEST(table) {
     static struct line line;
     FILE *file = fopen(TABLE, "r");
     size_t lines = 0;
@@ -127,8 +127,3 @@ static void table(void) {
     }
     holds(lines >= 300 && feof(file) && fclose(file) == 0, "the whole table", lines, 0);
 }
-
-static const struct test TESTS[] = {
-    TEST(table),
-};
-MAIN(TESTS)
