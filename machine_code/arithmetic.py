@@ -269,5 +269,9 @@ def difference_from_0(first, second):
     return max(first - second, 0)
 
 
+def sum_to_255(first, second):
+    return min(first + second, 255)
+
+
 def equal(first, second):
     return -(first == second)

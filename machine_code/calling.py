@@ -27,6 +27,8 @@ class FrontEnd:
     # How many bytes the call itself puts on the stack.
     PUSHED = 0
     STACK = DISPATCH_STACK = 0
+    # The regions for which NULL is passed.
+    ABSENT = ()
     # Lower limits of symbols.
     LIMITS = {}
 
@@ -37,6 +39,7 @@ class FrontEnd:
         An argument is a pointer, a number, or the lane of its lowest bytes: the others may be anything.
         """
         stack = stack or self.STACK
+        arguments = [0 if getattr(a, "region", None) in self.ABSENT else a for a in arguments]
         size = stack + self.frame(len(arguments))
         state = self.State(Memory([*regions, Region("stack", size, True, 16), Image(code.object)]))
         for name, argument in zip(self.ARGUMENTS, arguments):
@@ -45,7 +48,7 @@ class FrontEnd:
             else:
                 state.registers[name] = as_argument(argument)
         state.registers[state.top] = Pointer("stack", stack)
-        state.ghost["stack"] = stack
+        state.ghost["stack"], state.absent = stack, self.ABSENT
         self.set_return(state, RETURN)
         for at, argument in enumerate(arguments[len(self.ARGUMENTS) :]):
             state.memory.store(Pointer("stack", stack + self.PUSHED + 8 * at), as_argument(argument))

@@ -1,8 +1,9 @@
-"""The builds of a library: the objects of its archive, each with the front end for its processor; or a module
-for WebAssembly."""
+"""The builds of a library: the objects of its archive, each with the front end for its processor; a module for
+WebAssembly; or what cargo makes for C."""
 
 import functools
 import importlib
+import math
 import re
 import subprocess
 
@@ -12,6 +13,7 @@ import wasm.front_end
 import wasm.module
 from calls import CALLS
 from exploration import Code
+from x86_64 import cargo
 
 PROCESSORS = {62: "x86_64", 183: "aarch64"}  # by their number in ELF
 DISPATCH, WASM = "dispatch", "wasm"
@@ -22,6 +24,8 @@ def _members(archive):
     """The names of the builds, with that of dispatch.c, and of their objects. An only build has the name of its
     processor."""
     listed = subprocess.run(["ar", "t", archive], check=True, capture_output=True, text=True).stdout.split()
+    if made := [name for name in listed if name.startswith("const_hex.const_hex.")]:
+        return dict.fromkeys(cargo.BUILDS, made[0])
     found = {match[1]: match[0] for name in listed if (match := re.fullmatch(r"const_hex_(\w+)\.o", name))}
     if "single" in found:
         machine = objects.read(objects.member(archive, found["single"])).machine
@@ -41,7 +45,10 @@ def builds_of(archive):
 def calls_of(build):
     if build == WASM:
         return wasm.calls.CALLS
-    return {name: call for name, call in CALLS.items() if build != "aarch64" or name != "error_message"}
+    if build in ("default", "v3", "x86_64"):
+        return CALLS
+    most = cargo.BUILDS[build].longest if build in cargo.BUILDS else math.inf
+    return {name: call.up_to(most) for name, call in CALLS.items() if name != "error_message"}
 
 
 def code_of(archive, build):
@@ -49,4 +56,6 @@ def code_of(archive, build):
     if build == WASM:
         return Code(wasm.module.read(archive), wasm.front_end)
     obj = objects.read(objects.member(archive, _members(archive)[build]))
+    if build in cargo.BUILDS:
+        return cargo.code_of(obj, build)
     return Code(obj, importlib.import_module(f"{PROCESSORS[obj.machine]}.front_end").FRONT_END)

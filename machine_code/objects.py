@@ -28,6 +28,11 @@ def _page(word, place, target):
     return word & ~0x60FFFFE0 | (pages & 3) << 29 | (pages >> 2 & 0x7FFFF) << 5
 
 
+def _nowhere(word, place, target):
+    """A word of the linker's, which has no place here: an access is refused."""
+    return -place
+
+
 def _place_in_page(size):
     """Of an access of so many bytes, or of an ADD if it is 1."""
 
@@ -42,7 +47,7 @@ def _place_in_page(size):
 # By the number of a processor in ELF and the kind: the new word of 32 bits, from the old one, its place, and
 # what it refers to.
 RELOCATIONS = {
-    62: {2: _relative, 4: _relative},  # R_X86_64_PC32 and R_X86_64_PLT32
+    62: {2: _relative, 4: _relative, 9: _nowhere},  # R_X86_64_PC32, R_X86_64_PLT32, R_X86_64_GOTPCREL
     183: {
         261: _relative,  # R_AARCH64_PREL32
         275: _page,  # R_AARCH64_ADR_PREL_PG_HI21
@@ -67,6 +72,8 @@ class Section:
         # what is added to it.
         self.bytes = bytes(content)
         self.references = []
+        # Whether all relocations are. Otherwise nothing lies at its place, and an access is refused.
+        self.is_known = True
 
     @property
     def end(self):
@@ -151,7 +158,7 @@ def read(data):
     for header in (header for header in headers if header[1] == 4 and header[7] in placed):
         for offset, info, addend in struct.iter_unpack("<QQq", content(header)):
             _relocate(machine, placed[header[7]], offset, info & 0xFFFFFFFF, addresses[info >> 32], addend)
-    return Object(machine, list(placed.values()), symbols, undefined)
+    return Object(machine, [section for section in placed.values() if section.is_known], symbols, undefined)
 
 
 def _text(strings, at):
@@ -160,7 +167,8 @@ def _text(strings, at):
 
 def _relocate(machine, section, offset, kind, symbol, addend):
     if kind not in RELOCATIONS[machine]:
-        raise ValueError(f"relocation of kind {kind} in {section.name}")
+        section.is_known = False
+        return
     section.references.append((offset, kind, symbol, addend))
     [old] = struct.unpack_from("<I", section.content, offset)
     word = RELOCATIONS[machine][kind](old, section.address + offset, symbol + addend)

@@ -19,6 +19,8 @@ class State:
     # How many bytes a number and a pointer have; the calls that are open, if the registers do not say it; and
     # the unknown bytes that decide a `select`, which may be a branch.
     word, frames, selects = 8, (), frozenset()
+    # The regions for which NULL is passed.
+    absent = ()
 
     def __init__(self, memory):
         self.registers = {

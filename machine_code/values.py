@@ -10,10 +10,12 @@ they are the same object.
 A lane is a tuple of bytes, the lowest first. An operation is a Python function of numbers, which `apply`
 tabulates once for each combination of tables that it meets.
 
-`Joined` is the OR of bytes that together depend on more than two variables. It may be joined further, masked
-by a constant, and tested for zero; everything else with it is refused.
+`Joined` is made of bytes that together depend on more than two variables, by OR or as the greatest. It may be
+joined further, tested for zero, asked for its top bit and, if it is made by OR alone, masked by a constant;
+everything else with it is refused.
 """
 
+import functools
 import operator
 
 MOST_VARIABLES = 2
@@ -47,11 +49,12 @@ class Byte:
 
 
 class Joined:
-    __slots__ = ("support", "parts")
+    __slots__ = ("support", "parts", "is_or", "greater_of")
     is_constant = False
 
-    def __init__(self, parts):
-        self.parts = parts
+    def __init__(self, parts, is_or=True, greater_of=()):
+        # Whether it is an OR, and what it is the greater one of if that is an OR and a constant.
+        self.parts, self.is_or, self.greater_of = parts, is_or, greater_of
         self.support = tuple(sorted({variable for part in parts for variable in part.support}))
 
 
@@ -224,24 +227,49 @@ def each(function, *lanes):
 
 
 def parts(byte):
-    """The bytes whose OR this byte is."""
+    """The bytes that this byte is made of: it is zero if all are, and has the OR of their top bits."""
     return byte.parts if type(byte) is Joined else (byte,)
 
 
-def joined(first, second):
-    """The OR of two lanes."""
-    return tuple(map(_join, first, second))
+def joined(first, second, by=operator.or_):
+    """The OR of two lanes, or the greatest of each two bytes."""
+    return tuple([_join(*both, by) for both in zip(first, second)])
 
 
-def _join(first, second):
+def _join(first, second, by):
     if first is ZERO:
         return second
     if second is ZERO:
         return first
     if type(first) is Byte and type(second) is Byte:
         if len({*first.support, *second.support}) <= MOST_VARIABLES:
-            return apply(operator.or_, 1, [(first,), (second,)])[0]
-    return Joined((*parts(first), *parts(second)))
+            return apply(by, 1, [(first,), (second,)])[0]
+    is_or = by is operator.or_ and all(type(byte) is not Joined or byte.is_or for byte in (first, second))
+    greater_of = (first, second) if by is max and type(first) is Joined and first.is_or else ()
+    return Joined((*parts(first), *parts(second)), is_or, greater_of)
+
+
+def is_equal(first, second):
+    """Two lanes byte by byte: 255 where they are equal, and 0 where they are not."""
+    return tuple(map(_is_equal, first, second))
+
+
+def _is_equal(first, second):
+    if type(first) is Joined and first.greater_of and first.greater_of[0] is second:
+        least = first.greater_of[1]
+        if least.is_constant and least.value & least.value - 1 == 0:
+            # An OR is as great as a power of two if one of its parts is.
+            marks = [apply(_is_at_least, 1, [(part,), (least,)]) for part in second.parts]
+            return functools.reduce(joined, marks)[0]
+    return apply(_equal, 1, [(first,), (second,)])[0]
+
+
+def _is_at_least(first, second):
+    return -(first >= second)
+
+
+def _equal(first, second):
+    return -(first == second)
 
 
 def masked(first, second):
@@ -255,7 +283,7 @@ def _mask(first, second):
     if type(first) is not Joined and type(second) is not Joined:
         return apply(operator.and_, 1, [(first,), (second,)])[0]
     first, second = (first, second) if type(first) is Joined else (second, first)
-    if not second.is_constant:
+    if not second.is_constant or not first.is_or:
         raise TooWide("AND of joined bytes")
     left = [part for part in (_mask(part, second) for part in first.parts) if part is not ZERO]
     return Joined(tuple(left)) if len(left) > 1 else (*left, ZERO)[0]

@@ -8,26 +8,31 @@ import tempfile
 from collections import namedtuple
 from functools import lru_cache
 
-# What assembles for a processor: the compiler, `objcopy`, and a first line; and what does nothing.
-Tools = namedtuple("Tools", "compiler objcopy first_line nop")
+import objects
+
+# What assembles for a processor: the compiler and a first line; and what does nothing.
+Tools = namedtuple("Tools", "compiler first_line nop")
 TOOLS = {
-    62: Tools("cc", "objcopy", ".intel_syntax noprefix", b"\x90"),
-    183: Tools("aarch64-linux-gnu-gcc", "aarch64-linux-gnu-objcopy", "", b"\x1f\x20\x03\xd5"),
+    62: Tools("cc", ".intel_syntax noprefix", b"\x90"),
+    183: Tools("aarch64-linux-gnu-gcc", "", b"\x1f\x20\x03\xd5"),
 }
+
+
+def assembled_object(machine, text):
+    """The bytes of an object with instructions."""
+    tools = TOOLS[machine]
+    with tempfile.NamedTemporaryFile() as file:
+        command = [tools.compiler, "-c", "-x", "assembler", "-o", file.name, "-"]
+        source = f"{tools.first_line}\n{text}\n"
+        subprocess.run(command, input=source.encode(), check=True, capture_output=True)
+        return file.read()
 
 
 @lru_cache
 def assembled(machine, text):
     """The bytes of instructions."""
-    tools = TOOLS[machine]
-    with tempfile.TemporaryDirectory() as folder:
-        command = [tools.compiler, "-c", "-x", "assembler", "-o", f"{folder}/code.o", "-"]
-        source = f"{tools.first_line}\n{text}\n"
-        subprocess.run(command, input=source.encode(), check=True, capture_output=True)
-        command = [tools.objcopy, "-O", "binary", "-j", ".text", f"{folder}/code.o", f"{folder}/code"]
-        subprocess.run(command, check=True)
-        with open(f"{folder}/code", "rb") as file:
-            return file.read()
+    sections = objects.read(assembled_object(machine, text)).sections
+    return bytes(next(section.content for section in sections if section.is_code))
 
 
 def jump(machine, place, target):

@@ -41,19 +41,19 @@ def _bound(path, leaf, pick):
     )
 
 
-def _has_v3(path):
-    """Whether the CPU has x86-64-v3 and the system saves its registers, as a path knows; or None."""
-    features = path.decide(_features())
-    if features and all(_bound(path, leaf, min) >= needed for leaf, needed in LEAVES.items()):
+def _has(path, needed, leaves):
+    """Whether the CPU has these features and the system saves its registers, as a path knows; or None."""
+    features = path.decide(_features(needed))
+    if features and all(_bound(path, leaf, min) >= least for leaf, least in leaves.items()):
         return True
-    if features is False or any(_bound(path, leaf, max) < needed for leaf, needed in LEAVES.items()):
+    if features is False or any(_bound(path, leaf, max) < least for leaf, least in leaves.items()):
         return False
     return None
 
 
-def _features():
+def _features(needed):
     atoms = _has_all(("xgetbv", "rax"), SAVED_REGISTERS)
-    for leaf, register, bits in FEATURES:
+    for leaf, register, bits in needed:
         atoms += _has_all(("cpuid", leaf, register), bits)
     return conjunction(atoms)
 
@@ -66,10 +66,16 @@ def judge(code, state, build):
     require(asked <= {picked}, "another byte is stored")
     if asked:
         require(is_same(state.path, (cell,), constants(number, 1)), "another build is stored")
-        require(_has_v3(state.path) is (build == "_v3"), "the build is not the one for this CPU")
+        is_v3 = _has(state.path, FEATURES, LEAVES)
+        require(is_v3 is (build == "_v3"), "the build is not the one for this CPU")
     else:
-        read = [known for at, known in state.path.sets.items() if parts_of(at)[:2] == ("image", picked)]
-        require(_only(number) in read, "the build is not the one that is stored")
+        require(_was_read(state.path, picked, number), "the build is not the one that is stored")
+
+
+def _was_read(path, picked, number):
+    """Whether the byte was this number when it was read."""
+    read = [known for at, known in path.sets.items() if parts_of(at)[:2] == ("image", picked)]
+    return _only(number) in read
 
 
 def _only(value):

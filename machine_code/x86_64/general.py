@@ -52,6 +52,13 @@ def mov(state, i):
     state.write(i.operands[0], state.read(i.operands[1], i.operands[0].size))
 
 
+@instruction("xchg")
+def xchg(state, i):
+    first, second = (state.read(operand) for operand in i.operands)
+    state.write(i.operands[0], second)
+    state.write(i.operands[1], first)
+
+
 @instruction("movzx")
 def movzx(state, i):
     value = state.read(i.operands[1])

@@ -7,15 +7,28 @@ alignment.
 
 import operator
 
-from arithmetic import by_count, by_lanes, difference_from_0, equal, flat, interleaved, signed
+from arithmetic import (
+    by_count,
+    by_lanes,
+    difference_from_0,
+    equal,
+    flat,
+    interleaved,
+    signed,
+    sum_to_255,
+)
 from conditions import are_zero
 from flags import Flags
 from memory import Fault, as_lane, from_lane
-from values import ZERO, apply, are_constant, each, joined, masked
+from values import ZERO, apply, are_constant, each, is_equal, joined, masked, parts
 from x86_64.decoding import Register
 from x86_64.general import HANDLERS, instruction
 
 # Functions of numbers
+
+
+def _top_bit_at(value, place):
+    return value >> 7 << place
 
 
 def _as_unsigned_byte(value):
@@ -54,8 +67,9 @@ def _shuffled(row, control):
     return tuple(result)
 
 
-def _interleaved(size):
-    return lambda first, second: interleaved(first, second, size, 8)
+def _interleaved(size, begin=0):
+    """Of the lower halves, or of the upper ones, which begin at 8."""
+    return lambda first, second: interleaved(first[begin:], second[begin:], size, 8)
 
 
 def _packed(first, second):
@@ -76,11 +90,17 @@ OPERATIONS = {
     "paddw": by_lanes(operator.add, 2),
     "psubb": by_lanes(operator.sub, 1),
     "psubusb": by_lanes(difference_from_0, 1),
+    "paddusb": by_lanes(sum_to_255, 1),
     "pminub": by_lanes(min, 1),
+    "pmaxub": lambda first, second: joined(first, second, max),
     "pmullw": by_lanes(operator.mul, 2),
+    "pcmpeqb": is_equal,
     "pcmpeqd": by_lanes(equal, 4),
     "pshufb": _in_halves(_shuffled),
     "packuswb": _in_halves(_packed),
+    "punpcklbw": _in_halves(_interleaved(1)),
+    "punpckhbw": _in_halves(_interleaved(1, 8)),
+    "punpcklwd": _in_halves(_interleaved(2)),
     "punpckldq": _in_halves(_interleaved(4)),
     "punpcklqdq": _in_halves(_interleaved(8)),
     # The last operand is an immediate.
@@ -168,13 +188,25 @@ def extract(state, i):
     state.write(target, from_lane(value))
 
 
+@instruction("pmovmskb", "vpmovmskb")
+def top_bits(state, i):
+    """The top bit of each byte of a vector, as a number that may only be tested for zero."""
+    target, vector = i.operands
+    result = (ZERO,) * target.size
+    for at, byte in enumerate(state.read(vector)):
+        for part in parts(byte):
+            bit = apply(_top_bit_at, 1, [(part,)], (at % 8,))
+            result = joined(result, (ZERO,) * (at // 8) + bit + (ZERO,) * (target.size - at // 8 - 1))
+    state.write(target, result)
+
+
 @instruction("pmovzxbw", "vpmovzxbw")
 def widen(state, i):
     size = i.operands[0].size
     _set_target(state, i, flat((byte, ZERO) for byte in as_lane(state.read(i.operands[1], size // 2))))
 
 
-@instruction("vbroadcasti128", "vpbroadcastd", "vpbroadcastq")
+@instruction("vbroadcasti128", "vpbroadcastb", "vpbroadcastd", "vpbroadcastq")
 def broadcast(state, i):
     size = 16 if i.mnemonic.endswith("128") else UNITS[i.mnemonic[-1]]
     _set_target(state, i, as_lane(state.read(i.operands[1], size)) * (i.operands[0].size // size))
@@ -197,9 +229,11 @@ def extract_half(state, i):
         state.memory.store(state.address(target), value)
 
 
-@instruction("vpermq")
+@instruction("vpermq", "pshufd", "pshuflw")
 def permute(state, i):
-    _set_target(state, i, _picked(state.read(i.operands[1], 32), i.operands[2], 8))
+    source = state.read(i.operands[1], i.operands[0].size, 1 if _is_avx(i) else 16)
+    size = {"vpermq": 8, "pshufd": 4, "pshuflw": 2}[i.mnemonic]
+    _set_target(state, i, _picked(source, i.operands[2], size) + source[4 * size :])
 
 
 @instruction("ptest", "vptest")
