@@ -9,9 +9,9 @@ fn run(command: &mut Command) {
     assert!(output.status.success(), "{command:?}: {output:?}");
 }
 
-/// Builds the library with these features, and returns the folder that it is in.
+/// Builds the library with these features, and returns the folder that it is in, below cargo's.
 fn build(features: &[&str], folder: &str) -> PathBuf {
-    let target = Path::new(env!("CARGO_TARGET_TMPDIR")).join(folder);
+    let target = Path::new(env!("CARGO_TARGET_TMPDIR")).join("..").join(folder);
     run(Command::new(env!("CARGO"))
         .args(["build", "--offline", "--release", "--target-dir"])
         .arg(&target)
@@ -28,7 +28,7 @@ fn a_c_program_links_and_runs() {
         println!("skipped: cc is not installed");
         return;
     }
-    for (features, folder) in [(&[][..], "std"), (&["--no-default-features"], "no_std")] {
+    for (features, folder) in [(&[][..], ""), (&["--no-default-features"], "no_std")] {
         let library = build(features, folder);
         for file in [
             "libconst_hex.a".into(),

@@ -28,6 +28,11 @@ fn lanes<const N: usize>(mut lane: impl FnMut(usize) -> u8) -> [u8; N] {
     })
 }
 
+/// Each of the numbers in all lanes of 16 bits.
+fn in_all_lanes<const N: usize, const COUNT: usize>(numbers: [u16; COUNT]) -> [[u8; N]; COUNT] {
+    numbers.map(|number| lanes(|lane| number.to_ne_bytes()[lane % 2]))
+}
+
 /// Compares `R` with the array form `A`.
 fn compare<R: Register, A: Register, const N: usize>() {
     /// Calls that take one other register.
@@ -38,6 +43,10 @@ fn compare<R: Register, A: Register, const N: usize>() {
             assert_eq!(ours, wanted, "{} of {:?} and {:?}", stringify!($name), $first, $second);
         )+};
     }
+    let counts: [[u8; N]; 16] =
+        in_all_lanes([0, 1, 2, 3, 4, 5, 6, 7, 8, 9, 10, 11, 12, 13, 14, 15]);
+    // The source multiplies by 4097, which is 0x1001. The others are the least and the greatest factors.
+    let factors: [[u8; N]; 6] = in_all_lanes([0x1001, 0, 1, 0x7FFF, 0x8000, 0xFFFF]);
     let mut state = 88172645463325252;
     for pair in 0..1 << 16 {
         let pair_of = |lane: usize| (pair + 4099 * lane) as u16;
@@ -59,12 +68,11 @@ fn compare<R: Register, A: Register, const N: usize>() {
         binary!(table, first.map(index), swizzle);
 
         let wide: [u8; N] = lanes(|lane| ((pair + 257 * (lane / 2)) >> (lane % 2 * 8)) as u8);
-        for count in 0..16_u16 {
-            binary!(wide, lanes::<N>(|lane| count.to_ne_bytes()[lane % 2]), shr);
+        for count in counts {
+            binary!(wide, count, shr);
         }
-        // The source multiplies by 4097, which is 0x1001. The others are the least and the greatest factors.
-        for factor in [0x1001, 0, 1, 0x7FFF, 0x8000, 0xFFFF_u16] {
-            binary!(wide, lanes::<N>(|lane| factor.to_ne_bytes()[lane % 2]), mul);
+        for factor in factors {
+            binary!(wide, factor, mul);
         }
     }
     for _ in 0..1_000_000 / (N / 2) {
@@ -111,10 +119,14 @@ macro_rules! compare_widths {
 type Pair = [array::V16; 2];
 
 #[test]
-fn registers_of_the_architecture() {
+fn registers_of_16_bytes() {
     compare::<super::V16, array::V16, 16>();
-    compare::<super::V32, Pair, 32>();
     compare_widths!(crate::rattle::registers);
+}
+
+#[test]
+fn registers_of_32_bytes() {
+    compare::<super::V32, Pair, 32>();
 }
 
 #[cfg(all(target_arch = "x86_64", target_feature = "sse2"))]
