@@ -5,7 +5,7 @@ import unittest
 from calls import CALLS
 from conditions import Condition, Path, are_equal
 from disassembly import Instruction
-from exploration import Refused, require_one_path
+from exploration import Refused, require_one_path, sides
 from induction import DONE, LEFT
 from linear import GREATEST, Split, Unknown, in_terms_of, is_zero, symbol
 from memory import Fault, Memory, Pointer, Region, as_lane, with_replaced
@@ -196,6 +196,18 @@ class TestPaths(unittest.TestCase):
         require_one_path(states[1:])
         with self.assertRaises(Refused):
             require_one_path(states)
+
+    def test_byte_that_decides(self):
+        """A jump by what the CPU is makes two paths, and one by a byte of the input is refused."""
+        for name, is_refused in (("cpuid", False), ("image", False), ("text", True)):
+            condition = are_equal((unknown(name, 1, "rax", 0),), constants(0, 1))
+            states = list(sides(code_of("v3"), state_with(), condition))
+            self.assertEqual(len(states), 2)
+            if is_refused:
+                with self.assertRaises(Refused):
+                    require_one_path(states)
+            else:
+                require_one_path(states)
 
     def test_address_that_a_byte_decides(self):
         state = state_with()

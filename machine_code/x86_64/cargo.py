@@ -11,7 +11,7 @@ from collections import namedtuple
 from contracts import is_same
 from exploration import Code, require
 from values import constants
-from x86_64.choice import _has, _was_read
+from x86_64.choice import has_features, was_read
 from x86_64.front_end import X86_64
 from x86_64.general import HANDLERS
 
@@ -32,7 +32,7 @@ def _checked(handler, picked):
     """An instruction of AVX."""
 
     def handle(state, i):
-        has_avx2 = _was_read(state.path, picked, PRESENT) or _has(state.path, FEATURES, LEAVES)
+        has_avx2 = was_read(state.path, picked, PRESENT) or has_features(state.path, FEATURES, LEAVES)
         require(has_avx2, "an instruction that the CPU may not have")
         return handler(state, i)
 
@@ -52,8 +52,8 @@ class Cargo(X86_64):
         stored = state.memory.written("image")
         require(set(stored) <= {self.picked}, "another byte is stored")
         for byte in stored.values():
-            number = PRESENT if _has(state.path, FEATURES, LEAVES) else ABSENT
-            require(is_same(state.path, (byte,), constants(number, 1)), "the byte does not say what the CPU says")
+            wanted = {True: PRESENT, False: ABSENT, None: 0}[has_features(state.path, FEATURES, LEAVES)]
+            require(is_same(state.path, (byte,), constants(wanted, 1)), "the byte does not say what the CPU says")
 
 
 def code_of(obj, build):

@@ -41,7 +41,7 @@ def _bound(path, leaf, pick):
     )
 
 
-def _has(path, needed, leaves):
+def has_features(path, needed, leaves):
     """Whether the CPU has these features and the system saves its registers, as a path knows; or None."""
     features = path.decide(_features(needed))
     if features and all(_bound(path, leaf, min) >= least for leaf, least in leaves.items()):
@@ -66,13 +66,13 @@ def judge(code, state, build):
     require(asked <= {picked}, "another byte is stored")
     if asked:
         require(is_same(state.path, (cell,), constants(number, 1)), "another build is stored")
-        is_v3 = _has(state.path, FEATURES, LEAVES)
+        is_v3 = has_features(state.path, FEATURES, LEAVES)
         require(is_v3 is (build == "_v3"), "the build is not the one for this CPU")
     else:
-        require(_was_read(state.path, picked, number), "the build is not the one that is stored")
+        require(was_read(state.path, picked, number), "the build is not the one that is stored")
 
 
-def _was_read(path, picked, number):
+def was_read(path, picked, number):
     """Whether the byte was this number when it was read."""
     read = [known for at, known in path.sets.items() if parts_of(at)[:2] == ("image", picked)]
     return _only(number) in read
