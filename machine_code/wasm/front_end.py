@@ -11,11 +11,11 @@ from wasm.general import HANDLERS  # noqa: F401
 from wasm.module import instructions  # noqa: F401
 from wasm.state import State
 
-# A memory of 64 KiB has no longer inputs, and a decoder's positions have 32 bits.
+# A memory of 64 KiB has no longer inputs. A decoder's positions have 32 bits, also after one of them.
 LIMITS = {name: 1 << 16 for name in ("more", "n", "k", "over")}
+LIMITS |= {"done": 1 << 9, "left": 1 << 9, "before": (1 << 32) - (1 << 17)}
 # It calls no function of another library.
 LIBRARY = {}
-LIMITS |= {"done": 1 << 9, "left": 1 << 9, "before": 1 << 31}
 
 
 def start(code, symbol, arguments, regions):
