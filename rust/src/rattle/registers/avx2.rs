@@ -16,106 +16,78 @@ pub struct V32(__m256i);
 
 pub type V64 = [V32; 2];
 
-macro_rules! lanewise {
-    ($($name:ident = $intrinsic:ident;)*) => {$(
-        #[inline(always)]
-        fn $name(self, other: Self) -> Self {
-            // SAFETY: the processor has AVX2.
-            Self(unsafe { $intrinsic(self.0, other.0) })
+/// Implements `Register` by intrinsics. `$low` is the lower 16 bytes of the register `$count`.
+macro_rules! register {
+    (
+        $register:ident, $set1:ident $xor:ident $greater:ident $blend:ident $test:ident $shift:ident,
+        $count:ident => $low:expr;
+        $($name:ident = $intrinsic:ident;)*
+    ) => {
+        impl Register for $register {
+            $(
+                #[inline(always)]
+                fn $name(self, other: Self) -> Self {
+                    // SAFETY: the processor has AVX2.
+                    $register(unsafe { $intrinsic(self.0, other.0) })
+                }
+            )*
+
+            #[inline(always)]
+            fn simd_gt(self, other: Self) -> Self {
+                // SAFETY: the processor has AVX2.
+                unsafe {
+                    let sign = $set1(-128);
+                    $register($greater($xor(self.0, sign), $xor(other.0, sign)))
+                }
+            }
+
+            #[inline(always)]
+            fn select(self, yes: Self, no: Self) -> Self {
+                // SAFETY: the processor has AVX2.
+                $register(unsafe { $blend(no.0, yes.0, self.0) })
+            }
+
+            #[inline(always)]
+            fn is_zero(self) -> bool {
+                // SAFETY: the processor has AVX2.
+                unsafe { $test(self.0, self.0) == 1 }
+            }
+
+            #[inline(always)]
+            fn shr(self, $count: Self) -> Self {
+                // SAFETY: the processor has AVX2.
+                unsafe {
+                    let count = _mm_and_si128($low, _mm_set_epi64x(0, 0xFFFF));
+                    $register($shift(self.0, count))
+                }
+            }
         }
-    )*};
+    };
 }
-
-impl Register for V16 {
-    lanewise! {
-        add = _mm_add_epi8;
-        sub = _mm_sub_epi8;
-        saturating_sub = _mm_subs_epu8;
-        simd_min = _mm_min_epu8;
-        bitand = _mm_and_si128;
-        bitor = _mm_or_si128;
-        swizzle = _mm_shuffle_epi8;
-        mul = _mm_mullo_epi16;
-    }
-
-    #[inline(always)]
-    fn simd_gt(self, other: Self) -> Self {
-        // SAFETY: the processor has AVX2.
-        unsafe {
-            let sign = _mm_set1_epi8(-128);
-            V16(_mm_cmpgt_epi8(
-                _mm_xor_si128(self.0, sign),
-                _mm_xor_si128(other.0, sign),
-            ))
-        }
-    }
-
-    #[inline(always)]
-    fn select(self, yes: Self, no: Self) -> Self {
-        // SAFETY: the processor has AVX2.
-        V16(unsafe { _mm_blendv_epi8(no.0, yes.0, self.0) })
-    }
-
-    #[inline(always)]
-    fn is_zero(self) -> bool {
-        // SAFETY: the processor has AVX2.
-        unsafe { _mm_testz_si128(self.0, self.0) == 1 }
-    }
-
-    #[inline(always)]
-    fn shr(self, count: Self) -> Self {
-        // SAFETY: the processor has AVX2.
-        unsafe {
-            let count = _mm_and_si128(count.0, _mm_set_epi64x(0, 0xFFFF));
-            V16(_mm_srl_epi16(self.0, count))
-        }
-    }
+register! {
+    V16, _mm_set1_epi8 _mm_xor_si128 _mm_cmpgt_epi8 _mm_blendv_epi8 _mm_testz_si128 _mm_srl_epi16,
+    count => count.0;
+    add = _mm_add_epi8;
+    sub = _mm_sub_epi8;
+    saturating_sub = _mm_subs_epu8;
+    simd_min = _mm_min_epu8;
+    bitand = _mm_and_si128;
+    bitor = _mm_or_si128;
+    swizzle = _mm_shuffle_epi8;
+    mul = _mm_mullo_epi16;
 }
-
-impl Register for V32 {
-    lanewise! {
-        add = _mm256_add_epi8;
-        sub = _mm256_sub_epi8;
-        saturating_sub = _mm256_subs_epu8;
-        simd_min = _mm256_min_epu8;
-        bitand = _mm256_and_si256;
-        bitor = _mm256_or_si256;
-        swizzle = _mm256_shuffle_epi8;
-        mul = _mm256_mullo_epi16;
-    }
-
-    #[inline(always)]
-    fn simd_gt(self, other: Self) -> Self {
-        // SAFETY: the processor has AVX2.
-        unsafe {
-            let sign = _mm256_set1_epi8(-128);
-            V32(_mm256_cmpgt_epi8(
-                _mm256_xor_si256(self.0, sign),
-                _mm256_xor_si256(other.0, sign),
-            ))
-        }
-    }
-
-    #[inline(always)]
-    fn select(self, yes: Self, no: Self) -> Self {
-        // SAFETY: the processor has AVX2.
-        V32(unsafe { _mm256_blendv_epi8(no.0, yes.0, self.0) })
-    }
-
-    #[inline(always)]
-    fn is_zero(self) -> bool {
-        // SAFETY: the processor has AVX2.
-        unsafe { _mm256_testz_si256(self.0, self.0) == 1 }
-    }
-
-    #[inline(always)]
-    fn shr(self, count: Self) -> Self {
-        // SAFETY: the processor has AVX2.
-        unsafe {
-            let count = _mm_and_si128(_mm256_castsi256_si128(count.0), _mm_set_epi64x(0, 0xFFFF));
-            V32(_mm256_srl_epi16(self.0, count))
-        }
-    }
+register! {
+    V32, _mm256_set1_epi8 _mm256_xor_si256 _mm256_cmpgt_epi8 _mm256_blendv_epi8 _mm256_testz_si256
+        _mm256_srl_epi16,
+    count => _mm256_castsi256_si128(count.0);
+    add = _mm256_add_epi8;
+    sub = _mm256_sub_epi8;
+    saturating_sub = _mm256_subs_epu8;
+    simd_min = _mm256_min_epu8;
+    bitand = _mm256_and_si256;
+    bitor = _mm256_or_si256;
+    swizzle = _mm256_shuffle_epi8;
+    mul = _mm256_mullo_epi16;
 }
 
 /// Returns the lanes as lanes of 16 bits.
