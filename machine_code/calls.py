@@ -100,7 +100,8 @@ def _encoded_size_cases():
             length = _any(first, last)
             size = length * 2 + beside if last == most else SIZE_MAX
             if first <= last:
-                yield Case(f"flags {flags}, {length} bytes", [length, constants(flags, 4)], [], _returns(size))
+                arguments = [length, constants(flags, 4)]
+                yield Case(f"flags {flags}, {length} bytes", arguments, [], _returns(size))
     for length in (_any(0, middle - 1), _any(middle, SIZE_MAX)):
         arguments = [length, _flags_beyond(0)]
         yield Case(f"unknown flags, {length} bytes", arguments, [], _returns(SIZE_MAX), _beyond(0))

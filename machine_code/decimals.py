@@ -1,9 +1,9 @@
 """Numbers by their decimal digits, and what code makes of them that prints a number.
 
 A number has a symbol for each digit, and is linear in them (linear.py). Code divides it through a
-multiplication: `(x >> 2) * 0x28f5c28f5c28f5c3 >> 66` is `x / 100`. A `Product` is such a number until its last
-shift shows which division it is, which is checked for all numbers up to the greatest. A number of two digits
-at most is one byte, a function of one or two unknown ones.
+multiplication: `(x >> 2) * 0x28f5c28f5c28f5c3 >> 66` is `x / 100`. A `Product` is such a number until its
+last shift shows which division it is, which is checked for all numbers up to the greatest. A number of two
+digits at most is one byte, a function of one or two unknown ones.
 """
 
 from dataclasses import dataclass
@@ -28,7 +28,9 @@ class Digit:
 
     @property
     def value(self):
-        return symbol(self.name, self.most - self.least) + self.least if self.least < self.most else self.least
+        if self.least == self.most:
+            return self.least
+        return symbol(self.name, self.most - self.least) + self.least
 
     @property
     def character(self):
@@ -41,7 +43,8 @@ class Digit:
         return f"{self.least}" if self.least == self.most else f"{self.least}-{self.most}"
 
     def assume(self, path):
-        path.sets[variable("digit", self.name)] = kept(bytes(at <= self.most - self.least for at in range(256)))
+        allowed = bytes(at <= self.most - self.least for at in range(256))
+        path.sets[variable("digit", self.name)] = kept(allowed)
 
 
 def _sum(first, second):

@@ -6,17 +6,18 @@ from decimals import numbers, value_of
 from exploration import require
 from linear import symbol
 from memory import Pointer, Region, as_lane, as_value
-from values import ZERO, byte_of, constants, kept, unknown, variable
+from values import ZERO, byte_of, constants, kept, unknown
 
 # No function for C returns this kind.
 NO_MEMORY = 4
-FIXED = {
+TEXTS = {
     ODD_LENGTH: b"odd number of digits",
     INVALID_LENGTH: b"invalid string length",
     NO_MEMORY: b"out of memory",
 }
 ESCAPES = {ord("'"): "\\'", ord("\\"): "\\\\", 0: "\\0", 9: "\\t", 10: "\\n", 13: "\\r"}
-CHARACTER = unknown("error", 4)
+ERROR = tuple([unknown("error", at) for at in range(16)])
+CHARACTER = ERROR[4]
 SIZE = symbol("message size")
 
 
@@ -42,22 +43,45 @@ def _shown_of(path):
     return [byte_of(CHARACTER.support, kept(table)) for table in tables]
 
 
-def message_of(kind, digits, path):
-    """The bytes of a message without a NUL."""
-    if kind != INVALID_CHARACTER:
-        return list(_text(FIXED.get(kind, b"")))
-    characters = [digit.character for digit in digits]
-    return [*_text(b"invalid character '"), *_shown_of(path), *_text(b"' at position "), *characters]
-
-
 def _text(text):
     return constants(int.from_bytes(text, "little"), len(text))
 
 
-def judge_message(kind, digits):
-    def judge(code, end):
+class Message:
+    """That of a kind, or of all that are not known; for an invalid character with the digits of a position."""
+
+    def __init__(self, kind, digits=()):
+        self.kind, self.digits = kind, digits
+        self.name = f"kind {kind or '0, or more than 4'}"
+        if digits:
+            self.name = f"a position of the digits {' '.join(map(str, digits))}"
+
+    def error(self):
+        """What the kind does not use may be anything."""
+        content = list(ERROR)
+        if self.kind is not None:
+            content[:4] = constants(self.kind, 4)
+        if self.kind == INVALID_CHARACTER:
+            content[5:8] = constants(0, 3)
+            content[8:] = as_lane(as_value(value_of(self.digits)))
+        return Region("error", 16, False, 8, tuple(content))
+
+    def assume(self, state):
+        for digit in self.digits:
+            digit.assume(state.path)
+        for other in (*TEXTS, INVALID_CHARACTER) if self.kind is None else ():
+            state.path.assume(are_equal(ERROR[:4], constants(other, 4)).negated())
+
+    def text(self, path):
+        """Its bytes without a NUL."""
+        if self.kind != INVALID_CHARACTER:
+            return _text(TEXTS.get(self.kind, b""))
+        position = [digit.character for digit in self.digits]
+        return (*_text(b"invalid character '"), *_shown_of(path), *_text(b"' at position "), *position)
+
+    def judge(self, code, end):
         size = end.memory.regions["message"].size
-        text = () if size == 0 else (*message_of(kind, digits, end.path), ZERO)
+        text = () if size == 0 else (*self.text(end.path), ZERO)
         if type(size) is int and size < len(text):
             text = (*text[: size - 1], ZERO)
         require(type(size) is int or size.least >= len(text), "a message that fits is truncated")
@@ -68,41 +92,15 @@ def judge_message(kind, digits):
         for at, byte in enumerate(text):
             require_value(end, "message", at, (byte,))
 
-    return judge
-
-
-def error_of(kind, digits):
-    """An error, of which what its kind does not use may be anything."""
-    content = [unknown("error", at) for at in range(16)]
-    if kind is not None:
-        content[:4] = constants(kind, 4)
-    if kind == INVALID_CHARACTER:
-        content[5:8] = constants(0, 3)
-        content[8:] = as_lane(as_value(value_of(digits)))
-    return Region("error", 16, False, 8, tuple(content))
-
-
-def assume_message(kind, digits):
-    def assume(state):
-        for digit in digits:
-            digit.assume(state.path)
-        if kind is None:
-            for other in (ODD_LENGTH, INVALID_LENGTH, INVALID_CHARACTER, NO_MEMORY):
-                lane = tuple([unknown("error", at) for at in range(4)])
-                state.path.assume(are_equal(lane, constants(other, 4)).negated())
-
-    return assume
-
 
 def messages(case):
-    """The cases: each kind; and for an invalid character each number of digits of its position."""
-    for kind, digits in [*((kind, ()) for kind in (*FIXED, None)), *((INVALID_CHARACTER, n) for n in numbers())]:
+    """The cases: each kind; and for an invalid character all positions."""
+    arguments = [Pointer("error", 0), Pointer("message", 0), SIZE]
+    found = [Message(kind) for kind in (*TEXTS, None)]
+    found += [Message(INVALID_CHARACTER, digits) for digits in numbers()]
+    for message in found:
+        regions = [message.error(), Region("message", SIZE, True)]
+        is_quick = not message.digits
         yield case(
-            f"a position of the digits {' '.join(map(str, digits))}" if digits else f"kind {kind or '0, or more than 4'}",
-            [Pointer("error", 0), Pointer("message", 0), SIZE],
-            [error_of(kind, digits), Region("message", SIZE, True)],
-            judge_message(kind, digits),
-            assume_message(kind, digits),
-            may_leak=True,
-            is_quick=not digits,
+            message.name, arguments, regions, message.judge, message.assume, may_leak=True, is_quick=is_quick
         )

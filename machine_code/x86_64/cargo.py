@@ -1,9 +1,9 @@
 """The library for C that cargo makes of rust/capi.
 
-It keeps a byte that says whether the CPU has AVX2, and asks the CPU while it says nothing. Each function is
-proved for a byte that says yes and one that says no. And where anything may be in the byte, at each time that it
-is read, what is proved of short lengths is also that instructions of AVX run only if the byte or the CPU says
-so, and that the byte is set to what the CPU says.
+It keeps a byte that says whether the CPU has AVX2, and asks the CPU while it says nothing. Each function
+is proved for a byte that says yes and for one that says no. For short lengths the byte may be anything, each time
+that it is read. There it is also proved that instructions of AVX run only if the byte or the CPU says so, and
+that the byte is set to what the CPU says.
 """
 
 from collections import namedtuple
@@ -53,7 +53,8 @@ class Cargo(X86_64):
         require(set(stored) <= {self.picked}, "another byte is stored")
         for byte in stored.values():
             wanted = {True: PRESENT, False: ABSENT, None: 0}[has_features(state.path, FEATURES, LEAVES)]
-            require(is_same(state.path, (byte,), constants(wanted, 1)), "the byte does not say what the CPU says")
+            is_right = is_same(state.path, (byte,), constants(wanted, 1))
+            require(is_right, "the byte does not say what the CPU says")
 
 
 def code_of(obj, build):
