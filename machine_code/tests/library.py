@@ -12,7 +12,6 @@ ARCHIVE = os.environ.get("CONST_HEX_ARCHIVE", TOP / "build" / "c" / "libconst_he
 AARCH64 = os.environ.get("CONST_HEX_AARCH64", TOP / "build" / "aarch64" / "libconst_hex.a")
 MODULE = os.environ.get("CONST_HEX_MODULE", TOP / "build" / "const_hex.wasm")
 
-CARGO = os.environ.get("CONST_HEX_CARGO", TOP / "rust" / "capi" / "target" / "release" / "libconst_hex.a")
 
 NEEDED = ("aarch64-linux-gnu-gcc", "qemu-aarch64")
 needs_aarch64 = unittest.skipUnless(
@@ -23,7 +22,6 @@ needs_module = unittest.skipUnless(
     pathlib.Path(MODULE).exists() and all(map(shutil.which, ("node", "wat2wasm"))),
     f"{MODULE} is not built, or node or wat2wasm is missing",
 )
-needs_cargo = unittest.skipUnless(pathlib.Path(CARGO).exists(), f"{CARGO} is not built")
 
 
 def code_of(build, archive=None):
