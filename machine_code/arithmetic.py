@@ -3,7 +3,7 @@
 import itertools
 import operator
 
-from decimals import Product, is_decimal, low_bytes, of_low_bytes
+from decimals import Product, by_two_digits, is_decimal, low_bytes, of_low_bytes
 from linear import (
     GREATEST,
     GREATEST_SIGNED,
@@ -102,7 +102,7 @@ def subtracted(first, second):
         return low
     if type(first) is Linear or type(second) is Linear:
         return as_value(as_number(first) - as_number(second))
-    return apply(operator.sub, len(first), [first, second])
+    return apply(operator.sub, len(first), [by_two_digits(first), by_two_digits(second)])
 
 
 def _by_low_bytes(function, first, second):
@@ -155,7 +155,7 @@ def logic(name, first, second):
         return first
     if type(first) is Linear or type(second) is Linear:
         return as_value(_logic_of_number(name, first, as_number(second)))
-    return LOGIC[name](first, second)
+    return LOGIC[name](by_two_digits(first), by_two_digits(second))
 
 
 def _logic_of_number(name, first, mask):

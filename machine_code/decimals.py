@@ -108,6 +108,14 @@ def of_small(lane):
     return found if is_decimal(found) and found.least >= 0 and found.most < 1 << 8 * len(lane) else None
 
 
+def by_two_digits(lane):
+    """The lane of a number by its digits, if it has two at most, as functions of them; otherwise as it is."""
+    found = of_small(lane)
+    if found is None or found.most > 255 or len(found.terms) > 2:
+        return lane
+    return low_bytes(found, 1) + constants(0, len(lane) - 1)
+
+
 @dataclass(frozen=True)
 class Product:
     """`(number >> before) * factor >> after`."""
@@ -130,6 +138,12 @@ class Product:
         other = Product(self.number, self.before, self.factor, self.after + count)
         quotient = other._quotient()
         return other if quotient is None else quotient
+
+    def is_below(self, limit):
+        """Whether a number that is only shifted to the right is below another one."""
+        if self.after or type(limit) is not int:
+            raise Unknown("an order of a product")
+        return self.number < limit << self.before
 
     def _quotient(self):
         """With `n = number >> before` and `factor * divisor = 2**after + excess`, it is `n / divisor` rounded

@@ -7,6 +7,7 @@ used.
 
 from arithmetic import as_number, as_unsigned, named, signed
 from conditions import FALSE, are_equal, are_zero, conjunction, constant
+from decimals import Product
 from linear import GREATEST, GREATEST_SIGNED, Linear, Unknown, in_range, is_zero, least_of, most_value
 from memory import Fault, Pointer, with_replaced
 from values import TooWide, apply, are_constant, constants, number
@@ -25,6 +26,10 @@ def _flag(first, second, code, is_sum, size):
 
 def _is_less(first, second):
     return int(first < second)
+
+
+def _with_sign_flipped(byte):
+    return byte ^ 128
 
 
 class Flags:
@@ -54,6 +59,8 @@ class Flags:
             return constant(self._of_pointers(code, state.memory))
         if Linear in kinds:
             return constant(self._of_numbers(code))
+        if type(self.first) is Product and self.kind == "sub" and code in ("b", "be"):
+            return constant(self.first.is_below(as_unsigned(self.second) + (code == "be")))
         difference = self.kind == "sub" and named(self.first, "difference")
         if difference and code in ("b", "be"):
             return constant(self._is_within(difference, code == "be", state.memory))
@@ -75,8 +82,8 @@ class Flags:
                 parameters = (code, self.kind == "add", len(self.first))
                 return conjunction(apply(_flag, 1, [self.first, self.second], parameters))
             except TooWide:
-                if self.kind == "sub" and code in ("b", "be"):
-                    return constant(self._is_below(code == "be", decide))
+                if self.kind == "sub" and code in ("b", "be", "l", "le"):
+                    return constant(self._is_below(code[0] == "l", code[1:] == "e", decide))
                 raise
         if self.kind == "logic" or code == "s":
             # Of shifts, and of inc and dec, only this is known.
@@ -85,9 +92,12 @@ class Flags:
             )
         raise Fault(f"flag {code} of {self.kind}")
 
-    def _is_below(self, or_equal, decide):
+    def _is_below(self, is_signed, or_equal, decide):
         """Compares byte by byte from the highest on, where both together depend on too much."""
-        for first, second in zip(reversed(self.first), reversed(self.second)):
+        lanes = (self.first, self.second)
+        if is_signed:
+            lanes = (lane[:-1] + apply(_with_sign_flipped, 1, [lane[-1:]]) for lane in lanes)
+        for first, second in zip(*map(reversed, lanes)):
             if not decide(are_equal((first,), (second,))):
                 return decide(conjunction(apply(_is_less, 1, [(first,), (second,)])))
         return or_equal

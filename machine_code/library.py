@@ -3,7 +3,6 @@ WebAssembly; or what cargo makes for C."""
 
 import functools
 import importlib
-import math
 import re
 import subprocess
 
@@ -45,10 +44,10 @@ def builds_of(archive):
 def calls_of(build):
     if build == WASM:
         return wasm.calls.CALLS
-    if build in ("default", "v3", "x86_64"):
+    if build not in cargo.BUILDS:
         return CALLS
-    most = cargo.BUILDS[build].longest if build in cargo.BUILDS else math.inf
-    return {name: call.up_to(most) for name, call in CALLS.items() if name != "error_message"}
+    longest = cargo.BUILDS[build].longest
+    return {name: call.up_to(longest) for name, call in CALLS.items() if name != "error_message"}
 
 
 def code_of(archive, build):

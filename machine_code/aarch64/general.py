@@ -7,12 +7,22 @@ returns where to go on if that is not the next instruction.
 import operator
 
 from aarch64.state import CODES, PAGE, Known, extended
-from arithmetic import added, complement, logic, selected, shifted, subtracted
+from arithmetic import (
+    added,
+    complement,
+    logic,
+    multiplied,
+    product,
+    selected,
+    shifted,
+    signed,
+    subtracted,
+)
 from disassembly import adding_to
 from exploration import RETURNED
 from flags import Flags
-from memory import Fault, Pointer, as_lane
-from values import ZERO, constants
+from memory import Fault, Pointer, as_lane, from_lane
+from values import ZERO, apply, constants
 
 HANDLERS = {}
 instruction = adding_to(HANDLERS)
@@ -94,6 +104,39 @@ def shift(state, i):
     if not isinstance(count, int):
         raise Fault("a shift by a register")
     state.write(i.operands[0], SHIFTS[i.mnemonic](value, count))
+
+
+@instruction("movk")
+def replace_bytes(state, i):
+    target, value, (_, count) = i.operands
+    old, at = as_lane(state.read(target)), count // 8
+    state.write(target, from_lane(old[:at] + constants(value, 2) + old[at + 2 :]))
+
+
+@instruction("mul")
+def multiply(state, i):
+    target, first, second = i.operands
+    state.write(target, multiplied(state.read(first), state.read(second)))
+
+
+@instruction("umulh")
+def upper_product(state, i):
+    target, first, second = i.operands
+    state.write(target, product(state.read(first), state.read(second))[1])
+
+
+@instruction("msub")
+def subtract_product(state, i):
+    target, first, second, minuend = i.operands
+    found = multiplied(state.read(first), state.read(second))
+    state.write(target, subtracted(state.read(minuend), found))
+
+
+@instruction("ubfx")
+def some_bits(state, i):
+    target, source, first, count = i.operands
+    value = shifted(operator.rshift, state.read(source), first)
+    state.write(target, logic("and", value, constants((1 << count) - 1, target.size)))
 
 
 @instruction("bfxil")
@@ -189,7 +232,7 @@ def jump_if_bit(state, i):
 
 # The mnemonics, and how many bytes are of each register, if not all.
 LOADS = {"ldr": None, "ldur": None, "ldp": None, "ld1": None, "ldrb": 1, "ldurb": 1, "ldrh": 2}
-STORES = {"str": None, "stur": None, "stp": None, "strb": 1, "sturb": 1, "strh": 2}
+STORES = {"str": None, "stur": None, "stp": None, "strb": 1, "sturb": 1, "strh": 2, "sturh": 2}
 
 
 def _move_base(state, address, base):
@@ -208,6 +251,12 @@ def load(state, i):
     _move_base(state, address, base)
     for at, target in enumerate(targets):
         state.write(target, lane[size * at :][:size] + (ZERO,) * (target.size - size))
+
+
+@instruction("ldrsb")
+def load_signed(state, i):
+    target, address = i.operands
+    state.write(target, apply(signed, target.size, [state.load(address, 1)], (1,)))
 
 
 @instruction(*STORES)

@@ -3,6 +3,7 @@
 import state
 from arithmetic import signed
 from conditions import TRUE, constant
+from decimals import low_bytes, of_small
 from linear import Linear
 from memory import Fault, Pointer, as_lane, from_lane, is_whole
 from values import ZERO, apply, constants
@@ -62,7 +63,7 @@ class State(state.State):
             return constants(0, operand.size)
         value = self.registers[operand.family]
         if is_whole(value) and operand.size < 8:
-            value = value.low_bytes(8) if type(value) is Linear else as_lane(value)
+            value = low_bytes(value, operand.size) if type(value) is Linear else as_lane(value)
         if operand.kind != "general":
             return value[operand.first :][: operand.size]
         return value if is_whole(value) else value[: operand.size]
@@ -72,6 +73,8 @@ class State(state.State):
         value = as_lane(value)
         if len(value) != register.size:
             raise Fault("a register is written by a value of another size")
+        if register.kind == "general" and register.size == 4:
+            value = as_lane(of_small(value) or value + (ZERO,) * 4)
         if register.kind == "element":
             old = self.registers[register.family]
             value = old[: register.first] + value + old[register.first + register.size :]

@@ -8,14 +8,14 @@ from aarch64.state import State
 from arithmetic import logic
 from calls import CALLS
 from disassembly import Instruction
-from exploration import Refused
+from exploration import Fork, Refused
 from flags import Flags
 from induction import LEFT
 from linear import Linear
 from memory import Fault, Memory, Pointer, Region
 from tests.library import code_of, needs_aarch64
 from tests.mutations import detour
-from values import TooWide, constants, unknown
+from values import TooWide, constants, kept, unknown, variable
 
 FUNCTION = "const_hex_check_raw"
 SP, X0, W0 = (Register("general", name, 0, size, None) for name, size in (("sp", 8), ("x0", 8), ("x0", 4)))
@@ -97,6 +97,24 @@ class TestState(unittest.TestCase):
         state.flags = Flags("logic", result=constants(1, 8))
         self.assertFalse(state.decide(state.flag("cs")))
         self.assertTrue(state.decide(state.flag("ls")))
+
+
+class TestSignedOrder(unittest.TestCase):
+    """Of lanes that depend on too many unknown bytes for one function."""
+
+    def test_by_the_highest_byte(self):
+        state, lane = state_with(), tuple([unknown("error", at) for at in range(4)])
+        state.path.sets[variable("error", 3)] = kept(bytes(value > 127 for value in range(256)))
+        state.flags = Flags("sub", lane, constants(3, 4))
+        self.assertTrue(state.decide(state.flag("lt")))
+        state.path.sets[variable("error", 3)] = kept(bytes(0 < value < 128 for value in range(256)))
+        self.assertTrue(state.decide(state.flag("gt")))
+
+    def test_one_that_may_be_any(self):
+        state = state_with()
+        state.flags = Flags("sub", tuple([unknown("error", at) for at in range(4)]), constants(3, 4))
+        with self.assertRaises(Fork):
+            state.decide(state.flag("le"))
 
 
 class TestUnknownBit(unittest.TestCase):

@@ -5,12 +5,13 @@ import unittest
 from operator import lshift, rshift
 
 from arithmetic import added, product, shifted, subtracted
-from decimals import Digit, Product, numbers, of_low_bytes, value_of
+from decimals import Digit, Product, by_two_digits, low_bytes, numbers, of_low_bytes, value_of
+from exploration import Fork
 from flags import Flags
 from linear import GREATEST, Linear, Unknown, least_of, most_value
 from memory import Fault, Pointer, Region, as_lane
 from tests.test_soundness import run, state_with
-from values import TooWide, at_inputs, constants, parts_of, unknown
+from values import at_inputs, constants, parts_of, unknown
 from x86_64.front_end import FRONT_END
 
 BY_25 = 0x28F5C28F5C28F5C3
@@ -62,6 +63,29 @@ class TestDigits(unittest.TestCase):
         with self.assertRaises(Fault):
             shifted(lshift, Product(value_of([Digit(0, 0, 9)])), 1)
 
+    def test_order_after_a_shift(self):
+        """Of four digits and five: a sixteenth is at most 624, or more."""
+        state = state_with()
+        for count, is_below in ((4, True), (5, False)):
+            digits = [Digit(count - 1, 1, 9), *(Digit(at, 0, 9) for at in range(count - 1))]
+            state.flags = Flags("sub", shifted(rshift, value_of(digits), 4), constants(624, 8))
+            self.assertEqual(state.decide(state.flag("be")), is_below)
+        state.flags = Flags("sub", shifted(rshift, value_of(digits), 4), constants(1000, 8))
+        with self.assertRaises(Unknown):
+            state.flag("b")
+        state.flags = Flags("sub", Product(value_of(digits)).times(BY_25), constants(1, 8))
+        with self.assertRaises(Unknown):
+            state.flag("b")
+
+    def test_two_digits_as_functions(self):
+        """Not of more, nor if they are more than a byte."""
+        small = low_bytes(value_of([Digit(1, 1, 9), Digit(0, 0, 9)]), 4)
+        self.assertEqual(by_two_digits(small)[1:], constants(0, 3))
+        self.assertEqual(len(by_two_digits(small)[0].support), 2)
+        for digits in ([Digit(2, 1, 9), Digit(0, 0, 9)], [Digit(2, 0, 1), Digit(1, 0, 1), Digit(0, 0, 9)]):
+            lane = low_bytes(value_of(digits), 4)
+            self.assertEqual(by_two_digits(lane), lane)
+
     def test_two_digits_are_a_byte(self):
         state = state_with()
         digits = [Digit(1, 1, 9), Digit(0, 0, 9)]
@@ -93,8 +117,10 @@ class TestOrder(unittest.TestCase):
             self.state(12).flag("be")
 
     def test_sign(self):
-        with self.assertRaises(TooWide):
-            self.state(12).flag("l")
+        """It may be any."""
+        with self.assertRaises(Fork):
+            state = self.state(12)
+            state.decide(state.flag("l"))
 
 
 class TestCopies(unittest.TestCase):

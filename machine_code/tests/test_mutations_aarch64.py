@@ -5,9 +5,9 @@ import unittest
 from tests.library import needs_aarch64
 from tests.mutations import constant, detour, relocated, replaced
 from tests.test_mutations import (
-    CALL, DECODE, DIGITS, ENCODE, EXACT, PREFIX, PREFIXED, SEARCH, START, TEXT, WAITS, add_tests)
+    CALL, DECODE, DIGITS, ENCODE, EXACT, KIND, POSITION, PREFIX, PREFIXED, SEARCH, START, TEXT, WAITS, add_tests)
 
-CHECK = "Lanes32Kernel::check"
+CHECK, FOUR_DIGITS = "Lanes32Kernel::check", ("error_message", 7)
 
 # As in test_mutations.py, but for the build.
 MUTATIONS = [
@@ -95,6 +95,24 @@ MUTATIONS = [
      replaced(r"^strb w21, \[x23, #8\]", "nop"), r"decoder\[8\] is not what"),
     ("the decoder forgets an error", START, 150, CALL,
      replaced(r"^strb w11, \[x23, #9\]", "strb wzr, [x23, #9]"), "the decoder does not keep its error"),
+    ("a letter of a message", KIND, "failure", CALL,
+     constant(r"^add x9, x9, #", 0, ord("O")), r"message\[0\] is not what"),
+    ("a length of a message", KIND, "failure", CALL,
+     replaced(r"^mov w8, #0x15", "mov w8, #0x14"), "a message that fits is truncated"),
+    ("there is no NUL", KIND, "failure", CALL,
+     replaced(r"^strb wzr, \[x19, x20\]", "nop"), "another part of the buffer is written"),
+    ("no space is left for the NUL", KIND, "failure", CALL,
+     replaced(r"^sub x9, x2, #0x1", "mov x9, x2"), "outside its region"),
+    ("a tab is shown as a newline", POSITION, "position", CALL,
+     replaced(r"^mov w20, #0x74", "mov w20, #0x6e"), r"message\[20\] is not what"),
+    ("another divisor", POSITION, "position", CALL,
+     replaced(r"^mov x11, #0xf5c3", "mov x11, #0xf5c2"), "a single byte of a pointer or of a number"),
+    ("a digit by another factor", POSITION, "position", CALL,
+     replaced(r"^mov w11, #0xcd", "mov w11, #0xcc"), r"message\[\d+\] is not what"),
+    ("numbers from 9984 on have five digits", FOUR_DIGITS, "position", CALL,
+     replaced(r"^cmp x9, #0x270", "cmp x9, #0x26f"), "a question of digit 0"),
+    ("registers of a message are not restored", POSITION, "position", CALL,
+     replaced(r"^ldp x24, x23, \[sp, #32\]", "nop"), "x23 is not as before"),
     ("the decoder's position stays", WAITS, 150, CALL,
      replaced(r"^str x8, \[x23\]", "nop"), r"decoder\[0\] is not what"),
 ]
