@@ -72,8 +72,8 @@ class Section:
         # what is added to it.
         self.bytes = bytes(content)
         self.references = []
-        # Whether all relocations are. Otherwise nothing lies at its place, and an access is refused.
-        self.is_known = True
+        # The kind of a relocation that has no meaning here. Then nothing lies at its place.
+        self.unknown_kind = None
 
     @property
     def end(self):
@@ -89,7 +89,8 @@ class Object:
 
     def __init__(self, machine, sections, symbols, undefined):
         self.machine = machine
-        self.sections = sections
+        self.sections = [section for section in sections if section.unknown_kind is None]
+        self.left_out = [section for section in sections if section.unknown_kind is not None]
         self.symbols = symbols
         self.undefined = undefined
 
@@ -112,6 +113,9 @@ class Object:
         if type(address) is not int:
             return address
         section = self.section_at(address)
+        for other in self.left_out:
+            if other.address <= address < other.end:
+                return f"{other.name}, which has a relocation of the unknown kind {other.unknown_kind}"
         if section is None:
             return self.undefined.get(address, hex(address))
         starts = {value: name for name, value in self.symbols.items() if section.address <= value <= address}
@@ -158,7 +162,7 @@ def read(data):
     for header in (header for header in headers if header[1] == 4 and header[7] in placed):
         for offset, info, addend in struct.iter_unpack("<QQq", content(header)):
             _relocate(machine, placed[header[7]], offset, info & 0xFFFFFFFF, addresses[info >> 32], addend)
-    return Object(machine, [section for section in placed.values() if section.is_known], symbols, undefined)
+    return Object(machine, list(placed.values()), symbols, undefined)
 
 
 def _text(strings, at):
@@ -167,7 +171,7 @@ def _text(strings, at):
 
 def _relocate(machine, section, offset, kind, symbol, addend):
     if kind not in RELOCATIONS[machine]:
-        section.is_known = False
+        section.unknown_kind = kind
         return
     section.references.append((offset, kind, symbol, addend))
     [old] = struct.unpack_from("<I", section.content, offset)

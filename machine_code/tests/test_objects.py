@@ -1,12 +1,14 @@
 """Relocations: the object is what the linker makes of it, with its sections at the same places."""
 
-import struct
 import subprocess
 import tempfile
 import unittest
+from unittest import mock
 
 import objects
-from tests.library import AARCH64, ARCHIVE, needs_aarch64
+from calls import CALLS
+from exploration import Refused
+from tests.library import AARCH64, ARCHIVE, code_of, needs_aarch64
 
 
 def linked(data, obj, linker):
@@ -53,10 +55,9 @@ class TestObjects(unittest.TestCase):
 
     @needs_aarch64
     def test_relocation_that_is_not_known(self):
-        data = bytearray(objects.member(AARCH64, "const_hex_single.o"))
-        call = struct.pack("<I", 283)
-        at = data.index(call, data.index(call) + 1)
-        obj = objects.read(data)
-        self.assertIn(283, {kind for section in obj.sections for _, kind, _, _ in section.references})
-        other = objects.read(data.replace(call, struct.pack("<I", 1283)))
-        self.assertEqual(len(other.sections), len(obj.sections) - 1)
+        """What has one is named where it is used."""
+        with mock.patch.dict(objects.RELOCATIONS[183]):
+            del objects.RELOCATIONS[183][299]
+            code = code_of("aarch64")
+        with self.assertRaisesRegex(Refused, r"check, which has a relocation of the unknown kind 299"):
+            CALLS["check_raw"].prove(code, "const_hex_check_raw", ("length", 0, 20))
