@@ -64,13 +64,10 @@
  * function meets its contract: it is memory-safe, terminates, and returns and writes what the contract
  * says, for all inputs. The contracts are in crates/const_hex_c; this header states them in prose.
  *
- * The machine code is verified too, against this header, by the separate tool in machine_code: every function
- * except const_hex_error_message on AArch64, on x86-64 in both builds, for every length below 2^53, and the C
- * code in c/dispatch.c, which detects the CPU and handles a NULL error.
- *
- * Tested and not verified are, on AArch64: that const_hex_error_message writes a message, and how it shows an
- * invalid character. That this header agrees with the contracts of crates/const_hex_c and of machine_code was
- * reviewed.
+ * The machine code is verified too, against this header, by the separate tool in machine_code: every function,
+ * on x86-64 in both builds, for every length below 2^53, and the C code in c/dispatch.c, which detects the CPU
+ * and handles a NULL error. That this header agrees with the contracts of crates/const_hex_c and of
+ * machine_code was reviewed.
  *
  * CONSTANT TIME
  *
@@ -90,9 +87,9 @@
  * and stores the result in one byte; nothing else is kept between calls.
  *
  * A function uses less than 2 KB of stack, apart from what memcpy and memmove use: the tool machine_code checks
- * this, except for const_hex_error_message on AArch64. The object files have no unwind tables: a debugger or
- * profiler that stops inside a function may not find its caller. They have no IBT and SHSTK properties: a
- * program that links them statically runs without these protections.
+ * this. The object files have no unwind tables: a debugger or profiler that stops inside a function may not
+ * find its caller. They have no IBT and SHSTK properties: a program that links them statically runs without
+ * these protections.
  *
  * BUILDING
  *
