@@ -10,8 +10,8 @@ LINE = re.compile(r"^\s*([0-9a-f]+):\t((?:(?:[0-9a-f]{2})+ )+)\s*\t(.*)$")
 
 
 def read(section, command, instruction):
-    """The instructions of a section, by address. `instruction` reads the text of one, which it gives again without
-    comments, with its mnemonic and operands."""
+    """The instructions of a section, by address. `instruction` reads the text of one: it gives the mnemonic, the
+    operands, and the text without comments."""
     with tempfile.NamedTemporaryFile() as file:
         file.write(section.content)
         file.flush()

@@ -1,6 +1,6 @@
 /*
- * Runs single instructions for emulated.py. Its input is the object's size, the object as it lies in memory, and
- * requests: an instruction's place, where its jump goes or 0, and a state. It writes the state after the instruction.
+ * Runs single instructions for emulated.py. Its input is the object's size, the object as it lies in memory,
+ * and requests: an instruction's place, where its jump goes or 0, and a state. It writes the state afterwards.
  */
 #include <stdint.h>
 #include <stdio.h>
