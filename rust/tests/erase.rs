@@ -231,14 +231,58 @@ fn what_is_an_error() {
         ("fn f(x: u8) {\n    drop(x);\n}", "the call drop"),
         ("fn f() {\n    println!(\"x\");\n}", "the call println!"),
         ("fn f() {\n    let x = vec![1];\n}", "the call vec!"),
+        // A call after a range, with a type in brackets, after a quotation mark, and of a function as a value.
+        (
+            "fn f(x: u8) {\n    for _ in 0..drop(x) {}\n}",
+            "the call drop",
+        ),
+        (
+            "fn f(x: u8) {\n    x.rotate_left::<(u8, u8)>(1);\n}",
+            "the call .rotate_left",
+        ),
+        (
+            "fn f(x: u8) {\n    g(b'\"', drop(x), \"\");\n}",
+            "the call g",
+        ),
+        (
+            "fn f(x: u8) {\n    let g = u8::is_ascii_hexdigit;\n}",
+            "a function as a value: u8::is_ascii_hexdigit",
+        ),
+        ("fn f(x: u8) {\n    (x)(1);\n}", "a function as a value: )("),
+        // What Rattle and Rust read in different ways.
+        (
+            "fn f() {\n    for x in 250u8.. {}\n}",
+            "a range without an end: .. {",
+        ),
+        (
+            "fn f() {\n    S { a: 1, ..v[9] };\n}",
+            "the other fields of a struct: { a: 1, ..v[9] }",
+        ),
+        ("fn f(x: u64) -> usize {\n    x as usize\n}", "a cast: as u"),
     ] {
         if let Some(found) = erased("unknown", source) {
             assert_eq!(found, Err(format!("erase: {wanted}")), "{source}");
         }
     }
-    let conditional = "pub fn f(x: u8)\n    requires { x < 9 }\n{\n}";
-    if let Some(found) = erased("c", conditional) {
-        let wanted = "erase: a condition of a function that is exported";
-        assert_eq!(found, Err(wanted.to_string()));
+    for (place, source, wanted) in [
+        (
+            "c/other",
+            "#[unsafe(no_mangle)]\npub extern \"C\" fn f(x: u8) requires { x < 9 } {\n}",
+            "a condition of a function that is exported",
+        ),
+        (
+            "error",
+            "fn f(x: E) {\n    match x {\n        E::Odd | E::NoMemory => 1,\n    }\n}",
+            "a rule does not fit: NoMemory",
+        ),
+        (
+            "error",
+            "fn f() -> &str {\n    \"expected W, not <W>\"\n}",
+            "a rule does not fit: \"expected 'w, not <'w>\"",
+        ),
+    ] {
+        if let Some(found) = erased(place, source) {
+            assert_eq!(found, Err(format!("erase: {wanted}")), "{source}");
+        }
     }
 }
