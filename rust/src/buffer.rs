@@ -277,6 +277,7 @@ const unsafe fn slice<'a>(first: *const u8, count: usize) -> &'a [u8] {
         first: *const u8,
         count: usize,
     }
+    #[repr(C)]
     union Slice<'a> {
         parts: Parts,
         slice: &'a [u8],

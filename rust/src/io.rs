@@ -112,7 +112,8 @@ impl<W: Write> EncodeWriter<W> {
     ///
     /// # Errors
     ///
-    /// Returns the other writer's error. What is not written yet is lost then.
+    /// Returns the other writer's error. The other writer is dropped then, after one more attempt to write the
+    /// text that waits.
     pub fn finish(mut self) -> Result<W> {
         self.text.flush()?;
         self.text.into_inner().map_err(|error| error.into_error())

@@ -173,7 +173,7 @@ pub fn encode_to_str<T: AsRef<[u8]>>(
     input: T,
     output: &mut [u8],
 ) -> Result<&mut str, FromHexError> {
-    digits_in(output, input.as_ref(), false)
+    text_in(output, input.as_ref(), false, false)
 }
 
 /// Does the same as [`encode_to_slice_upper`], and returns the output as a string. Does not allocate.
@@ -186,18 +186,20 @@ pub fn encode_to_str_upper<T: AsRef<[u8]>>(
     input: T,
     output: &mut [u8],
 ) -> Result<&mut str, FromHexError> {
-    digits_in(output, input.as_ref(), true)
+    text_in(output, input.as_ref(), false, true)
 }
 
-/// Fills `output` with two digits per byte, and returns it as a string.
+/// Fills `output` with the text of bytes, and returns it as a string, which the proved functions cannot: Rattle
+/// has no `&mut str`.
 #[allow(unsafe_code)]
 #[inline]
-fn digits_in<'a>(
+fn text_in<'a>(
     output: &'a mut [u8],
     input: &[u8],
+    prefix: bool,
     upper: bool,
 ) -> Result<&'a mut str, FromHexError> {
-    encoders::encode_full_to_slice(input, false, upper, output)?;
+    encoders::encode_full_to_slice(input, prefix, upper, output)?;
     debug_assert!(output.is_ascii());
     // SAFETY: the encoder has filled the output, and it is proved that what it writes is ASCII.
     Ok(unsafe { core::str::from_utf8_unchecked_mut(output) })

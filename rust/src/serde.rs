@@ -21,7 +21,8 @@
 //! # Ok::<(), serde_json::Error>(())
 //! ```
 
-use crate::proved::{ascii_text, fill_text, formatting, text_length, FixedKernel};
+use crate::proved::{formatting, text_length};
+use crate::text_in;
 use ::serde::de::{Deserializer, Error, Visitor};
 use ::serde::Serializer;
 use core::fmt;
@@ -81,8 +82,7 @@ fn write<const UPPER: bool, const PREFIX: bool, S: Serializer>(
         return serializer.collect_str(&Printed::<UPPER, PREFIX>(bytes));
     }
     let text = &mut text[..text_length(PREFIX, bytes.len())];
-    fill_text::<FixedKernel>(bytes, PREFIX, UPPER, text);
-    serializer.serialize_str(ascii_text(text))
+    serializer.serialize_str(text_in(text, bytes, PREFIX, UPPER).expect("it has the text's length"))
 }
 
 /// Bytes that are printed as text.

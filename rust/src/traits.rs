@@ -160,7 +160,8 @@ impl<B: AsRef<[u8]>> ToHex for B {
     }
 }
 
-/// Returns the digits of `bytes`, which are encoded 32 bytes at a time.
+/// Returns the digits of `bytes`, which are encoded 32 bytes at a time. The proved iterator `BytesToHexChars`
+/// looks each digit up in a table.
 #[inline]
 fn digits<const UPPER: bool>(bytes: &[u8]) -> impl Iterator<Item = char> + '_ {
     bytes.chunks(32).flat_map(|chunk| {
