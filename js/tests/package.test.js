@@ -78,6 +78,7 @@ for (const [browser, ...options] of [
     ['chromium', '--headless', '--no-sandbox', '--disable-gpu', '--user-data-dir=FOLDER'],
     ['firefox-esr', '--headless', '--no-remote', '--profile', 'FOLDER'],
 ]) {
+    if (browser !== 'chromium' && without(browser)) continue; // Others are tried if they are there.
     test(`the cases in ${browser}`, { skip: without(browser) }, async () => {
         const profile = mkdtempSync(join(folder, browser));
         const server = createServer().listen(0, '127.0.0.1');
