@@ -1,6 +1,6 @@
 //! Instructions of one call, by valgrind's callgrind. They do not depend on what else the machine does.
 //!
-//!     cargo run --release                            # every library, up to 2048 bytes
+//!     cargo run --release                            # every library
 //!     cargo run --release -- const-hex               # these libraries alone
 //!
 //! Each cell is the difference of two runs of this program, by the number of calls between them.
@@ -11,8 +11,14 @@ use std::process::{Command, ExitCode};
 use std::sync::Mutex;
 use std::{env, io, thread};
 
-/// The calls that the longer run makes beyond the shorter one.
-const MORE: usize = 400;
+/// The calls of the shorter run, and those that the longer run makes beyond them.
+fn calls(size: usize) -> (usize, usize) {
+    if size > 2048 {
+        (5, 20)
+    } else {
+        (100, 400)
+    }
+}
 
 /// One cell of the table: a call, a library and a size.
 type Cell = (&'static str, &'static str, usize);
@@ -53,7 +59,6 @@ fn repeat(call: &str, library: &str, size: &str, count: &str) -> ExitCode {
 fn print(only: &[String]) -> io::Result<()> {
     let cells: Vec<Cell> = SIZES
         .into_iter()
-        .filter(|size| *size <= 2048)
         .flat_map(|size| {
             cases(size)
                 .into_iter()
@@ -74,7 +79,7 @@ fn print(only: &[String]) -> io::Result<()> {
             libraries.join(" | "),
             "---|".repeat(libraries.len() + 1)
         );
-        for size in SIZES.into_iter().filter(|size| *size <= 2048) {
+        for size in SIZES {
             let row = libraries
                 .iter()
                 .map(|library| counted[&(call, *library, size)].to_string());
@@ -110,8 +115,9 @@ fn count_all(cells: &[Cell]) -> io::Result<BTreeMap<Cell, u64>> {
 
 /// The instructions of one call, the loop around it included.
 fn count_one(cell: Cell) -> io::Result<u64> {
-    let (few, many) = (collected(cell, 100)?, collected(cell, 100 + MORE)?);
-    Ok((many - few) / MORE as u64)
+    let (few, more) = calls(cell.2);
+    let (shorter, longer) = (collected(cell, few)?, collected(cell, few + more)?);
+    Ok((longer - shorter) / more as u64)
 }
 
 /// The instructions of a whole run with so many calls.
