@@ -22,6 +22,7 @@ use crate::{Buffer, FromHexError};
 #[inline]
 #[must_use]
 #[track_caller]
+// Not the proved `bytes_of`: a constant of Rust 1.63 cannot `unwrap` a result.
 pub const fn bytes_of<const N: usize>(text: &[u8]) -> [u8; N] {
     match const_decode_to_array(text) {
         Ok(bytes) => bytes,

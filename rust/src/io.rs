@@ -96,6 +96,7 @@ pub struct EncodeWriter<W: Write> {
     text: BufWriter<W>,
 }
 
+// Not over the proved `WriteSink`, which keeps its first error: the other writer may be asked again after one.
 /// How many bytes become text at once.
 const CHUNK: usize = 1024;
 

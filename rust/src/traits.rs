@@ -94,6 +94,8 @@ mod unsigned {
 pub mod signed {
     use super::*;
 
+    // Numbers by a cast, which keeps the bits, and not by the proved loop over a slice of them: a vector would
+    // be filled twice.
     from_hex! {
         /// The same for arrays, vectors and boxes of `i8` too, in which a byte from 128 on is negative.
         ///
