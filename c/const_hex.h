@@ -55,7 +55,7 @@
  *    such as a process that shares the memory, the function still returns and writes only to its own
  *    arguments, but the result is unspecified. This is tested and not verified.
  *
- * The next three sections are about the library that CMake builds, for Linux. Cargo builds a library with the
+ * The next four sections are about the library that CMake builds, for Linux. Cargo builds a library with the
  * same functions for any platform: rust/capi/README.md says what holds for it.
  *
  * FORMAL VERIFICATION
