@@ -89,6 +89,8 @@ def prove(code, name):
             for end in outcomes(code, after, code.object.undefined, may_stay=True):
                 require(end.at is RETURNED, "two builds are called")
                 front_end.has_returned(end)
+                stored = end.memory.written("image")
+                require(stored == state.memory.written("image"), "a byte is stored after the call")
                 result = tuple([unknown("result", at) for at in range(8)])
                 require(front_end.result(end, 8) == result, "the result is another")
                 judged += 1

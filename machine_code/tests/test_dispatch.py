@@ -6,7 +6,23 @@ import unittest
 import dispatch
 from exploration import Refused
 from tests.library import AARCH64, ARCHIVE, code_of, needs_aarch64
-from tests.mutations import byte, replaced
+from tests.mutations import assembled, byte, find, jump, replaced
+
+
+def stored_at_the_end(build):
+    """Before the last instructions of a function, one that stores the byte of a build runs."""
+
+    def change(code, function):
+        section, last = find(code, function, "^add +rsp")
+        [picked] = [other.address for other in code.object.sections if other.is_writable]
+        start, end = last.address - section.address, section.end
+        store = f"mov byte ptr [rip + {picked - end - 7}], {build}"
+        section.content += assembled(code.object.machine, f"{store}; {last.text}; ret")
+        section.content[start : start + 5] = jump(code.object.machine, last.address, end)
+        return last
+
+    return change
+
 
 # What is wrong; the function that shows it; the one where it is; the change; and what the tool has to say.
 MUTATIONS = [
@@ -24,6 +40,8 @@ MUTATIONS = [
      byte("^sete +dl", -2, 0x95), "another build is stored|not the one for this CPU"),
     ("another byte is stored", "version", "ask",
      byte(r"^mov +BYTE PTR \[rip", -5, 0x15), "another build is stored"),
+    ("a build is stored after the call", "check", "no_error_check.constprop.0",
+     stored_at_the_end(2), "a byte is stored after the call"),
     ("a saved register is changed", "version", "ask",
      replaced("^pop +rbx", "pop rcx"), "rbx is not as before"),
     ("an argument is lost", "encode", "first_encode",
