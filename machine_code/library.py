@@ -50,6 +50,11 @@ def calls_of(build):
     return {name: call.up_to(longest) for name, call in CALLS.items() if name != "error_message"}
 
 
+def front_end_of(obj):
+    """The folder of its front end."""
+    return WASM if obj.content is not None else PROCESSORS[obj.machine]
+
+
 def code_of(archive, build):
     """The code of a build, or that of dispatch.c."""
     if build == WASM:
@@ -57,4 +62,4 @@ def code_of(archive, build):
     obj = objects.read(objects.member(archive, _members(archive)[build]))
     if build in cargo.BUILDS:
         return cargo.code_of(obj, build)
-    return Code(obj, importlib.import_module(f"{PROCESSORS[obj.machine]}.front_end").FRONT_END)
+    return Code(obj, importlib.import_module(f"{front_end_of(obj)}.front_end").FRONT_END)

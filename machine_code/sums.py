@@ -1,14 +1,21 @@
-"""The sums of the code that `prove --all` has proved, in proved.txt. Other code is not shown to be right.
+"""The sums of what `prove --all` has proved, in proved.txt, and of the tool that has proved it. Other code is not
+shown to be right, nor is the same code by another tool.
 
-The sum of a function is over the sections that it reaches by relocations: their bytes, and what they refer
-to.
+The sum of a function is over the sections that it reaches by relocations: their bytes, whether they are code or
+can be written, and what they refer to. The sum of the tool is over its files, without those of other front ends,
+and the header that it proves.
 """
 
+import functools
 import hashlib
 import pathlib
 import struct
 
-FILE = pathlib.Path(__file__).resolve().parent / "proved.txt"
+from calls import HEADER
+
+FOLDER = pathlib.Path(__file__).resolve().parent
+FILE = FOLDER / "proved.txt"
+HEAD = "# What `prove --all` has proved (sums.py): function, build, sum of the code that it reaches, sum of the tool\n"
 
 
 def sum_of(obj, function):
@@ -19,7 +26,8 @@ def sum_of(obj, function):
     found = [obj.section_at(start)]
     total = hashlib.sha256(struct.pack("<Q", start - found[0].address))
     for section in found:
-        total.update(struct.pack("<QQ", len(section.bytes), section.alignment) + section.bytes)
+        flags = section.is_code, section.is_writable
+        total.update(struct.pack("<QQ??", len(section.bytes), section.alignment, *flags) + section.bytes)
         for offset, kind, symbol, addend in section.references:
             target, place = obj.section_at(symbol), obj.undefined.get(symbol)
             if target:
@@ -29,15 +37,27 @@ def sum_of(obj, function):
     return total.hexdigest()
 
 
+def files_of_tool(front_end):
+    """The files that decide what is proved by a front end, which is a folder here."""
+    return [FOLDER / "prove", *sorted(FOLDER.glob("*.py")), *sorted((FOLDER / front_end).glob("*.py")), HEADER]
+
+
+@functools.lru_cache(None)
+def sum_of_tool(front_end):
+    total = hashlib.sha256()
+    for file in files_of_tool(front_end):
+        total.update(f"{file.name} {hashlib.sha256(file.read_bytes()).hexdigest()}\n".encode())
+    return total.hexdigest()
+
+
 def recorded():
+    """The sums of each function and build."""
     lines = FILE.read_text().splitlines() if FILE.exists() else []
-    return {tuple(line.split()[:2]): line.split()[2] for line in lines if line and not line.startswith("#")}
+    rows = [line.split() for line in lines if line and not line.startswith("#")]
+    return {(call, build): tuple(found) for call, build, *found in rows}
 
 
-def write(call, build, total):
-    """Adds a function of a build to what was proved before."""
-    found = recorded() | {(call, build): total}
-    head = "# The code that `prove --all` has proved: function, build, sum of what it reaches (sums.py)\n"
-    FILE.write_text(
-        head + "".join(f"{call} {build} {total}\n" for (call, build), total in sorted(found.items()))
-    )
+def write(proved):
+    """Adds functions of builds, with their sums, to what was proved before."""
+    rows = sorted((recorded() | proved).items())
+    FILE.write_text(HEAD + "".join(f"{' '.join((*key, *found))}\n" for key, found in rows))

@@ -1,15 +1,29 @@
 """What `prove` reports besides what is refused: unknown instructions, unreached code, and other code."""
 
+import pathlib
+import sys
+import tempfile
+import types
 import unittest
+from importlib.machinery import SourceFileLoader
+from unittest import mock
 
 import sums
 from calls import CALLS
 from exploration import Refused
 from reached import is_message, not_reached
-from tests.library import code_of
+from tests.library import ARCHIVE, code_of
 from tests.mutations import detour
 
 FUNCTION = "const_hex_check_raw_v3"
+FRONT_ENDS = ("x86_64", "aarch64", "wasm")
+
+
+def script():
+    """`prove`, as a module."""
+    module = types.ModuleType("prove")
+    SourceFileLoader("prove", str(sums.FOLDER / "prove")).exec_module(module)
+    return module
 
 
 class TestProve(unittest.TestCase):
@@ -43,3 +57,31 @@ class TestProve(unittest.TestCase):
         constants = next(section for section in obj.sections if section.name == ".rodata.cst16")
         constants.bytes = bytes([constants.bytes[0] ^ 1]) + constants.bytes[1:]
         self.assertNotEqual(sums.sum_of(obj, FUNCTION), before)
+
+    def test_sum_of_other_rights(self):
+        obj = code_of("v3").object
+        before = sums.sum_of(obj, FUNCTION)
+        next(section for section in obj.sections if section.name == ".rodata.cst16").is_writable = True
+        self.assertNotEqual(sums.sum_of(obj, FUNCTION), before)
+
+    def test_files_of_the_tool(self):
+        files = {file for front_end in FRONT_ENDS for file in sums.files_of_tool(front_end)}
+        loaded = [pathlib.Path(module.__file__) for module in list(sys.modules.values())
+                  if getattr(module, "__file__", None)]
+        used = {file for file in loaded if sums.FOLDER in file.parents and sums.FOLDER / "tests" not in file.parents}
+        self.assertEqual(used - files, set())
+        self.assertEqual(len({sums.sum_of_tool(front_end) for front_end in FRONT_ENDS}), len(FRONT_ENDS))
+
+    def test_what_is_recorded(self):
+        module = script()
+        row = module.Row(ARCHIVE, "check_raw", "v3")
+        with tempfile.TemporaryDirectory() as folder:
+            with mock.patch.object(sums, "FILE", pathlib.Path(folder) / "proved.txt"):
+                module.record([row])
+                self.assertRegex(row.missing(), "this code")
+                sums.write({("check_raw", "v3"): (row.sums()[0], "another")})
+                self.assertRegex(row.missing(), "this tool")
+                row.done = row.all
+                module.record([row])
+                row.done = 0
+                self.assertIsNone(row.missing())
