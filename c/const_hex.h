@@ -65,16 +65,16 @@
  * says, for all inputs. The contracts are in crates/const_hex_c; this header states them in prose.
  *
  * The machine code is verified too, against this header, by the separate tool in machine_code: every function,
- * on x86-64 in both builds, for every length below 2^53, and the C code in c/dispatch.c, which detects the CPU
- * and handles a NULL error. That this header agrees with the contracts of crates/const_hex_c and of
- * machine_code was reviewed.
+ * on x86-64 in both builds, for every length below 2^53 and positions of a decoder up to 2^62, and the C code in
+ * c/dispatch.c, which detects the CPU and handles a NULL error. That this header agrees with the contracts of
+ * crates/const_hex_c and of machine_code was reviewed.
  *
  * CONSTANT TIME
  *
  * For valid input, branches and memory addresses do not depend on the bytes or digits, but only on lengths,
  * sizes, flags and pointers, on whether a text has a prefix, and on where the chunks of a text are split.
- * This is verified in the machine code, on x86-64 of both builds, for every length below 2^53. It does not
- * hold for invalid text: the error states the position of the invalid character, and timing reveals it too.
+ * This is verified in the machine code, on x86-64 in both builds and on AArch64, with the same limits. It does
+ * not hold for invalid text: the error states the position of the invalid character, and timing reveals it too.
  * How long an instruction takes is up to the CPU. No memory is wiped. libsodium has sodium_bin2hex and
  * sodium_hex2bin, which are made for secrets.
  *
