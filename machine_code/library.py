@@ -50,7 +50,7 @@ def calls_of(build):
     return {name: call.up_to(longest) for name, call in CALLS.items() if name != "error_message"}
 
 
-def front_end_of(obj):
+def processor_of(obj):
     """The folder of its front end."""
     return WASM if obj.content is not None else PROCESSORS[obj.machine]
 
@@ -62,4 +62,4 @@ def code_of(archive, build):
     obj = objects.read(objects.member(archive, _members(archive)[build]))
     if build in cargo.BUILDS:
         return cargo.code_of(obj, build)
-    return Code(obj, importlib.import_module(f"{front_end_of(obj)}.front_end").FRONT_END)
+    return Code(obj, importlib.import_module(f"{PROCESSORS[obj.machine]}.front_end").FRONT_END)

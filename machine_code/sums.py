@@ -15,7 +15,7 @@ from calls import HEADER
 
 FOLDER = pathlib.Path(__file__).resolve().parent
 FILE = FOLDER / "proved.txt"
-HEAD = "# What `prove --all` has proved (sums.py): function, build, sum of the code that it reaches, sum of the tool\n"
+HEAD = "# What `prove --all` has proved: function, build, sums of the code and of the tool (sums.py)\n"
 
 
 def sum_of(obj, function):

@@ -43,10 +43,14 @@ class TestProve(unittest.TestCase):
         code = code_of("v3")
         sections = [other for other in code.object.sections if other.is_code and not is_message(other)]
         every = {address for section in sections for address in code.front_end.instructions(section)}
-        self.assertEqual(not_reached(code, every), [])
+        self.assertEqual(not_reached(code, every, "v3"), [])
         start = code.object.symbols[FUNCTION]
-        [line] = not_reached(code, every - {start})
+        [line] = not_reached(code, every - {start}, "v3")
         self.assertIn(FUNCTION, line)
+        left = every - {start, code.object.symbols["const_hex_encode_v3"]}
+        for count, lines in ((1, 2), (2, 0)):
+            with mock.patch("reached.EXCEPTIONS", [("const_hex", ".*", {"v3": count}, "a reason")]):
+                self.assertEqual(len(not_reached(code, left, "v3")), lines)
 
     def test_sum_of_other_code(self):
         obj = code_of("v3").object
