@@ -83,7 +83,7 @@ class TestProve(unittest.TestCase):
             with mock.patch.object(sums, "FILE", pathlib.Path(folder) / "proved.txt"):
                 module.record([row])
                 self.assertRegex(row.missing(), "this code")
-                sums.write({("check_raw", "v3"): (row.sums()[0], "another")})
+                sums.write({("check_raw", "v3"): (row.sums[0], "another")})
                 self.assertRegex(row.missing(), "this tool")
                 row.done = row.all
                 module.record([row])
