@@ -38,7 +38,7 @@ from contracts import (
     unchanged,
     written_region,
 )
-from exploration import named, outcomes, require
+from exploration import named, outcomes, require, require_one_path
 from induction import prove_class, prove_length, with_nulls
 from linear import lower, symbol
 from memory import Pointer, Region, as_lane, as_value
@@ -53,7 +53,7 @@ ERROR, WRITTEN = error_region(8), written_region(8)
 @dataclass
 class Case:
     """A call with these arguments and regions, where `assume` adds what else is known of the state at the
-    start, and `judge` compares each state that has returned."""
+    start, and `judge` compares each state that has returned. Unless it `may_leak`, no byte decides the path."""
 
     name: str
     arguments: list
@@ -68,13 +68,18 @@ class Case:
         state = code.front_end.start(code, function, self.arguments, self.regions)
         if self.assume:
             self.assume(state)
-        ends = [end for begin in with_nulls(code, state) for end in outcomes(code, begin)]
+        return sum(self._prove_from(code, begin) for begin in with_nulls(code, state))
+
+    def _prove_from(self, code, begin):
+        ends = list(outcomes(code, begin))
         for end in ends:
             with named(code, "at the return", end.last):
                 code.front_end.has_returned(end)
-                require(self.may_leak or not end.leaks, "an address depends on an unknown byte")
                 require(not end.selects, SELECTS)
                 self.judge(code, end)
+        if not self.may_leak:
+            with named(code, "for what returns at", ends[0].last):
+                require_one_path(ends)
         return len(ends)
 
 
@@ -102,9 +107,9 @@ def _encoded_size_cases():
             if first <= last:
                 arguments = [length, constants(flags, 4)]
                 yield Case(f"flags {flags}, {length} bytes", arguments, [], _returns(size))
-    for length in (_any(0, middle - 1), _any(middle, SIZE_MAX)):
-        arguments = [length, _flags_beyond(0)]
-        yield Case(f"unknown flags, {length} bytes", arguments, [], _returns(SIZE_MAX), _beyond(0))
+        for length in (_any(0, middle - 1), _any(middle, SIZE_MAX)):
+            name, arguments = f"flags {flags} and unknown ones, {length} bytes", [length, _flags_beyond(flags)]
+            yield Case(name, arguments, [], _returns(SIZE_MAX), _beyond(flags))
 
 
 def _returns(wanted):

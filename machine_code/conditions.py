@@ -14,9 +14,9 @@ from values import CONSTANTS, apply, byte_of, kept, parts, parts_of
 ALL = bytes([1]) * 256
 
 
-# What is no secret: bits of lengths and positions, what the CPU says that it is, and what the object itself
-# keeps between calls.
-PUBLIC = ("bits", "cpuid", "xgetbv", "image")
+# What is no secret: bits of lengths and positions, flags, what the CPU says that it is, and what the object
+# itself keeps between calls.
+PUBLIC = ("bits", "flags", "cpuid", "xgetbv", "image")
 
 
 def is_public(byte):

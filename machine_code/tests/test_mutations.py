@@ -14,6 +14,7 @@ ENCODE, PREFIX, NO_NUL, EXACT = [
     ("encode", 0), ("encode", 3), ("encode", 4), ("decode_exact", 0)]
 DIGITS, TEXT = ("check_raw", 0), ("check", 0)
 DECODE, PREFIXED, START, WAITS = ("decode", 0), ("decode", 1), ("decoder_update", 0), ("decoder_update", 5)
+SIZE = ("encoded_size", None)
 # Each kind of an error; and positions of five digits.
 KIND, POSITION = ("error_message", None), ("error_message", 8)
 CALL = None
@@ -56,6 +57,11 @@ MUTATIONS = [
      detour("cmp byte ptr [rdi+9],0x61; jb 1f; nop; 1:"), "have more than one path"),
     ("a size that is too small is accepted", "v3", ENCODE, "failure", CALL,
      replaced(r"^jae", "nop", 1), "outside its region"),
+    ("a byte decides a jump if the size is too small", "default", ENCODE, "failure", CALL,
+     detour("test rsi,rsi; je 1f; test rcx,rcx; jne 1f; cmp byte ptr [rdi],0; jne 1f; nop; 1:", 6),
+     "have more than one path"),
+    ("unknown flags with a known one have a size", "default", SIZE, "failure", CALL,
+     detour("cmp esi,9; jne 1f; xor eax,eax; ret; 1: mov rax,-1", 7), "the result is not 18446744073709551615"),
     ("the NUL is another byte", "v3", ENCODE, 150, CALL,
      byte(r"^mov +BYTE PTR \[rax\+r11\*1\],0x0", -1, 1), "the text does not end with a NUL"),
     ("the prefix is 0X", "v3", PREFIX, 150, CALL,

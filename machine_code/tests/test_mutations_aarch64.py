@@ -61,6 +61,8 @@ MUTATIONS = [
      replaced(r"^cset w0, eq", "cset w0, ne"), "digits are rejected"),
     ("a byte decides a jump", DIGITS, 150, CALL,
      detour("ldrb w9, [x0]; cmp w9, #0x61; b.cc 1f; nop; 1:"), "have more than one path"),
+    ("a byte decides a jump if the size is too small", ENCODE, "failure", CALL,
+     detour("cbz x1, 1f; cbnz x3, 1f; ldrb w9, [x0]; cbz w9, 1f; nop; 1:"), "have more than one path"),
     ("a register of vectors is changed", DIGITS, 20, CALL,
      detour("movi v8.16b, #1"), "v8 is not as before"),
     ("the stack is not restored", DIGITS, 20, CALL,
