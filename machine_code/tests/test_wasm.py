@@ -161,6 +161,20 @@ class TestModule(unittest.TestCase):
         with self.assertRaisesRegex(ValueError, r"not known here: \(table"):
             parse(assembled(ONE_FUNCTION.format("local.get 0", "(table 1 funcref)")))
 
+    def test_places_that_overlap(self):
+        """The caller's memory follows the data, which follow the stack."""
+        data = '(data (i32.const {}) "\\00\\01")'
+        for text, part in (
+            (ONE_FUNCTION, data.format(4095)),
+            (ONE_FUNCTION, data.format(4096)),
+            (ONE_FUNCTION, data.format(4094)),
+            (ONE_FUNCTION.replace("(mut i32) (i32.const 4096)", "(mut i32) (i32.const 4080)"), ""),
+            (ONE_FUNCTION.replace("__heap_base", "__other"), ""),
+        ):
+            code = Code(parse(assembled(text.format("local.get 0", part))), wasm.front_end)
+            with self.assertRaisesRegex(Refused, "the data and `__heap_base` lie at"):
+                wasm.front_end.start(code, "f", [0], [])
+
     def test_vectors_are_used(self):
         """A loop takes 16 bytes of the input or more at once, but for the search."""
         for call in ("encode", "decoder_update"):
@@ -170,4 +184,5 @@ class TestModule(unittest.TestCase):
 
 
 ONE_FUNCTION = """(module (memory 1 1) (global (mut i32) (i32.const 4096)) {1}
+    (global i32 (i32.const 4096)) (export "__data_end" (global 1)) (export "__heap_base" (global 1))
     (func (export "f") (param i32) (result i32) {0}))"""

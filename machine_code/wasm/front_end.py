@@ -16,6 +16,7 @@ LIMITS = {name: 1 << 16 for name in ("more", "n", "k", "over")}
 LIMITS |= {"done": 1 << 9, "left": 1 << 9, "before": (1 << 32) - (1 << 17)}
 # It calls no function of another library.
 LIBRARY = {}
+STACK_END = 4096
 
 
 def start(code, symbol, arguments, regions):
@@ -23,12 +24,22 @@ def start(code, symbol, arguments, regions):
     at address 0, and the data."""
     module = code.object
     require(symbol in module.symbols, f"there is no {symbol}")
+    _require_layout(module)
     stack = Region("stack", number(module.globals[0]), True)
     state = State(Memory([*regions, stack, Image(module)]))
     state.registers = {f"global {at}": value for at, value in enumerate(module.globals)}
     values = [constants(argument, 4) if type(argument) is int else argument for argument in arguments]
     state.at = state.enter(module.function_at(module.symbols[symbol]), values, RETURNED)
     return state
+
+
+def _require_layout(module):
+    """The stack, the data, and what the caller may use follow each other."""
+    data = sorted((section.address, section.end) for section in module.sections if not section.is_code)
+    places = [number(module.globals[0]), *sum(data, ())]
+    places += [module.places.get(name, -1) for name in ("__data_end", "__heap_base")]
+    is_right = places[0] == STACK_END and places == sorted(places)
+    require(is_right, f"the stack, the data and `__heap_base` lie at {places}")
 
 
 def pointers(state):

@@ -9,13 +9,13 @@ import subprocess
 from collections import namedtuple
 
 from objects import ALLOCATED, Object, Section
-from values import constants
+from values import constants, number
 
 Instruction = namedtuple("Instruction", "address size mnemonic operands text")
 SIZES = {"i32": 4, "i64": 8, "v128": 16}
 SPACE = 1 << 32
 # What a module may have beside functions, data and globals.
-OTHERS = (")", "(module", "(type", '(export "memory"', "(export \"__", "(memory (;0;) 1 1)")
+OTHERS = (")", "(module", "(type", '(export "memory"', "(memory (;0;) 1 1)")
 
 
 class Function(Section):
@@ -31,11 +31,12 @@ class Function(Section):
 
 
 class Module(Object):
-    """`globals` are their values at the start. Number 0 is the stack pointer, below which the stack lies."""
+    """`globals` are their values at the start. Number 0 is the stack pointer, below which the stack lies.
+    `places` are the addresses that it exports."""
 
     def __init__(self, content):
         super().__init__(None, [], {}, {})
-        self.content, self.functions, self.globals = content, [], []
+        self.content, self.functions, self.globals, self.places = content, [], [], {}
 
     def function_at(self, address):
         return next(function for function in self.functions if function.address == address)
@@ -67,6 +68,8 @@ def _add(module, part):
         module.globals.append(constants(int(found[2]), SIZES[found[1]]))
     elif found := re.fullmatch(r'\(export "(\w+)" \(func (\d+)\)\)', part):
         module.symbols[found[1]] = module.functions[int(found[2])].address
+    elif found := re.fullmatch(r'\(export "(__\w+)" \(global (\d+)\)\)', part):
+        module.places[found[1]] = number(module.globals[int(found[2])])
     elif not part.startswith(OTHERS):
         raise ValueError(f"a part of a module that is not known here: {part[:60]}")
 
