@@ -243,6 +243,8 @@ def by_lanes(function, size):
     """An operation on each two lanes of this size."""
 
     def operation(first, second):
+        if len(first) != len(second):
+            raise ValueError("vectors of different sizes")
         places = range(0, len(first), size)
         return flat(apply(function, size, [first[at:][:size], second[at:][:size]]) for at in places)
 

@@ -1,11 +1,21 @@
 """How a function is called and returns: what the front ends for processors have in common."""
 
 from arithmetic import as_number
+from contracts import KEEPS
 from exploration import RETURNED, require
 from memory import Fault, Image, Memory, Pointer, Region, as_lane, from_lane, is_whole
 from values import constants, unknown
 
 RETURN = Pointer("return", 0)
+
+
+def code_at(pointer):
+    """Where a jump to a pointer goes on: in the object, or after the call."""
+    if type(pointer) is Pointer and pointer == RETURN:
+        return RETURNED
+    if type(pointer) is not Pointer or pointer.region != "image":
+        raise Fault("a jump to what is no code")
+    return pointer.offset
 
 
 def as_argument(argument):
@@ -71,9 +81,7 @@ class FrontEnd:
         """The state after a function with so many arguments, which is not in the object, has returned: what
         it need not keep may be anything."""
         top, calls = state.registers[state.top].offset, state.memory.regions["stack"].calls
-        back = self.return_address(state)
-        require(type(back) is Pointer and back.region in ("image", "return"), "where a call returns to")
-        state.last, state.at = state.at, back.offset if back.region == "image" else RETURNED
+        state.last, state.at = state.at, code_at(self.return_address(state))
         kept = self.KEPT | {state.top: 8}
         for name, size in state.sizes.items():
             value = as_lane(state.registers[name])[: kept.get(name, 0)]
@@ -85,6 +93,8 @@ class FrontEnd:
 
     def copy_bytes(self, state):
         """`memcpy` and `memmove`, by their specification: of bytes that do not overlap."""
+        if (state.registers[state.top].offset + self.PUSHED) % 16:
+            raise Fault("a call with a stack that is not aligned")
         target, source, count = (self.argument(state, at) for at in range(3))
         count = as_number(count)
         if type(count) is not int or count < 0:
@@ -111,8 +121,10 @@ class FrontEnd:
             raise Fault("a part of a pointer or of a number with symbols is returned")
         return value if is_whole(value) else value[:size]
 
-    def has_returned(self, state):
-        """What each call owes its caller, beside its contract."""
+    def has_returned(self, state, may_keep=False):
+        """What each call owes its caller, beside its contract. With `may_keep` the object keeps what it has
+        stored in itself."""
+        require(may_keep or not state.memory.written("image"), KEEPS)
         before = Pointer("stack", state.ghost["stack"] + self.PUSHED)
         require(state.registers[state.top] == before, "the stack is not as before")
         for name, size in self.KEPT.items():

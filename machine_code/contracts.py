@@ -14,6 +14,7 @@ from memory import Pointer, Region, as_lane, as_value
 from values import CONSTANTS, ZERO, TooWide, constants, unknown, variable
 
 SELECTS = "a `select` depends on an unknown byte"
+KEEPS = "something is kept between calls"
 ODD_LENGTH, INVALID_LENGTH, INVALID_CHARACTER = 1, 2, 3
 UPPER, PREFIX, NO_NUL = 1, 2, 4
 SIZE_MAX = (1 << 64) - 1

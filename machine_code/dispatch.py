@@ -88,7 +88,7 @@ def prove(code, name):
             after = _returned(code, state, count, local)
             for end in outcomes(code, after, code.object.undefined, may_stay=True):
                 require(end.at is RETURNED, "two builds are called")
-                front_end.has_returned(end)
+                front_end.has_returned(end, may_keep=True)
                 stored = end.memory.written("image")
                 require(stored == state.memory.written("image"), "a byte is stored after the call")
                 result = tuple([unknown("result", at) for at in range(8)])

@@ -10,7 +10,7 @@ import collections
 import functools
 import itertools
 
-from contracts import cases_of_answer
+from contracts import KEEPS, SELECTS, cases_of_answer
 from digits import IS_DIGIT
 from exploration import MOST_STEPS, RETURNED, Fork, Refused, named, outcomes, require, require_one_path, sides
 from linear import Linear, Split, Unknown, in_terms_of, symbol
@@ -278,6 +278,7 @@ class Loop:
                 break
             self.forget(general, wrong)
         for other in back:
+            require(not other.memory.written("image"), KEEPS)
             self.form.after_round(other, self.head.size)
         if not self.head.is_search:
             require_one_path([*back, *self.accepted(ends)])
@@ -323,7 +324,9 @@ def prove_class(code, function, form, size, rest):
         arrivals[state.at].append(state)
     loops = [head for head in heads.values() if not head.is_search]
     with named(code, "on the way from", begin.at):
-        require_one_path([state for head in loops for state in arrivals[head.at]])
+        first = [state for head in loops for state in arrivals[head.at]]
+        require_one_path(first)
+        require(not any(state.selects for state in first), SELECTS)
     for at, states in arrivals.items():
         with named(code, "on the way to the loop at", at):
             arrivals[at] = [arrived(form, state, heads[at], rest) for state in states]

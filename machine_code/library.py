@@ -62,4 +62,4 @@ def code_of(archive, build):
     obj = objects.read(objects.member(archive, _members(archive)[build]))
     if build in cargo.BUILDS:
         return cargo.code_of(obj, build)
-    return Code(obj, importlib.import_module(f"{PROCESSORS[obj.machine]}.front_end").FRONT_END)
+    return Code(obj, importlib.import_module(f"{PROCESSORS[obj.machine]}.front_end").front_end_of(build))

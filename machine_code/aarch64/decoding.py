@@ -1,6 +1,7 @@
 """The operands of AArch64, as `objdump` writes them."""
 
 import re
+import struct
 from collections import namedtuple
 
 import disassembly
@@ -72,5 +73,24 @@ def _instruction(text):
     return mnemonic, _operands(rest), f"{mnemonic} {rest}".strip()
 
 
+# Which instructions a relocation of a kind is for: a mask, and the bits that it leaves.
+RELOCATED = {
+    275: (0x9F000000, 0x90000000),  # adrp
+    277: (0xFFC00000, 0x91000000),  # add of 8 bytes, whose immediate is not shifted
+    282: (0xFC000000, 0x14000000),  # b
+    283: (0xFC000000, 0x94000000),  # bl
+    286: (0xFB800000, 0xF9000000),  # ldr and str of 8 bytes
+    299: (0xFF800000, 0x3D800000),  # ldr and str of 16 bytes
+}
+
+
 def instructions(section):
-    return disassembly.read(section, ["aarch64-linux-gnu-objdump", "-m", "aarch64"], _instruction)
+    """Those of a section. One with a relocation that is for another instruction is not known."""
+    found = disassembly.read(section, ["aarch64-linux-gnu-objdump", "-m", "aarch64"], _instruction)
+    for offset, kind, _, _ in section.references:
+        [word] = struct.unpack_from("<I", section.content, offset)
+        mask, bits = RELOCATED.get(kind, (0, None))
+        if offset % 4 or word & mask != bits:
+            for address in {section.address + (at & ~3) for at in (offset, offset + 3)}:
+                found[address] = found[address]._replace(mnemonic="unknown")
+    return found

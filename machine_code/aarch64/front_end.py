@@ -25,4 +25,5 @@ class AArch64(FrontEnd):
         return instruction.mnemonic.startswith(("b.", "cb", "tbz", "tbnz")) or instruction.mnemonic == "b"
 
 
-FRONT_END = AArch64()
+def front_end_of(build):
+    return AArch64()

@@ -6,6 +6,7 @@ returns where to go on if that is not the next instruction.
 
 import operator
 
+from aarch64.decoding import Register
 from aarch64.state import CODES, PAGE, Known, extended
 from arithmetic import (
     added,
@@ -18,8 +19,8 @@ from arithmetic import (
     signed,
     subtracted,
 )
+from calling import code_at
 from disassembly import adding_to
-from exploration import RETURNED
 from flags import Flags
 from memory import Fault, Pointer, as_lane, from_lane
 from values import ZERO, apply, constants
@@ -200,10 +201,7 @@ def jump(state, i):
 
 @instruction("ret")
 def ret(state, i):
-    pointer = state.read(i.operands[0]) if i.operands else state.registers["x30"]
-    if type(pointer) is not Pointer or pointer.region not in ("image", "return"):
-        raise Fault("a jump to what is no code")
-    return pointer.offset if pointer.region == "image" else RETURNED
+    return code_at(state.read(i.operands[0]) if i.operands else state.registers["x30"])
 
 
 def _jump_if(state, i):
@@ -227,6 +225,17 @@ def jump_if_bit(state, i):
     is_zero = state.decide(Flags("logic", result=value).condition("e", state))
     return target if is_zero == (i.mnemonic == "tbz") else None
 
+
+def _of_general(handler):
+    def handle(state, i):
+        if any(type(operand) is Register and operand.kind != "general" for operand in i.operands):
+            raise Fault("a vector in an instruction of the general registers")
+        return handler(state, i)
+
+    return handle
+
+
+HANDLERS |= {name: _of_general(handler) for name, handler in HANDLERS.items()}
 
 # Loads and stores
 

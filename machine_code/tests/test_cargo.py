@@ -12,7 +12,7 @@ from tests.mutations import assembled_object, byte, replaced
 from tests.native import Native
 from tests.test_processor import differences, forms_of
 from values import TooWide, apply, at_inputs, constants, is_equal, joined, masked, unknown
-from x86_64.front_end import FRONT_END
+from x86_64.front_end import front_end_of
 
 INSTRUCTIONS = """
     xchg rbx, rdi; pmovmskb eax, xmm1; pcmpeqb xmm0, xmm1; pmaxub xmm0, xmm1; paddusb xmm0, xmm1
@@ -24,7 +24,7 @@ INSTRUCTIONS = """
 
 class TestInstructions(unittest.TestCase):
     def test_each_form(self):
-        processor = Native(Code(objects.read(assembled_object(62, INSTRUCTIONS)), FRONT_END))
+        processor = Native(Code(objects.read(assembled_object(62, INSTRUCTIONS)), front_end_of("v3")))
         self.addCleanup(processor.close)
         forms = forms_of(processor)
         self.assertEqual(len(forms), 11)

@@ -12,7 +12,7 @@ from linear import GREATEST, Linear, Unknown, least_of, most_value
 from memory import Fault, Pointer, Region, as_lane
 from tests.test_soundness import run, state_with
 from values import at_inputs, constants, parts_of, unknown
-from x86_64.front_end import FRONT_END
+from x86_64.front_end import front_end_of
 
 BY_25 = 0x28F5C28F5C28F5C3
 
@@ -124,24 +124,28 @@ class TestOrder(unittest.TestCase):
 
 
 class TestCopies(unittest.TestCase):
-    def copied(self, target, count):
+    def copied(self, target, count, top=40):
         state = state_with(Region("text", 16, True))
-        state.registers |= {"rsp": Pointer("stack", 32), "rdi": target, "rsi": Pointer("text", 0)}
+        state.registers |= {"rsp": Pointer("stack", top), "rdi": target, "rsi": Pointer("text", 0)}
         state.registers["rdx"] = constants(count, 8)
-        state.memory.store(Pointer("stack", 32), Pointer("return", 0))
+        state.memory.store(Pointer("stack", top), Pointer("return", 0))
         state.memory.store(Pointer("stack", 24), constants(1, 8))
-        FRONT_END.copy_bytes(state)
+        front_end_of("v3").copy_bytes(state)
         return state
 
     def test_what_a_copy_leaves(self):
         state = self.copied(Pointer("text", 8), 8)
         self.assertIs(state.memory.at("text", 8), unknown("text", 0))
         self.assertEqual(state.registers["rax"], Pointer("text", 8))
-        self.assertEqual(state.registers["rsp"], Pointer("stack", 40))
+        self.assertEqual(state.registers["rsp"], Pointer("stack", 48))
         self.assertEqual(state.registers["rbx"][0], unknown("rbx", 0))
         self.assertNotEqual(state.registers["rcx"][0], unknown("rcx", 0))
         self.assertNotIn(24, state.memory.written("stack"))
         self.assertNotEqual(state.memory.at("stack", 0), unknown("stack", 0))
+
+    def test_stack_that_is_not_aligned(self):
+        with self.assertRaisesRegex(Fault, "a stack that is not aligned"):
+            self.copied(Pointer("text", 8), 8, 32)
 
     def test_bytes_that_overlap(self):
         with self.assertRaises(Fault):

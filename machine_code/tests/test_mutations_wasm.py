@@ -50,6 +50,11 @@ MUTATIONS = [
      "the module traps"),
     ("a byte decides a branch", LOWER, LANES, r"\A", 0,
      "block\nlocal.get 0\ni32.load8_u\ni32.const 97\ni32.lt_u\nbr_if 0\nend\n", "have more than one path"),
+    ("the digit that waits decides a branch", FINISH_CASES, FINISH, r"\A", 0,
+     "block\nlocal.get 0\ni32.load8_u offset=4\ni32.const 65\ni32.eq\nbr_if 0\nend\n", "have more than one path"),
+    ("a byte decides a select for one length", LOWER, LANES, r"\A", 0,
+     "block\nlocal.get 1\ni32.const 200\ni32.ge_u\nbr_if 0\n"
+     "i32.const 1\ni32.const 2\nlocal.get 0\ni32.load8_u\nselect\nlocal.set 4\nend\n", "a `select` depends on"),
     ("a byte decides an address", LOWER, LANES, r"\A", 0,
      "local.get 0\ni32.load8_u\ni32.const 4440\ni32.add\ni32.load8_u\nlocal.set 4\n", "an address depends on"),
     ("a byte decides a select", LOWER, LANES, r"\A", 0,

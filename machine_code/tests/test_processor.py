@@ -1,6 +1,7 @@
 """The instructions' meanings, compared with processors on random states; and wrong meanings, which are
 noticed."""
 
+import contextlib
 import pathlib
 import unittest
 from unittest import mock
@@ -50,9 +51,11 @@ class Checks:
             self.assertEqual(list(differences(processor, forms)), [])
 
     def test_wrong_meanings_are_noticed(self):
-        handlers = self.processors[0].code.front_end.HANDLERS
         for names, wrong in self.wrong.items():
-            with self.subTest(names), mock.patch.dict(handlers, dict.fromkeys(names.split(), wrong)):
+            with self.subTest(names), contextlib.ExitStack() as patches:
+                for processor in self.processors:
+                    handlers = processor.code.front_end.HANDLERS
+                    patches.enter_context(mock.patch.dict(handlers, dict.fromkeys(names.split(), wrong)))
                 noticed = False
                 for processor, forms in zip(self.processors, self.forms):
                     ours = {form: found for form, found in forms.items() if form.split()[0] in names.split()}

@@ -1,5 +1,6 @@
 """What the tool has to refuse, or to see: each test is a way in which it could be wrong."""
 
+import struct
 import unittest
 
 from calls import CALLS
@@ -9,8 +10,9 @@ from exploration import Refused, require_one_path, sides
 from induction import DONE, LEFT
 from linear import GREATEST, Split, Unknown, in_terms_of, is_zero, symbol
 from memory import Fault, Memory, Pointer, Region, as_lane, with_replaced
+from objects import ALLOCATED, GAP, WRITABLE, Section
 from tests.library import code_of
-from tests.mutations import detour
+from tests.mutations import detour, find
 from values import CONSTANTS, TooWide, apply, constants, each, joined, masked, unknown
 from x86_64.decoding import REGISTERS
 from flags import Flags
@@ -246,6 +248,17 @@ class TestLengths(unittest.TestCase):
         self.assert_refused(
             "mov eax, esi; and eax, 15; cmp eax, 7; jne 1f; dec rsi; 1:", "not a digit|all is read", 151
         )
+
+    def test_byte_that_is_kept(self):
+        """A round writes a byte of the object in the place of one of its stores."""
+        code = code_of("v3")
+        section, store = find(code, "const_hex_encode_v3", r"^vmovdqu YMMWORD PTR \[rcx\+rdx\*1\+0x60\]")
+        place = max(other.end for other in code.object.sections) + GAP
+        code.object.sections.append(Section("kept", WRITABLE | ALLOCATED, place, 1, bytearray(1)))
+        at, end = store.address - section.address, store.address + store.size
+        section.content[at : at + store.size] = b"\x88\x05" + struct.pack("<i", place - end)
+        with self.assertRaisesRegex(Refused, "something is kept between calls, in the loop at"):
+            CALLS["encode"].prove(code, "const_hex_encode_v3", ("class", 0, 150))
 
     def test_length_of_32_bits(self):
         self.assert_refused("mov esi, esi", "unknown byte")

@@ -13,11 +13,13 @@ from exploration import Code, require
 from values import constants
 from x86_64.choice import has_features, was_read
 from x86_64.front_end import X86_64
-from x86_64.general import HANDLERS
+from x86_64.levels import BMI2, absent, handlers_of, level_of
 
 ABSENT, PRESENT = 1, 2
 FEATURES = [(1, "rcx", 1 << 27 | 1 << 28), (7, "rbx", 1 << 5)]  # OSXSAVE, AVX; AVX2
 LEAVES = {0: 7}
+# What a CPU with AVX2 has: all but BMI2.
+WITH_AVX2 = handlers_of(3) | dict.fromkeys(BMI2, absent)
 # What the byte holds, the arguments that are NULL, and the greatest length.
 Build = namedtuple("Build", "byte absent longest")
 BUILDS = {
@@ -29,7 +31,7 @@ BUILDS = {
 
 
 def _checked(handler, picked):
-    """An instruction of AVX."""
+    """An instruction that not every CPU has. One with AVX2 has it."""
 
     def handle(state, i):
         has_avx2 = was_read(state.path, picked, PRESENT) or has_features(state.path, FEATURES, LEAVES)
@@ -40,15 +42,15 @@ def _checked(handler, picked):
 
 
 class Cargo(X86_64):
-    def __init__(self, picked, absent):
-        self.picked, self.ABSENT = picked, absent
+    def __init__(self, picked, null):
+        self.picked, self.ABSENT = picked, null
         self.HANDLERS = {
-            name: _checked(handler, picked) if name[0] == "v" else handler
-            for name, handler in HANDLERS.items()
+            name: handler if level_of(name) == 1 else _checked(handler, picked)
+            for name, handler in WITH_AVX2.items()
         }
 
     def has_returned(self, state):
-        super().has_returned(state)
+        super().has_returned(state, may_keep=True)
         stored = state.memory.written("image")
         require(set(stored) <= {self.picked}, "another byte is stored")
         for byte in stored.values():
@@ -58,10 +60,13 @@ class Cargo(X86_64):
 
 
 def code_of(obj, build):
-    value, absent, _ = BUILDS[build]
+    value, null, _ = BUILDS[build]
     [picked] = [address for name, address in obj.symbols.items() if "9processor4avx24AVX2" in name]
     if value is None:
-        return Code(obj, Cargo(picked, absent))
+        return Code(obj, Cargo(picked, null))
     section = obj.section_at(picked)
     section.is_writable, section.content[picked - section.address] = False, value
-    return Code(obj, X86_64())
+    front_end = X86_64(1)
+    if value == PRESENT:
+        front_end.HANDLERS = WITH_AVX2
+    return Code(obj, front_end)

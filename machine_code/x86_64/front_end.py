@@ -1,14 +1,14 @@
 """The front end for x86-64: its instructions, and the System V ABI."""
 
 from calling import FrontEnd
-from x86_64 import choice, vector  # noqa: F401 (the latter adds its instructions)
+from x86_64 import choice
 from x86_64.decoding import instructions
-from x86_64.general import HANDLERS
+from x86_64.levels import LEVELS, handlers_of
 from x86_64.state import State
 
 
 class X86_64(FrontEnd):
-    HANDLERS, State = HANDLERS, State
+    State = State
     ARGUMENTS, RESULT = ("rdi", "rsi", "rdx", "rcx", "r8", "r9"), "rax"
     KEPT = dict.fromkeys(("rbx", "rbp", "r12", "r13", "r14", "r15"), 8)
     PUSHED = 8
@@ -16,6 +16,9 @@ class X86_64(FrontEnd):
     STACK, DISPATCH_STACK = 1912, 2040
     instructions = staticmethod(instructions)
     judge_choice = staticmethod(choice.judge)
+
+    def __init__(self, level):
+        self.HANDLERS = handlers_of(level)
 
     def set_return(self, state, place):
         state.memory.store(state.registers["rsp"], place)
@@ -27,4 +30,5 @@ class X86_64(FrontEnd):
         return instruction.mnemonic.startswith("j")
 
 
-FRONT_END = X86_64()
+def front_end_of(build):
+    return X86_64(LEVELS.get(build, 2))

@@ -19,9 +19,9 @@ from arithmetic import (
     signed,
     subtracted,
 )
+from calling import code_at
 from conditions import are_equal, is_public
 from disassembly import adding_to
-from exploration import RETURNED
 from flags import Flags
 from linear import Linear
 from memory import Fault, Pointer, is_whole
@@ -197,12 +197,19 @@ def imul(state, i):
 
 @instruction("push")
 def push(state, i):
+    _require_8_bytes(i.operands[0])
     _push(state, state.read(i.operands[0], 8))
 
 
 @instruction("pop")
 def pop(state, i):
+    _require_8_bytes(i.operands[0])
     state.write(i.operands[0], _pop(state))
+
+
+def _require_8_bytes(operand):
+    if not isinstance(operand, int) and operand.size != 8:
+        raise Fault("less than 8 bytes on the stack")
 
 
 def _push(state, value):
@@ -226,7 +233,7 @@ def nop(state, i):
 @instruction("jmp")
 def jmp(state, i):
     target = i.operands[0]
-    return target if isinstance(target, int) else _code(state.read(target))
+    return target if isinstance(target, int) else code_at(state.read(target))
 
 
 @instruction("call")
@@ -239,13 +246,9 @@ def call(state, i):
 
 @instruction("ret")
 def ret(state, i):
-    return _code(_pop(state))
-
-
-def _code(pointer):
-    if type(pointer) is not Pointer or pointer.region not in ("image", "return"):
-        raise Fault("a jump to what is no code")
-    return pointer.offset if pointer.region == "image" else RETURNED
+    if i.operands:
+        raise Fault("a return that takes arguments from the stack")
+    return code_at(_pop(state))
 
 
 def _jump(state, i):

@@ -208,6 +208,8 @@ def widen(state, i):
 
 @instruction("vbroadcasti128", "vpbroadcastb", "vpbroadcastd", "vpbroadcastq")
 def broadcast(state, i):
+    if type(i.operands[1]) is Register and not i.operands[1].family.startswith("v"):
+        raise Fault("an instruction of AVX-512")
     size = 16 if i.mnemonic.endswith("128") else UNITS[i.mnemonic[-1]]
     _set_target(state, i, as_lane(state.read(i.operands[1], size)) * (i.operands[0].size // size))
 

@@ -1,0 +1,27 @@
+"""Which instructions a CPU has, by the levels of the x86-64 psABI: x86-64 itself, x86-64-v2 and x86-64-v3."""
+
+from memory import Fault
+from x86_64 import vector  # noqa: F401 (adds its instructions)
+from x86_64.general import HANDLERS
+
+# For each build the level that the CPU has at least. Any other one is for x86-64-v2.
+LEVELS = {"dispatch": 1, "v3": 3}
+# The instructions of SSSE3 and SSE4.1. SSE2 has `pextrw`, too, but not with a place in memory.
+SSE4 = {"pshufb", "pmovzxbw", "ptest", "pinsrb", "pinsrd", "pinsrq", "pextrb", "pextrw", "pextrd", "pextrq"}
+BMI2 = {"mulx"}
+
+
+def level_of(mnemonic):
+    """The first level that has an instruction. The `v` is that of AVX and AVX2."""
+    if mnemonic.startswith("v") or mnemonic in BMI2:
+        return 3
+    return 2 if mnemonic in SSE4 else 1
+
+
+def absent(state, i):
+    raise Fault("an instruction that the CPU may not have")
+
+
+def handlers_of(level):
+    """The meanings of the instructions that a CPU of a level has."""
+    return {name: handler if level_of(name) <= level else absent for name, handler in HANDLERS.items()}
