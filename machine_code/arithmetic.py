@@ -275,5 +275,28 @@ def sum_to_255(first, second):
     return min(first + second, 255)
 
 
-def equal(first, second):
-    return -(first == second)
+def _as_unsigned_byte(value):
+    return min(max(signed(value, 2), 0), 255)
+
+
+def narrowed(first, second):
+    """Each two bytes are a signed number, which becomes the nearest of one byte."""
+    both = first + second
+    return flat(apply(_as_unsigned_byte, 1, [both[at:][:2]]) for at in range(0, len(both), 2))
+
+
+def entry(place, row):
+    return row[place] if place < len(row) else 0
+
+
+def looked_up(row, places, pick=entry):
+    """The entries of a row that bytes name, or 0, as `pick` says for a number."""
+    found = []
+    for place in places:
+        if place.is_constant:
+            found.append(pick(place.value, row) or ZERO)
+        elif are_constant(row):
+            found += apply(pick, 1, [(place,)], (tuple([byte.value for byte in row]),))
+        else:
+            raise Fault("an unknown byte picks from unknown bytes")
+    return tuple(found)

@@ -6,12 +6,13 @@ arguments that fail whatever the bytes are, and functions that read no text. The
 
 import copy
 import math
+import operator
 import pathlib
 import re
 from dataclasses import dataclass
 from typing import Callable
 
-from conditions import Condition
+from conditions import are_zero
 from contracts import (
     BEFORE,
     INVALID_CHARACTER,
@@ -130,23 +131,15 @@ def _flags_beyond(low):
     return (*apply(_with_low_bits, 1, [(first,)], (low,)), *others)
 
 
-def _is_null(byte):
-    return int(byte == 0)
-
-
 def _beyond(low):
     """One of the other bits is set."""
     beyond = _flags_beyond(low)
-    high = apply(_xor, 1, [beyond[:1]], (low,)) + beyond[1:]
+    high = apply(operator.xor, 1, [beyond[:1]], (low,)) + beyond[1:]
 
     def assume(state):
-        state.path.assume(Condition(tuple([apply(_is_null, 1, [(byte,)])[0] for byte in high]), True))
+        state.path.assume(are_zero(high).negated())
 
     return assume
-
-
-def _xor(byte, low):
-    return byte ^ low
 
 
 def encode_failures():

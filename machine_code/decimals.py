@@ -6,6 +6,7 @@ last shift shows which division it is, which is checked for all numbers up to th
 digits at most is one byte, a function of one or two unknown ones.
 """
 
+import operator
 from dataclasses import dataclass
 
 from linear import DIGIT, GREATEST, Linear, Unknown, constant_of, linear, most_value, symbol, terms_of
@@ -37,7 +38,7 @@ class Digit:
         """The digit as a character."""
         if self.least == self.most:
             return constants(48 + self.least, 1)[0]
-        return apply(_sum, 1, [(unknown("digit", self.name),)], (48 + self.least,))[0]
+        return apply(operator.add, 1, [(unknown("digit", self.name),)], (48 + self.least,))[0]
 
     def __str__(self):
         return f"{self.least}" if self.least == self.most else f"{self.least}-{self.most}"
@@ -45,10 +46,6 @@ class Digit:
     def assume(self, path):
         allowed = bytes(at <= self.most - self.least for at in range(256))
         path.sets[variable("digit", self.name)] = kept(allowed)
-
-
-def _sum(first, second):
-    return first + second
 
 
 def numbers():

@@ -261,14 +261,14 @@ def _is_equal(first, second):
             # An OR is as great as a power of two if one of its parts is.
             marks = [apply(_is_at_least, 1, [(part,), (least,)]) for part in second.parts]
             return functools.reduce(joined, marks)[0]
-    return apply(_equal, 1, [(first,), (second,)])[0]
+    return apply(equal, 1, [(first,), (second,)])[0]
 
 
 def _is_at_least(first, second):
     return -(first >= second)
 
 
-def _equal(first, second):
+def equal(first, second):
     return -(first == second)
 
 

@@ -2,10 +2,10 @@
 
 import operator
 
-from aarch64.general import HANDLERS, instruction
-from arithmetic import by_count, by_lanes, difference_from_0, flat, interleaved, signed
-from memory import Fault, as_lane
-from values import ZERO, apply, are_constant, constants, joined, masked
+from aarch64.general import HANDLERS
+from arithmetic import by_count, by_lanes, difference_from_0, flat, interleaved, looked_up, signed
+from memory import as_lane
+from values import ZERO, constants, joined, masked
 
 EACH_TWO = {
     "add": operator.add,
@@ -125,20 +125,7 @@ def extract(state, i):
     state.write(target, (state.read(first) + state.read(second))[place:][: target.size])
 
 
-def _entry(place, row):
-    return row[place] if place < len(row) else 0
-
-
 @vector("tbl")
 def look_up(state, i):
-    """The entries of a row of 16 that bytes name, or 0."""
     target, row, places = i.operands
-    row, found = state.read(row), []
-    for place in state.read(places):
-        if place.is_constant:
-            found.append(row[place.value] if place.value < len(row) else ZERO)
-        elif are_constant(row):
-            found += apply(_entry, 1, [(place,)], (tuple([entry.value for entry in row]),))
-        else:
-            raise Fault("an unknown byte picks from unknown bytes")
-    state.write(target, tuple(found))
+    state.write(target, looked_up(state.read(row), state.read(places)))

@@ -3,37 +3,12 @@
 import operator
 from functools import reduce
 
-from arithmetic import by_count, by_lanes, difference_from_0, flat, signed
+from arithmetic import by_count, by_lanes, flat, looked_up, narrowed
 from memory import Fault
 from values import ZERO, apply, are_constant, joined, masked, number, parts
 from wasm.general import HANDLERS, computed, instruction
 
 V, I = 16, 4
-
-
-def _as_unsigned_byte(value):
-    return min(max(signed(value, 2), 0), 255)
-
-
-def _pick(place, row):
-    return row[place] if place < 16 else 0
-
-
-def _swizzled(row, places):
-    result = ()
-    for place in places:
-        if place.is_constant:
-            result += (row[place.value] if place.value < 16 else ZERO,)
-        elif are_constant(row):
-            result += apply(_pick, 1, [(place,)], (tuple([entry.value for entry in row]),))
-        else:
-            raise Fault("an unknown byte picks from unknown bytes")
-    return result
-
-
-def _narrowed(first, second):
-    both = first + second
-    return flat(apply(_as_unsigned_byte, 1, [both[at:][:2]]) for at in range(0, 32, 2))
 
 
 OPERATIONS = {
@@ -43,8 +18,8 @@ OPERATIONS = {
     "i8x16.sub": by_lanes(operator.sub, 1),
     "i8x16.min_u": by_lanes(min, 1),
     "i8x16.max_u": by_lanes(max, 1),
-    "i8x16.swizzle": _swizzled,
-    "i8x16.narrow_i16x8_u": _narrowed,
+    "i8x16.swizzle": looked_up,
+    "i8x16.narrow_i16x8_u": narrowed,
     "i16x8.mul": by_lanes(operator.mul, 2),
 }
 

@@ -32,10 +32,6 @@ HANDLERS = {}
 instruction = adding_to(HANDLERS)
 
 
-def _sign_extended(value, size):
-    return signed(value, size)
-
-
 def _operands(state, i):
     """Both operands. An immediate has the size of the other one."""
     first = state.read(i.operands[0])
@@ -68,7 +64,7 @@ def movzx(state, i):
 @instruction("movsxd")
 def movsx(state, i):
     value = state.read(i.operands[1])
-    state.write(i.operands[0], apply(_sign_extended, i.operands[0].size, [value], (len(value),)))
+    state.write(i.operands[0], apply(signed, i.operands[0].size, [value], (len(value),)))
 
 
 @instruction("lea")

@@ -11,16 +11,16 @@ from arithmetic import (
     by_count,
     by_lanes,
     difference_from_0,
-    equal,
     flat,
     interleaved,
-    signed,
+    looked_up,
+    narrowed,
     sum_to_255,
 )
 from conditions import are_zero
 from flags import Flags
 from memory import Fault, as_lane, from_lane
-from values import ZERO, apply, are_constant, each, is_equal, joined, masked, parts
+from values import ZERO, apply, are_constant, each, equal, is_equal, joined, masked, parts
 from x86_64.decoding import Register
 from x86_64.general import HANDLERS, instruction
 
@@ -29,10 +29,6 @@ from x86_64.general import HANDLERS, instruction
 
 def _top_bit_at(value, place):
     return value >> 7 << place
-
-
-def _as_unsigned_byte(value):
-    return min(max(signed(value, 2), 0), 255)
 
 
 def _pick(control, row):
@@ -56,25 +52,12 @@ def _in_halves(operation):
 
 
 def _shuffled(row, control):
-    result = []
-    for byte in control:
-        if byte.is_constant:
-            result.append(ZERO if byte.value & 128 else row[byte.value & 15])
-        elif are_constant(row):
-            result += apply(_pick, 1, [(byte,)], (tuple([entry.value for entry in row]),))
-        else:
-            raise Fault("an unknown byte picks from unknown bytes")
-    return tuple(result)
+    return looked_up(row, control, _pick)
 
 
 def _interleaved(size, begin=0):
     """Of the lower halves, or of the upper ones, which begin at 8."""
     return lambda first, second: interleaved(first[begin:], second[begin:], size, 8)
-
-
-def _packed(first, second):
-    both = first + second
-    return flat(apply(_as_unsigned_byte, 1, [both[at:][:2]]) for at in range(0, 32, 2))
 
 
 def _picked(vector, order, size):
@@ -97,7 +80,7 @@ OPERATIONS = {
     "pcmpeqb": is_equal,
     "pcmpeqd": by_lanes(equal, 4),
     "pshufb": _in_halves(_shuffled),
-    "packuswb": _in_halves(_packed),
+    "packuswb": _in_halves(narrowed),
     "punpcklbw": _in_halves(_interleaved(1)),
     "punpckhbw": _in_halves(_interleaved(1, 8)),
     "punpcklwd": _in_halves(_interleaved(2)),
