@@ -46,6 +46,7 @@ FORMS = [
     ("SSE4.1 in what chooses a build", "dispatch", "ptest xmm0, xmm0", NOT_HERE),
     ("AVX-512", "v3", "vpbroadcastd ymm0, esi", "an instruction of AVX-512"),
     ("AVX-512 by its encoding", "v3", "{evex} vpaddb ymm0, ymm0, ymm0", NO_MEANING),
+    ("a form of SSE4.1 without a check", "sse2", "pextrw word ptr [rsp-8], xmm0, 1", "a form of SSE4.1"),
     ("SSSE3 without a check, by cargo", "sse2", "pshufb xmm0, xmm0", NOT_HERE),
     ("SSSE3 while the CPU is not known", "any byte", "pshufb xmm0, xmm0", NOT_HERE),
     ("BMI2 with AVX2, by cargo", "avx2", "mulx rax, rcx, rcx", NOT_HERE),
@@ -73,7 +74,7 @@ ACCEPTED = [
      "sub rsp, 8; xor edx, edx; call memcpy@PLT; add rsp, 8"),
     ("v3", "vpxor ymm0, ymm0, ymm0; xor edx, edx; xor ecx, ecx; mulx rax, rcx, rcx"),
     ("dispatch", "pxor xmm0, xmm0"),
-    ("sse2", "pxor xmm0, xmm0"),
+    ("sse2", "pxor xmm0, xmm0; pextrw eax, xmm0, 1"),
     ("avx2", "pxor xmm1, xmm1; pshufb xmm0, xmm1; vpxor ymm0, ymm0, ymm0"),
     ("aarch64", f"adrp x8, table; .reloc ., {LOWER_BITS}, table; add x8, x8, #0; mov x9, #1; neg x8, x9"),
 ]

@@ -45,8 +45,8 @@ class Cargo(X86_64):
     def __init__(self, picked, null):
         self.picked, self.ABSENT = picked, null
         self.HANDLERS = {
-            name: handler if level_of(name) == 1 else _checked(handler, picked)
-            for name, handler in WITH_AVX2.items()
+            name: handler if level_of(name) == 1 else _checked(WITH_AVX2[name], picked)
+            for name, handler in handlers_of(1).items()
         }
 
     def has_returned(self, state):

@@ -2,12 +2,13 @@
 
 from memory import Fault
 from x86_64 import vector  # noqa: F401 (adds its instructions)
+from x86_64.decoding import Register
 from x86_64.general import HANDLERS
 
 # For each build the level that the CPU has at least. Any other one is for x86-64-v2.
 LEVELS = {"dispatch": 1, "v3": 3}
-# The instructions of SSSE3 and SSE4.1. SSE2 has `pextrw`, too, but not with a place in memory.
-SSE4 = {"pshufb", "pmovzxbw", "ptest", "pinsrb", "pinsrd", "pinsrq", "pextrb", "pextrw", "pextrd", "pextrq"}
+# The instructions of SSSE3 and SSE4.1.
+SSE4 = {"pshufb", "pmovzxbw", "ptest", "pinsrb", "pinsrd", "pinsrq", "pextrb", "pextrd", "pextrq"}
 BMI2 = {"mulx"}
 
 
@@ -22,6 +23,13 @@ def absent(state, i):
     raise Fault("an instruction that the CPU may not have")
 
 
+def _extract_of_sse2(state, i):
+    if type(i.operands[0]) is not Register:
+        raise Fault("a form of SSE4.1")
+    return HANDLERS["pextrw"](state, i)
+
+
 def handlers_of(level):
     """The meanings of the instructions that a CPU of a level has."""
-    return {name: handler if level_of(name) <= level else absent for name, handler in HANDLERS.items()}
+    found = {name: handler if level_of(name) <= level else absent for name, handler in HANDLERS.items()}
+    return found | {"pextrw": _extract_of_sse2} if level == 1 else found
