@@ -42,6 +42,7 @@ MUTATIONS = [
      byte(r"^mov +BYTE PTR \[rip", -5, 0x15), "another build is stored"),
     ("a build is stored after the call", "check", "no_error_check.constprop.0",
      stored_at_the_end(2), "a byte is stored after the call"),
+    ("the CPU may not have xgetbv", "version", "ask", replaced("^jne", "nop"), "may not have it"),
     ("a saved register is changed", "version", "ask",
      replaced("^pop +rbx", "pop rcx"), "rbx is not as before"),
     ("an argument is lost", "encode", "first_encode",

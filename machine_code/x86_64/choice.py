@@ -65,6 +65,8 @@ def judge(code, state, build):
     asked = set(state.memory.written("image"))
     require(asked <= {picked}, "another byte is stored")
     if asked:
+        names_none = all(any(not read[value] for read in _reads(state.path, picked)) for value in BUILDS.values())
+        require(names_none, "the CPU is asked although the byte names a build")
         require(is_same(state.path, (cell,), constants(number, 1)), "another build is stored")
         is_v3 = has_features(state.path, FEATURES, LEAVES)
         require(is_v3 is (build == "_v3"), "the build is not the one for this CPU")
@@ -74,8 +76,12 @@ def judge(code, state, build):
 
 def was_read(path, picked, number):
     """Whether the byte was this number when it was read."""
-    read = [known for at, known in path.sets.items() if parts_of(at)[:2] == ("image", picked)]
-    return _only(number) in read
+    return _only(number) in _reads(path, picked)
+
+
+def _reads(path, picked):
+    """What is known of the byte each time that it was read."""
+    return [known for at, known in path.sets.items() if parts_of(at)[:2] == ("image", picked)]
 
 
 def _only(value):

@@ -25,7 +25,7 @@ from disassembly import adding_to
 from flags import Flags
 from linear import Linear
 from memory import Fault, Pointer, is_whole
-from values import ZERO, TooWide, apply, are_constant, constants, number, unknown
+from values import ZERO, TooWide, apply, are_constant, constants, number, unknown, variable
 from x86_64.state import CODES
 
 HANDLERS = {}
@@ -283,5 +283,9 @@ def xgetbv(state, i):
     part = state.registers["rcx"][:4]
     if not are_constant(part) or number(part):
         raise Fault("another register of xgetbv")
+    # The instruction traps unless bit 27 of leaf 1, OSXSAVE, is set.
+    byte = state.path.allowed(variable("cpuid", 1, "rcx", 3))
+    if any(byte[value] for value in range(256) if not value & 8):
+        raise Fault("xgetbv on a CPU that may not have it")
     for name in ("rax", "rdx"):
         state.registers[name] = tuple([unknown("xgetbv", name, at) for at in range(4)]) + (ZERO,) * 4

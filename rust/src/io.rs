@@ -98,14 +98,14 @@ pub struct EncodeWriter<W: Write> {
 
 // Not over the proved `WriteSink`, which keeps its first error: the other writer may be asked again after one.
 /// How many bytes become text at once.
-const CHUNK: usize = 1024;
+const CHUNK: usize = 256;
 
 impl<W: Write> EncodeWriter<W> {
     /// Returns a writer of bytes, whose text goes to `writer`.
     pub fn new(writer: W) -> EncodeWriter<W> {
         EncodeWriter {
             // A text that is shorter than the buffer is taken whole or not at all.
-            text: BufWriter::with_capacity(4 * CHUNK, writer),
+            text: BufWriter::with_capacity(16 * CHUNK, writer),
         }
     }
 
