@@ -64,17 +64,18 @@
  * function meets its contract: it is memory-safe, terminates, and returns and writes what the contract
  * says, for all inputs. The contracts are in crates/const_hex_c; this header states them in prose.
  *
- * The machine code is verified too, against this header, by the separate tool in machine_code: every function,
- * on x86-64 in both builds, for every length below 2^53 and positions of a decoder up to 2^62, and the C code in
- * c/dispatch.c, which detects the CPU and handles a NULL error. That this header agrees with the contracts of
- * crates/const_hex_c and of machine_code was reviewed.
+ * The machine code is verified too, against this header, by the separate tool in machine_code, if the toolchain
+ * that README.md names has built it, on x86-64 without CONST_HEX_SINGLE: every function, on x86-64 in both builds,
+ * for every length below 2^53 and positions of a decoder up to 2^62, and the C code in c/dispatch.c, which detects
+ * the CPU and handles a NULL error. That this header agrees with the contracts of crates/const_hex_c and of
+ * machine_code was reviewed.
  *
  * CONSTANT TIME
  *
  * For valid input, branches and memory addresses do not depend on the bytes or digits, but only on lengths,
  * sizes, flags and pointers, on whether a text has a prefix, and on where the chunks of a text are split.
- * This is verified in the machine code, on x86-64 in both builds and on AArch64, with the same limits. It does
- * not hold for invalid text: the error states the position of the invalid character, and timing reveals it too.
+ * This is verified in the machine code, on x86-64 in both builds and on AArch64, under the same conditions. It
+ * does not hold for invalid text: the error states the position of the invalid character, and timing reveals it too.
  * How long an instruction takes is up to the CPU. No memory is wiped. libsodium has sodium_bin2hex and
  * sodium_hex2bin, which are made for secrets.
  *
@@ -86,8 +87,8 @@
  * x86-64-v3 (AVX2 and what came with it), which is used if the CPU supports it. The first call detects that
  * and stores the result in one byte; nothing else is kept between calls.
  *
- * A function uses less than 2 KB of stack, apart from what memcpy and memmove use: the tool machine_code checks
- * this. The object files have no unwind tables: a debugger or profiler that stops inside a function may not
+ * A function uses at most 2,048 bytes of stack, apart from what memcpy and memmove use: the tool machine_code
+ * checks this. The object files have no unwind tables: a debugger or profiler that stops inside a function may not
  * find its caller. They have no IBT and SHSTK properties: a program that links them statically runs without
  * these protections.
  *

@@ -15,7 +15,7 @@ from linear import (
     terms_of,
     unknown_bit,
 )
-from memory import Fault, Pointer, as_value, is_whole
+from memory import PAGE, Fault, Pointer, as_value, is_whole
 from values import (
     CONSTANTS,
     ZERO,
@@ -70,6 +70,8 @@ def named(lane, kind):
 
 
 def moved(pointer, distance):
+    if pointer.region == PAGE:
+        raise Fault("arithmetic with a page")
     offset = pointer.offset + distance
     return Pointer(pointer.region, signed(offset) if type(offset) is int else offset)
 
@@ -87,6 +89,8 @@ def added(first, second):
 
 def subtracted(first, second):
     if type(first) is Pointer and type(second) is Pointer:
+        if PAGE in (first.region, second.region):
+            raise Fault("arithmetic with a page")
         if first.region != second.region:
             is_known = type(first.offset) is type(second.offset) is int
             return anything("difference", *first, *second) if is_known else anything("number", next(_count))

@@ -28,7 +28,7 @@ class FrontEnd:
     Beside what stands here, a front end has the `instructions` of a section, their HANDLERS, and the State that
     they change; it tells what `is_jump`, and has the `return_address` of a call, and how to `set_return` to it.
 
-    The header promises less than 2 KB of stack. A function of c/dispatch.c and the one that it calls use at
+    The header promises at most 2,048 bytes of stack. A function of c/dispatch.c and the one that it calls use at
     most DISPATCH_STACK bytes, and the latter alone STACK.
     """
 
@@ -39,8 +39,8 @@ class FrontEnd:
     STACK = DISPATCH_STACK = 0
     # The regions for which NULL is passed.
     ABSENT = ()
-    # Lower limits of symbols.
-    LIMITS = {}
+    # Lower limits of symbols, and others of them in the search for an invalid character.
+    LIMITS, SEARCH_LIMITS = {}, {}
 
     def start(self, code, symbol, arguments, regions, stack=None):
         """The state at the first instruction of a call. Regions beside the arguments' are the stack and the
@@ -62,7 +62,7 @@ class FrontEnd:
         self.set_return(state, RETURN)
         for at, argument in enumerate(arguments[len(self.ARGUMENTS) :]):
             state.memory.store(Pointer("stack", stack + self.PUSHED + 8 * at), as_argument(argument))
-        require(symbol in code.object.symbols, f"there is no {symbol}")
+        require(symbol in code.object.exported, f"there is no {symbol}")
         state.at = code.object.symbols[symbol]
         return state
 
@@ -100,6 +100,11 @@ class FrontEnd:
         if type(count) is not int or count < 0:
             raise Fault("a copy of an unknown number of bytes")
         if count:
+            if not type(target) is type(source) is Pointer:
+                raise Fault("a copy by a number that is no pointer")
+            lowest = state.registers[state.top].offset + self.PUSHED
+            if any(pointer.region == "stack" and pointer.offset < lowest for pointer in (target, source)):
+                raise Fault("a copy of bytes below the stack")
             lane = state.memory.load(source, count)
             distance = target.offset - source.offset if target.region == source.region else count
             if type(distance) is not int or abs(distance) < count:

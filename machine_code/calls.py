@@ -339,9 +339,15 @@ CALLS = {
 }
 
 
+# The functions whose error may be NULL.
+WITH_ERROR = {"decode", "decode_exact", "decoder_update", "decoder_finish", "check"}
+
+
 def function_of(code, call, build):
-    """The name of a function in a build. It ends in that of the build if there are two, and before that it says
-    if c/dispatch.c handles a NULL error."""
+    """The name of a function in a build. It says if c/dispatch.c handles a NULL error, and ends in the name of the
+    build if there are two."""
     stem = f"const_hex_{call}"
-    names = (f"{stem}_nonnull", f"{stem}_nonnull_{build}", f"{stem}_{build}")
-    return next((name for name in names if name in code.object.symbols), stem)
+    nonnull = f"{stem}_nonnull" if call in WITH_ERROR else stem
+    found = {stem, nonnull, f"{nonnull}_{build}"} & code.object.exported
+    require(len(found) == 1, f"{stem} is exported as {sorted(found)}")
+    return found.pop()

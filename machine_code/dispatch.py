@@ -88,6 +88,7 @@ def prove(code, name):
             after = _returned(code, state, count, local)
             for end in outcomes(code, after, code.object.undefined, may_stay=True):
                 require(end.at is RETURNED, "two builds are called")
+                require(not end.leaks, "an address depends on an unknown byte")
                 front_end.has_returned(end, may_keep=True)
                 stored = end.memory.written("image")
                 require(stored == state.memory.written("image"), "a byte is stored after the call")

@@ -62,7 +62,7 @@ class Code:
         if handler is None:
             raise Fault("an instruction without a meaning here")
         self.run.add(instruction.address)
-        state.next = instruction.address + instruction.size
+        state.next, top = instruction.address + instruction.size, state.registers.get(state.top)
         try:
             target = handler(state, instruction)
         except (AttributeError, IndexError, KeyError, TypeError, ValueError) as error:
@@ -70,6 +70,8 @@ class Code:
         state.last = instruction.address
         state.steps += 1
         state.at = state.next if target is None else target
+        if top is not None and state.registers[state.top] is not top and state.at is not RETURNED:
+            state.has_moved(top, self.front_end.PUSHED)
 
     def shown(self, address):
         """An instruction and its place, for messages."""

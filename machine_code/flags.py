@@ -116,9 +116,9 @@ class Flags:
                 return least_of(total) > GREATEST
             raise Unknown(f"whether {total} is carried")
         if code == "e":
-            return is_zero(
-                as_number(self.first) - as_number(self.second) if self.kind == "sub" else self.result
-            )
+            if self.kind == "sub":
+                return is_zero(as_number(self.first) - as_number(self.second))
+            return is_zero(as_number(self.result))
         if self.kind == "logic" and code == "s":
             is_negative = least_of(self.result) > GREATEST_SIGNED
             in_range(self.result, *((GREATEST_SIGNED + 1, GREATEST) if is_negative else (0, GREATEST_SIGNED)))
@@ -126,8 +126,10 @@ class Flags:
         raise Fault(f"flag {code} of {self.kind} of a number with symbols")
 
     def _of_pointers(self, code, memory):
-        """Pointers are never null. Two into a region are in the order of their offsets."""
+        """Pointers into a region, or to its end, are never null, and in the order of their offsets."""
         first, second = self.first, self.second
+        for pointer in (first, second):
+            memory.require_inside(pointer)
         if self.kind == "logic" and first == second and code in ("e", "be"):
             return False
         if self.kind == "sub" and code == "e":
@@ -140,9 +142,5 @@ class Flags:
             if code == "e":
                 return is_zero(first.offset - second.offset)
             if code in ("b", "be"):
-                # Both lie in the region or at its end, so neither has wrapped.
-                size = memory.regions[first.region].size
-                if not all(0 <= pointer.offset <= size for pointer in (first, second)):
-                    raise Fault("an order of pointers outside their region")
                 return first.offset < second.offset if code == "b" else first.offset <= second.offset
         raise Fault(f"flag {code} of {self.kind} of pointers")

@@ -13,7 +13,7 @@ import itertools
 from contracts import KEEPS, SELECTS, cases_of_answer
 from digits import IS_DIGIT
 from exploration import MOST_STEPS, RETURNED, Fork, Refused, named, outcomes, require, require_one_path, sides
-from linear import Linear, Split, Unknown, in_terms_of, symbol
+from linear import Linear, Split, Unknown, in_terms_of, lower, symbol
 from memory import Fault, Pointer, as_lane, as_value, with_replaced
 from values import TooWide, WholeByte, constants, kept, parts_of, unknown, variable
 
@@ -228,6 +228,9 @@ class Loop:
             state.path.runs = (("text", first.ghost["read"], read, IS_DIGIT),)
         if self.form.output and not self.head.is_search:
             state.memory.with_region(self.form.output, first=written)
+        if state.top:
+            # A round may have called a function, so what was not written is another unknown in each.
+            state.memory.change_below("stack", state.memory.regions["stack"].size, keeps=True)
         return state
 
     def differences(self, general, state, done):
@@ -333,7 +336,8 @@ def prove_class(code, function, form, size, rest):
     for head in [*loops, *(head for head in heads.values() if head.is_search)]:
         if arrivals[head.at]:
             with named(code, "in the loop at", head.at):
-                others, ends = Loop(code, form, begin, head, heads, rest).prove(arrivals[head.at])
+                with lower(code.front_end.SEARCH_LIMITS if head.is_search else {}):
+                    others, ends = Loop(code, form, begin, head, heads, rest).prove(arrivals[head.at])
                 for state in others:
                     require(heads[state.at].is_search and not head.is_search, "a loop after a loop")
                     arrivals[state.at].append(arrived(form, state, heads[state.at], rest))

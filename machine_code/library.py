@@ -15,7 +15,7 @@ from exploration import Code
 from x86_64 import cargo
 
 PROCESSORS = {62: "x86_64", 183: "aarch64"}  # by their number in ELF
-DISPATCH, WASM = "dispatch", "wasm"
+DISPATCH, WASM, DISPATCH_OBJECT = "dispatch", "wasm", "dispatch.c.o"
 
 
 @functools.lru_cache
@@ -24,12 +24,15 @@ def _members(archive):
     processor."""
     listed = subprocess.run(["ar", "t", archive], check=True, capture_output=True, text=True).stdout.split()
     if made := [name for name in listed if name.startswith("const_hex.const_hex.")]:
-        return dict.fromkeys(cargo.BUILDS, made[0])
+        [made] = made
+        return dict.fromkeys(cargo.BUILDS, made)
     found = {match[1]: match[0] for name in listed if (match := re.fullmatch(r"const_hex_(\w+)\.o", name))}
+    if sorted(listed) != sorted([*found.values(), DISPATCH_OBJECT]):
+        raise ValueError(f"{archive} has other objects: {listed}")
     if "single" in found:
         machine = objects.read(objects.member(archive, found["single"])).machine
         found[PROCESSORS[machine]] = found.pop("single")
-    return found | {DISPATCH: "dispatch.c.o"}
+    return found | {DISPATCH: DISPATCH_OBJECT}
 
 
 def _is_module(archive):
@@ -59,7 +62,8 @@ def code_of(archive, build):
     """The code of a build, or that of dispatch.c."""
     if build == WASM:
         return Code(wasm.module.read(archive), wasm.front_end)
-    obj = objects.read(objects.member(archive, _members(archive)[build]))
+    data = objects.member(archive, _members(archive)[build])
     if build in cargo.BUILDS:
-        return cargo.code_of(obj, build)
+        return cargo.code_of(objects.read(data, may_start=True), build)
+    obj = objects.read(data)
     return Code(obj, importlib.import_module(f"{PROCESSORS[obj.machine]}.front_end").front_end_of(build))

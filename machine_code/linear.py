@@ -146,12 +146,14 @@ def most_of(name):
 
 @contextlib.contextmanager
 def lower(limits):
-    """Here some symbols have lower limits."""
+    """Here some symbols have other limits, which are lower than their own."""
+    before = dict(_lower_limits)
     _lower_limits.update(limits)
     try:
         yield
     finally:
         _lower_limits.clear()
+        _lower_limits.update(before)
 
 
 def terms_of(number):
@@ -184,9 +186,11 @@ def is_surely_below(first, second):
 
 
 def is_zero(number):
-    """Whether a number of a register is 0: it must be far from wrapping."""
+    """Whether a number of a register is 0: one with symbols must be far from wrapping."""
+    if type(number) is int:
+        return number % (1 << 64) == 0
     if type(number) is not Linear:
-        return number == 0
+        raise Unknown("whether what is no number is 0")
     if max(-number.least, number.most) > GREATEST_SIGNED:
         raise Unknown(f"whether {number} is zero")
     if number.least > 0 or number.most < 0:

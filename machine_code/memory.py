@@ -13,8 +13,9 @@ from decimals import Product
 from linear import Linear, Unknown, constant_of, is_surely_below, linear, most_of, replaced, terms_of
 from values import CONSTANTS, WholeByte, constants, unknown
 
-_count = itertools.count()
+_count = itertools.count(1)
 Pointer = namedtuple("Pointer", "region offset")
+PAGE = "page of image"  # the region of a pointer to the page of a place, which is its offset
 
 
 class Fault(Exception):
@@ -76,7 +77,7 @@ class Region:
         self.is_writable = is_writable
         self.alignment = alignment
         self.content = content
-        # Below an offset, other functions may have changed it, in so many calls.
+        # Below an offset, something else may have changed it: how often is a number of its own each time.
         self.changed_below = self.calls = 0
 
     def contains(self, offset, size):
@@ -200,9 +201,16 @@ class Memory:
         self._keep_apart(region.name, pointer.offset, size)
         return region
 
+    def require_inside(self, value):
+        """A pointer lies in its region or at the end, and so has not wrapped. The start of a region needs none."""
+        if type(value) is Pointer and value.offset != 0:
+            region = self.regions.get(value.region)
+            if region is None or not 0 <= value.offset <= region.size:
+                raise Fault(f"a pointer that is compared outside its region: {shown(value)}")
+
     def at(self, name, offset):
-        """The byte of a region at an offset."""
-        cell = self.written(name).get(offset)
+        """The byte of a region at an offset. Another thread may have written what the object keeps."""
+        cell = None if name == "image" else self.written(name).get(offset)
         return self.regions[name].old(offset) if cell is None else cell
 
     def load(self, pointer, size, alignment=1):
@@ -243,12 +251,12 @@ class Memory:
         region.__dict__ |= changes
         self.regions = {**self.regions, name: region}
 
-    def change_below(self, name, offset):
-        """What is below an offset may be anything, since another function has run."""
+    def change_below(self, name, offset, keeps=False):
+        """What is below an offset may be anything, since something else has run, such as a function or a signal's
+        handler. With `keeps` that is so of what was not written."""
         region, cells = self.regions[name], self._written.setdefault(name, {})
-        below = max(offset, region.changed_below)
-        self.with_region(name, changed_below=below, calls=region.calls + 1)
-        self.forget(name, [at for at in cells if at < offset])
+        self.with_region(name, changed_below=max(offset, region.changed_below), calls=next(_count))
+        self.forget(name, [at for at in cells if at < offset and not keeps])
 
     def forget(self, name, offsets):
         """Takes out what was written there. The bytes may not be used any more, which the caller has to see

@@ -1,17 +1,32 @@
 """An object file as it lies in memory: its sections at fixed places, with relocations applied.
 
 This stands for the linker. Sections lie apart, so an access beyond one is seen. Addresses count from an
-unknown base (see memory.py), so nothing that is proved depends on where the object is loaded. A symbol that
-the object does not define gets a place of its own where nothing lies.
+unknown base (see memory.py), so nothing that is proved depends on where the object is loaded. In which order
+sections lie, and how far apart, is drawn anew in each run, so code that depends on it is refused in almost every
+one. A symbol that the object does not define, or that the linker may take from another object, gets a place of its
+own where nothing lies.
 """
 
 import functools
+import random
+import re
 import struct
 import subprocess
+from collections import namedtuple
 
 FIRST = 0x10000
 GAP = 0x1000
-WRITABLE, ALLOCATED, EXECUTABLE = 1, 2, 4
+SEED = random.getrandbits(64)
+# As ELF has them: the header of a section, flags of sections, and their types.
+Header = namedtuple("Header", "name type flags address offset size link info alignment entry_size")
+WRITABLE, ALLOCATED, EXECUTABLE, MERGED, STRINGS, GROUP = 1, 2, 4, 16, 32, 512
+SYMBOLS, ADDENDS, EMPTY = 2, 4, 8
+# Relocations of another kind, and sections that the loader runs.
+REFUSED, STARTED, STARTED_NAMES = (9, 0x40000014), (14, 15, 16), r"\.[cd]tors.*|\.(init|fini).*"
+# Flags and names of sections that the linker may merge with those of other objects, or take from them.
+SHARED, SHARED_NAMES = STRINGS | GROUP, r"\.gnu\.linkonce.*"
+# A symbol has a place of its own if it is local or global, and has no type, or that of data, code or a section.
+GLOBAL, SECTION = 1, 3
 
 
 def _relative(word, place, target):
@@ -72,8 +87,9 @@ class Section:
         # what is added to it.
         self.bytes = bytes(content)
         self.references = []
-        # The kind of a relocation that has no meaning here. Then nothing lies at its place.
-        self.unknown_kind = None
+        # What it has that has no meaning here. Then nothing lies at its place.
+        is_shared = flags & SHARED or re.fullmatch(SHARED_NAMES, name)
+        self.unknown = "what the linker may take from another object" if is_shared else None
 
     @property
     def end(self):
@@ -81,18 +97,36 @@ class Section:
 
 
 class Object:
-    """The sections, the address of each symbol that is defined, and the name at each place of one that is
-    not."""
+    """The sections, the address of each symbol that is defined, those that other objects see, and the name at each
+    place of one that is not."""
 
     # The file, if all of it belongs to each function.
     content = None
 
-    def __init__(self, machine, sections, symbols, undefined):
-        self.machine = machine
-        self.sections = [section for section in sections if section.unknown_kind is None]
-        self.left_out = [section for section in sections if section.unknown_kind is not None]
-        self.symbols = symbols
-        self.undefined = undefined
+    def __init__(self, machine, sections):
+        self.machine, self.sections, self.left_out = machine, sections, []
+        self.symbols, self.exported, self.undefined = {}, set(), {}
+
+    def add_symbols(self, table, names, placed, end):
+        """Adds the symbols of a table, and yields where each lies: a place, or the parts of a section. Those that
+        the object does not have lie after its end."""
+        for name, kind, _, index, value, _ in struct.iter_unpack("<IBBHQQ", table):
+            name, binding, kind = _text(names, name), kind >> 4, kind & 15
+            parts = placed.get(index) if binding <= GLOBAL and kind <= SECTION else None
+            if parts and value <= sum(len(part.content) for part in parts):
+                # Names such as $x only say what lies there.
+                self.symbols |= {name: _place(parts, value)} if name and name[0] != "$" else {}
+                self.exported |= {name} if binding == GLOBAL else set()
+                yield parts if kind == SECTION else _place(parts, value)
+            else:
+                end += GAP - end % GAP
+                self.undefined |= {end: name} if index == 0 and binding == GLOBAL else {}
+                yield end
+
+    def leave_out(self):
+        """Nothing lies where a section is that has something without a meaning here."""
+        self.left_out = [section for section in self.sections if section.unknown is not None]
+        self.sections = [section for section in self.sections if section.unknown is None]
 
     @functools.lru_cache(None)
     def section_at(self, address):
@@ -115,7 +149,7 @@ class Object:
         section = self.section_at(address)
         for other in self.left_out:
             if other.address <= address < other.end:
-                return f"{other.name}, which has a relocation of the unknown kind {other.unknown_kind}"
+                return f"{other.name}, which has {other.unknown}"
         if section is None:
             return self.undefined.get(address, hex(address))
         starts = {value: name for name, value in self.symbols.items() if section.address <= value <= address}
@@ -128,41 +162,55 @@ def member(archive, name):
     return subprocess.run(["ar", "p", archive, name], check=True, capture_output=True).stdout
 
 
-def read(data):
-    """The object with these bytes."""
+def _place(parts, offset):
+    """Where an offset into a section lies, whose parts lie apart."""
+    at = min(offset // len(parts[0].content), len(parts) - 1)
+    return parts[at].address + offset - at * len(parts[0].content)
+
+
+def read(data, is_split=True, may_start=False):
+    """The object with these bytes. The linker may place each entry of a section elsewhere, if it has entries, so
+    they are split into sections. With `may_start` it may have code that the loader runs, which is not looked at."""
     machine = struct.unpack_from("<H", data, 18)[0]
     if data[:6] != b"\x7fELF\x02\x01" or machine not in RELOCATIONS:
         raise ValueError("not an ELF object for a processor that is known here")
     start, size, count, names = struct.unpack_from("<Q", data, 40)[0], *struct.unpack_from("<HHH", data, 58)
-    headers = [struct.unpack_from("<IIQQQQIIQQ", data, start + at * size) for at in range(count)]
+    headers = [Header(*struct.unpack_from("<IIQQQQIIQQ", data, start + at * size)) for at in range(count)]
+    contents = [data[it.offset :][: it.size] if it.type != EMPTY else bytes(it.size) for it in headers]
+    named = [(_text(contents[names], header.name), header) for header in headers]
+    if sum(header.type == SYMBOLS for header in headers) > 1:
+        raise ValueError("two tables of symbols")
+    for name, header in named:
+        is_started = header.type in STARTED or re.fullmatch(STARTED_NAMES, name)
+        if header.size and (header.type in REFUSED or is_started and not may_start):
+            raise ValueError(f"a section that is not known here: {name}")
+    placed, end = _sections(named, contents, is_split)
+    obj = Object(machine, sum(placed.values(), []))
+    places = [place for at, header in enumerate(headers) if header.type == SYMBOLS
+              for place in obj.add_symbols(contents[at], contents[header.link], placed, end)]
+    for header, content in zip(headers, contents):
+        if header.type == ADDENDS and header.info in placed:
+            [section] = placed[header.info]
+            for offset, info, addend in struct.iter_unpack("<QQq", content):
+                _relocate(machine, section, offset, info & 0xFFFFFFFF, places[info >> 32], addend)
+    obj.leave_out()
+    return obj
 
-    def content(header):
-        return data[header[4] : header[4] + header[5]] if header[1] != 8 else bytes(header[5])
 
-    strings = content(headers[names])
-    placed, address = {}, FIRST
-    for at, header in enumerate(headers):
-        if header[2] & ALLOCATED and header[5]:
-            address += -address % max(header[8], 64)
-            name = _text(strings, header[0])
-            placed[at] = Section(name, header[2], address, header[8], bytearray(content(header)))
-            address = placed[at].end + GAP
-    symbols, undefined, addresses = {}, {}, []
-    for header in (header for header in headers if header[1] == 2):
-        for name, _, _, index, value, _ in struct.iter_unpack("<IBBHQQ", content(header)):
-            name = _text(content(headers[header[6]]), name)
-            if index in placed:
-                addresses.append(placed[index].address + value)
-                # Names such as $x only say what lies there.
-                symbols |= {name: addresses[-1]} if name and name[0] != "$" else {}
-            else:
-                address += GAP
-                addresses.append(address)
-                undefined[address] = name
-    for header in (header for header in headers if header[1] == 4 and header[7] in placed):
-        for offset, info, addend in struct.iter_unpack("<QQq", content(header)):
-            _relocate(machine, placed[header[7]], offset, info & 0xFFFFFFFF, addresses[info >> 32], addend)
-    return Object(machine, list(placed.values()), symbols, undefined)
+def _sections(named, contents, is_split):
+    """The parts of each section that is loaded, by its number, and where the last one ends."""
+    placed, end, drawn = {}, FIRST, random.Random(SEED)
+    for at, (name, header) in drawn.sample(list(enumerate(named)), len(named)):
+        is_loaded, is_whole = header.flags & ALLOCATED, header.flags & (MERGED | STRINGS) != MERGED
+        size = header.size if is_whole or not is_split else header.entry_size
+        for start in range(0, header.size, size) if is_loaded and header.size else ():
+            end += drawn.randrange(GAP, 8 * GAP)
+            end += -end % max(header.alignment, 64)
+            content = bytearray(contents[at][start : start + size])
+            section = Section(name, header.flags, end, max(header.alignment, 1), content)
+            placed[at] = [*placed.get(at, ()), section]
+            end = section.end
+    return placed, end
 
 
 def _text(strings, at):
@@ -170,10 +218,17 @@ def _text(strings, at):
 
 
 def _relocate(machine, section, offset, kind, symbol, addend):
-    if kind not in RELOCATIONS[machine]:
-        section.unknown_kind = kind
+    """Applies a relocation. A symbol is a place, or the parts of a section."""
+    if type(symbol) is list and len(symbol) == 1:
+        symbol = symbol[0].address
+    # What is relative to an instruction does not say which entry of a section is meant.
+    change = RELOCATIONS[machine].get(kind)
+    if change is None or type(symbol) is list and change is _relative:
+        section.unknown = f"a relocation of the unknown kind {kind}"
         return
+    if type(symbol) is list:
+        symbol, addend = _place(symbol, addend), 0
     section.references.append((offset, kind, symbol, addend))
     [old] = struct.unpack_from("<I", section.content, offset)
-    word = RELOCATIONS[machine][kind](old, section.address + offset, symbol + addend)
+    word = change(old, section.address + offset, symbol + addend)
     struct.pack_into("<I", section.content, offset, word & 0xFFFFFFFF)

@@ -116,6 +116,16 @@ class State:
             raise Fault("an access below the stack")
         return pointer
 
+    def has_moved(self, old, pushed):
+        """The stack pointer has changed. It stays in the stack, and a signal's handler may change what lay
+        there before, but for the red zone."""
+        new = self.registers[self.top]
+        inside = type(new) is Pointer and new.region == "stack" and type(new.offset) is int
+        if not inside or not 0 <= new.offset <= self.ghost["stack"] + pushed:
+            raise Fault("the stack pointer leaves the stack")
+        if new.offset > old.offset:
+            self.memory.change_below("stack", new.offset - self.red_zone)
+
     def stack_pointer(self, operand):
         """Where the stack ends when an address is used."""
         return self.registers[self.top]
@@ -124,6 +134,8 @@ class State:
         pointer, others, displacement = self._split(operand)
         if pointer is None or all(type(value) is Linear or are_constant(value) for value, _ in others):
             return self.memory.load(self.address(operand), size, alignment)
+        if alignment > 1:
+            raise Fault("a look-up by unknown bytes that needs an alignment")
         if any(not is_public(byte) for value, _ in others if type(value) is tuple for byte in value):
             self.leaks = (*self.leaks, self.at)
         return self._looked_up(pointer, others, displacement, size)

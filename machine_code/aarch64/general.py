@@ -4,12 +4,14 @@ A handler takes the state and the instruction. It raises `Fork` or `Split` befor
 returns where to go on if that is not the next instruction.
 """
 
+import itertools
 import operator
 
 from aarch64.decoding import Register
-from aarch64.state import CODES, PAGE, Known, extended
+from aarch64.state import CODES, Known, extended
 from arithmetic import (
     added,
+    anything,
     complement,
     logic,
     multiplied,
@@ -22,9 +24,10 @@ from arithmetic import (
 from calling import code_at
 from disassembly import adding_to
 from flags import Flags
-from memory import Fault, Pointer, as_lane, from_lane
+from memory import PAGE, Fault, Pointer, as_lane, from_lane
 from values import ZERO, apply, constants
 
+_count = itertools.count()
 HANDLERS = {}
 instruction = adding_to(HANDLERS)
 
@@ -196,6 +199,9 @@ def nop(state, i):
 def jump(state, i):
     if i.mnemonic == "bl":
         state.registers["x30"] = Pointer("image", state.next)
+    if state.place_named_here() is not None:
+        # The linker may put code of its own between, which changes these.
+        state.registers |= {name: anything("veneer", next(_count), name) for name in ("x16", "x17")}
     return i.operands[0]
 
 
@@ -244,6 +250,14 @@ LOADS = {"ldr": None, "ldur": None, "ldp": None, "ld1": None, "ldrb": 1, "ldurb"
 STORES = {"str": None, "stur": None, "stp": None, "strb": 1, "sturb": 1, "strh": 2, "sturh": 2}
 
 
+def _base_of(state, address, registers):
+    """The base of an address. If it is moved, it may not be one of the registers."""
+    families = [register.family for register in registers]
+    if (address.is_moved or address.after) and address.base.family in families:
+        raise Fault("a base that is moved and a register of the access, which is unpredictable")
+    return state.read(address.base)
+
+
 def _move_base(state, address, base):
     """Moves the base of an address, as it was before the access, if the address says so."""
     if address.is_moved:
@@ -255,7 +269,9 @@ def _move_base(state, address, base):
 @instruction(*LOADS)
 def load(state, i):
     *targets, address = i.operands
-    size, base = LOADS[i.mnemonic] or targets[0].size, state.read(address.base)
+    size, base = LOADS[i.mnemonic] or targets[0].size, _base_of(state, address, targets)
+    if len({target.family for target in targets}) < len(targets):
+        raise Fault("two loads of one register, which are unpredictable")
     lane = as_lane(state.load(address, size * len(targets)))
     _move_base(state, address, base)
     for at, target in enumerate(targets):
@@ -265,13 +281,16 @@ def load(state, i):
 @instruction("ldrsb")
 def load_signed(state, i):
     target, address = i.operands
-    state.write(target, apply(signed, target.size, [state.load(address, 1)], (1,)))
+    base = _base_of(state, address, [target])
+    value = apply(signed, target.size, [state.load(address, 1)], (1,))
+    _move_base(state, address, base)
+    state.write(target, value)
 
 
 @instruction(*STORES)
 def store(state, i):
     *sources, address = i.operands
-    size, base = STORES[i.mnemonic] or sources[0].size, state.read(address.base)
+    size, base = STORES[i.mnemonic] or sources[0].size, _base_of(state, address, sources)
     lane = sum((as_lane(state.read(source))[:size] for source in sources), ())
     state.memory.store(state.address(address), lane)
     _move_base(state, address, base)

@@ -5,10 +5,9 @@ from arithmetic import signed
 from conditions import TRUE, constant
 from decimals import low_bytes, of_small
 from linear import Linear
-from memory import Fault, Pointer, as_lane, from_lane, is_whole
+from memory import PAGE, Fault, Pointer, as_lane, from_lane, is_whole
 from values import ZERO, apply, constants
 
-PAGE = "page of image"  # the region of a pointer to the page of a place, which is its offset
 GENERAL = (*(f"x{at}" for at in range(31)), "sp")
 VECTORS = tuple(f"v{at}" for at in range(32))
 

@@ -50,7 +50,8 @@ class Processor:
         state.at = instruction.address
         for name, size in state.sizes.items():
             state.registers[name] = tuple([CONSTANTS[byte] for byte in _random_bytes(some, size)])
-        state.registers[state.top] = Pointer("scratch", MIDDLE)
+        # The stack lies in the scratch area.
+        state.registers[state.top], state.has_moved = Pointer("scratch", MIDDLE), lambda old, pushed: None
         if instruction.mnemonic not in self.NO_ACCESS:
             for operand in instruction.operands:
                 self.point(state, operand, some)

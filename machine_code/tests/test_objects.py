@@ -9,6 +9,7 @@ import objects
 from calls import CALLS
 from exploration import Refused
 from tests.library import AARCH64, ARCHIVE, code_of, needs_aarch64
+from tests.mutations import assembled_object
 
 
 def linked(data, obj, linker):
@@ -41,7 +42,7 @@ def linked(data, obj, linker):
 class TestObjects(unittest.TestCase):
     def assert_linked(self, archive, name, linker):
         data = objects.member(archive, name)
-        obj = objects.read(data)
+        obj = objects.read(data, is_split=False)
         self.assertTrue(any(section.references for section in obj.sections))
         for section, content in zip(obj.sections, linked(data, obj, linker)):
             self.assertEqual(bytes(section.content), content, section.name)
@@ -52,6 +53,39 @@ class TestObjects(unittest.TestCase):
     @needs_aarch64
     def test_aarch64(self):
         self.assert_linked(AARCH64, "const_hex_single.o", "aarch64-linux-gnu-ld")
+
+    def test_layout(self):
+        """Each run has another one."""
+        data, distances = objects.member(ARCHIVE, "const_hex_v3.o"), set()
+        for seed in range(4):
+            with mock.patch.object(objects, "SEED", seed):
+                symbols = objects.read(data).symbols
+            distances.add(symbols["const_hex_check_raw_v3"] - symbols["const_hex_encode_v3"])
+        self.assertEqual(len(distances), 4)
+
+    def test_sections_that_are_not_known(self):
+        for text in (
+            '.section .init_array, "aw"; .quad 0',
+            '.section .ctors, "aw"; .quad 0',
+        ):
+            with self.subTest(text), self.assertRaisesRegex(ValueError, "a section that is not known here"):
+                objects.read(assembled_object(62, text))
+
+    def test_sections_of_other_objects(self):
+        for text in ('.section .text.one, "axG", @progbits, one, comdat; one: ret',
+                     '.section .gnu.linkonce.t.one, "ax", @progbits; one: ret',
+                     '.section .rodata.str1.1, "aMS", @progbits, 1; one: .string "a"'):
+            with self.subTest(text):
+                obj = objects.read(assembled_object(62, text))
+                self.assertEqual(obj.sections, [])
+                self.assertIn("may take from another object", obj.name_at(obj.symbols["one"]))
+
+    def test_symbols_of_other_objects(self):
+        """What the linker may take from another object, or finds when the program is loaded, lies nowhere here."""
+        text = (".weak first; .globl first, second, third; .comm third, 8; .type second, @gnu_indirect_function;"
+                "first: ret; second: ret; fourth: ret")
+        obj = objects.read(assembled_object(62, text))
+        self.assertEqual((set(obj.symbols), obj.exported, obj.undefined), ({"fourth"}, set(), {}))
 
     @needs_aarch64
     def test_relocation_that_is_not_known(self):

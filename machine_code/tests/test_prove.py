@@ -1,6 +1,8 @@
 """What `prove` reports besides what is refused: unknown instructions, unreached code, and other code."""
 
 import pathlib
+import shutil
+import subprocess
 import sys
 import tempfile
 import types
@@ -8,12 +10,13 @@ import unittest
 from importlib.machinery import SourceFileLoader
 from unittest import mock
 
+import library
 import sums
-from calls import CALLS
+from calls import CALLS, function_of
 from exploration import Refused
 from reached import is_message, not_reached
 from tests.library import ARCHIVE, code_of
-from tests.mutations import detour
+from tests.mutations import assembled_object, detour
 
 FUNCTION = "const_hex_check_raw_v3"
 FRONT_ENDS = ("x86_64", "aarch64", "wasm")
@@ -52,20 +55,39 @@ class TestProve(unittest.TestCase):
             with mock.patch("reached.EXCEPTIONS", [("const_hex", ".*", {"v3": count}, "a reason")]):
                 self.assertEqual(len(not_reached(code, left, "v3")), lines)
 
+    def test_function_that_is_called(self):
+        """One of the same name that is not exported, or that is for another error, is not it."""
+        code = code_of("v3")
+        code.object.symbols["const_hex_encode_nonnull"] = code.object.symbols.pop("const_hex_encode_v3")
+        self.assertEqual(function_of(code, "encode", "v3"), "const_hex_encode_v3")
+        code.object.exported.add("const_hex_encode")
+        with self.assertRaisesRegex(Refused, "const_hex_encode is exported as"):
+            function_of(code, "encode", "v3")
+
+    def test_archive_with_another_object(self):
+        with tempfile.TemporaryDirectory() as folder:
+            archive, other = f"{folder}/libconst_hex.a", f"{folder}/other.o"
+            shutil.copy(ARCHIVE, archive)
+            pathlib.Path(other).write_bytes(assembled_object(62, ".globl memcpy; memcpy: ret"))
+            subprocess.run(["ar", "q", archive, other], check=True)
+            with self.assertRaisesRegex(ValueError, "has other objects"):
+                library.builds_of(archive)
+
     def test_sum_of_other_code(self):
         obj = code_of("v3").object
         before = sums.sum_of(obj, FUNCTION)
         other = obj.section_at(obj.symbols["const_hex_encode_v3"])
         other.bytes += b"\x90"
         self.assertEqual(sums.sum_of(obj, FUNCTION), before)
-        constants = next(section for section in obj.sections if section.name == ".rodata.cst16")
-        constants.bytes = bytes([constants.bytes[0] ^ 1]) + constants.bytes[1:]
+        for constants in (section for section in obj.sections if section.name == ".rodata.cst16"):
+            constants.bytes = bytes([constants.bytes[0] ^ 1]) + constants.bytes[1:]
         self.assertNotEqual(sums.sum_of(obj, FUNCTION), before)
 
     def test_sum_of_other_rights(self):
         obj = code_of("v3").object
         before = sums.sum_of(obj, FUNCTION)
-        next(section for section in obj.sections if section.name == ".rodata.cst16").is_writable = True
+        for constants in (section for section in obj.sections if section.name == ".rodata.cst16"):
+            constants.is_writable = True
         self.assertNotEqual(sums.sum_of(obj, FUNCTION), before)
 
     def test_files_of_the_tool(self):

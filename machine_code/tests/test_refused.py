@@ -17,13 +17,20 @@ VERSION = CALLS["version"].cases[0].name.split()[1]
 # The function that has the form: what it returns is right.
 SOURCES = {
     62: """
-        const_hex_version: {0}; mov eax, {1}; ret
+        .globl const_hex_version; const_hex_version: {0}; mov eax, {1}; ret
+        .weak helper; .set helper, const_hex_version
         .section .rodata; .balign 16; table: .skip 32
-        .data; kept: .byte 0; _9processor4avx24AVX2: .byte 0""",
+        .section .rodata.cst16, "aM", @progbits, 16; .balign 16; one: .skip 16; two: .skip 16
+        .data; kept: .byte 0
+        .section .data.AVX2, "aw"; _9processor4avx24AVX2: .byte 0""",
     183: """
-        const_hex_version: {0}; mov w0, #{1}; ret
-        .section .rodata; .balign 16; table: .skip 32""",
+        .globl const_hex_version; const_hex_version: {0}; mov w0, #{1}; ret
+        .section .rodata; .balign 16; table: .skip 32
+        .section .text.other, "ax"; other: ret""",
 }
+OUTSIDE, LEAVES = "a pointer that is compared outside its region", "the stack pointer leaves the stack"
+BELOW, SHIFT, XGETBV = "a copy of bytes below the stack", "a shift by 0", "xgetbv on a CPU that may not have it"
+UNPREDICTABLE, PAGE = "which (is|are) unpredictable", "arithmetic with a page"
 NO_CODE, NOT_HERE = "a jump to what is no code", "an instruction that the CPU may not have"
 PUSHED, VECTOR = "less than 8 bytes on the stack", "a vector in an instruction of the general registers"
 NO_MEANING, OTHER_FORM = "an instruction without a meaning here", "a form without a meaning here"
@@ -50,7 +57,45 @@ FORMS = [
     ("SSSE3 without a check, by cargo", "sse2", "pshufb xmm0, xmm0", NOT_HERE),
     ("SSSE3 while the CPU is not known", "any byte", "pshufb xmm0, xmm0", NOT_HERE),
     ("BMI2 with AVX2, by cargo", "avx2", "mulx rax, rcx, rcx", NOT_HERE),
+    ("a byte of the stack that a signal may change", "default",
+     f"sub rsp, 264; mov dword ptr [rsp], {VERSION}; add rsp, 264; sub rsp, 264; mov eax, [rsp]; add rsp, 264; ret",
+     "the version"),
+    ("a stack that is too long for a moment", "default", "sub rsp, 0x40000000; add rsp, 0x40000000", LEAVES),
+    ("a stack in a buffer", "default", "mov rax, rsp; mov rsp, rdi; mov rsp, rax", LEAVES),
+    ("a copy from below the stack", "default",
+     "sub rsp, 24; lea rsi, [rsp-72]; mov rdi, rsp; mov edx, 4; call memcpy@PLT; add rsp, 24", BELOW),
+    ("a copy to below the stack", "default",
+     "sub rsp, 24; mov rsi, rsp; lea rdi, [rsp-72]; mov edx, 4; call memcpy@PLT; add rsp, 24", BELOW),
+    ("a pointer that may be null", "default", "lea rax, [rsp-0x10000]; test rax, rax; je helper", OUTSIDE),
+    ("a pointer that may be 0", "default", "lea rax, [rsp-0x10000]; cmp rax, 0; je helper", OUTSIDE),
+    ("a shift by 32 of 32 bits", "default", ".byte 0xc1, 0xe0, 0x20", SHIFT),
+    ("a jump of 16 bits", "default", ".byte 0x66, 0xeb, 0", f"data16 jmp.*: {NO_MEANING}"),
+    ("another prefix of AVX", "v3", ".byte 0x66; vpxor xmm0, xmm0, xmm0", f"data16 vpxor.*: {NO_MEANING}"),
+    ("xgetbv without a check", "default", "xor ecx, ecx; xgetbv", XGETBV),
+    ("xgetbv without a check, by cargo", "sse2", "xor ecx, ecx; xgetbv", XGETBV),
+    ("a longer form of SSE4.1", "sse2", ".byte 0x66, 0x0f, 0x3a, 0x15, 0xc0, 1", "a form of SSE4.1"),
+    ("a byte that is stored without a question", "any byte", "mov byte ptr [rip + _9processor4avx24AVX2], 0",
+     "a byte is stored although the CPU was not asked"),
+    ("an aligned look-up by an unknown byte", "default",
+     "movzx ecx, dil; and ecx, 7; lea rax, [rip + table]; pand xmm0, [rax+rcx]", "that needs an alignment"),
+    ("the next constant, which the linker may move", "default",
+     "lea rax, [rip + one]; movdqa xmm0, [rax+16]", "outside its region"),
+    ("a function that the linker may replace", "default", "call helper", "where no instruction is"),
     ("a return to another place", "aarch64", "add x30, x30, #4", NO_CODE),
+    ("a byte of the stack that a signal may change", "aarch64",
+     f"mov w9, #{VERSION}; str x9, [sp, #-16]!; add sp, sp, #16; sub sp, sp, #16; ldr x0, [sp], #16; ret", "the version"),
+    ("a stack that is too long for a moment", "aarch64",
+     "sub sp, sp, #1024, lsl #12; add sp, sp, #1024, lsl #12", LEAVES),
+    ("a base that a signed load moves", "aarch64",
+     "sub sp, sp, #16; str xzr, [sp]; mov x8, sp; ldrsb w10, [x8], #1; mov x9, sp; add sp, sp, #16; "
+     f"sub x8, x8, x9; mov w9, #{VERSION}; add w0, w8, w9; ret", "the version"),
+    ("a base that is loaded and moved", "aarch64", "sub sp, sp, #16; mov x8, sp; ldr x8, [x8], #8", UNPREDICTABLE),
+    ("a base that is stored and moved", "aarch64", "sub sp, sp, #16; mov x8, sp; str x8, [x8], #8", UNPREDICTABLE),
+    ("two loads of one register", "aarch64", "sub sp, sp, #16; ldp x9, x9, [sp]", UNPREDICTABLE),
+    ("a page that is moved", "aarch64", "adrp x8, table; add x8, x8, #8", PAGE),
+    ("the distance of two pages", "aarch64", "adrp x8, table; adrp x9, table + 8; sub x8, x8, x9", PAGE),
+    ("a register that code of the linker may change", "aarch64",
+     f"mov x9, x30; mov w16, #{VERSION}; bl other; mov x30, x9; mov w0, w16; ret", "the version"),
     ("NEG of a vector", "aarch64", "movi v0.16b, #1; neg v0.16b, v0.16b", VECTOR),
     ("NOT of a vector", "aarch64", "movi v0.16b, #1; mvn v0.16b, v0.16b", VECTOR),
     ("XOR of vectors", "aarch64", "movi v0.16b, #1; eor v0.16b, v0.16b, v0.16b", VECTOR),

@@ -3,18 +3,20 @@
 import struct
 import unittest
 
+import objects
 from calls import CALLS
 from conditions import Condition, Path, are_equal
 from disassembly import Instruction
-from exploration import Refused, require_one_path, sides
+from exploration import Code, Refused, require_one_path, sides
 from induction import DONE, LEFT
 from linear import GREATEST, Split, Unknown, in_terms_of, is_zero, symbol
-from memory import Fault, Memory, Pointer, Region, as_lane, with_replaced
+from memory import Fault, Image, Memory, Pointer, Region, as_lane, with_replaced
 from objects import ALLOCATED, GAP, WRITABLE, Section
 from tests.library import code_of
-from tests.mutations import detour, find
+from tests.mutations import assembled_object, detour, find
 from values import CONSTANTS, TooWide, apply, constants, each, joined, masked, unknown
 from x86_64.decoding import REGISTERS
+from x86_64.front_end import front_end_of
 from flags import Flags
 from x86_64.general import HANDLERS
 from x86_64.state import State
@@ -145,6 +147,14 @@ class TestMemory(unittest.TestCase):
             memory.load(Pointer("text", 7), 1)
         memory.store(Pointer("text", (DONE + LEFT) * 128 + 1), constants(0, 1))
 
+    def test_what_another_thread_may_write(self):
+        """What the object has stored may be another byte when it is read."""
+        obj = code_of("dispatch").object
+        memory = Memory([Image(obj)])
+        place = Pointer("image", next(section.address for section in obj.sections if section.is_writable))
+        memory.store(place, constants(1, 1))
+        self.assertNotEqual(memory.load(place, 1), constants(1, 1))
+
     def test_alignment(self):
         memory = Memory([Region("text", LEFT * 128 + 150, False, 16)])
         memory.load(Pointer("text", 16), 16, 16)
@@ -259,6 +269,40 @@ class TestLengths(unittest.TestCase):
         section.content[at : at + store.size] = b"\x88\x05" + struct.pack("<i", place - end)
         with self.assertRaisesRegex(Refused, "something is kept between calls, in the loop at"):
             CALLS["encode"].prove(code, "const_hex_encode_v3", ("class", 0, 150))
+
+    def test_sum_that_is_zero(self):
+        """Whether it is 0 is asked where its symbols are gone, and where it is 2^64."""
+        begin = "cmp rsi, 130; jb 1f; mov eax, esi; and eax, 127; cmp eax, 22; jne 1f; mov rax, rsi"
+        end = "jne 1f; mov eax, 1; ret; 1:"
+        self.assert_refused(f"{begin}; neg rax; add rax, rsi; {end}", "it returns before the first round")
+        twice = "movabs rcx, 1 << 63; add rax, rcx; add rax, rcx; cmp rax, rsi"
+        self.assert_refused(f"{begin}; {twice}; {end}", "it returns before the first round")
+
+    def test_stack_that_a_call_changes(self):
+        """What lies below the stack is read before the loop and in each round, which calls a function."""
+        digit = ("movzx eax, byte ptr [rbx+{}]; lea ecx, [rax-48]; cmp cl, 9; setbe dl; or al, 32; "
+                 "lea ecx, [rax-97]; cmp cl, 5; setbe cl; or dl, cl; je 8f")
+        source = f"""
+            .globl const_hex_check_raw; const_hex_check_raw:
+            push rbx; push rbp; push r12; push r13; push r14; sub rsp, 16; {{}}; mov rbx, rdi; mov rbp, rsi
+            1: cmp rbp, 128; jb 3f; cmp rbp, 1000; jb 4f; {{}}
+            4: {"; ".join(map(digit.format, range(128)))}
+            cmp rbp, 1000; jb 5f; mov rdi, rsp; mov rsi, rbx; mov edx, 1; call memcpy@PLT
+            5: add rbx, 128; sub rbp, 128; jmp 1b
+            3: test rbp, rbp; je 9f; {digit.format(0)}; inc rbx; dec rbp; jmp 3b
+            8: xor eax, eax; jmp 7f; 9: mov eax, 1
+            7: add rsp, 16; pop r14; pop r13; pop r12; pop rbp; pop rbx; ret"""
+        for texts, wanted in (
+            (("nop", "nop"), None),
+            (("movzx r13d, byte ptr [rsp-40]", "cmp r13b, [rsp-40]; jne 9f"), "const_hex_check_raw"),
+        ):
+            code = Code(objects.read(assembled_object(62, source.format(*texts))), front_end_of("default"))
+            arguments = code, "const_hex_check_raw", ("class", 0, 150)
+            if wanted is None:
+                CALLS["check_raw"].prove(*arguments)
+            else:
+                with self.assertRaisesRegex(Refused, wanted):
+                    CALLS["check_raw"].prove(*arguments)
 
     def test_length_of_32_bits(self):
         self.assert_refused("mov esi, esi", "unknown byte")

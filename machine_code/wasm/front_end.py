@@ -9,14 +9,16 @@ from values import ZERO, constants, number
 from wasm import vector  # noqa: F401 (adds its instructions)
 from wasm.general import HANDLERS  # noqa: F401
 from wasm.module import instructions  # noqa: F401
-from wasm.state import State
+from wasm.state import State, size_of
 
 # A memory of 64 KiB has no longer inputs. A decoder's positions have 32 bits, also after one of them.
 LIMITS = {name: 1 << 16 for name in ("more", "n", "k", "over")}
 LIMITS |= {"done": 1 << 9, "left": 1 << 9, "before": (1 << 32) - (1 << 17)}
+STACK_END = 4096
+# A search reads a byte in each round, and other loops 128.
+SEARCH_LIMITS = dict.fromkeys(("done", "left"), (1 << 16) - STACK_END)
 # It calls no function of another library.
 LIBRARY = {}
-STACK_END = 4096
 
 
 def start(code, symbol, arguments, regions):
@@ -29,7 +31,10 @@ def start(code, symbol, arguments, regions):
     state = State(Memory([*regions, stack, Image(module)]))
     state.registers = {f"global {at}": value for at, value in enumerate(module.globals)}
     values = [constants(argument, 4) if type(argument) is int else argument for argument in arguments]
-    state.at = state.enter(module.function_at(module.symbols[symbol]), values, RETURNED)
+    function = module.function_at(module.symbols[symbol])
+    types = [size_of(value) for value in values], [4]
+    require(types == (function.parameters, function.results), f"{symbol} has another type")
+    state.at = state.enter(function, values, RETURNED)
     return state
 
 
@@ -38,7 +43,7 @@ def _require_layout(module):
     data = sorted((section.address, section.end) for section in module.sections if not section.is_code)
     places = [number(module.globals[0]), *sum(data, ())]
     places += [module.places.get(name, -1) for name in ("__data_end", "__heap_base")]
-    is_right = places[0] == STACK_END and places == sorted(places)
+    is_right = places[0] == STACK_END and places == sorted(places) and places[-1] <= 1 << 16
     require(is_right, f"the stack, the data and `__heap_base` lie at {places}")
 
 

@@ -15,7 +15,7 @@ Instruction = namedtuple("Instruction", "address size mnemonic operands text")
 SIZES = {"i32": 4, "i64": 8, "v128": 16}
 SPACE = 1 << 32
 # What a module may have beside functions, data and globals.
-OTHERS = (")", "(module", "(type", '(export "memory"', "(memory (;0;) 1 1)")
+OTHERS = (")", "(module", "(type", '(export "memory" (memory 0))', "(memory (;0;) 1 1)")
 
 
 class Function(Section):
@@ -32,11 +32,11 @@ class Function(Section):
 
 class Module(Object):
     """`globals` are their values at the start. Number 0 is the stack pointer, below which the stack lies.
-    `places` are the addresses that it exports."""
+    `mutable` has the numbers of those that may change, and `places` the addresses that it exports."""
 
     def __init__(self, content):
-        super().__init__(None, [], {}, {})
-        self.content, self.functions, self.globals, self.places = content, [], [], {}
+        super().__init__(None, [])
+        self.content, self.functions, self.globals, self.mutable, self.places = content, [], [], set(), {}
 
     def function_at(self, address):
         return next(function for function in self.functions if function.address == address)
@@ -45,13 +45,15 @@ class Module(Object):
 def read(path):
     """The module in a file."""
     with open(path, "rb") as file:
-        return parse(file.read())
+        return parse(file.read(), "memory")
 
 
-def parse(content):
-    """The module with these bytes."""
+def parse(content, exported=""):
+    """The module with these bytes, which exports its memory by a name."""
     command = ["wasm2wat", "--no-debug-names", "-"]
     text = subprocess.run(command, input=content, check=True, capture_output=True).stdout.decode()
+    if exported and f'(export "{exported}" (memory 0))' not in text:
+        raise ValueError("the memory is not exported")
     module = Module(content)
     # Each part begins in a line with two spaces, and the instructions of a function follow.
     for part in re.split(r"\n  (?=\()", text.rstrip().removesuffix(")")):
@@ -65,10 +67,14 @@ def _add(module, part):
     elif found := re.fullmatch(r'\(data \(;\d+;\) \(i32\.const (\d+)\) "((\\[0-9a-f]{2}|[^\\])*)"\)', part):
         _add_data(module, int(found[1]), found[2])
     elif found := re.search(r"^\(global .*\((i\d\d)\.const (-?\d+)\)\)$", part):
+        module.mutable |= {len(module.globals)} if "(mut " in part else set()
         module.globals.append(constants(int(found[2]), SIZES[found[1]]))
     elif found := re.fullmatch(r'\(export "(\w+)" \(func (\d+)\)\)', part):
         module.symbols[found[1]] = module.functions[int(found[2])].address
+        module.exported.add(found[1])
     elif found := re.fullmatch(r'\(export "(__\w+)" \(global (\d+)\)\)', part):
+        if int(found[2]) in module.mutable:
+            raise ValueError(f"{found[1]}, which the engine may change")
         module.places[found[1]] = number(module.globals[int(found[2])])
     elif not part.startswith(OTHERS):
         raise ValueError(f"a part of a module that is not known here: {part[:60]}")

@@ -54,8 +54,9 @@ class Cargo(X86_64):
         stored = state.memory.written("image")
         require(set(stored) <= {self.picked}, "another byte is stored")
         for byte in stored.values():
-            wanted = {True: PRESENT, False: ABSENT, None: 0}[has_features(state.path, FEATURES, LEAVES)]
-            is_right = is_same(state.path, (byte,), constants(wanted, 1))
+            has_avx2 = has_features(state.path, FEATURES, LEAVES)
+            require(has_avx2 is not None, "a byte is stored although the CPU was not asked")
+            is_right = is_same(state.path, (byte,), constants(PRESENT if has_avx2 else ABSENT, 1))
             require(is_right, "the byte does not say what the CPU says")
 
 
@@ -65,6 +66,7 @@ def code_of(obj, build):
     if value is None:
         return Code(obj, Cargo(picked, null))
     section = obj.section_at(picked)
+    require(len(section.content) == 1, "more is kept between calls than one byte")
     section.is_writable, section.content[picked - section.address] = False, value
     front_end = X86_64(1)
     if value == PRESENT:

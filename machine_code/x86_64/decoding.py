@@ -10,7 +10,7 @@ Memory = namedtuple("Memory", "base index scale displacement size")
 # An immediate is a number.
 
 SIZES = {"BYTE": 1, "WORD": 2, "DWORD": 4, "QWORD": 8, "XMMWORD": 16, "YMMWORD": 32}
-PREFIXES = ("cs ", "ds ", "data16 ", "notrack ", "bnd ")
+PREFIXES = ("cs ", "ds ", "notrack ", "bnd ")
 
 
 def _registers():
@@ -68,7 +68,7 @@ def _instruction(text):
     while bare.startswith(PREFIXES):
         bare = bare.split(" ", 1)[1].strip()
     mnemonic, _, rest = bare.partition(" ")
-    if mnemonic.startswith("nop") or bare.split() == ["xchg", "ax,ax"]:
+    if re.match(r"(data16 |cs )*nop", bare) or bare.split() == ["xchg", "ax,ax"]:
         return "nop", (), text
     return mnemonic, tuple([_operand(part) for part in rest.split(",")]) if rest.strip() else (), text
 

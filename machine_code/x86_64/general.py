@@ -4,6 +4,7 @@ A handler takes the state and the instruction. It raises `Fork` or `Split` befor
 returns where to go on if that is not the next instruction.
 """
 
+import itertools
 import operator
 
 from arithmetic import (
@@ -28,6 +29,7 @@ from memory import Fault, Pointer, is_whole
 from values import ZERO, TooWide, apply, are_constant, constants, number, unknown, variable
 from x86_64.state import CODES
 
+_count = itertools.count()
 HANDLERS = {}
 instruction = adding_to(HANDLERS)
 
@@ -160,9 +162,10 @@ def shift(state, i):
     if not isinstance(count, int):
         raise Fault("a shift by a register")
     count &= 63 if is_whole(value) or len(value) == 8 else 31
-    if count:
-        result = shifted(operator.lshift if i.mnemonic == "shl" else operator.rshift, value, count)
-        _finish(state, i, result, Flags("shift", result=result))
+    if not count:
+        raise Fault("a shift by 0")
+    result = shifted(operator.lshift if i.mnemonic == "shl" else operator.rshift, value, count)
+    _finish(state, i, result, Flags("shift", result=result))
 
 
 @instruction("mul")
@@ -266,16 +269,16 @@ for _name in CODES:
 
 @instruction("cpuid")
 def cpuid(state, i):
-    """Anything, but for the same leaf always the same. Of the leaves here, only 7 has parts by ecx."""
+    """Anything, but for the same leaf always the same, except for the number of the processor in leaf 1. Of the
+    leaves here, only 7 has parts by ecx."""
     leaf, part = (state.registers[name][:4] for name in ("rax", "rcx"))
     if not are_constant(leaf) or number(leaf) not in (0, 1, 7, 0x80000000, 0x80000001):
         raise Fault("another leaf of cpuid")
     if number(leaf) == 7 and not (are_constant(part) and number(part) == 0):
         raise Fault("another part of leaf 7 of cpuid")
     for name in ("rax", "rbx", "rcx", "rdx"):
-        state.registers[name] = (
-            tuple([unknown("cpuid", number(leaf), name, at) for at in range(4)]) + (ZERO,) * 4
-        )
+        which = (number(leaf), name) if (number(leaf), name) != (1, "rbx") else (1, name, next(_count))
+        state.registers[name] = tuple([unknown("cpuid", *which, at) for at in range(4)]) + (ZERO,) * 4
 
 
 @instruction("xgetbv")

@@ -1,5 +1,7 @@
 """Which instructions a CPU has, by the levels of the x86-64 psABI: x86-64 itself, x86-64-v2 and x86-64-v3."""
 
+import re
+
 from memory import Fault
 from x86_64 import vector  # noqa: F401 (adds its instructions)
 from x86_64.decoding import Register
@@ -24,7 +26,10 @@ def absent(state, i):
 
 
 def _extract_of_sse2(state, i):
-    if type(i.operands[0]) is not Register:
+    # That of SSE4.1 is one byte longer, or writes to memory.
+    registers = [operand for operand in i.operands if type(operand) is Register]
+    has_rex = any(re.fullmatch(r"[rv]([89]|1\d)", register.family) for register in registers)
+    if len(registers) != 2 or i.size != 5 + has_rex:
         raise Fault("a form of SSE4.1")
     return HANDLERS["pextrw"](state, i)
 
