@@ -1,5 +1,6 @@
 """Relocations: the object is what the linker makes of it, with its sections at the same places."""
 
+import struct
 import subprocess
 import tempfile
 import unittest
@@ -70,6 +71,13 @@ class TestObjects(unittest.TestCase):
         ):
             with self.subTest(text), self.assertRaisesRegex(ValueError, "a section that is not known here"):
                 objects.read(assembled_object(62, text))
+        # Relocations without an addend of their own have another type.
+        data = bytearray(assembled_object(62, "call memcpy@PLT"))
+        [start], [size, count] = struct.unpack_from("<Q", data, 40), struct.unpack_from("<HH", data, 58)
+        for at in range(start, start + size * count, size):
+            data[at + 4] = 9 if data[at + 4] == objects.ADDENDS else data[at + 4]
+        with self.assertRaisesRegex(ValueError, r"a section that is not known here: \.rela\.text"):
+            objects.read(bytes(data))
 
     def test_sections_of_other_objects(self):
         for text in ('.section .text.one, "axG", @progbits, one, comdat; one: ret',

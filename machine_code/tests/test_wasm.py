@@ -160,6 +160,13 @@ class TestModule(unittest.TestCase):
                 list(outcomes(code, state))
         with self.assertRaisesRegex(ValueError, r"not known here: \(table"):
             parse(assembled(ONE_FUNCTION.format("local.get 0", "(table 1 funcref)")))
+        with self.assertRaisesRegex(ValueError, "__stack_pointer, which the engine may change"):
+            parse(assembled(ONE_FUNCTION.format("local.get 0", '(export "__stack_pointer" (global 0))')))
+        with self.assertRaisesRegex(ValueError, "the memory is not exported"):
+            parse(assembled(ONE_FUNCTION.format("local.get 0", "")), "memory")
+        code = Code(parse(assembled(ONE_FUNCTION.format("local.get 0", ""))), wasm.front_end)
+        with self.assertRaisesRegex(Refused, "f has another type"):
+            wasm.front_end.start(code, "f", [0, 0], [])
 
     def test_places_that_overlap(self):
         """The caller's memory follows the data, which follow the stack."""
@@ -170,6 +177,7 @@ class TestModule(unittest.TestCase):
             (ONE_FUNCTION, data.format(4094)),
             (ONE_FUNCTION.replace("(mut i32) (i32.const 4096)", "(mut i32) (i32.const 4080)"), ""),
             (ONE_FUNCTION.replace("__heap_base", "__other"), ""),
+            (ONE_FUNCTION.replace("(global i32 (i32.const 4096))", "(global i32 (i32.const 65537))"), ""),
         ):
             code = Code(parse(assembled(text.format("local.get 0", part))), wasm.front_end)
             with self.assertRaisesRegex(Refused, "the data and `__heap_base` lie at"):
