@@ -6,7 +6,10 @@ import shutil
 import unittest
 
 import library
+import objects
 
+# Each run of the tests has the same layout.
+objects.SEED = 0
 TOP = pathlib.Path(__file__).resolve().parents[2]
 ARCHIVE = os.environ.get("CONST_HEX_ARCHIVE", TOP / "build" / "c" / "libconst_hex.a")
 AARCH64 = os.environ.get("CONST_HEX_AARCH64", TOP / "build" / "aarch64" / "libconst_hex.a")

@@ -5,6 +5,7 @@ import operator
 from aarch64.front_end import HANDLERS
 from arithmetic import by_count, by_lanes, flat
 from flags import Flags
+from memory import as_lane
 from values import ZERO, apply
 from x86_64 import vector
 
@@ -67,7 +68,7 @@ def _keeps_rest(mnemonic):
     """What is above the lowest byte in the register stays."""
 
     def handle(state, i):
-        old = state.registers[i.operands[0].family]
+        old = as_lane(state.registers[i.operands[0].family])
         RIGHT[mnemonic](state, i)
         state.registers[i.operands[0].family] = state.registers[i.operands[0].family][:1] + old[1:]
 
