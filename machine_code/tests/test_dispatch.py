@@ -24,6 +24,18 @@ def stored_at_the_end(build):
     return change
 
 
+def always(pattern, which):
+    """A conditional jump is taken always."""
+
+    def change(code, function):
+        section, old = find(code, function, pattern, which)
+        at = old.address - section.address
+        section.content[at : at + 2] = b"\x90\xe9"  # nop, and a jump over the same distance
+        return old
+
+    return change
+
+
 # What is wrong; the function that shows it; the one where it is; the change; and what the tool has to say.
 MUTATIONS = [
     ("NULL is passed on", "decode", "const_hex_decode", replaced("^je", "nop"), "the local error"),
@@ -33,6 +45,8 @@ MUTATIONS = [
      byte("^cmp +BYTE PTR", -1, 1), "the build is not the one that is stored"),
     ("a build is called without asking", "check", "const_hex_check",
      replaced("^jne", "nop", 1), "the build is not the one that is stored"),
+    ("the CPU is asked although the byte names a build", "check", "const_hex_check",
+     always("^jne", 1), "the CPU is asked although the byte names a build"),
     ("LZCNT is not needed", "version", "ask", byte("^and +cl,0x20", -1, 0x60), "not the one for this CPU"),
     ("leaf 7 may not exist", "version", "ask", replaced("^jbe", "nop"), "not the one for this CPU"),
     ("AVX2 is not looked at", "version", "ask", replaced("^jne", "nop", 1), "not the one for this CPU"),

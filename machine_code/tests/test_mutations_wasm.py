@@ -86,8 +86,8 @@ MUTATIONS = [
      "i32.const 2", "another number of bytes is written in a round"),
     ("the search counts in 12 bits", CHUNK, SEARCH,
      r"local.get 4\nlocal.get 5\ni32.const 1\ni32.add\nlocal.tee 5\ni32.ne", 0,
-     "local.get 4\ni32.const 20\ni32.shl\nlocal.get 5\ni32.const 1\ni32.add\nlocal.tee 5\ni32.const 20\ni32.shl\ni32.ne",
-     "may have wrapped"),
+     "local.get 4\ni32.const 20\ni32.shl\n"
+     "local.get 5\ni32.const 1\ni32.add\nlocal.tee 5\ni32.const 20\ni32.shl\ni32.ne", "may have wrapped"),
     ("the position leaves the prefix out", PREFIXED, SEARCH, r"local.get 2(?=\ni32.add\nlocal.tee 3)", 0,
      "i32.const 0", r"error\[8\] is not what"),
     ("the decoder forgets an error", CHUNK, SEARCH, r"i32.const 2(?=\ni32.store8 offset=5)", 0, "i32.const 0",

@@ -64,6 +64,15 @@ class TestObjects(unittest.TestCase):
             distances.add(symbols["const_hex_check_raw_v3"] - symbols["const_hex_encode_v3"])
         self.assertEqual(len(distances), 4)
 
+    def test_section_without_an_alignment(self):
+        """The linker may place it anywhere."""
+        data = bytearray(assembled_object(62, '.section .rodata; .balign 16; .skip 32'))
+        [start], [size, count] = struct.unpack_from("<Q", data, 40), struct.unpack_from("<HH", data, 58)
+        for at in range(start, start + size * count, size):
+            struct.pack_into("<Q", data, at + 48, 0)
+        [section] = objects.read(bytes(data)).sections
+        self.assertEqual(section.alignment, 1)
+
     def test_sections_that_are_not_known(self):
         for text in (
             '.section .init_array, "aw"; .quad 0',
