@@ -1,6 +1,8 @@
 //! The proved kernels once more, over the registers of AVX2.
 
-#![allow(dead_code, unused_imports, unused_labels)]
+// The parts that only a caller outside of the kernels needs are not used here.
+#![deny(unused)]
+#![allow(dead_code, unused_imports)]
 
 pub use crate::proved::arch::Kernel;
 

@@ -36,15 +36,13 @@ mod display;
 mod io;
 #[allow(unsafe_code)]
 mod processor;
-#[allow(
-    dead_code,
-    unreachable_code,
-    unsafe_code,
-    unused_imports,
-    unused_labels
-)]
+// The source is a library, of which this crate calls and exports a part. Its labels name loops for the proofs.
+#[deny(unused)]
+#[allow(dead_code, unsafe_code, unused_imports, unused_labels)]
 #[rustfmt::skip]
 mod proved;
+// Some registers and some features need a part of it.
+#[deny(unused)]
 #[allow(dead_code, unsafe_code)]
 mod rattle;
 #[cfg(feature = "serde")]

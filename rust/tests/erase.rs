@@ -48,45 +48,32 @@ fn erased(place: &str, source: &str) -> Option<Result<String, String>> {
     })
 }
 
-/// Erases the source of each row, at a place of that name.
-fn becomes(rows: &[(&str, &str, &str)]) {
+/// A place in the source, what stands there, and what it becomes, or why it is an error.
+type Row<'a> = (&'a str, &'a str, Result<&'a str, &'a str>);
+
+/// Erases the source of each row.
+fn check(rows: &[Row]) {
     for (place, source, wanted) in rows {
         if let Some(found) = erased(place, source) {
-            assert_eq!(found.as_deref(), Ok(*wanted), "{source}");
+            let wanted = wanted.map(String::from);
+            assert_eq!(
+                found,
+                wanted.map_err(|why| format!("erase: {why}")),
+                "{source}"
+            );
         }
     }
 }
 
 #[test]
 fn what_is_deleted() {
-    becomes(&[
-        (
-            "contract",
-            "fn f(x: u8) -> u8\n    requires { x < 9 }\n    ensures* a { b (λ c. { d }) }\n{\n    x\n}",
-            "fn f(x: u8) -> u8 {\n    x\n}",
-        ),
-        ("ghost_use", "struct S;\n\nghost use A.{b, c};\n\nfn f() {}",
-            "struct S;\n\nfn f() {}",),
-        (
-            "ghost_field",
-            "struct S {\n    x: u8,\n    ghost small: { x < 9 },\n}",
-            "struct S {\n    x: u8,\n}",
-        ),
-        (
-            "attribute",
-            "#[tactic(auto, using(a::b))]\n#[inline]\nfn f() {}",
-            "#[inline(always)]\nfn f() {}",
-        ),
-        (
-            "derive",
-            "#[derive(Clone, Copy, Drop)]\nstruct S;",
-            "#[derive(Clone, Copy)]\nstruct S;",
-        ),
-        (
-            "model",
-            "struct S;\nuse std::marker::Model;\n\nimpl Model for S {\n    ghost view = { x };\n}",
-            "struct S;",
-        ),
+    check(&[
+        ("contract", "fn f(x: u8) -> u8\n    requires { x < 9 }\n    ensures* a { b (λ c. { d }) }\n{\n    x\n}", Ok("fn f(x: u8) -> u8 {\n    x\n}")),
+        ("ghost_use", "struct S;\n\nghost use A.{b, c};\n\nfn f() {}", Ok("struct S;\n\nfn f() {}")),
+        ("ghost_field", "struct S {\n    x: u8,\n    ghost small: { x < 9 },\n}", Ok("struct S {\n    x: u8,\n}")),
+        ("attribute", "#[tactic(auto, using(a::b))]\n#[inline]\nfn f() {}", Ok("#[inline(always)]\nfn f() {}")),
+        ("derive", "#[derive(Clone, Copy, Drop)]\nstruct S;", Ok("#[derive(Clone, Copy)]\nstruct S;")),
+        ("model", "struct S;\nuse std::marker::Model;\n\nimpl Model for S {\n    ghost view = { x };\n}", Ok("struct S;")),
     ]);
 }
 
@@ -95,194 +82,258 @@ fn what_stays() {
     let kept = "// requires { x }\nconst S: &str = \"ensures { x }\";";
     let file = "//! A file.\n\nfn f() {}";
     let with_imports = "//! A file.\n\nuse crate::rattle::prelude::*;\n\nfn f() {}";
-    becomes(&[("kept", kept, kept), ("imports", file, with_imports)]);
+    check(&[
+        ("kept", kept, Ok(kept)),
+        ("imports", file, Ok(with_imports)),
+    ]);
 }
 
 /// One row for each line of the table `RULES`, in its order, and then for `EXAMPLES`.
 #[test]
 fn what_each_rule_changes() {
-    becomes(&[
+    check(&[
+        ("arch/a", "use crate::arch::plain::Plain;", Ok("use super::plain::Plain;")),
+        ("arch/a", "use std::simd::prelude::*;", Ok("use super::simd::prelude::*;")),
+        ("c/message", "use crate::error::HexError;\nuse const_hex::Decoder;", Ok("use crate::proved::c::error::HexError;\nuse crate::proved::Decoder;")),
+        ("stream", "use crate::sink::Sink;\nuse const_hex_arch::Kernel;", Ok("use crate::proved::sink::Sink;\nuse crate::proved::Kernel;")),
+        ("sink", "use std::fmt;", Ok("use crate::rattle::fmt;")),
+        ("arch", "pub type FixedKernel = Lanes32;", Ok("pub type FixedKernel = crate::processor::Native;")),
+        ("text", "#[inline(never)]\nfn f() {}", Ok("#[inline(always)]\nfn f() {}")),
+        ("arch/steps", "fn f(x: &[u8], y: &mut [u8]) {\n    g(&x[h[0]..9], &mut y[..9]);\n}\n\nfn g() {}", Ok("fn f(x: &[u8], y: &mut [u8]) {\n    g(x.within(h[0]..9), y.within_mut(..9));\n}\n\nfn g() {}")),
+        ("error", "fn fmt<W: fmt::Write>(f: &mut fmt::Formatter<W>) {}\n\nfn g() {\n    fmt::<W, 8>(f);\n}", Ok("fn fmt<'w>(f: &mut fmt::Formatter<'w>) {}\n\nfn g() {\n    fmt::<8>(f);\n}")),
+        ("sink", "struct S<T: Drop>(T);", Ok("struct S<T>(T);")),
+        ("error", "enum FromHexError {\n    OddLength,\n    NoMemory,\n}", Ok("enum FromHexError {\n    OddLength,\n}")),
+        ("c/error", "match kind {\n    4 => Some(FromHexError::NoMemory),\n    _ => None,\n}", Ok("match kind {\n    _ => None,\n}")),
+        ("c", "#[unsafe(no_mangle)]\npub extern \"C\" fn f(bytes: &[u8]) {}", Ok("pub fn f(bytes: &[u8]) {}")),
+        ("c", "mod callers;\nmod error;", Ok("mod error;")),
+        ("c/message", "fn f() {\n    fmt::Write::write(&mut message, error);\n}", Ok("fn f() {\n    fmt::Write::write_fmt(&mut message, format_args!(\"{}\", error));\n}")),
+        ("reserved", "for byte in bytes {\n    self.bytes.push_reserved(*byte);\n}", Ok("self.bytes.extend_reserved(bytes);")),
+        ("codec/encoders", "pub fn owned(alloc: Global) {}", Ok("#[cfg(feature = \"alloc\")]\npub fn owned(alloc: Global) {}")),
+        ("tables", "pub fn value_at(byte: u8) -> u8 {}", Ok("pub const fn value_at(byte: u8) -> u8 {}")),
+        ("codec/body", "c: char::from(byte),", Ok("c: byte as char,")),
+        ("codec/checks", "/// One.\n///\n/// ```rust\n/// assert_eq!(rt; owned(rt.alloc()), 1);\n/// ```\npub fn one() {}", Ok("/// One.\npub fn one() {}\n#[test]\nfn checks_one() -> Result<(), Box<dyn Error>> {\n    \
+                assert_eq!(owned(Global), 1);\n    Ok(())\n}")),
+    ]);
+}
+
+/// Forms that Rattle reads, and that would lead to code being deleted as part of a comment or of a clause, or kept.
+#[test]
+fn what_is_not_understood() {
+    check(&[
+        // The word `ghost` in a block comment, and such a comment within another.
         (
-            "arch/a",
-            "use crate::arch::plain::Plain;",
-            "use super::plain::Plain;",
+            "unknown",
+            "fn f(&mut self) {\n    /* no ghost */\n    if self.is_full() {\n        return;\n    }\n}",
+            Err("the form /*"),
+        ),
+        // A bracket in a comment of a clause, so that two functions would be one.
+        (
+            "unknown",
+            "fn f()\n    ensures { a -- {\n    }\n{\n}\n\nfn g()\n    ensures { b -- }\n    }\n{\n}",
+            Err("the form --"),
         ),
         (
-            "arch/a",
-            "use std::simd::prelude::*;",
-            "use super::simd::prelude::*;",
+            "unknown",
+            "fn f()\n    ensures { a {- } -} }\n{\n}",
+            Err("the form {-"),
+        ),
+        // In a clause, `//` begins no comment, and a quotation mark is a letter.
+        (
+            "unknown",
+            "fn f()\n    ensures { a // }\n    }\n{\n}",
+            Err("// } in a clause"),
         ),
         (
-            "c/message",
-            "use crate::error::HexError;\nuse const_hex::Decoder;",
-            "use crate::proved::c::error::HexError;\nuse crate::proved::Decoder;",
+            "unknown",
+            "fn f()\n    ensures { g '{' }\n{\n}",
+            Err("'{' in a clause"),
         ),
         (
-            "stream",
-            "use crate::sink::Sink;\nuse const_hex_arch::Kernel;",
-            "use crate::proved::sink::Sink;\nuse crate::proved::Kernel;",
-        ),
-        ("sink", "use std::fmt;", "use crate::rattle::fmt;"),
-        (
-            "arch",
-            "pub type FixedKernel = Lanes32;",
-            "pub type FixedKernel = crate::processor::Native;",
+            "unknown",
+            "fn f()\n    ensures { a' ≡ b }\n{\n}",
+            Err("the form '"),
         ),
         (
-            "text",
-            "#[inline(never)]\nfn f() {}",
-            "#[inline(always)]\nfn f() {}",
+            "unknown",
+            "fn f() -> &str {\n    r\"\\\"\n}",
+            Err("the form r\""),
         ),
         (
-            "arch/steps",
-            "fn f(x: &[u8], y: &mut [u8]) {\n    g(&x[h[0]..9], &mut y[..9]);\n}\n\nfn g() {}",
-            "fn f(x: &[u8], y: &mut [u8]) {\n    g(x.within(h[0]..9), y.within_mut(..9));\n}\n\nfn g() {}",
+            "unknown",
+            "fn f() -> &[u8] {\n    br#\"\"ghost;\"#\n}",
+            Err("the form br#\""),
         ),
         (
-            "error",
-            "fn fmt<W: fmt::Write>(f: &mut fmt::Formatter<W>) {}\n\nfn g() {\n    fmt::<W, 8>(f);\n}",
-            "fn fmt<'w>(f: &mut fmt::Formatter<'w>) {}\n\nfn g() {\n    fmt::<8>(f);\n}",
+            "unknown",
+            "fn f(r#ghost: u8) {}",
+            Err("the form r#"),
         ),
-        ("sink", "struct S<T: Drop>(T);", "struct S<T>(T);"),
+        ("unknown", "fn f() {\n    g(c\"{\");\n}", Err("the form c\"")),
+        // What is deleted by words and brackets is not what is deleted by lines.
         (
-            "error",
-            "enum FromHexError {\n    OddLength,\n    NoMemory,\n}",
-            "enum FromHexError {\n    OddLength,\n}",
-        ),
-        (
-            "c/error",
-            "match kind {\n    4 => Some(FromHexError::NoMemory),\n    _ => None,\n}",
-            "match kind {\n    _ => None,\n}",
+            "unknown",
+            "fn f() {\n    ghost\n    if x {\n        g();\n    }\n}",
+            Err("by brackets '}' is left, by lines 'ifx{g();}}'"),
         ),
         (
-            "c",
-            "#[unsafe(no_mangle)]\npub extern \"C\" fn f(bytes: &[u8]) {}",
-            "pub fn f(bytes: &[u8]) {}",
-        ),
-        ("c", "mod callers;\nmod error;", "mod error;"),
-        (
-            "c/message",
-            "fn f() {\n    fmt::Write::write(&mut message, error);\n}",
-            "fn f() {\n    fmt::Write::write_fmt(&mut message, format_args!(\"{}\", error));\n}",
+            "unknown",
+            "fn f()\n    ensures { a }\n        { if x { g(); } }",
+            Err("by brackets '{ifx{g();}}' is left, by lines ''"),
         ),
         (
-            "reserved",
-            "for byte in bytes {\n    self.bytes.push_reserved(*byte);\n}",
-            "self.bytes.extend_reserved(bytes);",
+            "unknown",
+            "fn f() {\n    #[tactic(auto)] if x {\n        g();\n    }\n}",
+            Err("by brackets 'ifx{g();}}' is left, by lines '}'"),
         ),
         (
-            "codec/encoders",
-            "pub fn owned(alloc: Global) {}",
-            "#[cfg(feature = \"alloc\")]\npub fn owned(alloc: Global) {}",
-        ),
-        (
-            "tables",
-            "pub fn value_at(byte: u8) -> u8 {}",
-            "pub const fn value_at(byte: u8) -> u8 {}",
-        ),
-        ("codec/body", "c: char::from(byte),", "c: byte as char,"),
-        (
-            "codec/checks",
-            "/// One.\n///\n/// ```rust\n/// assert_eq!(rt; owned(rt.alloc()), 1);\n/// ```\npub fn one() {}",
-            "/// One.\npub fn one() {}\n#[test]\nfn checks_one() -> Result<(), Box<dyn Error>> {\n    \
-                assert_eq!(owned(Global), 1);\n    Ok(())\n}",
+            "unknown",
+            "trait T {\n    ghost a: { B } = { c };\n\n    fn f();\n}",
+            Err("by brackets '={c};fnf();}' is left, by lines 'fnf();}'"),
         ),
     ]);
 }
 
 #[test]
 fn what_is_an_error() {
-    for (source, wanted) in [
-        ("#[no_mangle]\nfn f() {}", "the attribute #[no_mangle]"),
+    check(&[
         (
+            "unknown",
+            "#[no_mangle]\nfn f() {}",
+            Err("the attribute #[no_mangle]"),
+        ),
+        (
+            "unknown",
             "#[derive(Hash)]\nstruct S;",
-            "the attribute #[derive(Hash)]",
+            Err("the attribute #[derive(Hash)]"),
         ),
-        ("fn f()\n    requires x + 1\n{}", "the clause requires x +"),
         (
+            "unknown",
+            "fn f()\n    requires x + 1\n{}",
+            Err("the clause requires x +"),
+        ),
+        (
+            "unknown",
             "fn f() {\n    invariant { x };\n}",
-            "the word invariant outside of a contract",
+            Err("the word invariant outside of a contract"),
         ),
         (
+            "unknown",
             "fn f() {\n    g(rt);\n}",
-            "the word rt outside of a contract",
+            Err("the word rt outside of a contract"),
         ),
-        ("fn f()\n    ensures { x", "a bracket that is not closed"),
+        (
+            "unknown",
+            "fn f()\n    ensures { x",
+            Err("a bracket that is not closed"),
+        ),
         // A method, also one with the name of a function of the source, which has a `fill` and a `check`.
         (
+            "unknown",
             "fn f(x: &[u8]) {\n    x.rotate_left(1);\n}",
-            "the call .rotate_left",
+            Err("the call .rotate_left"),
         ),
-        ("fn f(x: &mut [u8]) {\n    x.fill(1);\n}", "the call .fill"),
+        (
+            "unknown",
+            "fn f(x: &mut [u8]) {\n    x.fill(1);\n}",
+            Err("the call .fill"),
+        ),
         // A function by a path: `char::from` is known, and the source has a `from` of its own.
         (
+            "unknown",
             "fn f(x: u8) -> u64 {\n    u64::from(x)\n}",
-            "the call u64::from",
+            Err("the call u64::from"),
         ),
-        ("fn f(x: u8) {\n    Box::new(x);\n}", "the call Box::new"),
         (
+            "unknown",
+            "fn f(x: u8) {\n    Box::new(x);\n}",
+            Err("the call Box::new"),
+        ),
+        (
+            "unknown",
             "fn f(x: u8) {\n    std::mem::drop(x);\n}",
-            "the call mem::drop",
+            Err("the call mem::drop"),
         ),
         (
+            "unknown",
             "fn f<K: Kernel>() {\n    K::is_fast::<8>();\n}",
-            "the call K::is_fast",
+            Err("the call K::is_fast"),
         ),
-        ("fn f(x: u8) {\n    drop(x);\n}", "the call drop"),
-        ("fn f() {\n    println!(\"x\");\n}", "the call println!"),
-        ("fn f() {\n    let x = vec![1];\n}", "the call vec!"),
+        (
+            "unknown",
+            "fn f(x: u8) {\n    drop(x);\n}",
+            Err("the call drop"),
+        ),
+        (
+            "unknown",
+            "fn f() {\n    println!(\"x\");\n}",
+            Err("the call println!"),
+        ),
+        (
+            "unknown",
+            "fn f() {\n    let x = vec![1];\n}",
+            Err("the call vec!"),
+        ),
         // A call after a range, with a type in brackets, after a quotation mark, and of a function as a value.
         (
+            "unknown",
             "fn f(x: u8) {\n    for _ in 0..drop(x) {}\n}",
-            "the call drop",
+            Err("the call drop"),
         ),
         (
+            "unknown",
             "fn f(x: u8) {\n    x.rotate_left::<(u8, u8)>(1);\n}",
-            "the call .rotate_left",
+            Err("the call .rotate_left"),
         ),
         (
+            "unknown",
             "fn f(x: u8) {\n    g(b'\"', drop(x), \"\");\n}",
-            "the call g",
+            Err("the call g"),
         ),
         (
+            "unknown",
             "fn f(x: u8) {\n    let g = u8::is_ascii_hexdigit;\n}",
-            "a function as a value: u8::is_ascii_hexdigit",
+            Err("a function as a value: u8::is_ascii_hexdigit"),
         ),
-        ("fn f(x: u8) {\n    (x)(1);\n}", "a function as a value: )("),
+        (
+            "unknown",
+            "fn f(x: u8) {\n    (x)(1);\n}",
+            Err("a function as a value: )("),
+        ),
         // What Rattle and Rust read in different ways.
         (
+            "unknown",
             "fn f() {\n    for x in 250u8.. {}\n}",
-            "a range without an end: .. {",
+            Err("a range without an end: .. {"),
         ),
         (
+            "unknown",
             "fn f() {\n    S { a: 1, ..v[9] };\n}",
-            "the other fields of a struct: { a: 1, ..v[9] }",
+            Err("the other fields of a struct: { a: 1, ..v[9] }"),
         ),
-        ("fn f(x: u64) -> usize {\n    x as usize\n}", "a cast: as u"),
-    ] {
-        if let Some(found) = erased("unknown", source) {
-            assert_eq!(found, Err(format!("erase: {wanted}")), "{source}");
-        }
-    }
-    for (place, source, wanted) in [
+        (
+            "unknown",
+            "fn f(x: u64) -> usize {\n    x as usize\n}",
+            Err("a cast: as u"),
+        ),
         (
             "c/other",
             "#[unsafe(no_mangle)]\npub extern \"C\" fn f(x: u8) requires { x < 9 } {\n}",
-            "a condition of a function that is exported",
+            Err("a condition of a function that is exported"),
         ),
         (
             "error",
             "fn f(x: E) {\n    match x {\n        E::Odd | E::NoMemory => 1,\n    }\n}",
-            "a rule does not fit: NoMemory",
+            Err("a rule does not fit: NoMemory"),
         ),
         (
             "error",
             "fn f() -> &str {\n    \"expected W, not <W>\"\n}",
-            "a rule does not fit: \"expected 'w, not <'w>\"",
+            Err("a rule does not fit: \"expected 'w, not <'w>\""),
         ),
-    ] {
-        if let Some(found) = erased(place, source) {
-            assert_eq!(found, Err(format!("erase: {wanted}")), "{source}");
-        }
-    }
+        (
+            "arch/unknown",
+            "fn f(a: u8x16, b: u8x16) -> u8x32 {\n    a.shuffle(b, [1, 0])\n}",
+            Err("the order of a shuffle: [1, 0]"),
+        ),
+    ]);
 }

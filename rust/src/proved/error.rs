@@ -41,12 +41,12 @@ impl error::Error for FromHexError {}
 
 impl From<AllocError> for FromHexError {
     fn from(_error: AllocError) -> FromHexError {
-        match AllocError::from(_error) {}
+        _error.never()
     }
 }
 
 impl<T> From<AllocFailed<T>> for FromHexError {
     fn from(_error: AllocFailed<T>) -> FromHexError {
-        match AllocError::from(_error) {}
+        _error.never()
     }
 }

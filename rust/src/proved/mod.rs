@@ -64,6 +64,7 @@ pub use self::formatting::text::*;
 //   22  the allocator is a value
 //    1  the bytes of a slice are appended at once, and not one by one
 //    1  the kernel is chosen for the processor
+//    2  the only shuffle puts two vectors one after the other
 //   10  what a constant calls is constant
 //   14  what allocates is there with the feature alloc
 //    3  what is for C is a module of const_hex

@@ -131,14 +131,7 @@ fn decode_flagged(text: [u8x32; 2]) -> (u8x32, bool) {
 /// The lanes of both vectors, in order.
 #[inline(always)]
 fn join(first: u8x32, second: u8x32) -> u8x64 {
-    first.shuffle(
-        second,
-        [
-            0, 1, 2, 3, 4, 5, 6, 7, 8, 9, 10, 11, 12, 13, 14, 15, 16, 17, 18, 19, 20, 21, 22, 23,
-            24, 25, 26, 27, 28, 29, 30, 31, 32, 33, 34, 35, 36, 37, 38, 39, 40, 41, 42, 43, 44, 45,
-            46, 47, 48, 49, 50, 51, 52, 53, 54, 55, 56, 57, 58, 59, 60, 61, 62, 63,
-        ],
-    )
+    first.join(second)
 }
 
 /// One byte for each two lanes, which must be values.
