@@ -213,8 +213,8 @@ size_t const_hex_error_message(const struct const_hex_error *error, char *messag
 
 /*
  * Returns the buffer size that const_hex_encode needs for bytes_length bytes, including the NUL terminator
- * if there is one. Returns SIZE_MAX if that size is not representable or flags has an unknown bit; then no
- * buffer suffices.
+ * if there is one. The result SIZE_MAX is an error: that size is SIZE_MAX or greater, which no buffer has, or
+ * flags has an unknown bit.
  *
  *     size_t size = const_hex_encoded_size(bytes_length, 0);
  *     char *text = malloc(size);

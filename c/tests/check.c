@@ -55,6 +55,28 @@ TEST(messages) {
     }
 }
 
+/* The text of so many bytes does not fit even into a buffer that is as large as no buffer can be. */
+TEST(sizes_that_no_buffer_has) {
+    static const size_t rows[][3] = {
+        {SIZE_MAX / 2, SIZE_MAX, CONST_HEX_PREFIX},
+        {SIZE_MAX / 2, SIZE_MAX, CONST_HEX_PREFIX | CONST_HEX_NO_NUL},
+        {SIZE_MAX / 2, SIZE_MAX - 1, CONST_HEX_PREFIX},
+        {SIZE_MAX / 2, SIZE_MAX - 1, CONST_HEX_PREFIX | CONST_HEX_NO_NUL},
+        {SIZE_MAX / 2, SIZE_MAX - 1, 0},
+        {SIZE_MAX / 2 + 1, SIZE_MAX, 0},
+        {SIZE_MAX / 2 + 1, SIZE_MAX, CONST_HEX_NO_NUL},
+        {SIZE_MAX, SIZE_MAX, CONST_HEX_PREFIX | CONST_HEX_NO_NUL},
+    };
+    for (size_t row = 0; row < sizeof rows / sizeof *rows; row++) {
+        struct buffer text = marked(areas.text, 20, 0);
+        unsigned flags = (unsigned)rows[row][2];
+        size_t written = flags & CONST_HEX_NO_NUL ? 0 : 1;
+        holds(!build->encode("kiwi", rows[row][0], text.bytes, rows[row][1], flags) &&
+                  memcmp(text.bytes, "", written) == 0 && is_rest_marked(text, written),
+              "encode", row, 0);
+    }
+}
+
 /* A buffer of size 0 may be NULL. */
 TEST(null_buffers) {
     struct const_hex_error error = UNSET;

@@ -1,6 +1,6 @@
 //! How a text is written: the flags that C passes.
 
-ghost use Rattle.std.specs.Prelude.{◌≡◌, ◌↔◌, ◌<◌, ◌≤◌, ◌+◌, if◌then◌else◌, false, IsTrue, length, drop};
+ghost use Rattle.std.specs.Prelude.{◌≡◌, ◌↔◌, ◌<◌, ◌≤◌, ◌+◌, if◌then◌else◌, false, IsTrue, IsSome, IfSome, length, drop};
 ghost use Rattle.const_hex.specs.Texts.{text_length};
 ghost use Rattle.const_hex_c.specs.Flags.{AreFlags, is_upper, has_prefix, has_nul, size_of, after_text, emptied};
 
@@ -36,13 +36,15 @@ pub(crate) fn has_nul(flags: u32) -> bool
     flags / 4 % 2 == 0
 }
 
-/// The length of the text of so many bytes, which must fit.
+/// The length of the text of so many bytes, if it fits into a `usize`. This holds for every number, also
+/// for a length that no slice has, since a caller in C may pass it.
 #[inline(always)]
-pub(crate) fn length_of(flags: u32, bytes_length: usize) -> usize
-    requires { text_length (has_prefix flags) bytes_length ≤ usize.MAX }
-    ensures { result ≡ text_length (has_prefix flags) bytes_length }
+pub(crate) fn length_of(flags: u32, bytes_length: usize) -> Option<usize>
+    ensures fits { IsSome result ↔ (text_length (has_prefix flags) bytes_length ≤ usize.MAX) }
+    ensures length { IfSome result (λ n. n ≡ text_length (has_prefix flags) bytes_length) }
 {
-    2 * bytes_length + if has_prefix(flags) { 2 } else { 0 }
+    let prefix = if has_prefix(flags) { 2 } else { 0 };
+    bytes_length.checked_mul(2)?.checked_add(prefix)
 }
 
 /// The size of what is written beside the digits: the prefix and the NUL.

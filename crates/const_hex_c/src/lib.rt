@@ -29,8 +29,8 @@ use crate::flags::{are_flags, clear, end_text, has_prefix, is_upper, length_of, 
 use const_hex::{Decoder, FixedKernel, Kernel};
 
 /// Returns the size of the buffer that [`const_hex_encode`] needs: the text, and a NUL unless the flags
-/// leave it out. If that does not fit into a `usize`, or a flag is not known, the result is the
-/// greatest number. Does not allocate.
+/// leave it out. The greatest number is an error: the size is that or greater, which no buffer has, or a
+/// flag is not known. Does not allocate.
 ///
 /// ```c
 /// size_t size = const_hex_encoded_size(20, CONST_HEX_PREFIX); /* 43 */
@@ -66,19 +66,17 @@ pub extern "C" fn const_hex_encode(bytes: &[u8], text: &mut [u8], flags: u32) ->
         ++ after_text flags (text_length (has_prefix flags) (length bytes.now)) text.old }
     ensures emptied { result ≡ false → text.new ≡ emptied flags text.old }
 {
-    // Then the length of the text fits into a `usize`.
-    if bytes.len() > text.len() / 2 {
-        clear(text, flags);
-        return false;
+    match length_of(flags, bytes.len()) {
+        Some(length) if end_text(text, length, flags) => {
+            let (prefix, upper) = (has_prefix(flags), is_upper(flags));
+            const_hex::fill_text::<FixedKernel>(bytes, prefix, upper, &mut text[..length]);
+            true
+        }
+        _ => {
+            clear(text, flags);
+            false
+        }
     }
-    let length = length_of(flags, bytes.len());
-    if !end_text(text, length, flags) {
-        clear(text, flags);
-        return false;
-    }
-    let (prefix, upper) = (has_prefix(flags), is_upper(flags));
-    const_hex::fill_text::<FixedKernel>(bytes, prefix, upper, &mut text[..length]);
-    true
 }
 
 /// Decodes the text, with or without a prefix, in either case, to the start of the bytes. Sets

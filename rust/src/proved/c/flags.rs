@@ -27,10 +27,12 @@ pub(crate) fn has_nul(flags: u32) -> bool {
     flags / 4 % 2 == 0
 }
 
-/// The length of the text of so many bytes, which must fit.
+/// The length of the text of so many bytes, if it fits into a `usize`. This holds for every number, also
+/// for a length that no slice has, since a caller in C may pass it.
 #[inline(always)]
-pub(crate) fn length_of(flags: u32, bytes_length: usize) -> usize {
-    2 * bytes_length + if has_prefix(flags) { 2 } else { 0 }
+pub(crate) fn length_of(flags: u32, bytes_length: usize) -> Option<usize> {
+    let prefix = if has_prefix(flags) { 2 } else { 0 };
+    bytes_length.checked_mul(2)?.checked_add(prefix)
 }
 
 /// The size of what is written beside the digits: the prefix and the NUL.
