@@ -182,7 +182,8 @@ struct const_hex_error {
  * CONST_HEX_MESSAGE_SIZE bytes are always enough.
  *
  * Returns the number of bytes written, without the NUL. If message_size is 0, nothing is written and the
- * result is 0. If *error was not set by a function of this library, the message may be empty.
+ * result is 0. The message is empty if error->kind is unknown, or if it is CONST_HEX_INVALID_CHARACTER and
+ * error->byte is greater than 255: no function of this library sets such an error.
  *
  *     char message[CONST_HEX_MESSAGE_SIZE];
  *     const_hex_error_message(&error, message, sizeof message);

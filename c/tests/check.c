@@ -37,9 +37,10 @@ TEST(messages) {
         {{CONST_HEX_INVALID_CHARACTER, 0xE9, 0}, "invalid character '\xC3\xA9' at position 0"},
         {{CONST_HEX_INVALID_CHARACTER, 0x80, SIZE_MAX},
          "invalid character '\\u{80}' at position 18446744073709551615"},
-        /* No function sets these two. */
-        {{CONST_HEX_INVALID_CHARACTER, 0x20AC, 7}, "invalid character '\xE2\x82\xAC' at position 7"},
-        {{CONST_HEX_INVALID_CHARACTER, 0x110000, 7}, ""},
+        /* No function sets these. */
+        {{4, 0, 0}, "out of memory"},
+        {{CONST_HEX_INVALID_CHARACTER, 0x100, 7}, ""},
+        {{CONST_HEX_INVALID_CHARACTER, 0x107A, 7}, ""},
         {{0, 0, 0}, ""},
         {{5, 0, 0}, ""},
     };

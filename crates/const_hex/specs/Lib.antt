@@ -1,5 +1,6 @@
 pub mod Buffers
 pub mod Decoding
+pub mod Messages
 pub mod Results
 pub mod TypeLaws
 pub mod Types

@@ -1,6 +1,6 @@
 -- An error as C has it.
-use Rattle.std.specs.Prelude.{◌≡◌, ◌<◌, ◌⊎◌, ℕ, List, IfSome}
-use Rattle.const_hex.specs.Results.{message_of}
+use Rattle.std.specs.Prelude.{◌≡◌, ◌==◌, ◌&&◌, nat_lt, if◌then◌else◌, ℕ, List, [], codes}
+use Rattle.const_hex.specs.Messages.{character_message}
 use Rattle.const_hex.specs.declared.error.FromHexError.{FromHexError}
 use Rattle.const_hex.specs.declared.error.FromHexError.TheVariants.{OddLength, InvalidStringLength, InvalidHexCharacter, NoMemory}
 use Rattle.const_hex_c.specs.declared.error.HexError.{HexError}
@@ -16,10 +16,9 @@ struct_of NoMemory = record { kind = 4; byte = 0; index = 0 }
 abbrev pub StandsFor : HexError → (FromHexError → Type 0) → Type 0
 StandsFor r holds = (e : FromHexError) × (r ≡ struct_of e) × holds e
 
--- if the struct r stands for an error with a known message, `holds` is true of that message
-abbrev pub Says : HexError → (List ℕ → Type 0) → Type 0
-Says r holds = (e : FromHexError) → r ≡ struct_of e → IfSome (message_of e) holds
-
--- the struct r has a kind that no error has
-abbrev pub IsUnknown : HexError → Type 0
-IsUnknown r = (r.kind ≡ 0) ⊎ (4 < r.kind)
+-- the message of a struct: empty if it has another kind, or a character that is no byte
+abbrev pub message_of_struct : HexError → List ℕ
+message_of_struct r = if r.kind == 1 then codes "odd number of digits"
+    else (if r.kind == 2 then codes "invalid string length"
+    else (if (r.kind == 3) && nat_lt r.byte 256 then character_message r.byte r.index
+    else (if r.kind == 4 then codes "out of memory" else [])))

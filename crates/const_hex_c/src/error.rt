@@ -1,10 +1,9 @@
 //! Why a text was rejected, as C has it.
 
-ghost use Rattle.std.specs.Prelude.{◌≡◌, ◌<◌, take, Some, None};
-ghost use Rattle.const_hex.specs.declared.error.FromHexError.TheVariants.{OddLength, InvalidStringLength, NoMemory};
-ghost use Rattle.const_hex_c.specs.Errors.{struct_of, Says, IsUnknown};
+ghost use Rattle.std.specs.Prelude.{◌≡◌};
+ghost use Rattle.const_hex_c.specs.Errors.{struct_of, message_of_struct};
 
-use crate::message::Message;
+use crate::message::{LONGEST, put_character};
 use const_hex::FromHexError;
 
 /// The kind of a text with an odd number of bytes.
@@ -45,34 +44,23 @@ impl From<FromHexError> for HexError {
 }
 
 impl HexError {
-    /// The error that this struct stands for, if there is one.
-    fn error(&self) -> Option<FromHexError>
-        ensures odd { self.now.kind ≡ 1 → result ≡ Some OddLength }
-        ensures length { self.now.kind ≡ 2 → result ≡ Some InvalidStringLength }
-        ensures memory { self.now.kind ≡ 4 → result ≡ Some NoMemory }
-        ensures unknown { IsUnknown self.now → result ≡ None }
+    /// Its message, which may be in `space`. A struct that stands for no error has an empty one.
+    #[inline(always)]
+    pub(crate) fn message<'a>(&self, space: &'a mut [u8; LONGEST]) -> &'a [u8]
+        ensures { result.now ≡ message_of_struct self.now }
     {
         match self.kind {
-            ODD_LENGTH => Some(FromHexError::OddLength),
-            INVALID_LENGTH => Some(FromHexError::InvalidStringLength),
-            INVALID_CHARACTER => Some(FromHexError::InvalidHexCharacter {
-                c: char::from_u32(self.byte)?,
-                index: self.index,
-            }),
-            NO_MEMORY => Some(FromHexError::NoMemory),
-            _ => None,
-        }
-    }
-
-    /// Its message. A struct that stands for no error has none.
-    #[tactic(auto, using(crate::proofs::lemmas::Wording::says_by_kind))]
-    pub(crate) fn message(&self) -> Message
-        ensures message { Says self.now (λ m. 0 < result.count → take result.count result.bytes ≡ m) }
-        ensures unknown { IsUnknown self.now → result.count ≡ 0 }
-    {
-        match self.error() {
-            Some(error) => Message::of(error),
-            None => Message::empty(),
+            ODD_LENGTH => b"odd number of digits",
+            INVALID_LENGTH => b"invalid string length",
+            INVALID_CHARACTER => match u8::try_from(self.byte) {
+                Ok(byte) => {
+                    let start = put_character(byte, self.index, space);
+                    &space[start..]
+                }
+                Err(_) => b"",
+            },
+            NO_MEMORY => b"out of memory",
+            _ => b"",
         }
     }
 }

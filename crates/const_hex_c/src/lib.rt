@@ -16,7 +16,7 @@ ghost use Rattle.const_hex.specs.Texts.{full_text, text_length, AllDigits, Parti
 ghost use Rattle.const_hex.specs.Results.{IsOdd, Reads, ReadsSized, ReadsWithin, Leaves, body_of};
 ghost use Rattle.const_hex.specs.Decoding.{HasRead, ReadsOn, error_of};
 ghost use Rattle.const_hex.specs.declared.error.FromHexError.TheVariants.{OddLength, InvalidStringLength};
-ghost use Rattle.const_hex_c.specs.Errors.{StandsFor, Says, IsUnknown, struct_of};
+ghost use Rattle.const_hex_c.specs.Errors.{StandsFor, message_of_struct, struct_of};
 ghost use Rattle.const_hex_c.specs.Flags.{AreFlags, is_upper, has_prefix, size_of, after_text, emptied};
 
 mod callers;
@@ -26,6 +26,7 @@ mod message;
 
 pub use crate::error::HexError;
 use crate::flags::{are_flags, clear, end_text, has_prefix, is_upper, length_of, size_beside};
+use crate::message::{LONGEST, write_ended};
 use const_hex::{Decoder, FixedKernel, Kernel};
 
 /// Returns the size of the buffer that [`const_hex_encode`] needs: the text, and a NUL unless the flags
@@ -289,11 +290,12 @@ pub extern "C" fn const_hex_check_raw(text: &[u8]) -> bool
     FixedKernel::check(text)
 }
 
-/// Writes the message of an error and a NUL, and returns the number of bytes before the NUL.
+/// Writes the message of an error and a NUL, and returns the number of bytes before the NUL. The rest of
+/// the buffer is unchanged.
 ///
-/// A message that does not fit is truncated. If the buffer is empty, nothing is written. A struct that
-/// is no error has an empty message. No contract says that a message is written, since printing
-/// could give up; tests show it, and the message of an invalid character. Does not allocate.
+/// A message that does not fit is truncated. If the buffer is empty, nothing is written. The message is
+/// empty if the kind is unknown, or if an invalid character is not below 256; no function writes such a
+/// struct. Does not allocate.
 ///
 /// ```c
 /// char message[CONST_HEX_MESSAGE_SIZE];
@@ -301,24 +303,13 @@ pub extern "C" fn const_hex_check_raw(text: &[u8]) -> bool
 /// ```
 #[unsafe(no_mangle)]
 pub extern "C" fn const_hex_error_message(error: &HexError, message: &mut [u8]) -> usize
-    ensures within { 0 < length message.old → result < length message.old }
-    ensures none { length message.old ≡ 0 → result ≡ 0 }
+    ensures count { result ≡ min (length (message_of_struct error.now)) (length message.old - 1) }
+    ensures text { take result message.new ≡ take result (message_of_struct error.now) }
     ensures ended { 0 < length message.old → slice_index message.new result ≡ 0 }
     ensures rest { drop (result + 1) message.new ≡ drop (result + 1) message.old }
-    ensures message { 0 < result → Says error.now (λ m. take result message.new ≡ take result m) }
-    ensures whole { 0 < result
-        → Says error.now (λ m. result ≡ min (length m) (length message.old - 1)) }
-    ensures unknown { IsUnknown error.now → result ≡ 0 }
 {
-    if message.is_empty() {
-        return 0;
-    }
-    let printed = error.message();
-    let printed = printed.as_bytes();
-    let count = printed.len().min(message.len() - 1);
-    message[..count].copy_from_slice(&printed[..count]);
-    message[count] = 0;
-    count
+    let mut space = [0; LONGEST];
+    write_ended(error.message(&mut space), message)
 }
 
 /// The version of these functions: 10,000 times the major one, 100 times the minor one, and the

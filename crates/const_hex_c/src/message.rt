@@ -1,64 +1,102 @@
-//! The message of an error, printed into an array.
+//! The message of an invalid character.
 
-ghost use Rattle.std.specs.Prelude.{◌≡◌, ◌≤◌, ◌<◌, ◌++◌, take, IfSome};
-ghost use Rattle.const_hex.specs.Results.{message_of};
+ghost use Rattle.std.specs.Prelude.{◌≡◌, ◌≤◌, ◌<◌, ◌+◌, ◌-◌, ◌++◌, length, take, drop, min, slice_index, decimal};
+ghost use Rattle.const_hex.specs.Messages.{shown, character_message};
 
-use const_hex::FromHexError;
-use std::fmt;
+use const_hex::digit_at;
 
-/// The size of the array. The longest message has 59 bytes.
-const SIZE: usize = 64;
+/// The length of the longest message: 19 bytes, at most 6 that show the character, 14 bytes, and at
+/// most 20 digits.
+pub(crate) const LONGEST: usize = 59;
 
-/// A printed message.
-#[derive(Drop)]
-pub(crate) struct Message {
-    pub(crate) bytes: [u8; SIZE],
-    pub(crate) count: usize,
-    ghost within: { count ≤ 64 },
+/// Puts the text before what starts at `start`, and returns where it starts.
+#[inline(always)]
+fn put(text: &[u8], start: usize, space: &mut [u8; LONGEST]) -> usize
+    requires { (length text.now ≤ start) × (start ≤ 59) }
+    ensures start { result + length text.now ≡ start }
+    ensures text { drop result space.new ≡ text.now ++ drop start space.old }
+{
+    let from = start - text.len();
+    space[from..start].copy_from_slice(text);
+    from
 }
 
-impl Message {
-    /// An empty message.
-    pub(crate) fn empty() -> Message
-        ensures { result.count ≡ 0 }
-    {
-        Message {
-            bytes: [0; SIZE],
-            count: 0,
-        }
+/// Puts the decimal digits of the number at the end, and returns where they start.
+#[inline(always)]
+fn put_decimal(number: usize, space: &mut [u8; LONGEST]) -> usize
+    ensures start { (39 ≤ result) × (result ≤ 59) }
+    ensures digits { drop result space.new ≡ decimal number }
+{
+    let mut start = LONGEST;
+    let mut left = number;
+    'digits: while left >= 10 {
+        start -= 1;
+        space[start] = b'0' + (left % 10) as u8;
+        left /= 10;
     }
+    start -= 1;
+    space[start] = b'0' + left as u8;
+    start
+}
 
-    /// The message of an error, or an empty one if it could not be printed whole.
-    pub(crate) fn of(error: FromHexError) -> Message
-        ensures { IfSome (message_of error) (λ m. 0 < result.count → take result.count result.bytes ≡ m) }
-    {
-        let mut message = Message::empty();
-        match fmt::Write::write(&mut message, error) {
-            Ok(()) => message,
-            Err(_) => Message::empty(),
+/// Puts what shows the character before what starts at `start`, and returns where it starts.
+#[inline(always)]
+fn put_shown(byte: u8, start: usize, space: &mut [u8; LONGEST]) -> usize
+    requires { (6 ≤ start) × (start ≤ 59) }
+    ensures start { (start ≤ result + 6) × (result ≤ start) }
+    ensures text { drop result space.new ≡ shown byte ++ drop start space.old }
+{
+    match byte {
+        0 => put(b"\\0", start, space),
+        b'\t' => put(b"\\t", start, space),
+        b'\n' => put(b"\\n", start, space),
+        b'\r' => put(b"\\r", start, space),
+        b'\'' | b'\\' => put(&[b'\\', byte], start, space),
+        0..=31 | 127..=160 | 173 => {
+            let start = put(&[digit_at(false, byte % 16), b'}'], start, space);
+            let start = if byte < 16 {
+                start
+            } else {
+                put(&[digit_at(false, byte / 16)], start, space)
+            };
+            put(b"\\u{", start, space)
         }
-    }
-
-    /// The message, as bytes.
-    pub(crate) fn as_bytes(&self) -> &[u8]
-        ensures { result.now ≡ take self.now.count self.now.bytes }
-    {
-        &self.bytes[..self.count]
+        32..=126 => put(&[byte], start, space),
+        _ => put(&[0xc0 + byte / 64, 0x80 + byte % 64], start, space),
     }
 }
 
-impl fmt::Write for Message {
-    ghost write_str_gives = { λ old text new.
-        take new.count new.bytes ≡ take old.count old.bytes ++ text };
+/// Puts the message of an invalid character at the end, and returns where it starts.
+#[inline(always)]
+pub(crate) fn put_character(byte: u8, index: usize, space: &mut [u8; LONGEST]) -> usize
+    ensures start { result ≤ 59 }
+    ensures text { drop result space.new ≡ character_message byte index }
+{
+    let start = put_decimal(index, space);
+    let start = put(b"' at position ", start, space);
+    let start = put_shown(byte, start, space);
+    put(b"invalid character '", start, space)
+}
 
-    /// An error if the message and this text together do not fit.
-    fn write_str(&mut self, text: &str) -> fmt::Result {
-        if text.len() > SIZE - self.count {
-            return Err(fmt::Error);
-        }
-        let end = self.count + text.len();
-        self.bytes[self.count..end].copy_from_slice(text.as_bytes());
-        self.count = end;
-        Ok(())
+/// Writes the text and a NUL, and returns the number of bytes before the NUL. A text that does not fit is
+/// truncated, and an empty buffer stays empty.
+#[inline(always)]
+pub(crate) fn write_ended(text: &[u8], output: &mut [u8]) -> usize
+    ensures count { result ≡ min (length text.now) (length output.old - 1) }
+    ensures text { take result output.new ≡ take result text.now }
+    ensures ended { 0 < length output.old → slice_index output.new result ≡ 0 }
+    ensures rest { drop (result + 1) output.new ≡ drop (result + 1) output.old }
+{
+    if output.is_empty() {
+        return 0;
     }
+    // The NUL moves with the text. So the loop stays one over bytes, which is shorter for so few.
+    let mut count = 0;
+    output[count] = 0;
+    'bytes: while count < text.len() && count + 1 < output.len() {
+        output[count] = text[count];
+        count += 1;
+        output[count] = 0;
+    }
+    count
 }

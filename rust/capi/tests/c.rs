@@ -1,4 +1,5 @@
 //! Builds the library, and a C program over the static and over the shared one, which it runs.
+use const_hex_proved::c::{const_hex_error_message, HexError};
 use std::path::{Path, PathBuf};
 use std::process::Command;
 
@@ -44,5 +45,24 @@ fn a_c_program_links_and_runs() {
                 .arg(&program));
             run(&mut Command::new(&program));
         }
+    }
+}
+
+/// A message shows a character as Rust's `{:?}` does.
+#[test]
+fn messages_of_all_characters() {
+    for byte in 0..=u8::MAX {
+        let index = usize::MAX >> (byte % 64);
+        let character = char::from(byte);
+        let wanted = format!("invalid character {character:?} at position {index}\0");
+        let error = HexError {
+            kind: 3,
+            byte: byte.into(),
+            index,
+        };
+        let mut message = [b'#'; 64];
+        let count = const_hex_error_message(&error, &mut message);
+        assert_eq!(&message[..=count], wanted.as_bytes());
+        assert!(message[count + 1..].iter().all(|rest| *rest == b'#'));
     }
 }

@@ -19,6 +19,7 @@ mod message;
 
 pub use crate::proved::c::error::HexError;
 use crate::proved::c::flags::{are_flags, clear, end_text, has_prefix, is_upper, length_of, size_beside};
+use crate::proved::c::message::{LONGEST, write_ended};
 use crate::proved::{Decoder, FixedKernel, Kernel};
 
 /// Returns the size of the buffer that [`const_hex_encode`] needs: the text, and a NUL unless the flags
@@ -212,26 +213,20 @@ pub fn const_hex_check_raw(text: &[u8]) -> bool {
     FixedKernel::check(text)
 }
 
-/// Writes the message of an error and a NUL, and returns the number of bytes before the NUL.
+/// Writes the message of an error and a NUL, and returns the number of bytes before the NUL. The rest of
+/// the buffer is unchanged.
 ///
-/// A message that does not fit is truncated. If the buffer is empty, nothing is written. A struct that
-/// is no error has an empty message. No contract says that a message is written, since printing
-/// could give up; tests show it, and the message of an invalid character. Does not allocate.
+/// A message that does not fit is truncated. If the buffer is empty, nothing is written. The message is
+/// empty if the kind is unknown, or if an invalid character is not below 256; no function writes such a
+/// struct. Does not allocate.
 ///
 /// ```c
 /// char message[CONST_HEX_MESSAGE_SIZE];
 /// size_t count = const_hex_error_message(&error, message, sizeof message);
 /// ```
 pub fn const_hex_error_message(error: &HexError, message: &mut [u8]) -> usize {
-    if message.is_empty() {
-        return 0;
-    }
-    let printed = error.message();
-    let printed = printed.as_bytes();
-    let count = printed.len().min(message.len() - 1);
-    message[..count].copy_from_slice(&printed[..count]);
-    message[count] = 0;
-    count
+    let mut space = [0; LONGEST];
+    write_ended(error.message(&mut space), message)
 }
 
 /// The version of these functions: 10,000 times the major one, 100 times the minor one, and the

@@ -2,7 +2,7 @@
 //! Why a text was rejected, as C has it.
 
 use crate::rattle::prelude::*;
-use crate::proved::c::message::Message;
+use crate::proved::c::message::{LONGEST, put_character};
 use crate::proved::FromHexError;
 
 /// The kind of a text with an odd number of bytes.
@@ -40,25 +40,21 @@ impl From<FromHexError> for HexError {
 }
 
 impl HexError {
-    /// The error that this struct stands for, if there is one.
-    fn error(&self) -> Option<FromHexError> {
+    /// Its message, which may be in `space`. A struct that stands for no error has an empty one.
+    #[inline(always)]
+    pub(crate) fn message<'a>(&self, space: &'a mut [u8; LONGEST]) -> &'a [u8] {
         match self.kind {
-            ODD_LENGTH => Some(FromHexError::OddLength),
-            INVALID_LENGTH => Some(FromHexError::InvalidStringLength),
-            INVALID_CHARACTER => Some(FromHexError::InvalidHexCharacter {
-                c: char::from_u32(self.byte)?,
-                index: self.index,
-            }),
-            _ => None,
-        }
-    }
-
-    /// Its message. A struct that stands for no error has none.
-    
-    pub(crate) fn message(&self) -> Message {
-        match self.error() {
-            Some(error) => Message::of(error),
-            None => Message::empty(),
+            ODD_LENGTH => b"odd number of digits",
+            INVALID_LENGTH => b"invalid string length",
+            INVALID_CHARACTER => match u8::try_from(self.byte) {
+                Ok(byte) => {
+                    let start = put_character(byte, self.index, space);
+                    &space[start..]
+                }
+                Err(_) => b"",
+            },
+            NO_MEMORY => b"out of memory",
+            _ => b"",
         }
     }
 }

@@ -1,0 +1,13 @@
+use Rattle.std.proofs.Common.{◌≡◌, ◌+◌, ◌≤◌, ◌++◌, length, drop, decimal}
+use Rattle.const_hex_c.proofs.message.put_decimal.Given as goal
+
+abbrev pub invariant-digits : goal.invariant-digits
+invariant-digits l = record {
+  within : l.start ≤ 59;
+  size : length l.space ≡ 59;
+  start : l.start + length (decimal l.number) ≡ 59 + length (decimal l.left);
+  digits : decimal l.left ++ drop l.start l.space ≡ decimal l.number;
+}
+
+abbrev pub decreases-digits : goal.decreases-digits
+decreases-digits l = l.left
