@@ -1,5 +1,5 @@
--- What is returned for a text: its prefix, the bytes or the error, and the error's message.
-use Rattle.std.specs.Prelude.{◌≡◌, ℕ, ◌+◌, ◌-◌, ◌==◌, nat_le, ◌&&◌, ◌||◌, if◌then◌else◌, List, [], ◌∷◌, length, map, slice_index, ◌*◌, ◌%◌, ◌≢◌, ◌<◌, ◌≤◌, Bool, Result, Ok, Err, Option, Some, None, codes, ◌++◌, ◌↔◌, true, false, String, string_bytes, take, drop, IfOk, IfErr, OnOk, OnErr, IsOk, IsTrue, MatchResult}
+-- What is returned for a text: its prefix, and the bytes or the error.
+use Rattle.std.specs.Prelude.{◌≡◌, ℕ, ◌+◌, ◌-◌, ◌==◌, nat_le, ◌&&◌, ◌||◌, if◌then◌else◌, List, [], ◌∷◌, length, map, slice_index, ◌*◌, ◌%◌, ◌≢◌, ◌<◌, ◌≤◌, Bool, Result, Ok, Err, ◌++◌, ◌↔◌, true, false, String, string_bytes, take, drop, IfOk, IfErr, OnOk, OnErr, IsOk, IsTrue, MatchResult}
 use Rattle.const_hex_arch.specs.Texts.{FirstBad, hex_value, Spells, Partial, hex_text, full_text}
 use Rattle.const_hex.specs.declared.error.FromHexError.{FromHexError}
 use Rattle.const_hex.specs.declared.error.FromHexError.TheVariants.{OddLength, InvalidStringLength, InvalidHexCharacter, NoMemory}
@@ -83,15 +83,6 @@ Leaves t old new OddLength = new ≡ old
 Leaves t old new InvalidStringLength = new ≡ old
 Leaves t old new (InvalidHexCharacter c i) = Partial old (body_of t) new
 Leaves t old new NoMemory = ⊥
-
--- ---- what an error prints, if its contract says so
-
--- the message of an error; that of an invalid character is only tested
-abbrev pub message_of : FromHexError → Option (List ℕ)
-message_of OddLength = Some (codes "odd number of digits")
-message_of InvalidStringLength = Some (codes "invalid string length")
-message_of (InvalidHexCharacter c i) = None
-message_of NoMemory = Some (codes "out of memory")
 
 -- ---- what the functions of the codec promise; functions that differ only by a kernel share a record
 

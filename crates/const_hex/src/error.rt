@@ -1,7 +1,7 @@
 //! Why a text cannot be decoded, or a text does not fit into an output.
 
 ghost use Rattle.std.specs.Prelude.{◌≡◌};
-ghost use Rattle.const_hex.specs.Results.{message_of};
+ghost use Rattle.const_hex.specs.Messages.{message_of};
 ghost use Rattle.const_hex.specs.declared.error.FromHexError.TheVariants.{NoMemory};
 
 use std::alloc::{AllocError, AllocFailed};

@@ -1,6 +1,6 @@
 -- An error as C has it.
-use Rattle.std.specs.Prelude.{◌≡◌, ◌==◌, ◌&&◌, nat_lt, if◌then◌else◌, ℕ, List, [], codes}
-use Rattle.const_hex.specs.Messages.{character_message}
+use Rattle.std.specs.Prelude.{◌≡◌, ◌==◌, ◌&&◌, nat_lt, if◌then◌else◌, ℕ, List, []}
+use Rattle.const_hex.specs.Messages.{message_text}
 use Rattle.const_hex.specs.declared.error.FromHexError.{FromHexError}
 use Rattle.const_hex.specs.declared.error.FromHexError.TheVariants.{OddLength, InvalidStringLength, InvalidHexCharacter, NoMemory}
 use Rattle.const_hex_c.specs.declared.error.HexError.{HexError}
@@ -18,7 +18,7 @@ StandsFor r holds = (e : FromHexError) × (r ≡ struct_of e) × holds e
 
 -- the message of a struct: empty if it has another kind, or a character that is no byte
 abbrev pub message_of_struct : HexError → List ℕ
-message_of_struct r = if r.kind == 1 then codes "odd number of digits"
-    else (if r.kind == 2 then codes "invalid string length"
-    else (if (r.kind == 3) && nat_lt r.byte 256 then character_message r.byte r.index
-    else (if r.kind == 4 then codes "out of memory" else [])))
+message_of_struct r = if r.kind == 1 then message_text OddLength
+    else (if r.kind == 2 then message_text InvalidStringLength
+    else (if (r.kind == 3) && nat_lt r.byte 256 then message_text (InvalidHexCharacter r.byte r.index)
+    else (if r.kind == 4 then message_text NoMemory else [])))

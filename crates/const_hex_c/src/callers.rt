@@ -1,6 +1,6 @@
 //! What a program in C can rely on. No export calls this.
 
-ghost use Rattle.std.specs.Prelude.{◌≡◌, ◌<◌, IfSome, Err};
+ghost use Rattle.std.specs.Prelude.{◌≡◌, ◌<◌, ◌∷◌, ◌++◌, IfSome, Err, codes, take};
 ghost use Rattle.const_hex.specs.Results.{Reads};
 ghost use Rattle.const_hex.specs.declared.error.FromHexError.TheVariants.{InvalidHexCharacter};
 
@@ -20,6 +20,25 @@ fn invalid_character(text: &[u8]) -> Option<(u32, usize)>
         return None;
     }
     Some((error.byte, error.index))
+}
+
+/// The message of an invalid character, if it is one of these.
+fn message_of_character(byte: u8, index: usize, buffer: &mut [u8; 64]) -> usize
+    ensures letter { byte ≡ 122 → index ≡ 0 → take result buffer.new
+        ≡ codes "invalid character 'z' at position 0" }
+    ensures quote { byte ≡ 39 → index ≡ 5 → take result buffer.new
+        ≡ codes "invalid character '\\'' at position 5" }
+    ensures escape { byte ≡ 27 → index ≡ 42 → take result buffer.new
+        ≡ codes "invalid character '\\u{1b}' at position 42" }
+    ensures accent { byte ≡ 233 → index ≡ 100 → take result buffer.new
+        ≡ codes "invalid character '" ++ 195 ∷ 169 ∷ codes "' at position 100" }
+{
+    let error = HexError {
+        kind: INVALID_CHARACTER,
+        byte: u32::from(byte),
+        index,
+    };
+    const_hex_error_message(&error, buffer)
 }
 
 /// The length of the message of a struct of any kind: 0, if no error has that kind.

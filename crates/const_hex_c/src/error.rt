@@ -1,7 +1,9 @@
 //! Why a text was rejected, as C has it.
 
-ghost use Rattle.std.specs.Prelude.{◌≡◌};
-ghost use Rattle.const_hex_c.specs.Errors.{struct_of, message_of_struct};
+ghost use Rattle.std.specs.Prelude.{◌≡◌, ◌==◌, ◌&&◌, nat_lt, if◌then◌else◌, []};
+ghost use Rattle.const_hex.specs.Messages.{message_text};
+ghost use Rattle.const_hex.specs.declared.error.FromHexError.TheVariants.{InvalidHexCharacter};
+ghost use Rattle.const_hex_c.specs.Errors.{struct_of};
 
 use crate::message::{LONGEST, put_character};
 use const_hex::FromHexError;
@@ -44,22 +46,17 @@ impl From<FromHexError> for HexError {
 }
 
 impl HexError {
-    /// Its message, which may be in `space`. A struct that stands for no error has an empty one.
+    /// Its message, in `space`, if it stands for an invalid character. Otherwise the result is empty.
     #[inline(always)]
-    pub(crate) fn message<'a>(&self, space: &'a mut [u8; LONGEST]) -> &'a [u8]
-        ensures { result.now ≡ message_of_struct self.now }
+    pub(crate) fn character_message<'a>(&self, space: &'a mut [u8; LONGEST]) -> &'a [u8]
+        ensures { result.now ≡ if (self.now.kind == 3) && nat_lt self.now.byte 256
+            then message_text (InvalidHexCharacter self.now.byte self.now.index) else [] }
     {
-        match self.kind {
-            ODD_LENGTH => b"odd number of digits",
-            INVALID_LENGTH => b"invalid string length",
-            INVALID_CHARACTER => match u8::try_from(self.byte) {
-                Ok(byte) => {
-                    let start = put_character(byte, self.index, space);
-                    &space[start..]
-                }
-                Err(_) => b"",
-            },
-            NO_MEMORY => b"out of memory",
+        match u8::try_from(self.byte) {
+            Ok(byte) if self.kind == INVALID_CHARACTER => {
+                let start = put_character(byte, self.index, space);
+                &space[start..]
+            }
             _ => b"",
         }
     }

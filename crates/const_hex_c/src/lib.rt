@@ -25,8 +25,9 @@ mod flags;
 mod message;
 
 pub use crate::error::HexError;
+use crate::error::{INVALID_LENGTH, NO_MEMORY, ODD_LENGTH};
 use crate::flags::{are_flags, clear, end_text, has_prefix, is_upper, length_of, size_beside};
-use crate::message::{LONGEST, write_ended};
+use crate::message::{LONGEST, write_ended, write_known};
 use const_hex::{Decoder, FixedKernel, Kernel};
 
 /// Returns the size of the buffer that [`const_hex_encode`] needs: the text, and a NUL unless the flags
@@ -308,8 +309,15 @@ pub extern "C" fn const_hex_error_message(error: &HexError, message: &mut [u8]) 
     ensures ended { 0 < length message.old → slice_index message.new result ≡ 0 }
     ensures rest { drop (result + 1) message.new ≡ drop (result + 1) message.old }
 {
-    let mut space = [0; LONGEST];
-    write_ended(error.message(&mut space), message)
+    match error.kind {
+        ODD_LENGTH => write_known(b"odd number of digits", message),
+        INVALID_LENGTH => write_known(b"invalid string length", message),
+        NO_MEMORY => write_known(b"out of memory", message),
+        _ => {
+            let mut space = [0; LONGEST];
+            write_ended(error.character_message(&mut space), message)
+        }
+    }
 }
 
 /// The version of these functions: 10,000 times the major one, 100 times the minor one, and the

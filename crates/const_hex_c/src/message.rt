@@ -1,7 +1,8 @@
 //! The message of an invalid character.
 
 ghost use Rattle.std.specs.Prelude.{◌≡◌, ◌≤◌, ◌<◌, ◌+◌, ◌-◌, ◌++◌, length, take, drop, min, slice_index, decimal};
-ghost use Rattle.const_hex.specs.Messages.{shown, character_message};
+ghost use Rattle.const_hex.specs.Messages.{shown, message_text};
+ghost use Rattle.const_hex.specs.declared.error.FromHexError.TheVariants.{InvalidHexCharacter};
 
 use const_hex::digit_at;
 
@@ -70,12 +71,28 @@ fn put_shown(byte: u8, start: usize, space: &mut [u8; LONGEST]) -> usize
 #[inline(always)]
 pub(crate) fn put_character(byte: u8, index: usize, space: &mut [u8; LONGEST]) -> usize
     ensures start { result ≤ 59 }
-    ensures text { drop result space.new ≡ character_message byte index }
+    ensures text { drop result space.new ≡ message_text (InvalidHexCharacter byte index) }
 {
     let start = put_decimal(index, space);
     let start = put(b"' at position ", start, space);
     let start = put_shown(byte, start, space);
     put(b"invalid character '", start, space)
+}
+
+/// Does the same as [`write_ended`]. A text whose length the compiler knows is copied at once.
+#[inline(always)]
+pub(crate) fn write_known<const N: usize>(text: &[u8; N], output: &mut [u8]) -> usize
+    ensures count { result ≡ min (length text.now) (length output.old - 1) }
+    ensures text { take result output.new ≡ take result text.now }
+    ensures ended { 0 < length output.old → slice_index output.new result ≡ 0 }
+    ensures rest { drop (result + 1) output.new ≡ drop (result + 1) output.old }
+{
+    if output.len() <= N {
+        return write_ended(text, output);
+    }
+    output[..N].copy_from_slice(text);
+    output[N] = 0;
+    N
 }
 
 /// Writes the text and a NUL, and returns the number of bytes before the NUL. A text that does not fit is

@@ -1,12 +1,15 @@
 //! Callers that read a text: as any type, by the law of such types alone; and into a key.
 
-ghost use Rattle.std.specs.Prelude.{◌≡◌, ◌↔◌, ◌⊎◌, ◌*◌, ℕ, false, drop, length, take, IsTrue, IfOk, IfErr, Ok, Err};
+ghost use Rattle.std.specs.Prelude.{◌≡◌, ◌↔◌, ◌⊎◌, ◌*◌, ℕ, false, drop, length, take, IsTrue, IfOk, IfErr, OnErr, Ok, Err};
 ghost use Rattle.const_hex.specs.Results.{IsOdd, Reads, ReadsSized, body_of, lowered};
 ghost use Rattle.const_hex.specs.Texts.{Spells};
 ghost use Rattle.const_hex.specs.Types.{IsRejected};
 ghost use Rattle.const_hex.specs.declared.error.FromHexError.TheVariants.{InvalidStringLength, OddLength};
 
-use const_hex::{FromHex, FromHexError, decode_to_front, decode_to_slice};
+use const_hex::{
+    CheckFirst, FixedKernel, FromHex, FromHexError, decode_to_front, decode_to_slice,
+    decode_to_slice_with,
+};
 use hash_hex::Address20;
 use std::alloc::Global;
 use std::rc::Rc;
@@ -107,6 +110,20 @@ pub fn replace_key(key: &mut [u8; 32], text: &[u8]) -> Result<(), FromHexError>
         × Spells (take (2 * n) (body_of text.now)) (take n key.new)) }
 {
     decode_to_slice(text, key)
+}
+
+/// Replaces a key as [`replace_key`] does, but after any error the key is unchanged.
+///
+/// ```rust
+/// let mut key = [0; 32];
+/// assert!(rt; replace_whole_key(&mut key, &[b'z'; 64]).is_err());
+/// assert_eq!(rt; key, [0; 32]);
+/// ```
+pub fn replace_whole_key(key: &mut [u8; 32], text: &[u8]) -> Result<(), FromHexError>
+    ensures replaced { IfOk result (λ _. ReadsSized text.now 32 (Ok key.new)) }
+    ensures kept { OnErr result (key.new ≡ key.old) }
+{
+    decode_to_slice_with::<CheckFirst<FixedKernel>>(text, key)
 }
 
 /// Reads a salt of at most 64 bytes, and returns its number of bytes. An odd number of digits is

@@ -1,6 +1,6 @@
 //! A text for any sink, and its pieces.
 
-ghost use Rattle.std.specs.Prelude.{◌≡◌, ◌≤◌, ◌++◌, List, ℕ, Some, true, false, length, IfOk, OnOk};
+ghost use Rattle.std.specs.Prelude.{◌≡◌, ◌≤◌, ◌++◌, List, ℕ, Some, true, false, is_ok, length, IfOk, OnOk};
 ghost use Rattle.std.specs.List.{All, concat};
 ghost use Rattle.const_hex.specs.Sinks.{Cut};
 ghost use Rattle.const_hex.specs.Texts.{full_text};
@@ -41,4 +41,17 @@ pub fn send_json<S: Sink>(bytes: &[u8], sink: &mut S) -> Result<(), SinkError>
         × (S.told sink.new ≡ Some (told ++ pieces))) }
 {
     serialize_inner::<false, true, S>(bytes, sink)
+}
+
+/// Sends the text of a key to a sink that refuses its first call. So a test sees what a program does if
+/// the network is gone. Always returns an error.
+///
+/// ```rust
+/// assert!(rt; refused_key(rt.alloc(), &[0xAB; 32]).is_err());
+/// ```
+pub fn refused_key(alloc: Global, key: &[u8; 32]) -> Result<(), SinkError>
+    ensures { is_ok result ≡ false }
+{
+    let mut sink = PieceSink::new(alloc, 1);
+    serialize_inner::<false, true, PieceSink>(key, &mut sink)
 }

@@ -4,11 +4,13 @@ use crate::constants::{transfer, wrapped_ether};
 use crate::files::{write_line, write_text};
 use crate::json_rpc::{code_of, code_request, reason};
 use crate::own_kernel::{decoded, encoded, write_pieces};
-use crate::readers::{is_same_account, read_both, read_salt, read_shared, replace_key};
-use crate::sinks::{packets, send_json};
+use crate::readers::{
+    is_same_account, read_both, read_salt, read_shared, replace_key, replace_whole_key,
+};
+use crate::sinks::{packets, refused_key, send_json};
 use crate::store::{find, put};
 use crate::streams::decode_typed;
-use crate::writers::{address_text, array_text, joined_text};
+use crate::writers::{address_text, array_text, fill_field, joined_text};
 use const_hex::{FromHex, FromHexError, JsonError, PieceSink, SliceOutput};
 use const_hex_vectors::texts::invalid;
 use const_hex_vectors::{Testing, Text, same, same_bytes, same_read};
@@ -32,6 +34,10 @@ fn texts(rt: HostRuntime) {
     let mut text = [0; 8];
     write_pieces(b"kiwi", &mut SliceOutput::new(&mut text));
     same_bytes!(&rt, "write_pieces", "kiwi"; text, "6b697769");
+    let mut field = [b'.'; 4];
+    same!(&rt; fill_field(&mut field, b"ki"), Ok(()));
+    same!(&rt; fill_field(&mut field, b"kiwi"), Err(FromHexError::InvalidStringLength));
+    same_bytes!(&rt, "fill_field", "ki"; field, "6b69");
 }
 
 /// A call made this text.
@@ -79,6 +85,8 @@ fn keys_salts_and_typed_texts(rt: HostRuntime) {
     same_bytes!(&rt, "the key", "6b6"; key, [0xEE; 32]);
     same!(&rt; replace_key(&mut key, &[b'a'; 64]), Ok(()));
     same_bytes!(&rt, "the key", "64 letters"; key, [0xAA; 32]);
+    same!(&rt; replace_whole_key(&mut key, &[b'z'; 64]), Err(invalid(b'z', 0)));
+    same_bytes!(&rt, "the key", "64 letters z"; key, [0xAA; 32]);
     let mut salt = [0; 64];
     same!(&rt; read_salt(b"0x6b69", &mut salt), Ok(2));
     same!(&rt; read_salt(&[b'a'; 131], &mut salt), Err(FromHexError::OddLength));
@@ -113,6 +121,7 @@ fn files_and_sinks(rt: HostRuntime) {
     same!(&rt, "send_json", "kiwi"; sink.pieces().len(), 1);
     let sink = packets(rt.alloc(), &[0xAB; 5000]).expect(&rt, "packets");
     same!(&rt, "packets", 5000; sink.pieces().len(), 3);
+    assert!(rt; refused_key(rt.alloc(), &[0xAB; 32]).is_err());
 }
 
 #[test]

@@ -1,10 +1,11 @@
 //! Callers that write a value as text, and whose contracts say which text.
 
-ghost use Rattle.std.specs.Prelude.{◌≡◌, ◌++◌, true, false, string_bytes, IfOk};
+ghost use Rattle.std.specs.Prelude.{◌≡◌, ◌++◌, true, false, string_bytes, Err, IfOk, OnErr, OnOk};
 ghost use Rattle.const_hex.specs.Buffers.{buffer_text};
 ghost use Rattle.const_hex.specs.Texts.{full_text, hex_text};
+ghost use Rattle.const_hex.specs.declared.error.FromHexError.TheVariants.{InvalidStringLength};
 
-use const_hex::{Buffer, ToHexExt, encode};
+use const_hex::{Buffer, FromHexError, ToHexExt, encode, encode_to_slice};
 use std::alloc::{AllocError, Global};
 
 /// The text of a wallet's address: `0x` and 40 digits.
@@ -41,4 +42,22 @@ pub fn joined_text(alloc: Global, first: &[u8], second: &[u8]) -> Result<String,
     let mut bytes = first.to_vec(alloc)?;
     bytes.extend_from_slice(second)?;
     encode(alloc, &bytes)
+}
+
+/// Fills a field of fixed length, as of a packet, with the text of a name.
+///
+/// Returns an error, and the field is unchanged, if the field has not exactly the text's length.
+///
+/// ```rust
+/// let mut field = [b'.'; 8];
+/// fill_field(&mut field, b"kiwi")?;
+/// assert_eq!(rt; &field, b"6b697769");
+/// assert_eq!(rt; fill_field(&mut field, b"ki"), Err(FromHexError::InvalidStringLength));
+/// ```
+pub fn fill_field(field: &mut [u8], name: &[u8]) -> Result<(), FromHexError>
+    ensures text { OnOk result (field.new ≡ hex_text false name.now) }
+    ensures error { OnErr result (result ≡ Err InvalidStringLength) }
+    ensures kept { OnErr result (field.new ≡ field.old) }
+{
+    encode_to_slice(name, field)
 }

@@ -4,7 +4,8 @@ use Rattle.consthex.specs.declared.mode.Mode.{Mode}
 use Rattle.consthex.specs.declared.mode.Mode.TheVariants.{Encode, EncodeUpper, EncodePrefixed, EncodeUpperPrefixed, Decode, Check}
 use Rattle.std.specs.Io.BufRead.{strip_last}
 use Rattle.const_hex.specs.Texts.{full_text}
-use Rattle.const_hex.specs.Results.{IsEven, Reads, Checks, message_of}
+use Rattle.const_hex.specs.Messages.{message_of}
+use Rattle.const_hex.specs.Results.{IsEven, Reads, Checks}
 use Rattle.const_hex.specs.declared.error.FromHexError.{FromHexError}
 use Rattle.consthex.specs.declared.error.RunError.{RunError}
 use Rattle.consthex.specs.declared.error.RunError.TheVariants.{Text, ReadFailed, WriteFailed, TooLong, NoMemory}

@@ -30,8 +30,7 @@ pub fn decode(alloc: Global, input: &[u8]) -> Result<Vec<u8>, FromHexError>
     decode_with::<FixedKernel>(alloc, input)
 }
 
-/// As [`decode`], by a kernel of the caller's choice. The errors are the same,
-/// [`FromHexError::NoMemory`] included.
+/// As [`decode`], with the same errors, by a kernel of the caller's choice.
 ///
 /// ```rust
 /// let bytes = const_hex::decode_with::<Plain>(rt.alloc(), b"6B697769")?;
@@ -221,10 +220,10 @@ pub fn const_decode_to_array<const N: usize>(input: &[u8]) -> Result<[u8; N], Fr
     Ok(bytes)
 }
 
-/// Decodes a constant text to N bytes. Verification proves that it decodes to N bytes.
+/// Decodes a constant text to N bytes. The text must be 2 * N digits, with or without a prefix.
 ///
-/// The text must be 2 * N digits, with or without a prefix. If a character is not a digit, or the
-/// length is another, verification of the program fails, so it never runs. Does not allocate.
+/// If a character is not a digit, or the length is another, verification of the Rattle program
+/// that makes this call fails, so it never runs. Does not allocate.
 ///
 /// ```rust
 /// let bytes: [u8; 4] = const_hex::bytes_of(b"0x6b697769");
