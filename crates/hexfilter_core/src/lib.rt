@@ -5,6 +5,7 @@
 //! `const_hex`.
 #![tactic(auto)]
 
+mod callers;
 mod decoding;
 mod encoding;
 mod error;
