@@ -3,24 +3,22 @@
 import itertools
 import operator
 
-from decimals import Product, by_two_digits, is_decimal, low_bytes, of_low_bytes
 from linear import (
     GREATEST,
     GREATEST_SIGNED,
     Linear,
     Split,
-    constant_of,
     in_range,
     linear,
-    terms_of,
     unknown_bit,
 )
-from memory import PAGE, Fault, Pointer, as_value, is_whole
+from memory import PAGE, Fault, Pointer, as_lane, as_value, is_whole
 from values import (
     CONSTANTS,
     ZERO,
     Byte,
     TooWide,
+    WholeByte,
     apply,
     are_constant,
     constants,
@@ -80,11 +78,10 @@ def added(first, second):
     if type(second) is Pointer:
         first, second = second, first
     if type(first) is Pointer:
-        negated = named(second, "negated")
-        return subtracted(first, Pointer(*negated)) if negated else moved(first, as_number(second))
+        return moved(first, as_number(second))
     if type(first) is Linear or type(second) is Linear:
         return as_value(as_number(first) + as_number(second))
-    return apply(operator.add, len(first), [first, second])
+    return _applied(operator.add, first, second)
 
 
 def subtracted(first, second):
@@ -98,41 +95,55 @@ def subtracted(first, second):
     if type(first) is Pointer:
         return moved(first, -as_number(second))
     if type(second) is Pointer:
-        if first == constants(0, 8) and type(second.offset) is int:
-            return anything("negated", *second)
         raise Fault("a pointer is subtracted from a number")
-    low = _by_low_bytes(operator.sub, first, second)
-    if low:
-        return low
     if type(first) is Linear or type(second) is Linear:
         return as_value(as_number(first) - as_number(second))
-    return apply(operator.sub, len(first), [by_two_digits(first), by_two_digits(second)])
+    return _applied(operator.sub, first, second)
 
 
-def _by_low_bytes(function, first, second):
-    """A function of numbers by their digits, of which the lanes are the lowest bytes; or None."""
-    numbers = [None if is_whole(lane) else of_low_bytes(lane) for lane in (first, second)]
-    if None in numbers or not any(map(is_decimal, numbers)):
-        return None
-    result, size = function(*numbers), len(first)
-    return low_bytes(linear(constant_of(result) % (1 << 8 * size), terms_of(result)), size)
+# 10 * TENTH is 2**67 + 2, so x * TENTH >> 67 is x // 10 for each x of 64 bits.
+TENTH = 0xCCCCCCCCCCCCCCCD
+
+
+def _number_of(lane):
+    """The number of which a lane has the lowest bytes: one with symbols, or a known one; or None."""
+    whole = lane[0].whole if type(lane[0]) is WholeByte else None
+    if type(whole) is Linear and lane == as_lane(whole)[: len(lane)]:
+        return whole
+    return number(lane) if are_constant(lane) else None
+
+
+def _applied(function, first, second):
+    """A function of two lanes, or of the numbers of which they have the lowest bytes."""
+    numbers, size = (_number_of(first), _number_of(second)), len(first)
+    if Linear in map(type, numbers) and None not in numbers:
+        result = function(*numbers)
+        return constants(result, size) if type(result) is int else result.low_bytes(size)
+    return apply(function, size, [first, second])
+
+
+def _as_digit(lane):
+    """A lane that is one digit, as a function of it; another one as it is."""
+    found = _number_of(lane)
+    terms = found.terms if type(found) is Linear and 0 <= found.least <= found.most < 10 else ()
+    if [factor for _, factor in terms] != [1]:
+        return lane
+    return apply(operator.add, len(lane), [(unknown("digit", terms[0][0]),)], (found.constant,))
 
 
 def multiplied(first, second):
     """The product, with as many bytes as a factor."""
-    return _by_low_bytes(operator.mul, first, second) or apply(operator.mul, len(first), [first, second])
+    return _applied(operator.mul, first, second)
 
 
 def product(first, second):
-    """The lower and the upper half of a product of 8 bytes each. The lower one of a number by its digits may
-    be anything."""
-    if type(first) is not Product and not is_decimal(first):
+    """The lower and the upper half of a product of 8 bytes each. Those of a number with symbols may be anything."""
+    if type(first) is not Linear:
         first, second = second, first
-    if is_decimal(first):
-        first = Product(in_range(first, 0, GREATEST))
-    if type(first) is Product:
-        upper = first.times(as_unsigned(second))
-        return anything("number", next(_count)), upper
+    if type(first) is Linear:
+        if as_unsigned(second) != TENTH:
+            raise Fault("a product of a number with symbols")
+        return anything("number", next(_count)), anything("tenth", in_range(first, 0, GREATEST))
     both = apply(operator.mul, 16, [first, second])
     return both[:8], both[8:]
 
@@ -159,7 +170,7 @@ def logic(name, first, second):
         return first
     if type(first) is Linear or type(second) is Linear:
         return as_value(_logic_of_number(name, first, as_number(second)))
-    return LOGIC[name](by_two_digits(first), by_two_digits(second))
+    return LOGIC[name](_as_digit(first), second)
 
 
 def _logic_of_number(name, first, mask):
@@ -184,12 +195,9 @@ def shifted(function, value, count):
         raise Fault("a shift of a pointer")
     if type(value) is Linear and function is operator.lshift:
         return as_value(value * (1 << count))
-    if type(value) is Product or is_decimal(value):
-        if function is operator.lshift:
-            raise Fault("a shift of a product to the left")
-        whole = value if type(value) is Product else Product(in_range(value, 0, GREATEST))
-        result = whole.shifted(count)
-        return constants(result, 8) if type(result) is int else result
+    tenth = named(value, "tenth")
+    if tenth and function is operator.rshift and count == 3:
+        return as_value(tenth[0].without_last_digit())
     if type(value) is Linear:
         odd = [name for name, factor in value.terms if factor % 2]
         if odd and not {"done", "left"} & {*odd}:
@@ -273,10 +281,6 @@ def interleaved(first, second, size, count):
 
 def difference_from_0(first, second):
     return max(first - second, 0)
-
-
-def sum_to_255(first, second):
-    return min(first + second, 255)
 
 
 def _as_unsigned_byte(value):

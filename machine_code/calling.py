@@ -1,6 +1,5 @@
 """How a function is called and returns: what the front ends for processors have in common."""
 
-from arithmetic import as_number
 from contracts import KEEPS
 from exploration import RETURNED, require
 from memory import Fault, Image, Memory, Pointer, Region, as_lane, from_lane, is_whole
@@ -28,7 +27,7 @@ class FrontEnd:
     Beside what stands here, a front end has the `instructions` of a section, their HANDLERS, and the State that
     they change; it tells what `is_jump`, and has the `return_address` of a call, and how to `set_return` to it.
 
-    The header promises at most 2,048 bytes of stack. A function of c/dispatch.c and the one that it calls use at
+    The header promises at most 2,048 bytes of stack. A function of c/asm/dispatch.S and the one that it calls use at
     most DISPATCH_STACK bytes, and the latter alone STACK.
     """
 
@@ -90,30 +89,6 @@ class FrontEnd:
         state.memory.change_below("stack", top + self.frame(count))
         state.registers |= {state.top: Pointer("stack", top + self.PUSHED), self.RESULT: result}
         state.flags = None
-
-    def copy_bytes(self, state):
-        """`memcpy` and `memmove`, by their specification: of bytes that do not overlap."""
-        if (state.registers[state.top].offset + self.PUSHED) % 16:
-            raise Fault("a call with a stack that is not aligned")
-        target, source, count = (self.argument(state, at) for at in range(3))
-        count = as_number(count)
-        if type(count) is not int or count < 0:
-            raise Fault("a copy of an unknown number of bytes")
-        if count:
-            if not type(target) is type(source) is Pointer:
-                raise Fault("a copy by a number that is no pointer")
-            lowest = state.registers[state.top].offset + self.PUSHED
-            if any(pointer.region == "stack" and pointer.offset < lowest for pointer in (target, source)):
-                raise Fault("a copy of bytes below the stack")
-            lane = state.memory.load(source, count)
-            distance = target.offset - source.offset if target.region == source.region else count
-            if type(distance) is not int or abs(distance) < count:
-                raise Fault("a copy of bytes that may overlap")
-            state.memory.store(target, lane)
-        self.return_from_call(state, 3, target)
-
-    # The functions of the C library that are called.
-    LIBRARY = {"memcpy": copy_bytes, "memmove": copy_bytes}
 
     def pointers(self, state):
         """The registers of a call that hold pointers."""

@@ -4,8 +4,6 @@ A call has forms (contracts.py), each of which is proved for each length. And it
 arguments that fail whatever the bytes are, and functions that read no text. Their lengths have symbols, too.
 """
 
-import copy
-import math
 import operator
 import pathlib
 import re
@@ -289,22 +287,12 @@ class Call:
     def __init__(self, forms, cases, size=0, step=1):
         self.forms, self.cases, self.size, self.step = list(forms), list(cases), size, step
 
-    # The greatest length that is proved.
-    most = math.inf
-
-    def up_to(self, most):
-        other = copy.copy(self)
-        other.most = most
-        return other
-
     def parts(self):
         """What is proved alone: the cases, the short lengths, and the classes of all others: of those that
         are longer by rounds."""
         yield from (("case" if case.is_quick else "slow case", at) for at, case in enumerate(self.cases))
         for at, form in enumerate(self.forms):
             for length in range(form.shortest, 2 * self.size + 2 + form.body, self.step):
-                if length > self.most:
-                    break
                 yield ("length" if length < self.size + 2 + form.body else "class", at, length)
 
     def prove(self, code, function, part):
@@ -344,7 +332,7 @@ WITH_ERROR = {"decode", "decode_exact", "decoder_update", "decoder_finish", "che
 
 
 def function_of(code, call, build):
-    """The name of a function in a build. It says if c/dispatch.c handles a NULL error, and ends in the name of the
+    """The name of a function in a build. It says if c/asm/dispatch.S handles a NULL error, and ends in the name of the
     build if there are two."""
     stem = f"const_hex_{call}"
     nonnull = f"{stem}_nonnull" if call in WITH_ERROR else stem

@@ -5,7 +5,8 @@ import subprocess
 import tempfile
 from collections import namedtuple
 
-Instruction = namedtuple("Instruction", "address size mnemonic operands text")
+# `refused` says why it must not be run, or is None.
+Instruction = namedtuple("Instruction", "address size mnemonic operands text refused", defaults=[None])
 LINE = re.compile(r"^\s*([0-9a-f]+):\t((?:(?:[0-9a-f]{2})+ )+)\s*\t(.*)$")
 
 

@@ -1,4 +1,4 @@
-"""The object of c/dispatch.c: the functions of const_hex.h that it has, which jump to a build.
+"""The object of c/asm/dispatch.S: the functions of const_hex.h that it has, which jump to a build.
 
 It does not look at its arguments, so what is proved holds for any: they arrive unchanged at a build, except
 that a NULL error becomes a pointer to a local one, and the result is what the build returns. On x86-64 there
@@ -40,7 +40,7 @@ def _called(code, name, state, given, error):
     front_end, callee = code.front_end, code.object.undefined[state.at]
     stem = f"const_hex_{name}" if error is None else f"const_hex_{name}_nonnull"
     build = callee.removeprefix(stem)
-    require(callee.startswith(stem) and build in (ONLY, "_default", "_v3"), f"{callee} is called")
+    require(callee.startswith(stem) and build in (ONLY, "_v2", "_v3"), f"{callee} is called")
     top, frame = state.registers[state.top].offset, front_end.frame(len(given))
     require(top >= front_end.STACK and (top - front_end.STACK) % 16 == 0, "the stack of a build")
     for at, wanted in enumerate(given):

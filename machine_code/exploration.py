@@ -51,16 +51,13 @@ class Code:
         return found
 
     def step(self, state):
-        """Runs one instruction, or a function of the C library. It raises `Fork` or `Split` before it changes
-        anything."""
-        library = self.front_end.LIBRARY
-        function = library.get(self.object.undefined.get(state.at)) if library else None
-        if function:
-            return function(self.front_end, state)
+        """Runs one instruction. It raises `Fork` or `Split` before it changes anything."""
         instruction = self.at(state.at)
         handler = self.front_end.HANDLERS.get(instruction.mnemonic)
         if handler is None:
             raise Fault("an instruction without a meaning here")
+        if instruction.refused:
+            raise Fault(instruction.refused)
         self.run.add(instruction.address)
         state.next, top = instruction.address + instruction.size, state.registers.get(state.top)
         try:

@@ -7,7 +7,6 @@ used.
 
 from arithmetic import as_number, as_unsigned, named, signed
 from conditions import FALSE, are_equal, are_zero, conjunction, constant
-from decimals import Product
 from linear import GREATEST, GREATEST_SIGNED, Linear, Unknown, in_range, is_zero, least_of, most_value
 from memory import Fault, Pointer, with_replaced
 from values import TooWide, apply, are_constant, constants, number
@@ -59,8 +58,6 @@ class Flags:
             return constant(self._of_pointers(code, state.memory))
         if Linear in kinds:
             return constant(self._of_numbers(code))
-        if type(self.first) is Product and self.kind == "sub" and code in ("b", "be"):
-            return constant(self.first.is_below(as_unsigned(self.second) + (code == "be")))
         difference = self.kind == "sub" and named(self.first, "difference")
         if difference and code in ("b", "be"):
             return constant(self._is_within(difference, code == "be", state.memory))

@@ -1,8 +1,9 @@
-"""The builds of a library: the objects of its archive, each with the front end for its processor; a module for
-WebAssembly; or what cargo makes for C."""
+"""The builds of a library: the objects of its archive, each with the front end for its processor; or a module for
+WebAssembly."""
 
 import functools
 import importlib
+import pathlib
 import re
 import subprocess
 
@@ -12,27 +13,22 @@ import wasm.front_end
 import wasm.module
 from calls import CALLS
 from exploration import Code
-from x86_64 import cargo
 
 PROCESSORS = {62: "x86_64", 183: "aarch64"}  # by their number in ELF
-DISPATCH, WASM, DISPATCH_OBJECT = "dispatch", "wasm", "dispatch.c.o"
+DISPATCH, WASM = "dispatch", "wasm"
+# The builds by the names of the files in c/asm. CMake keeps the end of a name, and compilers replace it.
+BUILDS = {"x86_64_v2": "v2", "x86_64_v3": "v3", "aarch64": "aarch64", "dispatch": DISPATCH}
+MEMBER = re.compile(r"(.*?)(\.S)?\.o")
 
 
 @functools.lru_cache
 def _members(archive):
-    """The names of the builds, with that of dispatch.c, and of their objects. An only build has the name of its
-    processor."""
+    """The names of the builds, and of their objects. A file for another processor has become an empty object."""
     listed = subprocess.run(["ar", "t", archive], check=True, capture_output=True, text=True).stdout.split()
-    if made := [name for name in listed if name.startswith("const_hex.const_hex.")]:
-        [made] = made
-        return dict.fromkeys(cargo.BUILDS, made)
-    found = {match[1]: match[0] for name in listed if (match := re.fullmatch(r"const_hex_(\w+)\.o", name))}
-    if sorted(listed) != sorted([*found.values(), DISPATCH_OBJECT]):
+    found = {BUILDS.get(MEMBER.sub(r"\1", name)): name for name in listed}
+    if None in found or len(found) < len(listed):
         raise ValueError(f"{archive} has other objects: {listed}")
-    if "single" in found:
-        machine = objects.read(objects.member(archive, found["single"])).machine
-        found[PROCESSORS[machine]] = found.pop("single")
-    return found | {DISPATCH: DISPATCH_OBJECT}
+    return {build: name for build, name in found.items() if objects.read(objects.member(archive, name)).exported}
 
 
 def _is_module(archive):
@@ -45,12 +41,7 @@ def builds_of(archive):
 
 
 def calls_of(build):
-    if build == WASM:
-        return wasm.calls.CALLS
-    if build not in cargo.BUILDS:
-        return CALLS
-    longest = cargo.BUILDS[build].longest
-    return {name: call.up_to(longest) for name, call in CALLS.items() if name != "error_message"}
+    return wasm.calls.CALLS if build == WASM else CALLS
 
 
 def processor_of(obj):
@@ -58,12 +49,16 @@ def processor_of(obj):
     return WASM if obj.content is not None else PROCESSORS[obj.machine]
 
 
-def code_of(archive, build):
-    """The code of a build, or that of dispatch.c."""
+def code_from(content, build):
+    """The code of a build, or that of the dispatcher, from the bytes of an object; or that of a module."""
     if build == WASM:
-        return Code(wasm.module.read(archive), wasm.front_end)
-    data = objects.member(archive, _members(archive)[build])
-    if build in cargo.BUILDS:
-        return cargo.code_of(objects.read(data, may_start=True), build)
-    obj = objects.read(data)
+        return Code(wasm.module.parse(content, "memory"), wasm.front_end)
+    obj = objects.read(content)
     return Code(obj, importlib.import_module(f"{PROCESSORS[obj.machine]}.front_end").front_end_of(build))
+
+
+def code_of(archive, build):
+    """The code of a build in an archive, or that of a module."""
+    is_module = build == WASM
+    content = pathlib.Path(archive).read_bytes() if is_module else objects.member(archive, _members(archive)[build])
+    return code_from(content, build)

@@ -10,13 +10,13 @@ import contextlib
 import itertools
 from fractions import Fraction
 
-from values import CONSTANTS, apply, unknown
+from values import CONSTANTS, WholeByte, apply, unknown
 
 # How often a loop turns, and with that the length of an input, is less than this.
 MOST_TURNS = 1 << 53
 GREATEST = (1 << 64) - 1
 GREATEST_SIGNED = (1 << 63) - 1
-# The names of decimal digits begin with this (decimals.py). They stay what they are.
+# The names of decimal digits begin with this (messages.py). They stay what they are.
 DIGIT = "digit "
 _limits = {}
 _lower_limits = {}
@@ -107,8 +107,16 @@ class Linear:
         """How many of the lowest bits are those of the constant."""
         return min((factor & -factor).bit_length() - 1 for _, factor in self.terms)
 
+    def without_last_digit(self):
+        """The quotient by 10, if a digit is left."""
+        left = linear(self.constant // 10, [(name, factor // 10) for name, factor in self.terms if factor % 10 == 0])
+        in_range(self - left * 10, 0, 9)
+        return left
+
     def low_bytes(self, size):
         """The lowest bytes. Bits that are not known are new unknown ones each time."""
+        if self.terms[0][0].startswith(DIGIT):
+            return tuple([WholeByte(self, at) for at in range(size)])
         result = ()
         for at in range(size):
             mask = (1 << min(max(self.known_bits - 8 * at, 0), 8)) - 1

@@ -9,7 +9,6 @@ import copy
 import itertools
 from collections import namedtuple
 
-from decimals import Product
 from linear import Linear, Unknown, constant_of, is_surely_below, linear, most_of, replaced, terms_of
 from values import CONSTANTS, WholeByte, constants, unknown
 
@@ -23,8 +22,8 @@ class Fault(Exception):
 
 
 def is_whole(value):
-    """Whether a value is a pointer, or a number with symbols or a product of one, and so no lane."""
-    return type(value) in (Pointer, Linear, Product)
+    """Whether a value is a pointer or a number with symbols, and so no lane."""
+    return type(value) in (Pointer, Linear)
 
 
 def as_value(number):
@@ -49,8 +48,6 @@ def with_replaced(value, name, by):
         return Pointer(value.region, replaced(value.offset, name, by))
     if type(value) is Linear:
         return as_value(replaced(value, name, by))
-    if type(value) is Product and replaced(value.number, name, by) != value.number:
-        raise Fault("a digit of a product is replaced")
     if type(value) is tuple and any(type(byte) is WholeByte for byte in value):
         return tuple([byte_replaced(byte, name, by) for byte in value])
     return value

@@ -19,12 +19,12 @@ GAP = 0x1000
 SEED = random.getrandbits(64)
 # As ELF has them: the header of a section, flags of sections, and their types.
 Header = namedtuple("Header", "name type flags address offset size link info alignment entry_size")
-WRITABLE, ALLOCATED, EXECUTABLE, MERGED, STRINGS, GROUP = 1, 2, 4, 16, 32, 512
+WRITABLE, ALLOCATED, EXECUTABLE, MERGED, GROUP = 1, 2, 4, 16, 512
 SYMBOLS, ADDENDS, EMPTY = 2, 4, 8
 # Relocations of another kind, and sections that the loader runs.
 REFUSED, STARTED, STARTED_NAMES = (9, 0x40000014), (14, 15, 16), r"\.[cd]tors.*|\.(init|fini).*"
 # Flags and names of sections that the linker may merge with those of other objects, or take from them.
-SHARED, SHARED_NAMES = STRINGS | GROUP, r"\.gnu\.linkonce.*"
+SHARED, SHARED_NAMES = MERGED | GROUP, r"\.gnu\.linkonce.*"
 # A symbol has a place of its own if it is local or global, and has no type, or that of data, code or a section.
 GLOBAL, SECTION = 1, 3
 
@@ -43,11 +43,6 @@ def _page(word, place, target):
     return word & ~0x60FFFFE0 | (pages & 3) << 29 | (pages >> 2 & 0x7FFFF) << 5
 
 
-def _nowhere(word, place, target):
-    """A word of the linker's, which has no place here: an access is refused."""
-    return -place
-
-
 def _place_in_page(size):
     """Of an access of so many bytes, or of an ADD if it is 1."""
 
@@ -62,9 +57,8 @@ def _place_in_page(size):
 # By the number of a processor in ELF and the kind: the new word of 32 bits, from the old one, its place, and
 # what it refers to.
 RELOCATIONS = {
-    62: {2: _relative, 4: _relative, 9: _nowhere},  # R_X86_64_PC32, R_X86_64_PLT32, R_X86_64_GOTPCREL
+    62: {2: _relative, 4: _relative},  # R_X86_64_PC32, R_X86_64_PLT32
     183: {
-        261: _relative,  # R_AARCH64_PREL32
         275: _page,  # R_AARCH64_ADR_PREL_PG_HI21
         277: _place_in_page(1),  # R_AARCH64_ADD_ABS_LO12_NC
         282: _branch,  # R_AARCH64_JUMP26
@@ -108,16 +102,16 @@ class Object:
         self.symbols, self.exported, self.undefined = {}, set(), {}
 
     def add_symbols(self, table, names, placed, end):
-        """Adds the symbols of a table, and yields where each lies: a place, or the parts of a section. Those that
-        the object does not have lie after its end."""
+        """Adds the symbols of a table, and yields where each lies. Those that the object does not have lie after its
+        end."""
         for name, kind, _, index, value, _ in struct.iter_unpack("<IBBHQQ", table):
             name, binding, kind = _text(names, name), kind >> 4, kind & 15
-            parts = placed.get(index) if binding <= GLOBAL and kind <= SECTION else None
-            if parts and value <= sum(len(part.content) for part in parts):
+            section = placed.get(index) if binding <= GLOBAL and kind <= SECTION else None
+            if section and value <= len(section.content):
                 # Names such as $x only say what lies there.
-                self.symbols |= {name: _place(parts, value)} if name and name[0] != "$" else {}
+                self.symbols |= {name: section.address + value} if name and name[0] != "$" else {}
                 self.exported |= {name} if binding == GLOBAL else set()
-                yield parts if kind == SECTION else _place(parts, value)
+                yield section.address + value
             else:
                 end += GAP - end % GAP
                 self.undefined |= {end: name} if index == 0 and binding == GLOBAL else {}
@@ -162,15 +156,8 @@ def member(archive, name):
     return subprocess.run(["ar", "p", archive, name], check=True, capture_output=True).stdout
 
 
-def _place(parts, offset):
-    """Where an offset into a section lies, whose parts lie apart."""
-    at = min(offset // len(parts[0].content), len(parts) - 1)
-    return parts[at].address + offset - at * len(parts[0].content)
-
-
-def read(data, is_split=True, may_start=False):
-    """The object with these bytes. The linker may place each entry of a section elsewhere, if it has entries, so
-    they are split into sections. With `may_start` it may have code that the loader runs, which is not looked at."""
+def read(data):
+    """The object with these bytes."""
     machine = struct.unpack_from("<H", data, 18)[0]
     if data[:6] != b"\x7fELF\x02\x01" or machine not in RELOCATIONS:
         raise ValueError("not an ELF object for a processor that is known here")
@@ -182,34 +169,29 @@ def read(data, is_split=True, may_start=False):
         raise ValueError("two tables of symbols")
     for name, header in named:
         is_started = header.type in STARTED or re.fullmatch(STARTED_NAMES, name)
-        if header.size and (header.type in REFUSED or is_started and not may_start):
+        if header.size and (header.type in REFUSED or is_started):
             raise ValueError(f"a section that is not known here: {name}")
-    placed, end = _sections(named, contents, is_split)
-    obj = Object(machine, sum(placed.values(), []))
+    placed, end = _sections(named, contents)
+    obj = Object(machine, list(placed.values()))
     places = [place for at, header in enumerate(headers) if header.type == SYMBOLS
               for place in obj.add_symbols(contents[at], contents[header.link], placed, end)]
     for header, content in zip(headers, contents):
         if header.type == ADDENDS and header.info in placed:
-            [section] = placed[header.info]
             for offset, info, addend in struct.iter_unpack("<QQq", content):
-                _relocate(machine, section, offset, info & 0xFFFFFFFF, places[info >> 32], addend)
+                _relocate(machine, placed[header.info], offset, info & 0xFFFFFFFF, places[info >> 32], addend)
     obj.leave_out()
     return obj
 
 
-def _sections(named, contents, is_split):
-    """The parts of each section that is loaded, by its number, and where the last one ends."""
+def _sections(named, contents):
+    """The sections that are loaded, by their numbers, and where the last one ends."""
     placed, end, drawn = {}, FIRST, random.Random(SEED)
     for at, (name, header) in drawn.sample(list(enumerate(named)), len(named)):
-        is_loaded, is_whole = header.flags & ALLOCATED, header.flags & (MERGED | STRINGS) != MERGED
-        size = header.size if is_whole or not is_split else header.entry_size
-        for start in range(0, header.size, size) if is_loaded and header.size else ():
+        if header.flags & ALLOCATED and header.size:
             end += drawn.randrange(GAP, 8 * GAP)
             end += -end % max(header.alignment, 64)
-            content = bytearray(contents[at][start : start + size])
-            section = Section(name, header.flags, end, max(header.alignment, 1), content)
-            placed[at] = [*placed.get(at, ()), section]
-            end = section.end
+            placed[at] = Section(name, header.flags, end, max(header.alignment, 1), bytearray(contents[at]))
+            end = placed[at].end
     return placed, end
 
 
@@ -218,16 +200,11 @@ def _text(strings, at):
 
 
 def _relocate(machine, section, offset, kind, symbol, addend):
-    """Applies a relocation. A symbol is a place, or the parts of a section."""
-    if type(symbol) is list and len(symbol) == 1:
-        symbol = symbol[0].address
-    # What is relative to an instruction does not say which entry of a section is meant.
+    """Applies a relocation."""
     change = RELOCATIONS[machine].get(kind)
-    if change is None or type(symbol) is list and change is _relative:
+    if change is None:
         section.unknown = f"a relocation of the unknown kind {kind}"
         return
-    if type(symbol) is list:
-        symbol, addend = _place(symbol, addend), 0
     section.references.append((offset, kind, symbol, addend))
     [old] = struct.unpack_from("<I", section.content, offset)
     word = change(old, section.address + offset, symbol + addend)

@@ -1,6 +1,6 @@
 """The state of a processor in the middle of a call. Each front end adds its registers and operands."""
 
-from arithmetic import as_number, moved
+from arithmetic import added, as_number, moved, multiplied
 from conditions import Path, are_equal, conjunction, is_public
 from exploration import Fork
 from linear import Linear, replaced
@@ -101,7 +101,7 @@ class State:
         """The value of an address: a pointer, a number with symbols, or a lane of 8 bytes."""
         pointer, others, displacement = self._split(operand)
         if pointer is None and not any(type(value) is Linear for value, _ in others):
-            return _sum_of(displacement, others)
+            return sum_of(displacement, others)
         total = displacement + sum(as_number(value) * factor for value, factor in others)
         return as_value(total) if pointer is None else moved(pointer, total)
 
@@ -145,7 +145,7 @@ class State:
         section = self.memory.regions["image"].object.section_at(pointer.offset)
         if pointer.region != "image" or section is None or section.is_code or section.is_writable:
             raise Fault("a look-up by unknown bytes outside the constants")
-        offset = _sum_of(displacement + pointer.offset - section.address, others)
+        offset = sum_of(displacement + pointer.offset - section.address, others)
         content = bytes(section.content)
         inside = conjunction(apply(_is_inside, 1, [offset], (len(content) - size,)))
         if self.path.decide(inside) is not True:
@@ -153,15 +153,12 @@ class State:
         return from_lane(apply(_entry, size, [offset], (content, size)))
 
 
-def _sum_of(displacement, parts):
-    total = constants(displacement, 8)
+def sum_of(displacement, parts, size=8):
+    """A sum of multiples of lanes, of which so many bytes count."""
+    total = constants(displacement, size)
     for value, factor in parts:
-        total = apply(_scaled_sum, 8, [total, value], (factor,))
+        total = added(total, multiplied(value[:size], constants(factor, size)))
     return total
-
-
-def _scaled_sum(total, value, factor):
-    return total + value * factor
 
 
 def _is_inside(offset, last):

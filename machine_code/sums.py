@@ -1,5 +1,5 @@
-"""The sums of what `prove --all` has proved, in proved.txt, and of the tool that has proved it. Other code is not
-shown to be right, nor is the same code by another tool.
+"""The sums of what `prove` has proved at every length, in proved.txt, and of the tool that has proved it. Other code is
+not shown to be right, nor is the same code by another tool.
 
 The sum of a function is over the sections that it reaches by relocations: their bytes, whether they are code or
 can be written, and what they refer to. The sum of the tool is over its files, without those of other front ends,
@@ -15,7 +15,10 @@ from calls import HEADER
 
 FOLDER = pathlib.Path(__file__).resolve().parent
 FILE = FOLDER / "proved.txt"
-HEAD = "# What `prove --all` has proved: function, build, sums of the code and of the tool (sums.py)\n"
+HEAD = """\
+# What `prove` has proved: the function, the build, and the sums of the code and of the tool (sums.py); and for each
+# build how many instructions no input reaches.
+"""
 
 
 def sum_of(obj, function):

@@ -10,12 +10,10 @@ they are the same object.
 A lane is a tuple of bytes, the lowest first. An operation is a Python function of numbers, which `apply`
 tabulates once for each combination of tables that it meets.
 
-`Joined` is made of bytes that together depend on more than two variables, by OR or as the greatest. It may be
-joined further, tested for zero, asked for its top bit and, if it is made by OR alone, masked by a constant;
-everything else with it is refused.
+`Joined` is the OR of bytes that together depend on more than two variables. It may be joined further, tested for
+zero, and masked by a constant; everything else with it is refused.
 """
 
-import functools
 import operator
 
 MOST_VARIABLES = 2
@@ -49,12 +47,11 @@ class Byte:
 
 
 class Joined:
-    __slots__ = ("support", "parts", "is_or", "greater_of")
+    __slots__ = ("support", "parts")
     is_constant = False
 
-    def __init__(self, parts, is_or=True, greater_of=()):
-        # Whether it is an OR, and what it is the greater one of if that is an OR and a constant.
-        self.parts, self.is_or, self.greater_of = parts, is_or, greater_of
+    def __init__(self, parts):
+        self.parts = parts
         self.support = tuple(sorted({variable for part in parts for variable in part.support}))
 
 
@@ -227,49 +224,24 @@ def each(function, *lanes):
 
 
 def parts(byte):
-    """The bytes that this byte is made of: it is zero if all are, and has the OR of their top bits."""
+    """The bytes whose OR this byte is."""
     return byte.parts if type(byte) is Joined else (byte,)
 
 
-def joined(first, second, by=operator.or_):
-    """The OR of two lanes, or the greatest of each two bytes."""
-    return tuple([_join(*both, by) for both in zip(first, second)])
+def joined(first, second):
+    """The OR of two lanes."""
+    return tuple(map(_join, first, second))
 
 
-def _join(first, second, by):
+def _join(first, second):
     if first is ZERO:
         return second
     if second is ZERO:
         return first
     if type(first) is Byte and type(second) is Byte:
         if len({*first.support, *second.support}) <= MOST_VARIABLES:
-            return apply(by, 1, [(first,), (second,)])[0]
-    is_or = by is operator.or_ and all(type(byte) is not Joined or byte.is_or for byte in (first, second))
-    greater_of = (first, second) if by is max and type(first) is Joined and first.is_or else ()
-    return Joined((*parts(first), *parts(second)), is_or, greater_of)
-
-
-def is_equal(first, second):
-    """Two lanes byte by byte: 255 where they are equal, and 0 where they are not."""
-    return tuple(map(_is_equal, first, second))
-
-
-def _is_equal(first, second):
-    if type(first) is Joined and first.greater_of and first.greater_of[0] is second:
-        least = first.greater_of[1]
-        if least.is_constant and least.value & least.value - 1 == 0:
-            # An OR is as great as a power of two if one of its parts is.
-            marks = [apply(_is_at_least, 1, [(part,), (least,)]) for part in second.parts]
-            return functools.reduce(joined, marks)[0]
-    return apply(equal, 1, [(first,), (second,)])[0]
-
-
-def _is_at_least(first, second):
-    return -(first >= second)
-
-
-def equal(first, second):
-    return -(first == second)
+            return apply(operator.or_, 1, [(first,), (second,)])[0]
+    return Joined((*parts(first), *parts(second)))
 
 
 def masked(first, second):
@@ -283,7 +255,7 @@ def _mask(first, second):
     if type(first) is not Joined and type(second) is not Joined:
         return apply(operator.and_, 1, [(first,), (second,)])[0]
     first, second = (first, second) if type(first) is Joined else (second, first)
-    if not second.is_constant or not first.is_or:
+    if not second.is_constant:
         raise TooWide("AND of joined bytes")
     left = [part for part in (_mask(part, second) for part in first.parts) if part is not ZERO]
     return Joined(tuple(left)) if len(left) > 1 else (*left, ZERO)[0]

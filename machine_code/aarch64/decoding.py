@@ -5,10 +5,11 @@ import struct
 from collections import namedtuple
 
 import disassembly
+from assembled import checked, with_distance
 
 # `size` bytes of a register from `first` on. A vector has lanes of so many bytes; an element is one of them.
 Register = namedtuple("Register", "kind family first size lane")
-# `after` is added to the base after the access. With `is_moved` the base becomes the address before it.
+# `after` is added to the base after the access, or is None. With `is_moved` the base becomes the address before it.
 Address = namedtuple("Address", "base index extension displacement after is_moved")
 # How the last operand or the index is changed before it is used, and by how much.
 Extension = namedtuple("Extension", "kind count")
@@ -60,7 +61,7 @@ def _operands(text):
     found = [_operand(part) for part in parts[:at]]
     if at < len(parts):
         # What stands after an address is added to its base.
-        after = [_operand(part) for part in parts[at + 1 :]] or [0]
+        after = [_operand(part) for part in parts[at + 1 :]] or [None]
         if len(after) > 1:
             raise ValueError("operands after an address")
         found.append(_address(parts[at], after[0]))
@@ -84,9 +85,19 @@ RELOCATED = {
 }
 
 
+ASSEMBLER = ["aarch64-linux-gnu-as", "-march=armv8-a"]  # with the instructions of ARMv8.0
+
+
+def _is_page(instruction, old, new):
+    """The linker writes which page the instruction has."""
+    words = [int.from_bytes(code[:4], "little") & ~0x60FFFFE0 for code in (old, new)]
+    return instruction.mnemonic == "adrp" and words[0] == words[1]
+
+
 def instructions(section):
     """Those of a section. One with a relocation that is for another instruction is not known."""
     found = disassembly.read(section, ["aarch64-linux-gnu-objdump", "-m", "aarch64"], _instruction)
+    found = checked(section, found, ASSEMBLER, with_distance, _is_page)
     for offset, kind, _, _ in section.references:
         [word] = struct.unpack_from("<I", section.content, offset)
         mask, bits = RELOCATED.get(kind, (0, None))

@@ -18,14 +18,14 @@ from arithmetic import (
     product,
     selected,
     shifted,
-    signed,
     subtracted,
 )
 from calling import code_at
 from disassembly import adding_to
 from flags import Flags
+from linear import Linear
 from memory import PAGE, Fault, Pointer, as_lane, from_lane
-from values import ZERO, apply, constants
+from values import ZERO, constants
 
 _count = itertools.count()
 HANDLERS = {}
@@ -112,8 +112,8 @@ def shift(state, i):
 
 @instruction("movk")
 def replace_bytes(state, i):
-    target, value, (_, count) = i.operands
-    old, at = as_lane(state.read(target)), count // 8
+    target, value, *shift = i.operands
+    old, at = as_lane(state.read(target)), shift[0].count // 8 if shift else 0
     state.write(target, from_lane(old[:at] + constants(value, 2) + old[at + 2 :]))
 
 
@@ -134,13 +134,6 @@ def subtract_product(state, i):
     target, first, second, minuend = i.operands
     found = multiplied(state.read(first), state.read(second))
     state.write(target, subtracted(state.read(minuend), found))
-
-
-@instruction("ubfx")
-def some_bits(state, i):
-    target, source, first, count = i.operands
-    value = shifted(operator.rshift, state.read(source), first)
-    state.write(target, logic("and", value, constants((1 << count) - 1, target.size)))
 
 
 @instruction("bfxil")
@@ -227,8 +220,12 @@ def jump_if_zero(state, i):
 @instruction("tbz", "tbnz")
 def jump_if_bit(state, i):
     register, bit, target = i.operands
-    value = logic("and", state.read(register), constants(1 << bit, register.size))
-    is_zero = state.decide(Flags("logic", result=value).condition("e", state))
+    value = state.read(register)
+    if type(value) is Linear and bit == 63:
+        is_zero = not state.decide(Flags("logic", result=value).condition("s", state))
+    else:
+        value = logic("and", value, constants(1 << bit, register.size))
+        is_zero = state.decide(Flags("logic", result=value).condition("e", state))
     return target if is_zero == (i.mnemonic == "tbz") else None
 
 
@@ -253,7 +250,7 @@ STORES = {"str": None, "stur": None, "stp": None, "strb": 1, "sturb": 1, "strh":
 def _base_of(state, address, registers):
     """The base of an address. If it is moved, it may not be one of the registers."""
     families = [register.family for register in registers]
-    if (address.is_moved or address.after) and address.base.family in families:
+    if (address.is_moved or address.after is not None) and address.base.family in families:
         raise Fault("a base that is moved and a register of the access, which is unpredictable")
     return state.read(address.base)
 
@@ -262,7 +259,7 @@ def _move_base(state, address, base):
     """Moves the base of an address, as it was before the access, if the address says so."""
     if address.is_moved:
         state.write(address.base, added(base, constants(address.displacement, 8)))
-    elif address.after:
+    elif address.after is not None:
         state.write(address.base, added(base, state.read(address.after, 8)))
 
 
@@ -276,15 +273,6 @@ def load(state, i):
     _move_base(state, address, base)
     for at, target in enumerate(targets):
         state.write(target, lane[size * at :][:size] + (ZERO,) * (target.size - size))
-
-
-@instruction("ldrsb")
-def load_signed(state, i):
-    target, address = i.operands
-    base = _base_of(state, address, [target])
-    value = apply(signed, target.size, [state.load(address, 1)], (1,))
-    _move_base(state, address, base)
-    state.write(target, value)
 
 
 @instruction(*STORES)

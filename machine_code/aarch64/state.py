@@ -3,7 +3,6 @@
 import state
 from arithmetic import signed
 from conditions import TRUE, constant
-from decimals import low_bytes, of_small
 from linear import Linear
 from memory import PAGE, Fault, Pointer, as_lane, from_lane, is_whole
 from values import ZERO, apply, constants
@@ -34,6 +33,11 @@ class Known:
         return constant(self.known[code])
 
 
+def _require_ours(register):
+    if register.family == "x18":
+        raise Fault("x18, which belongs to the platform")
+
+
 class State(state.State):
     sizes, top = dict.fromkeys(GENERAL, 8) | dict.fromkeys(VECTORS, 16), "sp"
 
@@ -58,22 +62,24 @@ class State(state.State):
         """The value of an operand. An immediate has the given size."""
         if isinstance(operand, int):
             return constants(operand, size)
+        _require_ours(operand)
         if operand.family == "xzr":
             return constants(0, operand.size)
         value = self.registers[operand.family]
         if is_whole(value) and operand.size < 8:
-            value = low_bytes(value, operand.size) if type(value) is Linear else as_lane(value)
+            value = value.low_bytes(operand.size) if type(value) is Linear else as_lane(value)
         if operand.kind != "general":
             return value[operand.first :][: operand.size]
         return value if is_whole(value) else value[: operand.size]
 
     def write(self, register, value):
         """What is above in the register is cleared, unless an element is written."""
+        _require_ours(register)
         value = as_lane(value)
         if len(value) != register.size:
             raise Fault("a register is written by a value of another size")
         if register.kind == "general" and register.size == 4:
-            value = as_lane(of_small(value) or value + (ZERO,) * 4)
+            value += (ZERO,) * 4
         if register.kind == "element":
             old = self.registers[register.family]
             value = old[: register.first] + value + old[register.first + register.size :]

@@ -3,7 +3,7 @@
 import operator
 
 from aarch64.general import HANDLERS
-from arithmetic import by_count, by_lanes, difference_from_0, flat, interleaved, looked_up, signed
+from arithmetic import by_count, by_lanes, difference_from_0, flat, interleaved, looked_up
 from memory import as_lane
 from values import ZERO, constants, joined, masked
 
@@ -59,18 +59,6 @@ def shift(state, i):
     state.write(target, by_count(operator.rshift, target.lane)(state.read(source), count))
 
 
-def _shifted_by_lane(value, count):
-    """To the left, or to the right if the lowest byte of the count is negative."""
-    count = signed(count, 1)
-    return value << count if count >= 0 else value >> -count
-
-
-@vector("ushl")
-def shift_each(state, i):
-    target, first, second = i.operands
-    state.write(target, by_lanes(_shifted_by_lane, target.lane)(state.read(first), state.read(second)))
-
-
 @vector("movi")
 def move_constant(state, i):
     target, value = i.operands
@@ -112,11 +100,11 @@ def interleave(state, i):
     state.write(target, interleaved(state.read(first), state.read(second), target.lane, target.size // 2))
 
 
-@vector("uzp1", "uzp2")
+@vector("uzp2")
 def every_other(state, i):
     target, first, second = i.operands
     both = _lanes(state.read(first) + state.read(second), target.lane)
-    state.write(target, flat(both[i.mnemonic == "uzp2" :: 2]))
+    state.write(target, flat(both[1::2]))
 
 
 @vector("ext")

@@ -10,7 +10,7 @@
 
 #define TEXT ((unsigned char *)0x4000000)
 #define SCRATCH ((unsigned char *)0x8000000)
-enum { SCRATCH_SIZE = 1 << 13 };
+enum { SCRATCH_SIZE = 1 << 12 };
 
 struct state {
     uint64_t registers[32], flags, is_taken;

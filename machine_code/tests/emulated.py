@@ -12,10 +12,6 @@ from tests.processor import MIDDLE, SIZE, Processor, Result
 from values import constants
 
 
-def is_here(operand, kind):
-    return type(operand) is Register and operand.kind == kind
-
-
 class Emulated(Processor):
     NOT_ALONE, FLAGS, CONDITIONS = ("ret", "bl", "b"), 15, CODES
     known = Known
@@ -56,7 +52,7 @@ class Emulated(Processor):
             return f"{operand.kind[0]}{8 * operand.size}{f'/{8 * operand.lane}' if operand.lane else ''}"
         if type(operand) is Address:
             index = operand.extension.kind if operand.index else ""
-            moved = "!" if operand.is_moved else "+" if operand.after else ""
+            moved = "!" if operand.is_moved else "+" if operand.after is not None else ""
             return f"[{operand.base.family if operand.base.family == 'sp' else 'x'}{index}{moved}]"
         return operand.kind if type(operand) is Extension else "i"
 

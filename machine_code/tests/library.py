@@ -13,7 +13,7 @@ objects.SEED = 0
 TOP = pathlib.Path(__file__).resolve().parents[2]
 ARCHIVE = os.environ.get("CONST_HEX_ARCHIVE", TOP / "build" / "c" / "libconst_hex.a")
 AARCH64 = os.environ.get("CONST_HEX_AARCH64", TOP / "build" / "aarch64" / "libconst_hex.a")
-MODULE = os.environ.get("CONST_HEX_MODULE", TOP / "build" / "const_hex.wasm")
+MODULE = os.environ.get("CONST_HEX_MODULE", TOP / "js" / "src" / "const_hex.wasm")
 
 
 NEEDED = ("aarch64-linux-gnu-gcc", "qemu-aarch64")
@@ -28,5 +28,5 @@ needs_module = unittest.skipUnless(
 
 
 def code_of(build, archive=None):
-    """The code of a build, or that of dispatch.c."""
+    """The code of a build, or that of the dispatcher."""
     return library.code_of(archive or {"aarch64": AARCH64, library.WASM: MODULE}.get(build, ARCHIVE), build)

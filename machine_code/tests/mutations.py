@@ -1,131 +1,119 @@
-"""Wrong machine code, made on purpose: an instruction or a constant of a build is changed in a copy of its
-object."""
+"""Wrong machine code, made on purpose: lines of a file in c/asm or of the module's text are replaced by others, or
+one bit of an instruction is another one."""
 
+import functools
 import re
-import struct
 import subprocess
 import tempfile
-from collections import namedtuple
-from functools import lru_cache
 
-import objects
+import library
+from tests.library import MODULE, TOP, code_of
 
-# What assembles for a processor: the compiler and a first line; and what does nothing.
-Tools = namedtuple("Tools", "compiler first_line nop")
-TOOLS = {
-    62: Tools("cc", ".intel_syntax noprefix", b"\x90"),
-    183: Tools("aarch64-linux-gnu-gcc", "", b"\x1f\x20\x03\xd5"),
-}
+ASM = TOP / "c" / "asm"
+COMPILERS = {62: "cc", 183: "aarch64-linux-gnu-gcc"}
+# The file of a build in c/asm, and its processor.
+FILES = {"v2": ("x86_64_v2.S", 62), "v3": ("x86_64_v3.S", 62), "aarch64": ("aarch64.S", 183)}
+FILES |= {"dispatch": ("dispatch.S", 62), "dispatch for AArch64": ("dispatch.S", 183)}
 
 
 def assembled_object(machine, text):
     """The bytes of an object with instructions."""
-    tools = TOOLS[machine]
     with tempfile.NamedTemporaryFile() as file:
-        command = [tools.compiler, "-c", "-x", "assembler", "-o", file.name, "-"]
-        source = f"{tools.first_line}\n{text}\n"
+        command = [COMPILERS[machine], "-c", "-x", "assembler-with-cpp", "-I", ASM, "-o", file.name, "-"]
+        source = f"{'.intel_syntax noprefix' if machine == 62 else ''}\n{text}\n"
         subprocess.run(command, input=source.encode(), check=True, capture_output=True)
         return file.read()
 
 
-@lru_cache
-def assembled(machine, text):
-    """The bytes of instructions."""
-    sections = objects.read(assembled_object(machine, text)).sections
-    return bytes(next(section.content for section in sections if section.is_code))
+@functools.lru_cache
+def _source(build):
+    return "\n".join(" ".join(line.split()) for line in (ASM / FILES[build][0]).read_text().splitlines()) + "\n\n"
 
 
-def jump(machine, place, target):
-    if machine == 62:
-        return b"\xe9" + struct.pack("<i", target - (place + 5))
-    return struct.pack("<I", 0x14000000 | (target - place) // 4 & 0x3FFFFFF)
+@functools.lru_cache
+def _text_of_module():
+    command = ["wasm2wat", "--no-debug-names", MODULE]
+    text = subprocess.run(command, check=True, capture_output=True, text=True).stdout
+    return re.sub(r"^ +| +$", "", re.sub(r"\(;@?\d+;\)|;; .*$", "", text, flags=re.M), flags=re.M)
 
 
-def find(code, function, pattern, which=0):
-    """The section of a function, or with this in its name, and the function's instruction that matches."""
-    start = code.object.symbols.get(function, 0)
-    named = [section for section in code.object.sections if section.is_code and function in section.name]
-    section = code.object.section_at(start) or named[0]
-    known = code.front_end.instructions(section)
-    found = [known[at] for at in sorted(known) if at >= start and re.search(pattern, known[at].text)]
-    if len(found) <= which:
-        raise LookupError(f"{function} has no instruction like {pattern}")
-    return section, found[which]
+def edited(build, function, old, new):
+    """The code of a build after an edit, and the address of the edit: in a function, a constant or a macro, `new`
+    stands in the place of the first `old`, or at the start if that is empty. Lines end in `; `."""
+    if build == library.WASM:
+        return _edited_module(function, old.replace("; ", "\n"), new.replace("; ", "\n"))
+    text, machine, old = _source(build), FILES[build][1], old.replace("; ", "\n")
+    starts = re.finditer(rf"^(function|constant|\.macro) (SYMBOL\()?{function}\b.*\n", text, re.M)
+    found = [text.find(old, start.end(), text.index("\n\n", start.end())) for start in starts]
+    at = next(at for at in found if at >= 0)
+    line = text.rindex("\n", 0, at) + 1
+    # A macro is used more than once.
+    mark = f".ifndef changed\nchanged:\n.endif\n{text[line:at]}"
+    text = text[:line] + mark + new.replace("; ", "\n") + ("" if old else "\n") + text[at + len(old) :]
+    code = library.code_from(assembled_object(machine, text), build.split()[0])
+    return code, code.object.symbols["changed"]
 
 
-def replaced(pattern, text, which=0):
-    """Another instruction stands in the place of one, with nops after it."""
-
-    def change(code, function):
-        section, old = find(code, function, pattern, which)
-        new, nop = assembled(code.object.machine, text), TOOLS[code.object.machine].nop
-        if len(new) > old.size:
-            raise ValueError(f"{text} is longer than {old.text}")
-        at = old.address - section.address
-        section.content[at : at + old.size] = new + nop * ((old.size - len(new)) // len(nop))
-        return old
-
-    return change
-
-
-def byte(pattern, offset, value, which=0):
-    """A byte of an instruction is another one, such as an immediate. It is counted from the end."""
-
-    def change(code, function):
-        section, old = find(code, function, pattern, which)
-        section.content[old.address - section.address + old.size + offset] = value
-        return old
-
-    return change
+def _edited_module(function, old, new):
+    """A function is one that is exported, or the one that has a text."""
+    text = _text_of_module()
+    bodies = list(re.finditer(r"^\(func .*\n(\(local.*\n)?((?!\().*\n)*", text, re.M))
+    exported = re.search(rf'export "{function}" \(func (\d+)\)', text)
+    [number] = [int(exported[1])] if exported else [n for n, body in enumerate(bodies) if function in body[0]]
+    start = re.match(r".*\n(\(local.*\n)?", bodies[number][0]).end() + bodies[number].start()
+    at = text.index(old, start, bodies[number].end())
+    content = text[:at] + new + ("" if old else "\n") + text[at + len(old) :]
+    command = ["wat2wasm", "-", "--output=-"]
+    found = subprocess.run(command, input=content.encode(), check=True, capture_output=True).stdout
+    code = library.code_from(found, library.WASM)
+    return code, code.object.functions[number].address + text.count("\n", start, at)
 
 
-def constant(pattern, offset, value, which=0):
-    """A byte of the constant whose address an instruction has is another one."""
-
-    def change(code, function):
-        section, user = find(code, function, pattern, which)
-        end = user.address + user.size
-        for at, _, symbol, addend in section.references:
-            at += section.address
-            if user.address <= at < end:
-                # On x86-64 it is counted from the end of the instruction.
-                place = symbol + addend + (end - at if code.object.machine == 62 else 0) + offset
-                target = code.object.section_at(place)
-                target.content[place - target.address] = value
-                return user
-        raise LookupError(f"{user.text} refers to no constant")
-
-    return change
+def _code_of_module(content):
+    """Where the code stands in a module: the section with number 10."""
+    at = 8
+    while True:
+        kind, size, shift = content[at], 0, 0
+        for start in range(at + 1, at + 6):
+            size, shift = size | (content[start] & 127) << shift, shift + 7
+            if content[start] < 128:
+                break
+        if kind == 10:
+            return range(start + 1, start + 1 + size)
+        at = start + 1 + size
 
 
-def relocated(pattern, distance, which=0):
-    """The relocation of an instruction is for a place that is so far away."""
-
-    def change(code, function):
-        section, user = find(code, function, pattern, which)
-        for at, (offset, kind, symbol, addend) in enumerate(section.references):
-            if section.address + offset == user.address:
-                section.references[at] = offset, kind, symbol, addend + distance
-                return user
-        raise LookupError(f"{user.text} has no relocation")
-
-    return change
+def _flipped_module(some, base):
+    """A bit of the module's code is another one, which still makes a module."""
+    content = bytearray(base.object.content)
+    while True:
+        place, bit = some.choice(_code_of_module(content)), some.randrange(8)
+        content[place] ^= 1 << bit
+        try:
+            return library.code_from(bytes(content), library.WASM)
+        except (subprocess.CalledProcessError, ValueError, KeyError):
+            content[place] ^= 1 << bit
 
 
-def detour(text, size=5):
-    """At the start of a function, other instructions run before the first ones, which depend on no place. These
-    have `size` bytes on x86-64, and 4 on AArch64."""
+def instructions(code):
+    return {at: known.text for section in code.object.sections if section.is_code
+            for at, known in code.front_end.instructions(section).items()}
 
-    def change(code, function):
-        machine, start = code.object.machine, code.object.symbols[function]
-        count = size if machine == 62 else 4
-        section = code.object.section_at(start)
-        at, tail = start - section.address, section.end
-        first = section.content[at : at + count]
-        section.content += assembled(machine, text) + first
-        section.content += jump(machine, section.end, start + count)
-        there = jump(machine, start, tail)
-        section.content[at : at + count] = there + TOOLS[machine].nop * (count - len(there))
-        return code.front_end.instructions(section)[start]
 
-    return change
+def flipped(build, some, base):
+    """The code of a build in which one bit of an instruction is another one that `base` has run; where; and the
+    texts before and after."""
+    if build == library.WASM:
+        while True:
+            code = _flipped_module(some, base)
+            before, after = instructions(base), instructions(code)
+            changed = [at for at in before if before[at] != after.get(at)]
+            if changed and changed[0] in base.run:
+                return code, changed[0], before[changed[0]], after.get(changed[0])
+    at = some.choice(sorted(base.run))
+    code = code_of(build)
+    section = code.object.section_at(at)
+    old = code.front_end.instructions(section)[at]
+    section.content[at - section.address + some.randrange(old.size)] ^= 1 << some.randrange(8)
+    new = code.front_end.instructions(section).get(at)
+    return code, at, old.text, new and new.text

@@ -12,7 +12,7 @@ from linear import Unknown
 from memory import Fault, Image, Memory, Pointer, Region, as_lane
 from values import CONSTANTS, TooWide
 
-SIZE = 1 << 13
+SIZE = 1 << 12
 MIDDLE = SIZE // 2
 # What an instruction makes: registers by name, flags as a number, whether it has jumped, and the scratch area.
 Result = namedtuple("Result", "registers flags is_taken scratch")
@@ -44,7 +44,7 @@ class Processor:
         """What differs between the processor and the tool for one random state, or None."""
         some = random.Random(seed)
         scratch = _random_bytes(some, SIZE)
-        content = tuple([CONSTANTS[byte] for byte in scratch])
+        content = tuple(map(CONSTANTS.__getitem__, scratch))
         memory = Memory([Region("scratch", SIZE, True, 4096, content), Image(self.object)])
         state = self.code.front_end.State(memory)
         state.at = instruction.address
@@ -67,8 +67,8 @@ class Processor:
         target = self.target_of(instruction)
         if target is not None and found.is_taken != (state.at == target):
             return "the jump"
-        for name, value in state.registers.items():
-            if bytes(map(self.byte, as_lane(value))) != found.registers[name]:
+        for name in state.sizes:
+            if bytes(map(self.byte, as_lane(state.registers[name]))) != found.registers[name]:
                 return name
         wanted = bytearray(scratch)
         for offset, byte in state.memory.written("scratch").items():
@@ -97,9 +97,10 @@ class Processor:
         return pointer.offset + (self.scratch_base if pointer.region == "scratch" else self.text_base)
 
 
+EDGES = bytes([0, 1, 0x7F, 0x80, 0xFF, 0x30, 0x39, 0x41, 0x66, 0x0F, 0x10] * 24)[:256]
+
+
 def _random_bytes(some, count):
     """Random bytes; often at the edges."""
-    if some.random() < 0.5:
-        return some.randbytes(count)
-    edges = bytes([0, 1, 0x7F, 0x80, 0xFF, 0x30, 0x39, 0x41, 0x66, 0x0F, 0x10])
-    return bytes(some.choices(edges, k=count))
+    found = some.randbytes(count)
+    return found if some.random() < 0.5 else found.translate(EDGES)

@@ -6,18 +6,14 @@ from aarch64.decoding import Address, Extension, Register
 from aarch64.front_end import HANDLERS
 from aarch64.state import State
 from arithmetic import logic
-from calls import CALLS
 from disassembly import Instruction
-from exploration import Fork, Refused
+from exploration import Fork
 from flags import Flags
 from induction import LEFT
 from linear import Linear
 from memory import Fault, Memory, Pointer, Region
-from tests.library import code_of, needs_aarch64
-from tests.mutations import detour
 from values import TooWide, constants, kept, unknown, variable
 
-FUNCTION = "const_hex_check_raw"
 SP, X0, W0 = (Register("general", name, 0, size, None) for name, size in (("sp", 8), ("x0", 8), ("x0", 4)))
 
 
@@ -31,30 +27,8 @@ def run(state, mnemonic, *operands):
     HANDLERS[mnemonic](state, Instruction(0, 4, mnemonic, operands, mnemonic))
 
 
-def at(base, displacement, after=0, is_moved=False):
+def at(base, displacement, after=None, is_moved=False):
     return Address(base, None, Extension("lsl", 0), displacement, after, is_moved)
-
-
-@needs_aarch64
-class TestRefused(unittest.TestCase):
-    def assert_refused(self, text, wanted):
-        code = code_of("aarch64")
-        detour(text)(code, FUNCTION)
-        with self.assertRaisesRegex(Refused, wanted):
-            CALLS["check_raw"].prove(code, FUNCTION, ("length", 0, 20))
-
-    def test_instruction_without_a_meaning(self):
-        self.assert_refused("rbit x9, x9", "rbit x9, x9: an instruction without a meaning here")
-
-    def test_operand_that_is_not_known(self):
-        self.assert_refused("ld1 {v0.8b, v1.8b}, [x0]", r"ld1 .*: an instruction without a meaning here")
-
-    def test_form_that_is_not_known(self):
-        self.assert_refused("lsl x9, x9, x1", "lsl x9, x9, x1: a shift by a register")
-        self.assert_refused("movi v0.4s, #1, lsl #8", "movi v0.4s, .*: a form without a meaning here")
-
-    def test_flags_that_are_not_known(self):
-        self.assert_refused("b.eq 1f; nop; 1:", "b.eq .*: flags that are not known are used")
 
 
 class TestState(unittest.TestCase):
@@ -74,6 +48,16 @@ class TestState(unittest.TestCase):
         run(state, "ldr", X0, at(SP, 0, after=32))
         with self.assertRaisesRegex(Fault, "below the stack"):
             run(state, "ldr", X0, at(SP, -8))
+
+    def test_base_that_is_moved(self):
+        """One that is moved by 0 is moved, so it may be no register of the access."""
+        forms = ("ldrb", [W0]), ("str", [X0]), ("stp", [SP, X0]), ("ldp", [X0, SP])
+        for mnemonic, operands in forms:
+            for moved in ({"after": 0}, {"is_moved": True}):
+                state = state_with()
+                state.registers["x0"] = Pointer("stack", 32)
+                with self.assertRaisesRegex(Fault, "a base that is moved"):
+                    run(state, mnemonic, *operands, at(X0, 0, **moved))
 
     def test_half_of_a_register(self):
         """The upper half is cleared, and a half of a pointer is no number."""

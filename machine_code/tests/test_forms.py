@@ -53,7 +53,7 @@ def is_start(code, function, form, text, decoder):
 class TestForms(unittest.TestCase):
     @classmethod
     def setUpClass(cls):
-        cls.code, cls.library, cls.some = code_of("default"), library(), random.Random(1)
+        cls.code, cls.library, cls.some = code_of("v2"), library(), random.Random(1)
 
     def text(self):
         start = self.some.choice(["", "0", "0x", "0X", "x", "00", "0x0x"])
@@ -62,7 +62,7 @@ class TestForms(unittest.TestCase):
         ).encode()
 
     def starts(self, call, text, decoder=b""):
-        function = f"const_hex_{call}_nonnull_default"
+        function = f"const_hex_{call}_nonnull_v2"
         forms = CALLS[call].forms
         return [form for form in forms if is_start(self.code, function, form, text, decoder)]
 

@@ -1,197 +1,180 @@
-"""Wrong machine code, which the tool has to refuse by the check that is meant. See mutations.py."""
+"""Wrong machine code, which the tool has to refuse by the check that is meant; and random bits of the code."""
 
+import os
+import random
 import re
 import unittest
 
-from calls import CALLS, function_of
+import dispatch
+from calls import function_of
 from exploration import Refused
-from tests.library import code_of
-from tests.mutations import byte, constant, detour, replaced
+from library import WASM, calls_of
+from tests.library import code_of, needs_aarch64, needs_module
+from tests.mutations import edited, flipped
 
-SEARCH, BEHIND, SHORT = "find_invalid_character", "decode_after", "short::decode"
-# Parts of the calls: a form, and a length; from 130 on it stands for all lengths that are longer by rounds.
-ENCODE, PREFIX, NO_NUL, EXACT = [
-    ("encode", 0), ("encode", 3), ("encode", 4), ("decode_exact", 0)]
-DIGITS, TEXT = ("check_raw", 0), ("check", 0)
-DECODE, PREFIXED, START, WAITS = ("decode", 0), ("decode", 1), ("decoder_update", 0), ("decoder_update", 5)
-SIZE = ("encoded_size", None)
-# Each kind of an error; and positions of five digits.
-KIND, POSITION = ("error_message", None), ("error_message", 8)
-CALL = None
+# The call's own function, what checks digits on AArch64, and what searches; and in the module, by an instruction that
+# no other function has, what encodes, decodes, and searches.
+CALL, CHECK, FIND = None, "const_hex_lanes32kernel_check", "const_hex_body_find_invalid_character_v3"
+LANES, PAIRS, SEARCH = "i16x8.extend_high_i8x16_u", "v128.any_true", "i32.store8 offset=5"
+ENCODE, NO_NUL, PREFIX, DIGITS = ("encode", 0, 150), ("encode", 4, 63), ("encode", 2, 150), ("check_raw", 0, 150)
+UPDATE, POSITION, ARM = ("decoder_update", 0, 150), ("error_message", 8), "dispatch for AArch64"
+ONE_PATH, NO_DIGIT, THIS_CPU = "have more than one path", "what is not a digit", "the build is not the one for this CPU"
 
-# What is wrong; the build; the call's form and length that show it; the function, if it is not the call's
-# own; the change; and what the tool has to say.
+# What is wrong; the build; the part that shows it: a call, a form and a length (from 130 on with all that are longer by
+# rounds), or all cases of a call without a loop; the function or the constant; the lines before and after; and what the
+# tool has to say.
 MUTATIONS = [
-    ("a digit of the loop's table", "v3", ENCODE, 150, CALL,
-     constant(r"^lea +r9,\[rip", 11, ord("d")), r"text\[\d*done \+ \d+\] is not what"),
-    ("a digit of its copy", "v3", ENCODE, 222, CALL,
-     constant(r"^lea +r9,\[rip", 64 + 5, ord("6")), r"text\[\d*done \+ \d+\] is not what"),
-    ("a shift by 5", "v3", ENCODE, 150, CALL, byte(r"^vpsrlw", -1, 5), r"text\[.*\] is not what"),
-    ("a load 16 bytes too early", "v3", ENCODE, 150, CALL,
-     byte(r"^vpmovzxbw ymm3,XMMWORD PTR \[rdi\+0x30\]", -1, 0x20), r"text\[.*done.*\] is not what"),
-    ("two stores in the wrong order", "v3", ENCODE, 150, CALL,
-     replaced(r"^vmovdqu YMMWORD PTR \[rcx\+rdx\*1\+0x40\],ymm2", "vmovdqu YMMWORD PTR [rcx+rdx+0x40],ymm3"),
-     r"text\[.*done.*\] is not what"),
-    ("a store is missing", "v3", ENCODE, 150, CALL,
-     replaced(r"^vmovdqu YMMWORD PTR \[rcx\+rdx\*1\+0x60\]", "nop"), "text: a place is written before"),
-    ("a stride of the text of 127", "v3", ENCODE, 150, CALL,
-     byte(r"^add +rdx,0x80", -4, 0x7F), "outside its region"),
-    ("64 bytes, counted as 128", "v3", ENCODE, 150, CALL,
-     byte(r"^add +rsi,0xffffffffffffffc0", -1, 0x80), "outside its region"),
-    ("the length is counted in 32 bits", "v3", ENCODE, 150, CALL,
-     replaced(r"^add +rsi,0xffffffffffffffc0", "add esi,-64"), "add of 4 unknown bytes"),
-    ("the place in the text wraps at 2^32", "v3", ENCODE, 150, CALL,
-     replaced(r"^add +rdx,0x80", "sub edx,-128"), "sub of 3 unknown bytes"),
-    ("the loop ends one turn early", "v3", ENCODE, 150, CALL,
-     byte(r"^cmp +rsi,0x3f", -1, 0x7F), "text: a place is written before"),
-    ("the loop never ends", "v3", ENCODE, 150, CALL,
-     replaced(r"^cmp +rsi,0x3f", "cmp rsp,0"), "flag be of sub of pointers"),
-    ("a saved register is changed", "v3", NO_NUL, 20, CALL,
-     replaced(r"^pop +rbx", "pop rcx", 2), "rbx is not as before"),
-    ("the return address is written", "v3", ENCODE, 150, CALL,
-     replaced(r"^vmovdqu YMMWORD PTR \[rcx\+rdx\*1\+0x20\]", "mov [rsp+8],rdi"),
-     "a jump to what is no code"),
-    ("a byte decides a jump", "v3", DIGITS, 150, CALL,
-     detour("cmp byte ptr [rdi],0x61; jb 1f; nop; 1:"), "have more than one path"),
-    ("a byte decides a jump, in decode", "default", DECODE, 150, CALL,
-     detour("cmp byte ptr [rdi+9],0x61; jb 1f; nop; 1:"), "have more than one path"),
-    ("a size that is too small is accepted", "v3", ENCODE, "failure", CALL,
-     replaced(r"^jae", "nop", 1), "outside its region"),
-    ("a byte decides a jump if the size is too small", "default", ENCODE, "failure", CALL,
-     detour("test rsi,rsi; je 1f; test rcx,rcx; jne 1f; cmp byte ptr [rdi],0; jne 1f; nop; 1:", 6),
-     "have more than one path"),
-    ("unknown flags with a known one have a size", "default", SIZE, "failure", CALL,
-     detour("cmp esi,9; jne 1f; xor eax,eax; ret; 1: mov rax,-1", 7), "the result is not 18446744073709551615"),
-    ("the NUL is another byte", "v3", ENCODE, 150, CALL,
-     byte(r"^mov +BYTE PTR \[rax\+r11\*1\],0x0", -1, 1), "the text does not end with a NUL"),
-    ("the prefix is 0X", "v3", PREFIX, 150, CALL,
-     byte(r"^mov +WORD PTR \[rax\],0x7830", -1, ord("X")), r"text\[1\] is not what"),
-    ("one of four vectors is not tested", "v3", DIGITS, 150, CALL,
-     replaced(r"^vpor +ymm1,ymm1,ymm2", "vpor ymm1,ymm1,ymm1"), "a round passes what is not a digit"),
-    ("a limit that lets g pass", "v3", DIGITS, 150, CALL,
-     constant(r"^vbroadcasti128 ymm4.*rip", 7, 0x57), "a round passes what is not a digit"),
-    ("the wrong stride of a check", "v3", DIGITS, 150, CALL,
-     replaced(r"^sub +rcx,0xffffffffffffff80", "sub rcx,-96"), "a round passes what is not a digit"),
-    ("what is rejected is accepted", "v3", DIGITS, 40, CALL,
-     byte(r"^sete +al", -2, 0x95), "digits are rejected"),
-    ("a test of a loop is left out", "v3", TEXT, 150, CALL,
-     replaced(r"^vptest ymm", "test eax,0"), "a round passes what is not a digit"),
-    ("the factor 16 is 17", "v3", DECODE, 128, CALL,
-     constant(r"^lea +r12,\[rip", 64 + 16 + 4, 17), r"bytes\[.*\] is not what"),
-    ("lanes in another order", "v3", DECODE, 150, CALL,
-     byte(r"^vpermq", -1, 0xE4), r"bytes\[.*\] is not what"),
-    ("a stride of the bytes of 63", "v3", DECODE, 150, CALL,
-     byte(r"^add +r11,0x40", -1, 0x3F), "outside its region"),
-    ("a store one byte higher", "v3", DECODE, 150, CALL,
-     byte(r"^vmovdqu YMMWORD PTR \[r14\+r11\*1-0x20\]", -1, 0xE1), "bytes: a place is written before"),
-    ("another number of bytes is returned", "v3", DECODE, 150, CALL,
-     replaced(r"^mov +QWORD PTR \[r8\],rbx", "mov [r8],rcx"), r"written\[0\] is not what"),
-    ("the kind of an error", "v3", DECODE, "failure", CALL,
-     byte(r"^mov +ecx,0x1", -4, 2), r"error\[0\] is not what"),
-    ("the number of bytes after a failure", "v3", DECODE, "failure", CALL,
-     byte(r"^mov +QWORD PTR \[r8\],0x0", -4, 1, 1), r"written\[0\] is not what"),
-    ("the search begins at the second byte", "v3", TEXT, 150, SEARCH,
-     replaced(r"^xor +ecx,ecx", "mov cl,1", 1), "a single byte of a pointer or of a number"),
-    ("the search's entry of g is a digit's", "v3", TEXT, 150, SEARCH,
-     constant(r"^lea +r9,\[rip", ord("g"), 0), "a round passes what is not a digit"),
-    ("the search counts in 32 bits", "v3", TEXT, 150, SEARCH,
-     replaced(r"^inc +rcx", "inc ecx"), "add of 4 unknown bytes"),
-    ("the search leaves the prefix out of the position", "v3", PREFIXED, 150, SEARCH,
-     replaced(r"^sub +rdx,rax", "xor edx,edx"), r"error\[8\] is not what"),
-    ("an old byte of the stack is decoded", "v3", WAITS, 150, BEHIND,
-     byte(r"^mov +BYTE PTR \[rsp\+0x7\],al", -1, 6), "a single byte of a pointer"),
-    ("the decoder forgets its digit", "v3", START, 151, CALL,
-     replaced(r"^mov +BYTE PTR \[rdi\+0x8\],bpl", "nop"), r"decoder\[8\] is not what"),
-    ("the decoder's position stays", "v3", START, 150, CALL,
-     replaced(r"^mov +QWORD PTR \[rdi\],rax", "nop", 0), r"decoder\[0\] is not what"),
-    ("the decoder forgets an error", "v3", START, 150, CALL,
-     byte(r"^mov +BYTE PTR \[rdi\+0x9\],0x2", -1, 0), "the decoder does not keep its error"),
-    ("a failed decoder goes on", "v3", START, "failure", CALL,
-     byte(r"^cmp +r11b,0x2", -1, 0x80), "too many cases"),
-    ("a digit of the table", "default", ENCODE, 150, CALL,
-     constant(r"^lea +r9,\[rip", 3, ord("2")), r"text\[.*\] is not what"),
-    ("an aligned store", "default", ENCODE, 150, CALL,
-     replaced(r"^movdqu XMMWORD PTR \[rcx\+rdx\*1\+0x70\]", "movdqa [rcx+rdx+0x70],xmm4"), "needs alignment"),
-    ("one vector is not tested", "default", EXACT, 150, CALL,
-     replaced(r"^por +xmm", "nop"), "what is not a digit is decoded"),
-    ("a shift by 7", "default", DECODE, 150, CALL, byte(r"^psrlw", -1, 7), r"bytes\[.*\] is not what"),
-    ("a limit that lets g pass", "default", DIGITS, 150, CALL,
-     constant(r"^movdqa xmm\d+,XMMWORD PTR \[rip", 7, 0x57, 1), "a round passes what is not a digit"),
-    ("one vector of a check is not tested", "default", TEXT, 150, CALL,
-     replaced(r"^por +xmm", "nop", 1), "a round passes what is not a digit"),
-    ("the rest is taken from one place lower", "default", DECODE, 40, CALL,
-     byte(r"^movdqu xmm\d+,XMMWORD PTR \[r10\+rbx\*2-0x20\]", -1, 0xDF), r"bytes\[.*\] is not what"),
-    ("a letter of a message", "v3", KIND, "failure", CALL,
-     constant(r"^vmovdqu xmm0,XMMWORD PTR \[rip", 0, ord("O"), 0), r"message\[0\] is not what"),
-    ("a length of a message", "default", KIND, "failure", CALL,
-     byte(r"^mov +QWORD PTR \[rsp\+0x[0-9a-f]+\],0x14", -4, 0x13), "a message that fits is truncated"),
-    ("a kind that is not known is the last one", "v3", KIND, "failure", CALL,
-     byte(r"^cmp +eax,0x3", -1, 4), "of 4 unknown bytes"),
-    ("there is no NUL", "v3", KIND, "failure", CALL,
-     replaced(r"^mov +BYTE PTR \[r14\+rbx\*1\],0x0", "nop"), "another part of the buffer is written"),
-    ("no space is left for the NUL", "v3", KIND, "failure", CALL,
-     replaced(r"^dec +rbx", "nop"), "outside its region"),
-    ("a message is not truncated", "default", KIND, "failure", CALL,
-     replaced(r"^cmovae +rbx,rax", "mov rbx,rax"), "outside its region"),
-    ("a tab is shown as a newline", "v3", POSITION, "position", CALL,
-     byte(r"^mov +r15d,0x74", -4, ord("n")), r"message\[20\] is not what"),
-    ("a soft hyphen is shown as it is", "default", POSITION, "position", "unicode::from_80",
-     replaced(r"^xor +al,0x1", "mov al,0"), "a message that fits is truncated"),
-    ("another divisor", "v3", POSITION, "position", CALL,
-     byte(r"^movabs rcx,0x28f5c28f5c28f5c3", -8, 0xC2), "a single byte of a pointer or of a number"),
-    ("a remainder of another product", "default", POSITION, "position", CALL,
-     byte(r"^imul +eax,edx,0x64", -1, 0x63), "a single byte of a pointer or of a number"),
-    ("a digit by another factor", "v3", POSITION, "position", CALL,
-     byte(r"^imul +esi,edx,0xcd", -4, 0xCC), r"message\[\d+\] is not what"),
-    ("the digits in another order", "default", POSITION, "position", CALL,
-     byte(r"^mov +BYTE PTR \[rsp\+rcx\*1\+0xce\],sil", -4, 0xCF), r"message\[\d+\] is not what"),
-    ("numbers of four digits have two", "v3", POSITION, "position", CALL,
-     replaced(r"^ja", "nop", 7), "a single byte of a pointer or of a number"),
+    ("63 bytes are read as 64", "v3", NO_NUL, CALL, "cmp rsi,0x40", "cmp rsi,0x3f", "outside its region"),
+    ("a digit of a table", "v3", ENCODE, "constant_8", "0x61, 0x62", "0x61, 0x64", r"text\[\d*done \+ \d+\] is not"),
+    ("a store is missing", "v3", ENCODE, CALL, "vmovdqu YMMWORD PTR [rcx+rdx*1+0x60],ymm3", "",
+     "text: a place is written before"),
+    ("a stride of 127", "v3", ENCODE, CALL, "add rdx,0x80", "add rdx,0x7f", "perhaps outside its region"),
+    ("a length in 32 bits", "v3", ENCODE, CALL, "add rsi,0xffffffffffffffc0", "add esi,-64", "add of 4 unknown bytes"),
+    ("the return address is written", "v3", ENCODE, CALL, "vmovdqu YMMWORD PTR [rcx+rdx*1+0x20],ymm3",
+     "mov [rsp+8],rdi", "a jump to what is no code"),
+    ("the NUL is another byte", "v3", ENCODE, CALL, "PTR [r9+r11*1],0x0", "PTR [r9+r11*1],0x1", "not end with a NUL"),
+    ("the prefix is 0X", "v3", PREFIX, CALL, "mov WORD PTR [r9],0x7830", "mov WORD PTR [r9],0x5830",
+     r"text\[1\] is not what"),
+    ("a size that is too small", "v3", ("encode",), CALL, "cmp r11,rcx; jae 2b", "cmp r11,rcx", "outside its region"),
+    ("a byte decides if the size is too small", "v3", ("encode",), CALL, "",
+     "test rsi,rsi; je 1f; test rcx,rcx; jne 1f; cmp byte ptr [rdi],0; jne 1f; nop; 1:", ONE_PATH),
+    ("unknown flags have a size", "v3", ("encoded_size",), CALL, "", "cmp esi,9; jne 1f; xor eax,eax; ret; 1:",
+     "the result is not 18446744073709551615"),
+    ("no vzeroupper", "v3", ("check_raw", 0, 40), CALL, "sete al; vzeroupper", "sete al", "vzeroupper is missing"),
+    ("a byte decides a jump", "v3", DIGITS, CALL, "", "cmp byte ptr [rdi],0x61; jb 1f; nop; 1:", ONE_PATH),
+    ("a limit that lets g pass", "v3", DIGITS, "constant_1", "0x0f, 0x08", "0x0f, 0x57", NO_DIGIT),
+    ("one of four vectors is not tested", "v3", DIGITS, CALL, "vpor ymm0,ymm1,ymm0", "vpor ymm0,ymm0,ymm0", NO_DIGIT),
+    ("what is rejected is accepted", "v3", ("check_raw", 0, 40), CALL, "sete al", "setne al", "digits are rejected"),
+    ("G is a digit in the search", "v3", ("check", 0, 150), "constant_11", "0x0f, 0xff", "0x0f, 0x00", NO_DIGIT),
+    ("the search counts in 32 bits", "v3", ("check", 0, 150), FIND, "inc rcx", "inc ecx", "add of 4 unknown bytes"),
+    ("a position without the prefix", "v3", ("decode", 1, 150), FIND, "sub rdx,rax", "xor edx,edx",
+     r"error\[8\] is not what"),
+    ("the decoder forgets its digit", "v3", ("decoder_update", 0, 151), CALL, "mov BYTE PTR [rdi+0x8],bpl", "",
+     r"decoder\[8\] is not what"),
+    ("the decoder forgets an error", "v3", UPDATE, CALL, "PTR [rdi+0x9],0x2", "PTR [rdi+0x9],0x0",
+     "the decoder does not keep its error"),
+    ("a failed decoder goes on", "v3", ("decoder_update",), CALL, "cmp r11b,0x2", "cmp r11b,0x80", "too many cases"),
+    ("a letter of a message", "v3", ("error_message",), CALL, "PTR [rcx],0x6f", "PTR [rcx],0x6e",
+     r"message\[0\] is not what"),
+    ("a digit of a position", "v3", POSITION, CALL, "or bl,0x30", "or bl,0x10", r"message\[\d+\] is not what"),
+    ("another divisor", "v3", POSITION, CALL, "0xcccccccccccccccd", "0xcccccccccccccccc", "a product of"),
+    ("a message is not truncated", "v3", POSITION, CALL, "dec rdx; add rsi", "add rsi", "outside its region"),
+    ("an aligned store", "v2", ENCODE, CALL, "movdqu XMMWORD PTR [rcx+rdx*1+0x70]",
+     "movdqa XMMWORD PTR [rcx+rdx*1+0x70]", "needs alignment"),
+    ("one of eight vectors is not tested", "v2", ("decode_exact", 0, 150), CALL, "por xmm8,xmm5", "", NO_DIGIT),
+    ("a store below the stack", "aarch64", DIGITS, CALL, "[sp, #-16]!", "[sp, #-16]", "an access below the stack"),
+    ("a vector register is changed", "aarch64", ("check_raw", 0, 20), CALL, "", "movi v8.16b, #1",
+     "v8 is not as before"),
+    ("a register is not restored", "aarch64", ("decode_exact", 0, 20), CALL, "ldp x20, x19, [sp, #48]",
+     "ldr x19, [sp, #56]", "x20 is not as before"),
+    ("the lower bits of another constant", "aarch64", ENCODE, CALL, "PAGE_OFFSET(constant_2)",
+     "PAGE_OFFSET(constant_2 + 16)", "the lower bits of another place than the page"),
+    ("one of two copies of a factor", "aarch64", ("decode_exact", 0, 150), "constant_2", "0x01, 0x10", "0x01, 0x11",
+     "other bytes are read at"),
+    ("a bit of the marks is not tested", "aarch64", DIGITS, CHECK, "tst w12, #0xff", "tst w12, #0x7f", NO_DIGIT),
+    ("NULL is passed on", "dispatch", ("decoder_update",), CALL, "je 3f", "", "the local error"),
+    ("the CPU is asked again", "dispatch", ("encoded_size",), "choose", "choice], 1", "choice], 3",
+     "the CPU is asked although the byte names a build"),
+    ("LZCNT is not needed", "dispatch", ("version",), "ask", "and ecx, 0x20", "and ecx, 0x60", THIS_CPU),
+    ("leaf 7 may not exist", "dispatch", ("version",), "ask", "cmp eax, 7; jb 2f", "cmp eax, 7", THIS_CPU),
+    ("xgetbv without OSXSAVE", "dispatch", ("version",), "ask", "cmp ecx, 0x38401000; jne 2f", "", "may not have it"),
+    ("an argument is another", "dispatch", ("encode",), "ask", "pop rdx; pop rcx", "pop rcx; pop rdx", "argument 2 is"),
+    ("a byte is stored after the call", "dispatch", ("decode",), "or_null", "add rsp, 24",
+     "mov BYTE PTR [rip + choice], 1; add rsp, 24", "a byte is stored after the call"),
+    ("the local error is too high", ARM, ("decode",), "or_null", "sp, #16", "sp, #24", "the local error"),
+    ("a size that is too small", WASM, ("encode",), CALL, "i32.le_u", "i32.ne", "the module traps"),
+    ("a byte decides a select", WASM, ENCODE, LANES, "", "i32.const 1; i32.const 2; local.get 0; i32.load8_u; select; "
+     "local.set 4", "a `select` depends on"),
+    ("one length is another", WASM, ENCODE, LANES, "",
+     "block; local.get 1; i32.const 40001; i32.ne; br_if 0; return; end", "too many cases"),
+    ("a constant is written", WASM, ENCODE, LANES, "", "i32.const 4192; i32.const 0; i32.store8", "write to image"),
+    ("one of four vectors is not tested", WASM, UPDATE, PAIRS, "v128.or", "local.set 17", NO_DIGIT),
+    ("the search counts in 12 bits", WASM, UPDATE, SEARCH, "local.get 5; i32.const 1; i32.add; local.tee 5; i32.ne",
+     "i32.const 20; i32.shl; local.get 5; i32.const 1; i32.add; local.tee 5; i32.const 20; i32.shl; i32.ne",
+     "may have wrapped"),
 ]
 
 
-def parts_of(call, form, length):
-    if length == "failure":
-        return [part for part in CALLS[call].parts() if part[0] == "case"]
-    if length == "position":
-        return [("slow case", form)]
-    kind = "class" if length > 129 + CALLS[call].forms[form].body else "length"
-    return [(kind, form, length)]
+def parts_of(build, call, *rest):
+    return [part for part in calls_of(build)[call].parts() if part[1:] == rest or not rest and part[0] == "case"]
 
 
 def refusal(code, build, call, parts):
     """What the tool says of changed code, or None if it accepts it."""
-    for part in parts:
-        try:
-            CALLS[call].prove(code, function_of(code, call, build), part)
-        except Refused as refused:
-            return f"{build} {call}, {CALLS[call].name_of(part)}: {refused}"
+    try:
+        if build == "dispatch":
+            dispatch.prove(code, call)
+        for part in parts:
+            calls_of(build)[call].prove(code, function_of(code, call, build), part)
+    except Refused as refused:
+        return str(refused)
     return None
 
 
 class TestMutations(unittest.TestCase):
-    def test_there_are_enough(self):
-        self.assertGreaterEqual(len(MUTATIONS), 32)
+    def test_dispatch_without_a_mutation(self):
+        for name in ("encode", "decoder_update"):
+            self.assertGreaterEqual(dispatch.prove(code_of("dispatch"), name), 4)
 
 
-def _test(what, build, call_and_form, length, function, change, wanted):
+def _test(what, build, part, function, old, new, wanted):
     def test(self):
-        call, form = call_and_form
-        code = code_of(build)
-        changed = change(code, function or function_of(code, call, build))
-        said = refusal(code, build, call, parts_of(call, form, length))
+        call, in_module, build_name = part[0], build == WASM, build.split()[0]
+        own = f"const_hex_{call}" if in_module else rf"const_hex_{call}(_nonnull)?(_v\d)?"
+        code, address = edited(build, function or own, old, new)
+        said = refusal(code, build_name, call, [] if build_name == "dispatch" else parts_of(build, *part))
         self.assertIsNotNone(said, "it is accepted")
-        self.assertIn(changed.address, code.run, "the instruction that was changed does not run")
         self.assertRegex(said, wanted)
-        self.assertRegex(said, r"^\w+ \w+, .*\d.*: .*\+0x[0-9a-f]+: \w+")  # the call, length and instruction
+        if code.object.section_at(address).is_code:
+            self.assertIn(address, code.run, "the instruction that was changed does not run")
 
-    return test
-
-
-def add_tests(test_case, mutations):
-    for row in mutations:
-        name = re.sub(r"[^a-z0-9]+", "_", f"{row[2][0]} {row[1]} {row[0]}".lower())
-        setattr(test_case, f"test_{name}", _test(*row))
+    needs = {WASM: needs_module, "aarch64": needs_aarch64, ARM: needs_aarch64}
+    return needs.get(build, lambda test: test)(test)
 
 
-add_tests(TestMutations, MUTATIONS)
+for _row in MUTATIONS:
+    setattr(TestMutations, "test_" + re.sub(r"\W+", "_", f"{_row[1]} {_row[2][0]} {_row[0]}".lower()), _test(*_row))
+
+
+# Random bits: these lengths of two forms of a call are enough for most of them.
+SEED = int(os.environ.get("CONST_HEX_SEED", random.getrandbits(32)))
+FLIPS = int(os.environ.get("CONST_HEX_FLIPS", 10))
+LENGTHS = {0, 1, 2, 3, 5, 6, 9, 14, 16, 17, 20, 30, 32, 34, 40, 47, 64, 66, 100, 129, 150, 151, 222, 240}
+
+
+class TestFlips(unittest.TestCase):
+    """One bit of an instruction that runs is another one. What is accepted is printed: in a longer run all of it
+    changed nothing that the contracts speak of."""
+
+    def flip(self, build):
+        some, accepted = random.Random(f"{SEED} {build}"), []
+        for call in some.sample([call for call in calls_of(build) if call != "error_message"], 2):
+            forms = some.sample(range(len(calls_of(build)[call].forms)), 2) if calls_of(build)[call].forms[1:] else [0]
+            parts = [part for part in calls_of(build)[call].parts()
+                     if part[0] == "case" or part[1] in forms and part[-1] in LENGTHS]
+            base = code_of(build)
+            self.assertIsNone(refusal(base, build, call, parts))
+            for _ in range(FLIPS // 2):
+                code, address, *texts = flipped(build, some, base)
+                try:
+                    said = refusal(code, build, call, parts)
+                except Exception as error:
+                    said = f"an error in this tool: {error!r}"
+                if said is None:
+                    accepted.append(f"{build} {base.object.name_at(address)}: {' -> '.join(map(str, texts))}")
+        print(f"CONST_HEX_SEED={SEED}, {build}: {len(accepted)} of {FLIPS} are accepted", *accepted, sep="\n    ")
+        self.assertLessEqual(len(accepted), FLIPS // 3)
+
+    def test_v2(self):
+        self.flip("v2")
+
+    def test_v3(self):
+        self.flip("v3")
+
+    @needs_aarch64
+    def test_aarch64(self):
+        self.flip("aarch64")
+
+    @needs_module
+    def test_wasm(self):
+        self.flip(WASM)

@@ -25,10 +25,7 @@ def linked(data, obj, linker):
             file.write(data)
         with open(f"{folder}/script", "w") as file:
             file.write(f"SECTIONS {{\n{places}/DISCARD/ : {{ *(*) }}\n}}\n{absent}")
-        # Constants that are the same are not merged.
         objcopy = f"{linker.removesuffix('ld')}objcopy"
-        command = [objcopy, "--wildcard", "--set-section-flags", ".rodata.cst*=alloc,readonly,data"]
-        subprocess.run([*command, f"{folder}/object.o"], check=True)
         command = [linker, "-T", f"{folder}/script", "-o", f"{folder}/linked", f"{folder}/object.o"]
         subprocess.run(command, check=True)
         found = []
@@ -43,21 +40,21 @@ def linked(data, obj, linker):
 class TestObjects(unittest.TestCase):
     def assert_linked(self, archive, name, linker):
         data = objects.member(archive, name)
-        obj = objects.read(data, is_split=False)
+        obj = objects.read(data)
         self.assertTrue(any(section.references for section in obj.sections))
         for section, content in zip(obj.sections, linked(data, obj, linker)):
             self.assertEqual(bytes(section.content), content, section.name)
 
     def test_x86_64(self):
-        self.assert_linked(ARCHIVE, "const_hex_v3.o", "ld")
+        self.assert_linked(ARCHIVE, "x86_64_v3.S.o", "ld")
 
     @needs_aarch64
     def test_aarch64(self):
-        self.assert_linked(AARCH64, "const_hex_single.o", "aarch64-linux-gnu-ld")
+        self.assert_linked(AARCH64, "aarch64.S.o", "aarch64-linux-gnu-ld")
 
     def test_layout(self):
         """Each run has another one."""
-        data, distances = objects.member(ARCHIVE, "const_hex_v3.o"), set()
+        data, distances = objects.member(ARCHIVE, "x86_64_v3.S.o"), set()
         for seed in range(4):
             with mock.patch.object(objects, "SEED", seed):
                 symbols = objects.read(data).symbols
@@ -91,7 +88,7 @@ class TestObjects(unittest.TestCase):
     def test_sections_of_other_objects(self):
         for text in ('.section .text.one, "axG", @progbits, one, comdat; one: ret',
                      '.section .gnu.linkonce.t.one, "ax", @progbits; one: ret',
-                     '.section .rodata.str1.1, "aMS", @progbits, 1; one: .string "a"'):
+                     '.section .rodata.cst16, "aM", @progbits, 16; one: .skip 16'):
             with self.subTest(text):
                 obj = objects.read(assembled_object(62, text))
                 self.assertEqual(obj.sections, [])
@@ -110,5 +107,5 @@ class TestObjects(unittest.TestCase):
         with mock.patch.dict(objects.RELOCATIONS[183]):
             del objects.RELOCATIONS[183][299]
             code = code_of("aarch64")
-        with self.assertRaisesRegex(Refused, r"check, which has a relocation of the unknown kind 299"):
+        with self.assertRaisesRegex(Refused, r"check\S*, which has a relocation of the unknown kind 299"):
             CALLS["check_raw"].prove(code, "const_hex_check_raw", ("length", 0, 20))

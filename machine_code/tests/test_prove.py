@@ -1,5 +1,7 @@
-"""What `prove` reports besides what is refused: unknown instructions, unreached code, and other code."""
+"""What `prove` reports besides what is refused: unreached code, and other code than what was proved."""
 
+import contextlib
+import io
 import pathlib
 import shutil
 import subprocess
@@ -12,14 +14,15 @@ from unittest import mock
 
 import library
 import sums
-from calls import CALLS, function_of
+from calls import function_of
 from exploration import Refused
-from reached import is_message, not_reached
+from reached import not_reached
 from tests.library import ARCHIVE, code_of
-from tests.mutations import assembled_object, detour
+from tests.mutations import assembled_object, edited
 
 FUNCTION = "const_hex_check_raw_v3"
 FRONT_ENDS = ("x86_64", "aarch64", "wasm")
+NO_NUL = 4  # the form of `encode` with this flag alone
 
 
 def script():
@@ -30,30 +33,34 @@ def script():
 
 
 class TestProve(unittest.TestCase):
-    def test_instruction_without_a_meaning(self):
-        code = code_of("v3")
-        detour("crc32 eax, ecx")(code, FUNCTION)
-        with self.assertRaisesRegex(Refused, "crc32 +eax,ecx: an instruction without a meaning here"):
-            CALLS["check_raw"].prove(code, FUNCTION, ("length", 0, 20))
+    def setUp(self):
+        """The sums are in a file of the test."""
+        folder = tempfile.TemporaryDirectory()
+        self.addCleanup(folder.cleanup)
+        patch = mock.patch.object(sums, "FILE", pathlib.Path(folder.name) / "proved.txt")
+        patch.start()
+        self.addCleanup(patch.stop)
 
-    def test_operand_that_is_not_known(self):
-        code = code_of("v3")
-        detour("mov rax, fs:[0]", 5)(code, FUNCTION)
-        with self.assertRaisesRegex(Refused, "fs:.*: an instruction without a meaning here"):
-            CALLS["check_raw"].prove(code, FUNCTION, ("length", 0, 20))
+    def passes(self, code, call, *options):
+        """Whether `prove` passes, where this is the code of v3."""
+        module = script()
+        argv = ["prove", str(ARCHIVE), "--build", "v3", "--call", call, "--jobs", "1", *options]
+        with mock.patch.object(module, "code_of", lambda *_: code), mock.patch.object(sys, "argv", argv):
+            with contextlib.redirect_stdout(io.StringIO()) as self.output:
+                return not module.main()
+
+    def sums_of(self, code, function):
+        return sums.sum_of(code.object, function), sums.sum_of_tool("x86_64")
 
     def test_code_that_is_not_reached(self):
         code = code_of("v3")
-        sections = [other for other in code.object.sections if other.is_code and not is_message(other)]
-        every = {address for section in sections for address in code.front_end.instructions(section)}
-        self.assertEqual(not_reached(code, every, "v3"), [])
+        every = {at for section in code.object.sections if section.is_code
+                 for at in code.front_end.instructions(section)}
+        self.assertEqual(not_reached(code, every), ([], 0))
         start = code.object.symbols[FUNCTION]
-        [line] = not_reached(code, every - {start}, "v3")
-        self.assertIn(FUNCTION, line)
-        left = every - {start, code.object.symbols["const_hex_encode_v3"]}
-        for count, lines in ((1, 2), (2, 0)):
-            with mock.patch("reached.EXCEPTIONS", [("const_hex", ".*", {"v3": count}, "a reason")]):
-                self.assertEqual(len(not_reached(code, left, "v3")), lines)
+        [line], count = not_reached(code, every - {start})
+        self.assertEqual((line.split("+")[0], count), (FUNCTION, 1))
+        self.assertEqual(not_reached(code, every - {start, code.object.symbols["const_hex_encode_v3"]})[1], 2)
 
     def test_function_that_is_called(self):
         """One of the same name that is not exported, or that is for another error, is not it."""
@@ -76,18 +83,12 @@ class TestProve(unittest.TestCase):
     def test_sum_of_other_code(self):
         obj = code_of("v3").object
         before = sums.sum_of(obj, FUNCTION)
-        other = obj.section_at(obj.symbols["const_hex_encode_v3"])
-        other.bytes += b"\x90"
+        obj.section_at(obj.symbols["const_hex_encode_v3"]).bytes += b"\x90"
         self.assertEqual(sums.sum_of(obj, FUNCTION), before)
-        for constants in (section for section in obj.sections if section.name == ".rodata.cst16"):
-            constants.bytes = bytes([constants.bytes[0] ^ 1]) + constants.bytes[1:]
+        [constants] = [section for section in obj.sections if section.name == ".rodata.constant_1"]
+        constants.is_writable = True
         self.assertNotEqual(sums.sum_of(obj, FUNCTION), before)
-
-    def test_sum_of_other_rights(self):
-        obj = code_of("v3").object
-        before = sums.sum_of(obj, FUNCTION)
-        for constants in (section for section in obj.sections if section.name == ".rodata.cst16"):
-            constants.is_writable = True
+        constants.is_writable, constants.bytes = False, bytes([constants.bytes[0] ^ 1]) + constants.bytes[1:]
         self.assertNotEqual(sums.sum_of(obj, FUNCTION), before)
 
     def test_files_of_the_tool(self):
@@ -98,16 +99,39 @@ class TestProve(unittest.TestCase):
         self.assertEqual(used - files, set())
         self.assertEqual(len({sums.sum_of_tool(front_end) for front_end in FRONT_ENDS}), len(FRONT_ENDS))
 
-    def test_what_is_recorded(self):
+    def test_sums(self):
+        """With --sums nothing is accepted but the code and the tool of which the sums stand there."""
+        code = code_of("v3")
+        self.assertFalse(self.passes(code, "check_raw", "--sums"))
+        of_code, of_tool = self.sums_of(code, FUNCTION)
+        sums.write({("check_raw", "v3"): (of_code, of_tool)})
+        self.assertTrue(self.passes(code, "check_raw", "--sums"))
+        self.assertFalse(self.passes(edited("v3", FUNCTION, "sete al", "setne al")[0], "check_raw", "--sums"))
+        self.assertIn("NOT RECORDED", self.output.getvalue())
+        sums.write({("check_raw", "v3"): (of_code, of_tool[::-1])})
+        self.assertFalse(self.passes(code, "check_raw", "--sums"))
+
+    def test_code_whose_sum_was_written(self):
+        """With 63 bytes left, a loop takes 64. Only the part of the length 63 shows it, and it is run without --all."""
         module = script()
-        row = module.Row(ARCHIVE, "check_raw", "v3")
-        with tempfile.TemporaryDirectory() as folder:
-            with mock.patch.object(sums, "FILE", pathlib.Path(folder) / "proved.txt"):
-                module.record([row])
-                self.assertRegex(row.missing(), "this code")
-                sums.write({("check_raw", "v3"): (row.sums[0], "another")})
-                self.assertRegex(row.missing(), "this tool")
-                row.done = row.all
-                module.record([row])
-                row.done = 0
-                self.assertIsNone(row.missing())
+        code, _ = edited("v3", "const_hex_encode_v3", "cmp rsi,0x40", "cmp rsi,0x3f")
+        sums.write({("encode", "v3"): self.sums_of(code, "const_hex_encode_v3")})
+        with mock.patch.object(module, "code_of", lambda *_: code):
+            row = module.Row(ARCHIVE, "encode", "v3", types.SimpleNamespace(sums=False, all=False))
+            self.assertTrue(row.is_recorded and row.is_proved)
+            [task] = [task for task in row.tasks() if task[3] == ("length", NO_NUL, 63)]
+            _, fault, states, _, seconds = module.prove(task)
+            row.add(fault, states, seconds)
+        self.assertIn("REFUSED", row.outcome())
+        self.assertFalse(row.is_proved)
+
+    def test_what_is_run(self):
+        """Each part, if it is not recorded, and then each single length; with --all each part again."""
+        module, call = script(), library.calls_of("v3")["check_raw"]
+        every, rows = list(call.parts()), []
+        for is_all, is_recorded in ((False, False), (False, True), (True, True)):
+            if is_recorded:
+                sums.write({("check_raw", "v3"): self.sums_of(code_of("v3"), FUNCTION)})
+            options = types.SimpleNamespace(sums=False, all=is_all)
+            rows.append(module.Row(ARCHIVE, "check_raw", "v3", options).parts)
+        self.assertEqual(rows, [every, [part for part in every if part[0] == "length"], every])

@@ -1,17 +1,15 @@
 """Forms of instructions that have to be refused: with them the CPU does something else than with those that have
 a meaning, or it does not have them."""
 
-import importlib
 import re
 import unittest
 
-import objects
 from calls import CALLS
-from exploration import Code, Refused
-from library import PROCESSORS
+from exploration import Refused
+from library import code_from
 from tests.library import needs_aarch64
 from tests.mutations import assembled_object
-from x86_64 import cargo
+from x86_64.decoding import NOPS
 
 VERSION = CALLS["version"].cases[0].name.split()[1]
 # The function that has the form: what it returns is right.
@@ -20,75 +18,95 @@ SOURCES = {
         .globl const_hex_version; const_hex_version: {0}; mov eax, {1}; ret
         .weak helper; .set helper, const_hex_version
         .section .rodata; .balign 16; table: .skip 32
-        .section .rodata.cst16, "aM", @progbits, 16; .balign 16; one: .skip 16; two: .skip 16
-        .data; kept: .byte 0
-        .section .data.AVX2, "aw"; _9processor4avx24AVX2: .byte 0""",
+        .section .rodata.cst16, "aM", @progbits, 16; .balign 16; one: .skip 16
+        .data; kept: .byte 0""",
     183: """
         .globl const_hex_version; const_hex_version: {0}; mov w0, #{1}; ret
         .section .rodata; .balign 16; table: .skip 32
         .section .text.other, "ax"; other: ret""",
 }
 OUTSIDE, LEAVES = "a pointer that is compared outside its region", "the stack pointer leaves the stack"
-BELOW, SHIFT, XGETBV = "a copy of bytes below the stack", "a shift by 0", "xgetbv on a CPU that may not have it"
-UNPREDICTABLE, PAGE = "which (is|are) unpredictable", "arithmetic with a page"
+SHIFT, XGETBV = "a shift by 0", "xgetbv on a CPU that may not have it"
+UNPREDICTABLE, PAGE = "unpredictable", "arithmetic with a page"
 NO_CODE, NOT_HERE = "a jump to what is no code", "an instruction that the CPU may not have"
 PUSHED, VECTOR = "less than 8 bytes on the stack", "a vector in an instruction of the general registers"
 NO_MEANING, OTHER_FORM = "an instruction without a meaning here", "a form without a meaning here"
+REASSEMBLED, WIDE = "is not what the assembler makes of it", "vzeroupper is missing"
+OTHER = f"{NO_MEANING}|{REASSEMBLED}"
+PLATFORM = "x18, which belongs to the platform"
 LOWER_BITS, LOWER_BITS_16 = "R_AARCH64_ADD_ABS_LO12_NC", "R_AARCH64_LDST128_ABS_LO12_NC"
 
 # What is wrong, the build, the instructions, and what the tool has to say.
 FORMS = [
-    ("a return that takes arguments", "default", f"mov eax, {VERSION}; ret 8", "a return that takes arguments"),
-    ("a return of 2 bytes", "default", f"mov eax, {VERSION}; .byte 0x66; ret", f"retw: {NO_MEANING}"),
-    ("a return to another place", "default", "add qword ptr [rsp], 2", NO_CODE),
-    ("a jump to another place", "default", f"mov eax, {VERSION}; pop rcx; inc rcx; jmp rcx", NO_CODE),
-    ("a push of 2 bytes", "default", "push ax; add rsp, 8", PUSHED),
-    ("a pop of 2 bytes", "default", "push rax; pop word ptr [rsp-8]", PUSHED),
-    ("a copy with an unaligned stack", "default", "sub rsp, 16; xor edx, edx; call memcpy@PLT; add rsp, 16",
-     "memcpy: .* a stack that is not aligned"),
-    ("a byte that is kept", "default", "mov byte ptr [rip + kept], 7", "something is kept between calls"),
-    ("AVX without a check", "default", "vpxor ymm0, ymm0, ymm0", NOT_HERE),
-    ("BMI2 without a check", "default", "mulx rax, rcx, rcx", NOT_HERE),
-    ("SSSE3 in what chooses a build", "dispatch", "pshufb xmm0, xmm0", NOT_HERE),
-    ("SSE4.1 in what chooses a build", "dispatch", "ptest xmm0, xmm0", NOT_HERE),
-    ("AVX-512", "v3", "vpbroadcastd ymm0, esi", "an instruction of AVX-512"),
+    ("a return that takes arguments", "v2", f"mov eax, {VERSION}; ret 8", "a return that takes arguments"),
+    ("a return of 2 bytes", "v2", f"mov eax, {VERSION}; .byte 0x66; ret", f"retw: {NO_MEANING}"),
+    ("a return to another place", "v2", "add qword ptr [rsp], 2", NO_CODE),
+    ("a jump to another place", "v2", f"mov eax, {VERSION}; pop rcx; inc rcx; jmp rcx", NO_CODE),
+    ("a push of 2 bytes", "v2", "push ax; add rsp, 8", PUSHED),
+    ("a pop of 2 bytes", "v2", "push rax; pop word ptr [rsp-8]", PUSHED),
+    ("a call of another library", "v2", "call memcpy@PLT", "a jump to memcpy, where no instruction is"),
+    ("CRC32", "v2", "crc32 eax, ecx", f"crc32 +eax,ecx: {NO_MEANING}"),
+    ("an access by a segment", "v2", "mov rax, fs:[0]", f"fs:.*: {NO_MEANING}"),
+    ("a byte that is kept", "v2", "mov byte ptr [rip + kept], 7", "something is kept between calls"),
+    ("AVX without a check", "v2", "vpxor ymm0, ymm0, ymm0", REASSEMBLED),
+    ("BMI2 without a check", "v2", "mulx rax, rcx, rcx", REASSEMBLED),
+    ("SSSE3 in what chooses a build", "dispatch", "pshufb xmm0, xmm0", REASSEMBLED),
+    ("SSE4.1 in what chooses a build", "dispatch", "ptest xmm0, xmm0", REASSEMBLED),
+    ("AVX-512", "v3", "vpbroadcastd ymm0, esi", REASSEMBLED),
     ("AVX-512 by its encoding", "v3", "{evex} vpaddb ymm0, ymm0, ymm0", NO_MEANING),
-    ("a form of SSE4.1 without a check", "sse2", "pextrw word ptr [rsp-8], xmm0, 1", "a form of SSE4.1"),
-    ("SSSE3 without a check, by cargo", "sse2", "pshufb xmm0, xmm0", NOT_HERE),
-    ("SSSE3 while the CPU is not known", "any byte", "pshufb xmm0, xmm0", NOT_HERE),
-    ("BMI2 with AVX2, by cargo", "avx2", "mulx rax, rcx, rcx", NOT_HERE),
-    ("a byte of the stack that a signal may change", "default",
+    ("a byte of the stack that a signal may change", "v2",
      f"sub rsp, 264; mov dword ptr [rsp], {VERSION}; add rsp, 264; sub rsp, 264; mov eax, [rsp]; add rsp, 264; ret",
      "the version"),
-    ("a stack that is too long for a moment", "default", "sub rsp, 0x40000000; add rsp, 0x40000000", LEAVES),
-    ("a stack in a buffer", "default", "mov rax, rsp; mov rsp, rdi; mov rsp, rax", LEAVES),
-    ("a copy from below the stack", "default",
-     "sub rsp, 24; lea rsi, [rsp-72]; mov rdi, rsp; mov edx, 4; call memcpy@PLT; add rsp, 24", BELOW),
-    ("a copy to below the stack", "default",
-     "sub rsp, 24; mov rsi, rsp; lea rdi, [rsp-72]; mov edx, 4; call memcpy@PLT; add rsp, 24", BELOW),
-    ("a pointer that may be null", "default", "lea rax, [rsp-0x10000]; test rax, rax; je helper", OUTSIDE),
-    ("a pointer that may be 0", "default", "lea rax, [rsp-0x10000]; cmp rax, 0; je helper", OUTSIDE),
-    ("a shift by 32 of 32 bits", "default", ".byte 0xc1, 0xe0, 0x20", SHIFT),
-    ("a jump of 16 bits", "default", ".byte 0x66, 0xeb, 0", f"data16 jmp.*: {NO_MEANING}"),
+    ("a stack that is too long for a moment", "v2", "sub rsp, 0x40000000; add rsp, 0x40000000", LEAVES),
+    ("a stack in a buffer", "v2", "mov rax, rsp; mov rsp, rdi; mov rsp, rax", LEAVES),
+    ("a pointer that may be null", "v2", "lea rax, [rsp-0x10000]; test rax, rax; je helper", OUTSIDE),
+    ("a pointer that may be 0", "v2", "lea rax, [rsp-0x10000]; cmp rax, 0; je helper", OUTSIDE),
+    ("a shift by 32 of 32 bits", "v2", ".byte 0xc1, 0xe0, 0x20", SHIFT),
+    ("a jump of 16 bits", "v2", ".byte 0x66, 0xeb, 0", f"data16 jmp.*: {NO_MEANING}"),
     ("another prefix of AVX", "v3", ".byte 0x66; vpxor xmm0, xmm0, xmm0", f"data16 vpxor.*: {NO_MEANING}"),
-    ("xgetbv without a check", "default", "xor ecx, ecx; xgetbv", XGETBV),
-    ("xgetbv without a check, by cargo", "sse2", "xor ecx, ecx; xgetbv", XGETBV),
-    ("a longer form of SSE4.1", "sse2", ".byte 0x66, 0x0f, 0x3a, 0x15, 0xc0, 1", "a form of SSE4.1"),
-    ("a byte that is stored without a question", "any byte", "mov byte ptr [rip + _9processor4avx24AVX2], 0",
-     "a byte is stored although the CPU was not asked"),
-    ("an aligned look-up by an unknown byte", "default",
-     "movzx ecx, dil; and ecx, 7; lea rax, [rip + table]; pand xmm0, [rax+rcx]", "that needs an alignment"),
-    ("the next constant, which the linker may move", "default",
-     "lea rax, [rip + one]; movdqa xmm0, [rax+16]", "outside its region"),
-    ("a function that the linker may replace", "default", "call helper", "where no instruction is"),
+    ("xgetbv without a check", "v2", "xor ecx, ecx; xgetbv", XGETBV),
+    ("an aligned look-up by an unknown byte", "v2",
+     "movzx ecx, dil; and ecx, 7; lea rax, [rip + table]; por xmm0, [rax+rcx]", "that needs an alignment"),
+    ("a constant that the linker may merge", "v2", "movdqa xmm0, [rip + one]", "outside its region"),
+    ("a function that the linker may replace", "v2", "call helper", "where no instruction is"),
+    *((f"vzeroupper as {code}", "v3", f".byte 0x{code}, 0x77", OTHER)
+      for code in ("c5, 0xf9", "c5, 0xfa", "c5, 0xfb", "c5, 0xf0", "c5, 0x78", "c4, 0xe1, 0xf8")),
+    ("another third operand, which is none", "v3", ".byte 0xc5, 0xf6, 0x6f, 0xc8; vzeroupper", OTHER),
+    ("64 bits of vpermq that are 32", "v3", ".byte 0xc4, 0xe3, 0x7d, 0, 0xc0, 0xd8; vzeroupper", OTHER),
+    ("256 bits of vmovd", "v3", ".byte 0xc5, 0xfd, 0x6e, 0xc0; vzeroupper", OTHER),
+    ("16 bytes of vextracti128", "v3", ".byte 0xc4, 0xe3, 0x79, 0x39, 0xc0, 1", OTHER),
+    ("64 bits of vpbroadcastd", "v3", ".byte 0xc4, 0xe2, 0xf9, 0x58, 0xc0", OTHER),
+    *((f"a {what}", "v2", f".byte {code}", OTHER) for what, code in (
+        ("test by its other code", "0xf7, 0xc8, 1, 0, 0, 0"), ("shift by its other code", "0xc1, 0xf0, 5"),
+        ("shift by a 1 that is written", "0xc1, 0xe0, 1"), ("move by its other code", "0x8b, 0xc0"),
+        ("displacement of 0", "0x8d, 0x40, 0"), ("REX that changes nothing", "0x40, 0x89, 0xc0"),
+        ("REX before another prefix", "0x48, 0x66, 0x89, 0xc0"), ("move after F2", "0xf2, 0x89, 0xc0"),
+        ("move after F3", "0xf3, 0x89, 0xc0"), ("move that is locked", "0xf0, 0x89, 0xc0"),
+        ("move with a segment", "0x64, 0x89, 0xc0"), ("move with a segment that is not used", "0x3e, 0x89, 0xc0"),
+        ("move with an address of 32 bits", "0x67, 0x89, 0xc0"), ("nop with another number", "0x0f, 0x1f, 0x08"),
+        ("nop by another code", "0x0f, 0x19, 0xc0"), ("nop after F3", "0xf3, 0x0f, 0x1f, 0xc0"),
+        ("nop that is locked", "0xf0, 0x0f, 0x1f, 0xc0"), ("jump with a hint", "0x2e, 0x74, 0"),
+        ("byte swap of 16 bits", "0x66, 0x0f, 0xc8"), ("move of MMX", "0x0f, 0x6f, 0xc0"),
+    )),
+    ("a wide register at a return", "v3", "vpxor ymm0, ymm0, ymm0", WIDE),
+    ("a wide register, of which the rest is cleared", "v3", "vpxor ymm0, ymm0, ymm0; vpxor xmm0, xmm0, xmm0", WIDE),
+    ("a wide register after a jump", "v3",
+     "vpxor ymm0, ymm0, ymm0; jmp other; .section .text.other, \"ax\"; other: nop", WIDE),
+    ("a wide register on one of two ways", "v3",
+     "vzeroupper; cmp dil, 1; je 1f; vpxor ymm0, ymm0, ymm0; 1:", WIDE),
+    ("RBIT", "aarch64", "rbit x9, x9", f"rbit x9, x9: {NO_MEANING}"),
+    ("two vectors of LD1", "aarch64", "ld1 {v0.8b, v1.8b}, [x0]", f"ld1 .*: {NO_MEANING}"),
+    ("a shift by a register", "aarch64", "lsl x9, x9, x1", "lsl x9, x9, x1: a shift by a register"),
+    ("a shift of an immediate", "aarch64", "movi v0.4s, #1, lsl #8", f"movi v0.4s, .*: {OTHER_FORM}"),
+    ("flags that are not known", "aarch64", "b.eq 1f; nop; 1:", "b.eq .*: flags that are not known are used"),
     ("a return to another place", "aarch64", "add x30, x30, #4", NO_CODE),
     ("a byte of the stack that a signal may change", "aarch64",
      f"mov w9, #{VERSION}; str x9, [sp, #-16]!; add sp, sp, #16; sub sp, sp, #16; ldr x0, [sp], #16; ret",
      "the version"),
     ("a stack that is too long for a moment", "aarch64",
      "sub sp, sp, #1024, lsl #12; add sp, sp, #1024, lsl #12", LEAVES),
-    ("a base that a signed load moves", "aarch64",
-     "sub sp, sp, #16; str xzr, [sp]; mov x8, sp; ldrsb w10, [x8], #1; mov x9, sp; add sp, sp, #16; "
+    ("a base that a load moves", "aarch64",
+     "sub sp, sp, #16; str xzr, [sp]; mov x8, sp; ldrb w10, [x8], #1; mov x9, sp; add sp, sp, #16; "
      f"sub x8, x8, x9; mov w9, #{VERSION}; add w0, w8, w9; ret", "the version"),
     ("a base that is loaded and moved", "aarch64", "sub sp, sp, #16; mov x8, sp; ldr x8, [x8], #8", UNPREDICTABLE),
     ("a base that is stored and moved", "aarch64", "sub sp, sp, #16; mov x8, sp; str x8, [x8], #8", UNPREDICTABLE),
@@ -111,17 +129,36 @@ FORMS = [
      f"adrp x8, table; .reloc ., {LOWER_BITS_16}, table; ldr d0, [x8]", f"ldr .*: {NO_MEANING}"),
     ("lower bits between instructions", "aarch64",
      f"adrp x8, table; .reloc . + 2, {LOWER_BITS}, table; add x8, x8, #0", f"0x4: .*: {NO_MEANING}"),
+    *((f"a base that is moved by 0 and a register of {text}", "aarch64",
+       f"sub sp, sp, #16; mov x10, sp; .inst {code}; add sp, sp, #16", UNPREDICTABLE) for text, code in (
+        ("ldrb w10, [x10], #0", "0x3840054a"), ("ldrb w10, [x10, #0]!", "0x38400d4a"),
+        ("str x10, [x10], #0", "0xf800054a"), ("ldr x10, [x10], #0", "0xf840054a"),
+        ("stp x10, x9, [x10], #0", "0xa880254a"), ("ldp x9, x10, [x10], #0", "0xa8c02949"),
+    )),
+    *((f"{text}, which is FP16", "aarch64", f".inst {code}", OTHER) for text, code in (
+        ("fmov h1, w10", "0x1ee70141"), ("fmov w10, h1", "0x1ee6002a"), ("fmov h0, h1", "0x1ee04020"),
+    )),
+    ("a hint that is no nop", "aarch64", "hint #0x7f", NO_MEANING),
+    ("an add of an atomic access", "aarch64", ".inst 0xb8e00020", NO_MEANING),
+    *((f"{text}, which is reserved", "aarch64", f".inst {code}", OTHER) for text, code in (
+        ("movk w0, #1, lsl #32", "0x72c00020"), ("and w0, w0, #1 by 64 bits", "0x12400000"),
+        ("bfxil w0, w0, #1, #40", "0x3301a000"), ("bfxil with another N", "0x33400400"),
+        ("add of a register that is rotated", "0x0bc00000"), ("add that extends by 5", "0x0b205400"),
+        ("csel with a bit", "0x1a800c00"), ("ret with a bit", "0xd65f03c1"), ("mul by v0.d", "0x4ee09c00"),
+    )),
+    ("a write of x18", "aarch64", "mov x18, #1", PLATFORM),
+    ("a write of half of x18", "aarch64", "mov w18, #1", PLATFORM),
+    ("a read of x18", "aarch64", "mov x9, x18", PLATFORM),
+    ("an address in x18", "aarch64", "ldrb w9, [x18]", PLATFORM),
     ("a page that is no page", "aarch64",
      "adrp x8, table; .reloc ., R_AARCH64_ADR_PREL_PG_HI21, table; adr x8, .", f"adr .*: {NO_MEANING}"),
 ]
 ACCEPTED = [
-    ("default",
-     "pxor xmm1, xmm1; pshufb xmm0, xmm1; push rax; pop rax; "
-     "sub rsp, 8; xor edx, edx; call memcpy@PLT; add rsp, 8"),
-    ("v3", "vpxor ymm0, ymm0, ymm0; xor edx, edx; xor ecx, ecx; mulx rax, rcx, rcx"),
+    ("v2", "pxor xmm1, xmm1; pshufb xmm0, xmm1; push rax; pop rax"),
+    ("v3",
+     "vpxor ymm0, ymm0, ymm0; vzeroupper; vpxor xmm0, xmm0, xmm0; xor edx, edx; xor ecx, ecx; mulx rax, rcx, rcx"),
+    ("v2", f".byte {', '.join(f'{byte:#x}' for byte in bytes.fromhex(''.join(NOPS)))}"),
     ("dispatch", "pxor xmm0, xmm0"),
-    ("sse2", "pxor xmm0, xmm0; pextrw eax, xmm0, 1"),
-    ("avx2", "pxor xmm1, xmm1; pshufb xmm0, xmm1; vpxor ymm0, ymm0, ymm0"),
     ("aarch64", f"adrp x8, table; .reloc ., {LOWER_BITS}, table; add x8, x8, #0; mov x9, #1; neg x8, x9"),
 ]
 
@@ -129,9 +166,7 @@ ACCEPTED = [
 def prove(build, form):
     """Proves a function that has a form and returns the version."""
     machine = 183 if build == "aarch64" else 62
-    obj = objects.read(assembled_object(machine, SOURCES[machine].format(form, VERSION)))
-    front_end = importlib.import_module(f"{PROCESSORS[machine]}.front_end")
-    code = cargo.code_of(obj, build) if build in cargo.BUILDS else Code(obj, front_end.front_end_of(build))
+    code = code_from(assembled_object(machine, SOURCES[machine].format(form, VERSION)), build)
     CALLS["version"].prove(code, "const_hex_version", ("case", 0))
 
 

@@ -17,8 +17,6 @@ LIMITS |= {"done": 1 << 9, "left": 1 << 9, "before": (1 << 32) - (1 << 17)}
 STACK_END = 4096
 # A search reads a byte in each round, and other loops 128.
 SEARCH_LIMITS = dict.fromkeys(("done", "left"), (1 << 16) - STACK_END)
-# It calls no function of another library.
-LIBRARY = {}
 
 
 def start(code, symbol, arguments, regions):

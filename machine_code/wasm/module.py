@@ -6,12 +6,11 @@ memory. The data lie where the memory has them.
 
 import re
 import subprocess
-from collections import namedtuple
 
+from disassembly import Instruction
 from objects import ALLOCATED, Object, Section
 from values import constants, number
 
-Instruction = namedtuple("Instruction", "address size mnemonic operands text")
 SIZES = {"i32": 4, "i64": 8, "v128": 16}
 SPACE = 1 << 32
 # What a module may have beside functions, data and globals.
@@ -40,12 +39,6 @@ class Module(Object):
 
     def function_at(self, address):
         return next(function for function in self.functions if function.address == address)
-
-
-def read(path):
-    """The module in a file."""
-    with open(path, "rb") as file:
-        return parse(file.read(), "memory")
 
 
 def parse(content, exported=""):

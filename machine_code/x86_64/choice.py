@@ -1,4 +1,4 @@
-"""Which of the two builds a function of c/dispatch.c has to call.
+"""Which of the two builds a function of c/asm/dispatch.S has to call.
 
 It is the one that the stored byte names. If it names none, the CPU is asked, and the build for x86-64-v3 is
 called if and only if the CPU has all that this level needs. The byte may be anything at the start, and another
@@ -10,7 +10,7 @@ from contracts import is_same
 from exploration import require
 from values import apply, constants, kept, parts_of, unknown, variable
 
-BUILDS = {"_default": 1, "_v3": 2}  # and the byte that stands for each
+BUILDS = {"_v2": 1, "_v3": 2}  # and the byte that stands for each
 # What x86-64-v3 needs beyond x86-64-v2, by the x86-64 psABI: the leaf of `cpuid`, the register, and the bits.
 FEATURES = [
     (1, "rcx", 1 << 12 | 1 << 22 | 1 << 27 | 1 << 28 | 1 << 29),  # FMA, MOVBE, OSXSAVE, AVX, F16C

@@ -4,13 +4,17 @@ import re
 from collections import namedtuple
 
 import disassembly
+from assembled import checked, with_distance
 
 Register = namedtuple("Register", "family first size")
 Memory = namedtuple("Memory", "base index scale displacement size")
 # An immediate is a number.
 
 SIZES = {"BYTE": 1, "WORD": 2, "DWORD": 4, "QWORD": 8, "XMMWORD": 16, "YMMWORD": 32}
-PREFIXES = ("cs ", "ds ", "notrack ", "bnd ")
+# What compilers and assemblers put between instructions, and assemble otherwise from its text: with a displacement
+# that is 0, and with several prefixes.
+NOPS = "0f1f4000 0f1f440000 660f1f440000 0f1f8000000000 0f1f840000000000 660f1f840000000000".split()
+NOPS += ["66" * count + "2e0f1f840000000000" for count in range(1, 7)]
 
 
 def _registers():
@@ -36,7 +40,7 @@ def _operand(text):
     text = text.strip()
     if text in REGISTERS:
         return REGISTERS[text]
-    found = re.fullmatch(r"(?:(\w+) PTR )?(?:[cd]s:)?\[(.*)\]", text)
+    found = re.fullmatch(r"(?:(\w+) PTR )?\[(.*)\]", text)
     if found:
         return _memory(found[2], SIZES.get(found[1]))
     return int(text, 16)
@@ -64,14 +68,23 @@ def _memory(text, size):
 
 def _instruction(text):
     text = text.split("#")[0].split("<")[0].strip()
-    bare = text
-    while bare.startswith(PREFIXES):
-        bare = bare.split(" ", 1)[1].strip()
-    mnemonic, _, rest = bare.partition(" ")
-    if re.match(r"(data16 |cs )*nop", bare) or bare.split() == ["xchg", "ax,ax"]:
+    mnemonic, _, rest = text.partition(" ")
+    if re.match(r"(data16 |cs )*nop", text) or text.split() == ["xchg", "ax,ax"]:
         return "nop", (), text
     return mnemonic, tuple([_operand(part) for part in rest.split(",")]) if rest.strip() else (), text
 
 
-def instructions(section):
-    return disassembly.read(section, ["objdump", "-m", "i386:x86-64", "-M", "intel", "-w"], _instruction)
+def _text(instruction):
+    is_jump = instruction.mnemonic.startswith("j") or instruction.mnemonic == "call"
+    return with_distance(instruction) if is_jump else instruction.text
+
+
+def _is_nop(instruction, old, new):
+    return instruction.mnemonic == "nop" and old.hex() in NOPS
+
+
+def instructions(section, features):
+    """Those of a section, for a CPU that has these features."""
+    found = disassembly.read(section, ["objdump", "-m", "i386:x86-64", "-M", "intel", "-w"], _instruction)
+    command = ["as", "--64", "-msyntax=intel", "-mnaked-reg", f"-march={features}"]
+    return checked(section, found, command, _text, _is_nop)

@@ -12,8 +12,6 @@ from arithmetic import (
     complement,
     logic,
     moved,
-    multiplied,
-    named,
     product,
     selected,
     shifted,
@@ -26,6 +24,7 @@ from disassembly import adding_to
 from flags import Flags
 from linear import Linear
 from memory import Fault, Pointer, is_whole
+from state import sum_of
 from values import ZERO, TooWide, apply, are_constant, constants, number, unknown, variable
 from x86_64.state import CODES
 
@@ -50,13 +49,6 @@ def mov(state, i):
     state.write(i.operands[0], state.read(i.operands[1], i.operands[0].size))
 
 
-@instruction("xchg")
-def xchg(state, i):
-    first, second = (state.read(operand) for operand in i.operands)
-    state.write(i.operands[0], second)
-    state.write(i.operands[1], first)
-
-
 @instruction("movzx")
 def movzx(state, i):
     value = state.read(i.operands[1])
@@ -71,7 +63,11 @@ def movsx(state, i):
 
 @instruction("lea")
 def lea(state, i):
-    value, size = state.effective(i.operands[1]), i.operands[0].size
+    size = i.operands[0].size
+    parts, displacement = state.parts(i.operands[1])
+    if size < 8 and not any(is_whole(value) for value, _ in parts):
+        return state.write(i.operands[0], sum_of(displacement, parts, size))
+    value = state.effective(i.operands[1])
     if type(value) is Linear and size < 8:
         value = value.low_bytes(size)
     elif type(value) is Pointer and size < 8:
@@ -84,7 +80,7 @@ def add(state, i):
     first, second = _operands(state, i)
     if type(second) is Pointer:
         first, second = second, first
-    if type(first) is Pointer and not is_whole(second) and not named(second, "negated"):
+    if type(first) is Pointer and not is_whole(second):
         # Perhaps it is the distance of a case from a table of them.
         second = state.settled(second)
     result = added(first, second)
@@ -124,13 +120,6 @@ def _changed(state, lane, change):
         if not state.decide(are_equal((byte,), last)):
             return result + lane[at + 1 :]
     return result
-
-
-@instruction("neg")
-def neg(state, i):
-    first = state.read(i.operands[0])
-    zero = constants(0, 8 if is_whole(first) else len(first))
-    _finish(state, i, subtracted(zero, first), Flags("sub", zero, first))
 
 
 @instruction("not")
@@ -184,14 +173,6 @@ def mulx(state, i):
         raise Fault("a product of less than 8 bytes")
     for register, value in zip((lower, upper), product(state.registers["rdx"], state.read(source))):
         state.write(register, value)
-
-
-@instruction("imul")
-def imul(state, i):
-    if len(i.operands) < 2:
-        raise Fault("a signed product of two registers")
-    first, second = (state.read(operand, i.operands[0].size) for operand in i.operands[-2:])
-    _finish(state, i, multiplied(first, second), None)
 
 
 @instruction("push")

@@ -1,7 +1,6 @@
 """The registers and the operands of x86-64."""
 
 import state
-from decimals import low_bytes, of_small
 from linear import Linear
 from memory import Fault, Pointer, as_lane, is_whole
 from values import ZERO, constants
@@ -9,6 +8,8 @@ from x86_64.decoding import Register
 
 GENERAL = ("rax", "rcx", "rdx", "rbx", "rsp", "rbp", "rsi", "rdi", *(f"r{at}" for at in range(8, 16)))
 VECTORS = tuple(f"v{at}" for at in range(16))
+# Beside the registers stands whether an instruction of 32 bytes has written one since the last `vzeroupper`.
+WIDE, CLEAN, WRITTEN = "wide", constants(0, 1), constants(1, 1)
 
 # The conditions of jumps by flags: each as one of seven (flags.py), or its negation.
 CODES = {}
@@ -19,6 +20,10 @@ for _names in ("e z/ne nz", "b c nae/ae nc nb", "be na/a nbe", "s/ns", "l nge/ge
 
 class State(state.State):
     sizes, top, red_zone = dict.fromkeys(GENERAL, 8) | dict.fromkeys(VECTORS, 32), "rsp", 128
+
+    def __init__(self, memory):
+        super().__init__(memory)
+        self.registers[WIDE] = CLEAN
 
     def flag(self, code):
         """The condition of a jump, such as "ne"."""
@@ -33,16 +38,16 @@ class State(state.State):
         if is_whole(value) and register.size < 8:
             # The lowest bits of a number may be known. Those of a pointer may only be moved.
             end = register.first + register.size
-            value = low_bytes(value, end) if type(value) is Linear else as_lane(value)
+            value = value.low_bytes(end) if type(value) is Linear else as_lane(value)
         return value if is_whole(value) else value[register.first : register.first + register.size]
 
     def set_register(self, register, value):
         """A write of 4 bytes to a general register clears the upper half, a shorter one keeps the rest."""
         if register.size == 4:
-            value = of_small(value) or value + (ZERO,) * 4
+            value += (ZERO,) * 4
         elif register.size < 8:
             old = self.registers[register.family]
-            old = low_bytes(old, 8) if type(old) is Linear else as_lane(old)
+            old = old.low_bytes(8) if type(old) is Linear else as_lane(old)
             value = old[: register.first] + value + old[register.first + register.size :]
         if not is_whole(value) and len(value) != 8:
             raise Fault("a register is written by a value of another size")
@@ -53,6 +58,8 @@ class State(state.State):
         old = self.registers[register.family]
         rest = old[len(value) :] if keeps_rest else (ZERO,) * (32 - len(value))
         self.registers[register.family] = value + rest
+        if len(value) == 32:
+            self.registers[WIDE] = WRITTEN
 
     def read(self, operand, size=None, alignment=1):
         """The value of an operand. An immediate has the given size, and of a register or memory so much is

@@ -7,28 +7,16 @@ alignment.
 
 import operator
 
-from arithmetic import (
-    by_count,
-    by_lanes,
-    difference_from_0,
-    flat,
-    interleaved,
-    looked_up,
-    narrowed,
-    sum_to_255,
-)
+from arithmetic import by_count, by_lanes, difference_from_0, flat, interleaved, looked_up, narrowed
 from conditions import are_zero
 from flags import Flags
-from memory import Fault, as_lane, from_lane
-from values import ZERO, apply, are_constant, each, equal, is_equal, joined, masked, parts
+from memory import as_lane, from_lane
+from values import ZERO, are_constant, each, joined, masked
 from x86_64.decoding import Register
 from x86_64.general import HANDLERS, instruction
+from x86_64.state import CLEAN, WIDE
 
 # Functions of numbers
-
-
-def _top_bit_at(value, place):
-    return value >> 7 << place
 
 
 def _pick(control, row):
@@ -55,41 +43,28 @@ def _shuffled(row, control):
     return looked_up(row, control, _pick)
 
 
-def _interleaved(size, begin=0):
-    """Of the lower halves, or of the upper ones, which begin at 8."""
-    return lambda first, second: interleaved(first[begin:], second[begin:], size, 8)
-
-
-def _picked(vector, order, size):
-    """Four lanes of a vector, by two bits of a number each."""
-    return flat(vector[(order >> 2 * at & 3) * size :][:size] for at in range(4))
+def _interleaved(size):
+    """Of the lower halves."""
+    return lambda first, second: interleaved(first, second, size, 8)
 
 
 OPERATIONS = {
     "por": joined,
-    "pand": masked,
     "pxor": by_lanes(operator.xor, 1),
+    "xorps": by_lanes(operator.xor, 1),
     "paddb": by_lanes(operator.add, 1),
     "paddw": by_lanes(operator.add, 2),
     "psubb": by_lanes(operator.sub, 1),
     "psubusb": by_lanes(difference_from_0, 1),
-    "paddusb": by_lanes(sum_to_255, 1),
     "pminub": by_lanes(min, 1),
-    "pmaxub": lambda first, second: joined(first, second, max),
     "pmullw": by_lanes(operator.mul, 2),
-    "pcmpeqb": is_equal,
-    "pcmpeqd": by_lanes(equal, 4),
     "pshufb": _in_halves(_shuffled),
     "packuswb": _in_halves(narrowed),
-    "punpcklbw": _in_halves(_interleaved(1)),
-    "punpckhbw": _in_halves(_interleaved(1, 8)),
-    "punpcklwd": _in_halves(_interleaved(2)),
     "punpckldq": _in_halves(_interleaved(4)),
     "punpcklqdq": _in_halves(_interleaved(8)),
     # The last operand is an immediate.
     "psllw": by_count(operator.lshift, 2),
     "psrlw": by_count(operator.rshift, 2),
-    "psrld": by_count(operator.rshift, 4),
 }
 
 
@@ -103,7 +78,7 @@ def _set_target(state, i, value):
 
 def _handler(operation):
     def handle(state, i):
-        if i.mnemonic in ("pxor", "vpxor") and i.operands[-1] == i.operands[-2]:
+        if i.mnemonic in ("pxor", "vpxor", "xorps", "vxorps") and i.operands[-1] == i.operands[-2]:
             # The result is 0, whatever the register held.
             _set_target(state, i, (ZERO,) * i.operands[0].size)
             return
@@ -171,28 +146,14 @@ def extract(state, i):
     state.write(target, from_lane(value))
 
 
-@instruction("pmovmskb", "vpmovmskb")
-def top_bits(state, i):
-    """The top bit of each byte of a vector, as a number that may only be tested for zero."""
-    target, vector = i.operands
-    result = (ZERO,) * target.size
-    for at, byte in enumerate(state.read(vector)):
-        for part in parts(byte):
-            bit = apply(_top_bit_at, 1, [(part,)], (at % 8,))
-            result = joined(result, (ZERO,) * (at // 8) + bit + (ZERO,) * (target.size - at // 8 - 1))
-    state.write(target, result)
-
-
 @instruction("pmovzxbw", "vpmovzxbw")
 def widen(state, i):
     size = i.operands[0].size
     _set_target(state, i, flat((byte, ZERO) for byte in as_lane(state.read(i.operands[1], size // 2))))
 
 
-@instruction("vbroadcasti128", "vpbroadcastb", "vpbroadcastd", "vpbroadcastq")
+@instruction("vbroadcasti128", "vpbroadcastd", "vpbroadcastq")
 def broadcast(state, i):
-    if type(i.operands[1]) is Register and not i.operands[1].family.startswith("v"):
-        raise Fault("an instruction of AVX-512")
     size = 16 if i.mnemonic.endswith("128") else UNITS[i.mnemonic[-1]]
     _set_target(state, i, as_lane(state.read(i.operands[1], size)) * (i.operands[0].size // size))
 
@@ -214,11 +175,12 @@ def extract_half(state, i):
         state.memory.store(state.address(target), value)
 
 
-@instruction("vpermq", "pshufd", "pshuflw")
+@instruction("vpermq")
 def permute(state, i):
-    source = state.read(i.operands[1], i.operands[0].size, 1 if _is_avx(i) else 16)
-    size = {"vpermq": 8, "pshufd": 4, "pshuflw": 2}[i.mnemonic]
-    _set_target(state, i, _picked(source, i.operands[2], size) + source[4 * size :])
+    """Four lanes of a vector, by two bits of a number each."""
+    target, vector, order = i.operands
+    value = state.read(vector, target.size)
+    _set_target(state, i, flat(value[(order >> 2 * at & 3) * 8 :][:8] for at in range(4)))
 
 
 @instruction("ptest", "vptest")
@@ -234,3 +196,4 @@ def clear_upper(state, i):
     for name, value in state.registers.items():
         if name.startswith("v"):
             state.registers[name] = value[:16] + (ZERO,) * 16
+    state.registers[WIDE] = CLEAN
