@@ -51,12 +51,12 @@
  *    overlap any other argument. In particular, text cannot be decoded in place.
  *  - written, decoder, and the error that is passed to const_hex_error_message are not NULL.
  *  - No other thread writes an argument while the function runs, and none reads what the function writes.
- *    In the library that CMake builds there is one exception: if something else changes the text meanwhile,
- *    such as a process that shares the memory, the function still returns and writes only to its own
- *    arguments, but the result is unspecified. This is tested and not verified.
+ *    The verified machine code has one exception: if something else changes the text meanwhile, such as a
+ *    process that shares the memory, the function still returns and writes only to its own arguments, but the
+ *    result is unspecified. This is tested and not verified.
  *
- * The next four sections are about the library that CMake builds, for Linux. Cargo builds a library with the
- * same functions for any platform: rust/capi/README.md says what holds for it.
+ * The next four sections are about the library on Linux, macOS and BSD on x86-64 and AArch64. On other platforms
+ * cargo builds it: c/README.md says what holds for it.
  *
  * FORMAL VERIFICATION
  *
@@ -64,37 +64,37 @@
  * function meets its contract: it is memory-safe, terminates, and returns and writes what the contract
  * says, for all inputs. The contracts are in crates/const_hex_c; this header states them in prose.
  *
- * The machine code is verified too, against this header, by the separate tool in machine_code, if the toolchain
- * that README.md names has built it, on x86-64 without CONST_HEX_SINGLE: every function, on x86-64 in both builds,
- * for every length below 2^53 and positions of a decoder up to 2^62, and the C code in c/dispatch.c, which detects
- * the CPU and handles a NULL error. That this header agrees with the contracts of crates/const_hex_c and of
+ * The machine code, which the folder c/asm contains as assembly, is verified too, against this header, by the
+ * separate tool in machine_code: every function, on x86-64 in both builds, for every
+ * length below 2^53 and positions of a decoder up to 2^62. This is a proof about libconst_hex.a; a test compares
+ * the shared library's code with it. That this header agrees with the contracts of crates/const_hex_c and of
  * machine_code was reviewed.
  *
  * CONSTANT TIME
  *
  * For valid input, branches and memory addresses do not depend on the bytes or digits, but only on lengths,
  * sizes, flags and pointers, on whether a text has a prefix, and on where the chunks of a text are split.
- * This is verified in the machine code, on x86-64 in both builds and on AArch64, under the same conditions. It
- * does not hold for invalid text: the error states the position of the invalid character, and timing reveals it too.
- * How long an instruction takes is up to the CPU. No memory is wiped. libsodium has sodium_bin2hex and
- * sodium_hex2bin, which are made for secrets.
+ * This is verified in the machine code, on x86-64 in both builds and on AArch64. It does not hold for
+ * const_hex_error_message, nor for invalid text: the error states the position of the invalid character, and
+ * timing reveals it too. How long an instruction takes is up to the CPU. No memory is wiped. libsodium has
+ * sodium_bin2hex and sodium_hex2bin, which are made for secrets.
  *
  * PLATFORMS
  *
- * Linux on x86-64, tested with glibc and musl, and on AArch64, tested under QEMU only. On x86-64 the CPU
- * must support x86-64-v2 (SSE4.2 and what came with it, since about 2009): on an older one a function may
- * stop the program with an illegal instruction. The library has a second build of each function, for
- * x86-64-v3 (AVX2 and what came with it), which is used if the CPU supports it. The first call detects that
- * and stores the result in one byte; nothing else is kept between calls.
+ * On Linux tested with glibc and musl on x86-64, and on AArch64 under QEMU only; on macOS and BSD assembled and
+ * not run. On x86-64 the CPU must support x86-64-v2 (SSE4.2 and what came with it, since about 2009): on an older
+ * one a function may stop the program with an illegal instruction. The library has a second build of each
+ * function, for x86-64-v3 (AVX2 and what came with it), which is used if the CPU supports it. The first call
+ * detects that and stores the result in one byte; nothing else is kept between calls.
  *
- * A function uses at most 2,048 bytes of stack, apart from what memcpy and memmove use: the tool machine_code
- * checks this. The object files have no unwind tables: a debugger or profiler that stops inside a function may not
- * find its caller. They have no IBT and SHSTK properties: a program that links them statically runs without
- * these protections.
+ * A function uses at most 2,048 bytes of stack, which the tool machine_code checks, and calls no other library. The
+ * object files have no unwind tables: a debugger or profiler that stops inside a function may not find its caller.
+ * They have no IBT and SHSTK properties: a program that links them statically runs without these protections.
  *
  * BUILDING
  *
- *     cc program.c $(pkg-config --cflags --libs const_hex) -o program
+ *     cc program.c $(pkg-config --cflags --libs const_hex) -o program           (the shared library)
+ *     cc program.c $(pkg-config --cflags --libs const_hex) -static -o program   (libconst_hex.a)
  *
  * With CMake, use find_package(const_hex) and link const_hex::const_hex. The header is C99 and C++11.
  */

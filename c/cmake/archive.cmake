@@ -1,12 +1,11 @@
-# Makes the archive, for cpack: with the sums of the proved objects and of all files. CPack's own archives have their
-# files in no fixed order, and the name of who made them.
+# Makes the archive, for cpack, with the sums of all files. CPack's own archives have their files in no fixed order, and
+# the name of who made them. It refuses machine code whose proof is not recorded.
 set(folder ${CPACK_TEMPORARY_DIRECTORY})
 set(archive ${CPACK_PACKAGE_DIRECTORY}/${CPACK_PACKAGE_FILE_NAME}.tar.gz)
-foreach(object ${CPACK_PROVED_OBJECTS})
-  file(SHA256 ${object} sum)
-  get_filename_component(name ${object} NAME)
-  file(APPEND ${folder}/OBJECTS "${sum}  ${name}\n")
-endforeach()
+if(CPACK_CONST_HEX_ARCHIVE)
+  execute_process(COMMAND ${CMAKE_CURRENT_LIST_DIR}/../../machine_code/prove --sums ${CPACK_CONST_HEX_ARCHIVE}
+    COMMAND_ERROR_IS_FATAL ANY)
+endif()
 execute_process(COMMAND find . -type f ! -name SHA256SUMS -printf "%P\\0" COMMAND sort -z COMMAND xargs -0 sha256sum --
   WORKING_DIRECTORY ${folder} OUTPUT_FILE SHA256SUMS COMMAND_ERROR_IS_FATAL ANY)
 execute_process(COMMAND tar c --format=ustar --sort=name "--mtime=2000-01-01 00:00Z" --owner=0 --group=0 --numeric-owner

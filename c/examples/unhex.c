@@ -8,6 +8,10 @@
  */
 #include "const_hex.h"
 #include <stdio.h>
+#ifdef _WIN32
+#include <fcntl.h>
+#include <io.h>
+#endif
 
 enum { CHUNK = 65536 };
 
@@ -44,6 +48,11 @@ static bool decode_input(struct const_hex_error *error) {
 
 int main(void) {
     struct const_hex_error error;
+#ifdef _WIN32
+    /* In text mode the system would write two bytes for each newline. */
+    _setmode(_fileno(stdin), _O_BINARY);
+    _setmode(_fileno(stdout), _O_BINARY);
+#endif
     if (!decode_input(&error)) {
         char message[CONST_HEX_MESSAGE_SIZE];
         const_hex_error_message(&error, message, sizeof message);

@@ -15,7 +15,11 @@
 #include <stdio.h>
 #include <stdlib.h>
 #include <string.h>
+#ifdef _WIN32
+#include <windows.h>
+#else
 #include <sys/mman.h>
+#endif
 
 /* ---- The builds ---- */
 
@@ -31,13 +35,13 @@ struct build {
     FUNCTIONS(MEMBER, MEMBER, )
 };
 #ifndef CONST_HEX_ONE_BUILD
-FUNCTIONS(DECLARED, DECLARED_NONNULL, _default)
+FUNCTIONS(DECLARED, DECLARED_NONNULL, _v2)
 FUNCTIONS(DECLARED, DECLARED_NONNULL, _v3)
 #endif
 static const struct build BUILDS[] = {
     {"the library", FUNCTIONS(POINTER, POINTER, )},
 #ifndef CONST_HEX_ONE_BUILD
-    {"the default build", FUNCTIONS(POINTER, POINTER_NONNULL, _default)},
+    {"the build for x86-64-v2", FUNCTIONS(POINTER, POINTER_NONNULL, _v2)},
     {"the build for x86-64-v3", FUNCTIONS(POINTER, POINTER_NONNULL, _v3)},
 #endif
 };
@@ -65,8 +69,14 @@ enum { AREA = 33 * 4096, MARK = 0x6E, AROUND = 64 };
 static struct { char *bytes, *text, *decoded; } areas;
 
 static char *new_area(void) {
+#ifdef _WIN32
+    char *all = VirtualAlloc(NULL, AREA + 2 * 4096, MEM_RESERVE, PAGE_NOACCESS);
+    bool is_open = all != NULL && VirtualAlloc(all + 4096, AREA, MEM_COMMIT, PAGE_READWRITE) != NULL;
+#else
     char *all = (char *)mmap(NULL, AREA + 2 * 4096, PROT_NONE, MAP_PRIVATE | MAP_ANONYMOUS, -1, 0);
-    if (all == MAP_FAILED || mprotect(all + 4096, AREA, PROT_READ | PROT_WRITE) != 0) {
+    bool is_open = all != MAP_FAILED && mprotect(all + 4096, AREA, PROT_READ | PROT_WRITE) == 0;
+#endif
+    if (!is_open) {
         puts("no area with pages of 4096 bytes");
         exit(2);
     }

@@ -20,7 +20,7 @@ ${PAGES}\n")
 set(LIST "find . ! -type d -printf '%m %y %P\\n' | LC_ALL=C sort -k 3")
 test(installed.files ${WITH} COMMAND sh -c "cd '${INSTALLED}' && ${LIST} | diff '${HERE}/installed.txt' -")
 test(installed.names_no_folder ${WITH} COMMAND sh -c
-  "! grep -rlF -e '${TOP}' -e '${PROJECT_BINARY_DIR}' -e '${INSTALLED}' '${INSTALLED}'")
+  "! grep -rlF -e '${PROJECT_SOURCE_DIR}' -e '${PROJECT_BINARY_DIR}' -e '${INSTALLED}' '${INSTALLED}'")
 foreach(function const_hex ${FUNCTIONS})
   test(installed.page_of_${function} NEEDS man ${WITH} FAIL_REGULAR_EXPRESSION warning PASS_REGULAR_EXPRESSION
     "${function}[ (,_]" COMMAND env LC_ALL=C.UTF-8 man --warnings -M ${INSTALLED}/share/man 3 ${function})
@@ -56,11 +56,12 @@ if(NOT CMAKE_CROSSCOMPILING)
     ./musl_check every_length_and_alignment 32")
 endif()
 # By CMake, from this folder or the archive.
+set(tool)
+if(CMAKE_TOOLCHAIN_FILE)
+  get_filename_component(tool ${CMAKE_TOOLCHAIN_FILE} ABSOLUTE BASE_DIR ${PROJECT_SOURCE_DIR})
+  set(tool -DCMAKE_TOOLCHAIN_FILE=${tool})
+endif()
 function(configured name folder)
-  set(tool)
-  if(CMAKE_TOOLCHAIN_FILE)
-    set(tool -DCMAKE_TOOLCHAIN_FILE=${CMAKE_TOOLCHAIN_FILE})
-  endif()
   test(${name} NEEDS python3 COMMAND ${CMAKE_CTEST_COMMAND} --build-and-test ${EXAMPLES} ${HERE}/${name}
     --build-generator ${CMAKE_GENERATOR} --build-options "-DCMAKE_PREFIX_PATH=${folder}" ${tool} ${ARGN}
     --test-command ${TEST_UNHEX} ./unhex PROPERTIES FIXTURES_REQUIRED "installed;unpacked")
@@ -73,6 +74,27 @@ foreach(version 1.99 0.9)
   set_tests_properties(${name} PROPERTIES PASS_REGULAR_EXPRESSION "compatible with requested version")
 endforeach()
 
+# In another project, by add_subdirectory.
+file(CONFIGURE OUTPUT project/CMakeLists.txt CONTENT "cmake_minimum_required(VERSION 3.21)
+project(program C)
+add_subdirectory(\"${PROJECT_SOURCE_DIR}\" const_hex)
+add_executable(unhex \"${EXAMPLES}/unhex.c\")
+target_link_libraries(unhex const_hex::\${LIBRARY})
+install(TARGETS unhex)\n" @ONLY)
+foreach(library const_hex static)
+  test(subdirectory.${library} NEEDS python3 COMMAND ${CMAKE_CTEST_COMMAND} --build-and-test ${HERE}/project
+    ${HERE}/subdirectory_${library} --build-generator ${CMAKE_GENERATOR} --build-options -DLIBRARY=${library} ${tool}
+    -DCONST_HEX_CARGO=${CONST_HEX_CARGO} --test-command ${TEST_UNHEX} ./unhex)
+endforeach()
+# By the compiler alone.
+if(NOT CONST_HEX_CARGO)
+  list(JOIN TEST_UNHEX "' '" run)
+  test(one_line NEEDS python3 COMMAND sh -ec "rm -rf one_line && mkdir one_line && cd one_line
+    '${CMAKE_C_COMPILER}' -c '${PROJECT_SOURCE_DIR}'/asm/*.S && ar rcs libconst_hex.a *.o
+    '${CMAKE_C_COMPILER}' '-I${PROJECT_SOURCE_DIR}' '${EXAMPLES}/unhex.c' libconst_hex.a -o unhex
+    '${run}' ./unhex")
+endif()
+
 # The archive of a release.
 set(ARCHIVE "${HERE}/un packed/${RELEASE}")
 set(PACK "'${CMAKE_CPACK_COMMAND}' --config '${PROJECT_BINARY_DIR}/CPackConfig.cmake' -B")
@@ -84,8 +106,6 @@ test(archive.is_the_same_again ${WITH} COMMAND sh -c
 test(archive.sums ${WITH} COMMAND sh -c "cd '${ARCHIVE}' && sha256sum --quiet -c SHA256SUMS && LC_ALL=C &&
   sed 's/.*  //' SHA256SUMS | sort > '${HERE}/summed' &&
   find . -type f ! -name SHA256SUMS -printf '%P\\n' | sort | diff '${HERE}/summed' -")
-test(archive.objects ${WITH} COMMAND sh -c "rm -rf members && mkdir members && cd members &&
-  ar x '${ARCHIVE}/lib/libconst_hex.a' && sha256sum --quiet -c '${ARCHIVE}/OBJECTS'")
 test(archive.has_licences_and_no_build_output ${WITH} COMMAND sh -c "cd '${ARCHIVE}' &&
   test -s LICENSE-APACHE && test -s LICENSE-MIT && test -s NOTICE &&
   ! find . -name build -o -name out -o -name 'CMakeCache*' | grep .")

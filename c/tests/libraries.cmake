@@ -1,7 +1,7 @@
 # Tests of the files of both libraries.
 set(SHARED $<TARGET_FILE:const_hex>)
 test(library.names_of_parameters NEEDS python3 COMMAND python3 -E ${SOURCE}/names.py
-  ${PROJECT_SOURCE_DIR}/const_hex.h ${PROJECT_SOURCE_DIR}/functions.h ${TOP}/crates/const_hex_c/src/lib.rt)
+  ${PROJECT_SOURCE_DIR}/const_hex.h ${SOURCE}/functions.h ${PROJECT_SOURCE_DIR}/../crates/const_hex_c/src/lib.rt)
 # The loader binds all at once, and then closes what it has filled in.
 foreach(row "soname=SONAME.*\\[libconst_hex.so.1\\]" bind_now=BIND_NOW relro=GNU_RELRO
     "stack_is_not_executable=GNU_STACK.* RW ")
@@ -15,25 +15,30 @@ list(JOIN FUNCTIONS "\n" exported)
 file(CONFIGURE OUTPUT exported CONTENT "${exported}\n")
 test(library.exports COMMAND sh -c
   "'${CMAKE_NM}' -D --defined-only '${SHARED}' | sed 's/.* //' | LC_ALL=C sort | diff exported -")
+if(NOT CONST_HEX_CARGO)
 test(library.archive_names COMMAND ${CMAKE_NM} -g --defined-only $<TARGET_FILE:const_hex_static> PROPERTIES
   PASS_REGULAR_EXPRESSION " T const_hex_decode\n" FAIL_REGULAR_EXPRESSION " [A-Z] (c[^o]|[^c])")
-# The dispatcher needs no runtime library.
-test(library.dispatcher_is_alone COMMAND ${CMAKE_NM} -u $<TARGET_OBJECTS:dispatch> PROPERTIES
+# It needs no other library, not even that of C.
+test(library.archive_is_alone COMMAND ${CMAKE_NM} -u $<TARGET_FILE:const_hex_static> PROPERTIES
   PASS_REGULAR_EXPRESSION const_hex_decode FAIL_REGULAR_EXPRESSION " U (c[^o]|[^c])")
-# What a program can write is the byte in which the dispatcher keeps what it picked.
+# What a program can write is the byte in which the dispatcher keeps what the CPU has answered.
 test(library.variables COMMAND sh -c
-  "! '${CMAKE_NM}' '$<TARGET_FILE:const_hex_static>' | grep -i ' [bcdgs] ' | grep -v ' b picked$'")
-# Each build computes with lanes.
-foreach(row v3=ymm0 default=pshufb single=tbl|pshufb)
-  string(REGEX MATCH "^([a-z0-9]+)=(.*)" row "${row}")
-  set(object ${PROJECT_BINARY_DIR}/const_hex_${CMAKE_MATCH_1}.o)
-  if(object IN_LIST PARTS)
-    test(library.lanes_of_${CMAKE_MATCH_1} COMMAND sh -c
-      "for name in encode decode decode_exact decoder_update; do '${CMAKE_OBJDUMP}' -d '${object}' |
-        sed -nE \"/<const_hex_$name(_nonnull)?(_v3|_default)?>:/,/^$/p\" |
-        grep -qwE '${CMAKE_MATCH_2}' || exit; done")
-  endif()
+  "! '${CMAKE_NM}' '$<TARGET_FILE:const_hex_static>' | grep -i ' [bcdgs] ' | grep -v ' b choice$'")
+# The shared library has the same code.
+test(library.shared_code NEEDS python3 COMMAND python3 -E ${SOURCE}/same_code.py
+  ${CMAKE_OBJDUMP} $<TARGET_FILE:const_hex_static> ${SHARED})
+# So has what clang makes of the files, for ELF and for Mach-O.
+foreach(format linux-gnu unknown-freebsd apple-macos)
+  foreach(row x86_64/x86_64_v2 x86_64/x86_64_v3 x86_64/dispatch aarch64/aarch64 aarch64/dispatch)
+    string(REGEX MATCH "^(.*)/(.*)" row ${row})
+    set(name code_for_${CMAKE_MATCH_1}-${format}.${CMAKE_MATCH_2})
+    test(library.${name} NEEDS python3 clang llvm-objdump COMMAND sh -ec
+      "for system in linux-gnu ${format}; do clang --target=${CMAKE_MATCH_1}-$system -o ${name}-$system.o \
+         -c '${PROJECT_SOURCE_DIR}/asm/${CMAKE_MATCH_2}.S'; done
+       python3 -E '${SOURCE}/same_code.py' llvm-objdump ${name}-linux-gnu.o ${name}-${format}.o")
+  endforeach()
 endforeach()
+endif()
 if(NOT CMAKE_CROSSCOMPILING)
   file(WRITE ${HERE}/abc "abc")
   # The value of FIPS 180-2.

@@ -20,6 +20,6 @@ for cases, name in (TEXTS, None), (FULL, "/dev/full"):
     for text, status, wanted in cases:
         output = open(name, "wb") if name else subprocess.PIPE
         ran = subprocess.run(sys.argv[1:], input=text, stdout=output, stderr=subprocess.PIPE, timeout=60)
-        found = ran.returncode, ran.stderr if status else ran.stdout
+        found = ran.returncode, ran.stderr.replace(b"\r\n", b"\n") if status else ran.stdout
         if found != (status, wanted):
             sys.exit(f"{text[:20]}..: {str(found)[:200]}, and not {str((status, wanted))[:200]}")

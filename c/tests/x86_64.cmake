@@ -1,10 +1,10 @@
 # Tests on x86-64: older CPUs, and secret bytes.
-if(NOT CONST_HEX_SINGLE)
+if(NOT CONST_HEX_CARGO)
   # Only the build for x86-64-v3 may use what an older CPU lacks: AVX, AVX2, FMA and F16C, whose names begin
   # with v, LZCNT, MOVBE, BMI1 and BMI2. tzcnt is left out: older CPUs run it as bsf.
   set(newer "v[a-z0-9]+|lzcnt|movbe|andn|bextr|bls(i|r|msk)|bzhi|mulx|pdep|pext|rorx|sarx|shlx|shrx")
-  test(library.default_build_is_for_older_CPUs COMMAND sh -c
-    "'${CMAKE_OBJDUMP}' -d --no-show-raw-insn '${PROJECT_BINARY_DIR}/const_hex_default.o' > code &&
+  test(library.build_for_x86_64_v2_is_for_older_CPUs COMMAND sh -c
+    "ar p '$<TARGET_FILE:const_hex_static>' x86_64_v2.S.o > code.o && '${CMAKE_OBJDUMP}' -d --no-show-raw-insn code.o > code &&
     grep -q '<const_hex_decode' code && ! grep -E '[[:space:]](${newer})[wlq]?[[:space:]]' code")
 endif()
 # An instruction that an older CPU lacks ends the program.

@@ -1,9 +1,9 @@
 /*
- * The functions of const_hex.h, once each, for dispatch.c, the tests and CMakeLists.txt. It is not installed.
+ * The functions of const_hex.h, once each.
  *
  * FUNCTIONS gives a macro the suffix and each function's result, name (without const_hex_), parameters and arguments:
- * WITH_ERROR those of a function whose parameter error may be NULL, and PLAIN those of any other. What Rattle builds of
- * the former needs an error, and has _nonnull after its name.
+ * WITH_ERROR those of a function whose parameter error may be NULL, and PLAIN those of any other. In each build the
+ * former needs an error, and has _nonnull after its name.
  */
 #ifndef CONST_HEX_FUNCTIONS_H
 #define CONST_HEX_FUNCTIONS_H

@@ -1,0 +1,151 @@
+/* The functions of const_hex.h over those in the other files, which are generated. machine_code verifies this file,
+ * too.
+ *
+ * A function of const_hex.h whose error may be NULL passes its arguments to the one whose name ends in _nonnull, and a
+ * local error in place of NULL.
+ *
+ * On x86-64 there are two of each, for x86-64-v2 and x86-64-v3. The first call asks the CPU which of them it can run,
+ * and stores the answer in the byte `choice`. There is no lock: threads that ask at the same time get the same answer,
+ * and store the same byte. No address of code is stored where a program can write.
+ */
+#include "assembly.h"
+
+#if defined(__x86_64__) && !defined(__ILP32__)
+
+	/* 0 until the CPU was asked, and then 2 if it has x86-64-v3, or 1. */
+	variable choice
+
+	/* Asks the CPU, stores the answer in `choice`, and returns it in al. It keeps all registers for arguments. The
+	 * functions need x86-64-v2 in any case, so only what x86-64-v3 adds to it is asked for, and whether the system
+	 * saves the registers of AVX. */
+	function ask
+	push	rbx
+	push	rcx
+	push	rdx
+	xor	eax, eax
+	cpuid
+	cmp	eax, 7
+	jb	2f
+	mov	eax, 1
+	cpuid
+	and	ecx, 0x38401000		/* FMA, MOVBE, OSXSAVE, AVX, F16C */
+	cmp	ecx, 0x38401000
+	jne	2f
+	mov	eax, 7
+	xor	ecx, ecx
+	cpuid
+	and	ebx, 0x128		/* BMI1, AVX2, BMI2 */
+	cmp	ebx, 0x128
+	jne	2f
+	mov	eax, 0x80000000
+	cpuid
+	cmp	eax, 0x80000001
+	jb	2f
+	mov	eax, 0x80000001
+	cpuid
+	and	ecx, 0x20		/* LZCNT */
+	je	2f
+	xor	ecx, ecx
+	xgetbv
+	and	eax, 6			/* the registers of SSE and of AVX */
+	cmp	eax, 6
+	jne	2f
+	mov	eax, 2
+	jmp	3f
+2:
+	mov	eax, 1
+3:
+	mov	BYTE PTR [rip + choice], al
+	pop	rdx
+	pop	rcx
+	pop	rbx
+	ret
+	end ask
+
+	/* Jumps to the function for this CPU. */
+	.macro choose name
+	cmp	BYTE PTR [rip + choice], 2
+	je	\name\()_v3
+	cmp	BYTE PTR [rip + choice], 1
+	je	\name\()_v2
+	call	ask
+	cmp	al, 2
+	je	\name\()_v3
+	jmp	\name\()_v2
+	.endm
+
+	.macro plain name
+	exported \name
+	function \name
+	choose \name
+	end \name
+	.endm
+
+	.macro or_null name, error
+	exported \name
+	function \name
+	test	\error, \error
+	je	3f
+2:
+	choose \name\()_nonnull
+3:
+	sub	rsp, 24
+	mov	\error, rsp
+	call	2b
+	add	rsp, 24
+	ret
+	end \name
+	.endm
+
+	plain SYMBOL(const_hex_encoded_size)
+	plain SYMBOL(const_hex_encode)
+	or_null SYMBOL(const_hex_decode), r9
+	or_null SYMBOL(const_hex_decode_exact), r8
+	or_null SYMBOL(const_hex_decoder_finish), rsi
+	or_null SYMBOL(const_hex_check), rdx
+	plain SYMBOL(const_hex_check_raw)
+	plain SYMBOL(const_hex_error_message)
+	plain SYMBOL(const_hex_version)
+
+	/* The seventh argument is the error, and lies on the stack. */
+	exported SYMBOL(const_hex_decoder_update)
+	function SYMBOL(const_hex_decoder_update)
+	cmp	QWORD PTR [rsp + 8], 0
+	je	3f
+2:
+	choose SYMBOL(const_hex_decoder_update_nonnull)
+3:
+	sub	rsp, 24
+	lea	rax, [rsp + 8]
+	mov	QWORD PTR [rsp], rax
+	call	2b
+	add	rsp, 24
+	ret
+	end SYMBOL(const_hex_decoder_update)
+
+#elif defined(__aarch64__) && !defined(__ILP32__) && !defined(__AARCH64EB__)
+
+	.macro or_null name, error
+	exported \name
+	function \name
+	cbz	\error, 2f
+	b	\name\()_nonnull
+2:
+	stp	x29, x30, [sp, #-32]!
+	mov	x29, sp
+	add	\error, sp, #16
+	bl	\name\()_nonnull
+	ldp	x29, x30, [sp], #32
+	ret
+	end \name
+	.endm
+
+	or_null SYMBOL(const_hex_decode), x5
+	or_null SYMBOL(const_hex_decode_exact), x4
+	or_null SYMBOL(const_hex_decoder_update), x6
+	or_null SYMBOL(const_hex_decoder_finish), x1
+	or_null SYMBOL(const_hex_check), x2
+
+#else
+#error "There is no machine code for this processor here. c/README.md says how to build the library with cargo."
+#endif

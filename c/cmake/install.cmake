@@ -1,0 +1,17 @@
+# What is installed. The installed files find each other from where they stand, so that the folder can be moved.
+file(RELATIVE_PATH UP /${CMAKE_INSTALL_LIBDIR}/pkgconfig /)
+configure_file(cmake/const_hex.pc.in const_hex.pc @ONLY)
+write_basic_package_version_file(const_hexConfigVersion.cmake COMPATIBILITY SameMajorVersion)
+set(CONFIG ${CMAKE_INSTALL_LIBDIR}/cmake/const_hex)
+install(TARGETS const_hex const_hex_static EXPORT const_hex)
+install(EXPORT const_hex FILE const_hexConfig.cmake NAMESPACE const_hex:: DESTINATION ${CONFIG})
+install(FILES ${PROJECT_BINARY_DIR}/const_hexConfigVersion.cmake DESTINATION ${CONFIG})
+install(FILES ${PROJECT_BINARY_DIR}/const_hex.pc DESTINATION ${CMAKE_INSTALL_LIBDIR}/pkgconfig)
+# The manual page has the prototypes of the header.
+list(JOIN PROTOTYPES ";" PROTOTYPES)
+configure_file(const_hex.3 man3/const_hex.3 @ONLY)
+foreach(function ${FUNCTIONS})
+  file(CONFIGURE OUTPUT man3/${function}.3 CONTENT ".so man3/const_hex.3\n")
+endforeach()
+install(DIRECTORY ${PROJECT_BINARY_DIR}/man3 DESTINATION ${CMAKE_INSTALL_MANDIR})
+include(cmake/release.cmake)
