@@ -1,6 +1,7 @@
 /**
  * Bytes: a Uint8Array, another view of a buffer, or a whole buffer. A function that takes bytes or text throws
- * a TypeError if the argument has another type, or if its buffer is detached or has become too short.
+ * a TypeError if the argument has another type, or if its buffer is detached or has become too short. Where the
+ * engine or a policy does not let the module run, it throws an Error that names the reason.
  */
 export type Bytes = ArrayBufferView | ArrayBufferLike;
 /** Text: a string, or its bytes. It may begin with `0x` or `0X`, and may mix uppercase and lowercase digits. */
@@ -14,7 +15,15 @@ export type NewBytes = ReturnType<typeof Uint8Array.of>;
  *
  * @throws {RangeError} if the text is longer than a string can be
  */
-export function encode(bytes: Bytes, options?: { prefix?: boolean; upper?: boolean }): string;
+export function encode(bytes: Bytes, options: { prefix: true; upper?: boolean }): `0x${string}`;
+export function encode(bytes: Bytes, options?: EncodeOptions | null): string;
+
+export interface EncodeOptions {
+    /** Whether the text begins with `0x`. */
+    prefix?: boolean;
+    /** Whether the digits are uppercase. */
+    upper?: boolean;
+}
 
 /**
  * Returns the bytes that the text decodes to: `decode('0x6b69')` returns 107 and 105.
@@ -54,6 +63,9 @@ export interface Decoder {
     /** Throws a HexError if a digit is left over, or again the HexError that `push` threw. */
     end(): void;
 }
+
+/** Returns a stream that encodes chunks of bytes: `blob.stream().pipeThrough(encoderStream({ prefix: true }))`. */
+export function encoderStream(options?: EncodeOptions | null): TransformStream<Bytes, string>;
 
 /** Returns a stream that decodes chunks of text: `response.body.pipeThrough(decoderStream())`. */
 export function decoderStream(): TransformStream<Text, NewBytes>;

@@ -6,8 +6,9 @@
 
 const MODULE = ''; // `npm run build` puts the module here, in base64.
 
-const { memory, __heap_base, const_hex_encode, const_hex_decoder_update, const_hex_decoder_finish } =
-    instantiate(atob(MODULE));
+// The memory begins with the module's stack.
+const STACK_SIZE = 4096;
+const { memory, __heap_base, const_hex_encode, const_hex_decoder_update, const_hex_decoder_finish } = load();
 
 // How many bytes are encoded or decoded at a time, and how many characters their text has.
 const BYTES_CHUNK = 2 ** 14;
@@ -19,10 +20,9 @@ const [ODD_LENGTH, INVALID_LENGTH, INVALID_CHARACTER] = [1, 2, 3];
 const KINDS = [undefined, 'OddLength', 'InvalidStringLength', 'InvalidHexCharacter'];
 const MESSAGES = [undefined, 'odd number of digits', 'invalid string length'];
 
-// Addresses in the memory, which begins with the module's stack and its constants. A decoder has two numbers,
+// Addresses in the memory, in which the module's constants follow its stack. A decoder has two numbers,
 // which are 0 if it is new. Then come the number of bytes that it wrote, and the kind, the byte and the
 // position of an error.
-const STACK_SIZE = 4096;
 const DECODER = 16 * Math.ceil(__heap_base.value / 16);
 const [WRITTEN, ERROR] = [DECODER + 8, DECODER + 16];
 const BYTES = DECODER + 32;
@@ -32,10 +32,10 @@ const bytes = new Uint8Array(memory.buffer, BYTES, BYTES_CHUNK + 1);
 // The last character of a chunk may have four bytes.
 const text = new Uint8Array(memory.buffer, TEXT, TEXT_CHUNK + 4);
 
-const textEncoder = new TextEncoder();
-const textDecoder = new TextDecoder();
 const { Buffer } = globalThis.process?.versions?.node ? globalThis : {};
 const textBuffer = Buffer?.from(memory.buffer, TEXT, text.length);
+const textEncoder = globalThis.TextEncoder && new TextEncoder();
+const textDecoder = globalThis.TextDecoder && new TextDecoder();
 
 // Up to so many characters are copied by a loop, since calls of the engine take long to begin.
 const SHORT = Buffer ? 16 : 96;
@@ -56,8 +56,9 @@ export class HexError extends SyntaxError {
     }
 }
 
-export function encode(input, { prefix = false, upper = false } = {}) {
-    const view = viewOf(input);
+export function encode(input, options) {
+    const { prefix = false, upper = false } = options ?? {};
+    const view = viewOf(input, 'encode takes bytes: a Uint8Array, another view, or a buffer');
     const length = lengthOf.call(view);
     const flags = NO_NUL | (prefix ? PREFIX : 0) | (upper ? UPPER : 0);
     if (length <= BYTES_CHUNK) return textAsString(encodeChunk(view, flags));
@@ -116,6 +117,16 @@ export function decoder() {
     };
 }
 
+export function encoderStream(options) {
+    let { prefix = false, upper = false } = options ?? {};
+    const transform = (chunk, controller) => {
+        controller.enqueue(encode(chunk, { prefix, upper }));
+        prefix = false;
+    };
+    const flush = (controller) => { if (prefix) controller.enqueue('0x'); };
+    return new TransformStream({ transform, flush });
+}
+
 export function decoderStream() {
     const { push, end } = decoder();
     const transform = (chunk, controller) => controller.enqueue(push(chunk));
@@ -135,13 +146,24 @@ export function wipe() {
 
 export { encode as bytesToHex, decode as hexToBytes };
 
-function instantiate(binary) {
+/** Returns what the module exports, or functions that throw an error with the reason why it cannot run here. */
+function load() {
+    if (!globalThis.TextEncoder || !globalThis.TextDecoder) return unusable('TextEncoder or TextDecoder is missing');
+    if (!globalThis.WebAssembly) return unusable('the engine has no WebAssembly');
     try {
-        const module = Uint8Array.from(binary, (character) => character.charCodeAt());
+        const module = Uint8Array.from(atob(MODULE), (character) => character.charCodeAt());
+        if (!WebAssembly.validate(module)) return unusable('the engine has no WebAssembly with SIMD');
         return new WebAssembly.Instance(new WebAssembly.Module(module)).exports;
     } catch (cause) {
-        throw new Error('const-hex-proved cannot compile WebAssembly with SIMD here', { cause });
+        return unusable('a policy or the engine does not allow WebAssembly to be compiled', cause);
     }
+}
+
+function unusable(reason, cause) {
+    const fail = () => { throw new Error(`const-hex-proved does not run here: ${reason}`, { cause }); };
+    const names = ['encode', 'decoder_update', 'decoder_finish'];
+    const functions = Object.fromEntries(names.map((name) => [`const_hex_${name}`, fail]));
+    return { memory: { buffer: new ArrayBuffer(2 ** 16) }, __heap_base: { value: STACK_SIZE }, ...functions };
 }
 
 /** Encodes at most a chunk of bytes into `text`, and returns how many characters it is. */
@@ -228,10 +250,10 @@ function textAsString(length) {
 }
 
 const lengthIn = (source) => (typeof source === 'string' ? source.length : lengthOf.call(source));
-const sourceOf = (input) => (typeof input === 'string' ? input : viewOf(input));
+const sourceOf = (input) => (typeof input === 'string' ? input : viewOf(input, 'not text or bytes'));
 
-/** Returns the bytes of a buffer or of a view. */
-function viewOf(value) {
+/** Returns the bytes of a buffer or of a view, or throws a TypeError with the message. */
+function viewOf(value, message) {
     const type = typeOf.call(value);
     // Copying throws if the array has lost its bytes.
     if (type === 'Uint8Array' && lengthOf.call(value) <= BYTES_CHUNK) return value;
@@ -241,7 +263,8 @@ function viewOf(value) {
         const get = (name) => Reflect.get(type ? typedArray : DataView.prototype, name, value);
         return new Uint8Array(get('buffer'), get('byteOffset'), get('byteLength'));
     } catch (cause) {
-        throw new TypeError('not text or bytes, or the buffer is detached or too short', { cause });
+        const lost = typeof value === 'object' ? ' (or the buffer is detached or too short)' : '';
+        throw new TypeError(message + lost, { cause });
     }
 }
 

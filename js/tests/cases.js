@@ -1,7 +1,7 @@
 // Tests that run in Node and in a browser: each is a function that throws if it fails.
 import * as hex from '../dist/const_hex.js';
 
-const { check, decode, decodeInto, decoder, decoderStream, encode, HexError, isHex } = hex;
+const { check, decode, decodeInto, decoder, decoderStream, encode, encoderStream, HexError, isHex } = hex;
 const TABLE = new URL('../../crates/const_hex_table/data/answers.tsv', import.meta.url);
 const CHUNK = 32768; // So many characters are decoded at a time, and half as many bytes encoded.
 const utf8 = (string) => new TextEncoder().encode(string);
@@ -203,9 +203,10 @@ function otherTypes() {
     for (const call of callers) others.forEach((other, number) => isTypeError(() => call(other), number));
     const targets = [...others, '6b', new ArrayBuffer(1), new Int8Array(1), new Uint16Array(1)];
     targets.forEach((target, number) => isTypeError(() => decodeInto('6b', target), number));
-    for (const given of [['6b'], [KIWI, null]]) isTypeError(() => encode(...given));
-    const options = [undefined, {}, { prefix: undefined, upper: false }];
-    equal(options.map((each) => encode(KIWI, each)).join(), '6b697769,6b697769,6b697769');
+    equal(outcome(() => encode('6b')).message, 'encode takes bytes: a Uint8Array, another view, or a buffer');
+    for (const options of [undefined, null, {}, { prefix: undefined, upper: false }]) {
+        equal(encode(KIWI, options), '6b697769');
+    }
     equal([KIWI, KIWI].map(hex.bytesToHex).join(), '6b697769,6b697769');
     equal(hex.hexToBytes, decode);
 }
@@ -277,13 +278,18 @@ function severalDecoders() {
 }
 
 async function streams() {
-    async function read(...chunks) {
-        const pull = (stream) => (chunks.length ? stream.enqueue(chunks.shift()) : stream.close());
-        let digits = '';
-        const decoded = new ReadableStream({ pull }).pipeThrough(decoderStream());
-        for await (const bytes of decoded) digits += digitsOf(bytes);
-        return digits;
+    async function through(stream, chunks, show) {
+        const pull = (source) => (chunks.length ? source.enqueue(chunks.shift()) : source.close());
+        let all = '';
+        for await (const chunk of new ReadableStream({ pull }).pipeThrough(stream)) all += show(chunk);
+        return all;
     }
+    const read = (...chunks) => through(decoderStream(), chunks, digitsOf);
+    const write = (options, ...chunks) => through(encoderStream(options), chunks, String);
+    equal(await write(undefined, KIWI, KIWI.buffer), '6b6977696b697769');
+    equal(await write({ prefix: true, upper: true }, KIWI, KIWI.subarray(1)), '0x6B697769697769');
+    equal(await write({ prefix: true }), '0x');
+    equal(await write(null, '6b').catch(({ name }) => name), 'TypeError');
     equal(await read('0', utf8('x6b6'), '97', '769'), '6b697769');
     equal(await read('6b', '6').catch(shown), '!OddLength');
     equal(await read('6b', '6z').catch(shown), '!InvalidHexCharacter 0x7a 3');

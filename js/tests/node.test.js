@@ -1,6 +1,9 @@
 // The cases in Node, and what needs Node: engines by what they lack, the module's results, and large inputs.
 import assert from 'node:assert/strict';
-import { readFileSync } from 'node:fs';
+import { execFileSync, spawnSync } from 'node:child_process';
+import { mkdtempSync, readFileSync } from 'node:fs';
+import { tmpdir } from 'node:os';
+import { join } from 'node:path';
 import test from 'node:test';
 import { runInNewContext } from 'node:vm';
 import * as hex from '../dist/const_hex.js';
@@ -14,7 +17,7 @@ test('dist/const_hex.js is built from src/const_hex.js', () => {
 
 test('index.d.ts declares each export', () => {
     const declared = read('../index.d.ts').match(/(?<=^export (function|class) |^export \{.*\bas )\w+/gm);
-    assert.deepEqual(declared.sort(), Object.keys(hex).sort());
+    assert.deepEqual([...new Set(declared)].sort(), Object.keys(hex).sort());
 });
 
 for (const [name, run] of Object.entries(cases)) test(name, run);
@@ -33,9 +36,37 @@ async function loadOver(change) {
     return loading.finally(() => { WebAssembly.Instance = Instance; });
 }
 
-test('an engine without SIMD', async () => {
-    const fail = () => { throw new WebAssembly.CompileError('invalid opcode'); };
-    await assert.rejects(loadOver(fail), /^Error: const-hex-proved cannot compile WebAssembly with SIMD/);
+test('where the module does not run, the import succeeds, and each function says why', async () => {
+    const { TextEncoder, TextDecoder, WebAssembly } = globalThis;
+    const refuse = () => { throw new WebAssembly.CompileError('blocked by the policy'); };
+    for (const [change, reason] of [
+        [{ TextEncoder: undefined }, 'TextEncoder or TextDecoder is missing'],
+        [{ TextDecoder: undefined }, 'TextEncoder or TextDecoder is missing'],
+        [{ WebAssembly: undefined }, 'the engine has no WebAssembly'],
+        [{ WebAssembly: { validate: () => false } }, 'the engine has no WebAssembly with SIMD'],
+        [{ WebAssembly: { validate: () => true, Module: refuse } }, /policy or the engine does not allow WebAssembly/],
+    ]) {
+        Object.assign(globalThis, change);
+        const loaded = await import(`../dist/const_hex.js?${Math.random()}`)
+            .finally(() => Object.assign(globalThis, { TextEncoder, TextDecoder, WebAssembly }));
+        const calls = ['decode', 'check', 'isHex'].map((name) => () => loaded[name]('6b'));
+        calls.push(() => loaded.encode(Uint8Array.of(1)), () => loaded.decodeInto('6b', Uint8Array.of(1)));
+        calls.push(() => loaded.decoder().push('6b'), () => loaded.decoder().end());
+        for (const call of calls) {
+            assert.throws(call, ({ message }) => /^const-hex-proved does not run here: /.test(message)
+                && (reason.test ? reason.test(message) : message.endsWith(reason)), `${reason} ${call}`);
+        }
+    }
+});
+
+// Another version of rustc makes another module. Debian 12 has this one.
+const rustc = spawnSync('rustc', ['--version'], { encoding: 'utf8' }).stdout ?? '';
+const other = rustc.startsWith('rustc 1.63.0') ? false : 'rustc 1.63.0 with the target wasm32-unknown-unknown is missing';
+test('src/const_hex.wasm is what cargo makes', { skip: other }, () => {
+    const file = join(mkdtempSync(join(tmpdir(), 'module-')), 'const_hex.wasm');
+    execFileSync(process.execPath, ['build.js', '--module', file], { cwd: new URL('..', import.meta.url) });
+    const committed = readFileSync(new URL('../src/const_hex.wasm', import.meta.url));
+    assert(readFileSync(file).equals(committed), 'run `node build.js --module src/const_hex.wasm`');
 });
 
 test('each result of the module is looked at', async () => {

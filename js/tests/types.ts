@@ -1,8 +1,9 @@
 // Compiled, and not run.
-import { bytesToHex, check, decode, decodeInto, decoder, decoderStream, encode } from 'const-hex-proved';
+import { bytesToHex, check, decode, decodeInto, decoder, decoderStream, encode, encoderStream } from 'const-hex-proved';
 import { HexError, hexToBytes, isHex, wipe } from 'const-hex-proved';
 
-const text: string = encode(new Uint8Array(2), { prefix: true });
+const text: `0x${string}` = encode(new Uint8Array(2), { prefix: true });
+const plain: string = encode(new Uint8Array(2), null);
 const bytes: Uint8Array = decode(text);
 // From TypeScript 5.9 on, these take an array only if its buffer is known not to be shared.
 crypto.subtle.digest('SHA-256', decode(text));
@@ -21,4 +22,5 @@ decode(5);
 encode(bytes, { lower: true });
 // @ts-expect-error: made by the package alone
 new HexError();
-export { digest, indexOf, mine, nothing, stream };
+const encoded: ReadableStream<string> = new Blob([]).stream().pipeThrough(encoderStream({ upper: true }));
+export { digest, encoded, indexOf, mine, nothing, plain, stream };

@@ -1,13 +1,13 @@
-//! The functions of `const_hex.h`, for C on any platform and for the WebAssembly module of the package for
-//! JavaScript. The header documents them.
+//! The functions of `const_hex.h`, for the library for C on platforms without verified machine code, and for the
+//! WebAssembly module of the package for JavaScript. The header documents them.
 //!
 //! Each makes slices of the pointers and lengths that C passes, and calls the proved function of the same name.
 //! One whose error may be NULL calls the function that ends in `_nonnull`, with an error of its own then. Nothing
 //! here allocates or panics.
 //!
-//! `cargo build --release` makes `libconst_hex.a` and the shared library. For the target
-//! `wasm32-unknown-unknown` it makes the module, which exports the three functions of this file alone.
-#![cfg_attr(not(any(test, feature = "std")), no_std)]
+//! `cmake` in the folder `c` builds this crate and makes both libraries of it. For the target
+//! `wasm32-unknown-unknown` it becomes the module, which exports the three functions of this file alone.
+#![no_std]
 #![deny(unsafe_op_in_unsafe_fn)]
 #![allow(clippy::missing_safety_doc)] // The header says what each function requires.
 
@@ -83,7 +83,16 @@ unsafe fn slice<'a>(start: *const u8, length: usize) -> &'a [u8] {
         return &[];
     }
     // SAFETY: the caller promises this.
-    unsafe { from_raw_parts(start, length) }
+    unsafe { from_raw_parts(start, at_most(length)) }
+}
+
+/// The length, or the greatest one of a slice that is odd or even as well. No buffer is larger, so such a length is an
+/// error in every function, and the same one. The package for JavaScript passes none.
+fn at_most(length: usize) -> usize {
+    if cfg!(target_arch = "wasm32") {
+        return length;
+    }
+    length.min((isize::MAX as usize - 1) | (length & 1))
 }
 
 /// The same for a buffer that is written.
@@ -96,11 +105,10 @@ unsafe fn slice_mut<'a>(start: *mut u8, length: usize) -> &'a mut [u8] {
         return &mut [];
     }
     // SAFETY: the caller promises this.
-    unsafe { from_raw_parts_mut(start, length) }
+    unsafe { from_raw_parts_mut(start, at_most(length)) }
 }
 
-/// No function panics, but the language wants this where std does not have it.
-#[cfg(not(any(test, feature = "std")))]
+/// No function panics, but the language wants this.
 #[panic_handler]
 fn panic(_: &core::panic::PanicInfo<'_>) -> ! {
     #[cfg(target_arch = "wasm32")]
