@@ -9,13 +9,17 @@ pub const SIZES: [usize; 13] = [
     1, 4, 16, 20, 32, 33, 64, 65, 128, 256, 2048, 16_384, 131_072,
 ];
 
-/// The calls that are compared.
-pub const CALLS: [&str; 5] = [
+/// The calls that are compared. For those that end in `_invalid`, the last character of the text is invalid.
+pub const CALLS: [&str; 9] = [
     "encode_to_slice",
     "encode",
+    "encode_hex",
     "decode_to_slice",
     "decode",
     "check",
+    "decode_to_slice_invalid",
+    "decode_invalid",
+    "check_invalid",
 ];
 
 /// One call of one library, on input of one size.

@@ -9,7 +9,13 @@ pub fn cases(size: usize) -> Vec<Case> {
         .map(|i| (i.wrapping_mul(2_654_435_761) >> 7) as u8)
         .collect();
     let text = const_hex::encode(&bytes).into_bytes();
-    let input = Input { bytes, text };
+    let mut invalid = text.clone();
+    invalid[2 * size - 1] = b'g';
+    let input = Input {
+        bytes,
+        text,
+        invalid,
+    };
     let mut cases = Vec::new();
     cases.extend(of_const_hex(&input));
     cases.extend(of_proved(&input));
@@ -20,10 +26,11 @@ pub fn cases(size: usize) -> Vec<Case> {
     cases
 }
 
-/// Bytes, and their text in lowercase.
+/// Bytes, their text in lowercase, and this text with an invalid last character.
 struct Input {
     bytes: Vec<u8>,
     text: Vec<u8>,
+    invalid: Vec<u8>,
 }
 
 impl Input {
@@ -39,20 +46,27 @@ impl Input {
         })
     }
 
-    /// A case that calls `run` on the text and on a buffer for the bytes.
+    /// A case that calls `run` on a text and on a buffer for the bytes.
     fn decoding<T>(
         &self,
         (call, library): (&'static str, &'static str),
         run: impl Fn(&[u8], &mut [u8]) -> T + 'static,
     ) -> Case {
-        let (text, mut bytes) = (self.text.clone(), vec![0; self.bytes.len()]);
+        let is_invalid = call.ends_with("_invalid");
+        let text = if is_invalid {
+            &self.invalid
+        } else {
+            &self.text
+        }
+        .clone();
+        let mut bytes = vec![0; self.bytes.len()];
         Case::new(call, library, move || {
             black_box(run(black_box(&text), black_box(&mut bytes)));
         })
     }
 }
 
-/// The calls of a crate that has the names of `hex`.
+/// The calls of a crate that has the names of `hex`. `encode_hex` is that of its trait `ToHex`.
 macro_rules! with_names_of_hex {
     ($library:ident, $name:literal, $input:ident) => {
         vec![
@@ -64,24 +78,38 @@ macro_rules! with_names_of_hex {
                 $library::decode_to_slice(text, bytes).unwrap()
             }),
             $input.decoding(("decode", $name), |text, _| $library::decode(text).unwrap()),
+            $input.decoding(("decode_to_slice_invalid", $name), |text, bytes| {
+                $library::decode_to_slice(text, bytes).unwrap_err()
+            }),
+            $input.decoding(("decode_invalid", $name), |text, _| {
+                $library::decode(text).unwrap_err()
+            }),
+            $input.encoding(("encode_hex", $name), |bytes, _| {
+                $library::ToHex::encode_hex::<String>(&bytes)
+            }),
         ]
     };
 }
 
+#[allow(deprecated)] // `ToHex`
 fn of_const_hex(input: &Input) -> Vec<Case> {
     let mut cases = with_names_of_hex!(const_hex, "const-hex", input);
-    cases.push(input.decoding(("check", "const-hex"), |text, _| {
-        const_hex::check(text).is_ok()
-    }));
+    for call in ["check", "check_invalid"] {
+        cases.push(input.decoding((call, "const-hex"), |text, _| {
+            const_hex::check(text).is_ok()
+        }));
+    }
     cases
 }
 
 fn of_proved(input: &Input) -> Vec<Case> {
     let name = "const-hex-proved";
     let mut cases = with_names_of_hex!(const_hex_proved, "const-hex-proved", input);
-    cases.push(input.decoding(("check", name), |text, _| {
-        const_hex_proved::check(text).is_ok()
-    }));
+    for call in ["check", "check_invalid"] {
+        cases.push(input.decoding((call, name), |text, _| {
+            const_hex_proved::check(text).is_ok()
+        }));
+    }
     cases
 }
 

@@ -1,7 +1,7 @@
 //! The proved kernels once more, over the registers of AVX2.
 
 // The parts that only a caller outside of the kernels needs are not used here.
-#![deny(unused)]
+#![cfg_attr(test, deny(unused))]
 #![allow(dead_code, unused_imports)]
 
 pub use crate::proved::arch::Kernel;

@@ -12,11 +12,12 @@ use core::{fmt, str};
 /// writes the whole text, prefix included. No method allocates unless it says so.
 ///
 /// ```
-/// let mut buffer = const_hex_proved::Buffer::<4, true>::new();
+/// # use const_hex_proved::Buffer;
+/// let mut buffer = Buffer::<4, true>::new();
 /// assert_eq!(buffer.format(b"kiwi"), "0x6b697769");
 /// assert_eq!(buffer.format_upper(b"kiwi"), "0x6B697769");
 ///
-/// const PEAR: const_hex_proved::Buffer<4> = const_hex_proved::Buffer::new().const_format(b"pear");
+/// const PEAR: Buffer<4> = Buffer::new().const_format(b"pear");
 /// assert_eq!(PEAR.as_str(), "70656172");
 /// ```
 // `as_ptr` relies on the order of the fields, and that nothing lies between them. The text is always UTF-8.
@@ -38,7 +39,8 @@ impl<const N: usize, const PREFIX: bool> Buffer<N, PREFIX> {
     /// Returns a buffer with the prefix, if any, and `2 * N` NUL characters.
     ///
     /// ```
-    /// assert_eq!(const_hex_proved::Buffer::<1, true>::new().as_str(), "0x\0\0");
+    /// # use const_hex_proved::Buffer;
+    /// assert_eq!(Buffer::<1, true>::new().as_str(), "0x\0\0");
     /// ```
     #[inline]
     pub const fn new() -> Self {
@@ -52,7 +54,8 @@ impl<const N: usize, const PREFIX: bool> Buffer<N, PREFIX> {
     /// table: at run time use [`format`](Self::format).
     ///
     /// ```
-    /// const KIWI: const_hex_proved::Buffer<4> = const_hex_proved::Buffer::new().const_format(b"kiwi");
+    /// # use const_hex_proved::Buffer;
+    /// const KIWI: Buffer<4> = Buffer::new().const_format(b"kiwi");
     /// assert_eq!(KIWI.as_str(), "6b697769");
     /// ```
     #[inline]
@@ -84,7 +87,8 @@ impl<const N: usize, const PREFIX: bool> Buffer<N, PREFIX> {
     /// Writes the text of `array` in lowercase, and returns the whole text.
     ///
     /// ```
-    /// assert_eq!(const_hex_proved::Buffer::<2>::new().format(&[0, 255]), "00ff");
+    /// # use const_hex_proved::Buffer;
+    /// assert_eq!(Buffer::<2>::new().format(&[0, 255]), "00ff");
     /// ```
     #[inline]
     pub fn format(&mut self, array: &[u8; N]) -> &mut str {
@@ -104,7 +108,8 @@ impl<const N: usize, const PREFIX: bool> Buffer<N, PREFIX> {
     /// Panics unless `slice` has `N` bytes. The buffer is unchanged then.
     ///
     /// ```
-    /// assert_eq!(const_hex_proved::Buffer::<4>::new().format_slice("kiwi"), "6b697769");
+    /// # use const_hex_proved::Buffer;
+    /// assert_eq!(Buffer::<4>::new().format_slice("kiwi"), "6b697769");
     /// ```
     #[inline]
     #[track_caller]
@@ -138,7 +143,8 @@ impl<const N: usize, const PREFIX: bool> Buffer<N, PREFIX> {
     /// Returns a copy of the text. Allocates.
     ///
     /// ```
-    /// let text: String = const_hex_proved::const_encode::<4, false>(b"kiwi").to_string();
+    /// # use const_hex_proved::const_encode;
+    /// let text: String = const_encode::<4, false>(b"kiwi").to_string();
     /// assert_eq!(text, "6b697769");
     /// ```
     #[cfg(feature = "alloc")]
@@ -160,7 +166,8 @@ impl<const N: usize, const PREFIX: bool> Buffer<N, PREFIX> {
     /// Returns the text.
     ///
     /// ```
-    /// const KIWI: &str = const_hex_proved::const_encode::<4, false>(b"kiwi").as_str();
+    /// # use const_hex_proved::const_encode;
+    /// const KIWI: &str = const_encode::<4, false>(b"kiwi").as_str();
     /// assert_eq!(KIWI, "6b697769");
     /// ```
     #[inline]
@@ -173,7 +180,8 @@ impl<const N: usize, const PREFIX: bool> Buffer<N, PREFIX> {
     /// Returns the text, which can be changed.
     ///
     /// ```
-    /// let mut buffer = const_hex_proved::const_encode::<4, false>(b"kiwi");
+    /// # use const_hex_proved::const_encode;
+    /// let mut buffer = const_encode::<4, false>(b"kiwi");
     /// buffer.as_mut_str().make_ascii_uppercase();
     /// assert_eq!(buffer.as_str(), "6B697769");
     /// ```
@@ -202,7 +210,8 @@ impl<const N: usize, const PREFIX: bool> Buffer<N, PREFIX> {
     /// Returns the text as bytes.
     ///
     /// ```
-    /// assert_eq!(const_hex_proved::const_encode::<1, true>(b"k").as_bytes(), b"0x6b");
+    /// # use const_hex_proved::const_encode;
+    /// assert_eq!(const_encode::<1, true>(b"k").as_bytes(), b"0x6b");
     /// ```
     #[inline]
     #[must_use]
@@ -218,7 +227,8 @@ impl<const N: usize, const PREFIX: bool> Buffer<N, PREFIX> {
     /// The bytes must be UTF-8 when the borrow ends.
     ///
     /// ```
-    /// let mut buffer = const_hex_proved::const_encode::<1, true>(b"k");
+    /// # use const_hex_proved::const_encode;
+    /// let mut buffer = const_encode::<1, true>(b"k");
     /// // SAFETY: X is ASCII.
     /// unsafe { buffer.as_mut_bytes()[1] = b'X' };
     /// assert_eq!(buffer.as_str(), "0X6b");
@@ -236,7 +246,8 @@ impl<const N: usize, const PREFIX: bool> Buffer<N, PREFIX> {
     /// The bytes must be UTF-8 when the borrow ends.
     ///
     /// ```
-    /// let mut buffer = const_hex_proved::const_encode::<1, true>(b"k");
+    /// # use const_hex_proved::const_encode;
+    /// let mut buffer = const_encode::<1, true>(b"k");
     /// // SAFETY: B is ASCII.
     /// unsafe { buffer.buffer()[1] = b'B' };
     /// assert_eq!(buffer.as_str(), "0x6B");

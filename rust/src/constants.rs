@@ -12,12 +12,14 @@ use crate::{Buffer, FromHexError};
 /// Panics if [`const_decode_to_array`] returns an error.
 ///
 /// ```
-/// const KIWI: [u8; 4] = const_hex_proved::bytes_of(b"0x6b697769");
+/// # use const_hex_proved::bytes_of;
+/// const KIWI: [u8; 4] = bytes_of(b"0x6b697769");
 /// assert_eq!(&KIWI, b"kiwi");
 /// ```
 ///
 /// ```compile_fail
-/// const KIWI: [u8; 4] = const_hex_proved::bytes_of(b"0x6b6977zz");
+/// # use const_hex_proved::bytes_of;
+/// const KIWI: [u8; 4] = bytes_of(b"0x6b6977zz");
 /// ```
 #[inline]
 #[must_use]
@@ -35,7 +37,8 @@ pub const fn bytes_of<const N: usize>(text: &[u8]) -> [u8; N] {
 /// Returns a [`Buffer`] with two lowercase digits per byte, after `0x` if `PREFIX` is true.
 ///
 /// ```
-/// const KIWI: const_hex_proved::Buffer<4, true> = const_hex_proved::const_encode(b"kiwi");
+/// # use const_hex_proved::{Buffer, const_encode};
+/// const KIWI: Buffer<4, true> = const_encode(b"kiwi");
 /// assert_eq!(KIWI.as_str(), "0x6b697769");
 /// ```
 #[inline]
@@ -52,8 +55,9 @@ pub const fn const_encode<const N: usize, const PREFIX: bool>(
 /// Returns [`FromHexError::OddLength`] or [`FromHexError::InvalidHexCharacter`].
 ///
 /// ```
+/// # use const_hex_proved::const_check;
 /// const ADDRESS: &str = "0x6b697769";
-/// const _: () = assert!(const_hex_proved::const_check(ADDRESS.as_bytes()).is_ok());
+/// const _: () = assert!(const_check(ADDRESS.as_bytes()).is_ok());
 /// ```
 #[inline]
 pub const fn const_check(input: &[u8]) -> Result<(), FromHexError> {
@@ -63,8 +67,9 @@ pub const fn const_check(input: &[u8]) -> Result<(), FromHexError> {
 /// Returns what [`check_raw`](crate::check_raw) returns. At run time use `check_raw`.
 ///
 /// ```
-/// const _: () = assert!(const_hex_proved::const_check_raw(b"6b6"));
-/// const _: () = assert!(!const_hex_proved::const_check_raw(b"0x6b"));
+/// # use const_hex_proved::const_check_raw;
+/// const _: () = assert!(const_check_raw(b"6b6"));
+/// const _: () = assert!(!const_check_raw(b"0x6b"));
 /// ```
 #[inline]
 #[must_use]
@@ -80,8 +85,7 @@ pub const fn const_check_raw(input: &[u8]) -> bool {
 /// two digits for each byte of the array; or else [`FromHexError::InvalidHexCharacter`].
 ///
 /// ```
-/// use const_hex_proved::{const_decode_to_array, FromHexError};
-///
+/// # use const_hex_proved::{const_decode_to_array, FromHexError};
 /// const KIWI: Result<[u8; 4], FromHexError> = const_decode_to_array(b"0x6b697769");
 /// assert_eq!(KIWI, Ok(*b"kiwi"));
 /// ```

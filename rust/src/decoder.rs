@@ -2,6 +2,7 @@
 
 use crate::proved::codec::decoder;
 use crate::FromHexError;
+use core::fmt;
 
 /// Decodes a text that arrives in chunks, as from a file or a socket. Does not allocate.
 ///
@@ -10,8 +11,7 @@ use crate::FromHexError;
 /// start of every chunk.
 ///
 /// ```
-/// use const_hex_proved::Decoder;
-///
+/// # use const_hex_proved::Decoder;
 /// let mut decoder = Decoder::new();
 /// let mut bytes = [0; 8];
 /// let mut count = 0;
@@ -22,7 +22,7 @@ use crate::FromHexError;
 /// assert_eq!(&bytes[..count], b"kiwi");
 /// # Ok::<(), const_hex_proved::FromHexError>(())
 /// ```
-#[derive(Clone, Debug)]
+#[derive(Clone)]
 pub struct Decoder(decoder::Decoder);
 
 impl Decoder {
@@ -45,8 +45,7 @@ impl Decoder {
     /// returns the same error.
     ///
     /// ```
-    /// use const_hex_proved::{Decoder, FromHexError};
-    ///
+    /// # use const_hex_proved::{Decoder, FromHexError};
     /// let mut decoder = Decoder::new();
     /// let error = FromHexError::InvalidHexCharacter { c: 'x', index: 5 };
     /// assert_eq!(decoder.decode("6161", &mut [0; 2]), Ok(2));
@@ -71,8 +70,7 @@ impl Decoder {
     /// the text has an odd length.
     ///
     /// ```
-    /// use const_hex_proved::{Decoder, FromHexError};
-    ///
+    /// # use const_hex_proved::{Decoder, FromHexError};
     /// let mut decoder = Decoder::new();
     /// assert_eq!(decoder.decode("6b6", &mut [0; 2]), Ok(1));
     /// assert_eq!(decoder.finish(), Err(FromHexError::OddLength));
@@ -80,6 +78,15 @@ impl Decoder {
     #[inline]
     pub fn finish(self) -> Result<(), FromHexError> {
         self.0.finish()
+    }
+}
+
+/// Shows the number of characters that were read, or the position of the invalid one, and no digit.
+impl fmt::Debug for Decoder {
+    fn fmt(&self, f: &mut fmt::Formatter<'_>) -> fmt::Result {
+        f.debug_struct("Decoder")
+            .field("position", &self.0.position())
+            .finish_non_exhaustive()
     }
 }
 

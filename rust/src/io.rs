@@ -15,7 +15,7 @@ use std::io::{BufRead, BufReader, BufWriter, Error, ErrorKind, Read, Result, Wri
 /// an invalid character are not returned.
 ///
 /// ```
-/// use const_hex_proved::DecodeReader;
+/// # use const_hex_proved::DecodeReader;
 /// use std::io::Read;
 ///
 /// let mut bytes = Vec::new();
@@ -80,7 +80,7 @@ impl<R: Read> Read for DecodeReader<R> {
 /// A write that returns the other writer's error has taken none of the bytes, so it may be repeated.
 ///
 /// ```
-/// use const_hex_proved::EncodeWriter;
+/// # use const_hex_proved::EncodeWriter;
 /// use std::io::Write;
 ///
 /// let mut writer = EncodeWriter::new(Vec::new());

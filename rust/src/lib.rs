@@ -2,7 +2,7 @@
 //!
 //! The names are those of the crates `const-hex` and `hex`. The core of this crate is made from formally
 //! verified source: a script deletes the contracts and the proofs, and makes the changes that it lists. The
-//! rest is hand-written and tested. README.md says which part is which, and lists the features.
+//! rest is hand-written and tested. README.md says which part is which.
 //!
 //! ```
 //! # #[cfg(feature = "alloc")] {
@@ -15,6 +15,15 @@
 //!
 //! A text may begin with one prefix, `0x` or `0X`, except for [`check_raw`] and [`const_check_raw`]. Errors
 //! are checked in this order: an odd length, a length that does not match the output, an invalid character.
+//!
+//! # Features
+//!
+//! - `std` (by default) adds `DecodeReader` and `EncodeWriter`, and implements `std::error::Error`. It includes
+//!   `alloc`.
+//! - `alloc` adds what returns a `String` or a vector, such as `encode` and `decode`.
+//! - `serde` adds fields of hexadecimal text, by `#[serde(with = "const_hex_proved")]`.
+//! - `core-error` implements `core::error::Error` without `std`. It needs Rust 1.81.
+//! - `checked` tests in release builds that ranges lie within their slices, which is proved.
 #![no_std]
 #![deny(unsafe_code, unsafe_op_in_unsafe_fn)]
 #![warn(missing_docs)]
@@ -37,20 +46,20 @@ mod io;
 #[allow(unsafe_code)]
 mod processor;
 // The source is a library, of which this crate calls and exports a part. Its labels name loops for the proofs.
-#[deny(unused)]
+// Anything else that is unused may show that the eraser has deleted code. It is an error in the tests alone, so that
+// a new lint of the compiler stops no user.
+#[cfg_attr(test, deny(unused))]
 #[allow(dead_code, unsafe_code, unused_imports, unused_labels)]
 #[rustfmt::skip]
 mod proved;
-// Some registers and some features need a part of it.
-#[deny(unused)]
 #[allow(dead_code, unsafe_code)]
 mod rattle;
 #[cfg(feature = "serde")]
 pub mod serde;
 pub mod traits;
 
-/// The functions for C, which `capi` exports. They have no conditions. What they call has some, which nothing here
-/// would test, so it is not exported.
+/// The functions for C, which `capi` exports. This module is no part of the interface: any release may change it.
+// They have no conditions. What they call has some, which nothing here would test, so it is not exported.
 #[doc(hidden)]
 pub mod c {
     pub use crate::proved::c::*;
@@ -85,7 +94,8 @@ use alloc::{string::String, vec::Vec};
 /// Returns two lowercase digits per byte, in order. Allocates.
 ///
 /// ```
-/// assert_eq!(const_hex_proved::encode([1, 2, 254, 255]), "0102feff");
+/// # use const_hex_proved::encode;
+/// assert_eq!(encode([1, 2, 254, 255]), "0102feff");
 /// ```
 #[cfg(feature = "alloc")]
 #[inline]
@@ -107,7 +117,8 @@ pub fn encode_upper<T: AsRef<[u8]>>(data: T) -> String {
 /// Returns `0x`, and then two lowercase digits per byte. Allocates.
 ///
 /// ```
-/// assert_eq!(const_hex_proved::encode_prefixed([254, 255]), "0xfeff");
+/// # use const_hex_proved::encode_prefixed;
+/// assert_eq!(encode_prefixed([254, 255]), "0xfeff");
 /// ```
 #[cfg(feature = "alloc")]
 #[inline]
@@ -132,8 +143,9 @@ pub fn encode_upper_prefixed<T: AsRef<[u8]>>(data: T) -> String {
 /// length of `input`.
 ///
 /// ```
+/// # use const_hex_proved::encode_to_slice;
 /// let mut text = [0; 8];
-/// const_hex_proved::encode_to_slice("kiwi", &mut text)?;
+/// encode_to_slice("kiwi", &mut text)?;
 /// assert_eq!(&text, b"6b697769");
 /// # Ok::<(), const_hex_proved::FromHexError>(())
 /// ```
@@ -162,8 +174,9 @@ pub fn encode_to_slice_upper<T: AsRef<[u8]>>(
 /// Returns the errors of [`encode_to_slice`].
 ///
 /// ```
+/// # use const_hex_proved::encode_to_str;
 /// let mut text = [0; 8];
-/// assert_eq!(const_hex_proved::encode_to_str("kiwi", &mut text)?, "6b697769");
+/// assert_eq!(encode_to_str("kiwi", &mut text)?, "6b697769");
 /// # Ok::<(), const_hex_proved::FromHexError>(())
 /// ```
 #[inline]
@@ -211,8 +224,7 @@ fn text_in<'a>(
 /// Returns [`FromHexError::OddLength`] or [`FromHexError::InvalidHexCharacter`].
 ///
 /// ```
-/// use const_hex_proved::{decode, FromHexError};
-///
+/// # use const_hex_proved::{decode, FromHexError};
 /// assert_eq!(decode("6b697769"), Ok(b"kiwi".to_vec()));
 /// assert_eq!(decode("6b69776"), Err(FromHexError::OddLength));
 /// ```
@@ -231,8 +243,9 @@ pub fn decode<T: AsRef<[u8]>>(data: T) -> Result<Vec<u8>, FromHexError> {
 /// `out` may already contain bytes decoded before the invalid character; after the others it is unchanged.
 ///
 /// ```
+/// # use const_hex_proved::decode_to_slice;
 /// let mut bytes = [0; 4];
-/// const_hex_proved::decode_to_slice("6b697769", &mut bytes)?;
+/// decode_to_slice("6b697769", &mut bytes)?;
 /// assert_eq!(&bytes, b"kiwi");
 /// # Ok::<(), const_hex_proved::FromHexError>(())
 /// ```
@@ -248,7 +261,8 @@ pub fn decode_to_slice<T: AsRef<[u8]>>(data: T, out: &mut [u8]) -> Result<(), Fr
 /// Returns the errors of [`decode_to_slice`].
 ///
 /// ```
-/// assert_eq!(const_hex_proved::decode_to_array("6b697769"), Ok(*b"kiwi"));
+/// # use const_hex_proved::decode_to_array;
+/// assert_eq!(decode_to_array("6b697769"), Ok(*b"kiwi"));
 /// ```
 #[inline]
 pub fn decode_to_array<T: AsRef<[u8]>, const N: usize>(input: T) -> Result<[u8; N], FromHexError> {
@@ -262,7 +276,8 @@ pub fn decode_to_array<T: AsRef<[u8]>, const N: usize>(input: T) -> Result<[u8; 
 /// Returns [`FromHexError::OddLength`] or [`FromHexError::InvalidHexCharacter`].
 ///
 /// ```
-/// assert!(const_hex_proved::check("0x6b").is_ok());
+/// # use const_hex_proved::check;
+/// assert!(check("0x6b").is_ok());
 /// ```
 #[inline]
 pub fn check<T: AsRef<[u8]>>(input: T) -> Result<(), FromHexError> {
@@ -273,8 +288,9 @@ pub fn check<T: AsRef<[u8]>>(input: T) -> Result<(), FromHexError> {
 /// Does not allocate.
 ///
 /// ```
-/// assert!(const_hex_proved::check_raw("6b6"));
-/// assert!(!const_hex_proved::check_raw("0x6b"));
+/// # use const_hex_proved::check_raw;
+/// assert!(check_raw("6b6"));
+/// assert!(!check_raw("0x6b"));
 /// ```
 #[inline]
 #[must_use]

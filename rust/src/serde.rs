@@ -21,7 +21,8 @@
 //! # Ok::<(), serde_json::Error>(())
 //! ```
 
-use crate::proved::{formatting, text_length};
+use crate::display::print;
+use crate::proved::text_length;
 use crate::text_in;
 use ::serde::de::{Deserializer, Error, Visitor};
 use ::serde::Serializer;
@@ -90,7 +91,7 @@ struct Printed<'a, const UPPER: bool, const PREFIX: bool>(&'a [u8]);
 
 impl<const UPPER: bool, const PREFIX: bool> fmt::Display for Printed<'_, UPPER, PREFIX> {
     fn fmt(&self, f: &mut fmt::Formatter<'_>) -> fmt::Result {
-        formatting::display(self.0).write_full::<UPPER, PREFIX>(f)
+        print::<UPPER, PREFIX>(self.0, f)
     }
 }
 
@@ -133,8 +134,9 @@ pub mod signed {
     }
 }
 
-/// Fields of text without a prefix, by `#[serde(with = "const_hex_proved::serde::no_prefix")]`.
 pub mod no_prefix {
+    //! Fields of text without a prefix, by `#[serde(with = "const_hex_proved::serde::no_prefix")]`.
+
     use super::{write, Serializer};
 
     pub use super::deserialize;

@@ -83,8 +83,7 @@ mod unsigned {
         /// A type that is read from hexadecimal text: bytes in arrays, vectors and boxes, and their holders.
         ///
         /// ```
-        /// use const_hex_proved::FromHex;
-        ///
+        /// # use const_hex_proved::FromHex;
         /// assert_eq!(<[u8; 4]>::from_hex("0x6B697769"), Ok(*b"kiwi"));
         /// ```
     }
@@ -97,13 +96,13 @@ pub mod signed {
     // Numbers by a cast, which keeps the bits, and not by the proved loop over a slice of them: a vector would
     // be filled twice.
     from_hex! {
-        /// The same for arrays, vectors and boxes of `i8` too, in which a byte from 128 on is negative.
+        /// A type that is read from hexadecimal text: bytes or numbers of type `i8` in arrays, vectors and
+        /// boxes, and their holders. As an `i8`, a byte from 128 on is negative.
         ///
         /// `Vec::from_hex` cannot tell which vector is meant, so it has to say `Vec::<u8>::from_hex`.
         ///
         /// ```
-        /// use const_hex_proved::traits::signed::FromHex;
-        ///
+        /// # use const_hex_proved::traits::signed::FromHex;
         /// assert_eq!(<[i8; 2]>::from_hex("7f80"), Ok([127, -128]));
         /// ```
     }
@@ -135,11 +134,10 @@ pub mod signed {
 
 /// A value that has a hexadecimal text.
 ///
-/// Every type with `AsRef<[u8]>` has this trait: `str`, `String`, `[u8]`, `Vec<u8>`, arrays of bytes.
+/// Every sized type with `AsRef<[u8]>` has this trait: `&str`, `String`, `&[u8]`, `Vec<u8>`, arrays of bytes.
 ///
 /// ```
-/// use const_hex_proved::ToHex;
-///
+/// # use const_hex_proved::ToHex;
 /// assert_eq!("kiwi".encode_hex::<String>(), "6b697769");
 /// ```
 pub trait ToHex {
@@ -176,12 +174,11 @@ fn digits<const UPPER: bool>(bytes: &[u8]) -> impl Iterator<Item = char> + '_ {
 
 /// A value that has a hexadecimal text, as a `String`.
 ///
-/// Every type with `AsRef<[u8]>` has this trait: `&str`, `String`, `&[u8]`, `Vec<u8>`, arrays of bytes. Each
-/// method allocates.
+/// Every sized type with `AsRef<[u8]>` has this trait: `&str`, `String`, `&[u8]`, `Vec<u8>`, arrays of bytes.
+/// Each method allocates.
 ///
 /// ```
-/// use const_hex_proved::ToHexExt;
-///
+/// # use const_hex_proved::ToHexExt;
 /// assert_eq!("kiwi".encode_hex(), "6b697769");
 /// assert_eq!("kiwi".encode_hex_upper(), "6B697769");
 /// assert_eq!("kiwi".encode_hex_with_prefix(), "0x6b697769");

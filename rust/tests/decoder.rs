@@ -17,6 +17,14 @@ fn decoded<'a>(
     decoder.finish().map(|()| (output, count))
 }
 
+/// A digit that waits is not shown.
+#[test]
+fn debug() {
+    let mut decoder = Decoder::new();
+    assert_eq!(decoder.decode("0x7", &mut []), Ok(0));
+    assert_eq!(format!("{decoder:?}"), "Decoder { position: 3, .. }");
+}
+
 /// Each cut of a text into two, valid, and with an invalid character at each position.
 #[test]
 fn each_cut() {

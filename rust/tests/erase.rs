@@ -65,6 +65,7 @@ fn check(rows: &[Row]) {
     }
 }
 
+#[rustfmt::skip]
 #[test]
 fn what_is_deleted() {
     check(&[
@@ -74,6 +75,9 @@ fn what_is_deleted() {
         ("attribute", "#[tactic(auto, using(a::b))]\n#[inline]\nfn f() {}", Ok("#[inline(always)]\nfn f() {}")),
         ("derive", "#[derive(Clone, Copy, Drop)]\nstruct S;", Ok("#[derive(Clone, Copy)]\nstruct S;")),
         ("model", "struct S;\nuse std::marker::Model;\n\nimpl Model for S {\n    ghost view = { x };\n}", Ok("struct S;")),
+        // Comments that a rule would make false.
+        ("text", "/// One.\n// Not inlined: it is\n// long.\n#[inline(never)]\nfn f() {}", Ok("/// One.\n// In the source not inlined: it is\n// long.\n#[inline(always)]\nfn f() {}")),
+        ("text", "/// One.\n///\n/// - [`E::NoMemory`], if so;\nfn f() {}", Ok("/// One.\nfn f() {}")),
     ]);
 }
 
@@ -89,251 +93,103 @@ fn what_stays() {
 }
 
 /// One row for each line of the table `RULES`, in its order, and then for `EXAMPLES`.
+#[rustfmt::skip]
 #[test]
 fn what_each_rule_changes() {
     check(&[
         ("arch/a", "use crate::arch::plain::Plain;", Ok("use super::plain::Plain;")),
         ("arch/a", "use std::simd::prelude::*;", Ok("use super::simd::prelude::*;")),
         ("c/message", "use crate::error::HexError;\nuse const_hex::Decoder;", Ok("use crate::proved::c::error::HexError;\nuse crate::proved::Decoder;")),
+        ("hexfilter/error", "use const_hex::FromHexError;", Ok("use crate::rattle::codec::FromHexError;")),
         ("stream", "use crate::sink::Sink;\nuse const_hex_arch::Kernel;", Ok("use crate::proved::sink::Sink;\nuse crate::proved::Kernel;")),
         ("sink", "use std::fmt;", Ok("use crate::rattle::fmt;")),
         ("arch", "pub type FixedKernel = Lanes32;", Ok("pub type FixedKernel = crate::processor::Native;")),
         ("text", "#[inline(never)]\nfn f() {}", Ok("#[inline(always)]\nfn f() {}")),
         ("arch/steps", "fn f(x: &[u8], y: &mut [u8]) {\n    g(&x[h[0]..9], &mut y[..9]);\n}\n\nfn g() {}", Ok("fn f(x: &[u8], y: &mut [u8]) {\n    g(x.within(h[0]..9), y.within_mut(..9));\n}\n\nfn g() {}")),
+        ("arch/a", "fn f(a: u8x16, b: u8x16) -> u8x32 {\n    a.shuffle(\n        b,\n        [\n            0, 1, 2,\n        ],\n    )\n}", Ok("fn f(a: u8x16, b: u8x16) -> u8x32 {\n    a.join(b)\n}")),
         ("error", "fn fmt<W: fmt::Write>(f: &mut fmt::Formatter<W>) {}\n\nfn g() {\n    fmt::<W, 8>(f);\n}", Ok("fn fmt<'w>(f: &mut fmt::Formatter<'w>) {}\n\nfn g() {\n    fmt::<8>(f);\n}")),
         ("sink", "struct S<T: Drop>(T);", Ok("struct S<T>(T);")),
         ("error", "enum FromHexError {\n    OddLength,\n    NoMemory,\n}", Ok("enum FromHexError {\n    OddLength,\n}")),
         ("c/error", "match kind {\n    4 => Some(FromHexError::NoMemory),\n    _ => None,\n}", Ok("match kind {\n    _ => None,\n}")),
         ("c", "#[unsafe(no_mangle)]\npub extern \"C\" fn f(bytes: &[u8]) {}", Ok("pub fn f(bytes: &[u8]) {}")),
         ("c", "mod callers;\nmod error;", Ok("mod error;")),
-        ("c/message", "fn f() {\n    fmt::Write::write(&mut message, error);\n}", Ok("fn f() {\n    fmt::Write::write_fmt(&mut message, format_args!(\"{}\", error));\n}")),
         ("reserved", "for byte in bytes {\n    self.bytes.push_reserved(*byte);\n}", Ok("self.bytes.extend_reserved(bytes);")),
+        ("hexfilter/process", "fn f(rt: &R) {\n    env::args(rt)?.skip(1).collect(rt.alloc())?;\n}", Ok("fn f(rt: &R) {\n    env::args(rt)?.skip(1).collect();\n}")),
+        ("hexfilter/error", "#[derive(Clone, Copy, Debug)]\nenum E {}", Ok("#[derive(Debug)]\nenum E {}")),
+        ("hexfilter/process", "fn f(error: E) {\n    match error {}\n}", Ok("fn f(error: E) {\n    match &error {}\n}")),
         ("codec/encoders", "pub fn owned(alloc: Global) {}", Ok("#[cfg(feature = \"alloc\")]\npub fn owned(alloc: Global) {}")),
         ("tables", "pub fn value_at(byte: u8) -> u8 {}", Ok("pub const fn value_at(byte: u8) -> u8 {}")),
         ("codec/body", "c: char::from(byte),", Ok("c: byte as char,")),
         ("codec/checks", "/// One.\n///\n/// ```rust\n/// assert_eq!(rt; owned(rt.alloc()), 1);\n/// ```\npub fn one() {}", Ok("/// One.\npub fn one() {}\n#[test]\nfn checks_one() -> Result<(), Box<dyn Error>> {\n    \
                 assert_eq!(owned(Global), 1);\n    Ok(())\n}")),
+        ("hexfilter/runs", "/// One.\n///\n/// ```rust\n/// let v = Vec::new(rt.alloc());\n/// f(v)?;\n/// assert!(rt; g(rt.alloc(), [f(v)?]));\n/// ```\nfn one() {}", Ok("/// One.\nfn one() {}\n\
+                #[test]\nfn runs_one() -> Result<(), Box<dyn Error>> {\n    let v = Vec::new();\n    f(v).unwrap();\n    assert!(g([f(v).unwrap()]));\n    Ok(())\n}")),
     ]);
 }
 
 /// Forms that Rattle reads, and that would lead to code being deleted as part of a comment or of a clause, or kept.
+#[rustfmt::skip]
 #[test]
 fn what_is_not_understood() {
     check(&[
         // The word `ghost` in a block comment, and such a comment within another.
-        (
-            "unknown",
-            "fn f(&mut self) {\n    /* no ghost */\n    if self.is_full() {\n        return;\n    }\n}",
-            Err("the form /*"),
-        ),
+        ("unknown", "fn f(&mut self) {\n    /* no ghost */\n    if self.is_full() {\n        return;\n    }\n}", Err("the form /*")),
         // A bracket in a comment of a clause, so that two functions would be one.
-        (
-            "unknown",
-            "fn f()\n    ensures { a -- {\n    }\n{\n}\n\nfn g()\n    ensures { b -- }\n    }\n{\n}",
-            Err("the form --"),
-        ),
-        (
-            "unknown",
-            "fn f()\n    ensures { a {- } -} }\n{\n}",
-            Err("the form {-"),
-        ),
+        ("unknown", "fn f()\n    ensures { a -- {\n    }\n{\n}\n\nfn g()\n    ensures { b -- }\n    }\n{\n}", Err("the form --")),
+        ("unknown", "fn f()\n    ensures { a {- } -} }\n{\n}", Err("the form {-")),
         // In a clause, `//` begins no comment, and a quotation mark is a letter.
-        (
-            "unknown",
-            "fn f()\n    ensures { a // }\n    }\n{\n}",
-            Err("// } in a clause"),
-        ),
-        (
-            "unknown",
-            "fn f()\n    ensures { g '{' }\n{\n}",
-            Err("'{' in a clause"),
-        ),
-        (
-            "unknown",
-            "fn f()\n    ensures { a' ≡ b }\n{\n}",
-            Err("the form '"),
-        ),
-        (
-            "unknown",
-            "fn f() -> &str {\n    r\"\\\"\n}",
-            Err("the form r\""),
-        ),
-        (
-            "unknown",
-            "fn f() -> &[u8] {\n    br#\"\"ghost;\"#\n}",
-            Err("the form br#\""),
-        ),
-        (
-            "unknown",
-            "fn f(r#ghost: u8) {}",
-            Err("the form r#"),
-        ),
+        ("unknown", "fn f()\n    ensures { a // }\n    }\n{\n}", Err("// } in a clause")),
+        ("unknown", "fn f()\n    ensures { g '{' }\n{\n}", Err("'{' in a clause")),
+        ("unknown", "fn f()\n    ensures { a' ≡ b }\n{\n}", Err("the form '")),
+        ("unknown", "fn f() -> &str {\n    r\"\\\"\n}", Err("the form r\"")),
+        ("unknown", "fn f() -> &[u8] {\n    br#\"\"ghost;\"#\n}", Err("the form br#\"")),
+        ("unknown", "fn f(r#ghost: u8) {}", Err("the form r#")),
         ("unknown", "fn f() {\n    g(c\"{\");\n}", Err("the form c\"")),
         // What is deleted by words and brackets is not what is deleted by lines.
-        (
-            "unknown",
-            "fn f() {\n    ghost\n    if x {\n        g();\n    }\n}",
-            Err("by brackets '}' is left, by lines 'ifx{g();}}'"),
-        ),
-        (
-            "unknown",
-            "fn f()\n    ensures { a }\n        { if x { g(); } }",
-            Err("by brackets '{ifx{g();}}' is left, by lines ''"),
-        ),
-        (
-            "unknown",
-            "fn f() {\n    #[tactic(auto)] if x {\n        g();\n    }\n}",
-            Err("by brackets 'ifx{g();}}' is left, by lines '}'"),
-        ),
-        (
-            "unknown",
-            "trait T {\n    ghost a: { B } = { c };\n\n    fn f();\n}",
-            Err("by brackets '={c};fnf();}' is left, by lines 'fnf();}'"),
-        ),
+        ("unknown", "fn f() {\n    ghost\n    if x {\n        g();\n    }\n}", Err("by brackets '}' is left, by lines 'ifx{g();}}'")),
+        ("unknown", "fn f()\n    ensures { a }\n        { if x { g(); } }", Err("by brackets '{ifx{g();}}' is left, by lines ''")),
+        ("unknown", "fn f() {\n    #[tactic(auto)] if x {\n        g();\n    }\n}", Err("by brackets 'ifx{g();}}' is left, by lines '}'")),
+        ("unknown", "trait T {\n    ghost a: { B } = { c };\n\n    fn f();\n}", Err("by brackets '={c};fnf();}' is left, by lines 'fnf();}'")),
     ]);
 }
 
+#[rustfmt::skip]
 #[test]
 fn what_is_an_error() {
     check(&[
-        (
-            "unknown",
-            "#[no_mangle]\nfn f() {}",
-            Err("the attribute #[no_mangle]"),
-        ),
-        (
-            "unknown",
-            "#[derive(Hash)]\nstruct S;",
-            Err("the attribute #[derive(Hash)]"),
-        ),
-        (
-            "unknown",
-            "fn f()\n    requires x + 1\n{}",
-            Err("the clause requires x +"),
-        ),
-        (
-            "unknown",
-            "fn f() {\n    invariant { x };\n}",
-            Err("the word invariant outside of a contract"),
-        ),
-        (
-            "unknown",
-            "fn f() {\n    g(rt);\n}",
-            Err("the word rt outside of a contract"),
-        ),
-        (
-            "unknown",
-            "fn f()\n    ensures { x",
-            Err("a bracket that is not closed"),
-        ),
+        ("unknown", "#[no_mangle]\nfn f() {}", Err("the attribute #[no_mangle]")),
+        ("unknown", "#[derive(Hash)]\nstruct S;", Err("the attribute #[derive(Hash)]")),
+        ("unknown", "fn f()\n    requires x + 1\n{}", Err("the clause requires x +")),
+        ("unknown", "fn f() {\n    invariant { x };\n}", Err("the word invariant outside of a contract")),
+        ("unknown", "fn f() {\n    g(rt);\n}", Err("the runtime: rt")),
+        ("unknown", "fn f()\n    ensures { x", Err("a bracket that is not closed")),
         // A method, also one with the name of a function of the source, which has a `fill` and a `check`.
-        (
-            "unknown",
-            "fn f(x: &[u8]) {\n    x.rotate_left(1);\n}",
-            Err("the call .rotate_left"),
-        ),
-        (
-            "unknown",
-            "fn f(x: &mut [u8]) {\n    x.fill(1);\n}",
-            Err("the call .fill"),
-        ),
+        ("unknown", "fn f(x: &[u8]) {\n    x.rotate_left(1);\n}", Err("the call .rotate_left")),
+        ("unknown", "fn f(x: &mut [u8]) {\n    x.fill(1);\n}", Err("the call .fill")),
         // A function by a path: `char::from` is known, and the source has a `from` of its own.
-        (
-            "unknown",
-            "fn f(x: u8) -> u64 {\n    u64::from(x)\n}",
-            Err("the call u64::from"),
-        ),
-        (
-            "unknown",
-            "fn f(x: u8) {\n    Box::new(x);\n}",
-            Err("the call Box::new"),
-        ),
-        (
-            "unknown",
-            "fn f(x: u8) {\n    std::mem::drop(x);\n}",
-            Err("the call mem::drop"),
-        ),
-        (
-            "unknown",
-            "fn f<K: Kernel>() {\n    K::is_fast::<8>();\n}",
-            Err("the call K::is_fast"),
-        ),
-        (
-            "unknown",
-            "fn f(x: u8) {\n    drop(x);\n}",
-            Err("the call drop"),
-        ),
-        (
-            "unknown",
-            "fn f() {\n    println!(\"x\");\n}",
-            Err("the call println!"),
-        ),
-        (
-            "unknown",
-            "fn f() {\n    let x = vec![1];\n}",
-            Err("the call vec!"),
-        ),
+        ("unknown", "fn f(x: u8) -> u64 {\n    u64::from(x)\n}", Err("the call u64::from")),
+        ("unknown", "fn f(x: u8) {\n    Box::new(x);\n}", Err("the call Box::new")),
+        // What only the other package may call: a reader, and a method of the crate const_hex.
+        ("unknown", "fn f(x: &mut R) {\n    x.read(y);\n}", Err("the call .read")),
+        ("hexfilter/unknown", "fn f(x: &mut D) {\n    x.next_digits(y);\n}", Err("the call .next_digits")),
+        ("unknown", "fn f(x: u8) {\n    std::mem::drop(x);\n}", Err("the call mem::drop")),
+        ("unknown", "fn f<K: Kernel>() {\n    K::is_fast::<8>();\n}", Err("the call K::is_fast")),
+        ("unknown", "fn f(x: u8) {\n    drop(x);\n}", Err("the call drop")),
+        ("unknown", "fn f() {\n    println!(\"x\");\n}", Err("the call println!")),
+        ("unknown", "fn f() {\n    let x = vec![1];\n}", Err("the call vec!")),
         // A call after a range, with a type in brackets, after a quotation mark, and of a function as a value.
-        (
-            "unknown",
-            "fn f(x: u8) {\n    for _ in 0..drop(x) {}\n}",
-            Err("the call drop"),
-        ),
-        (
-            "unknown",
-            "fn f(x: u8) {\n    x.rotate_left::<(u8, u8)>(1);\n}",
-            Err("the call .rotate_left"),
-        ),
-        (
-            "unknown",
-            "fn f(x: u8) {\n    g(b'\"', drop(x), \"\");\n}",
-            Err("the call g"),
-        ),
-        (
-            "unknown",
-            "fn f(x: u8) {\n    let g = u8::is_ascii_hexdigit;\n}",
-            Err("a function as a value: u8::is_ascii_hexdigit"),
-        ),
-        (
-            "unknown",
-            "fn f(x: u8) {\n    (x)(1);\n}",
-            Err("a function as a value: )("),
-        ),
+        ("unknown", "fn f(x: u8) {\n    for _ in 0..drop(x) {}\n}", Err("the call drop")),
+        ("unknown", "fn f(x: u8) {\n    x.rotate_left::<(u8, u8)>(1);\n}", Err("the call .rotate_left")),
+        ("unknown", "fn f(x: u8) {\n    g(b'\"', drop(x), \"\");\n}", Err("the call g")),
+        ("unknown", "fn f(x: u8) {\n    let g = u8::is_ascii_hexdigit;\n}", Err("a function as a value: u8::is_ascii_hexdigit")),
+        ("unknown", "fn f(x: u8) {\n    (x)(1);\n}", Err("a function as a value: )(")),
         // What Rattle and Rust read in different ways.
-        (
-            "unknown",
-            "fn f() {\n    for x in 250u8.. {}\n}",
-            Err("a range without an end: .. {"),
-        ),
-        (
-            "unknown",
-            "fn f() {\n    S { a: 1, ..v[9] };\n}",
-            Err("the other fields of a struct: { a: 1, ..v[9] }"),
-        ),
-        (
-            "unknown",
-            "fn f(x: u64) -> usize {\n    x as usize\n}",
-            Err("a cast: as u"),
-        ),
-        (
-            "c/other",
-            "#[unsafe(no_mangle)]\npub extern \"C\" fn f(x: u8) requires { x < 9 } {\n}",
-            Err("a condition of a function that is exported"),
-        ),
-        (
-            "error",
-            "fn f(x: E) {\n    match x {\n        E::Odd | E::NoMemory => 1,\n    }\n}",
-            Err("a rule does not fit: NoMemory"),
-        ),
-        (
-            "error",
-            "fn f() -> &str {\n    \"expected W, not <W>\"\n}",
-            Err("a rule does not fit: \"expected 'w, not <'w>\""),
-        ),
-        (
-            "arch/unknown",
-            "fn f(a: u8x16, b: u8x16) -> u8x32 {\n    a.shuffle(b, [1, 0])\n}",
-            Err("the order of a shuffle: [1, 0]"),
-        ),
+        ("unknown", "fn f() {\n    for x in 250u8.. {}\n}", Err("a range without an end: .. {")),
+        ("unknown", "fn f() {\n    S { a: 1, ..v[9] };\n}", Err("the other fields of a struct: { a: 1, ..v[9] }")),
+        ("unknown", "fn f(x: u64) -> usize {\n    x as usize\n}", Err("a cast: as u")),
+        ("c/other", "#[unsafe(no_mangle)]\npub extern \"C\" fn f(x: u8) requires { x < 9 } {\n}", Err("a condition of a function that is exported")),
+        ("error", "fn f(x: E) {\n    match x {\n        E::Odd | E::NoMemory => 1,\n    }\n}", Err("a rule does not fit: NoMemory")),
+        ("error", "fn f() -> &str {\n    \"expected W, not <W>\"\n}", Err("a rule does not fit: \"expected 'w, not <'w>\"")),
+        ("arch/unknown", "fn f(a: u8x16, b: u8x16) -> u8x32 {\n    a.shuffle(b, [1, 0])\n}", Err("the order of a shuffle: [1, 0]")),
     ]);
 }

@@ -3,11 +3,13 @@
 #![cfg(all(not(debug_assertions), target_arch = "x86_64", target_os = "linux"))]
 
 use const_hex_proved as hex;
+use std::fmt::{Error, Result, Write};
 use std::hint::black_box;
 use std::process::Command;
 
-/// A call, the number of bytes, and how many instructions const-hex takes for it, by docs/BENCHMARKS.md.
-const LIMITS: [(&str, usize, i64); 9] = [
+/// A call, the number of bytes, and how many instructions const-hex takes for it, by docs/BENCHMARKS.md. The last one
+/// prints to a writer that returns an error at once, after which no more than a part of the bytes is encoded.
+const LIMITS: [(&str, usize, i64); 10] = [
     ("encode", 32, 67),
     ("encode", 64, 85),
     ("encode", 256, 193),
@@ -17,6 +19,7 @@ const LIMITS: [(&str, usize, i64); 9] = [
     ("check", 32, 97),
     ("check", 64, 123),
     ("check", 256, 279),
+    ("display", 1 << 20, 20_000),
 ];
 
 #[test]
@@ -47,7 +50,18 @@ fn make(call: &str, bytes: usize, times: usize) {
             .for_each(|_| hex::encode_to_slice(black_box(&data), black_box(&mut text)).unwrap()),
         "decode" => (0..times)
             .for_each(|_| hex::decode_to_slice(black_box(&text), black_box(&mut data)).unwrap()),
+        "display" => (0..times)
+            .for_each(|_| assert!(write!(Full, "{}", hex::display(black_box(&data))).is_err())),
         _ => (0..times).for_each(|_| hex::check(black_box(&text)).unwrap()),
+    }
+}
+
+/// A writer that has no space.
+struct Full;
+
+impl Write for Full {
+    fn write_str(&mut self, _: &str) -> Result {
+        Err(Error)
     }
 }
 

@@ -67,6 +67,10 @@ fn manifests() {
         assert_eq!(features["alloc"], json!(["const-hex-proved/alloc"]));
         assert_eq!(features["serde"], json!(["const-hex-proved/serde"]));
     }
+    assert_eq!(
+        dependencies(&packages["hexfilter"]),
+        [("const-hex-proved", false)]
+    );
     assert!(packages
         .values()
         .all(|package| package["rust_version"] == "1.63"));
@@ -86,6 +90,18 @@ fn files(folder: &Path) -> Vec<PathBuf> {
             }
         })
         .collect()
+}
+
+/// The packages `hex` and `const-hex` show these comments as their own, so no example shows a name of a crate.
+#[test]
+fn examples() {
+    for file in files(&Path::new(FOLDER).join("src")) {
+        for line in fs::read_to_string(&file).unwrap().lines() {
+            let line = line.trim_start();
+            let is_shown = line.starts_with("///") && !line.starts_with("/// # ");
+            assert!(!is_shown || !line.contains("const_hex_proved"), "{line}");
+        }
+    }
 }
 
 /// The numbers of `unsafe` blocks, each of which has its reason, and of `unsafe` functions.
@@ -120,13 +136,14 @@ fn places_of_unsafe() {
             }
         }
     }
-    let folders = ["src", "capi/src"].map(|folder| files(&Path::new(FOLDER).join(folder)));
+    let folders = ["src", "capi/src", "hexfilter/src"].map(|folder| files(&Path::new(FOLDER).join(folder)));
     let mut found = BTreeMap::new();
     for file in folders.concat() {
         let counts = unsafe_code(&fs::read_to_string(&file).unwrap());
         if counts != [0, 0] {
-            let name = file.strip_prefix(FOLDER).unwrap();
-            found.insert(name.display().to_string(), counts);
+            let name: Vec<_> = file.strip_prefix(FOLDER).unwrap().iter().collect();
+            let name = name.join("/".as_ref()).into_string().unwrap();
+            found.insert(name, counts);
         }
     }
     assert_eq!(found, listed);

@@ -1,6 +1,7 @@
 //! Printing, and the traits, at what no line of the table asks.
 
 use const_hex_proved::{check, display, FromHexError, ToHex};
+use std::fmt::Write;
 
 /// Bytes of each kind that a signed number tells apart, and their text.
 const BYTES: [u8; 4] = [0, 127, 128, 255];
@@ -17,7 +18,7 @@ fn an_error_of_core() {
 #[test]
 fn printing() {
     assert_eq!(format!("{:>20}", display(BYTES)), TEXT);
-    for length in [300, 2047, 2048, 2049, 5000] {
+    for length in [300, 2047, 2048, 2049, 5000, 16_384, 16_385, 40_000] {
         let bytes: Vec<u8> = (0..length).map(|at| (at * 73 + length) as u8).collect();
         let wanted: String = bytes.iter().map(|byte| format!("{byte:02X}")).collect();
         assert_eq!(format!("{:X}", display(&bytes)), wanted);
@@ -26,19 +27,21 @@ fn printing() {
     }
 }
 
-/// A formatter's error ends the printing.
+/// A formatter's error ends the printing: no call follows it.
 #[test]
 fn a_full_formatter() {
-    struct Space(usize);
+    struct Space(Option<usize>);
     impl std::fmt::Write for Space {
         fn write_str(&mut self, text: &str) -> std::fmt::Result {
-            self.0 = self.0.checked_sub(text.len()).ok_or(std::fmt::Error)?;
-            Ok(())
+            let space = self.0.expect("no call has failed");
+            self.0 = space.checked_sub(text.len());
+            self.0.map(|_| ()).ok_or(std::fmt::Error)
         }
     }
-    for (space, is_enough) in [(0, false), (19_999, false), (20_000, true)] {
-        let printed = std::fmt::write(&mut Space(space), format_args!("{}", display([0; 10_000])));
-        assert_eq!(printed.is_ok(), is_enough);
+    let bytes = [0; 40_000];
+    for space in [0, 4095, 4096, 32_767, 32_768, 79_999, 80_000] {
+        let printed = write!(Space(Some(space)), "{}", display(bytes));
+        assert_eq!(printed.is_ok(), space == 80_000);
     }
 }
 

@@ -13,6 +13,9 @@
 //! assert_eq!(hex::decode("6b697769"), Ok(b"kiwi".to_vec()));
 //! # }
 //! ```
+//!
+//! The features are those of `hex`: `std` (by default), `alloc`, and `serde` for `#[serde(with = "hex")]`. The
+//! feature `checked` is added: it tests in release builds that ranges lie within their slices, which is proved.
 #![no_std]
 #![forbid(unsafe_code)]
 #![warn(missing_docs)]
@@ -24,5 +27,9 @@ pub use const_hex_proved::{decode_to_slice, encode_to_slice, FromHex, FromHexErr
 #[cfg(feature = "serde")]
 #[doc(no_inline)]
 pub use crate::serde::{deserialize, serialize, serialize_upper};
+
+/// Fields of hexadecimal text without a prefix, by `#[serde(with = "hex")]`.
 #[cfg(feature = "serde")]
-pub use const_hex_proved::serde::no_prefix as serde;
+pub mod serde {
+    pub use const_hex_proved::serde::no_prefix::*;
+}

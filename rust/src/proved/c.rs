@@ -18,8 +18,9 @@ mod flags;
 mod message;
 
 pub use crate::proved::c::error::HexError;
+use crate::proved::c::error::{INVALID_LENGTH, NO_MEMORY, ODD_LENGTH};
 use crate::proved::c::flags::{are_flags, clear, end_text, has_prefix, is_upper, length_of, size_beside};
-use crate::proved::c::message::{LONGEST, write_ended};
+use crate::proved::c::message::{LONGEST, write_ended, write_known};
 use crate::proved::{Decoder, FixedKernel, Kernel};
 
 /// Returns the size of the buffer that [`const_hex_encode`] needs: the text, and a NUL unless the flags
@@ -225,8 +226,15 @@ pub fn const_hex_check_raw(text: &[u8]) -> bool {
 /// size_t count = const_hex_error_message(&error, message, sizeof message);
 /// ```
 pub fn const_hex_error_message(error: &HexError, message: &mut [u8]) -> usize {
-    let mut space = [0; LONGEST];
-    write_ended(error.message(&mut space), message)
+    match error.kind {
+        ODD_LENGTH => write_known(b"odd number of digits", message),
+        INVALID_LENGTH => write_known(b"invalid string length", message),
+        NO_MEMORY => write_known(b"out of memory", message),
+        _ => {
+            let mut space = [0; LONGEST];
+            write_ended(error.character_message(&mut space), message)
+        }
+    }
 }
 
 /// The version of these functions: 10,000 times the major one, 100 times the minor one, and the

@@ -43,21 +43,26 @@ pub use self::formatting::text::*;
 
 // The places that each rule of rust/erase has changed:
 //
-//   13  Rattle's std is the module rattle
+//   27  Rattle's std is the module rattle
+//    2  Rust's errors and the crate's decoder are not copied
 //   26  a formatter has a lifetime in place of its writer's type
 //   52  a function for AVX2 takes in all that it calls
 //   10  a function for C takes slices, which capi makes of pointers and lengths
 //   16  a kernel is compiled for each kind of register, so it names the others beside it
 //   36  a range that is proved to be within its slice is not tested in release builds
-//   59  all crates are one module
+//   83  all crates are one module
 //    5  an allocation never fails: without memory the program ends
-//  124  an assertion names no runtime
+//    1  an argument's copy takes no allocator
+//  130  an assertion names no runtime
+//    4  an example of hexfilter uses no allocator
 //    1  and a constant converts by a cast
+//    1  and an error is borrowed
+//    3  and panics instead of returning an error
 //    6  and the vectors of its kind
-//    1  callers that nothing exports are left out
-//   44  deleted: attribute
-//  212  deleted: contract
-//  165  deleted: ghost item
+//    2  callers that nothing exports are left out
+//   46  deleted: attribute
+//  256  deleted: contract
+//  217  deleted: ghost item
 //    4  deleted: model
 //    1  each value may be dropped
 //   22  the allocator is a value
@@ -66,4 +71,5 @@ pub use self::formatting::text::*;
 //    2  the only shuffle puts two vectors one after the other
 //   10  what a constant calls is constant
 //   14  what allocates is there with the feature alloc
-//    4  what is for C is a module of const_hex
+//    3  what hexfilter uses of const_hex is a module of rattle
+//    5  what is for C is a module of const_hex

@@ -65,7 +65,7 @@ impl<'a, const UPPER: bool, const PREFIX: bool> BufferedHex<'a, UPPER, PREFIX> {
     }
 
     /// As `write_with`, with up to 4096 bytes gathered for each call.
-    // Not inlined: the machine code for long texts is faster on its own.
+    // In the source not inlined: the machine code for long texts is faster on its own.
     #[inline(always)]
     fn gather<K: Kernel, S: Sink>(&self, sink: &mut S) -> Result<(), SinkError> {
         let mut output = BufferedOutput::<SinkOutput<'_, S>, GATHERED>::new(SinkOutput::new(sink));

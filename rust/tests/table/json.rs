@@ -44,9 +44,9 @@ fn read(json: &[u8]) -> String {
         Value::String(text) => text,
         _ => return "!NotText".to_string(),
     };
-    let refusals = [decode(&text), check(&text).map(|()| Vec::new())];
-    let named = refusals
+    let results = [decode(&text), check(&text).map(|()| Vec::new())];
+    let named = results
         .into_iter()
-        .find(|refused| matches!(refused, Err(error) if error.to_string() == printed));
+        .find(|result| matches!(result, Err(error) if error.to_string() == printed));
     named.map_or(printed, bytes)
 }

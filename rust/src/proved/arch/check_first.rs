@@ -27,7 +27,7 @@ impl<K: Kernel> Kernel for CheckFirst<K> {
         K::check(input)
     }
 
-    // Not `always`: `decode_body` calls this in a branch that is never taken for most kernels. With
+    // In the source not `always`: `decode_body` calls this in a branch that is never taken for most kernels. With
     // its body in that branch, the decoders would be too large to be inlined.
     #[inline(always)]
     fn decode_checked(input: &[u8], output: &mut [u8]) -> bool {

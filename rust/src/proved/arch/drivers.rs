@@ -41,7 +41,7 @@ pub(crate) fn encode_in_steps<
 }
 
 /// Encodes fewer bytes than a step, as one piece.
-// Not `always`: its callers would be too large to be inlined.
+// In the source not `always`: its callers would be too large to be inlined.
 #[inline(always)]
 fn encode_remainder<const H: usize, const N: usize, V: Vectors<N>, W: Vectors<16>, O: Output>(
     bytes: &[u8],
@@ -162,7 +162,7 @@ pub(crate) fn decode_part<const N: usize, V: Vectors<N>, W: Vectors<16>>(
 }
 
 /// As `decode_in_steps`.
-// Not inlined: with this body `decode_part` would be too large to be inlined.
+// In the source not inlined: with this body `decode_part` would be too large to be inlined.
 #[inline(always)]
 fn decode_any_part<const N: usize, V: Vectors<N>, W: Vectors<16>>(
     text: &[u8],

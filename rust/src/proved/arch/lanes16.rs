@@ -109,7 +109,7 @@ impl Kernel for Lanes16 {
         drivers::encode_in_steps::<8, 16, Lanes16, Lanes16, O>(input, upper, output);
     }
 
-    // Not `always`: `decode_body` calls `CheckFirst::<K>` in a branch that is never taken for this
+    // In the source not `always`: `decode_body` calls `CheckFirst::<K>` in a branch that is never taken for this
     // kernel. With all of `check` in that branch, the decoders would be too large to be inlined.
     #[inline(always)]
     fn check(input: &[u8]) -> bool {

@@ -31,7 +31,7 @@ fn check_ends<const H: usize, W: Vectors<16>>(text: &[u8]) -> bool {
 /// pairs before it and returns false. A valid text takes one vector operation on its first and last
 /// characters. Only if that finds an invalid character does [`Plain`] go through the pairs, with
 /// its table.
-// Not inlined: with this body the public decoders would be too large to be inlined.
+// In the source not inlined: with this body the public decoders would be too large to be inlined.
 #[inline(always)]
 pub(crate) fn decode<W: Vectors<16>>(text: &[u8], output: &mut [u8]) -> bool {
     let is_decoded = if output.len() >= 8 {

@@ -40,20 +40,14 @@ impl From<FromHexError> for HexError {
 }
 
 impl HexError {
-    /// Its message, which may be in `space`. A struct that stands for no error has an empty one.
+    /// Its message, in `space`, if it stands for an invalid character. Otherwise the result is empty.
     #[inline(always)]
-    pub(crate) fn message<'a>(&self, space: &'a mut [u8; LONGEST]) -> &'a [u8] {
-        match self.kind {
-            ODD_LENGTH => b"odd number of digits",
-            INVALID_LENGTH => b"invalid string length",
-            INVALID_CHARACTER => match u8::try_from(self.byte) {
-                Ok(byte) => {
-                    let start = put_character(byte, self.index, space);
-                    &space[start..]
-                }
-                Err(_) => b"",
-            },
-            NO_MEMORY => b"out of memory",
+    pub(crate) fn character_message<'a>(&self, space: &'a mut [u8; LONGEST]) -> &'a [u8] {
+        match u8::try_from(self.byte) {
+            Ok(byte) if self.kind == INVALID_CHARACTER => {
+                let start = put_character(byte, self.index, space);
+                &space[start..]
+            }
             _ => b"",
         }
     }

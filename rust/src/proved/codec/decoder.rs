@@ -204,7 +204,7 @@ fn decode_next<K: Kernel>(waiting: Option<u8>, digits: &[u8], output: &mut [u8])
 }
 
 /// As `decode_next`, after a digit that waits.
-// Not inlined: with this body `decode_with` would be too large to be inlined.
+// In the source not inlined: with this body `decode_with` would be too large to be inlined.
 #[inline(always)]
 fn decode_after<K: Kernel>(high: u8, digits: &[u8], output: &mut [u8]) -> bool {
     match digits {

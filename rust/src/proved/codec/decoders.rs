@@ -14,7 +14,6 @@ use crate::rattle::alloc::Global;
 /// The first of these errors is returned:
 ///
 /// - [`FromHexError::OddLength`], before anything is allocated;
-/// - [`FromHexError::NoMemory`], if the allocation fails;
 /// - [`FromHexError::InvalidHexCharacter`], with the first byte after the prefix that is not a
 ///   digit.
 #[cfg(feature = "alloc")]
@@ -22,8 +21,7 @@ pub fn decode(alloc: Global, input: &[u8]) -> Result<Vec<u8>, FromHexError> {
     decode_with::<FixedKernel>(alloc, input)
 }
 
-/// As [`decode`], by a kernel of the caller's choice. The errors are the same,
-/// [`FromHexError::NoMemory`] included.
+/// As [`decode`], with the same errors, by a kernel of the caller's choice.
 #[inline(always)]
 #[cfg(feature = "alloc")]
 pub fn decode_with<K: Kernel>(alloc: Global, input: &[u8]) -> Result<Vec<u8>, FromHexError> {
@@ -155,10 +153,10 @@ pub const fn const_decode_to_array<const N: usize>(input: &[u8]) -> Result<[u8; 
     Ok(bytes)
 }
 
-/// Decodes a constant text to N bytes. Verification proves that it decodes to N bytes.
+/// Decodes a constant text to N bytes. The text must be 2 * N digits, with or without a prefix.
 ///
-/// The text must be 2 * N digits, with or without a prefix. If a character is not a digit, or the
-/// length is another, verification of the program fails, so it never runs. Does not allocate.
+/// If a character is not a digit, or the length is another, verification of the Rattle program
+/// that makes this call fails, so it never runs. Does not allocate.
 #[inline(always)]
 pub fn bytes_of<const N: usize>(text: &[u8]) -> [u8; N] {
     decode_to_array(text).unwrap()

@@ -24,7 +24,6 @@ fn encode_owned<K: Kernel>(
 
 /// Two digits for each byte, in order, in lowercase.
 ///
-/// Returns `AllocError` if memory cannot be allocated.
 #[cfg(feature = "alloc")]
 pub fn encode(alloc: Global, input: &[u8]) -> Result<String, AllocError> {
     encode_with::<FixedKernel, false>(alloc, input)
@@ -32,7 +31,6 @@ pub fn encode(alloc: Global, input: &[u8]) -> Result<String, AllocError> {
 
 /// As [`encode`], in uppercase.
 ///
-/// Returns `AllocError` if memory cannot be allocated.
 #[cfg(feature = "alloc")]
 pub fn encode_upper(alloc: Global, input: &[u8]) -> Result<String, AllocError> {
     encode_with::<FixedKernel, true>(alloc, input)
@@ -40,7 +38,6 @@ pub fn encode_upper(alloc: Global, input: &[u8]) -> Result<String, AllocError> {
 
 /// `0x`, and then the text of [`encode`].
 ///
-/// Returns `AllocError` if memory cannot be allocated.
 #[cfg(feature = "alloc")]
 pub fn encode_prefixed(alloc: Global, input: &[u8]) -> Result<String, AllocError> {
     encode_owned::<FixedKernel>(alloc, input, true, false)
@@ -48,7 +45,6 @@ pub fn encode_prefixed(alloc: Global, input: &[u8]) -> Result<String, AllocError
 
 /// `0x`, and then the text of [`encode_upper`].
 ///
-/// Returns `AllocError` if memory cannot be allocated.
 #[cfg(feature = "alloc")]
 pub fn encode_upper_prefixed(alloc: Global, input: &[u8]) -> Result<String, AllocError> {
     encode_owned::<FixedKernel>(alloc, input, true, true)
@@ -56,7 +52,6 @@ pub fn encode_upper_prefixed(alloc: Global, input: &[u8]) -> Result<String, Allo
 
 /// As [`encode`] or [`encode_upper`], by a kernel of the caller's choice.
 ///
-/// Returns `AllocError` if memory cannot be allocated.
 #[inline(always)]
 #[cfg(feature = "alloc")]
 pub fn encode_with<K: Kernel, const UPPER: bool>(

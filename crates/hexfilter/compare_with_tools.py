@@ -1,11 +1,13 @@
 #!/usr/bin/env python3
-"""Runs hexfilter beside xxd, basenc and od, and looks at its errors and its exit status.
+"""Compares hexfilter with xxd, basenc and od, and tests its errors and its exit statuses.
 
-    crates/hexfilter/beside_tools.py
-    crates/hexfilter/beside_tools.py BesideTools.test_od
+    crates/hexfilter/compare_with_tools.py                  # both builds
+    crates/hexfilter/compare_with_tools.py Cargo            # one of them, Cargo or Rattle
+    crates/hexfilter/compare_with_tools.py Cargo.test_od    # one test
 
-It runs the program that `rt run` or `rt ci` has built. A test is skipped if its tool is missing. The
-last line is "N passed, M failed", and ", K skipped" if tools are missing.
+The build by cargo is made first. The one by Rattle is what `rt run` or `rt ci` has built, and its tests are skipped if
+it is not there. A test is also skipped if its tool is missing. The last line is "N passed, M failed", and ", K skipped"
+if tests were skipped.
 """
 import filecmp
 import pathlib
@@ -16,45 +18,48 @@ import sys
 import tempfile
 import unittest
 
-PROGRAM = str(pathlib.Path(__file__).resolve().parent / "out" / "hexfilter")
+TOP = pathlib.Path(__file__).resolve().parents[2]
+RATTLE = TOP / "crates/hexfilter/out/hexfilter"
 SIZES = [0, 1, 2, 29, 30, 31, 57, 65_535, 65_536, 65_537, 131_073, 64 << 20]
+
+
+FOLDER = tempfile.TemporaryDirectory()
+FILES = [pathlib.Path(FOLDER.name, str(size)) for size in SIZES]
+
+
+def setUpModule():
+    unittest.addModuleCleanup(FOLDER.cleanup)
+    source = random.Random(1)
+    for path in FILES:
+        path.write_bytes(source.randbytes(int(path.name)))
 
 
 def needs(tool):
     return unittest.skipUnless(shutil.which(tool), f"needs {tool}")
 
 
-class BesideTools(unittest.TestCase):
-    """Files of 0 bytes to 64 MiB, in both ways."""
+class Filter:
+    """The tests of each build, whose path is `program`."""
 
-    @classmethod
-    def setUpClass(cls):
-        cls.folder = tempfile.TemporaryDirectory()
-        cls.addClassCleanup(cls.folder.cleanup)
-        source = random.Random(1)
-        cls.files = []
-        for size in SIZES:
-            path = pathlib.Path(cls.folder.name, str(size))
-            path.write_bytes(source.randbytes(size))
-            cls.files.append(path)
+    # Files of 0 bytes to 64 MiB, in both ways.
 
     def output(self, name, command, path):
         """What the command writes if it reads the file, as another file."""
-        made = pathlib.Path(self.folder.name, name)
+        made = pathlib.Path(FOLDER.name, name)
         with open(path, "rb") as read, open(made, "wb") as write:
             subprocess.run(command, stdin=read, stdout=write, check=True)
         return made
 
     def agree(self, options, tool, decode, largest=SIZES[-1]):
         """hexfilter writes what the tool writes, and decodes that."""
-        for path in self.files:
+        for path in FILES:
             if int(path.name) > largest:
                 continue
             with self.subTest(size=path.name, options=options):
                 theirs = self.output("theirs", tool, path)
-                ours = self.output("ours", [PROGRAM, *options], path)
+                ours = self.output("ours", [self.program, *options], path)
                 self.assertTrue(filecmp.cmp(ours, theirs, shallow=False))
-                again = self.output("again", [PROGRAM, *decode], theirs)
+                again = self.output("again", [self.program, *decode], theirs)
                 self.assertTrue(filecmp.cmp(again, path, shallow=False))
 
     @needs("xxd")
@@ -75,13 +80,11 @@ class BesideTools(unittest.TestCase):
         od = "od -An -v -tx1 | tr -d ' \\n'"
         self.agree(["--wrap=0"], ["sh", "-c", od], ["-d"], 131_073)
 
-
-class Errors(unittest.TestCase):
-    """Exit statuses, and what standard error has."""
+    # Exit statuses, and what standard error has.
 
     def ends(self, arguments, text, status, output, error, folder=None):
         with self.subTest(arguments=arguments, text=text):
-            command = [PROGRAM, *arguments]
+            command = [self.program, *arguments]
             ran = subprocess.run(command, input=text, capture_output=True, cwd=folder)
             self.assertEqual((ran.returncode, ran.stdout, ran.stderr), (status, output, error))
 
@@ -108,7 +111,7 @@ class Errors(unittest.TestCase):
         ]
         for row in rows:
             self.ends(*row)
-        self.assertEqual(subprocess.run([PROGRAM, "--help"], capture_output=True).returncode, 0)
+        self.assertEqual(subprocess.run([self.program, "--help"], capture_output=True).returncode, 0)
 
     def test_files(self):
         with tempfile.TemporaryDirectory() as folder:
@@ -124,16 +127,44 @@ class Errors(unittest.TestCase):
 
     def test_full_device(self):
         with open("/dev/full", "wb") as full:
-            ran = subprocess.run([PROGRAM], input=b"kiwi", stdout=full, stderr=subprocess.PIPE)
+            ran = subprocess.run([self.program], input=b"kiwi", stdout=full, stderr=subprocess.PIPE)
         error = b"hexfilter: standard output: No space left on device (os error 28)\n"
         self.assertEqual((ran.returncode, ran.stderr), (3, error))
 
     def test_closed_pipe(self):
         for arguments in [["/dev/zero"], ["-w76", "/dev/zero"]]:
-            with subprocess.Popen([PROGRAM, *arguments], stdout=subprocess.PIPE, stderr=subprocess.PIPE) as ran:
+            with subprocess.Popen([self.program, *arguments], stdout=subprocess.PIPE, stderr=subprocess.PIPE) as ran:
                 self.assertEqual(ran.stdout.read(9), b"000000000")
                 ran.stdout.close()
                 self.assertEqual((ran.wait(timeout=60), ran.stderr.read()), (3, b""))
+
+    def test_streams_that_cannot_be_used(self):
+        """A standard stream that is open only for the other direction, and one that is closed."""
+        rows = [("1<&0", 3, "output"), ("<&-", self.closed, "input"), (">&-", self.closed, "output")]
+        for redirection, status, stream in [("0>&1", 3, "input"), *rows]:
+            with self.subTest(redirection=redirection):
+                command = f'exec "$0" {redirection}'
+                with open(FILES[3], "rb") as read, open(pathlib.Path(FOLDER.name, "written"), "wb") as write:
+                    ran = subprocess.run(["sh", "-c", command, self.program], stdin=read, stdout=write,
+                                         stderr=subprocess.PIPE)
+                error = f"hexfilter: standard {stream}: Bad file descriptor (os error 9)\n".encode()
+                self.assertEqual((ran.returncode, ran.stderr), (status, error if status else b""))
+
+
+@unittest.skipUnless(RATTLE.exists(), "needs `rt run` in crates/hexfilter")
+class Rattle(Filter, unittest.TestCase):
+    program, closed = str(RATTLE), 3
+
+
+@needs("cargo")
+class Cargo(Filter, unittest.TestCase):
+    # Rust's standard library opens /dev/null in place of a closed stream.
+    program, closed = str(TOP / "build/hexfilter/bin/hexfilter"), 0
+
+    @classmethod
+    def setUpClass(cls):
+        subprocess.run(["cargo", "install", "--quiet", "--offline", "--force", "--path", TOP / "rust/hexfilter",
+                        "--root", TOP / "build/hexfilter"], check=True)
 
 
 if __name__ == "__main__":

@@ -1,0 +1,29 @@
+// Made by rust/erase from crates/hexfilter_core/src/lib.rt. Do not edit.
+//! The program `hexfilter` as a library: a run over any reader and writer, and the whole program on
+//! any host.
+//!
+//! The terms of the contracts are defined in `specs/`. What a text decodes to is defined in
+//! `const_hex`.
+
+use crate::rattle::prelude::*;
+
+mod decoding;
+mod encoding;
+mod error;
+mod line_decoder;
+mod lines;
+mod mode;
+mod newlines;
+mod options;
+mod process;
+mod runs;
+mod transfer;
+
+pub use crate::proved::error::RunError;
+pub use crate::proved::mode::Mode;
+pub use crate::proved::options::{Request, request_of};
+pub use crate::proved::process::program;
+pub use crate::proved::runs::run;
+
+#[cfg(test)]
+mod examples;

@@ -1,0 +1,207 @@
+// Made by rust/erase from crates/hexfilter_core/src/options.rt. Do not edit.
+//! What the arguments of the program ask for.
+
+use crate::rattle::prelude::*;
+use crate::proved::mode::Mode;
+
+/// What the program is asked to do.
+#[derive(Clone, Copy, PartialEq, Eq, Debug)]
+pub enum Request {
+    /// To print how it is used.
+    Help,
+    /// To print its version.
+    Version,
+    /// To run in that mode, on the file that the argument with that index names, or on standard input.
+    Run(Mode, Option<usize>),
+}
+
+/// What the next argument may be.
+#[derive(Clone, Copy)]
+pub(crate) enum Next {
+    /// Options or a file.
+    Any,
+    /// The number of columns.
+    Columns,
+    /// A file.
+    File,
+}
+
+/// What the arguments so far have set.
+#[derive(Clone, Copy)]
+pub(crate) struct Options {
+    decode: bool,
+    check: bool,
+    upper: bool,
+    prefix: bool,
+    ignore_newlines: bool,
+    help: bool,
+    version: bool,
+    columns: usize,
+    file: Option<usize>,
+    next: Next,
+}
+
+const START: Options = Options {
+    decode: false,
+    check: false,
+    upper: false,
+    prefix: false,
+    ignore_newlines: false,
+    help: false,
+    version: false,
+    columns: 0,
+    file: None,
+    next: Next::Any,
+};
+
+/// What the arguments after the program's name ask for, or `None` if they are not valid.
+pub fn request_of(arguments: &[String]) -> Option<Request> {
+    let mut options = START;
+    for index in 0..arguments.len() {
+        options = options.with_argument(index, arguments[index].as_str())?;
+    }
+    options.request()
+}
+
+impl Options {
+    /// The options with an argument, or `None` if it is not valid.
+    fn with_argument(self, index: usize, argument: &str) -> Option<Options> {
+        match self.next {
+            Next::Any => self.with_dashes(index, argument),
+            Next::Columns => self.with_columns(argument.as_bytes()),
+            Next::File => self.with_operand(index),
+        }
+    }
+
+    /// The options with an argument that may begin with dashes.
+    fn with_dashes(self, index: usize, argument: &str) -> Option<Options> {
+        if let Some(name) = argument.strip_prefix("--") {
+            return self.with_name(name);
+        }
+        match argument.as_bytes() {
+            [b'-', letters @ ..] if !letters.is_empty() => self.with_letters(letters),
+            _ => self.with_operand(index),
+        }
+    }
+
+    /// The options with a name after two dashes.
+    fn with_name(mut self, name: &str) -> Option<Options> {
+        match name {
+            "decode" => self.decode = true,
+            "check" => self.check = true,
+            "upper" => self.upper = true,
+            "prefix" => self.prefix = true,
+            "ignore-newlines" => self.ignore_newlines = true,
+            "help" => self.help = true,
+            "version" => self.version = true,
+            "wrap" => self.next = Next::Columns,
+            "" => self.next = Next::File,
+            _ => return self.with_columns(name.strip_prefix("wrap=")?.as_bytes()),
+        }
+        Some(self)
+    }
+
+    /// The options with the letters after one dash.
+    fn with_letters(mut self, letters: &[u8]) -> Option<Options> {
+        for index in 0..letters.len() {
+            if letters[index] == b'w' {
+                return self.with_value(&letters[index + 1..]);
+            }
+            self = self.with_letter(letters[index])?;
+        }
+        Some(self)
+    }
+
+    /// The options with one letter, other than `w`.
+    fn with_letter(mut self, letter: u8) -> Option<Options> {
+        match letter {
+            b'd' => self.decode = true,
+            b'u' => self.upper = true,
+            b'p' => self.prefix = true,
+            _ => return None,
+        }
+        Some(self)
+    }
+
+    /// The options with what follows the letter `w`.
+    fn with_value(mut self, text: &[u8]) -> Option<Options> {
+        if !text.is_empty() {
+            return self.with_columns(text);
+        }
+        self.next = Next::Columns;
+        Some(self)
+    }
+
+    /// What the options ask for, or `None` if the number of columns is missing.
+    fn request(self) -> Option<Request> {
+        if matches!(self.next, Next::Columns) {
+            return None;
+        }
+        if self.help {
+            return Some(Request::Help);
+        }
+        if self.version {
+            return Some(Request::Version);
+        }
+        Some(Request::Run(self.mode(), self.file))
+    }
+
+    /// The mode that is set.
+    fn mode(self) -> Mode {
+        let ignore_newlines = self.ignore_newlines;
+        if self.check {
+            Mode::Check { ignore_newlines }
+        } else if self.decode {
+            Mode::Decode { ignore_newlines }
+        } else {
+            Mode::Encode {
+                prefix: self.prefix,
+                upper: self.upper,
+                columns: self.columns,
+            }
+        }
+    }
+
+    /// The options with a number of columns.
+    fn with_columns(mut self, text: &[u8]) -> Option<Options> {
+        self.columns = decimal(text)?;
+        self.next = Next::Any;
+        Some(self)
+    }
+
+    /// The options with a file.
+    fn with_operand(mut self, index: usize) -> Option<Options> {
+        if self.file.is_some() {
+            return None;
+        }
+        self.file = Some(index);
+        Some(self)
+    }
+}
+
+/// The number of decimal digits, or `None` if there are none, another character or too many.
+fn decimal(text: &[u8]) -> Option<usize> {
+    match text {
+        [] => None,
+        _ => with_digits(text),
+    }
+}
+
+/// As `decimal`, and 0 if there are no digits.
+fn with_digits(text: &[u8]) -> Option<usize> {
+    let mut number = 0;
+    for digit in text {
+        number = with_digit(number, *digit)?;
+    }
+    Some(number)
+}
+
+/// The number with one more decimal digit, or `None` if it is none or the number is too large.
+fn with_digit(number: usize, digit: u8) -> Option<usize> {
+    match digit {
+        b'0'..=b'9' => number
+            .checked_mul(10)?
+            .checked_add(usize::from(digit - b'0')),
+        _ => None,
+    }
+}

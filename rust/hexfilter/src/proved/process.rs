@@ -1,0 +1,125 @@
+// Made by rust/erase from crates/hexfilter_core/src/process.rt. Do not edit.
+//! The whole program, from its arguments to its exit status.
+
+use crate::rattle::prelude::*;
+use crate::proved::error::RunError;
+use crate::proved::mode::Mode;
+use crate::proved::options::{Request, request_of};
+use crate::proved::runs::run;
+use crate::proved::transfer::{flush, write_piece};
+use crate::rattle::env::{self, Env};
+use crate::rattle::fs::File;
+use crate::rattle::io::{self, Eprint, ErrorKind, Read, Write};
+use crate::rattle::process::ExitCode;
+use crate::rattle::rt::Files;
+
+/// What `--help` prints.
+const HELP: &str = "\
+Usage: hexfilter [OPTION]... [FILE]
+Writes FILE as hexadecimal text, or decodes such a text. Without FILE, or if FILE
+is -, reads standard input. Writes to standard output.
+
+  -d, --decode           decode the text
+      --check            only test whether the text can be decoded
+  -u, --upper            write digits in uppercase
+  -p, --prefix           write 0x before the digits
+  -w, --wrap COLUMNS     write lines of COLUMNS characters (0: no lines)
+      --ignore-newlines  leave out newlines before the text is decoded
+      --help             print this help
+      --version          print the version
+
+Exit status: 0 done, 1 the text cannot be decoded, 2 an argument is not valid,
+3 a read or a write failed.
+";
+
+/// What `--version` prints.
+const VERSION: &str = "hexfilter 1.0.0\n";
+
+/// Does what the arguments ask for, with `input` and `output` as standard input and output. Returns the
+/// exit status: 0 if that succeeds, 1 if the text cannot be decoded, 2 if the arguments are not valid or not
+/// UTF-8, and 3 if a read or a write fails. An error is one line on standard error, but none if the reader
+/// of standard output is gone.
+pub fn program<R: Read, W: Write>(
+    rt: &(impl Env + Files + Eprint + AllocGlobal),
+    input: &mut R,
+    output: &mut W,
+) -> ExitCode {
+    let arguments = match arguments(rt) {
+        Ok(arguments) => arguments,
+        Err(error) => {
+            let _ = eprintln!(rt; "hexfilter: cannot read the arguments: {error}");
+            return ExitCode::from(2);
+        }
+    };
+    match request_of(&arguments) {
+        Some(Request::Help) => print(rt, HELP, output),
+        Some(Request::Version) => print(rt, VERSION, output),
+        Some(Request::Run(mode, None)) => run_standard_input(rt, mode, input, output),
+        Some(Request::Run(mode, Some(index))) => match arguments.get(index) {
+            Some(name) if name.as_str() != "-" => run_file(rt, mode, name.as_str(), output),
+            _ => run_standard_input(rt, mode, input, output),
+        },
+        None => {
+            let _ = eprintln!(rt; "hexfilter: invalid arguments; try --help");
+            ExitCode::from(2)
+        }
+    }
+}
+
+/// The arguments after the program's name.
+fn arguments(rt: &(impl Env + AllocGlobal)) -> io::Result<Vec<String>> {
+    Ok(env::args(rt)?.skip(1).collect())
+}
+
+/// Runs on standard input.
+fn run_standard_input<R: Read, W: Write>(
+    rt: &impl Eprint,
+    mode: Mode,
+    input: &mut R,
+    output: &mut W,
+) -> ExitCode {
+    match run(mode, input, output) {
+        Ok(()) => ExitCode::SUCCESS,
+        Err(error) => failed(rt, "standard input", error),
+    }
+}
+
+/// Runs on the file with that name.
+fn run_file<W: Write>(
+    rt: &(impl Files + Eprint),
+    mode: Mode,
+    name: &str,
+    output: &mut W,
+) -> ExitCode {
+    let mut file = match File::open(rt, name) {
+        Ok(file) => file,
+        Err(error) => return failed(rt, name, RunError::Read(error)),
+    };
+    match run(mode, &mut file, output) {
+        Ok(()) => ExitCode::SUCCESS,
+        Err(error) => failed(rt, name, error),
+    }
+}
+
+/// Writes a text, and flushes.
+fn print<W: Write>(rt: &impl Eprint, text: &str, output: &mut W) -> ExitCode {
+    if let Err(error) = write_piece(output, text.as_bytes()) {
+        return failed(rt, "", error);
+    }
+    match flush(output) {
+        Ok(()) => ExitCode::SUCCESS,
+        Err(error) => failed(rt, "", error),
+    }
+}
+
+/// Prints the error of an input, unless the reader of standard output is gone. Returns its status.
+fn failed(rt: &impl Eprint, name: &str, error: RunError) -> ExitCode {
+    // Nothing is left to be done if standard error fails.
+    let _ = match &error {
+        RunError::Text(error) => eprintln!(rt; "hexfilter: {name}: {error}"),
+        RunError::Read(error) => eprintln!(rt; "hexfilter: {name}: {error}"),
+        RunError::Write(error) if error.kind() == ErrorKind::BrokenPipe => Ok(()),
+        RunError::Write(error) => eprintln!(rt; "hexfilter: standard output: {error}"),
+    };
+    ExitCode::from(error.status())
+}
