@@ -182,8 +182,8 @@ struct const_hex_error {
  * CONST_HEX_MESSAGE_SIZE bytes are always enough.
  *
  * Returns the number of bytes written, without the NUL. If message_size is 0, nothing is written and the
- * result is 0. The message is empty if error->kind is unknown, or if it is CONST_HEX_INVALID_CHARACTER and
- * error->byte is greater than 255: no function of this library sets such an error.
+ * result is 0. No function of this library sets an error of kind 4, whose message is "out of memory", nor one of
+ * another unknown kind or with an error->byte greater than 255, whose message is empty.
  *
  *     char message[CONST_HEX_MESSAGE_SIZE];
  *     const_hex_error_message(&error, message, sizeof message);
@@ -231,9 +231,9 @@ size_t const_hex_encoded_size(size_t bytes_length, unsigned flags);
  *   text, text_size      the buffer; it may be larger than needed, and the rest of it is unchanged
  *   flags                0, or any of CONST_HEX_UPPER, CONST_HEX_PREFIX and CONST_HEX_NO_NUL
  *
- * Returns true on success. Returns false if text_size is smaller than const_hex_encoded_size(bytes_length,
- * flags), or flags has an unknown bit. Then the buffer is unchanged, except that its first byte is set to 0
- * (the empty string) if text_size is not 0 and CONST_HEX_NO_NUL is not passed.
+ * Returns true on success. Returns false if the text, with its prefix and NUL, has more than text_size bytes,
+ * whatever bytes_length and text_size are, or if flags has an unknown bit. Then the buffer is unchanged, except
+ * that its first byte is set to 0 (the empty string) if text_size is not 0 and CONST_HEX_NO_NUL is not passed.
  *
  *     char text[65];
  *     if (const_hex_encode(hash, 32, text, sizeof text, 0)) ...

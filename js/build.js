@@ -13,7 +13,8 @@ else build();
 function build() {
     const module = readFileSync(at('src/const_hex.wasm'));
     const sum = createHash('sha256').update(module).digest('hex');
-    if (!readFileSync(at('../machine_code/proved.txt'), 'utf8').includes(sum)) {
+    const proved = readFileSync(at('../machine_code/proved.txt'), 'utf8').match(/^\S+ wasm \S+(?= )/gm) ?? [];
+    if (proved.length !== 3 || !proved.every((line) => line.endsWith(` ${sum}`))) {
         throw new Error('src/const_hex.wasm is not the module that machine_code/proved.txt says is proved');
     }
     const source = readFileSync(at('src/const_hex.js'), 'utf8');

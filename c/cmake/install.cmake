@@ -14,4 +14,7 @@ foreach(function ${FUNCTIONS})
   file(CONFIGURE OUTPUT man3/${function}.3 CONTENT ".so man3/const_hex.3\n")
 endforeach()
 install(DIRECTORY ${PROJECT_BINARY_DIR}/man3 DESTINATION ${CMAKE_INSTALL_MANDIR})
-include(cmake/release.cmake)
+# A release has the verified machine code alone.
+if(NOT CONST_HEX_CARGO)
+  include(cmake/release.cmake)
+endif()

@@ -96,6 +96,9 @@ if(NOT CONST_HEX_CARGO)
 endif()
 
 # The archive of a release.
+if(CONST_HEX_CARGO)
+  return()
+endif()
 set(ARCHIVE "${HERE}/un packed/${RELEASE}")
 set(PACK "'${CMAKE_CPACK_COMMAND}' --config '${PROJECT_BINARY_DIR}/CPackConfig.cmake' -B")
 test(archive PROPERTIES FIXTURES_SETUP unpacked COMMAND sh -c "rm -rf 'un packed' one other &&
@@ -106,7 +109,7 @@ test(archive.is_the_same_again ${WITH} COMMAND sh -c
 test(archive.sums ${WITH} COMMAND sh -c "cd '${ARCHIVE}' && sha256sum --quiet -c SHA256SUMS && LC_ALL=C &&
   sed 's/.*  //' SHA256SUMS | sort > '${HERE}/summed' &&
   find . -type f ! -name SHA256SUMS -printf '%P\\n' | sort | diff '${HERE}/summed' -")
-test(archive.has_licences_and_no_build_output ${WITH} COMMAND sh -c "cd '${ARCHIVE}' &&
+test(archive.has_licences_and_no_build_output ${WITH} COMMAND sh -c "cd '${ARCHIVE}' && ! grep '@' README.md &&
   test -s LICENSE-APACHE && test -s LICENSE-MIT && test -s NOTICE &&
   ! find . -name build -o -name out -o -name 'CMakeCache*' | grep .")
 configured(archive.cmake ${ARCHIVE})

@@ -16,28 +16,31 @@ file(CONFIGURE OUTPUT exported CONTENT "${exported}\n")
 test(library.exports COMMAND sh -c
   "'${CMAKE_NM}' -D --defined-only '${SHARED}' | sed 's/.* //' | LC_ALL=C sort | diff exported -")
 if(NOT CONST_HEX_CARGO)
-test(library.archive_names COMMAND ${CMAKE_NM} -g --defined-only $<TARGET_FILE:const_hex_static> PROPERTIES
-  PASS_REGULAR_EXPRESSION " T const_hex_decode\n" FAIL_REGULAR_EXPRESSION " [A-Z] (c[^o]|[^c])")
-# It needs no other library, not even that of C.
-test(library.archive_is_alone COMMAND ${CMAKE_NM} -u $<TARGET_FILE:const_hex_static> PROPERTIES
-  PASS_REGULAR_EXPRESSION const_hex_decode FAIL_REGULAR_EXPRESSION " U (c[^o]|[^c])")
-# What a program can write is the byte in which the dispatcher keeps what the CPU has answered.
-test(library.variables COMMAND sh -c
-  "! '${CMAKE_NM}' '$<TARGET_FILE:const_hex_static>' | grep -i ' [bcdgs] ' | grep -v ' b choice$'")
-# The shared library has the same code.
-test(library.shared_code NEEDS python3 COMMAND python3 -E ${SOURCE}/same_code.py
-  ${CMAKE_OBJDUMP} $<TARGET_FILE:const_hex_static> ${SHARED})
-# So has what clang makes of the files, for ELF and for Mach-O.
-foreach(format linux-gnu unknown-freebsd apple-macos)
-  foreach(row x86_64/x86_64_v2 x86_64/x86_64_v3 x86_64/dispatch aarch64/aarch64 aarch64/dispatch)
-    string(REGEX MATCH "^(.*)/(.*)" row ${row})
-    set(name code_for_${CMAKE_MATCH_1}-${format}.${CMAKE_MATCH_2})
-    test(library.${name} NEEDS python3 clang llvm-objdump COMMAND sh -ec
-      "for system in linux-gnu ${format}; do clang --target=${CMAKE_MATCH_1}-$system -o ${name}-$system.o \
-         -c '${PROJECT_SOURCE_DIR}/asm/${CMAKE_MATCH_2}.S'; done
-       python3 -E '${SOURCE}/same_code.py' llvm-objdump ${name}-linux-gnu.o ${name}-${format}.o")
+  test(library.archive_names COMMAND ${CMAKE_NM} -g --defined-only $<TARGET_FILE:const_hex_static> PROPERTIES
+    PASS_REGULAR_EXPRESSION " T const_hex_decode\n" FAIL_REGULAR_EXPRESSION " [A-Z] (c[^o]|[^c])")
+  # It needs no other library, not even that of C.
+  test(library.archive_is_alone COMMAND ${CMAKE_NM} -u $<TARGET_FILE:const_hex_static> PROPERTIES
+    PASS_REGULAR_EXPRESSION const_hex_decode FAIL_REGULAR_EXPRESSION " U (c[^o]|[^c])")
+  # What a program can write is the byte in which the dispatcher keeps what the CPU has answered.
+  test(library.variables COMMAND sh -c "'${CMAKE_NM}' '$<TARGET_FILE:const_hex_static>' > variables &&
+    grep -q ' T const_hex_decode$' variables && ! grep -i ' [bcdgs] ' variables | grep -v ' b choice$'")
+  # The shared library has the same code.
+  test(library.shared_code NEEDS python3 COMMAND python3 -E ${SOURCE}/same_code.py
+    ${CMAKE_OBJDUMP} $<TARGET_FILE:const_hex_static> ${SHARED})
+  # So has what clang makes of the files, for ELF and for Mach-O.
+  set(files dispatch x86_64_v2 x86_64_v3)
+  if(NOT processors MATCHES "x86_64|amd64")
+    set(files dispatch aarch64)
+  endif()
+  foreach(format linux-gnu unknown-freebsd apple-macos)
+    foreach(file ${files})
+      set(name code_for_${format}.${file})
+      test(library.${name} NEEDS python3 clang llvm-objdump COMMAND sh -ec
+        "'${CMAKE_C_COMPILER}' -c '${PROJECT_SOURCE_DIR}/asm/${file}.S' -o ${name}-cc.o
+         clang --target=${CMAKE_SYSTEM_PROCESSOR}-${format} -c '${PROJECT_SOURCE_DIR}/asm/${file}.S' -o ${name}.o
+         python3 -E '${SOURCE}/same_code.py' llvm-objdump ${name}-cc.o ${name}.o")
+    endforeach()
   endforeach()
-endforeach()
 endif()
 if(NOT CMAKE_CROSSCOMPILING)
   file(WRITE ${HERE}/abc "abc")

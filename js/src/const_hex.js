@@ -34,7 +34,8 @@ const text = new Uint8Array(memory.buffer, TEXT, TEXT_CHUNK + 4);
 
 const { Buffer } = globalThis.process?.versions?.node ? globalThis : {};
 const textBuffer = Buffer?.from(memory.buffer, TEXT, text.length);
-const textEncoder = globalThis.TextEncoder && new TextEncoder();
+// Without it each function of the module throws.
+const textEncoder = globalThis.TextEncoder ? new TextEncoder() : { encodeInto: const_hex_decoder_update };
 const textDecoder = globalThis.TextDecoder && new TextDecoder();
 
 // Up to so many characters are copied by a loop, since calls of the engine take long to begin.

@@ -50,6 +50,7 @@ test('where the module does not run, the import succeeds, and each function says
         const loaded = await import(`../dist/const_hex.js?${Math.random()}`)
             .finally(() => Object.assign(globalThis, { TextEncoder, TextDecoder, WebAssembly }));
         const calls = ['decode', 'check', 'isHex'].map((name) => () => loaded[name]('6b'));
+        calls.push(() => loaded.decode('6b'.repeat(100)), () => loaded.check('\u00e9'));
         calls.push(() => loaded.encode(Uint8Array.of(1)), () => loaded.decodeInto('6b', Uint8Array.of(1)));
         calls.push(() => loaded.decoder().push('6b'), () => loaded.decoder().end());
         for (const call of calls) {

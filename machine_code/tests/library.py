@@ -16,15 +16,14 @@ AARCH64 = os.environ.get("CONST_HEX_AARCH64", TOP / "build" / "aarch64" / "libco
 MODULE = os.environ.get("CONST_HEX_MODULE", TOP / "js" / "src" / "const_hex.wasm")
 
 
-NEEDED = ("aarch64-linux-gnu-gcc", "qemu-aarch64")
-needs_aarch64 = unittest.skipUnless(
-    pathlib.Path(AARCH64).exists() and all(map(shutil.which, NEEDED)),
-    f"{AARCH64} is not built, or {' or '.join(NEEDED)} is missing",
-)
-needs_module = unittest.skipUnless(
-    pathlib.Path(MODULE).exists() and all(map(shutil.which, ("node", "wat2wasm"))),
-    f"{MODULE} is not built, or node or wat2wasm is missing",
-)
+def _has(file, *programs):
+    return pathlib.Path(file).exists() and all(map(shutil.which, programs))
+
+
+HAS_AARCH64 = _has(AARCH64, "aarch64-linux-gnu-gcc", "qemu-aarch64")
+needs_aarch64 = unittest.skipUnless(HAS_AARCH64, f"{AARCH64} is not built, or its compiler or qemu is missing")
+HAS_MODULE = _has(MODULE, "node", "wat2wasm")
+needs_module = unittest.skipUnless(HAS_MODULE, "node or wat2wasm is missing")
 
 
 def code_of(build, archive=None):

@@ -9,7 +9,7 @@ import dispatch
 from calls import function_of
 from exploration import Refused
 from library import WASM, calls_of
-from tests.library import code_of, needs_aarch64, needs_module
+from tests.library import HAS_AARCH64, HAS_MODULE, code_of, needs_aarch64, needs_module
 from tests.mutations import edited, flipped
 
 # The call's own function, what checks digits on AArch64, and what searches; and in the module, by an instruction that
@@ -136,7 +136,7 @@ for _row in MUTATIONS:
     setattr(TestMutations, "test_" + re.sub(r"\W+", "_", f"{_row[1]} {_row[2][0]} {_row[0]}".lower()), _test(*_row))
 
 
-# Random bits: these lengths of two forms of a call are enough for most of them.
+# Random bits, so many for each build: these lengths of two forms of a call are enough for most of them.
 SEED = int(os.environ.get("CONST_HEX_SEED", random.getrandbits(32)))
 FLIPS = int(os.environ.get("CONST_HEX_FLIPS", 10))
 LENGTHS = {0, 1, 2, 3, 5, 6, 9, 14, 16, 17, 20, 30, 32, 34, 40, 47, 64, 66, 100, 129, 150, 151, 222, 240}
@@ -146,8 +146,8 @@ class TestFlips(unittest.TestCase):
     """One bit of an instruction that runs is another one. What is accepted is printed: in a longer run all of it
     changed nothing that the contracts speak of."""
 
-    def flip(self, build):
-        some, accepted = random.Random(f"{SEED} {build}"), []
+    def accepted(self, build):
+        some = random.Random(f"{SEED} {build}")
         for call in some.sample([call for call in calls_of(build) if call != "error_message"], 2):
             forms = some.sample(range(len(calls_of(build)[call].forms)), 2) if calls_of(build)[call].forms[1:] else [0]
             parts = [part for part in calls_of(build)[call].parts()
@@ -161,20 +161,10 @@ class TestFlips(unittest.TestCase):
                 except Exception as error:
                     said = f"an error in this tool: {error!r}"
                 if said is None:
-                    accepted.append(f"{build} {base.object.name_at(address)}: {' -> '.join(map(str, texts))}")
-        print(f"CONST_HEX_SEED={SEED}, {build}: {len(accepted)} of {FLIPS} are accepted", *accepted, sep="\n    ")
-        self.assertLessEqual(len(accepted), FLIPS // 3)
+                    yield f"{build} {base.object.name_at(address)}: {' -> '.join(map(str, texts))}"
 
-    def test_v2(self):
-        self.flip("v2")
-
-    def test_v3(self):
-        self.flip("v3")
-
-    @needs_aarch64
-    def test_aarch64(self):
-        self.flip("aarch64")
-
-    @needs_module
-    def test_wasm(self):
-        self.flip(WASM)
+    def test_single_bits(self):
+        builds = ["v2", "v3", *["aarch64"] * HAS_AARCH64, *[WASM] * HAS_MODULE]
+        accepted = [flip for build in builds for flip in self.accepted(build)]
+        print(f"CONST_HEX_SEED={SEED}, {len(accepted)} are accepted", *accepted, sep="\n    ")
+        self.assertLess(len(accepted), len(builds) * FLIPS / 3)

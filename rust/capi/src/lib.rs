@@ -3,7 +3,7 @@
 //!
 //! Each makes slices of the pointers and lengths that C passes, and calls the proved function of the same name.
 //! One whose error may be NULL calls the function that ends in `_nonnull`, with an error of its own then. Nothing
-//! here allocates or panics.
+//! here allocates, or panics in a release build.
 //!
 //! `cmake` in the folder `c` builds this crate and makes both libraries of it. For the target
 //! `wasm32-unknown-unknown` it becomes the module, which exports the three functions of this file alone.
@@ -108,7 +108,7 @@ unsafe fn slice_mut<'a>(start: *mut u8, length: usize) -> &'a mut [u8] {
     unsafe { from_raw_parts_mut(start, at_most(length)) }
 }
 
-/// No function panics, but the language wants this.
+/// In a release build no function panics. In another one a failed check ends here, in an endless loop.
 #[panic_handler]
 fn panic(_: &core::panic::PanicInfo<'_>) -> ! {
     #[cfg(target_arch = "wasm32")]
