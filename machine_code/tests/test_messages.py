@@ -13,8 +13,10 @@ from messages import Digit, position_of, positions
 from tests.test_soundness import state_with
 from values import TooWide, at_inputs, constants, parts_of
 
-# A number of three digits, and one of two.
-THREE, TWO = ([Digit(f"digit {place}: 1-9", 1, 9) for place in range(count)] for count in (3, 2))
+# A number of three digits, and one of two. Only the first is not 0.
+THREE, TWO = (
+    [Digit(f"digit {place}: {int(place == 0)}-9", int(place == 0), 9) for place in range(count)] for count in (3, 2)
+)
 
 
 def quotient(value):
@@ -60,7 +62,7 @@ class TestDigits(unittest.TestCase):
         last = subtracted(value.low_bytes(4), multiplied(quotient(value).low_bytes(4), ten))
         [digit, *rest] = logic("or", last, constants(48, 4))
         self.assertEqual(tuple(rest), constants(0, 3))
-        self.assertEqual(at_inputs(digit, lambda at: {THREE[-1].name: 4}[parts_of(at)[1]]), ord("5"))
+        self.assertEqual(at_inputs(digit, lambda at: {THREE[-1].name: 5}[parts_of(at)[1]]), ord("5"))
         for lane in (value.low_bytes(4), added(last, ten), multiplied(last, ten)):
             with self.assertRaises(TooWide):
                 logic("or", lane, constants(48, 4))
