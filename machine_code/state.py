@@ -13,9 +13,8 @@ class State:
     `ghost` numbers that only the proof has: how long the input is, and how much of it is read and of the
     output written."""
 
-    # The names of the registers and their sizes, which of them is the stack pointer, and how many bytes below
-    # it may be used.
-    sizes, top, red_zone = {}, None, 0
+    # The names of the registers and their sizes, and which of them is the stack pointer.
+    sizes, top = {}, None
     # How many bytes a number and a pointer have; the calls that are open, if the registers do not say it; and
     # the unknown bytes that decide a `select`, which may be a branch.
     word, frames, selects = 8, (), frozenset()
@@ -110,21 +109,19 @@ class State:
         if type(pointer) is not Pointer:
             raise Fault("an access by a number that is no pointer")
         top = self.stack_pointer(operand)
-        if pointer.region == "stack" and not (
-            type(top) is Pointer and pointer.offset >= top.offset - self.red_zone
-        ):
+        if pointer.region == "stack" and not (type(top) is Pointer and pointer.offset >= top.offset):
             raise Fault("an access below the stack")
         return pointer
 
     def has_moved(self, old, pushed):
         """The stack pointer has changed. It stays in the stack, and a signal's handler may change what lay
-        there before, but for the red zone."""
+        there before."""
         new = self.registers[self.top]
         inside = type(new) is Pointer and new.region == "stack" and type(new.offset) is int
         if not inside or not 0 <= new.offset <= self.ghost["stack"] + pushed:
             raise Fault("the stack pointer leaves the stack")
         if new.offset > old.offset:
-            self.memory.change_below("stack", new.offset - self.red_zone)
+            self.memory.change_below("stack", new.offset)
 
     def stack_pointer(self, operand):
         """Where the stack ends when an address is used."""

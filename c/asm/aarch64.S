@@ -1648,701 +1648,279 @@
 /* const_hex_c::const_hex_error_message */
 	exported SYMBOL(const_hex_error_message)
 	function SYMBOL(const_hex_error_message)
-	sub sp, sp, #0x40
-	movi v0.2d, #0x0
-	ldr w10, [x0]
-	mov w8, #0x1000
+	ldr w8, [x0]
 	cmp x1, #0x0
-	csel x9, x8, xzr, eq
-	cmp w10, #0x4
-	add x8, x1, x9
+	mov w9, #0x1000
+	csel x9, x9, xzr, eq
+	mov x3, x2
+	cmp w8, #0x4
+	add x2, x1, x9
+	b.eq 3f
+	cmp w8, #0x2
+	b.eq 2f
+	cmp w8, #0x1
+	b.ne 4f
+	cmp x3, #0x14
+	b.hi 9f
+	adrp x0, PAGE(constant_5)
+	add x0, x0, PAGE_OFFSET(constant_5)
+	mov w1, #0x14
+	b const_hex_message_write_ended
+2:
+	cmp x3, #0x15
+	b.hi 6f
+	adrp x0, PAGE(constant_6)
+	add x0, x0, PAGE_OFFSET(constant_6)
+	mov w1, #0x15
+	b const_hex_message_write_ended
+3:
+	cmp x3, #0xd
+	b.hi 7f
+	adrp x0, PAGE(constant_7)
+	add x0, x0, PAGE_OFFSET(constant_7)
+	mov w1, #0xd
+	b const_hex_message_write_ended
+4:
+	sub sp, sp, #0x50
+	movi v0.2d, #0x0
+	ldr w9, [x0, #4]
+	mov w10, #0x100
+	stp x29, x30, [sp, #64]
+	add x29, sp, #0x40
+	cmp w9, #0x100
+	csel w10, w9, w10, cc
+	cmp w8, #0x3
 	stur q0, [sp, #43]
 	stp q0, q0, [sp, #16]
 	str q0, [sp]
-	b.eq 3f
-	cmp w10, #0x2
-	b.eq 2f
-	cmp w10, #0x1
-	b.ne 4f
-	cmp x2, #0x14
-	b.hi 9f
-	cbz x2, 31f
-	subs x9, x2, #0x1
-	strb wzr, [x8]
-	b.eq 31f
-	mov w10, #0x6f
-	cmp x9, #0x1
-	strh w10, [x8]
-	b.ne 25f
-	mov w0, #0x1
-	add sp, sp, #0x40
-	ret
-2:
-	cmp x2, #0x15
-	b.hi 6f
-	cbz x2, 31f
-	subs x9, x2, #0x1
-	strb wzr, [x8]
-	b.eq 31f
-	mov w10, #0x69
-	cmp x9, #0x1
-	strh w10, [x8]
-	b.ne 23f
-	mov w0, #0x1
-	add sp, sp, #0x40
-	ret
-3:
-	cmp x2, #0xd
-	b.hi 7f
-	cbz x2, 31f
-	subs x9, x2, #0x1
-	strb wzr, [x8]
-	b.eq 31f
-	mov w10, #0x6f
-	cmp x9, #0x1
-	strh w10, [x8]
-	b.ne 24f
-	mov w0, #0x1
-	add sp, sp, #0x40
-	ret
-4:
-	ldr w11, [x0, #4]
-	mov w12, #0x100
-	cmp w11, #0x100
-	csel w12, w11, w12, cc
-	cmp w10, #0x3
 	b.ne 8f
-	cmp w11, #0xff
+	cmp w9, #0xff
 	b.hi 8f
-	ldr x13, [x0, #8]
-	and w10, w12, #0xff
-	cmp x13, #0xa
+	ldr x11, [x0, #8]
+	and w8, w10, #0xff
+	cmp x11, #0xa
 	b.cc 15f
-	mov w11, #0x3a
+	mov w9, #0x3a
 5:
-	mov x14, x13
-	mov x13, #0xcccccccccccccccc
-	mov w15, #0xa
-	movk x13, #0xcccd
-	mov x16, sp
-	cmp x14, #0x63
-	umulh x13, x14, x13
-	lsr x13, x13, #3
-	msub w15, w13, w15, w14
-	orr w14, w15, #0x30
-	strb w14, [x16, x11]
-	sub x11, x11, #0x1
+	mov x12, x11
+	mov x11, #0xcccccccccccccccc
+	mov w13, #0xa
+	movk x11, #0xcccd
+	mov x14, sp
+	cmp x12, #0x63
+	umulh x11, x12, x11
+	lsr x11, x11, #3
+	msub w13, w11, w13, w12
+	orr w12, w13, #0x30
+	strb w12, [x14, x9]
+	sub x9, x9, #0x1
 	b.hi 5b
-	add x11, x11, #0x1
+	add x9, x9, #0x1
 	b 16f
 6:
-	adrp x9, PAGE(constant_5)
-	add x9, x9, PAGE_OFFSET(constant_5)
-	sub x10, x8, x9
-	cmp x10, #0x14
+	adrp x8, PAGE(constant_6)
+	add x8, x8, PAGE_OFFSET(constant_6)
+	sub x9, x2, x8
+	cmp x9, #0x14
 	b.hi 12f
-	adrp x9, PAGE(constant_6)
-	adrp x10, PAGE(constant_7)
-	ldr q0, [x9, PAGE_OFFSET(constant_6)]
-	ldr d1, [x10, PAGE_OFFSET(constant_7)]
-	mov w9, #0x68
-	strb w9, [x8, #20]
-	str q0, [x8]
-	str s1, [x8, #16]
-	strb wzr, [x8, #21]
+	adrp x8, PAGE(constant_8)
+	adrp x9, PAGE(constant_9)
+	ldr q0, [x8, PAGE_OFFSET(constant_8)]
+	ldr d1, [x9, PAGE_OFFSET(constant_9)]
+	mov w8, #0x68
+	strb w8, [x2, #20]
+	str q0, [x2]
+	str s1, [x2, #16]
 	mov w0, #0x15
-	add sp, sp, #0x40
+	strb wzr, [x2, #21]
 	ret
 7:
-	adrp x9, PAGE(constant_8)
-	add x9, x9, PAGE_OFFSET(constant_8)
-	sub x10, x8, x9
-	cmp x10, #0xc
+	adrp x8, PAGE(constant_7)
+	add x8, x8, PAGE_OFFSET(constant_7)
+	sub x9, x2, x8
+	cmp x9, #0xc
 	b.hi 13f
-	adrp x9, PAGE(constant_9)
-	adrp x10, PAGE(constant_10)
-	ldr d0, [x9, PAGE_OFFSET(constant_9)]
-	ldr d1, [x10, PAGE_OFFSET(constant_10)]
-	mov w9, #0x79
-	strb w9, [x8, #12]
-	str d0, [x8]
-	str s1, [x8, #8]
-	strb wzr, [x8, #13]
+	adrp x8, PAGE(constant_10)
+	adrp x9, PAGE(constant_11)
+	ldr d0, [x8, PAGE_OFFSET(constant_10)]
+	ldr d1, [x9, PAGE_OFFSET(constant_11)]
+	mov w8, #0x79
+	strb w8, [x2, #12]
+	str d0, [x2]
+	str s1, [x2, #8]
 	mov w0, #0xd
-	add sp, sp, #0x40
+	strb wzr, [x2, #13]
 	ret
 8:
-	mov x0, xzr
-	cbz x2, 34f
-	strb wzr, [x8]
-	add sp, sp, #0x40
+	mov x8, sp
+	mov x1, xzr
+	add x0, x8, #0x3b
+	bl const_hex_message_write_ended
+	ldp x29, x30, [sp, #64]
+	add sp, sp, #0x50
 	ret
 9:
-	adrp x9, PAGE(constant_11)
-	add x9, x9, PAGE_OFFSET(constant_11)
-	sub x10, x8, x9
-	cmp x10, #0x13
+	adrp x8, PAGE(constant_5)
+	add x8, x8, PAGE_OFFSET(constant_5)
+	sub x9, x2, x8
+	cmp x9, #0x13
 	b.hi 14f
-	adrp x9, PAGE(constant_12)
-	adrp x10, PAGE(constant_13)
-	ldr q0, [x9, PAGE_OFFSET(constant_12)]
-	ldr d1, [x10, PAGE_OFFSET(constant_13)]
-	str q0, [x8]
-	str s1, [x8, #16]
-	strb wzr, [x8, #20]
+	adrp x8, PAGE(constant_12)
+	adrp x9, PAGE(constant_13)
+	ldr q0, [x8, PAGE_OFFSET(constant_12)]
+	ldr d1, [x9, PAGE_OFFSET(constant_13)]
+	str q0, [x2]
+	str s1, [x2, #16]
 	mov w0, #0x14
-	add sp, sp, #0x40
+	strb wzr, [x2, #20]
 	ret
 12:
-	ldr q0, [x9]
-	ldur x9, [x9, #13]
-	str q0, [x8]
-	stur x9, [x8, #13]
-	strb wzr, [x8, #21]
+	ldr q0, [x8]
+	ldur x8, [x8, #13]
+	str q0, [x2]
+	stur x8, [x2, #13]
 	mov w0, #0x15
-	add sp, sp, #0x40
+	strb wzr, [x2, #21]
 	ret
 13:
-	ldr x10, [x9]
-	ldur x9, [x9, #5]
-	str x10, [x8]
-	stur x9, [x8, #5]
-	strb wzr, [x8, #13]
+	ldr x9, [x8]
+	ldur x8, [x8, #5]
+	str x9, [x2]
+	stur x8, [x2, #5]
 	mov w0, #0xd
-	add sp, sp, #0x40
+	strb wzr, [x2, #13]
 	ret
 14:
-	mov w10, #0x6967
-	ldr q0, [x9]
-	movk w10, #0x7374, lsl #16
-	str w10, [x8, #16]
-	str q0, [x8]
-	strb wzr, [x8, #20]
+	mov w9, #0x6967
+	ldr q0, [x8]
+	movk w9, #0x7374, lsl #16
+	str w9, [x2, #16]
+	str q0, [x2]
 	mov w0, #0x14
-	add sp, sp, #0x40
+	strb wzr, [x2, #20]
 	ret
 15:
-	mov w11, #0x3b
+	mov w9, #0x3b
 16:
-	adrp x15, PAGE(constant_14)
-	add x15, x15, PAGE_OFFSET(constant_14)
-	mov x14, sp
-	ldr x16, [x15]
-	ldur x15, [x15, #6]
-	orr w13, w13, #0x30
-	add x14, x14, x11
-	cmp w10, #0xc
-	sturb w13, [x14, #-1]
-	stur x16, [x14, #-15]
-	stur x15, [x14, #-9]
+	adrp x13, PAGE(constant_14)
+	add x13, x13, PAGE_OFFSET(constant_14)
+	mov x12, sp
+	ldr x14, [x13]
+	ldur x13, [x13, #6]
+	orr w11, w11, #0x30
+	add x12, x12, x9
+	cmp w8, #0xc
+	sturb w11, [x12, #-1]
+	stur x14, [x12, #-15]
+	stur x13, [x12, #-9]
 	b.le 17f
-	cmp w10, #0x5b
+	cmp w8, #0x5b
 	b.gt 18f
-	cmp w10, #0xd
-	b.eq 27f
-	cmp w10, #0x27
+	cmp w8, #0xd
+	b.eq 24f
+	cmp w8, #0x27
 	b.eq 22f
 	b 19f
 17:
-	cbz w10, 26f
-	cmp w10, #0x9
-	b.eq 28f
-	cmp w10, #0xa
+	cbz w8, 23f
+	cmp w8, #0x9
+	b.eq 25f
+	cmp w8, #0xa
 	b.ne 19f
-	sub x11, x11, #0x11
-	mov x10, sp
-	mov w12, #0x6e5c
-	b 29f
+	sub x9, x9, #0x11
+	mov x8, sp
+	mov w10, #0x6e5c
+	b 26f
 18:
-	cmp w10, #0x5c
+	cmp w8, #0x5c
 	b.eq 22f
-	cmp w10, #0xad
+	cmp w8, #0xad
 	b.eq 20f
 19:
-	cmp w10, #0x20
-	b.cs 38f
+	cmp w8, #0x20
+	b.cs 28f
 20:
-	and x12, x10, #0xf
-	adrp x14, PAGE(constant_15)
-	add x14, x14, PAGE_OFFSET(constant_15)
-	ldrb w15, [x14, x12]
-	sub x13, x11, #0x11
-	mov w16, #0x7d00
-	mov x12, sp
-	cmp w10, #0x10
-	orr w15, w15, w16
-	strh w15, [x12, x13]
+	and x10, x8, #0xf
+	adrp x12, PAGE(constant_15)
+	add x12, x12, PAGE_OFFSET(constant_15)
+	ldrb w13, [x12, x10]
+	sub x11, x9, #0x11
+	mov w14, #0x7d00
+	mov x10, sp
+	cmp w8, #0x10
+	orr w13, w13, w14
+	strh w13, [x10, x11]
 	b.cc 21f
-	lsr x10, x10, #4
-	sub x13, x11, #0x12
-	ldrb w10, [x14, x10]
-	strb w10, [x12, x13]
+	lsr x8, x8, #4
+	sub x11, x9, #0x12
+	ldrb w8, [x12, x8]
+	strb w8, [x10, x11]
 21:
-	sub x11, x13, #0x3
-	mov w10, #0x7b
-	mov w13, #0x755c
-	add x12, x12, x11
-	strb w10, [x12, #2]
-	strh w13, [x12]
-	b 30f
+	sub x9, x11, #0x3
+	mov w8, #0x7b
+	mov w11, #0x755c
+	add x10, x10, x9
+	strb w8, [x10, #2]
+	strh w11, [x10]
+	b 27f
 22:
-	mov w10, #0x5c
-	sub x11, x11, #0x11
-	orr w10, w10, w12, lsl #8
-	mov x12, sp
-	strh w10, [x12, x11]
-	b 30f
+	mov w8, #0x5c
+	sub x9, x9, #0x11
+	orr w8, w8, w10, lsl #8
+	mov x10, sp
+	strh w8, [x10, x9]
+	b 27f
 23:
-	mov w10, #0x6e
-	cmp x9, #0x2
-	sturh w10, [x8, #1]
-	b.ne 35f
-	mov w0, #0x2
-	add sp, sp, #0x40
-	ret
+	sub x9, x9, #0x11
+	mov x8, sp
+	mov w10, #0x305c
+	b 26f
 24:
-	mov w10, #0x75
-	cmp x9, #0x2
-	sturh w10, [x8, #1]
-	b.ne 36f
-	mov w0, #0x2
-	add sp, sp, #0x40
-	ret
+	sub x9, x9, #0x11
+	mov x8, sp
+	mov w10, #0x725c
+	b 26f
 25:
-	mov w10, #0x64
-	cmp x9, #0x2
-	sturh w10, [x8, #1]
-	b.ne 37f
-	mov w0, #0x2
-	add sp, sp, #0x40
-	ret
+	sub x9, x9, #0x11
+	mov x8, sp
+	mov w10, #0x745c
 26:
-	sub x11, x11, #0x11
-	mov x10, sp
-	mov w12, #0x305c
-	b 29f
+	strh w10, [x8, x9]
 27:
-	sub x11, x11, #0x11
-	mov x10, sp
-	mov w12, #0x725c
-	b 29f
+	adrp x10, PAGE(constant_16)
+	add x10, x10, PAGE_OFFSET(constant_16)
+	mov x8, sp
+	ldr q0, [x10]
+	mov w10, #0x7265
+	add x8, x8, x9
+	movk w10, #0x2720, lsl #16
+	mov w11, #0x4e
+	sub x0, x8, #0x13
+	stur q0, [x8, #-19]
+	sub x1, x11, x9
+	stur w10, [x8, #-4]
+	bl const_hex_message_write_ended
+	ldp x29, x30, [sp, #64]
+	add sp, sp, #0x50
+	ret
 28:
-	sub x11, x11, #0x11
+	cmp w8, #0x7e
+	b.hi 29f
+	sub x9, x9, #0x10
 	mov x10, sp
-	mov w12, #0x745c
+	strb w8, [x10, x9]
+	b 27b
 29:
-	strh w12, [x10, x11]
-30:
-	adrp x12, PAGE(constant_16)
-	add x12, x12, PAGE_OFFSET(constant_16)
-	mov x10, sp
-	ldr q0, [x12]
-	mov w12, #0x7265
-	add x10, x10, x11
-	movk w12, #0x2720, lsl #16
-	stur q0, [x10, #-19]
-	stur w12, [x10, #-4]
-	cbz x2, 31f
-	cmp x11, #0x4e
-	strb wzr, [x8]
-	b.ne 32f
-31:
-	mov x0, xzr
-	add sp, sp, #0x40
-	ret
-32:
-	mov w8, #0x4e
-	sub x0, x2, #0x1
-	mov x10, sp
-	add x12, x9, x1
-	sub x8, x8, x11
-	sub x9, x10, #0x13
-	add x10, x12, #0x1
-	mov x12, x0
-33:
-	cbz x12, 34f
-	ldrb w13, [x9, x11]
-	add x11, x11, #0x1
-	sub x12, x12, #0x1
-	cmp x11, #0x4e
-	sturb w13, [x10, #-1]
-	strb wzr, [x10], #1
-	b.ne 33b
-	mov x0, x8
-34:
-	add sp, sp, #0x40
-	ret
-35:
-	mov w10, #0x76
-	cmp x9, #0x3
-	strh w10, [x8, #2]
-	b.ne 39f
-	mov w0, #0x3
-	add sp, sp, #0x40
-	ret
-36:
-	mov w10, #0x74
-	cmp x9, #0x3
-	strh w10, [x8, #2]
-	b.ne 40f
-	mov w0, #0x3
-	add sp, sp, #0x40
-	ret
-37:
-	cmp x9, #0x3
-	strh w10, [x8, #2]
-	b.ne 41f
-	mov w0, #0x3
-	add sp, sp, #0x40
-	ret
-38:
-	cmp w10, #0x7e
-	b.hi 42f
-	sub x11, x11, #0x10
-	mov x12, sp
-	strb w10, [x12, x11]
-	b 30b
-39:
-	mov w10, #0x61
-	cmp x9, #0x4
-	sturh w10, [x8, #3]
-	b.ne 43f
-	mov w0, #0x4
-	add sp, sp, #0x40
-	ret
-40:
-	mov w10, #0x20
-	cmp x9, #0x4
-	sturh w10, [x8, #3]
-	b.ne 44f
-	mov w0, #0x4
-	add sp, sp, #0x40
-	ret
-41:
-	mov w10, #0x20
-	cmp x9, #0x4
-	sturh w10, [x8, #3]
-	b.ne 45f
-	mov w0, #0x4
-	add sp, sp, #0x40
-	ret
-42:
-	cmp w10, #0xa1
+	cmp w8, #0xa1
 	b.cc 20b
-	lsr w12, w10, #6
-	and w10, w10, #0xffffffbf
-	sub x11, x11, #0x11
-	orr w10, w12, w10, lsl #8
-	mov x12, sp
-	orr w10, w10, #0xc0
-	strh w10, [x12, x11]
-	b 30b
-43:
-	mov w10, #0x6c
-	cmp x9, #0x5
-	strh w10, [x8, #4]
-	b.ne 46f
-	mov w0, #0x5
-	add sp, sp, #0x40
-	ret
-44:
-	mov w10, #0x6f
-	cmp x9, #0x5
-	strh w10, [x8, #4]
-	b.ne 47f
-	mov w0, #0x5
-	add sp, sp, #0x40
-	ret
-45:
-	mov w10, #0x6e
-	cmp x9, #0x5
-	strh w10, [x8, #4]
-	b.ne 48f
-	mov w0, #0x5
-	add sp, sp, #0x40
-	ret
-46:
-	mov w10, #0x69
-	cmp x9, #0x6
-	sturh w10, [x8, #5]
-	b.ne 49f
-	mov w0, #0x6
-	add sp, sp, #0x40
-	ret
-47:
-	mov w10, #0x66
-	cmp x9, #0x6
-	sturh w10, [x8, #5]
-	b.ne 50f
-	mov w0, #0x6
-	add sp, sp, #0x40
-	ret
-48:
-	mov w10, #0x75
-	cmp x9, #0x6
-	sturh w10, [x8, #5]
-	b.ne 51f
-	mov w0, #0x6
-	add sp, sp, #0x40
-	ret
-49:
-	mov w10, #0x64
-	cmp x9, #0x7
-	strh w10, [x8, #6]
-	b.ne 52f
-	mov w0, #0x7
-	add sp, sp, #0x40
-	ret
-50:
-	mov w10, #0x20
-	cmp x9, #0x7
-	strh w10, [x8, #6]
-	b.ne 53f
-	mov w0, #0x7
-	add sp, sp, #0x40
-	ret
-51:
-	mov w10, #0x6d
-	cmp x9, #0x7
-	strh w10, [x8, #6]
-	b.ne 54f
-	mov w0, #0x7
-	add sp, sp, #0x40
-	ret
-52:
-	mov w10, #0x20
-	cmp x9, #0x8
-	sturh w10, [x8, #7]
-	b.ne 55f
-	mov w0, #0x8
-	add sp, sp, #0x40
-	ret
-53:
-	mov w10, #0x6d
-	cmp x9, #0x8
-	sturh w10, [x8, #7]
-	b.ne 56f
-	mov w0, #0x8
-	add sp, sp, #0x40
-	ret
-54:
-	mov w10, #0x62
-	cmp x9, #0x8
-	sturh w10, [x8, #7]
-	b.ne 57f
-	mov w0, #0x8
-	add sp, sp, #0x40
-	ret
-55:
-	mov w10, #0x73
-	cmp x9, #0x9
-	strh w10, [x8, #8]
-	b.ne 58f
-	mov w0, #0x9
-	add sp, sp, #0x40
-	ret
-56:
-	mov w10, #0x65
-	cmp x9, #0x9
-	strh w10, [x8, #8]
-	b.ne 59f
-	mov w0, #0x9
-	add sp, sp, #0x40
-	ret
-57:
-	mov w10, #0x65
-	cmp x9, #0x9
-	strh w10, [x8, #8]
-	b.ne 60f
-	mov w0, #0x9
-	add sp, sp, #0x40
-	ret
-58:
-	mov w10, #0x74
-	cmp x9, #0xa
-	sturh w10, [x8, #9]
-	b.ne 61f
-	mov w0, #0xa
-	add sp, sp, #0x40
-	ret
-59:
-	mov w10, #0x6d
-	cmp x9, #0xa
-	sturh w10, [x8, #9]
-	b.ne 62f
-	mov w0, #0xa
-	add sp, sp, #0x40
-	ret
-60:
-	mov w10, #0x72
-	cmp x9, #0xa
-	sturh w10, [x8, #9]
-	b.ne 63f
-	mov w0, #0xa
-	add sp, sp, #0x40
-	ret
-61:
-	mov w10, #0x72
-	cmp x9, #0xb
-	strh w10, [x8, #10]
-	b.ne 64f
-	mov w0, #0xb
-	add sp, sp, #0x40
-	ret
-62:
-	mov w10, #0x6f
-	cmp x9, #0xb
-	strh w10, [x8, #10]
-	b.ne 65f
-	mov w0, #0xb
-	add sp, sp, #0x40
-	ret
-63:
-	mov w10, #0x20
-	cmp x9, #0xb
-	strh w10, [x8, #10]
-	b.ne 66f
-	mov w0, #0xb
-	add sp, sp, #0x40
-	ret
-64:
-	mov w10, #0x69
-	cmp x9, #0xc
-	sturh w10, [x8, #11]
-	b.ne 67f
-	mov w0, #0xc
-	add sp, sp, #0x40
-	ret
-65:
-	mov w9, #0x72
-	mov w0, #0xc
-	sturh w9, [x8, #11]
-	add sp, sp, #0x40
-	ret
-66:
-	mov w10, #0x6f
-	cmp x9, #0xc
-	sturh w10, [x8, #11]
-	b.ne 68f
-	mov w0, #0xc
-	add sp, sp, #0x40
-	ret
-67:
-	mov w10, #0x6e
-	cmp x9, #0xd
-	strh w10, [x8, #12]
-	b.ne 69f
-	mov w0, #0xd
-	add sp, sp, #0x40
-	ret
-68:
-	mov w10, #0x66
-	cmp x9, #0xd
-	strh w10, [x8, #12]
-	b.ne 70f
-	mov w0, #0xd
-	add sp, sp, #0x40
-	ret
-69:
-	mov w10, #0x67
-	cmp x9, #0xe
-	sturh w10, [x8, #13]
-	b.ne 71f
-	mov w0, #0xe
-	add sp, sp, #0x40
-	ret
-70:
-	mov w10, #0x20
-	cmp x9, #0xe
-	sturh w10, [x8, #13]
-	b.ne 72f
-	mov w0, #0xe
-	add sp, sp, #0x40
-	ret
-71:
-	mov w10, #0x20
-	cmp x9, #0xf
-	strh w10, [x8, #14]
-	b.ne 73f
-	mov w0, #0xf
-	add sp, sp, #0x40
-	ret
-72:
-	mov w10, #0x64
-	cmp x9, #0xf
-	strh w10, [x8, #14]
-	b.ne 74f
-	mov w0, #0xf
-	add sp, sp, #0x40
-	ret
-73:
-	mov w10, #0x6c
-	cmp x9, #0x10
-	sturh w10, [x8, #15]
-	b.ne 75f
-	mov w0, #0x10
-	add sp, sp, #0x40
-	ret
-74:
-	mov w10, #0x69
-	cmp x9, #0x10
-	sturh w10, [x8, #15]
-	b.ne 76f
-	mov w0, #0x10
-	add sp, sp, #0x40
-	ret
-75:
-	mov w10, #0x65
-	cmp x9, #0x11
-	strh w10, [x8, #16]
-	b.ne 77f
-	mov w0, #0x11
-	add sp, sp, #0x40
-	ret
-76:
-	mov w10, #0x67
-	cmp x9, #0x11
-	strh w10, [x8, #16]
-	b.ne 78f
-	mov w0, #0x11
-	add sp, sp, #0x40
-	ret
-77:
-	mov w10, #0x6e
-	cmp x9, #0x12
-	sturh w10, [x8, #17]
-	b.ne 79f
-	mov w0, #0x12
-	add sp, sp, #0x40
-	ret
-78:
-	mov w10, #0x69
-	cmp x9, #0x12
-	sturh w10, [x8, #17]
-	b.ne 80f
-	mov w0, #0x12
-	add sp, sp, #0x40
-	ret
-79:
-	mov w10, #0x67
-	cmp x9, #0x13
-	strh w10, [x8, #18]
-	b.ne 81f
-	mov w0, #0x13
-	add sp, sp, #0x40
-	ret
-80:
-	mov w9, #0x74
-	mov w0, #0x13
-	strh w9, [x8, #18]
-	add sp, sp, #0x40
-	ret
-81:
-	mov w9, #0x74
-	mov w0, #0x14
-	sturh w9, [x8, #19]
-	add sp, sp, #0x40
-	ret
+	lsr w10, w8, #6
+	and w8, w8, #0xffffffbf
+	sub x9, x9, #0x11
+	orr w8, w10, w8, lsl #8
+	mov x10, sp
+	orr w8, w8, #0xc0
+	strh w8, [x10, x9]
+	b 27b
 	end SYMBOL(const_hex_error_message)
 
 /* const_hex_c::const_hex_version */
@@ -3013,6 +2591,32 @@
 	ret
 	end const_hex_lanes32kernel_check
 
+/* const_hex_c::message::write_ended */
+	function const_hex_message_write_ended
+	cbz x3, 3f
+	strb wzr, [x2]
+	cbz x1, 3f
+	mov x8, x0
+	sub x0, x3, #0x1
+	add x9, x2, #0x1
+	mov x10, x1
+	mov x11, x0
+2:
+	cbz x11, 4f
+	ldrb w12, [x8], #1
+	subs x10, x10, #0x1
+	sub x11, x11, #0x1
+	sturb w12, [x9, #-1]
+	strb wzr, [x9], #1
+	b.ne 2b
+	mov x0, x1
+	ret
+3:
+	mov x0, xzr
+4:
+	ret
+	end const_hex_message_write_ended
+
 /* const_hex_arch::arch::short::decode */
 	function const_hex_short_decode
 	cmp x3, #0x8
@@ -3236,27 +2840,27 @@
 	.byte 0x30, 0x78
 
 	constant constant_5, 0
+	.byte 0x6f, 0x64, 0x64, 0x20, 0x6e, 0x75, 0x6d, 0x62, 0x65, 0x72, 0x20, 0x6f, 0x66, 0x20, 0x64, 0x69
+	.byte 0x67, 0x69, 0x74, 0x73
+
+	constant constant_6, 0
 	.byte 0x69, 0x6e, 0x76, 0x61, 0x6c, 0x69, 0x64, 0x20, 0x73, 0x74, 0x72, 0x69, 0x6e, 0x67, 0x20, 0x6c
 	.byte 0x65, 0x6e, 0x67, 0x74, 0x68
 
-	constant constant_6, 4
-	.byte 0x69, 0x6e, 0x76, 0x61, 0x6c, 0x69, 0x64, 0x20, 0x73, 0x74, 0x72, 0x69, 0x6e, 0x67, 0x20, 0x6c
-
-	constant constant_7, 3
-	.byte 0x65, 0x6e, 0x67, 0x74, 0x00, 0x00, 0x00, 0x00
-
-	constant constant_8, 0
+	constant constant_7, 0
 	.byte 0x6f, 0x75, 0x74, 0x20, 0x6f, 0x66, 0x20, 0x6d, 0x65, 0x6d, 0x6f, 0x72, 0x79
 
+	constant constant_8, 4
+	.byte 0x69, 0x6e, 0x76, 0x61, 0x6c, 0x69, 0x64, 0x20, 0x73, 0x74, 0x72, 0x69, 0x6e, 0x67, 0x20, 0x6c
+
 	constant constant_9, 3
-	.byte 0x6f, 0x75, 0x74, 0x20, 0x6f, 0x66, 0x20, 0x6d
+	.byte 0x65, 0x6e, 0x67, 0x74, 0x00, 0x00, 0x00, 0x00
 
 	constant constant_10, 3
-	.byte 0x65, 0x6d, 0x6f, 0x72, 0x00, 0x00, 0x00, 0x00
+	.byte 0x6f, 0x75, 0x74, 0x20, 0x6f, 0x66, 0x20, 0x6d
 
-	constant constant_11, 0
-	.byte 0x6f, 0x64, 0x64, 0x20, 0x6e, 0x75, 0x6d, 0x62, 0x65, 0x72, 0x20, 0x6f, 0x66, 0x20, 0x64, 0x69
-	.byte 0x67, 0x69, 0x74, 0x73
+	constant constant_11, 3
+	.byte 0x65, 0x6d, 0x6f, 0x72, 0x00, 0x00, 0x00, 0x00
 
 	constant constant_12, 4
 	.byte 0x6f, 0x64, 0x64, 0x20, 0x6e, 0x75, 0x6d, 0x62, 0x65, 0x72, 0x20, 0x6f, 0x66, 0x20, 0x64, 0x69

@@ -2126,17 +2126,12 @@
 /* const_hex_c::const_hex_error_message */
 	hidden SYMBOL(const_hex_error_message_v2)
 	function SYMBOL(const_hex_error_message_v2)
-	push   rbx
-	xor    r9d,r9d
+	mov    rcx,rdx
+	xor    edx,edx
 	test   rsi,rsi
-	sete   r9b
-	shl    r9d,0xc
-	lea    r8,[rsi+r9*1]
-	xorps  xmm0,xmm0
-	movups XMMWORD PTR [rsp-0x15],xmm0
-	movaps XMMWORD PTR [rsp-0x20],xmm0
-	movaps XMMWORD PTR [rsp-0x30],xmm0
-	movaps XMMWORD PTR [rsp-0x40],xmm0
+	sete   dl
+	shl    edx,0xc
+	add    rdx,rsi
 	mov    eax,DWORD PTR [rdi]
 	cmp    eax,0x4
 	je     3f
@@ -2144,461 +2139,224 @@
 	je     2f
 	cmp    eax,0x1
 	jne    4f
-	cmp    rdx,0x14
+	cmp    rcx,0x14
 	ja     8f
-	test   rdx,rdx
-	je     29f
-	mov    BYTE PTR [r8],0x0
-	dec    rdx
-	je     29f
-	mov    WORD PTR [r8],0x6f
-	mov    eax,0x1
-	cmp    rdx,0x1
-	je     32f
-	mov    WORD PTR [r8+0x1],0x64
-	mov    eax,0x2
-	cmp    rdx,0x2
-	je     32f
-	mov    WORD PTR [r8+0x2],0x64
-	mov    eax,0x3
-	cmp    rdx,0x3
-	je     32f
-	mov    WORD PTR [r8+0x3],0x20
-	mov    eax,0x4
-	cmp    rdx,0x4
-	je     32f
-	mov    WORD PTR [r8+0x4],0x6e
-	mov    eax,0x5
-	cmp    rdx,0x5
-	je     32f
-	mov    WORD PTR [r8+0x5],0x75
-	mov    eax,0x6
-	cmp    rdx,0x6
-	je     32f
-	mov    WORD PTR [r8+0x6],0x6d
-	mov    eax,0x7
-	cmp    rdx,0x7
-	je     32f
-	mov    WORD PTR [r8+0x7],0x62
-	mov    eax,0x8
-	cmp    rdx,0x8
-	je     32f
-	mov    WORD PTR [r8+0x8],0x65
-	mov    eax,0x9
-	cmp    rdx,0x9
-	je     32f
-	mov    WORD PTR [r8+0x9],0x72
-	mov    eax,0xa
-	cmp    rdx,0xa
-	je     32f
-	mov    WORD PTR [r8+0xa],0x20
-	mov    eax,0xb
-	cmp    rdx,0xb
-	je     32f
-	mov    WORD PTR [r8+0xb],0x6f
-	mov    eax,0xc
-	cmp    rdx,0xc
-	je     32f
-	mov    WORD PTR [r8+0xc],0x66
-	mov    eax,0xd
-	cmp    rdx,0xd
-	je     32f
-	mov    WORD PTR [r8+0xd],0x20
-	mov    eax,0xe
-	cmp    rdx,0xe
-	je     32f
-	mov    WORD PTR [r8+0xe],0x64
-	mov    eax,0xf
-	cmp    rdx,0xf
-	je     32f
-	mov    WORD PTR [r8+0xf],0x69
-	mov    eax,0x10
-	cmp    rdx,0x10
-	je     32f
-	mov    WORD PTR [r8+0x10],0x67
-	mov    eax,0x11
-	cmp    rdx,0x11
-	je     32f
-	mov    WORD PTR [r8+0x11],0x69
-	mov    eax,0x12
-	cmp    rdx,0x12
-	je     32f
-	mov    WORD PTR [r8+0x12],0x74
-	mov    eax,0x13
-	pop    rbx
-	ret
+	lea    rdi,[rip + constant_10]
+	mov    esi,0x14
+	jmp    const_hex_message_write_ended_v2
 2:
-	cmp    rdx,0x15
+	cmp    rcx,0x15
 	ja     6f
-	test   rdx,rdx
-	je     29f
-	mov    BYTE PTR [r8],0x0
-	dec    rdx
-	je     29f
-	mov    WORD PTR [r8],0x69
-	mov    eax,0x1
-	cmp    rdx,0x1
-	je     32f
-	mov    WORD PTR [r8+0x1],0x6e
-	mov    eax,0x2
-	cmp    rdx,0x2
-	je     32f
-	mov    WORD PTR [r8+0x2],0x76
-	mov    eax,0x3
-	cmp    rdx,0x3
-	je     32f
-	mov    WORD PTR [r8+0x3],0x61
-	mov    eax,0x4
-	cmp    rdx,0x4
-	je     32f
-	mov    WORD PTR [r8+0x4],0x6c
-	mov    eax,0x5
-	cmp    rdx,0x5
-	je     32f
-	mov    WORD PTR [r8+0x5],0x69
-	mov    eax,0x6
-	cmp    rdx,0x6
-	je     32f
-	mov    WORD PTR [r8+0x6],0x64
-	mov    eax,0x7
-	cmp    rdx,0x7
-	je     32f
-	mov    WORD PTR [r8+0x7],0x20
-	mov    eax,0x8
-	cmp    rdx,0x8
-	je     32f
-	mov    WORD PTR [r8+0x8],0x73
-	mov    eax,0x9
-	cmp    rdx,0x9
-	je     32f
-	mov    WORD PTR [r8+0x9],0x74
-	mov    eax,0xa
-	cmp    rdx,0xa
-	je     32f
-	mov    WORD PTR [r8+0xa],0x72
-	mov    eax,0xb
-	cmp    rdx,0xb
-	je     32f
-	mov    WORD PTR [r8+0xb],0x69
-	mov    eax,0xc
-	cmp    rdx,0xc
-	je     32f
-	mov    WORD PTR [r8+0xc],0x6e
-	mov    eax,0xd
-	cmp    rdx,0xd
-	je     32f
-	mov    WORD PTR [r8+0xd],0x67
-	mov    eax,0xe
-	cmp    rdx,0xe
-	je     32f
-	mov    WORD PTR [r8+0xe],0x20
-	mov    eax,0xf
-	cmp    rdx,0xf
-	je     32f
-	mov    WORD PTR [r8+0xf],0x6c
-	mov    eax,0x10
-	cmp    rdx,0x10
-	je     32f
-	mov    WORD PTR [r8+0x10],0x65
-	mov    eax,0x11
-	cmp    rdx,0x11
-	je     32f
-	mov    WORD PTR [r8+0x11],0x6e
-	mov    eax,0x12
-	cmp    rdx,0x12
-	je     32f
-	mov    WORD PTR [r8+0x12],0x67
-	mov    eax,0x13
-	cmp    rdx,0x13
-	je     32f
-	mov    WORD PTR [r8+0x13],0x74
-	mov    eax,0x14
-	pop    rbx
-	ret
+	lea    rdi,[rip + constant_11]
+	mov    esi,0x15
+	jmp    const_hex_message_write_ended_v2
 3:
-	cmp    rdx,0xd
+	cmp    rcx,0xd
 	ja     7f
-	test   rdx,rdx
-	je     29f
-	mov    BYTE PTR [r8],0x0
-	dec    rdx
-	je     29f
-	mov    WORD PTR [r8],0x6f
-	mov    eax,0x1
-	cmp    rdx,0x1
-	je     32f
-	mov    WORD PTR [r8+0x1],0x75
-	mov    eax,0x2
-	cmp    rdx,0x2
-	je     32f
-	mov    WORD PTR [r8+0x2],0x74
-	mov    eax,0x3
-	cmp    rdx,0x3
-	je     32f
-	mov    WORD PTR [r8+0x3],0x20
-	mov    eax,0x4
-	cmp    rdx,0x4
-	je     32f
-	mov    WORD PTR [r8+0x4],0x6f
-	mov    eax,0x5
-	cmp    rdx,0x5
-	je     32f
-	mov    WORD PTR [r8+0x5],0x66
-	mov    eax,0x6
-	cmp    rdx,0x6
-	je     32f
-	mov    WORD PTR [r8+0x6],0x20
-	mov    eax,0x7
-	cmp    rdx,0x7
-	je     32f
-	mov    WORD PTR [r8+0x7],0x6d
-	mov    eax,0x8
-	cmp    rdx,0x8
-	je     32f
-	mov    WORD PTR [r8+0x8],0x65
-	mov    eax,0x9
-	cmp    rdx,0x9
-	je     32f
-	mov    WORD PTR [r8+0x9],0x6d
-	mov    eax,0xa
-	cmp    rdx,0xa
-	je     32f
-	mov    WORD PTR [r8+0xa],0x6f
-	mov    eax,0xb
-	cmp    rdx,0xb
-	je     32f
-	mov    WORD PTR [r8+0xb],0x72
-	mov    eax,0xc
-	pop    rbx
-	ret
+	lea    rdi,[rip + constant_12]
+	mov    esi,0xd
+	jmp    const_hex_message_write_ended_v2
 4:
-	mov    ecx,DWORD PTR [rdi+0x4]
-	cmp    ecx,0x100
-	mov    r10d,0x100
-	cmovb  r10d,ecx
-	setae  cl
+	sub    rsp,0x48
+	xorps  xmm0,xmm0
+	movups XMMWORD PTR [rsp+0x2b],xmm0
+	movaps XMMWORD PTR [rsp+0x20],xmm0
+	movaps XMMWORD PTR [rsp+0x10],xmm0
+	movaps XMMWORD PTR [rsp],xmm0
+	mov    esi,DWORD PTR [rdi+0x4]
+	cmp    esi,0x100
+	mov    r9d,0x100
+	cmovb  r9d,esi
+	setae  sil
 	cmp    eax,0x3
 	setne  al
-	or     al,cl
+	or     al,sil
 	jne    9f
-	mov    r11,rdx
-	mov    rcx,QWORD PTR [rdi+0x8]
-	mov    edi,0x3b
-	cmp    rcx,0xa
+	mov    r10,rdx
+	mov    rsi,QWORD PTR [rdi+0x8]
+	mov    r8d,0x3b
+	cmp    rsi,0xa
 	jb     14f
-	.byte 0xf, 0x1f, 0x84, 0x0, 0x0, 0x0, 0x0, 0x0  /* nop    DWORD PTR [rax+rax*1+0x0] */
+	.byte 0x66, 0xf, 0x1f, 0x44, 0x0, 0x0  /* nop    WORD PTR [rax+rax*1+0x0] */
 5:
 	movabs rdx,0xcccccccccccccccd
-	mov    rax,rcx
+	mov    rax,rsi
 	mul    rdx
 	shr    rdx,0x3
 	lea    eax,[rdx+rdx*1]
 	lea    eax,[rax+rax*4]
-	mov    ebx,ecx
-	sub    ebx,eax
-	or     bl,0x30
-	mov    BYTE PTR [rsp+rdi*1-0x41],bl
-	dec    rdi
-	cmp    rcx,0x63
-	mov    rcx,rdx
+	mov    edi,esi
+	sub    edi,eax
+	or     dil,0x30
+	mov    BYTE PTR [rsp+r8*1-0x1],dil
+	dec    r8
+	cmp    rsi,0x63
+	mov    rsi,rdx
 	ja     5b
 	jmp    15f
 6:
-	lea    rax,[rip + constant_10]
-	mov    rcx,r8
+	lea    rax,[rip + constant_11]
+	mov    rcx,rdx
 	sub    rcx,rax
 	cmp    rcx,0x14
 	ja     12f
-	movaps xmm0,XMMWORD PTR [rip + constant_11]
-	movups XMMWORD PTR [r8],xmm0
-	mov    DWORD PTR [r8+0x10],0x74676e65
-	mov    BYTE PTR [r8+0x14],0x68
-	mov    BYTE PTR [r8+0x15],0x0
+	movaps xmm0,XMMWORD PTR [rip + constant_13]
+	movups XMMWORD PTR [rdx],xmm0
+	mov    DWORD PTR [rdx+0x10],0x74676e65
+	mov    BYTE PTR [rdx+0x14],0x68
+	mov    BYTE PTR [rdx+0x15],0x0
 	mov    eax,0x15
-	pop    rbx
 	ret
 7:
 	lea    rax,[rip + constant_12]
-	mov    rcx,r8
+	mov    rcx,rdx
 	sub    rcx,rax
 	cmp    rcx,0xc
 	ja     13f
 	movabs rax,0x6d20666f2074756f
-	mov    QWORD PTR [r8],rax
-	mov    DWORD PTR [r8+0x8],0x726f6d65
-	mov    BYTE PTR [r8+0xc],0x79
-	mov    BYTE PTR [r8+0xd],0x0
+	mov    QWORD PTR [rdx],rax
+	mov    DWORD PTR [rdx+0x8],0x726f6d65
+	mov    BYTE PTR [rdx+0xc],0x79
+	mov    BYTE PTR [rdx+0xd],0x0
 	mov    eax,0xd
-	pop    rbx
 	ret
 8:
-	lea    rax,[rip + constant_13]
-	mov    rcx,r8
+	lea    rax,[rip + constant_10]
+	mov    rcx,rdx
 	sub    rcx,rax
 	cmp    rcx,0x13
 	ja     17f
 	movaps xmm0,XMMWORD PTR [rip + constant_14]
 	jmp    18f
 9:
-	test   rdx,rdx
-	je     29f
-	mov    BYTE PTR [r8],0x0
-	xor    eax,eax
-	pop    rbx
+	lea    rdi,[rsp+0x3b]
+	xor    esi,esi
+	call   const_hex_message_write_ended_v2
+	add    rsp,0x48
 	ret
 12:
-	movups xmm0,XMMWORD PTR [rip + constant_10]
-	movups XMMWORD PTR [r8],xmm0
+	movups xmm0,XMMWORD PTR [rip + constant_11]
+	movups XMMWORD PTR [rdx],xmm0
 	movabs rax,0x6874676e656c2067
-	mov    QWORD PTR [r8+0xd],rax
-	mov    BYTE PTR [r8+0x15],0x0
+	mov    QWORD PTR [rdx+0xd],rax
+	mov    BYTE PTR [rdx+0x15],0x0
 	mov    eax,0x15
-	pop    rbx
 	ret
 13:
 	movabs rax,0x79726f6d656d2066
-	mov    QWORD PTR [r8+0x5],rax
+	mov    QWORD PTR [rdx+0x5],rax
 	movabs rax,0x6d20666f2074756f
-	mov    QWORD PTR [r8],rax
-	mov    BYTE PTR [r8+0xd],0x0
+	mov    QWORD PTR [rdx],rax
+	mov    BYTE PTR [rdx+0xd],0x0
 	mov    eax,0xd
-	pop    rbx
 	ret
 14:
-	mov    rdx,rcx
+	mov    rdx,rsi
 15:
 	or     dl,0x30
-	mov    BYTE PTR [rsp+rdi*1-0x41],dl
+	mov    BYTE PTR [rsp+r8*1-0x1],dl
 	movabs rax,0x736f702074612027
-	mov    QWORD PTR [rsp+rdi*1-0x4f],rax
+	mov    QWORD PTR [rsp+r8*1-0xf],rax
 	movabs rax,0x206e6f697469736f
-	mov    QWORD PTR [rsp+rdi*1-0x49],rax
-	movzx  eax,r10b
+	mov    QWORD PTR [rsp+r8*1-0x9],rax
+	movzx  eax,r9b
 	cmp    al,0x27
 	ja     19f
-	lea    rcx,[rip + constant_15]
-	movsxd rdx,DWORD PTR [rcx+rax*4]
-	add    rdx,rcx
-	mov    rcx,r11
-	jmp    rdx
+	lea    rdx,[rip + constant_15]
+	movsxd rsi,DWORD PTR [rdx+rax*4]
+	add    rsi,rdx
+	mov    rdx,r10
+	jmp    rsi
 16:
-	mov    WORD PTR [rsp+rdi*1-0x51],0x305c
-	add    rdi,0xffffffffffffffef
+	mov    WORD PTR [rsp+r8*1-0x11],0x305c
+	add    r8,0xffffffffffffffef
 	jmp    28f
 17:
-	movups xmm0,XMMWORD PTR [rip + constant_13]
+	movups xmm0,XMMWORD PTR [rip + constant_10]
 18:
-	movups XMMWORD PTR [r8],xmm0
-	mov    DWORD PTR [r8+0x10],0x73746967
-	mov    BYTE PTR [r8+0x14],0x0
+	movups XMMWORD PTR [rdx],xmm0
+	mov    DWORD PTR [rdx+0x10],0x73746967
+	mov    BYTE PTR [rdx+0x14],0x0
 	mov    eax,0x14
-	pop    rbx
 	ret
 19:
 	cmp    eax,0x5c
-	mov    rcx,r11
+	mov    rdx,r10
 	je     22f
 	cmp    eax,0xad
 	je     21f
 20:
-	cmp    r10b,0x20
-	jae    34f
+	cmp    r9b,0x20
+	jae    29f
 21:
-	mov    r11d,eax
-	and    r11d,0xf
-	lea    rdx,[rip + constant_16]
-	movzx  r11d,BYTE PTR [r11+rdx*1]
-	or     r11d,0x7d00
-	mov    WORD PTR [rsp+rdi*1-0x51],r11w
-	cmp    r10b,0x10
+	mov    edi,eax
+	and    edi,0xf
+	lea    rsi,[rip + constant_16]
+	movzx  edi,BYTE PTR [rdi+rsi*1]
+	or     edi,0x7d00
+	mov    WORD PTR [rsp+r8*1-0x11],di
+	cmp    r9b,0x10
 	jae    26f
-	add    rdi,0xffffffffffffffef
+	add    r8,0xffffffffffffffef
 	jmp    27f
 22:
-	shl    r10d,0x8
-	or     r10d,0x5c
-	mov    WORD PTR [rsp+rdi*1-0x51],r10w
-	add    rdi,0xffffffffffffffef
+	shl    r9d,0x8
+	or     r9d,0x5c
+	mov    WORD PTR [rsp+r8*1-0x11],r9w
+	add    r8,0xffffffffffffffef
 	jmp    28f
 23:
-	mov    WORD PTR [rsp+rdi*1-0x51],0x745c
-	add    rdi,0xffffffffffffffef
+	mov    WORD PTR [rsp+r8*1-0x11],0x745c
+	add    r8,0xffffffffffffffef
 	jmp    28f
 24:
-	mov    WORD PTR [rsp+rdi*1-0x51],0x6e5c
-	add    rdi,0xffffffffffffffef
+	mov    WORD PTR [rsp+r8*1-0x11],0x6e5c
+	add    r8,0xffffffffffffffef
 	jmp    28f
 25:
-	mov    WORD PTR [rsp+rdi*1-0x51],0x725c
-	add    rdi,0xffffffffffffffef
+	mov    WORD PTR [rsp+r8*1-0x11],0x725c
+	add    r8,0xffffffffffffffef
 	jmp    28f
 26:
 	shr    eax,0x4
-	movzx  eax,BYTE PTR [rax+rdx*1]
-	mov    BYTE PTR [rsp+rdi*1-0x52],al
-	add    rdi,0xffffffffffffffee
+	movzx  eax,BYTE PTR [rax+rsi*1]
+	mov    BYTE PTR [rsp+r8*1-0x12],al
+	add    r8,0xffffffffffffffee
 27:
-	mov    rax,rdi
-	add    rdi,0xfffffffffffffffd
-	mov    BYTE PTR [rsp+rax*1-0x41],0x7b
-	mov    WORD PTR [rsp+rax*1-0x43],0x755c
+	mov    rax,r8
+	add    r8,0xfffffffffffffffd
+	mov    BYTE PTR [rsp+rax*1-0x1],0x7b
+	mov    WORD PTR [rsp+rax*1-0x3],0x755c
 28:
+	lea    rdi,[rsp+r8*1]
+	add    rdi,0xffffffffffffffed
 	movups xmm0,XMMWORD PTR [rip + constant_17]
-	movups XMMWORD PTR [rsp+rdi*1-0x53],xmm0
-	mov    DWORD PTR [rsp+rdi*1-0x44],0x27207265
-	test   rcx,rcx
-	je     29f
-	mov    BYTE PTR [r8],0x0
-	cmp    rdi,0x4e
-	jne    30f
+	movups XMMWORD PTR [rsp+r8*1-0x13],xmm0
+	mov    DWORD PTR [rsp+r8*1-0x4],0x27207265
+	mov    esi,0x4e
+	sub    rsi,r8
+	call   const_hex_message_write_ended_v2
+	add    rsp,0x48
+	ret
 29:
-	xor    eax,eax
-	pop    rbx
-	ret
-30:
-	lea    rdx,[rsp+rdi*1]
-	add    rdx,0xffffffffffffffad
-	mov    eax,0x4e
-	sub    rax,rdi
-	dec    rcx
-	add    rsi,r9
-	inc    rsi
-	xor    edi,edi
-31:
-	cmp    rcx,rdi
-	je     33f
-	movzx  r8d,BYTE PTR [rdx+rdi*1]
-	mov    BYTE PTR [rsi+rdi*1-0x1],r8b
-	mov    BYTE PTR [rsi+rdi*1],0x0
-	inc    rdi
-	cmp    rax,rdi
-	jne    31b
-32:
-	pop    rbx
-	ret
-33:
-	mov    rax,rcx
-	pop    rbx
-	ret
-34:
-	cmp    r10b,0x7e
-	ja     35f
-	mov    BYTE PTR [rsp+rdi*1-0x50],r10b
-	add    rdi,0xfffffffffffffff0
+	cmp    r9b,0x7e
+	ja     30f
+	mov    BYTE PTR [rsp+r8*1-0x10],r9b
+	add    r8,0xfffffffffffffff0
 	jmp    28b
-35:
-	cmp    r10b,0xa1
+30:
+	cmp    r9b,0xa1
 	jb     21b
-	mov    eax,r10d
+	mov    eax,r9d
 	shr    al,0x6
-	and    r10b,0xbf
-	movzx  edx,r10b
-	shl    edx,0x8
+	and    r9b,0xbf
+	movzx  esi,r9b
+	shl    esi,0x8
 	movzx  eax,al
-	add    eax,edx
+	add    eax,esi
 	add    eax,0xc0
-	mov    WORD PTR [rsp+rdi*1-0x51],ax
-	add    rdi,0xffffffffffffffef
+	mov    WORD PTR [rsp+r8*1-0x11],ax
+	add    r8,0xffffffffffffffef
 	jmp    28b
 	end SYMBOL(const_hex_error_message_v2)
 
@@ -3011,6 +2769,34 @@
 	jmp    12b
 	end const_hex_decoder_decode_after_v2
 
+/* const_hex_c::message::write_ended */
+	function const_hex_message_write_ended_v2
+	test   rcx,rcx
+	je     3f
+	mov    BYTE PTR [rdx],0x0
+	test   rsi,rsi
+	je     3f
+	mov    rax,rcx
+	dec    rax
+	xor    ecx,ecx
+	.byte 0x66, 0x66, 0x2e, 0xf, 0x1f, 0x84, 0x0, 0x0, 0x0, 0x0, 0x0  /* data16 cs nop WORD PTR [rax+rax*1+0x0] */
+2:
+	cmp    rax,rcx
+	je     4f
+	movzx  r8d,BYTE PTR [rdi+rcx*1]
+	mov    BYTE PTR [rdx+rcx*1],r8b
+	mov    BYTE PTR [rdx+rcx*1+0x1],0x0
+	inc    rcx
+	cmp    rsi,rcx
+	jne    2b
+	mov    rax,rsi
+	ret
+3:
+	xor    eax,eax
+4:
+	ret
+	end const_hex_message_write_ended_v2
+
 /* const_hex_arch::arch::short::decode */
 	function const_hex_short_decode_v2
 	cmp    rcx,0x8
@@ -3192,18 +2978,18 @@
 	.byte 0x30, 0x78
 
 	constant constant_10, 0
+	.byte 0x6f, 0x64, 0x64, 0x20, 0x6e, 0x75, 0x6d, 0x62, 0x65, 0x72, 0x20, 0x6f, 0x66, 0x20, 0x64, 0x69
+	.byte 0x67, 0x69, 0x74, 0x73
+
+	constant constant_11, 0
 	.byte 0x69, 0x6e, 0x76, 0x61, 0x6c, 0x69, 0x64, 0x20, 0x73, 0x74, 0x72, 0x69, 0x6e, 0x67, 0x20, 0x6c
 	.byte 0x65, 0x6e, 0x67, 0x74, 0x68
-
-	constant constant_11, 4
-	.byte 0x69, 0x6e, 0x76, 0x61, 0x6c, 0x69, 0x64, 0x20, 0x73, 0x74, 0x72, 0x69, 0x6e, 0x67, 0x20, 0x6c
 
 	constant constant_12, 0
 	.byte 0x6f, 0x75, 0x74, 0x20, 0x6f, 0x66, 0x20, 0x6d, 0x65, 0x6d, 0x6f, 0x72, 0x79
 
-	constant constant_13, 0
-	.byte 0x6f, 0x64, 0x64, 0x20, 0x6e, 0x75, 0x6d, 0x62, 0x65, 0x72, 0x20, 0x6f, 0x66, 0x20, 0x64, 0x69
-	.byte 0x67, 0x69, 0x74, 0x73
+	constant constant_13, 4
+	.byte 0x69, 0x6e, 0x76, 0x61, 0x6c, 0x69, 0x64, 0x20, 0x73, 0x74, 0x72, 0x69, 0x6e, 0x67, 0x20, 0x6c
 
 	constant constant_14, 4
 	.byte 0x6f, 0x64, 0x64, 0x20, 0x6e, 0x75, 0x6d, 0x62, 0x65, 0x72, 0x20, 0x6f, 0x66, 0x20, 0x64, 0x69

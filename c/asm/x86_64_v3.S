@@ -1745,488 +1745,235 @@
 /* const_hex_c::const_hex_error_message */
 	hidden SYMBOL(const_hex_error_message_v3)
 	function SYMBOL(const_hex_error_message_v3)
-	push   rbx
-	xor    r8d,r8d
+	mov    rcx,rdx
+	xor    edx,edx
 	test   rsi,rsi
-	sete   r8b
-	shl    r8d,0xc
-	lea    rcx,[rsi+r8*1]
-	vxorps xmm0,xmm0,xmm0
-	vmovups YMMWORD PTR [rsp-0x25],ymm0
-	vmovups YMMWORD PTR [rsp-0x40],ymm0
-	mov    r9d,DWORD PTR [rdi]
-	cmp    r9d,0x4
+	sete   dl
+	shl    edx,0xc
+	add    rdx,rsi
+	mov    eax,DWORD PTR [rdi]
+	cmp    eax,0x4
 	je     3f
-	cmp    r9d,0x2
+	cmp    eax,0x2
 	je     2f
-	cmp    r9d,0x1
+	cmp    eax,0x1
 	jne    4f
-	cmp    rdx,0x14
+	cmp    rcx,0x14
 	ja     8f
-	test   rdx,rdx
-	je     30f
-	mov    BYTE PTR [rcx],0x0
-	dec    rdx
-	je     30f
-	mov    WORD PTR [rcx],0x6f
-	mov    eax,0x1
-	cmp    rdx,0x1
-	je     33f
-	mov    WORD PTR [rcx+0x1],0x64
-	mov    eax,0x2
-	cmp    rdx,0x2
-	je     33f
-	mov    WORD PTR [rcx+0x2],0x64
-	mov    eax,0x3
-	cmp    rdx,0x3
-	je     33f
-	mov    WORD PTR [rcx+0x3],0x20
-	mov    eax,0x4
-	cmp    rdx,0x4
-	je     33f
-	mov    WORD PTR [rcx+0x4],0x6e
-	mov    eax,0x5
-	cmp    rdx,0x5
-	je     33f
-	mov    WORD PTR [rcx+0x5],0x75
-	mov    eax,0x6
-	cmp    rdx,0x6
-	je     33f
-	mov    WORD PTR [rcx+0x6],0x6d
-	mov    eax,0x7
-	cmp    rdx,0x7
-	je     33f
-	mov    WORD PTR [rcx+0x7],0x62
-	mov    eax,0x8
-	cmp    rdx,0x8
-	je     33f
-	mov    WORD PTR [rcx+0x8],0x65
-	mov    eax,0x9
-	cmp    rdx,0x9
-	je     33f
-	mov    WORD PTR [rcx+0x9],0x72
-	mov    eax,0xa
-	cmp    rdx,0xa
-	je     33f
-	mov    WORD PTR [rcx+0xa],0x20
-	mov    eax,0xb
-	cmp    rdx,0xb
-	je     33f
-	mov    WORD PTR [rcx+0xb],0x6f
-	mov    eax,0xc
-	cmp    rdx,0xc
-	je     33f
-	mov    WORD PTR [rcx+0xc],0x66
-	mov    eax,0xd
-	cmp    rdx,0xd
-	je     33f
-	mov    WORD PTR [rcx+0xd],0x20
-	mov    eax,0xe
-	cmp    rdx,0xe
-	je     33f
-	mov    WORD PTR [rcx+0xe],0x64
-	mov    eax,0xf
-	cmp    rdx,0xf
-	je     33f
-	mov    WORD PTR [rcx+0xf],0x69
-	mov    eax,0x10
-	cmp    rdx,0x10
-	je     33f
-	mov    WORD PTR [rcx+0x10],0x67
-	mov    eax,0x11
-	cmp    rdx,0x11
-	je     33f
-	mov    WORD PTR [rcx+0x11],0x69
-	mov    eax,0x12
-	cmp    rdx,0x12
-	je     33f
-	mov    WORD PTR [rcx+0x12],0x74
-	mov    eax,0x13
-	pop    rbx
-	vzeroupper
-	ret
+	lea    rdi,[rip + constant_13]
+	mov    esi,0x14
+	jmp    const_hex_message_write_ended_v3
 2:
-	cmp    rdx,0x15
+	cmp    rcx,0x15
 	ja     6f
-	test   rdx,rdx
-	je     30f
-	mov    BYTE PTR [rcx],0x0
-	dec    rdx
-	je     30f
-	mov    WORD PTR [rcx],0x69
-	mov    eax,0x1
-	cmp    rdx,0x1
-	je     33f
-	mov    WORD PTR [rcx+0x1],0x6e
-	mov    eax,0x2
-	cmp    rdx,0x2
-	je     33f
-	mov    WORD PTR [rcx+0x2],0x76
-	mov    eax,0x3
-	cmp    rdx,0x3
-	je     33f
-	mov    WORD PTR [rcx+0x3],0x61
-	mov    eax,0x4
-	cmp    rdx,0x4
-	je     33f
-	mov    WORD PTR [rcx+0x4],0x6c
-	mov    eax,0x5
-	cmp    rdx,0x5
-	je     33f
-	mov    WORD PTR [rcx+0x5],0x69
-	mov    eax,0x6
-	cmp    rdx,0x6
-	je     33f
-	mov    WORD PTR [rcx+0x6],0x64
-	mov    eax,0x7
-	cmp    rdx,0x7
-	je     33f
-	mov    WORD PTR [rcx+0x7],0x20
-	mov    eax,0x8
-	cmp    rdx,0x8
-	je     33f
-	mov    WORD PTR [rcx+0x8],0x73
-	mov    eax,0x9
-	cmp    rdx,0x9
-	je     33f
-	mov    WORD PTR [rcx+0x9],0x74
-	mov    eax,0xa
-	cmp    rdx,0xa
-	je     33f
-	mov    WORD PTR [rcx+0xa],0x72
-	mov    eax,0xb
-	cmp    rdx,0xb
-	je     33f
-	mov    WORD PTR [rcx+0xb],0x69
-	mov    eax,0xc
-	cmp    rdx,0xc
-	je     33f
-	mov    WORD PTR [rcx+0xc],0x6e
-	mov    eax,0xd
-	cmp    rdx,0xd
-	je     33f
-	mov    WORD PTR [rcx+0xd],0x67
-	mov    eax,0xe
-	cmp    rdx,0xe
-	je     33f
-	mov    WORD PTR [rcx+0xe],0x20
-	mov    eax,0xf
-	cmp    rdx,0xf
-	je     33f
-	mov    WORD PTR [rcx+0xf],0x6c
-	mov    eax,0x10
-	cmp    rdx,0x10
-	je     33f
-	mov    WORD PTR [rcx+0x10],0x65
-	mov    eax,0x11
-	cmp    rdx,0x11
-	je     33f
-	mov    WORD PTR [rcx+0x11],0x6e
-	mov    eax,0x12
-	cmp    rdx,0x12
-	je     33f
-	mov    WORD PTR [rcx+0x12],0x67
-	mov    eax,0x13
-	cmp    rdx,0x13
-	je     33f
-	mov    WORD PTR [rcx+0x13],0x74
-	mov    eax,0x14
-	pop    rbx
-	vzeroupper
-	ret
+	lea    rdi,[rip + constant_14]
+	mov    esi,0x15
+	jmp    const_hex_message_write_ended_v3
 3:
-	cmp    rdx,0xd
+	cmp    rcx,0xd
 	ja     7f
-	test   rdx,rdx
-	je     30f
-	mov    BYTE PTR [rcx],0x0
-	dec    rdx
-	je     30f
-	mov    WORD PTR [rcx],0x6f
-	mov    eax,0x1
-	cmp    rdx,0x1
-	je     33f
-	mov    WORD PTR [rcx+0x1],0x75
-	mov    eax,0x2
-	cmp    rdx,0x2
-	je     33f
-	mov    WORD PTR [rcx+0x2],0x74
-	mov    eax,0x3
-	cmp    rdx,0x3
-	je     33f
-	mov    WORD PTR [rcx+0x3],0x20
-	mov    eax,0x4
-	cmp    rdx,0x4
-	je     33f
-	mov    WORD PTR [rcx+0x4],0x6f
-	mov    eax,0x5
-	cmp    rdx,0x5
-	je     33f
-	mov    WORD PTR [rcx+0x5],0x66
-	mov    eax,0x6
-	cmp    rdx,0x6
-	je     33f
-	mov    WORD PTR [rcx+0x6],0x20
-	mov    eax,0x7
-	cmp    rdx,0x7
-	je     33f
-	mov    WORD PTR [rcx+0x7],0x6d
-	mov    eax,0x8
-	cmp    rdx,0x8
-	je     33f
-	mov    WORD PTR [rcx+0x8],0x65
-	mov    eax,0x9
-	cmp    rdx,0x9
-	je     33f
-	mov    WORD PTR [rcx+0x9],0x6d
-	mov    eax,0xa
-	cmp    rdx,0xa
-	je     33f
-	mov    WORD PTR [rcx+0xa],0x6f
-	mov    eax,0xb
-	cmp    rdx,0xb
-	je     33f
-	mov    WORD PTR [rcx+0xb],0x72
-	mov    eax,0xc
-	pop    rbx
-	vzeroupper
-	ret
+	lea    rdi,[rip + constant_15]
+	mov    esi,0xd
+	jmp    const_hex_message_write_ended_v3
 4:
-	mov    r10d,DWORD PTR [rdi+0x4]
-	cmp    r10d,0x100
-	mov    eax,0x100
-	cmovb  eax,r10d
-	setae  r10b
-	cmp    r9d,0x3
-	setne  r9b
-	or     r9b,r10b
+	sub    rsp,0x48
+	vxorps xmm0,xmm0,xmm0
+	vmovups YMMWORD PTR [rsp+0x1b],ymm0
+	vmovups YMMWORD PTR [rsp],ymm0
+	mov    r8d,DWORD PTR [rdi+0x4]
+	cmp    r8d,0x100
+	mov    esi,0x100
+	cmovb  esi,r8d
+	setae  r8b
+	cmp    eax,0x3
+	setne  al
+	or     al,r8b
 	jne    9f
-	mov    r9,rdx
+	mov    r8,rdx
 	mov    rdx,QWORD PTR [rdi+0x8]
-	mov    edi,0x3b
+	mov    eax,0x3b
 	cmp    rdx,0xa
 	jb     14f
-	.byte 0xf, 0x1f, 0x0  /* nop    DWORD PTR [rax] */
+	.byte 0x66, 0x66, 0x66, 0x66, 0x2e, 0xf, 0x1f, 0x84, 0x0, 0x0, 0x0, 0x0, 0x0  /* data16 data16 data16 cs nop WORD PTR [rax+rax*1+0x0] */
 5:
-	movabs r10,0xcccccccccccccccd
-	mulx   r10,r10,r10
-	shr    r10,0x3
-	lea    r11d,[r10+r10*1]
-	lea    r11d,[r11+r11*4]
-	mov    ebx,edx
-	sub    ebx,r11d
-	or     bl,0x30
-	mov    BYTE PTR [rsp+rdi*1-0x41],bl
-	dec    rdi
+	movabs rdi,0xcccccccccccccccd
+	mulx   rdi,rdi,rdi
+	shr    rdi,0x3
+	lea    r9d,[rdi+rdi*1]
+	lea    r9d,[r9+r9*4]
+	mov    r10d,edx
+	sub    r10d,r9d
+	or     r10b,0x30
+	mov    BYTE PTR [rsp+rax*1-0x1],r10b
+	dec    rax
 	cmp    rdx,0x63
-	mov    rdx,r10
+	mov    rdx,rdi
 	ja     5b
 	jmp    15f
 6:
-	lea    rax,[rip + constant_13]
-	mov    rdx,rcx
-	sub    rdx,rax
-	cmp    rdx,0x14
+	lea    rax,[rip + constant_14]
+	mov    rcx,rdx
+	sub    rcx,rax
+	cmp    rcx,0x14
 	ja     12f
-	vmovaps xmm0,XMMWORD PTR [rip + constant_14]
-	vmovups XMMWORD PTR [rcx],xmm0
-	mov    DWORD PTR [rcx+0x10],0x74676e65
-	mov    BYTE PTR [rcx+0x14],0x68
-	mov    BYTE PTR [rcx+0x15],0x0
+	vmovaps xmm0,XMMWORD PTR [rip + constant_16]
+	vmovups XMMWORD PTR [rdx],xmm0
+	mov    DWORD PTR [rdx+0x10],0x74676e65
+	mov    BYTE PTR [rdx+0x14],0x68
+	mov    BYTE PTR [rdx+0x15],0x0
 	mov    eax,0x15
-	pop    rbx
-	vzeroupper
 	ret
 7:
 	lea    rax,[rip + constant_15]
-	mov    rdx,rcx
-	sub    rdx,rax
-	cmp    rdx,0xc
+	mov    rcx,rdx
+	sub    rcx,rax
+	cmp    rcx,0xc
 	ja     13f
 	movabs rax,0x6d20666f2074756f
-	mov    QWORD PTR [rcx],rax
-	mov    DWORD PTR [rcx+0x8],0x726f6d65
-	mov    BYTE PTR [rcx+0xc],0x79
-	mov    BYTE PTR [rcx+0xd],0x0
+	mov    QWORD PTR [rdx],rax
+	mov    DWORD PTR [rdx+0x8],0x726f6d65
+	mov    BYTE PTR [rdx+0xc],0x79
+	mov    BYTE PTR [rdx+0xd],0x0
 	mov    eax,0xd
-	pop    rbx
-	vzeroupper
 	ret
 8:
-	lea    rax,[rip + constant_16]
-	mov    rdx,rcx
-	sub    rdx,rax
-	cmp    rdx,0x13
+	lea    rax,[rip + constant_13]
+	mov    rcx,rdx
+	sub    rcx,rax
+	cmp    rcx,0x13
 	ja     17f
 	vmovaps xmm0,XMMWORD PTR [rip + constant_17]
 	jmp    18f
 9:
-	test   rdx,rdx
-	je     30f
-	mov    BYTE PTR [rcx],0x0
-	xor    eax,eax
-	pop    rbx
+	lea    rdi,[rsp+0x3b]
+	xor    esi,esi
 	vzeroupper
+	call   const_hex_message_write_ended_v3
+	add    rsp,0x48
 	ret
 12:
-	vmovups xmm0,XMMWORD PTR [rip + constant_13]
-	vmovups XMMWORD PTR [rcx],xmm0
+	vmovups xmm0,XMMWORD PTR [rip + constant_14]
+	vmovups XMMWORD PTR [rdx],xmm0
 	movabs rax,0x6874676e656c2067
-	mov    QWORD PTR [rcx+0xd],rax
-	mov    BYTE PTR [rcx+0x15],0x0
+	mov    QWORD PTR [rdx+0xd],rax
+	mov    BYTE PTR [rdx+0x15],0x0
 	mov    eax,0x15
-	pop    rbx
-	vzeroupper
 	ret
 13:
 	movabs rax,0x79726f6d656d2066
-	mov    QWORD PTR [rcx+0x5],rax
+	mov    QWORD PTR [rdx+0x5],rax
 	movabs rax,0x6d20666f2074756f
-	mov    QWORD PTR [rcx],rax
-	mov    BYTE PTR [rcx+0xd],0x0
+	mov    QWORD PTR [rdx],rax
+	mov    BYTE PTR [rdx+0xd],0x0
 	mov    eax,0xd
-	pop    rbx
-	vzeroupper
 	ret
 14:
-	mov    r10,rdx
+	mov    rdi,rdx
 15:
-	or     r10b,0x30
-	mov    BYTE PTR [rsp+rdi*1-0x41],r10b
+	or     dil,0x30
+	mov    BYTE PTR [rsp+rax*1-0x1],dil
 	movabs rdx,0x736f702074612027
-	mov    QWORD PTR [rsp+rdi*1-0x4f],rdx
+	mov    QWORD PTR [rsp+rax*1-0xf],rdx
 	movabs rdx,0x206e6f697469736f
-	mov    QWORD PTR [rsp+rdi*1-0x49],rdx
-	movzx  r10d,al
-	cmp    r10b,0x27
+	mov    QWORD PTR [rsp+rax*1-0x9],rdx
+	movzx  edi,sil
+	cmp    dil,0x27
 	ja     19f
 	lea    rdx,[rip + constant_18]
-	movsxd r11,DWORD PTR [rdx+r10*4]
-	add    r11,rdx
-	mov    rdx,r9
-	jmp    r11
+	movsxd r9,DWORD PTR [rdx+rdi*4]
+	add    r9,rdx
+	mov    rdx,r8
+	jmp    r9
 16:
-	mov    WORD PTR [rsp+rdi*1-0x51],0x305c
-	add    rdi,0xffffffffffffffef
+	mov    WORD PTR [rsp+rax*1-0x11],0x305c
+	add    rax,0xffffffffffffffef
 	jmp    29f
 17:
-	vmovups xmm0,XMMWORD PTR [rip + constant_16]
+	vmovups xmm0,XMMWORD PTR [rip + constant_13]
 18:
-	vmovups XMMWORD PTR [rcx],xmm0
-	mov    DWORD PTR [rcx+0x10],0x73746967
-	mov    BYTE PTR [rcx+0x14],0x0
+	vmovups XMMWORD PTR [rdx],xmm0
+	mov    DWORD PTR [rdx+0x10],0x73746967
+	mov    BYTE PTR [rdx+0x14],0x0
 	mov    eax,0x14
-	pop    rbx
-	vzeroupper
 	ret
 19:
-	cmp    r10d,0x5c
-	mov    rdx,r9
+	cmp    edi,0x5c
+	mov    rdx,r8
 	je     22f
-	cmp    r10d,0xad
+	cmp    edi,0xad
 	je     21f
 20:
-	cmp    al,0x20
-	jae    35f
+	cmp    sil,0x20
+	jae    30f
 21:
-	mov    r11d,r10d
-	and    r11d,0xf
-	lea    r9,[rip + constant_19]
-	movzx  r11d,BYTE PTR [r11+r9*1]
-	or     r11d,0x7d00
-	mov    WORD PTR [rsp+rdi*1-0x51],r11w
-	cmp    al,0x10
+	mov    r9d,edi
+	and    r9d,0xf
+	lea    r8,[rip + constant_19]
+	movzx  r9d,BYTE PTR [r9+r8*1]
+	or     r9d,0x7d00
+	mov    WORD PTR [rsp+rax*1-0x11],r9w
+	cmp    sil,0x10
 	jae    27f
-	add    rdi,0xffffffffffffffef
+	add    rax,0xffffffffffffffef
 	jmp    28f
 22:
-	shl    eax,0x8
-	or     eax,0x5c
+	shl    esi,0x8
+	or     esi,0x5c
 23:
-	mov    WORD PTR [rsp+rdi*1-0x51],ax
-	add    rdi,0xffffffffffffffef
+	mov    WORD PTR [rsp+rax*1-0x11],si
+	add    rax,0xffffffffffffffef
 	jmp    29f
 24:
-	mov    WORD PTR [rsp+rdi*1-0x51],0x745c
-	add    rdi,0xffffffffffffffef
+	mov    WORD PTR [rsp+rax*1-0x11],0x745c
+	add    rax,0xffffffffffffffef
 	jmp    29f
 25:
-	mov    WORD PTR [rsp+rdi*1-0x51],0x6e5c
-	add    rdi,0xffffffffffffffef
+	mov    WORD PTR [rsp+rax*1-0x11],0x6e5c
+	add    rax,0xffffffffffffffef
 	jmp    29f
 26:
-	mov    WORD PTR [rsp+rdi*1-0x51],0x725c
-	add    rdi,0xffffffffffffffef
+	mov    WORD PTR [rsp+rax*1-0x11],0x725c
+	add    rax,0xffffffffffffffef
 	jmp    29f
 27:
-	shr    r10d,0x4
-	movzx  eax,BYTE PTR [r10+r9*1]
-	mov    BYTE PTR [rsp+rdi*1-0x52],al
-	add    rdi,0xffffffffffffffee
+	shr    edi,0x4
+	movzx  esi,BYTE PTR [rdi+r8*1]
+	mov    BYTE PTR [rsp+rax*1-0x12],sil
+	add    rax,0xffffffffffffffee
 28:
-	mov    rax,rdi
-	add    rdi,0xfffffffffffffffd
-	mov    BYTE PTR [rsp+rax*1-0x41],0x7b
-	mov    WORD PTR [rsp+rax*1-0x43],0x755c
+	mov    rsi,rax
+	add    rax,0xfffffffffffffffd
+	mov    BYTE PTR [rsp+rsi*1-0x1],0x7b
+	mov    WORD PTR [rsp+rsi*1-0x3],0x755c
 29:
 	vmovups xmm0,XMMWORD PTR [rip + constant_20]
-	vmovups XMMWORD PTR [rsp+rdi*1-0x53],xmm0
-	mov    DWORD PTR [rsp+rdi*1-0x44],0x27207265
-	test   rdx,rdx
-	je     30f
-	mov    BYTE PTR [rcx],0x0
-	cmp    rdi,0x4e
-	jne    31f
+	vmovups XMMWORD PTR [rsp+rax*1-0x13],xmm0
+	lea    rdi,[rsp+rax*1]
+	add    rdi,0xffffffffffffffed
+	mov    DWORD PTR [rsp+rax*1-0x4],0x27207265
+	mov    esi,0x4e
+	sub    rsi,rax
+	vzeroupper
+	call   const_hex_message_write_ended_v3
+	add    rsp,0x48
+	ret
 30:
-	xor    eax,eax
-	pop    rbx
-	vzeroupper
-	ret
-31:
-	lea    rcx,[rsp+rdi*1]
-	add    rcx,0xffffffffffffffad
-	mov    eax,0x4e
-	sub    rax,rdi
-	dec    rdx
-	add    rsi,r8
-	inc    rsi
-	xor    edi,edi
-	.byte 0xf, 0x1f, 0x84, 0x0, 0x0, 0x0, 0x0, 0x0  /* nop    DWORD PTR [rax+rax*1+0x0] */
-32:
-	cmp    rdx,rdi
-	je     34f
-	movzx  r8d,BYTE PTR [rcx+rdi*1]
-	mov    BYTE PTR [rsi+rdi*1-0x1],r8b
-	mov    BYTE PTR [rsi+rdi*1],0x0
-	inc    rdi
-	cmp    rax,rdi
-	jne    32b
-33:
-	pop    rbx
-	vzeroupper
-	ret
-34:
-	mov    rax,rdx
-	pop    rbx
-	vzeroupper
-	ret
-35:
-	cmp    al,0x7e
-	ja     36f
-	mov    BYTE PTR [rsp+rdi*1-0x50],al
-	add    rdi,0xfffffffffffffff0
+	cmp    sil,0x7e
+	ja     31f
+	mov    BYTE PTR [rsp+rax*1-0x10],sil
+	add    rax,0xfffffffffffffff0
 	jmp    29b
-36:
-	cmp    al,0xa1
+31:
+	cmp    sil,0xa1
 	jb     21b
-	mov    r9d,eax
-	shr    r9b,0x6
-	and    al,0xbf
-	movzx  eax,al
-	shl    eax,0x8
-	movzx  r9d,r9b
-	add    eax,r9d
-	add    eax,0xc0
+	mov    edi,esi
+	shr    dil,0x6
+	and    sil,0xbf
+	movzx  esi,sil
+	shl    esi,0x8
+	movzx  edi,dil
+	add    esi,edi
+	add    esi,0xc0
 	jmp    23b
 	end SYMBOL(const_hex_error_message_v3)
 
@@ -2565,6 +2312,34 @@
 	jmp    12b
 	end const_hex_decoder_decode_after_v3
 
+/* const_hex_c::message::write_ended */
+	function const_hex_message_write_ended_v3
+	test   rcx,rcx
+	je     3f
+	mov    BYTE PTR [rdx],0x0
+	test   rsi,rsi
+	je     3f
+	mov    rax,rcx
+	dec    rax
+	xor    ecx,ecx
+	.byte 0x66, 0x66, 0x2e, 0xf, 0x1f, 0x84, 0x0, 0x0, 0x0, 0x0, 0x0  /* data16 cs nop WORD PTR [rax+rax*1+0x0] */
+2:
+	cmp    rax,rcx
+	je     4f
+	movzx  r8d,BYTE PTR [rdi+rcx*1]
+	mov    BYTE PTR [rdx+rcx*1],r8b
+	mov    BYTE PTR [rdx+rcx*1+0x1],0x0
+	inc    rcx
+	cmp    rsi,rcx
+	jne    2b
+	mov    rax,rsi
+	ret
+3:
+	xor    eax,eax
+4:
+	ret
+	end const_hex_message_write_ended_v3
+
 /* const_hex_arch::arch::short::decode */
 	function const_hex_short_decode_v3
 	cmp    rcx,0x8
@@ -2752,18 +2527,18 @@
 	.byte 0x30, 0x78
 
 	constant constant_13, 0
+	.byte 0x6f, 0x64, 0x64, 0x20, 0x6e, 0x75, 0x6d, 0x62, 0x65, 0x72, 0x20, 0x6f, 0x66, 0x20, 0x64, 0x69
+	.byte 0x67, 0x69, 0x74, 0x73
+
+	constant constant_14, 0
 	.byte 0x69, 0x6e, 0x76, 0x61, 0x6c, 0x69, 0x64, 0x20, 0x73, 0x74, 0x72, 0x69, 0x6e, 0x67, 0x20, 0x6c
 	.byte 0x65, 0x6e, 0x67, 0x74, 0x68
-
-	constant constant_14, 4
-	.byte 0x69, 0x6e, 0x76, 0x61, 0x6c, 0x69, 0x64, 0x20, 0x73, 0x74, 0x72, 0x69, 0x6e, 0x67, 0x20, 0x6c
 
 	constant constant_15, 0
 	.byte 0x6f, 0x75, 0x74, 0x20, 0x6f, 0x66, 0x20, 0x6d, 0x65, 0x6d, 0x6f, 0x72, 0x79
 
-	constant constant_16, 0
-	.byte 0x6f, 0x64, 0x64, 0x20, 0x6e, 0x75, 0x6d, 0x62, 0x65, 0x72, 0x20, 0x6f, 0x66, 0x20, 0x64, 0x69
-	.byte 0x67, 0x69, 0x74, 0x73
+	constant constant_16, 4
+	.byte 0x69, 0x6e, 0x76, 0x61, 0x6c, 0x69, 0x64, 0x20, 0x73, 0x74, 0x72, 0x69, 0x6e, 0x67, 0x20, 0x6c
 
 	constant constant_17, 4
 	.byte 0x6f, 0x64, 0x64, 0x20, 0x6e, 0x75, 0x6d, 0x62, 0x65, 0x72, 0x20, 0x6f, 0x66, 0x20, 0x64, 0x69

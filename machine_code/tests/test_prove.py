@@ -17,12 +17,29 @@ import sums
 from calls import function_of
 from exploration import Refused
 from reached import not_reached
-from tests.library import ARCHIVE, code_of
+from tests.library import ARCHIVE, HAS_AARCH64, HAS_MODULE, code_of
 from tests.mutations import assembled_object, edited
 
 FUNCTION = "const_hex_check_raw_v3"
 FRONT_ENDS = ("x86_64", "aarch64", "wasm")
-NO_NUL = 4  # the form of `encode` with this flag alone
+# The form of `encode` with this flag alone, and that of a decoder which has read 2 or more characters.
+NO_NUL, LATER = 4, 4
+# The function of the module that encodes, by an instruction that no other has.
+LANES = "i16x8.extend_high_i8x16_u"
+# What one length shows: the build, the call, the function, the lines before and after, the form of the arguments, the
+# length, and what the tool says.
+WRONG_AT_ONE_LENGTH = [
+    ("v3", "encode", "const_hex_encode_v3", "cmp rsi,0x40", "cmp rsi,0x3f", NO_NUL, 63, "read of 16 bytes outside"),
+    ("v2", "check_raw", "const_hex_check_raw_v2", "cmp rsi,0x20", "cmp rsi,0x1f", 0, 31, r"outside .*: text\[-1\]"),
+    ("v2", "check_raw", "const_hex_check_raw_v2", "cmp rsi,0x10", "cmp rsi,0x11", 0, 17, "not a digit is accepted"),
+    ("v2", "decoder_update", "const_hex_decoder_update_nonnull_v2", "cmp r15,0x80", "cmp r15,0x7f", LATER, 127,
+     "read of 16 bytes outside"),
+    ("aarch64", "decode_exact", "const_hex_decode_exact_nonnull", "cmp x3, #0x40", "cmp x3, #0x3f", 0, 126,
+     "read of 32 bytes outside"),
+    ("aarch64", "encode", "const_hex_encode", "cmp x1, #0x11", "cmp x1, #0x12", NO_NUL, 17, "is written before 16"),
+    (library.WASM, "encode", LANES, "local.get 1; i32.const 7; i32.gt_u", "local.get 1; i32.const 6; i32.gt_u", 0, 7,
+     "read of 8 bytes outside"),
+]
 
 
 def script():
@@ -112,18 +129,24 @@ class TestProve(unittest.TestCase):
         self.assertFalse(self.passes(code, "check_raw", "--sums"))
 
     def test_code_whose_sum_was_written(self):
-        """With 63 bytes left, a loop takes 64. Only the part of the length 63 shows it, and it is run without --all."""
-        module = script()
-        code, _ = edited("v3", "const_hex_encode_v3", "cmp rsi,0x40", "cmp rsi,0x3f")
-        sums.write({("encode", "v3"): self.sums_of(code, "const_hex_encode_v3")})
-        with mock.patch.object(module, "code_of", lambda *_: code):
-            row = module.Row(ARCHIVE, "encode", "v3", types.SimpleNamespace(sums=False, all=False))
-            self.assertTrue(row.is_recorded and row.is_proved)
-            [task] = [task for task in row.tasks() if task[3] == ("length", NO_NUL, 63)]
-            _, fault, states, _, seconds = module.prove(task)
-            row.add(fault, states, seconds)
-        self.assertIn("REFUSED", row.outcome())
-        self.assertFalse(row.is_proved)
+        """The part of one length shows what is wrong, and is run without --all."""
+        module, options = script(), types.SimpleNamespace(sums=False, all=False)
+        for build, call, name, old, new, form, length, wanted in WRONG_AT_ONE_LENGTH:
+            if not {"aarch64": HAS_AARCH64, library.WASM: HAS_MODULE}.get(build, True):
+                continue
+            with self.subTest(build=build, call=call, new=new):
+                code, _ = edited(build, name, old, new)
+                processor, function = library.processor_of(code.object), function_of(code, call, build)
+                sums.write({(call, build): (sums.sum_of(code.object, function), sums.sum_of_tool(processor))})
+                with mock.patch.object(module, "code_of", lambda *_: code):
+                    row = module.Row(ARCHIVE, call, build, options)
+                    self.assertTrue(row.is_recorded and row.is_proved)
+                    [task] = [task for task in row.tasks() if task[3] == ("length", form, length)]
+                    _, fault, states, _, seconds = module.prove(task)
+                self.assertRegex(fault, wanted)
+                row.add(fault, states, seconds)
+                self.assertIn("REFUSED", row.outcome())
+                self.assertFalse(row.is_proved)
 
     def test_what_is_run(self):
         """Each part, if it is not recorded, and then each single length; with --all each part again."""

@@ -25,6 +25,7 @@ SOURCES = {
         .section .rodata; .balign 16; table: .skip 32
         .section .text.other, "ax"; other: ret""",
 }
+BELOW = "an access below the stack"
 OUTSIDE, LEAVES = "a pointer that is compared outside its region", "the stack pointer leaves the stack"
 SHIFT, XGETBV = "a shift by 0", "xgetbv on a CPU that may not have it"
 UNPREDICTABLE, PAGE = "unpredictable", "arithmetic with a page"
@@ -57,6 +58,8 @@ FORMS = [
     ("a byte of the stack that a signal may change", "v2",
      f"sub rsp, 264; mov dword ptr [rsp], {VERSION}; add rsp, 264; sub rsp, 264; mov eax, [rsp]; add rsp, 264; ret",
      "the version"),
+    ("a byte of what the ABI reserves below the stack", "v2", "mov byte ptr [rsp-1], 0", BELOW),
+    ("a read below the stack", "v2", "mov al, [rsp-0x40]", BELOW),
     ("a stack that is too long for a moment", "v2", "sub rsp, 0x40000000; add rsp, 0x40000000", LEAVES),
     ("a stack in a buffer", "v2", "mov rax, rsp; mov rsp, rdi; mov rsp, rax", LEAVES),
     ("a pointer that may be null", "v2", "lea rax, [rsp-0x10000]; test rax, rax; je helper", OUTSIDE),
@@ -103,6 +106,7 @@ FORMS = [
     ("a byte of the stack that a signal may change", "aarch64",
      f"mov w9, #{VERSION}; str x9, [sp, #-16]!; add sp, sp, #16; sub sp, sp, #16; ldr x0, [sp], #16; ret",
      "the version"),
+    ("a byte below the stack", "aarch64", "strb wzr, [sp, #-1]", BELOW),
     ("a stack that is too long for a moment", "aarch64",
      "sub sp, sp, #1024, lsl #12; add sp, sp, #1024, lsl #12", LEAVES),
     ("a base that a load moves", "aarch64",

@@ -19,7 +19,7 @@ for _names in ("e z/ne nz", "b c nae/ae nc nb", "be na/a nbe", "s/ns", "l nge/ge
 
 
 class State(state.State):
-    sizes, top, red_zone = dict.fromkeys(GENERAL, 8) | dict.fromkeys(VECTORS, 32), "rsp", 128
+    sizes, top = dict.fromkeys(GENERAL, 8) | dict.fromkeys(VECTORS, 32), "rsp"
 
     def __init__(self, memory):
         super().__init__(memory)

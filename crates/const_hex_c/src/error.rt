@@ -57,7 +57,7 @@ impl HexError {
                 let start = put_character(byte, self.index, space);
                 &space[start..]
             }
-            _ => b"",
+            _ => &space[LONGEST..],
         }
     }
 }

@@ -46,7 +46,7 @@ pub use self::formatting::text::*;
 //   27  Rattle's std is the module rattle
 //    2  Rust's errors and the crate's decoder are not copied
 //   26  a formatter has a lifetime in place of its writer's type
-//   52  a function for AVX2 takes in all that it calls
+//   53  a function for AVX2 takes in all that it calls
 //   10  a function for C takes slices, which capi makes of pointers and lengths
 //   16  a kernel is compiled for each kind of register, so it names the others beside it
 //   36  a range that is proved to be within its slice is not tested in release builds
