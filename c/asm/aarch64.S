@@ -153,12 +153,12 @@
 	b 16f
 4:
 	cmp x3, #0x40
-	adrp x11, PAGE(constant_1)
+	adrp_label x11, constant_1
 	mov x10, xzr
 	b.cc 6f
 	and x14, x3, #0x40
-	adrp x15, PAGE(constant_2)
-	add x15, x15, PAGE_OFFSET(constant_2)
+	adrp_label x15, constant_2
+	add_label x15, x15, constant_2
 	add x16, x12, x13
 	add x12, x15, x14
 	add x13, x0, #0x40
@@ -167,7 +167,7 @@
 5:
 	movi v0.16b, #0x8f
 	movi v1.16b, #0xd0
-	ldr q6, [x11, PAGE_OFFSET(constant_1)]
+	ldr_label q6, x11, constant_1
 	ldp q3, q2, [x13, #-64]
 	ldp q5, q4, [x13, #-32]
 	ldp q16, q7, [x13]
@@ -262,7 +262,7 @@
 	ldp q2, q1, [x13, #-32]
 	ldp q4, q3, [x13], #64
 	movi v5.16b, #0xd0
-	ldr q6, [x11, PAGE_OFFSET(constant_1)]
+	ldr_label q6, x11, constant_1
 	and v7.16b, v2.16b, v0.16b
 	and v16.16b, v1.16b, v0.16b
 	and v17.16b, v4.16b, v0.16b
@@ -317,7 +317,7 @@
 	add x12, x0, x10, lsl #1
 	movi v0.16b, #0x8f
 	movi v4.16b, #0xd0
-	ldr q5, [x11, PAGE_OFFSET(constant_1)]
+	ldr_label q5, x11, constant_1
 	ldp q1, q2, [x12]
 	and v3.16b, v1.16b, v0.16b
 	and v0.16b, v2.16b, v0.16b
@@ -355,7 +355,7 @@
 	add x12, x0, x9, lsl #1
 	movi v0.16b, #0x8f
 	movi v4.16b, #0xd0
-	ldr q5, [x11, PAGE_OFFSET(constant_1)]
+	ldr_label q5, x11, constant_1
 	ldp q1, q2, [x12]
 	and v3.16b, v1.16b, v0.16b
 	and v0.16b, v2.16b, v0.16b
@@ -525,12 +525,12 @@
 	b 15f
 7:
 	cmp x8, #0x80
-	adrp x10, PAGE(constant_1)
+	adrp_label x10, constant_1
 	mov x9, xzr
 	b.cc 9f
 	and x13, x20, #0x40
-	adrp x14, PAGE(constant_2)
-	add x14, x14, PAGE_OFFSET(constant_2)
+	adrp_label x14, constant_2
+	add_label x14, x14, constant_2
 	add x15, x11, x12
 	add x11, x14, x13
 	add x12, x0, #0x40
@@ -539,7 +539,7 @@
 8:
 	movi v0.16b, #0x8f
 	movi v1.16b, #0xd0
-	ldr q6, [x10, PAGE_OFFSET(constant_1)]
+	ldr_label q6, x10, constant_1
 	ldp q3, q2, [x12, #-64]
 	ldp q5, q4, [x12, #-32]
 	ldp q16, q7, [x12]
@@ -634,7 +634,7 @@
 	ldp q2, q1, [x12, #-32]
 	ldp q4, q3, [x12], #64
 	movi v5.16b, #0xd0
-	ldr q6, [x10, PAGE_OFFSET(constant_1)]
+	ldr_label q6, x10, constant_1
 	and v7.16b, v2.16b, v0.16b
 	and v16.16b, v1.16b, v0.16b
 	and v17.16b, v4.16b, v0.16b
@@ -689,7 +689,7 @@
 	add x11, x0, x9, lsl #1
 	movi v0.16b, #0x8f
 	movi v4.16b, #0xd0
-	ldr q5, [x10, PAGE_OFFSET(constant_1)]
+	ldr_label q5, x10, constant_1
 	ldp q1, q2, [x11]
 	and v3.16b, v1.16b, v0.16b
 	and v0.16b, v2.16b, v0.16b
@@ -728,7 +728,7 @@
 	movi v0.16b, #0x8f
 	movi v4.16b, #0xd0
 	add x12, x0, x11, lsl #1
-	ldr q5, [x10, PAGE_OFFSET(constant_1)]
+	ldr_label q5, x10, constant_1
 	ldp q1, q2, [x12]
 	and v3.16b, v1.16b, v0.16b
 	and v0.16b, v2.16b, v0.16b
@@ -947,12 +947,12 @@
 	b 19f
 13:
 	cmp x22, #0x80
-	adrp x10, PAGE(constant_1)
+	adrp_label x10, constant_1
 	mov x9, xzr
 	b.cc 15f
 	and x12, x20, #0x40
-	adrp x13, PAGE(constant_2)
-	add x13, x13, PAGE_OFFSET(constant_2)
+	adrp_label x13, constant_2
+	add_label x13, x13, constant_2
 	add x14, x11, x3
 	add x11, x13, x12
 	add x12, x19, #0x40
@@ -961,7 +961,7 @@
 14:
 	movi v0.16b, #0x8f
 	movi v1.16b, #0xd0
-	ldr q6, [x10, PAGE_OFFSET(constant_1)]
+	ldr_label q6, x10, constant_1
 	ldp q3, q2, [x12, #-64]
 	ldp q5, q4, [x12, #-32]
 	ldp q16, q7, [x12]
@@ -1056,7 +1056,7 @@
 	ldp q2, q1, [x12, #-32]
 	ldp q4, q3, [x12], #64
 	movi v5.16b, #0xd0
-	ldr q6, [x10, PAGE_OFFSET(constant_1)]
+	ldr_label q6, x10, constant_1
 	and v7.16b, v2.16b, v0.16b
 	and v16.16b, v1.16b, v0.16b
 	and v17.16b, v4.16b, v0.16b
@@ -1111,7 +1111,7 @@
 	add x11, x19, x9, lsl #1
 	movi v0.16b, #0x8f
 	movi v4.16b, #0xd0
-	ldr q5, [x10, PAGE_OFFSET(constant_1)]
+	ldr_label q5, x10, constant_1
 	ldp q1, q2, [x11]
 	and v3.16b, v1.16b, v0.16b
 	and v0.16b, v2.16b, v0.16b
@@ -1173,7 +1173,7 @@
 	movi v0.16b, #0x8f
 	movi v4.16b, #0xd0
 	add x12, x19, x11, lsl #1
-	ldr q5, [x10, PAGE_OFFSET(constant_1)]
+	ldr_label q5, x10, constant_1
 	ldp q1, q2, [x12]
 	and v3.16b, v1.16b, v0.16b
 	and v0.16b, v2.16b, v0.16b
@@ -1272,8 +1272,8 @@
 	mov x10, xzr
 34:
 	ldrb w8, [x19, x10]
-	adrp x11, PAGE(constant_3)
-	add x11, x11, PAGE_OFFSET(constant_3)
+	adrp_label x11, constant_3
+	add_label x11, x11, constant_3
 	ldrb w11, [x11, x8]
 	cmp w11, #0xff
 	b.eq 35f
@@ -1355,8 +1355,8 @@
 	b.cs 13f
 	b 14f
 8:
-	adrp x8, PAGE(constant_4)
-	add x8, x8, PAGE_OFFSET(constant_4)
+	adrp_label x8, constant_4
+	add_label x8, x8, constant_4
 	mov w11, #0x7830
 	sub x8, x9, x8
 	strh w11, [x9]
@@ -1368,8 +1368,8 @@
 	tst w4, #0x1
 	mov w11, #0x20
 	and x12, x1, #0x40
-	adrp x13, PAGE(constant_2)
-	add x13, x13, PAGE_OFFSET(constant_2)
+	adrp_label x13, constant_2
+	add_label x13, x13, constant_2
 	csel x11, xzr, x11, eq
 	add x12, x13, x12
 	mov x9, xzr
@@ -1430,8 +1430,8 @@
 	ldp q0, q1, [x10], #32
 	tst w4, #0x1
 	mov w12, #0x20
-	adrp x13, PAGE(constant_2)
-	add x13, x13, PAGE_OFFSET(constant_2)
+	adrp_label x13, constant_2
+	add_label x13, x13, constant_2
 	csel x12, xzr, x12, eq
 	mov x1, x11
 	add x12, x13, x12
@@ -1464,8 +1464,8 @@
 	movi v0.2d, #0x0
 	ldrb w10, [x10]
 	tst w4, #0x1
-	adrp x11, PAGE(constant_2)
-	add x11, x11, PAGE_OFFSET(constant_2)
+	adrp_label x11, constant_2
+	add_label x11, x11, constant_2
 	add x8, x8, x9
 	mov w0, #0x1
 	mov v0.b[0], w10
@@ -1495,8 +1495,8 @@
 	tst w4, #0x1
 	mov w11, #0x20
 	ldur q1, [x10, #-16]
-	adrp x12, PAGE(constant_2)
-	add x12, x12, PAGE_OFFSET(constant_2)
+	adrp_label x12, constant_2
+	add_label x12, x12, constant_2
 	csel x11, xzr, x11, eq
 	uxtl2 v2.8h, v0.16b
 	add x10, x12, x11
@@ -1529,8 +1529,8 @@
 	ldr q0, [x10]
 	tst w4, #0x1
 	mov w10, #0x20
-	adrp x11, PAGE(constant_2)
-	add x11, x11, PAGE_OFFSET(constant_2)
+	adrp_label x11, constant_2
+	add_label x11, x11, constant_2
 	csel x10, xzr, x10, eq
 	add x10, x11, x10
 	uxtl2 v1.8h, v0.16b
@@ -1556,8 +1556,8 @@
 	ldr d0, [x10]
 	ldur d1, [x11, #-8]
 	csel x10, xzr, x12, eq
-	adrp x11, PAGE(constant_2)
-	add x11, x11, PAGE_OFFSET(constant_2)
+	adrp_label x11, constant_2
+	add_label x11, x11, constant_2
 	add x8, x8, x9
 	add x10, x11, x10
 	uxtl v0.8h, v0.8b
@@ -1578,8 +1578,8 @@
 19:
 	tst w4, #0x1
 	mov w11, #0x20
-	adrp x12, PAGE(constant_2)
-	add x12, x12, PAGE_OFFSET(constant_2)
+	adrp_label x12, constant_2
+	add_label x12, x12, constant_2
 	csel x11, xzr, x11, eq
 	cmp x1, #0x4
 	add x11, x12, x11
@@ -1736,15 +1736,15 @@
 	add x11, x11, #0x1
 	b 16f
 6:
-	adrp x9, PAGE(constant_5)
-	add x9, x9, PAGE_OFFSET(constant_5)
+	adrp_label x9, constant_5
+	add_label x9, x9, constant_5
 	sub x10, x8, x9
 	cmp x10, #0x14
 	b.hi 12f
-	adrp x9, PAGE(constant_6)
-	adrp x10, PAGE(constant_7)
-	ldr q0, [x9, PAGE_OFFSET(constant_6)]
-	ldr d1, [x10, PAGE_OFFSET(constant_7)]
+	adrp_label x9, constant_6
+	adrp_label x10, constant_7
+	ldr_label q0, x9, constant_6
+	ldr_label d1, x10, constant_7
 	mov w9, #0x68
 	strb w9, [x8, #20]
 	str q0, [x8]
@@ -1754,15 +1754,15 @@
 	add sp, sp, #0x40
 	ret
 7:
-	adrp x9, PAGE(constant_8)
-	add x9, x9, PAGE_OFFSET(constant_8)
+	adrp_label x9, constant_8
+	add_label x9, x9, constant_8
 	sub x10, x8, x9
 	cmp x10, #0xc
 	b.hi 13f
-	adrp x9, PAGE(constant_9)
-	adrp x10, PAGE(constant_10)
-	ldr d0, [x9, PAGE_OFFSET(constant_9)]
-	ldr d1, [x10, PAGE_OFFSET(constant_10)]
+	adrp_label x9, constant_9
+	adrp_label x10, constant_10
+	ldr_label d0, x9, constant_9
+	ldr_label d1, x10, constant_10
 	mov w9, #0x79
 	strb w9, [x8, #12]
 	str d0, [x8]
@@ -1778,15 +1778,15 @@
 	add sp, sp, #0x40
 	ret
 9:
-	adrp x9, PAGE(constant_11)
-	add x9, x9, PAGE_OFFSET(constant_11)
+	adrp_label x9, constant_11
+	add_label x9, x9, constant_11
 	sub x10, x8, x9
 	cmp x10, #0x13
 	b.hi 14f
-	adrp x9, PAGE(constant_12)
-	adrp x10, PAGE(constant_13)
-	ldr q0, [x9, PAGE_OFFSET(constant_12)]
-	ldr d1, [x10, PAGE_OFFSET(constant_13)]
+	adrp_label x9, constant_12
+	adrp_label x10, constant_13
+	ldr_label q0, x9, constant_12
+	ldr_label d1, x10, constant_13
 	str q0, [x8]
 	str s1, [x8, #16]
 	strb wzr, [x8, #20]
@@ -1824,8 +1824,8 @@
 15:
 	mov w11, #0x3b
 16:
-	adrp x15, PAGE(constant_14)
-	add x15, x15, PAGE_OFFSET(constant_14)
+	adrp_label x15, constant_14
+	add_label x15, x15, constant_14
 	mov x14, sp
 	ldr x16, [x15]
 	ldur x15, [x15, #6]
@@ -1863,8 +1863,8 @@
 	b.cs 38f
 20:
 	and x12, x10, #0xf
-	adrp x14, PAGE(constant_15)
-	add x14, x14, PAGE_OFFSET(constant_15)
+	adrp_label x14, constant_15
+	add_label x14, x14, constant_15
 	ldrb w15, [x14, x12]
 	sub x13, x11, #0x11
 	mov w16, #0x7d00
@@ -1933,8 +1933,8 @@
 29:
 	strh w12, [x10, x11]
 30:
-	adrp x12, PAGE(constant_16)
-	add x12, x12, PAGE_OFFSET(constant_16)
+	adrp_label x12, constant_16
+	add_label x12, x12, constant_16
 	mov x10, sp
 	ldr q0, [x12]
 	mov w12, #0x7265
@@ -2383,8 +2383,8 @@
 	mov x9, xzr
 7:
 	ldrb w10, [x1, x9]
-	adrp x11, PAGE(constant_3)
-	add x11, x11, PAGE_OFFSET(constant_3)
+	adrp_label x11, constant_3
+	add_label x11, x11, constant_3
 	ldrb w11, [x11, x10]
 	cmp w11, #0xff
 	b.eq 4b
@@ -2446,19 +2446,19 @@
 	ret
 4:
 	cmp x3, #0x40
-	adrp x9, PAGE(constant_1)
+	adrp_label x9, constant_1
 	mov x8, xzr
 	b.cc 6f
 	and x10, x3, #0x40
-	adrp x11, PAGE(constant_2)
-	add x11, x11, PAGE_OFFSET(constant_2)
+	adrp_label x11, constant_2
+	add_label x11, x11, constant_2
 	add x10, x11, x10
 	add x11, x23, #0x41
 	sub x12, x22, #0x1
 5:
 	movi v0.16b, #0x8f
 	movi v1.16b, #0xd0
-	ldr q6, [x9, PAGE_OFFSET(constant_1)]
+	ldr_label q6, x9, constant_1
 	ldp q3, q2, [x11, #-64]
 	ldp q5, q4, [x11, #-32]
 	ldp q16, q7, [x11]
@@ -2555,7 +2555,7 @@
 	ldp q2, q1, [x11, #-32]
 	ldp q4, q3, [x11], #64
 	movi v5.16b, #0xd0
-	ldr q6, [x9, PAGE_OFFSET(constant_1)]
+	ldr_label q6, x9, constant_1
 	and v7.16b, v2.16b, v0.16b
 	and v16.16b, v1.16b, v0.16b
 	and v17.16b, v4.16b, v0.16b
@@ -2610,7 +2610,7 @@
 	add x10, x21, x8, lsl #1
 	movi v0.16b, #0x8f
 	movi v4.16b, #0xd0
-	ldr q5, [x9, PAGE_OFFSET(constant_1)]
+	ldr_label q5, x9, constant_1
 	ldp q1, q2, [x10]
 	and v3.16b, v1.16b, v0.16b
 	and v0.16b, v2.16b, v0.16b
@@ -2658,7 +2658,7 @@
 	movi v0.16b, #0x8f
 	movi v4.16b, #0xd0
 	add x11, x21, x10, lsl #1
-	ldr q5, [x9, PAGE_OFFSET(constant_1)]
+	ldr_label q5, x9, constant_1
 	ldp q1, q2, [x11]
 	and v3.16b, v1.16b, v0.16b
 	and v0.16b, v2.16b, v0.16b
@@ -2747,7 +2747,7 @@
 	b 19f
 2:
 	subs x9, x1, #0x81
-	adrp x8, PAGE(constant_1)
+	adrp_label x8, constant_1
 	b.cc 7f
 	and x9, x9, #0xffffffffffffff80
 	add x11, x0, #0x40
@@ -2759,7 +2759,7 @@
 	ldp q4, q3, [x11, #-32]
 	movi v6.16b, #0xd0
 	ldp q16, q7, [x11]
-	ldr q5, [x8, PAGE_OFFSET(constant_1)]
+	ldr_label q5, x8, constant_1
 	ldp q18, q17, [x11, #32]
 	and v19.16b, v2.16b, v0.16b
 	and v20.16b, v1.16b, v0.16b
@@ -2822,7 +2822,7 @@
 	add x10, x0, x9
 	movi v5.16b, #0xd0
 	ldp q2, q1, [x10]
-	ldr q16, [x8, PAGE_OFFSET(constant_1)]
+	ldr_label q16, x8, constant_1
 	ldp q4, q3, [x10, #32]
 	and v6.16b, v2.16b, v0.16b
 	and v7.16b, v1.16b, v0.16b
@@ -2863,9 +2863,9 @@
 	add x8, x0, x1
 	b.ne 13f
 	ldur q1, [x8, #-16]
-	adrp x8, PAGE(constant_1)
+	adrp_label x8, constant_1
 	movi v2.16b, #0xd0
-	ldr q3, [x8, PAGE_OFFSET(constant_1)]
+	ldr_label q3, x8, constant_1
 	and v0.16b, v1.16b, v0.16b
 	add v1.16b, v1.16b, v2.16b
 	tbl v0.16b, {v3.16b}, v0.16b
@@ -2886,7 +2886,7 @@
 	ldp q4, q3, [x10, #-32]
 	ldp q2, q1, [x9]
 	movi v5.16b, #0xd0
-	ldr q16, [x8, PAGE_OFFSET(constant_1)]
+	ldr_label q16, x8, constant_1
 	and v17.16b, v4.16b, v0.16b
 	and v6.16b, v2.16b, v0.16b
 	and v7.16b, v1.16b, v0.16b
@@ -2918,9 +2918,9 @@
 13:
 	ldr q1, [x0]
 	ldur q2, [x8, #-16]
-	adrp x8, PAGE(constant_1)
+	adrp_label x8, constant_1
 	movi v4.16b, #0xd0
-	ldr q5, [x8, PAGE_OFFSET(constant_1)]
+	ldr_label q5, x8, constant_1
 	and v3.16b, v1.16b, v0.16b
 	and v0.16b, v2.16b, v0.16b
 	tbl v3.16b, {v5.16b}, v3.16b
@@ -2942,7 +2942,7 @@
 15:
 	ldp q2, q1, [x10, #-32]
 	movi v4.16b, #0xd0
-	ldr q5, [x8, PAGE_OFFSET(constant_1)]
+	ldr_label q5, x8, constant_1
 	and v3.16b, v2.16b, v0.16b
 	and v0.16b, v1.16b, v0.16b
 	add v2.16b, v2.16b, v4.16b
@@ -2967,9 +2967,9 @@
 	ld1 {v0.h}[1], [x8]
 19:
 	and v1.16b, v0.16b, v1.16b
-	adrp x8, PAGE(constant_1)
+	adrp_label x8, constant_1
 	movi v2.16b, #0xd0
-	ldr q3, [x8, PAGE_OFFSET(constant_1)]
+	ldr_label q3, x8, constant_1
 	tbl v1.16b, {v3.16b}, v1.16b
 	add v0.16b, v0.16b, v2.16b
 	uqsub v0.16b, v0.16b, v1.16b
@@ -2994,8 +2994,8 @@
 	ldrb w8, [x0]
 	movi v1.8b, #0x30
 	movi v2.16b, #0x8f
-	adrp x9, PAGE(constant_1)
-	ldr q3, [x9, PAGE_OFFSET(constant_1)]
+	adrp_label x9, constant_1
+	ldr_label q3, x9, constant_1
 	mov v0.b[0], w8
 	mov v1.b[0], w8
 	mov v0.b[1], w8
@@ -3021,9 +3021,9 @@
 	add x8, x0, x1
 	ldr q1, [x0]
 	ldur q2, [x8, #-16]
-	adrp x8, PAGE(constant_1)
+	adrp_label x8, constant_1
 	movi v4.16b, #0xd0
-	ldr q5, [x8, PAGE_OFFSET(constant_1)]
+	ldr_label q5, x8, constant_1
 	and v3.16b, v1.16b, v0.16b
 	and v0.16b, v2.16b, v0.16b
 	add v6.16b, v1.16b, v4.16b
@@ -3066,8 +3066,8 @@
 	sub x8, x8, #0x8
 	movi v2.16b, #0xd0
 	ld1 {v0.d}[1], [x8]
-	adrp x8, PAGE(constant_1)
-	ldr q3, [x8, PAGE_OFFSET(constant_1)]
+	adrp_label x8, constant_1
+	ldr_label q3, x8, constant_1
 	and v1.16b, v0.16b, v1.16b
 	add v2.16b, v0.16b, v2.16b
 	tbl v1.16b, {v3.16b}, v1.16b
@@ -3106,8 +3106,8 @@
 	ld1 {v0.s}[0], [x8], x1
 	sub x8, x8, #0x4
 	ld1 {v0.s}[1], [x8]
-	adrp x8, PAGE(constant_1)
-	ldr q3, [x8, PAGE_OFFSET(constant_1)]
+	adrp_label x8, constant_1
+	ldr_label q3, x8, constant_1
 	and v1.16b, v0.16b, v1.16b
 	add v2.16b, v0.16b, v2.16b
 	tbl v1.16b, {v3.16b}, v1.16b
@@ -3149,8 +3149,8 @@
 	ld1 {v0.h}[0], [x8], x1
 	sub x8, x8, #0x2
 	ld1 {v0.h}[1], [x8]
-	adrp x8, PAGE(constant_1)
-	ldr q3, [x8, PAGE_OFFSET(constant_1)]
+	adrp_label x8, constant_1
+	ldr_label q3, x8, constant_1
 	and v1.16b, v0.16b, v1.16b
 	add v2.16b, v0.16b, v2.16b
 	tbl v1.16b, {v3.16b}, v1.16b
@@ -3172,8 +3172,8 @@
 6:
 	ldurb w9, [x8, #-1]
 	ldrb w10, [x8], #2
-	adrp x11, PAGE(constant_3)
-	add x11, x11, PAGE_OFFSET(constant_3)
+	adrp_label x11, constant_3
+	add_label x11, x11, constant_3
 	ldrb w9, [x11, x9]
 	ldrb w10, [x11, x10]
 	mov w11, #0xff
