@@ -337,5 +337,8 @@ def function_of(code, call, build):
     stem = f"const_hex_{call}"
     nonnull = f"{stem}_nonnull" if call in WITH_ERROR else stem
     found = {stem, nonnull, f"{nonnull}_{build}"} & code.object.exported
+    if build.startswith("rust_"):
+        # The name has the version of the crate.
+        found = {name for name in code.object.exported if re.fullmatch(rf"const_hex(_\d+)+_{call}(_v\d)?", name)}
     require(len(found) == 1, f"{stem} is exported as {sorted(found)}")
     return found.pop()

@@ -110,6 +110,8 @@ class Form:
     last = ()
     # How many bytes a number has in the memory.
     word = 8
+    # Whether the call returns true or false.
+    has_answer = True
 
     def possible(self, state):
         """The state, or nothing if no input leads to it."""

@@ -309,7 +309,7 @@ def judged(code, form, end):
     with named(code, "at the return", end.last):
         code.front_end.has_returned(end)
         accepted = []
-        for state in cases_of_answer(code, end):
+        for state in cases_of_answer(code, end) if form.has_answer else (end,):
             form.set_aside(state)
             accepted += [state] if form.ends(code, state) else []
         return accepted

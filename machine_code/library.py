@@ -7,6 +7,7 @@ import pathlib
 import re
 import subprocess
 
+import kernels
 import objects
 import wasm.calls
 import wasm.front_end
@@ -16,8 +17,10 @@ from exploration import Code
 
 PROCESSORS = {62: "x86_64", 183: "aarch64"}  # by their number in ELF
 DISPATCH, WASM = "dispatch", "wasm"
-# The builds by the names of the files in c/asm. CMake keeps the end of a name, and compilers replace it.
+# The builds by the names of the files in c/asm. CMake keeps the end of a name, and compilers replace it. Those of the
+# Rust crate are in rust/src/asm.
 BUILDS = {"x86_64_v2": "v2", "x86_64_v3": "v3", "aarch64": "aarch64", "dispatch": DISPATCH}
+BUILDS |= {f"rust_{name}": f"rust_{build}" for name, build in BUILDS.items() if build != DISPATCH}
 MEMBER = re.compile(r"(.*?)(\.S)?\.o")
 
 
@@ -41,7 +44,7 @@ def builds_of(archive):
 
 
 def calls_of(build):
-    return wasm.calls.CALLS if build == WASM else CALLS
+    return wasm.calls.CALLS if build == WASM else kernels.CALLS if build.startswith("rust_") else CALLS
 
 
 def processor_of(obj):

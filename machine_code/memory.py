@@ -64,16 +64,18 @@ def shown(pointer):
 class Region:
     """So many bytes that may be read, and written if `is_writable`. What is before `first` may not be used.
 
-    `content` is what the bytes are at the start, if something is known of them.
+    `content` is what the bytes are at the start, if something is known of them. If the region `is_new`, no byte is
+    read before it is written.
     """
 
-    def __init__(self, name, size, is_writable=False, alignment=1, content=None):
+    def __init__(self, name, size, is_writable=False, alignment=1, content=None, is_new=False):
         self.name = name
         self.first = 0
         self.size = size
         self.is_writable = is_writable
         self.alignment = alignment
         self.content = content
+        self.is_new = is_new
         # Below an offset, something else may have changed it: how often is a number of its own each time.
         self.changed_below = self.calls = 0
 
@@ -93,6 +95,8 @@ class Region:
     def old(self, offset):
         """The byte at the start: its own unknown. A name may contain `done` alone, and so means one byte for
         good."""
+        if self.is_new:
+            raise Fault(f"{self.name}[{offset}] is read before it is written")
         if self.content:
             return self.content[offset]
         if any(name != "done" for name, _ in terms_of(offset)):

@@ -153,12 +153,12 @@
 	b 16f
 4:
 	cmp x3, #0x40
-	adrp x11, PAGE(constant_1)
+	adrp_label x11, const_hex_constant_1
 	mov x10, xzr
 	b.cc 6f
 	and x14, x3, #0x40
-	adrp x15, PAGE(constant_2)
-	add x15, x15, PAGE_OFFSET(constant_2)
+	adrp_label x15, const_hex_constant_2
+	add_label x15, x15, const_hex_constant_2
 	add x16, x12, x13
 	add x12, x15, x14
 	add x13, x0, #0x40
@@ -167,7 +167,7 @@
 5:
 	movi v0.16b, #0x8f
 	movi v1.16b, #0xd0
-	ldr q6, [x11, PAGE_OFFSET(constant_1)]
+	ldr_label q6, x11, const_hex_constant_1
 	ldp q3, q2, [x13, #-64]
 	ldp q5, q4, [x13, #-32]
 	ldp q16, q7, [x13]
@@ -262,7 +262,7 @@
 	ldp q2, q1, [x13, #-32]
 	ldp q4, q3, [x13], #64
 	movi v5.16b, #0xd0
-	ldr q6, [x11, PAGE_OFFSET(constant_1)]
+	ldr_label q6, x11, const_hex_constant_1
 	and v7.16b, v2.16b, v0.16b
 	and v16.16b, v1.16b, v0.16b
 	and v17.16b, v4.16b, v0.16b
@@ -317,7 +317,7 @@
 	add x12, x0, x10, lsl #1
 	movi v0.16b, #0x8f
 	movi v4.16b, #0xd0
-	ldr q5, [x11, PAGE_OFFSET(constant_1)]
+	ldr_label q5, x11, const_hex_constant_1
 	ldp q1, q2, [x12]
 	and v3.16b, v1.16b, v0.16b
 	and v0.16b, v2.16b, v0.16b
@@ -355,7 +355,7 @@
 	add x12, x0, x9, lsl #1
 	movi v0.16b, #0x8f
 	movi v4.16b, #0xd0
-	ldr q5, [x11, PAGE_OFFSET(constant_1)]
+	ldr_label q5, x11, const_hex_constant_1
 	ldp q1, q2, [x12]
 	and v3.16b, v1.16b, v0.16b
 	and v0.16b, v2.16b, v0.16b
@@ -525,12 +525,12 @@
 	b 15f
 7:
 	cmp x8, #0x80
-	adrp x10, PAGE(constant_1)
+	adrp_label x10, const_hex_constant_1
 	mov x9, xzr
 	b.cc 9f
 	and x13, x20, #0x40
-	adrp x14, PAGE(constant_2)
-	add x14, x14, PAGE_OFFSET(constant_2)
+	adrp_label x14, const_hex_constant_2
+	add_label x14, x14, const_hex_constant_2
 	add x15, x11, x12
 	add x11, x14, x13
 	add x12, x0, #0x40
@@ -539,7 +539,7 @@
 8:
 	movi v0.16b, #0x8f
 	movi v1.16b, #0xd0
-	ldr q6, [x10, PAGE_OFFSET(constant_1)]
+	ldr_label q6, x10, const_hex_constant_1
 	ldp q3, q2, [x12, #-64]
 	ldp q5, q4, [x12, #-32]
 	ldp q16, q7, [x12]
@@ -634,7 +634,7 @@
 	ldp q2, q1, [x12, #-32]
 	ldp q4, q3, [x12], #64
 	movi v5.16b, #0xd0
-	ldr q6, [x10, PAGE_OFFSET(constant_1)]
+	ldr_label q6, x10, const_hex_constant_1
 	and v7.16b, v2.16b, v0.16b
 	and v16.16b, v1.16b, v0.16b
 	and v17.16b, v4.16b, v0.16b
@@ -689,7 +689,7 @@
 	add x11, x0, x9, lsl #1
 	movi v0.16b, #0x8f
 	movi v4.16b, #0xd0
-	ldr q5, [x10, PAGE_OFFSET(constant_1)]
+	ldr_label q5, x10, const_hex_constant_1
 	ldp q1, q2, [x11]
 	and v3.16b, v1.16b, v0.16b
 	and v0.16b, v2.16b, v0.16b
@@ -728,7 +728,7 @@
 	movi v0.16b, #0x8f
 	movi v4.16b, #0xd0
 	add x12, x0, x11, lsl #1
-	ldr q5, [x10, PAGE_OFFSET(constant_1)]
+	ldr_label q5, x10, const_hex_constant_1
 	ldp q1, q2, [x12]
 	and v3.16b, v1.16b, v0.16b
 	and v0.16b, v2.16b, v0.16b
@@ -947,12 +947,12 @@
 	b 19f
 13:
 	cmp x22, #0x80
-	adrp x10, PAGE(constant_1)
+	adrp_label x10, const_hex_constant_1
 	mov x9, xzr
 	b.cc 15f
 	and x12, x20, #0x40
-	adrp x13, PAGE(constant_2)
-	add x13, x13, PAGE_OFFSET(constant_2)
+	adrp_label x13, const_hex_constant_2
+	add_label x13, x13, const_hex_constant_2
 	add x14, x11, x3
 	add x11, x13, x12
 	add x12, x19, #0x40
@@ -961,7 +961,7 @@
 14:
 	movi v0.16b, #0x8f
 	movi v1.16b, #0xd0
-	ldr q6, [x10, PAGE_OFFSET(constant_1)]
+	ldr_label q6, x10, const_hex_constant_1
 	ldp q3, q2, [x12, #-64]
 	ldp q5, q4, [x12, #-32]
 	ldp q16, q7, [x12]
@@ -1056,7 +1056,7 @@
 	ldp q2, q1, [x12, #-32]
 	ldp q4, q3, [x12], #64
 	movi v5.16b, #0xd0
-	ldr q6, [x10, PAGE_OFFSET(constant_1)]
+	ldr_label q6, x10, const_hex_constant_1
 	and v7.16b, v2.16b, v0.16b
 	and v16.16b, v1.16b, v0.16b
 	and v17.16b, v4.16b, v0.16b
@@ -1111,7 +1111,7 @@
 	add x11, x19, x9, lsl #1
 	movi v0.16b, #0x8f
 	movi v4.16b, #0xd0
-	ldr q5, [x10, PAGE_OFFSET(constant_1)]
+	ldr_label q5, x10, const_hex_constant_1
 	ldp q1, q2, [x11]
 	and v3.16b, v1.16b, v0.16b
 	and v0.16b, v2.16b, v0.16b
@@ -1173,7 +1173,7 @@
 	movi v0.16b, #0x8f
 	movi v4.16b, #0xd0
 	add x12, x19, x11, lsl #1
-	ldr q5, [x10, PAGE_OFFSET(constant_1)]
+	ldr_label q5, x10, const_hex_constant_1
 	ldp q1, q2, [x12]
 	and v3.16b, v1.16b, v0.16b
 	and v0.16b, v2.16b, v0.16b
@@ -1272,8 +1272,8 @@
 	mov x10, xzr
 34:
 	ldrb w8, [x19, x10]
-	adrp x11, PAGE(constant_3)
-	add x11, x11, PAGE_OFFSET(constant_3)
+	adrp_label x11, const_hex_constant_3
+	add_label x11, x11, const_hex_constant_3
 	ldrb w11, [x11, x8]
 	cmp w11, #0xff
 	b.eq 35f
@@ -1355,8 +1355,8 @@
 	b.cs 13f
 	b 14f
 8:
-	adrp x8, PAGE(constant_4)
-	add x8, x8, PAGE_OFFSET(constant_4)
+	adrp_label x8, const_hex_constant_4
+	add_label x8, x8, const_hex_constant_4
 	mov w11, #0x7830
 	sub x8, x9, x8
 	strh w11, [x9]
@@ -1368,8 +1368,8 @@
 	tst w4, #0x1
 	mov w11, #0x20
 	and x12, x1, #0x40
-	adrp x13, PAGE(constant_2)
-	add x13, x13, PAGE_OFFSET(constant_2)
+	adrp_label x13, const_hex_constant_2
+	add_label x13, x13, const_hex_constant_2
 	csel x11, xzr, x11, eq
 	add x12, x13, x12
 	mov x9, xzr
@@ -1430,8 +1430,8 @@
 	ldp q0, q1, [x10], #32
 	tst w4, #0x1
 	mov w12, #0x20
-	adrp x13, PAGE(constant_2)
-	add x13, x13, PAGE_OFFSET(constant_2)
+	adrp_label x13, const_hex_constant_2
+	add_label x13, x13, const_hex_constant_2
 	csel x12, xzr, x12, eq
 	mov x1, x11
 	add x12, x13, x12
@@ -1464,8 +1464,8 @@
 	movi v0.2d, #0x0
 	ldrb w10, [x10]
 	tst w4, #0x1
-	adrp x11, PAGE(constant_2)
-	add x11, x11, PAGE_OFFSET(constant_2)
+	adrp_label x11, const_hex_constant_2
+	add_label x11, x11, const_hex_constant_2
 	add x8, x8, x9
 	mov w0, #0x1
 	mov v0.b[0], w10
@@ -1495,8 +1495,8 @@
 	tst w4, #0x1
 	mov w11, #0x20
 	ldur q1, [x10, #-16]
-	adrp x12, PAGE(constant_2)
-	add x12, x12, PAGE_OFFSET(constant_2)
+	adrp_label x12, const_hex_constant_2
+	add_label x12, x12, const_hex_constant_2
 	csel x11, xzr, x11, eq
 	uxtl2 v2.8h, v0.16b
 	add x10, x12, x11
@@ -1529,8 +1529,8 @@
 	ldr q0, [x10]
 	tst w4, #0x1
 	mov w10, #0x20
-	adrp x11, PAGE(constant_2)
-	add x11, x11, PAGE_OFFSET(constant_2)
+	adrp_label x11, const_hex_constant_2
+	add_label x11, x11, const_hex_constant_2
 	csel x10, xzr, x10, eq
 	add x10, x11, x10
 	uxtl2 v1.8h, v0.16b
@@ -1556,8 +1556,8 @@
 	ldr d0, [x10]
 	ldur d1, [x11, #-8]
 	csel x10, xzr, x12, eq
-	adrp x11, PAGE(constant_2)
-	add x11, x11, PAGE_OFFSET(constant_2)
+	adrp_label x11, const_hex_constant_2
+	add_label x11, x11, const_hex_constant_2
 	add x8, x8, x9
 	add x10, x11, x10
 	uxtl v0.8h, v0.8b
@@ -1578,8 +1578,8 @@
 19:
 	tst w4, #0x1
 	mov w11, #0x20
-	adrp x12, PAGE(constant_2)
-	add x12, x12, PAGE_OFFSET(constant_2)
+	adrp_label x12, const_hex_constant_2
+	add_label x12, x12, const_hex_constant_2
 	csel x11, xzr, x11, eq
 	cmp x1, #0x4
 	add x11, x12, x11
@@ -1662,22 +1662,22 @@
 	b.ne 4f
 	cmp x3, #0x14
 	b.hi 9f
-	adrp x0, PAGE(constant_5)
-	add x0, x0, PAGE_OFFSET(constant_5)
+	adrp_label x0, const_hex_constant_5
+	add_label x0, x0, const_hex_constant_5
 	mov w1, #0x14
 	b const_hex_message_write_ended
 2:
 	cmp x3, #0x15
 	b.hi 6f
-	adrp x0, PAGE(constant_6)
-	add x0, x0, PAGE_OFFSET(constant_6)
+	adrp_label x0, const_hex_constant_6
+	add_label x0, x0, const_hex_constant_6
 	mov w1, #0x15
 	b const_hex_message_write_ended
 3:
 	cmp x3, #0xd
 	b.hi 7f
-	adrp x0, PAGE(constant_7)
-	add x0, x0, PAGE_OFFSET(constant_7)
+	adrp_label x0, const_hex_constant_7
+	add_label x0, x0, const_hex_constant_7
 	mov w1, #0xd
 	b const_hex_message_write_ended
 4:
@@ -1718,15 +1718,15 @@
 	add x9, x9, #0x1
 	b 16f
 6:
-	adrp x8, PAGE(constant_6)
-	add x8, x8, PAGE_OFFSET(constant_6)
+	adrp_label x8, const_hex_constant_6
+	add_label x8, x8, const_hex_constant_6
 	sub x9, x2, x8
 	cmp x9, #0x14
 	b.hi 12f
-	adrp x8, PAGE(constant_8)
-	adrp x9, PAGE(constant_9)
-	ldr q0, [x8, PAGE_OFFSET(constant_8)]
-	ldr d1, [x9, PAGE_OFFSET(constant_9)]
+	adrp_label x8, const_hex_constant_8
+	adrp_label x9, const_hex_constant_9
+	ldr_label q0, x8, const_hex_constant_8
+	ldr_label d1, x9, const_hex_constant_9
 	mov w8, #0x68
 	strb w8, [x2, #20]
 	str q0, [x2]
@@ -1735,15 +1735,15 @@
 	strb wzr, [x2, #21]
 	ret
 7:
-	adrp x8, PAGE(constant_7)
-	add x8, x8, PAGE_OFFSET(constant_7)
+	adrp_label x8, const_hex_constant_7
+	add_label x8, x8, const_hex_constant_7
 	sub x9, x2, x8
 	cmp x9, #0xc
 	b.hi 13f
-	adrp x8, PAGE(constant_10)
-	adrp x9, PAGE(constant_11)
-	ldr d0, [x8, PAGE_OFFSET(constant_10)]
-	ldr d1, [x9, PAGE_OFFSET(constant_11)]
+	adrp_label x8, const_hex_constant_10
+	adrp_label x9, const_hex_constant_11
+	ldr_label d0, x8, const_hex_constant_10
+	ldr_label d1, x9, const_hex_constant_11
 	mov w8, #0x79
 	strb w8, [x2, #12]
 	str d0, [x2]
@@ -1760,15 +1760,15 @@
 	add sp, sp, #0x50
 	ret
 9:
-	adrp x8, PAGE(constant_5)
-	add x8, x8, PAGE_OFFSET(constant_5)
+	adrp_label x8, const_hex_constant_5
+	add_label x8, x8, const_hex_constant_5
 	sub x9, x2, x8
 	cmp x9, #0x13
 	b.hi 14f
-	adrp x8, PAGE(constant_12)
-	adrp x9, PAGE(constant_13)
-	ldr q0, [x8, PAGE_OFFSET(constant_12)]
-	ldr d1, [x9, PAGE_OFFSET(constant_13)]
+	adrp_label x8, const_hex_constant_12
+	adrp_label x9, const_hex_constant_13
+	ldr_label q0, x8, const_hex_constant_12
+	ldr_label d1, x9, const_hex_constant_13
 	str q0, [x2]
 	str s1, [x2, #16]
 	mov w0, #0x14
@@ -1802,8 +1802,8 @@
 15:
 	mov w9, #0x3b
 16:
-	adrp x13, PAGE(constant_14)
-	add x13, x13, PAGE_OFFSET(constant_14)
+	adrp_label x13, const_hex_constant_14
+	add_label x13, x13, const_hex_constant_14
 	mov x12, sp
 	ldr x14, [x13]
 	ldur x13, [x13, #6]
@@ -1841,8 +1841,8 @@
 	b.cs 28f
 20:
 	and x10, x8, #0xf
-	adrp x12, PAGE(constant_15)
-	add x12, x12, PAGE_OFFSET(constant_15)
+	adrp_label x12, const_hex_constant_15
+	add_label x12, x12, const_hex_constant_15
 	ldrb w13, [x12, x10]
 	sub x11, x9, #0x11
 	mov w14, #0x7d00
@@ -1887,8 +1887,8 @@
 26:
 	strh w10, [x8, x9]
 27:
-	adrp x10, PAGE(constant_16)
-	add x10, x10, PAGE_OFFSET(constant_16)
+	adrp_label x10, const_hex_constant_16
+	add_label x10, x10, const_hex_constant_16
 	mov x8, sp
 	ldr q0, [x10]
 	mov w10, #0x7265
@@ -1961,8 +1961,8 @@
 	mov x9, xzr
 7:
 	ldrb w10, [x1, x9]
-	adrp x11, PAGE(constant_3)
-	add x11, x11, PAGE_OFFSET(constant_3)
+	adrp_label x11, const_hex_constant_3
+	add_label x11, x11, const_hex_constant_3
 	ldrb w11, [x11, x10]
 	cmp w11, #0xff
 	b.eq 4b
@@ -2024,19 +2024,19 @@
 	ret
 4:
 	cmp x3, #0x40
-	adrp x9, PAGE(constant_1)
+	adrp_label x9, const_hex_constant_1
 	mov x8, xzr
 	b.cc 6f
 	and x10, x3, #0x40
-	adrp x11, PAGE(constant_2)
-	add x11, x11, PAGE_OFFSET(constant_2)
+	adrp_label x11, const_hex_constant_2
+	add_label x11, x11, const_hex_constant_2
 	add x10, x11, x10
 	add x11, x23, #0x41
 	sub x12, x22, #0x1
 5:
 	movi v0.16b, #0x8f
 	movi v1.16b, #0xd0
-	ldr q6, [x9, PAGE_OFFSET(constant_1)]
+	ldr_label q6, x9, const_hex_constant_1
 	ldp q3, q2, [x11, #-64]
 	ldp q5, q4, [x11, #-32]
 	ldp q16, q7, [x11]
@@ -2133,7 +2133,7 @@
 	ldp q2, q1, [x11, #-32]
 	ldp q4, q3, [x11], #64
 	movi v5.16b, #0xd0
-	ldr q6, [x9, PAGE_OFFSET(constant_1)]
+	ldr_label q6, x9, const_hex_constant_1
 	and v7.16b, v2.16b, v0.16b
 	and v16.16b, v1.16b, v0.16b
 	and v17.16b, v4.16b, v0.16b
@@ -2188,7 +2188,7 @@
 	add x10, x21, x8, lsl #1
 	movi v0.16b, #0x8f
 	movi v4.16b, #0xd0
-	ldr q5, [x9, PAGE_OFFSET(constant_1)]
+	ldr_label q5, x9, const_hex_constant_1
 	ldp q1, q2, [x10]
 	and v3.16b, v1.16b, v0.16b
 	and v0.16b, v2.16b, v0.16b
@@ -2236,7 +2236,7 @@
 	movi v0.16b, #0x8f
 	movi v4.16b, #0xd0
 	add x11, x21, x10, lsl #1
-	ldr q5, [x9, PAGE_OFFSET(constant_1)]
+	ldr_label q5, x9, const_hex_constant_1
 	ldp q1, q2, [x11]
 	and v3.16b, v1.16b, v0.16b
 	and v0.16b, v2.16b, v0.16b
@@ -2325,7 +2325,7 @@
 	b 19f
 2:
 	subs x9, x1, #0x81
-	adrp x8, PAGE(constant_1)
+	adrp_label x8, const_hex_constant_1
 	b.cc 7f
 	and x9, x9, #0xffffffffffffff80
 	add x11, x0, #0x40
@@ -2337,7 +2337,7 @@
 	ldp q4, q3, [x11, #-32]
 	movi v6.16b, #0xd0
 	ldp q16, q7, [x11]
-	ldr q5, [x8, PAGE_OFFSET(constant_1)]
+	ldr_label q5, x8, const_hex_constant_1
 	ldp q18, q17, [x11, #32]
 	and v19.16b, v2.16b, v0.16b
 	and v20.16b, v1.16b, v0.16b
@@ -2400,7 +2400,7 @@
 	add x10, x0, x9
 	movi v5.16b, #0xd0
 	ldp q2, q1, [x10]
-	ldr q16, [x8, PAGE_OFFSET(constant_1)]
+	ldr_label q16, x8, const_hex_constant_1
 	ldp q4, q3, [x10, #32]
 	and v6.16b, v2.16b, v0.16b
 	and v7.16b, v1.16b, v0.16b
@@ -2441,9 +2441,9 @@
 	add x8, x0, x1
 	b.ne 13f
 	ldur q1, [x8, #-16]
-	adrp x8, PAGE(constant_1)
+	adrp_label x8, const_hex_constant_1
 	movi v2.16b, #0xd0
-	ldr q3, [x8, PAGE_OFFSET(constant_1)]
+	ldr_label q3, x8, const_hex_constant_1
 	and v0.16b, v1.16b, v0.16b
 	add v1.16b, v1.16b, v2.16b
 	tbl v0.16b, {v3.16b}, v0.16b
@@ -2464,7 +2464,7 @@
 	ldp q4, q3, [x10, #-32]
 	ldp q2, q1, [x9]
 	movi v5.16b, #0xd0
-	ldr q16, [x8, PAGE_OFFSET(constant_1)]
+	ldr_label q16, x8, const_hex_constant_1
 	and v17.16b, v4.16b, v0.16b
 	and v6.16b, v2.16b, v0.16b
 	and v7.16b, v1.16b, v0.16b
@@ -2496,9 +2496,9 @@
 13:
 	ldr q1, [x0]
 	ldur q2, [x8, #-16]
-	adrp x8, PAGE(constant_1)
+	adrp_label x8, const_hex_constant_1
 	movi v4.16b, #0xd0
-	ldr q5, [x8, PAGE_OFFSET(constant_1)]
+	ldr_label q5, x8, const_hex_constant_1
 	and v3.16b, v1.16b, v0.16b
 	and v0.16b, v2.16b, v0.16b
 	tbl v3.16b, {v5.16b}, v3.16b
@@ -2520,7 +2520,7 @@
 15:
 	ldp q2, q1, [x10, #-32]
 	movi v4.16b, #0xd0
-	ldr q5, [x8, PAGE_OFFSET(constant_1)]
+	ldr_label q5, x8, const_hex_constant_1
 	and v3.16b, v2.16b, v0.16b
 	and v0.16b, v1.16b, v0.16b
 	add v2.16b, v2.16b, v4.16b
@@ -2545,9 +2545,9 @@
 	ld1 {v0.h}[1], [x8]
 19:
 	and v1.16b, v0.16b, v1.16b
-	adrp x8, PAGE(constant_1)
+	adrp_label x8, const_hex_constant_1
 	movi v2.16b, #0xd0
-	ldr q3, [x8, PAGE_OFFSET(constant_1)]
+	ldr_label q3, x8, const_hex_constant_1
 	tbl v1.16b, {v3.16b}, v1.16b
 	add v0.16b, v0.16b, v2.16b
 	uqsub v0.16b, v0.16b, v1.16b
@@ -2572,8 +2572,8 @@
 	ldrb w8, [x0]
 	movi v1.8b, #0x30
 	movi v2.16b, #0x8f
-	adrp x9, PAGE(constant_1)
-	ldr q3, [x9, PAGE_OFFSET(constant_1)]
+	adrp_label x9, const_hex_constant_1
+	ldr_label q3, x9, const_hex_constant_1
 	mov v0.b[0], w8
 	mov v1.b[0], w8
 	mov v0.b[1], w8
@@ -2625,9 +2625,9 @@
 	add x8, x0, x1
 	ldr q1, [x0]
 	ldur q2, [x8, #-16]
-	adrp x8, PAGE(constant_1)
+	adrp_label x8, const_hex_constant_1
 	movi v4.16b, #0xd0
-	ldr q5, [x8, PAGE_OFFSET(constant_1)]
+	ldr_label q5, x8, const_hex_constant_1
 	and v3.16b, v1.16b, v0.16b
 	and v0.16b, v2.16b, v0.16b
 	add v6.16b, v1.16b, v4.16b
@@ -2670,8 +2670,8 @@
 	sub x8, x8, #0x8
 	movi v2.16b, #0xd0
 	ld1 {v0.d}[1], [x8]
-	adrp x8, PAGE(constant_1)
-	ldr q3, [x8, PAGE_OFFSET(constant_1)]
+	adrp_label x8, const_hex_constant_1
+	ldr_label q3, x8, const_hex_constant_1
 	and v1.16b, v0.16b, v1.16b
 	add v2.16b, v0.16b, v2.16b
 	tbl v1.16b, {v3.16b}, v1.16b
@@ -2710,8 +2710,8 @@
 	ld1 {v0.s}[0], [x8], x1
 	sub x8, x8, #0x4
 	ld1 {v0.s}[1], [x8]
-	adrp x8, PAGE(constant_1)
-	ldr q3, [x8, PAGE_OFFSET(constant_1)]
+	adrp_label x8, const_hex_constant_1
+	ldr_label q3, x8, const_hex_constant_1
 	and v1.16b, v0.16b, v1.16b
 	add v2.16b, v0.16b, v2.16b
 	tbl v1.16b, {v3.16b}, v1.16b
@@ -2753,8 +2753,8 @@
 	ld1 {v0.h}[0], [x8], x1
 	sub x8, x8, #0x2
 	ld1 {v0.h}[1], [x8]
-	adrp x8, PAGE(constant_1)
-	ldr q3, [x8, PAGE_OFFSET(constant_1)]
+	adrp_label x8, const_hex_constant_1
+	ldr_label q3, x8, const_hex_constant_1
 	and v1.16b, v0.16b, v1.16b
 	add v2.16b, v0.16b, v2.16b
 	tbl v1.16b, {v3.16b}, v1.16b
@@ -2776,8 +2776,8 @@
 6:
 	ldurb w9, [x8, #-1]
 	ldrb w10, [x8], #2
-	adrp x11, PAGE(constant_3)
-	add x11, x11, PAGE_OFFSET(constant_3)
+	adrp_label x11, const_hex_constant_3
+	add_label x11, x11, const_hex_constant_3
 	ldrb w9, [x11, x9]
 	ldrb w10, [x11, x10]
 	mov w11, #0xff
@@ -2801,10 +2801,10 @@
 	ret
 	end const_hex_short_decode
 
-	constant constant_1, 4
+	constant const_hex_constant_1, 4
 	.byte 0x01, 0x0a, 0x0b, 0x0c, 0x0d, 0x0e, 0x0f, 0x08, 0x09, 0x0a, 0x00, 0x00, 0x00, 0x00, 0x00, 0x00
 
-	constant constant_2, 0
+	constant const_hex_constant_2, 0
 	.byte 0x30, 0x31, 0x32, 0x33, 0x34, 0x35, 0x36, 0x37, 0x38, 0x39, 0x61, 0x62, 0x63, 0x64, 0x65, 0x66
 	.byte 0x01, 0x10, 0x01, 0x10, 0x01, 0x10, 0x01, 0x10, 0x01, 0x10, 0x01, 0x10, 0x01, 0x10, 0x01, 0x10
 	.byte 0x30, 0x31, 0x32, 0x33, 0x34, 0x35, 0x36, 0x37, 0x38, 0x39, 0x41, 0x42, 0x43, 0x44, 0x45, 0x46
@@ -2818,7 +2818,7 @@
 	.byte 0x00, 0x00, 0x00, 0x00, 0x00, 0x00, 0x00, 0x00, 0x00, 0x00, 0x00, 0x00, 0x00, 0x00, 0x00, 0x00
 	.byte 0x00, 0x00, 0x00, 0x00, 0x00, 0x00, 0x00, 0x00, 0x00, 0x00, 0x00, 0x00, 0x00, 0x00, 0x00, 0x00
 
-	constant constant_3, 0
+	constant const_hex_constant_3, 0
 	.byte 0xff, 0xff, 0xff, 0xff, 0xff, 0xff, 0xff, 0xff, 0xff, 0xff, 0xff, 0xff, 0xff, 0xff, 0xff, 0xff
 	.byte 0xff, 0xff, 0xff, 0xff, 0xff, 0xff, 0xff, 0xff, 0xff, 0xff, 0xff, 0xff, 0xff, 0xff, 0xff, 0xff
 	.byte 0xff, 0xff, 0xff, 0xff, 0xff, 0xff, 0xff, 0xff, 0xff, 0xff, 0xff, 0xff, 0xff, 0xff, 0xff, 0xff
@@ -2836,45 +2836,45 @@
 	.byte 0xff, 0xff, 0xff, 0xff, 0xff, 0xff, 0xff, 0xff, 0xff, 0xff, 0xff, 0xff, 0xff, 0xff, 0xff, 0xff
 	.byte 0xff, 0xff, 0xff, 0xff, 0xff, 0xff, 0xff, 0xff, 0xff, 0xff, 0xff, 0xff, 0xff, 0xff, 0xff, 0xff
 
-	constant constant_4, 0
+	constant const_hex_constant_4, 0
 	.byte 0x30, 0x78
 
-	constant constant_5, 0
+	constant const_hex_constant_5, 0
 	.byte 0x6f, 0x64, 0x64, 0x20, 0x6e, 0x75, 0x6d, 0x62, 0x65, 0x72, 0x20, 0x6f, 0x66, 0x20, 0x64, 0x69
 	.byte 0x67, 0x69, 0x74, 0x73
 
-	constant constant_6, 0
+	constant const_hex_constant_6, 0
 	.byte 0x69, 0x6e, 0x76, 0x61, 0x6c, 0x69, 0x64, 0x20, 0x73, 0x74, 0x72, 0x69, 0x6e, 0x67, 0x20, 0x6c
 	.byte 0x65, 0x6e, 0x67, 0x74, 0x68
 
-	constant constant_7, 0
+	constant const_hex_constant_7, 0
 	.byte 0x6f, 0x75, 0x74, 0x20, 0x6f, 0x66, 0x20, 0x6d, 0x65, 0x6d, 0x6f, 0x72, 0x79
 
-	constant constant_8, 4
+	constant const_hex_constant_8, 4
 	.byte 0x69, 0x6e, 0x76, 0x61, 0x6c, 0x69, 0x64, 0x20, 0x73, 0x74, 0x72, 0x69, 0x6e, 0x67, 0x20, 0x6c
 
-	constant constant_9, 3
+	constant const_hex_constant_9, 3
 	.byte 0x65, 0x6e, 0x67, 0x74, 0x00, 0x00, 0x00, 0x00
 
-	constant constant_10, 3
+	constant const_hex_constant_10, 3
 	.byte 0x6f, 0x75, 0x74, 0x20, 0x6f, 0x66, 0x20, 0x6d
 
-	constant constant_11, 3
+	constant const_hex_constant_11, 3
 	.byte 0x65, 0x6d, 0x6f, 0x72, 0x00, 0x00, 0x00, 0x00
 
-	constant constant_12, 4
+	constant const_hex_constant_12, 4
 	.byte 0x6f, 0x64, 0x64, 0x20, 0x6e, 0x75, 0x6d, 0x62, 0x65, 0x72, 0x20, 0x6f, 0x66, 0x20, 0x64, 0x69
 
-	constant constant_13, 3
+	constant const_hex_constant_13, 3
 	.byte 0x67, 0x69, 0x74, 0x73, 0x00, 0x00, 0x00, 0x00
 
-	constant constant_14, 0
+	constant const_hex_constant_14, 0
 	.byte 0x27, 0x20, 0x61, 0x74, 0x20, 0x70, 0x6f, 0x73, 0x69, 0x74, 0x69, 0x6f, 0x6e, 0x20
 
-	constant constant_15, 4
+	constant const_hex_constant_15, 4
 	.byte 0x30, 0x31, 0x32, 0x33, 0x34, 0x35, 0x36, 0x37, 0x38, 0x39, 0x61, 0x62, 0x63, 0x64, 0x65, 0x66
 
-	constant constant_16, 0
+	constant const_hex_constant_16, 0
 	.byte 0x69, 0x6e, 0x76, 0x61, 0x6c, 0x69, 0x64, 0x20, 0x63, 0x68, 0x61, 0x72, 0x61, 0x63, 0x74, 0x65
 	.byte 0x72, 0x20, 0x27
 

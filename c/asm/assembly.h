@@ -1,14 +1,17 @@
 /* The directives of the files in this folder, for ELF and Mach-O. The code itself is the same in both. */
-#ifdef __x86_64__
-	.intel_syntax noprefix
-#endif
-
 #ifdef __APPLE__
 
 #define SYMBOL(name) _##name
-#define PAGE(label) label@PAGE
-#define PAGE_OFFSET(label) label@PAGEOFF
 
+	.macro adrp_label register, label
+	adrp \register, \label@PAGE
+	.endm
+	.macro add_label register, page, label
+	add \register, \page, \label@PAGEOFF
+	.endm
+	.macro ldr_label register, page, label
+	ldr \register, [\page, \label@PAGEOFF]
+	.endm
 	.macro exported name
 	.globl \name
 	.endm
@@ -38,9 +41,16 @@
 #else
 
 #define SYMBOL(name) name
-#define PAGE(label) label
-#define PAGE_OFFSET(label) :lo12:label
 
+	.macro adrp_label register, label
+	adrp \register, \label
+	.endm
+	.macro add_label register, page, label
+	add \register, \page, :lo12:\label
+	.endm
+	.macro ldr_label register, page, label
+	ldr \register, [\page, :lo12:\label]
+	.endm
 	.macro exported name
 	.globl \name
 	.endm

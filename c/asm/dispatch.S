@@ -11,6 +11,7 @@
 #include "assembly.h"
 
 #if defined(__x86_64__) && !defined(__ILP32__)
+	.intel_syntax noprefix
 
 	/* 0 until the CPU was asked, and then 2 if it has x86-64-v3, or 1. */
 	variable choice

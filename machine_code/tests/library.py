@@ -1,4 +1,4 @@
-"""The archives that are tested, in build/c and build/aarch64, and the module; or what these variables name."""
+"""The archives that are tested, in the folders of build, and the module; or what these variables name."""
 
 import os
 import pathlib
@@ -13,6 +13,7 @@ objects.SEED = 0
 TOP = pathlib.Path(__file__).resolve().parents[2]
 ARCHIVE = os.environ.get("CONST_HEX_ARCHIVE", TOP / "build" / "c" / "libconst_hex.a")
 AARCH64 = os.environ.get("CONST_HEX_AARCH64", TOP / "build" / "aarch64" / "libconst_hex.a")
+KERNELS = os.environ.get("CONST_HEX_KERNELS", TOP / "build" / "rust" / "libkernels.a")
 MODULE = os.environ.get("CONST_HEX_MODULE", TOP / "js" / "src" / "const_hex.wasm")
 
 
@@ -28,4 +29,5 @@ needs_module = unittest.skipUnless(HAS_MODULE, "node or wat2wasm is missing")
 
 def code_of(build, archive=None):
     """The code of a build, or that of the dispatcher."""
-    return library.code_of(archive or {"aarch64": AARCH64, library.WASM: MODULE}.get(build, ARCHIVE), build)
+    own = KERNELS if build.startswith("rust_") else ARCHIVE
+    return library.code_of(archive or {"aarch64": AARCH64, library.WASM: MODULE}.get(build, own), build)

@@ -1,5 +1,5 @@
-"""Wrong machine code, made on purpose: lines of a file in c/asm or of the module's text are replaced by others, or
-one bit of an instruction is another one."""
+"""Wrong machine code, made on purpose: lines of a file in c/asm or rust/src/asm or of the module's text are replaced
+by others, or one bit of an instruction is another one."""
 
 import functools
 import re
@@ -9,11 +9,13 @@ import tempfile
 import library
 from tests.library import MODULE, TOP, code_of
 
-ASM = TOP / "c" / "asm"
+ASM, RUST = TOP / "c" / "asm", TOP / "rust" / "src" / "asm"
 COMPILERS = {62: "cc", 183: "aarch64-linux-gnu-gcc"}
-# The file of a build in c/asm, and its processor.
-FILES = {"v2": ("x86_64_v2.S", 62), "v3": ("x86_64_v3.S", 62), "aarch64": ("aarch64.S", 183)}
-FILES |= {"dispatch": ("dispatch.S", 62), "dispatch for AArch64": ("dispatch.S", 183)}
+# The files of a build, and its processor.
+FILES = {"v2": ([ASM / "x86_64_v2.S"], 62), "v3": ([ASM / "x86_64_v3.S"], 62), "aarch64": ([ASM / "aarch64.S"], 183)}
+FILES |= {"dispatch": ([ASM / "dispatch.S"], 62), "dispatch for AArch64": ([ASM / "dispatch.S"], 183)}
+FILES |= {f"rust_{build}": ([RUST / "elf.s", *[RUST / f"{path.stem}.s" for path in paths], RUST / "end.s"], processor)
+          for build, (paths, processor) in FILES.items() if "dispatch" not in build}
 
 
 def assembled_object(machine, text):
@@ -27,7 +29,8 @@ def assembled_object(machine, text):
 
 @functools.lru_cache
 def _source(build):
-    return "\n".join(" ".join(line.split()) for line in (ASM / FILES[build][0]).read_text().splitlines()) + "\n\n"
+    text = "\n".join(path.read_text() for path in FILES[build][0])
+    return "\n".join(" ".join(line.split()) for line in text.splitlines()) + "\n\n"
 
 
 @functools.lru_cache

@@ -25,7 +25,8 @@ ONE_PATH, NO_DIGIT, THIS_CPU = "have more than one path", "what is not a digit",
 # tool has to say.
 MUTATIONS = [
     ("63 bytes are read as 64", "v3", NO_NUL, CALL, "cmp rsi,0x40", "cmp rsi,0x3f", "outside its region"),
-    ("a digit of a table", "v3", ENCODE, "constant_8", "0x61, 0x62", "0x61, 0x64", r"text\[\d*done \+ \d+\] is not"),
+    ("a digit of a table", "v3", ENCODE, "const_hex_constant_8_v3", "0x61, 0x62", "0x61, 0x64",
+     r"text\[\d*done \+ \d+\] is not"),
     ("a store is missing", "v3", ENCODE, CALL, "vmovdqu YMMWORD PTR [rcx+rdx*1+0x60],ymm3", "",
      "text: a place is written before"),
     ("a stride of 127", "v3", ENCODE, CALL, "add rdx,0x80", "add rdx,0x7f", "perhaps outside its region"),
@@ -42,10 +43,11 @@ MUTATIONS = [
      "the result is not 18446744073709551615"),
     ("no vzeroupper", "v3", ("check_raw", 0, 40), CALL, "sete al; vzeroupper", "sete al", "vzeroupper is missing"),
     ("a byte decides a jump", "v3", DIGITS, CALL, "", "cmp byte ptr [rdi],0x61; jb 1f; nop; 1:", ONE_PATH),
-    ("a limit that lets g pass", "v3", DIGITS, "constant_1", "0x0f, 0x08", "0x0f, 0x57", NO_DIGIT),
+    ("a limit that lets g pass", "v3", DIGITS, "const_hex_constant_1_v3", "0x0f, 0x08", "0x0f, 0x57", NO_DIGIT),
     ("one of four vectors is not tested", "v3", DIGITS, CALL, "vpor ymm0,ymm1,ymm0", "vpor ymm0,ymm0,ymm0", NO_DIGIT),
     ("what is rejected is accepted", "v3", ("check_raw", 0, 40), CALL, "sete al", "setne al", "digits are rejected"),
-    ("G is a digit in the search", "v3", ("check", 0, 150), "constant_11", "0x0f, 0xff", "0x0f, 0x00", NO_DIGIT),
+    ("G is a digit in the search", "v3", ("check", 0, 150), "const_hex_constant_11_v3", "0x0f, 0xff", "0x0f, 0x00",
+     NO_DIGIT),
     ("the search counts in 32 bits", "v3", ("check", 0, 150), FIND, "inc rcx", "inc ecx", "add of 4 unknown bytes"),
     ("a position without the prefix", "v3", ("decode", 1, 150), FIND, "sub rdx,rax", "xor edx,edx",
      r"error\[8\] is not what"),
@@ -68,11 +70,24 @@ MUTATIONS = [
      "v8 is not as before"),
     ("a register is not restored", "aarch64", ("decode_exact", 0, 20), CALL, "ldp x20, x19, [sp, #48]",
      "ldr x19, [sp, #56]", "x20 is not as before"),
-    ("the lower bits of another constant", "aarch64", ENCODE, CALL, "PAGE_OFFSET(constant_2)",
-     "PAGE_OFFSET(constant_2 + 16)", "the lower bits of another place than the page"),
-    ("one of two copies of a factor", "aarch64", ("decode_exact", 0, 150), "constant_2", "0x01, 0x10", "0x01, 0x11",
-     "other bytes are read at"),
+    ("the lower bits of another constant", "aarch64", ENCODE, CALL, "add_label x13, x13, const_hex_constant_2",
+     "add_label x13, x13, const_hex_constant_2+16", "the lower bits of another place than the page"),
+    ("one of two copies of a factor", "aarch64", ("decode_exact", 0, 150), "const_hex_constant_2", "0x01, 0x10",
+     "0x01, 0x11", "other bytes are read at"),
     ("a bit of the marks is not tested", "aarch64", DIGITS, CHECK, "tst w12, #0xff", "tst w12, #0x7f", NO_DIGIT),
+    ("63 bytes are read as 64", "rust_v3", ("fill", 0, 63), CALL, "cmp rsi,0x40", "cmp rsi,0x3f", "outside its region"),
+    ("a letter in the other case", "rust_v3", ("fill", 1, 150), "const_hex_1_0_0_constant_7_v3", "0x41", "0x61",
+     r"text\[\d*done \+ \d+\] is not"),
+    ("a byte of the output is read", "rust_v3", ("read", 0, 40), CALL, "", "mov al,BYTE PTR [rdx]",
+     r"bytes\[0\] is read before it is written"),
+    ("a byte of the output decides a jump", "rust_v2", ("fill", 0, 40), CALL, "", "cmp BYTE PTR [rdx],0",
+     r"text\[0\] is read before it is written"),
+    ("a byte decides a jump", "rust_v2", ("fill", 0, 40), CALL, "", "cmp byte ptr [rdi],0x61; jb 1f; nop; 1:",
+     ONE_PATH),
+    ("one of eight vectors is not tested", "rust_v2", ("read", 0, 150), CALL, "por xmm8,xmm5", "", NO_DIGIT),
+    ("what is rejected is accepted", "rust_v2", ("check", 0, 10), CALL, "sete al", "setne al", "digits are rejected"),
+    ("a result with other bits", "rust_aarch64", ("check", 0, 20), CALL, "cset w0, eq",
+     "cset w0, eq; orr w0, w0, #0x100", "neither true nor false"),
     ("NULL is passed on", "dispatch", ("decoder_update",), CALL, "je 3f", "", "the local error"),
     ("the CPU is asked again", "dispatch", ("encoded_size",), "choose", "choice], 1", "choice], 3",
      "the CPU is asked although the byte names a build"),
@@ -121,7 +136,7 @@ class TestMutations(unittest.TestCase):
 def _test(what, build, part, function, old, new, wanted):
     def test(self):
         call, in_module, build_name = part[0], build == WASM, build.split()[0]
-        own = f"const_hex_{call}" if in_module else rf"const_hex_{call}(_nonnull)?(_v\d)?"
+        own = f"const_hex_{call}" if in_module else rf"const_hex(_\d+)*_{call}(_nonnull)?(_v\d)?"
         code, address = edited(build, function or own, old, new)
         said = refusal(code, build_name, call, [] if build_name == "dispatch" else parts_of(build, *part))
         self.assertIsNotNone(said, "it is accepted")
@@ -129,7 +144,7 @@ def _test(what, build, part, function, old, new, wanted):
         if code.object.section_at(address).is_code:
             self.assertIn(address, code.run, "the instruction that was changed does not run")
 
-    needs = {WASM: needs_module, "aarch64": needs_aarch64, ARM: needs_aarch64}
+    needs = {WASM: needs_module, "aarch64": needs_aarch64, "rust_aarch64": needs_aarch64, ARM: needs_aarch64}
     return needs.get(build, lambda test: test)(test)
 
 
@@ -165,7 +180,7 @@ class TestFlips(unittest.TestCase):
                     yield f"{build} {base.object.name_at(address)}: {' -> '.join(map(str, texts))}"
 
     def test_single_bits(self):
-        builds = ["v2", "v3", *["aarch64"] * HAS_AARCH64, *[WASM] * HAS_MODULE]
+        builds = ["v2", "v3", "rust_v2", "rust_v3", *["aarch64"] * HAS_AARCH64, *[WASM] * HAS_MODULE]
         accepted = [flip for build in builds for flip in self.accepted(build)]
         print(f"CONST_HEX_SEED={SEED}, {len(accepted)} are accepted", *accepted, sep="\n    ")
         self.assertLess(len(accepted), len(builds) * FLIPS / 3)

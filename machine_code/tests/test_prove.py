@@ -18,7 +18,7 @@ from calls import function_of
 from exploration import Refused
 from reached import not_reached
 from tests.library import ARCHIVE, HAS_AARCH64, HAS_MODULE, code_of
-from tests.mutations import assembled_object, edited
+from tests.mutations import FILES, assembled_object, edited
 
 FUNCTION = "const_hex_check_raw_v3"
 FRONT_ENDS = ("x86_64", "aarch64", "wasm")
@@ -58,10 +58,10 @@ class TestProve(unittest.TestCase):
         patch.start()
         self.addCleanup(patch.stop)
 
-    def passes(self, code, call, *options):
-        """Whether `prove` passes, where this is the code of v3."""
+    def passes(self, code, call, *options, archive=ARCHIVE, build="v3"):
+        """Whether `prove` passes, where this is the code of the build."""
         module = script()
-        argv = ["prove", str(ARCHIVE), "--build", "v3", "--call", call, "--jobs", "1", *options]
+        argv = ["prove", str(archive), "--build", build, "--call", call, "--jobs", "1", *options]
         with mock.patch.object(module, "code_of", lambda *_: code), mock.patch.object(sys, "argv", argv):
             with contextlib.redirect_stdout(io.StringIO()) as self.output:
                 return not module.main()
@@ -97,12 +97,27 @@ class TestProve(unittest.TestCase):
             with self.assertRaisesRegex(ValueError, "has other objects"):
                 library.builds_of(archive)
 
+    def test_one_byte_of_what_rust_includes(self):
+        """Each archive is assembled as `./test` does it. The sum of `fill` is recorded of the first one."""
+        text = "".join(path.read_text() for path in FILES["rust_v3"][0])
+        with tempfile.TemporaryDirectory() as folder:
+            for name, old, new in (("same", "", ""), ("other", "0x64, 0x65, 0x66", "0x64, 0x65, 0x67")):
+                file, archive = pathlib.Path(folder, "rust_x86_64_v3.o"), f"{folder}/{name}.a"
+                file.write_bytes(assembled_object(62, text.replace(old, new, 1)))
+                subprocess.run(["ar", "rc", archive, file], check=True)
+                code = library.code_of(archive, "rust_v3")
+                if name == "same":
+                    function = function_of(code, "fill", "rust_v3")
+                    sums.write({("fill", "rust_v3"): self.sums_of(code, function)})
+                passes = self.passes(code, "fill", "--sums", archive=archive, build="rust_v3")
+                self.assertEqual(passes, name == "same")
+
     def test_sum_of_other_code(self):
         obj = code_of("v3").object
         before = sums.sum_of(obj, FUNCTION)
         obj.section_at(obj.symbols["const_hex_encode_v3"]).bytes += b"\x90"
         self.assertEqual(sums.sum_of(obj, FUNCTION), before)
-        [constants] = [section for section in obj.sections if section.name == ".rodata.constant_1"]
+        [constants] = [section for section in obj.sections if section.name == ".rodata.const_hex_constant_1_v3"]
         constants.is_writable = True
         self.assertNotEqual(sums.sum_of(obj, FUNCTION), before)
         constants.is_writable, constants.bytes = False, bytes([constants.bytes[0] ^ 1]) + constants.bytes[1:]

@@ -5,4 +5,4 @@ BASE = "generic64+xsave"
 V2 = f"{BASE}+cx16+popcnt+sse3+ssse3+sse4.1+sse4.2"
 V3 = f"{V2}+avx+avx2+bmi+bmi2+f16c+fma+lzcnt+movbe"
 # For each build the level that the CPU has at least. Any other one is for x86-64-v2.
-LEVELS = {"dispatch": BASE, "v3": V3}
+LEVELS = {"dispatch": BASE, "v3": V3, "rust_v3": V3}

@@ -1,0 +1,77 @@
+//! The kernel for the Rust crate in `rust/`, which takes the machine code of these functions.
+//!
+//! `c/asm/freeze` writes what `rt` makes of `fill`, `check` and `read`. They require that the lengths fit, which
+//! their callers have compared, and which registers hold their arguments is left to the compiler:
+//! `machine_code` proves their code with the arguments where `rust/src/kernel.rs` passes them. Only to the
+//! exported functions, each of which calls one of them, does `rt` compile them at all.
+#![tactic(auto)]
+
+ghost use Rattle.std.specs.Prelude.{◌≡◌, ◌↔◌, ◌*◌, Bool, IsTrue, true, false, length};
+ghost use Rattle.const_hex_arch.specs.Texts.{hex_text, AllDigits, Spells, Partial};
+
+use const_hex_arch::{FixedKernel, Kernel};
+
+/// Fills the text with two digits for each byte, in order.
+#[inline(never)]
+fn fill(bytes: &[u8], text: &mut [u8], upper: bool)
+    requires { length text.old ≡ 2 * length bytes.now }
+    ensures { text.new ≡ hex_text upper bytes.now }
+{
+    FixedKernel::fill(bytes, upper, text);
+}
+
+/// Returns true if every byte of the text is a digit.
+#[inline(never)]
+fn check(text: &[u8]) -> bool
+    ensures { IsTrue result ↔ AllDigits text.now }
+{
+    FixedKernel::check(text)
+}
+
+/// Decodes the text to the bytes and returns true. Returns false if some character is not a digit. Then bytes
+/// before it may already be decoded, and the rest is unchanged.
+#[inline(never)]
+fn read(text: &[u8], bytes: &mut [u8]) -> bool
+    requires { length text.now ≡ 2 * length bytes.old }
+    ensures spells { IsTrue result → Spells text.now bytes.new }
+    ensures refused { result ≡ false → Partial bytes.old text.now bytes.new }
+{
+    FixedKernel::decode_checked(text, bytes)
+}
+
+/// Calls `fill` if the text has two characters for each byte. Returns whether it has.
+#[unsafe(no_mangle)]
+pub extern "C" fn const_hex_rust_fill(bytes: &[u8], text: &mut [u8], upper: bool) -> bool
+    ensures fits { IsTrue result ↔ (2 * length bytes.now ≡ length text.old) }
+    ensures text { IsTrue result → text.new ≡ hex_text upper bytes.now }
+    ensures kept { result ≡ false → text.new ≡ text.old }
+{
+    if text.len() % 2 != 0 || bytes.len() != text.len() / 2 {
+        return false;
+    }
+    fill(bytes, text, upper);
+    true
+}
+
+/// Calls `check`.
+#[unsafe(no_mangle)]
+pub extern "C" fn const_hex_rust_check(text: &[u8]) -> bool
+    ensures { IsTrue result ↔ AllDigits text.now }
+{
+    check(text)
+}
+
+/// Calls `read` if the text has two characters for each byte, and returns false otherwise.
+#[unsafe(no_mangle)]
+pub extern "C" fn const_hex_rust_read(text: &[u8], bytes: &mut [u8]) -> bool
+    ensures fits { IsTrue result → length text.now ≡ 2 * length bytes.old }
+    ensures spells { IsTrue result → Spells text.now bytes.new }
+    ensures refused { result ≡ false → length text.now ≡ 2 * length bytes.old
+        → Partial bytes.old text.now bytes.new }
+    ensures kept { result ≡ false → (length text.now ≡ 2 * length bytes.old → ⊥) → bytes.new ≡ bytes.old }
+{
+    if text.len() % 2 != 0 || bytes.len() != text.len() / 2 {
+        return false;
+    }
+    read(text, bytes)
+}
