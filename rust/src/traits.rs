@@ -1,6 +1,6 @@
 //! Traits of types that are read from hexadecimal text, or written as it.
 
-use crate::proved::codec::encoders;
+use crate::proved::codec::encoders::encode_full_to_slice;
 use crate::FromHexError;
 #[cfg(all(feature = "alloc", target_has_atomic = "ptr"))]
 use alloc::sync::Arc;
@@ -170,25 +170,34 @@ pub trait ToHex {
 impl<B: AsRef<[u8]> + ?Sized> ToHex for B {
     #[inline]
     fn encode_hex<T: FromIterator<char>>(&self) -> T {
-        digits::<false>(self.as_ref()).collect()
+        digits::<false, T>(self.as_ref())
     }
 
     #[inline]
     fn encode_hex_upper<T: FromIterator<char>>(&self) -> T {
-        digits::<true>(self.as_ref()).collect()
+        digits::<true, T>(self.as_ref())
     }
 }
 
-/// Returns the digits of `bytes`, which are encoded 32 bytes at a time. The proved iterator `BytesToHexChars`
-/// looks each digit up in a table.
-#[inline]
-fn digits<const UPPER: bool>(bytes: &[u8]) -> impl Iterator<Item = char> + '_ {
-    bytes.chunks(32).flat_map(|chunk| {
-        let (mut text, length) = ([0; 64], 2 * chunk.len());
-        encoders::encode_full_to_slice(chunk, false, UPPER, &mut text[..length])
-            .expect("the text has two digits per byte");
-        text.into_iter().take(length).map(char::from)
-    })
+/// Collects the digits of bytes, which are encoded 32 bytes at a time. The proved iterator `BytesToHexChars` looks
+/// each digit up in a table.
+// A slice and arrays say how many digits they have, so that a collection allocates once.
+fn digits<const UPPER: bool, T: FromIterator<char>>(bytes: &[u8]) -> T {
+    let text_of = |bytes: &[u8]| {
+        let mut text = [0; 64];
+        encode_full_to_slice(bytes, false, UPPER, &mut text[..2 * bytes.len()])
+            .expect("it has the text's length");
+        text
+    };
+    // A string that sees here that a digit is ASCII need not find out how many bytes it has.
+    let digit = |byte: u8| char::from(byte & 0x7F);
+    let parts = bytes.chunks_exact(32);
+    let rest = text_of(parts.remainder());
+    let rest = rest[..2 * parts.remainder().len()].iter().copied();
+    match bytes.len() {
+        0..=31 => rest.map(digit).collect(),
+        _ => parts.flat_map(text_of).chain(rest).map(digit).collect(),
+    }
 }
 
 /// A value that has a hexadecimal text, as a `String`.

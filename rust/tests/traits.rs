@@ -57,6 +57,22 @@ fn messages() {
     assert_eq!(quote.to_string(), r"invalid character '\'' at position 2");
 }
 
+/// Of each length around the parts in which bytes are encoded.
+#[test]
+fn lengths_of_collections() {
+    for length in 0..=130 {
+        let bytes: Vec<u8> = (0..length)
+            .map(|at: u8| at.wrapping_mul(73) ^ length)
+            .collect();
+        let text: String = bytes.iter().map(|byte| format!("{byte:02x}")).collect();
+        assert_eq!(bytes.encode_hex::<String>(), text);
+        assert_eq!(
+            bytes.encode_hex_upper::<Vec<char>>(),
+            text.to_uppercase().chars().collect::<Vec<_>>()
+        );
+    }
+}
+
 #[test]
 fn collections_of_characters() {
     let bytes: Vec<u8> = (0..100).collect();
