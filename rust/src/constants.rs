@@ -70,23 +70,20 @@ pub const fn bytes_of<const N: usize>(text: &[u8]) -> [u8; N] {
 #[cold]
 #[track_caller]
 const fn panic_at(position: usize) -> ! {
-    let (start, mut message) = (b"invalid character at position ", [b' '; 50]);
-    let (mut index, mut rest) = (0, position);
-    // The digits from the last one on, so that spaces are before the message, and not within it.
-    while index == 0 || rest > 0 {
-        index += 1;
-        message[message.len() - index] = b'0' + (rest % 10) as u8;
+    let mut message = *b"invalid character at position                     ";
+    let (mut end, mut rest) = (31, position / 10);
+    while rest > 0 {
+        (end, rest) = (end + 1, rest / 10);
+    }
+    rest = position;
+    while end > 30 {
+        end -= 1;
+        message[end] = b'0' + (rest % 10) as u8;
         rest /= 10;
     }
-    let end = message.len() - index - start.len();
-    index = 0;
-    while index < start.len() {
-        message[end + index] = start[index];
-        index += 1;
-    }
     let mut message: &[u8] = &message;
-    while let [b' ', rest @ ..] = message {
-        message = rest;
+    while let [start @ .., b' '] = message {
+        message = start;
     }
     match core::str::from_utf8(message) {
         Ok(message) => panic!("{}", message),

@@ -148,13 +148,13 @@ encoders! {
     /// ```
     fn encode_append(output: &mut String) = append(false, false);
 
-    /// Does the same as [`encode_append`], in uppercase.
+    /// Does the same as [`encode_append`] in uppercase.
     fn encode_append_upper(output: &mut String) = append(false, true);
 
-    /// Does the same as [`encode_append`], with `0x` before the digits.
+    /// Does the same as [`encode_append`] with `0x` before the digits.
     fn encode_append_prefixed(output: &mut String) = append(true, false);
 
-    /// Does the same as [`encode_append_upper`], with `0x` before the digits.
+    /// Does the same as [`encode_append_upper`] with `0x` before the digits.
     fn encode_append_upper_prefixed(output: &mut String) = append(true, true);
 }
 
@@ -175,18 +175,10 @@ encoders! {
     /// ```
     fn encode_to_slice(output: &mut [u8]) -> Result<(), FromHexError> = encode_full_to_slice(false, false);
 
-    /// Fills `output` with two uppercase digits per byte. Does not allocate.
-    ///
-    /// # Errors
-    ///
-    /// Returns the errors of [`encode_to_slice`].
+    /// Does the same as [`encode_to_slice`] in uppercase, with the same error.
     fn encode_to_slice_upper(output: &mut [u8]) -> Result<(), FromHexError> = encode_full_to_slice(false, true);
 
-    /// Fills `output` with `0x`, and then two lowercase digits per byte. Does not allocate.
-    ///
-    /// # Errors
-    ///
-    /// Returns the errors of [`encode_to_slice`].
+    /// Does the same as [`encode_to_slice`] with `0x` before the digits, with the same error.
     ///
     /// ```
     /// # use const_hex_proved::encode_to_slice_prefixed;
@@ -197,18 +189,10 @@ encoders! {
     /// ```
     fn encode_to_slice_prefixed(output: &mut [u8]) -> Result<(), FromHexError> = encode_full_to_slice(true, false);
 
-    /// Fills `output` with `0x`, and then two uppercase digits per byte. Does not allocate.
-    ///
-    /// # Errors
-    ///
-    /// Returns the errors of [`encode_to_slice`].
+    /// Does the same as [`encode_to_slice_upper`] with `0x` before the digits, with the same error.
     fn encode_to_slice_upper_prefixed(output: &mut [u8]) -> Result<(), FromHexError> = encode_full_to_slice(true, true);
 
-    /// Does the same as [`encode_to_slice`], and returns the output as a string. Does not allocate.
-    ///
-    /// # Errors
-    ///
-    /// Returns the errors of [`encode_to_slice`].
+    /// Does the same as [`encode_to_slice`], with the same error, and returns the output as a string.
     ///
     /// ```
     /// # use const_hex_proved::encode_to_str;
@@ -218,11 +202,7 @@ encoders! {
     /// ```
     fn encode_to_str(output: &mut [u8]) -> Result<&mut str, FromHexError> = text_in(false, false);
 
-    /// Does the same as [`encode_to_slice_upper`], and returns the output as a string. Does not allocate.
-    ///
-    /// # Errors
-    ///
-    /// Returns the errors of [`encode_to_slice`].
+    /// Does the same as [`encode_to_slice_upper`], with the same error, and returns the output as a string.
     fn encode_to_str_upper(output: &mut [u8]) -> Result<&mut str, FromHexError> = text_in(false, true);
 }
 

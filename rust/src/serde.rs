@@ -30,7 +30,7 @@
 use crate::display::print;
 use crate::proved::text_length;
 use crate::text_in;
-use ::serde::de::{DeserializeSeed, Deserializer, Error, SeqAccess, Visitor};
+use ::serde::de::{Deserialize, Deserializer, Error, Visitor};
 use ::serde::{Serialize, Serializer};
 #[cfg(feature = "alloc")]
 use alloc::vec::Vec;
@@ -55,22 +55,22 @@ macro_rules! serializer {
     };
 }
 
-/// Defines a function that deserializes, by a method of the deserializer and a visitor.
+/// Defines a function that deserializes a type `$type` of any `T` with a trait.
 macro_rules! deserializer {
-    ($from_hex:path => $type:ty = $method:ident($visitor:ident), $doc:expr) => {
+    ($type:ty, $from_hex:path, $deserializer:ident => $body:expr, $doc:expr) => {
         #[doc = $doc]
         ///
         /// # Errors
         ///
         /// Returns the deserializer's error for a value of another kind, and for a text from which the type cannot
         /// be read. In the second case it has the message of the type's error.
-        pub fn deserialize<'de, D, T>(deserializer: D) -> Result<$type, D::Error>
+        pub fn deserialize<'de, D, T>($deserializer: D) -> Result<$type, D::Error>
         where
             D: Deserializer<'de>,
             T: $from_hex,
             T::Error: fmt::Display,
         {
-            deserializer.$method($visitor(|text| T::from_hex(text)))
+            $body
         }
     };
 }
@@ -87,8 +87,20 @@ macro_rules! fields {
             concat!("Serializes bytes as ", $written, "uppercase digits.")
         }
         deserializer! {
-            $from_hex => T = deserialize_str(Text),
+            T, $from_hex, deserializer => deserializer.deserialize_str(Text(|text| T::from_hex(text))),
             concat!("Deserializes a text, ", $read, " a prefix.")
+        }
+
+        /// A value that is read from one text.
+        struct Read<T>(T);
+
+        impl<'de, T: $from_hex> Deserialize<'de> for Read<T>
+        where
+            T::Error: fmt::Display,
+        {
+            fn deserialize<D: Deserializer<'de>>(deserializer: D) -> Result<Self, D::Error> {
+                deserialize(deserializer).map(Read)
+            }
         }
 
         pub mod option {
@@ -103,7 +115,8 @@ macro_rules! fields {
                 concat!("Serializes bytes, if there are any, as ", $written, "lowercase digits.")
             }
             deserializer! {
-                $from_hex => Option<T> = deserialize_option(Optional),
+                Option<T>, $from_hex,
+                deserializer => Option::deserialize(deserializer).map(|read| read.map(|Read(value)| value)),
                 concat!("Deserializes a text, ", $read, " a prefix, or nothing.")
             }
         }
@@ -120,7 +133,8 @@ macro_rules! fields {
                 concat!("Serializes each element as ", $written, "lowercase digits.")
             }
             deserializer! {
-                $from_hex => Vec<T> = deserialize_seq(Texts),
+                Vec<T>, $from_hex,
+                deserializer => Ok(Vec::deserialize(deserializer)?.into_iter().map(|Read(value)| value).collect()),
                 concat!("Deserializes texts, each ", $read, " a prefix. Allocates.")
             }
         }
@@ -188,26 +202,8 @@ impl<const UPPER: bool, const PREFIX: bool> fmt::Display for Digits<'_, UPPER, P
     }
 }
 
-/// How a text is read.
-type Read<T, E> = fn(&[u8]) -> Result<T, E>;
-
-/// Reads a text.
-struct Text<T, E>(Read<T, E>);
-
-/// Reads a text or nothing.
-struct Optional<T, E>(Read<T, E>);
-
-/// Reads texts.
-#[cfg(feature = "alloc")]
-struct Texts<T, E>(Read<T, E>);
-
-impl<'de, T, E: fmt::Display> DeserializeSeed<'de> for Text<T, E> {
-    type Value = T;
-
-    fn deserialize<D: Deserializer<'de>>(self, deserializer: D) -> Result<T, D::Error> {
-        deserializer.deserialize_str(self)
-    }
-}
+/// Reads a text by a function.
+struct Text<T, E>(fn(&[u8]) -> Result<T, E>);
 
 impl<T, E: fmt::Display> Visitor<'_> for Text<T, E> {
     type Value = T;
@@ -222,42 +218,5 @@ impl<T, E: fmt::Display> Visitor<'_> for Text<T, E> {
 
     fn visit_bytes<M: Error>(self, text: &[u8]) -> Result<T, M> {
         (self.0)(text).map_err(M::custom)
-    }
-}
-
-impl<'de, T, E: fmt::Display> Visitor<'de> for Optional<T, E> {
-    type Value = Option<T>;
-
-    fn expecting(&self, f: &mut fmt::Formatter<'_>) -> fmt::Result {
-        f.write_str("a hex encoded string or nothing")
-    }
-
-    fn visit_none<M>(self) -> Result<Option<T>, M> {
-        Ok(None)
-    }
-
-    fn visit_unit<M>(self) -> Result<Option<T>, M> {
-        Ok(None)
-    }
-
-    fn visit_some<D: Deserializer<'de>>(self, deserializer: D) -> Result<Option<T>, D::Error> {
-        Text(self.0).deserialize(deserializer).map(Some)
-    }
-}
-
-#[cfg(feature = "alloc")]
-impl<'de, T, E: fmt::Display> Visitor<'de> for Texts<T, E> {
-    type Value = Vec<T>;
-
-    fn expecting(&self, f: &mut fmt::Formatter<'_>) -> fmt::Result {
-        f.write_str("hex encoded strings")
-    }
-
-    fn visit_seq<A: SeqAccess<'de>>(self, mut texts: A) -> Result<Vec<T>, A::Error> {
-        let mut all = Vec::new();
-        while let Some(one) = texts.next_element_seed(Text(self.0))? {
-            all.push(one);
-        }
-        Ok(all)
     }
 }

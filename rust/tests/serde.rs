@@ -138,7 +138,7 @@ fn errors_in_options_and_vectors() {
         ),
         (
             r#""vec":"6b""#,
-            r#"invalid type: string "6b", expected hex encoded strings"#,
+            r#"invalid type: string "6b", expected a sequence"#,
         ),
         (r#""strict":"0x6b""#, "invalid character 'x' at position 1"),
         (
