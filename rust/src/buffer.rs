@@ -9,7 +9,8 @@ use core::{fmt, str};
 /// An array with the text of `N` bytes. If `PREFIX` is true, the text begins with `0x`.
 ///
 /// A new buffer has the prefix, if any, and NUL characters in place of the digits. Each method that formats
-/// writes the whole text, prefix included. No method allocates unless it says so.
+/// writes the whole text, prefix included. No method allocates unless it says so. Buffers are equal if their texts
+/// are; the comparison is not constant-time.
 ///
 /// ```
 /// # use const_hex_proved::Buffer;
@@ -23,7 +24,7 @@ use core::{fmt, str};
 // `as_ptr` relies on the order of the fields, and that nothing lies between them. The text is always UTF-8.
 #[must_use]
 #[repr(C)]
-#[derive(Clone)]
+#[derive(Clone, Copy, PartialEq, Eq)]
 pub struct Buffer<const N: usize, const PREFIX: bool = false> {
     /// Not in the text if `PREFIX` is false.
     prefix: [u8; 2],
@@ -148,7 +149,8 @@ impl<const N: usize, const PREFIX: bool> Buffer<N, PREFIX> {
     /// assert_eq!(text, "6b697769");
     /// ```
     #[cfg(feature = "alloc")]
-    #[allow(clippy::inherent_to_string)]
+    // Not the one of `ToString`, which formats, and is not there without an import in a crate without `std`.
+    #[allow(clippy::inherent_to_string_shadow_display)]
     #[inline]
     #[must_use]
     pub fn to_string(&self) -> String {
@@ -308,6 +310,13 @@ impl<const N: usize, const PREFIX: bool> Default for Buffer<N, PREFIX> {
     }
 }
 
+/// Prints the text, with the width and the fill of the formatter.
+impl<const N: usize, const PREFIX: bool> fmt::Display for Buffer<N, PREFIX> {
+    fn fmt(&self, f: &mut fmt::Formatter<'_>) -> fmt::Result {
+        f.pad(self.as_str())
+    }
+}
+
 impl<const N: usize, const PREFIX: bool> fmt::Debug for Buffer<N, PREFIX> {
     fn fmt(&self, f: &mut fmt::Formatter<'_>) -> fmt::Result {
         f.debug_tuple("Buffer").field(&self.as_str()).finish()
@@ -318,5 +327,12 @@ impl<const N: usize, const PREFIX: bool> AsRef<str> for Buffer<N, PREFIX> {
     #[inline]
     fn as_ref(&self) -> &str {
         self.as_str()
+    }
+}
+
+impl<const N: usize, const PREFIX: bool> AsRef<[u8]> for Buffer<N, PREFIX> {
+    #[inline]
+    fn as_ref(&self) -> &[u8] {
+        self.as_bytes()
     }
 }

@@ -61,6 +61,21 @@ impl Decoder {
         self.0.decode(chunk.as_ref(), output)
     }
 
+    /// Returns how many bytes of text were read, prefix included, or `usize::MAX` if they were more. After an invalid
+    /// character, returns its position.
+    ///
+    /// ```
+    /// # use const_hex_proved::Decoder;
+    /// let mut decoder = Decoder::new();
+    /// assert_eq!(decoder.decode("0x6b6", &mut [0; 3]), Ok(1));
+    /// assert_eq!(decoder.position(), 5);
+    /// ```
+    #[inline]
+    #[must_use]
+    pub fn position(&self) -> usize {
+        self.0.position()
+    }
+
     /// Finishes decoding. Returns `Ok` if the chunks together form a complete text, whose bytes have then all
     /// been written.
     ///
@@ -81,11 +96,11 @@ impl Decoder {
     }
 }
 
-/// Shows the number of characters that were read, or the position of the invalid one, and no digit.
+/// Shows the [`position`](Decoder::position), and no digit.
 impl fmt::Debug for Decoder {
     fn fmt(&self, f: &mut fmt::Formatter<'_>) -> fmt::Result {
         f.debug_struct("Decoder")
-            .field("position", &self.0.position())
+            .field("position", &self.position())
             .finish_non_exhaustive()
     }
 }

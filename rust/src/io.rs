@@ -40,6 +40,16 @@ impl<R: Read> DecodeReader<R> {
         }
     }
 
+    /// Returns the other reader. More of its text may have been read than was decoded.
+    pub fn get_ref(&self) -> &R {
+        self.text.get_ref()
+    }
+
+    /// Returns the other reader. What was read of its text and is not decoded is lost.
+    pub fn into_inner(self) -> R {
+        self.text.into_inner()
+    }
+
     /// Decodes what is left in the buffer, after reading more if nothing is. Returns the number of bytes,
     /// and sets `end` if there are no more.
     fn decode_next(&mut self, output: &mut [u8]) -> Result<usize> {
@@ -107,6 +117,18 @@ impl<W: Write> EncodeWriter<W> {
             // A text that is shorter than the buffer is taken whole or not at all.
             text: BufWriter::with_capacity(16 * CHUNK, writer),
         }
+    }
+
+    /// Returns the other writer. Some of the text may wait in the buffer.
+    pub fn get_ref(&self) -> &W {
+        self.text.get_ref()
+    }
+
+    /// Returns the other writer, and drops the text that waits in the buffer. To write it, use [`finish`].
+    ///
+    /// [`finish`]: EncodeWriter::finish
+    pub fn into_inner(self) -> W {
+        self.text.into_parts().0
     }
 
     /// Writes what is in the buffer, flushes the other writer, and returns it.

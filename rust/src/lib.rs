@@ -13,8 +13,9 @@
 //! const KIWI: [u8; 4] = const_hex_proved::bytes_of(b"0x6b697769");
 //! ```
 //!
-//! A text may begin with one prefix, `0x` or `0X`, except for [`check_raw`] and [`const_check_raw`]. Errors
-//! are checked in this order: an odd length, a length that does not match the output, an invalid character.
+//! A text may begin with one prefix, `0x` or `0X`, except for [`check_raw`], [`const_check_raw`] and the module
+//! [`strict`]. Errors are checked in this order: an odd length, a length that does not match the output, an invalid
+//! character.
 //!
 //! # Features
 //!
@@ -56,6 +57,7 @@ mod proved;
 mod rattle;
 #[cfg(feature = "serde")]
 pub mod serde;
+pub mod strict;
 pub mod traits;
 
 /// The functions for C, which `capi` exports. This module is no part of the interface: any release may change it.
@@ -68,7 +70,7 @@ pub mod c {
 
 pub use crate::buffer::Buffer;
 pub use crate::constants::{
-    bytes_of, const_check, const_check_raw, const_decode_to_array, const_encode,
+    bytes_of, const_check, const_check_raw, const_decode_to_array, const_encode, decoded_length,
 };
 pub use crate::decoder::Decoder;
 pub use crate::display::display;
@@ -83,121 +85,150 @@ pub use crate::serde::{deserialize, serialize, serialize_upper};
 pub use crate::traits::ToHexExt;
 pub use crate::traits::{FromHex, ToHex};
 
-use crate::proved::codec::{checks, decoders, encoders};
+use crate::proved::codec::encoders::encode_full_to_slice;
+use crate::proved::codec::{checks, decoders};
 #[cfg(feature = "alloc")]
-use crate::proved::FixedKernel;
-#[cfg(feature = "alloc")]
-use crate::rattle::alloc::{allocated, Global};
+use crate::{
+    proved::{codec::encoders, text_length, FixedKernel},
+    rattle::alloc::{allocated, Global},
+};
 #[cfg(feature = "alloc")]
 use alloc::{string::String, vec::Vec};
 
-/// Returns two lowercase digits per byte, in order. Allocates.
-///
-/// ```
-/// # use const_hex_proved::encode;
-/// assert_eq!(encode([1, 2, 254, 255]), "0102feff");
-/// ```
+/// Defines functions that encode: the signature without the bytes, and what they call, with whether there is a prefix
+/// and whether the digits are in uppercase.
+macro_rules! encoders {
+    ($(
+        $(#[$attribute:meta])+
+        fn $name:ident($($output:ident: $type:ty)?) $(-> $result:ty)? = $call:ident($prefix:literal, $upper:literal);
+    )+) => {$(
+        $(#[$attribute])+
+        #[inline]
+        pub fn $name<T: AsRef<[u8]>>(data: T $(, $output: $type)?) $(-> $result)? {
+            $call(data.as_ref(), $prefix, $upper $(, $output)?)
+        }
+    )+};
+}
+
 #[cfg(feature = "alloc")]
-#[inline]
-#[must_use]
-pub fn encode<T: AsRef<[u8]>>(data: T) -> String {
-    let text = encoders::encode_with::<FixedKernel, false>(Global, data.as_ref());
+encoders! {
+    /// Returns two lowercase digits per byte, in order. Allocates.
+    ///
+    /// ```
+    /// # use const_hex_proved::encode;
+    /// assert_eq!(encode([1, 2, 254, 255]), "0102feff");
+    /// ```
+    #[must_use]
+    fn encode() -> String = owned(false, false);
+
+    /// Returns two uppercase digits per byte, in order. Allocates.
+    #[must_use]
+    fn encode_upper() -> String = owned(false, true);
+
+    /// Returns `0x`, and then two lowercase digits per byte. Allocates.
+    ///
+    /// ```
+    /// # use const_hex_proved::encode_prefixed;
+    /// assert_eq!(encode_prefixed([254, 255]), "0xfeff");
+    /// ```
+    #[must_use]
+    fn encode_prefixed() -> String = owned(true, false);
+
+    /// Returns `0x`, and then two uppercase digits per byte. Allocates.
+    #[must_use]
+    fn encode_upper_prefixed() -> String = owned(true, true);
+
+    /// Appends two lowercase digits per byte to a string. Allocates only if the string has too little capacity.
+    ///
+    /// ```
+    /// # use const_hex_proved::encode_append;
+    /// let mut text = String::from("kiwi = ");
+    /// encode_append("kiwi", &mut text);
+    /// assert_eq!(text, "kiwi = 6b697769");
+    /// ```
+    fn encode_append(output: &mut String) = append(false, false);
+
+    /// Does the same as [`encode_append`] in uppercase.
+    fn encode_append_upper(output: &mut String) = append(false, true);
+
+    /// Does the same as [`encode_append`] with `0x` before the digits.
+    fn encode_append_prefixed(output: &mut String) = append(true, false);
+
+    /// Does the same as [`encode_append_upper`] with `0x` before the digits.
+    fn encode_append_upper_prefixed(output: &mut String) = append(true, true);
+}
+
+encoders! {
+    /// Fills `output` with two lowercase digits per byte. Does not allocate.
+    ///
+    /// # Errors
+    ///
+    /// Returns [`FromHexError::InvalidStringLength`], and leaves `output` unchanged, unless it has the length of
+    /// the text.
+    ///
+    /// ```
+    /// # use const_hex_proved::encode_to_slice;
+    /// let mut text = [0; 8];
+    /// encode_to_slice("kiwi", &mut text)?;
+    /// assert_eq!(&text, b"6b697769");
+    /// # Ok::<(), const_hex_proved::FromHexError>(())
+    /// ```
+    fn encode_to_slice(output: &mut [u8]) -> Result<(), FromHexError> = encode_full_to_slice(false, false);
+
+    /// Does the same as [`encode_to_slice`] in uppercase, with the same error.
+    fn encode_to_slice_upper(output: &mut [u8]) -> Result<(), FromHexError> = encode_full_to_slice(false, true);
+
+    /// Does the same as [`encode_to_slice`] with `0x` before the digits, with the same error.
+    ///
+    /// ```
+    /// # use const_hex_proved::encode_to_slice_prefixed;
+    /// let mut text = [0; 10];
+    /// encode_to_slice_prefixed("kiwi", &mut text)?;
+    /// assert_eq!(&text, b"0x6b697769");
+    /// # Ok::<(), const_hex_proved::FromHexError>(())
+    /// ```
+    fn encode_to_slice_prefixed(output: &mut [u8]) -> Result<(), FromHexError> = encode_full_to_slice(true, false);
+
+    /// Does the same as [`encode_to_slice_upper`] with `0x` before the digits, with the same error.
+    fn encode_to_slice_upper_prefixed(output: &mut [u8]) -> Result<(), FromHexError> = encode_full_to_slice(true, true);
+
+    /// Does the same as [`encode_to_slice`], with the same error, and returns the output as a string.
+    ///
+    /// ```
+    /// # use const_hex_proved::encode_to_str;
+    /// let mut text = [0; 8];
+    /// assert_eq!(encode_to_str("kiwi", &mut text)?, "6b697769");
+    /// # Ok::<(), const_hex_proved::FromHexError>(())
+    /// ```
+    fn encode_to_str(output: &mut [u8]) -> Result<&mut str, FromHexError> = text_in(false, false);
+
+    /// Does the same as [`encode_to_slice_upper`], with the same error, and returns the output as a string.
+    fn encode_to_str_upper(output: &mut [u8]) -> Result<&mut str, FromHexError> = text_in(false, true);
+}
+
+/// Returns the text of bytes.
+#[cfg(feature = "alloc")]
+#[inline(always)]
+fn owned(data: &[u8], prefix: bool, upper: bool) -> String {
+    let text = match (prefix, upper) {
+        (false, false) => encoders::encode_with::<FixedKernel, false>(Global, data),
+        (false, true) => encoders::encode_with::<FixedKernel, true>(Global, data),
+        (true, false) => encoders::encode_prefixed(Global, data),
+        (true, true) => encoders::encode_upper_prefixed(Global, data),
+    };
     allocated(text).0
 }
 
-/// Returns two uppercase digits per byte, in order. Allocates.
+/// Appends the text of bytes to a string.
 #[cfg(feature = "alloc")]
-#[inline]
-#[must_use]
-pub fn encode_upper<T: AsRef<[u8]>>(data: T) -> String {
-    let text = encoders::encode_with::<FixedKernel, true>(Global, data.as_ref());
-    allocated(text).0
-}
-
-/// Returns `0x`, and then two lowercase digits per byte. Allocates.
-///
-/// ```
-/// # use const_hex_proved::encode_prefixed;
-/// assert_eq!(encode_prefixed([254, 255]), "0xfeff");
-/// ```
-#[cfg(feature = "alloc")]
-#[inline]
-#[must_use]
-pub fn encode_prefixed<T: AsRef<[u8]>>(data: T) -> String {
-    allocated(encoders::encode_prefixed(Global, data.as_ref())).0
-}
-
-/// Returns `0x`, and then two uppercase digits per byte. Allocates.
-#[cfg(feature = "alloc")]
-#[inline]
-#[must_use]
-pub fn encode_upper_prefixed<T: AsRef<[u8]>>(data: T) -> String {
-    allocated(encoders::encode_upper_prefixed(Global, data.as_ref())).0
-}
-
-/// Fills `output` with two lowercase digits per byte. Does not allocate.
-///
-/// # Errors
-///
-/// Returns [`FromHexError::InvalidStringLength`], and leaves `output` unchanged, unless it has twice the
-/// length of `input`.
-///
-/// ```
-/// # use const_hex_proved::encode_to_slice;
-/// let mut text = [0; 8];
-/// encode_to_slice("kiwi", &mut text)?;
-/// assert_eq!(&text, b"6b697769");
-/// # Ok::<(), const_hex_proved::FromHexError>(())
-/// ```
-#[inline]
-pub fn encode_to_slice<T: AsRef<[u8]>>(input: T, output: &mut [u8]) -> Result<(), FromHexError> {
-    encoders::encode_to_slice(input.as_ref(), output)
-}
-
-/// Fills `output` with two uppercase digits per byte. Does not allocate.
-///
-/// # Errors
-///
-/// Returns the errors of [`encode_to_slice`].
-#[inline]
-pub fn encode_to_slice_upper<T: AsRef<[u8]>>(
-    input: T,
-    output: &mut [u8],
-) -> Result<(), FromHexError> {
-    encoders::encode_to_slice_upper(input.as_ref(), output)
-}
-
-/// Does the same as [`encode_to_slice`], and returns the output as a string. Does not allocate.
-///
-/// # Errors
-///
-/// Returns the errors of [`encode_to_slice`].
-///
-/// ```
-/// # use const_hex_proved::encode_to_str;
-/// let mut text = [0; 8];
-/// assert_eq!(encode_to_str("kiwi", &mut text)?, "6b697769");
-/// # Ok::<(), const_hex_proved::FromHexError>(())
-/// ```
-#[inline]
-pub fn encode_to_str<T: AsRef<[u8]>>(
-    input: T,
-    output: &mut [u8],
-) -> Result<&mut str, FromHexError> {
-    text_in(output, input.as_ref(), false, false)
-}
-
-/// Does the same as [`encode_to_slice_upper`], and returns the output as a string. Does not allocate.
-///
-/// # Errors
-///
-/// Returns the errors of [`encode_to_slice`].
-#[inline]
-pub fn encode_to_str_upper<T: AsRef<[u8]>>(
-    input: T,
-    output: &mut [u8],
-) -> Result<&mut str, FromHexError> {
-    text_in(output, input.as_ref(), false, true)
+#[allow(unsafe_code)]
+fn append(data: &[u8], prefix: bool, upper: bool, output: &mut String) {
+    // SAFETY: NUL characters are appended, and then the encoder, of which this is proved, writes ASCII over them.
+    let bytes = unsafe { output.as_mut_vec() };
+    let start = bytes.len();
+    bytes.resize(start.saturating_add(text_length(prefix, data.len())), 0);
+    encode_full_to_slice(data, prefix, upper, &mut bytes[start..])
+        .expect("it has the text's length");
 }
 
 /// Fills `output` with the text of bytes, and returns it as a string, which the proved functions cannot: Rattle
@@ -205,12 +236,12 @@ pub fn encode_to_str_upper<T: AsRef<[u8]>>(
 #[allow(unsafe_code)]
 #[inline]
 fn text_in<'a>(
-    output: &'a mut [u8],
-    input: &[u8],
+    data: &[u8],
     prefix: bool,
     upper: bool,
+    output: &'a mut [u8],
 ) -> Result<&'a mut str, FromHexError> {
-    encoders::encode_full_to_slice(input, prefix, upper, output)?;
+    encode_full_to_slice(data, prefix, upper, output)?;
     debug_assert!(output.is_ascii());
     // SAFETY: the encoder has filled the output, and it is proved that what it writes is ASCII.
     Ok(unsafe { core::str::from_utf8_unchecked_mut(output) })
@@ -252,6 +283,47 @@ pub fn decode<T: AsRef<[u8]>>(data: T) -> Result<Vec<u8>, FromHexError> {
 #[inline]
 pub fn decode_to_slice<T: AsRef<[u8]>>(data: T, out: &mut [u8]) -> Result<(), FromHexError> {
     decoders::decode_to_slice(data.as_ref(), out)
+}
+
+/// Writes the bytes that a text decodes to to the front of `out`, and returns their number. The rest of `out` is
+/// unchanged. Does not allocate.
+///
+/// # Errors
+///
+/// Returns the errors of [`decode_to_slice`], but [`FromHexError::InvalidStringLength`] only if the text has more
+/// than two digits for each byte of `out`.
+///
+/// ```
+/// # use const_hex_proved::decode_to_front;
+/// let mut bytes = *b"pineapple";
+/// assert_eq!(decode_to_front("0x6b697769", &mut bytes), Ok(4));
+/// assert_eq!(&bytes, b"kiwiapple");
+/// ```
+#[inline]
+pub fn decode_to_front<T: AsRef<[u8]>>(data: T, out: &mut [u8]) -> Result<usize, FromHexError> {
+    decoders::decode_to_front(data.as_ref(), out)
+}
+
+/// Appends the bytes that a text decodes to to a vector, and returns their number. Allocates only if the vector has
+/// too little capacity.
+///
+/// # Errors
+///
+/// Returns the errors of [`decode`]. The vector has the same bytes as before then.
+///
+/// ```
+/// # use const_hex_proved::decode_append;
+/// let mut bytes = b"kiwi".to_vec();
+/// assert_eq!(decode_append("70656172", &mut bytes), Ok(4));
+/// assert_eq!(bytes, b"kiwipear");
+/// ```
+#[cfg(feature = "alloc")]
+pub fn decode_append<T: AsRef<[u8]>>(data: T, output: &mut Vec<u8>) -> Result<usize, FromHexError> {
+    let (text, start) = (data.as_ref(), output.len());
+    output.resize(start.saturating_add(text.len() / 2), 0);
+    let count = decoders::decode_to_front(text, &mut output[start..]);
+    output.truncate(start + count.unwrap_or(0));
+    count
 }
 
 /// Returns the `N` bytes that a text decodes to. Does not allocate.

@@ -1,13 +1,13 @@
 //! Traits of types that are read from hexadecimal text, or written as it.
 
-use crate::proved::codec::{decoders, encoders};
+use crate::proved::codec::encoders::encode_full_to_slice;
 use crate::FromHexError;
 #[cfg(all(feature = "alloc", target_has_atomic = "ptr"))]
 use alloc::sync::Arc;
 #[cfg(feature = "alloc")]
 use alloc::{borrow::Cow, borrow::ToOwned, boxed::Box, rc::Rc, string::String, vec::Vec};
 
-/// Defines the trait `FromHex` and its impls.
+/// Defines the trait `FromHex` and its impls, over the functions of the module `codec`.
 macro_rules! from_hex {
     ($(#[$doc:meta])*) => {
         $(#[$doc])*
@@ -15,7 +15,7 @@ macro_rules! from_hex {
             /// Why a text cannot be read.
             type Error;
 
-            /// Returns the value that a text decodes to, with or without a prefix.
+            /// Returns the value that a text decodes to.
             ///
             /// # Errors
             ///
@@ -29,7 +29,7 @@ macro_rules! from_hex {
 
             #[inline]
             fn from_hex<T: AsRef<[u8]>>(hex: T) -> Result<Self, FromHexError> {
-                decoders::decode_to_array(hex.as_ref())
+                codec::decode_to_array(hex)
             }
         }
 
@@ -39,7 +39,7 @@ macro_rules! from_hex {
 
             #[inline]
             fn from_hex<T: AsRef<[u8]>>(hex: T) -> Result<Self, FromHexError> {
-                crate::decode(hex)
+                codec::decode(hex)
             }
         }
 
@@ -78,9 +78,11 @@ pub use unsigned::FromHex;
 
 mod unsigned {
     use super::*;
+    use crate as codec;
 
     from_hex! {
-        /// A type that is read from hexadecimal text: bytes in arrays, vectors and boxes, and their holders.
+        /// A type that is read from hexadecimal text, with or without a prefix: bytes in arrays, vectors and boxes,
+        /// and their holders.
         ///
         /// ```
         /// # use const_hex_proved::FromHex;
@@ -89,15 +91,32 @@ mod unsigned {
     }
 }
 
+pub(crate) mod strict {
+    use super::*;
+    use crate::strict as codec;
+
+    from_hex! {
+        /// A type that is read from hexadecimal text without a prefix: bytes in arrays, vectors and boxes, and their
+        /// holders.
+        ///
+        /// ```
+        /// # use const_hex_proved::strict::FromHex;
+        /// assert_eq!(<[u8; 4]>::from_hex("6B697769"), Ok(*b"kiwi"));
+        /// assert!(<[u8; 4]>::from_hex("0x6B697769").is_err());
+        /// ```
+    }
+}
+
 /// The trait [`FromHex`](signed::FromHex) of the crate `const-hex`.
 pub mod signed {
     use super::*;
+    use crate as codec;
 
     // Numbers by a cast, which keeps the bits, and not by the proved loop over a slice of them: a vector would
     // be filled twice.
     from_hex! {
-        /// A type that is read from hexadecimal text: bytes or numbers of type `i8` in arrays, vectors and
-        /// boxes, and their holders. As an `i8`, a byte from 128 on is negative.
+        /// A type that is read from hexadecimal text, with or without a prefix: bytes or numbers of type `i8` in
+        /// arrays, vectors and boxes, and their holders. As an `i8`, a byte from 128 on is negative.
         ///
         /// `Vec::from_hex` cannot tell which vector is meant, so it has to say `Vec::<u8>::from_hex`.
         ///
@@ -134,7 +153,7 @@ pub mod signed {
 
 /// A value that has a hexadecimal text.
 ///
-/// Every sized type with `AsRef<[u8]>` has this trait: `&str`, `String`, `&[u8]`, `Vec<u8>`, arrays of bytes.
+/// Every type with `AsRef<[u8]>` has this trait: `str`, `String`, `[u8]`, `Vec<u8>`, arrays of bytes.
 ///
 /// ```
 /// # use const_hex_proved::ToHex;
@@ -148,33 +167,42 @@ pub trait ToHex {
     fn encode_hex_upper<T: FromIterator<char>>(&self) -> T;
 }
 
-impl<B: AsRef<[u8]>> ToHex for B {
+impl<B: AsRef<[u8]> + ?Sized> ToHex for B {
     #[inline]
     fn encode_hex<T: FromIterator<char>>(&self) -> T {
-        digits::<false>(self.as_ref()).collect()
+        digits::<false, T>(self.as_ref())
     }
 
     #[inline]
     fn encode_hex_upper<T: FromIterator<char>>(&self) -> T {
-        digits::<true>(self.as_ref()).collect()
+        digits::<true, T>(self.as_ref())
     }
 }
 
-/// Returns the digits of `bytes`, which are encoded 32 bytes at a time. The proved iterator `BytesToHexChars`
-/// looks each digit up in a table.
-#[inline]
-fn digits<const UPPER: bool>(bytes: &[u8]) -> impl Iterator<Item = char> + '_ {
-    bytes.chunks(32).flat_map(|chunk| {
-        let (mut text, length) = ([0; 64], 2 * chunk.len());
-        encoders::encode_full_to_slice(chunk, false, UPPER, &mut text[..length])
-            .expect("the text has two digits per byte");
-        text.into_iter().take(length).map(char::from)
-    })
+/// Collects the digits of bytes, which are encoded 32 bytes at a time. The proved iterator `BytesToHexChars` looks
+/// each digit up in a table.
+// A slice and arrays say how many digits they have, so that a collection allocates once.
+fn digits<const UPPER: bool, T: FromIterator<char>>(bytes: &[u8]) -> T {
+    let text_of = |bytes: &[u8]| {
+        let mut text = [0; 64];
+        encode_full_to_slice(bytes, false, UPPER, &mut text[..2 * bytes.len()])
+            .expect("it has the text's length");
+        text
+    };
+    // A string that sees here that a digit is ASCII need not find out how many bytes it has.
+    let digit = |byte: u8| char::from(byte & 0x7F);
+    let parts = bytes.chunks_exact(32);
+    let rest = text_of(parts.remainder());
+    let rest = rest[..2 * parts.remainder().len()].iter().copied();
+    match bytes.len() {
+        0..=31 => rest.map(digit).collect(),
+        _ => parts.flat_map(text_of).chain(rest).map(digit).collect(),
+    }
 }
 
 /// A value that has a hexadecimal text, as a `String`.
 ///
-/// Every sized type with `AsRef<[u8]>` has this trait: `&str`, `String`, `&[u8]`, `Vec<u8>`, arrays of bytes.
+/// Every type with `AsRef<[u8]>` has this trait: `str`, `String`, `[u8]`, `Vec<u8>`, arrays of bytes.
 /// Each method allocates.
 ///
 /// ```
@@ -200,7 +228,7 @@ pub trait ToHexExt {
 }
 
 #[cfg(feature = "alloc")]
-impl<T: AsRef<[u8]>> ToHexExt for T {
+impl<T: AsRef<[u8]> + ?Sized> ToHexExt for T {
     #[inline]
     fn encode_hex(&self) -> String {
         crate::encode(self)

@@ -1,5 +1,5 @@
 //! The same inputs to this package and to the crate `hex`. Every result is equal but for what the README
-//! of the package `hex` lists.
+//! of the package `hex` lists, and for prefixes, which the module `strict` alone rejects.
 #![cfg(feature = "alloc")]
 
 use const_hex_proved as proved;
@@ -60,7 +60,15 @@ fn by_hex<'a, T>(
     call: impl FnOnce(&'a [u8]) -> Result<T, hex::FromHexError>,
 ) -> Result<T, proved::FromHexError> {
     let prefix = 2 * usize::from(text.starts_with(b"0x") || text.starts_with(b"0X"));
-    call(&text[prefix..]).map_err(|error| match error {
+    in_text(prefix, call(&text[prefix..]))
+}
+
+/// A result of `hex` for what follows so many bytes of a text.
+fn in_text<T>(
+    prefix: usize,
+    result: Result<T, hex::FromHexError>,
+) -> Result<T, proved::FromHexError> {
+    result.map_err(|error| match error {
         hex::FromHexError::OddLength => OddLength,
         hex::FromHexError::InvalidStringLength => InvalidStringLength,
         hex::FromHexError::InvalidHexCharacter { c, index } => InvalidHexCharacter {
@@ -114,6 +122,32 @@ fn decoding() {
             let wanted = by_hex(&text, |text| hex::decode_to_slice(text, &mut theirs));
             assert_eq!(decoded, wanted);
             // After an invalid character each leaves what it has decoded so far.
+            if !matches!(decoded, Err(InvalidHexCharacter { .. })) {
+                assert_eq!(ours, theirs);
+            }
+        }
+    }
+}
+
+#[test]
+fn strict_decoding() {
+    use proved::strict;
+
+    let mut random = Random(88172645463325252);
+    for _ in 0..20_000 {
+        let text = random.text();
+        let bytes = in_text(0, hex::decode(&text));
+        assert_eq!(strict::decode(&text), bytes);
+        assert_eq!(strict::FromHex::from_hex(&text), bytes);
+        assert_eq!(strict::check(&text), bytes.map(drop));
+        let array = in_text(0, <[u8; 4] as hex::FromHex>::from_hex(&text));
+        assert_eq!(strict::decode_to_array(&text), array);
+        assert_eq!(strict::FromHex::from_hex(&text), array);
+        for length in [text.len() / 2, text.len().saturating_sub(2) / 2] {
+            let (mut ours, mut theirs) = (vec![0xEE; length], vec![0xEE; length]);
+            let decoded = strict::decode_to_slice(&text, &mut ours);
+            let wanted = in_text(0, hex::decode_to_slice(&text, &mut theirs));
+            assert_eq!(decoded, wanted);
             if !matches!(decoded, Err(InvalidHexCharacter { .. })) {
                 assert_eq!(ours, theirs);
             }

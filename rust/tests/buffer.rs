@@ -13,7 +13,7 @@ fn a_prefix_is_written_anew() {
     assert_eq!(buffer.format(&[0xAB]), "0xab");
     buffer.as_mut_str().make_ascii_uppercase();
     assert_eq!(buffer.as_str(), "0XAB");
-    assert_eq!(buffer.clone().const_format(&[0xCD]).as_str(), "0xcd");
+    assert_eq!(buffer.const_format(&[0xCD]).as_str(), "0xcd");
     assert_eq!(buffer.format_slice([0xEF]), "0xef");
 }
 
@@ -40,6 +40,25 @@ fn views() {
     assert_eq!(format!("{buffer:?}"), r#"Buffer("123F80FF")"#);
     assert_eq!(Buffer::<0, true>::new().as_str(), "0x");
     assert_eq!(Buffer::<0>::new().as_bytes(), b"");
+}
+
+#[test]
+fn standard_traits() {
+    let mut buffer = Buffer::<2, true>::new().const_format(&[0xAB, 0xCD]);
+    let (lower, text) = (buffer, "0xabcd");
+    assert_eq!(AsRef::<[u8]>::as_ref(&buffer), text.as_bytes());
+    assert_eq!(
+        format!("{buffer}|{buffer:>8}|{buffer:-<7}"),
+        "0xabcd|  0xabcd|0xabcd-"
+    );
+    assert_eq!(buffer, lower);
+    // Each character counts, that of the prefix too.
+    for position in 1..text.len() {
+        buffer.as_mut_str()[position..=position].make_ascii_uppercase();
+        assert_ne!(buffer, lower, "{position}");
+        buffer = lower;
+    }
+    assert_eq!(Buffer::<2>::new().format(&[1, 2]), "0102");
 }
 
 /// A slice of another length panics, and leaves the buffer as it was.

@@ -2,8 +2,8 @@
 
 use const_hex_proved::{
     bytes_of, check, check_raw, const_check, const_check_raw, const_decode_to_array, const_encode,
-    decode_to_array, encode_to_str, encode_to_str_upper, Buffer, FromHexError, HEX_CHARS_LOWER,
-    HEX_CHARS_UPPER, HEX_DECODE_LUT, NIL,
+    decode_to_array, encode_to_str, encode_to_str_upper, hex, Buffer, FromHexError,
+    HEX_CHARS_LOWER, HEX_CHARS_UPPER, HEX_DECODE_LUT, NIL,
 };
 
 macro_rules! same_array {
@@ -94,10 +94,34 @@ fn in_constants() {
     assert_eq!(UPPER.as_str(), "ABCD");
 }
 
+/// The length is that of the text.
+#[test]
+fn in_a_macro() {
+    const FRUIT: &str = "0X6B697769";
+    const BYTES: [u8; 4] = hex!(FRUIT);
+    static PARTS: [&[u8]; 3] = [&hex!(""), &hex!("0x"), &hex!(concat!("6b", "69"))];
+    assert_eq!((&BYTES, PARTS), (b"kiwi", [b"" as &[u8], b"", b"ki"]));
+}
+
+/// What the compiler says of a constant is the message of the panic.
 #[cfg(panic = "unwind")]
 #[test]
 fn bytes_of_an_invalid_text() {
-    for text in ["6b6", "6b", "6b697769", "zzzz"] {
-        assert!(std::panic::catch_unwind(|| bytes_of::<2>(text.as_bytes())).is_err());
+    fn message<const N: usize>(text: &[u8]) -> String {
+        let panic = std::panic::catch_unwind(|| bytes_of::<N>(text)).unwrap_err();
+        let text = panic.downcast_ref::<&str>().map(|text| text.to_string());
+        text.unwrap_or_else(|| *panic.downcast().unwrap())
     }
+    assert_eq!(message::<2>(b"6b6"), "odd number of digits");
+    for text in ["6b", "6b697769"] {
+        let wanted = "the text has another number of digits";
+        assert_eq!(message::<2>(text.as_bytes()), wanted);
+    }
+    for position in [0, 1, 9, 10, 99, 100, 6005, 70_000, 199_999] {
+        let mut text = vec![b'7'; 200_000];
+        text[position] = b'z';
+        let wanted = format!("invalid character at position {position}");
+        assert_eq!(message::<100_000>(&text), wanted);
+    }
+    assert_eq!(message::<1>(b"0x7z"), "invalid character at position 3");
 }

@@ -25,6 +25,27 @@ fn debug() {
     assert_eq!(format!("{decoder:?}"), "Decoder { position: 3, .. }");
 }
 
+/// After a chunk, and after an error.
+#[test]
+fn positions() {
+    let mut decoder = Decoder::new();
+    assert_eq!(decoder.position(), 0);
+    for (chunk, position) in [
+        ("0", 1),
+        ("x6", 3),
+        ("", 3),
+        ("b6", 5),
+        ("97z", 7),
+        ("77", 7),
+    ] {
+        let result = decoder.decode(chunk, &mut [0; 2]);
+        assert_eq!(
+            (decoder.position(), result.is_err()),
+            (position, position == 7)
+        );
+    }
+}
+
 /// Each cut of a text into two, valid, and with an invalid character at each position.
 #[test]
 fn each_cut() {

@@ -199,6 +199,25 @@ fn a_writer_that_takes_nothing() {
     assert_eq!(writer.finish().err().unwrap().kind(), ErrorKind::WriteZero);
 }
 
+/// The other reader has the rest of its text, and the other writer what was flushed.
+#[test]
+fn the_other_reader_and_writer() {
+    let text = "6b697769".repeat(10_000);
+    let mut reader = DecodeReader::new(text.as_bytes());
+    assert_eq!(reader.get_ref().len(), text.len());
+    assert_eq!(reader.read(&mut [0; 4]).unwrap(), 4);
+    let left = reader.get_ref().len();
+    assert!(left < text.len() && text.ends_with(std::str::from_utf8(reader.into_inner()).unwrap()));
+    assert!(left > 0);
+
+    let mut writer = EncodeWriter::new(Vec::new());
+    writer.write_all(b"ki").unwrap();
+    writer.flush().unwrap();
+    writer.write_all(b"wi").unwrap();
+    assert_eq!(writer.get_ref(), b"6b69");
+    assert_eq!(writer.into_inner(), b"6b69");
+}
+
 /// The other writer may have a buffer too.
 #[test]
 fn the_other_writer_is_flushed() {

@@ -1,8 +1,9 @@
 //! Each function at each short length, with an invalid character at each position.
 
 use const_hex_proved::{
-    check, check_raw, const_check, const_check_raw, const_decode_to_array, decode_to_slice,
-    encode_to_slice, encode_to_slice_upper, encode_to_str, FromHexError,
+    check, check_raw, const_check, const_check_raw, const_decode_to_array, decode_to_front,
+    decode_to_slice, encode_to_slice, encode_to_slice_prefixed, encode_to_slice_upper,
+    encode_to_slice_upper_prefixed, encode_to_str, strict, FromHexError,
 };
 
 /// More than four steps of the widest kernel.
@@ -32,10 +33,20 @@ fn each_length() {
         assert_eq!(*encode_to_str(&bytes, &mut output).unwrap(), *text);
         encode_to_slice_upper(&bytes, &mut output).unwrap();
         assert_eq!(output, text.to_uppercase().as_bytes());
+        let mut output = vec![0; 2 + 2 * count];
+        encode_to_slice_prefixed(&bytes, &mut output).unwrap();
+        assert_eq!(output, format!("0x{text}").as_bytes());
+        encode_to_slice_upper_prefixed(&bytes, &mut output).unwrap();
+        assert_eq!(output, format!("0x{}", text.to_uppercase()).as_bytes());
         for text in [&text, &text.to_uppercase(), &format!("0x{text}")] {
             let mut back = vec![0; count];
             assert_eq!(decode_to_slice(text, &mut back), Ok(()), "{text}");
             assert_eq!(back, bytes, "{text}");
+            for space in [0, 1, 70] {
+                let mut back = vec![0xEE; count + space];
+                assert_eq!(decode_to_front(text, &mut back), Ok(count), "{text}");
+                assert_eq!(back, [&bytes[..], &vec![0xEE; space]].concat());
+            }
             assert_eq!(check(text), Ok(()), "{text}");
             assert_eq!(const_check(text.as_bytes()), Ok(()), "{text}");
             #[cfg(feature = "alloc")]
@@ -54,6 +65,37 @@ fn each_length() {
     }
 }
 
+/// What is appended follows what is there, with and without capacity for it.
+#[cfg(feature = "alloc")]
+#[test]
+fn appended() {
+    use const_hex_proved::{
+        decode_append, encode_append, encode_append_prefixed, encode_append_upper,
+        encode_append_upper_prefixed,
+    };
+    for count in 0..=LONGEST {
+        let bytes = bytes_of(count);
+        let lower = text_of(&bytes);
+        let upper = lower.to_uppercase();
+        for (before, capacity) in [("", 0), ("é", 2), ("é", 3 + 2 * count)] {
+            let (mut text, mut back) = (
+                String::with_capacity(capacity),
+                Vec::with_capacity(capacity),
+            );
+            text.push_str(before);
+            encode_append(&bytes, &mut text);
+            encode_append_upper(&bytes, &mut text);
+            encode_append_prefixed(&bytes, &mut text);
+            encode_append_upper_prefixed(&bytes, &mut text);
+            assert_eq!(text, format!("{before}{lower}{upper}0x{lower}0x{upper}"));
+            back.extend_from_slice(before.as_bytes());
+            assert_eq!(decode_append(&lower, &mut back), Ok(count));
+            assert_eq!(decode_append(format!("0X{upper}"), &mut back), Ok(count));
+            assert_eq!(back, [before.as_bytes(), &bytes, &bytes].concat());
+        }
+    }
+}
+
 /// An output of another length stays as it was.
 #[test]
 fn other_lengths() {
@@ -63,11 +105,19 @@ fn other_lengths() {
             let encoded = encode_to_slice(bytes_of(count), &mut output);
             assert_eq!(encoded, Err(FromHexError::InvalidStringLength));
             assert!(output.iter().all(|byte| *byte == 0xEE));
+            output.extend([0xEE; 2]);
+            let encoded = encode_to_slice_prefixed(bytes_of(count), &mut output);
+            assert_eq!(encoded, Err(FromHexError::InvalidStringLength));
+            assert!(output.iter().all(|byte| *byte == 0xEE));
         }
         for length in (0..=LONGEST).filter(|length| *length != count) {
             let mut output = vec![0xEE; length];
             let decoded = decode_to_slice(text_of(&bytes_of(count)), &mut output);
             assert_eq!(decoded, Err(FromHexError::InvalidStringLength));
+            if length < count {
+                let decoded = decode_to_front(text_of(&bytes_of(count)), &mut output);
+                assert_eq!(decoded, Err(FromHexError::InvalidStringLength));
+            }
             assert!(output.iter().all(|byte| *byte == 0xEE));
         }
     }
@@ -106,8 +156,18 @@ fn fails_with(text: &[u8], count: usize, error: FromHexError) {
         assert!(rest.iter().all(|byte| *byte == 0xEE), "{error:?}");
         assert!(!check_raw(&text[prefix..]) && !const_check_raw(&text[prefix..]));
     }
+    let mut bytes = vec![0xEE; count + 1];
+    assert_eq!(decode_to_front(text, &mut bytes), Err(error));
+    assert_eq!(bytes[count], 0xEE);
     assert_eq!(check(text), Err(error));
     assert_eq!(const_check(text), Err(error));
+    if text.len() == 2 * count {
+        assert_eq!(
+            strict::decode_to_slice(text, &mut bytes[..count]),
+            Err(error)
+        );
+        assert_eq!(strict::check(text), Err(error));
+    }
     match count {
         20 => assert_eq!(const_decode_to_array::<20>(text), Err(error)),
         LONGEST => assert_eq!(const_decode_to_array::<LONGEST>(text), Err(error)),
@@ -115,7 +175,15 @@ fn fails_with(text: &[u8], count: usize, error: FromHexError) {
         _ => {}
     }
     #[cfg(feature = "alloc")]
-    assert_eq!(const_hex_proved::decode(text), Err(error));
+    {
+        assert_eq!(const_hex_proved::decode(text), Err(error));
+        let mut bytes = b"kiwi".to_vec();
+        assert_eq!(
+            const_hex_proved::decode_append(text, &mut bytes),
+            Err(error)
+        );
+        assert_eq!(bytes, b"kiwi");
+    }
 }
 
 #[cfg(feature = "alloc")]

@@ -53,7 +53,7 @@ fn manifests() {
     assert_eq!(dependencies(ours), [("serde", false)]);
     assert_eq!(ours["version"], "1.0.0");
     let features = json!({
-        "default": ["std"], "alloc": [], "std": ["alloc"], "serde": ["dep:serde"],
+        "default": ["std"], "alloc": ["serde?/alloc"], "std": ["alloc"], "serde": ["dep:serde"],
         "core-error": [], "checked": [],
     });
     assert_eq!(ours["features"], features);

@@ -55,6 +55,107 @@ fn all_forms() {
     assert_eq!(serde_json::from_str::<Fields>(text).unwrap(), fields);
 }
 
+#[derive(Debug, Default, Deserialize, PartialEq, Serialize)]
+#[serde(default)]
+struct Several {
+    #[serde(with = "const_hex_proved::serde::option")]
+    option: Option<[u8; 2]>,
+    #[serde(with = "const_hex_proved::serde::vec")]
+    vec: Vec<Vec<u8>>,
+    #[serde(with = "const_hex_proved::serde::no_prefix::option")]
+    bare_option: Option<Vec<u8>>,
+    #[serde(with = "const_hex_proved::serde::no_prefix::vec")]
+    bare_vec: Vec<[u8; 1]>,
+    #[serde(with = "const_hex_proved::serde::strict")]
+    strict: Vec<u8>,
+    #[serde(with = "const_hex_proved::serde::strict::option")]
+    strict_option: Option<[u8; 1]>,
+    #[serde(with = "const_hex_proved::serde::strict::vec")]
+    strict_vec: Vec<Box<[u8]>>,
+    #[serde(deserialize_with = "const_hex_proved::serde::signed::option::deserialize")]
+    #[serde(skip_serializing)]
+    signed_option: Option<[i8; 1]>,
+    #[serde(deserialize_with = "const_hex_proved::serde::signed::no_prefix::vec::deserialize")]
+    #[serde(skip_serializing)]
+    signed_vec: Vec<[i8; 1]>,
+}
+
+#[test]
+fn options_and_vectors() {
+    let text = r#"{"option":"0xdead","vec":["0x6b69","0x"],"bare_option":"6b","bare_vec":["6b","69"],"strict":"6b","strict_option":"69","strict_vec":["6b","6977"]}"#;
+    let mut several = Several {
+        option: Some([0xDE, 0xAD]),
+        vec: vec![b"ki".to_vec(), Vec::new()],
+        bare_option: Some(b"k".to_vec()),
+        bare_vec: vec![*b"k", *b"i"],
+        strict: b"k".to_vec(),
+        strict_option: Some(*b"i"),
+        strict_vec: vec![b"k"[..].into(), b"iw"[..].into()],
+        ..Several::default()
+    };
+    assert_eq!(serde_json::to_string(&several).unwrap(), text);
+    let text = text.replace('}', r#","signed_option":"0xff","signed_vec":["80"]}"#);
+    (several.signed_option, several.signed_vec) = (Some([-1]), vec![[-128]]);
+    assert_eq!(serde_json::from_str::<Several>(&text).unwrap(), several);
+    // A field may be missing or nothing, and a vector empty. A prefix may be there or not.
+    for text in [
+        "{}",
+        r#"{"option":null,"strict_option":null,"signed_option":null,"vec":[],"strict_vec":[]}"#,
+    ] {
+        assert_eq!(
+            serde_json::from_str::<Several>(text).unwrap(),
+            Several::default()
+        );
+    }
+    let text = r#"{"option":"dead","bare_option":"0X6B","vec":["6b"],"bare_vec":["0x6b"]}"#;
+    let several = serde_json::from_str::<Several>(text).unwrap();
+    assert_eq!(
+        (several.option, several.bare_option),
+        (Some([0xDE, 0xAD]), Some(b"k".to_vec()))
+    );
+    assert_eq!(
+        (several.vec, several.bare_vec),
+        (vec![b"k".to_vec()], vec![*b"k"])
+    );
+}
+
+/// The errors of options, of vectors, and of prefixes.
+#[test]
+fn errors_in_options_and_vectors() {
+    for (field, error) in [
+        (r#""option":"6b""#, "invalid string length"),
+        (
+            r#""option":7"#,
+            "invalid type: integer `7`, expected a hex encoded string",
+        ),
+        (
+            r#""vec":["6b","6g"]"#,
+            "invalid character 'g' at position 1",
+        ),
+        (
+            r#""vec":["6b",null]"#,
+            "invalid type: null, expected a hex encoded string",
+        ),
+        (
+            r#""vec":"6b""#,
+            r#"invalid type: string "6b", expected a sequence"#,
+        ),
+        (r#""strict":"0x6b""#, "invalid character 'x' at position 1"),
+        (
+            r#""strict_option":"0X""#,
+            "invalid character 'X' at position 1",
+        ),
+        (
+            r#""strict_vec":["","0x6b"]"#,
+            "invalid character 'x' at position 1",
+        ),
+    ] {
+        let found = serde_json::from_str::<Several>(&format!("{{{field}}}")).unwrap_err();
+        let found = found.to_string();
+        assert!(found.starts_with(error), "{field}: {found}");
+    }
+}
+
 /// A text of any length is passed to the serializer whole, in one call.
 #[test]
 fn each_length() {

@@ -57,6 +57,22 @@ fn messages() {
     assert_eq!(quote.to_string(), r"invalid character '\'' at position 2");
 }
 
+/// Of each length around the parts in which bytes are encoded.
+#[test]
+fn lengths_of_collections() {
+    for length in 0..=130 {
+        let bytes: Vec<u8> = (0..length)
+            .map(|at: u8| at.wrapping_mul(73) ^ length)
+            .collect();
+        let text: String = bytes.iter().map(|byte| format!("{byte:02x}")).collect();
+        assert_eq!(bytes.encode_hex::<String>(), text);
+        assert_eq!(
+            bytes.encode_hex_upper::<Vec<char>>(),
+            text.to_uppercase().chars().collect::<Vec<_>>()
+        );
+    }
+}
+
 #[test]
 fn collections_of_characters() {
     let bytes: Vec<u8> = (0..100).collect();
@@ -73,6 +89,11 @@ fn collections_of_characters() {
         text.to_uppercase()
     );
     assert_eq!("".encode_hex::<String>(), "");
+    // types without a size
+    assert_eq!(<[u8]>::encode_hex::<String>(&bytes), text);
+    assert_eq!(str::encode_hex_upper::<String>("kiwi"), "6B697769");
+    let unsized_bytes: &dyn AsRef<[u8]> = &bytes;
+    assert_eq!(unsized_bytes.encode_hex::<String>(), text);
 }
 
 #[cfg(feature = "std")]
@@ -86,7 +107,7 @@ fn an_error_of_the_standard_library() {
 mod owned {
     use super::*;
     use const_hex_proved::traits::signed;
-    use const_hex_proved::FromHex;
+    use const_hex_proved::{strict, FromHex, ToHexExt};
     use std::borrow::Cow;
     use std::rc::Rc;
     use std::sync::Arc;
@@ -120,6 +141,36 @@ mod owned {
             Box<[i8]> = numbers.into();
             Rc<[i8; 4]> = Rc::new(numbers);
         }
+    }
+
+    #[test]
+    fn types_that_are_read_without_a_prefix() {
+        let invalid = |c, index| FromHexError::InvalidHexCharacter { c, index };
+        for (text, bytes) in [
+            ("6b69", Ok(b"ki")),
+            ("0x6b", Err(invalid('x', 1))),
+            ("0X69", Err(invalid('X', 1))),
+            ("6b0x", Err(invalid('x', 3))),
+            ("0x6b69", Err(FromHexError::InvalidStringLength)),
+            ("0x6", Err(FromHexError::OddLength)),
+        ] {
+            assert_eq!(
+                <Box<[u8; 2]> as strict::FromHex>::from_hex(text),
+                bytes.map(|bytes| Box::new(*bytes))
+            );
+            assert_eq!(strict::decode_to_array(text), bytes.copied());
+            assert_eq!(strict::decode_to_slice(text, &mut [0; 2]), bytes.map(drop));
+        }
+    }
+
+    #[test]
+    fn an_unsized_type() {
+        let bytes: &dyn AsRef<[u8]> = &BYTES;
+        assert_eq!(ToHexExt::encode_hex(bytes), TEXT);
+        assert_eq!(
+            ToHexExt::encode_hex_with_prefix(&BYTES[..]),
+            format!("0x{TEXT}")
+        );
     }
 
     /// The type of the elements need not be named.

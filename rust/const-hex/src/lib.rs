@@ -40,12 +40,5 @@ pub use crate::serde::deserialize;
 /// Fields of hexadecimal text, by `#[serde(with = "const_hex")]`.
 #[cfg(feature = "serde")]
 pub mod serde {
-    pub use const_hex_proved::serde::signed::deserialize;
-    pub use const_hex_proved::serde::*;
-
-    /// Fields of text without a prefix, by `#[serde(with = "const_hex::serde::no_prefix")]`.
-    pub mod no_prefix {
-        pub use super::deserialize;
-        pub use const_hex_proved::serde::no_prefix::*;
-    }
+    pub use const_hex_proved::serde::signed::*;
 }

@@ -91,3 +91,36 @@ fn fields() {
     assert_eq!(serde_json::to_string(&fields).unwrap(), text);
     assert_eq!(serde_json::from_str::<Fields>(text).unwrap(), fields);
 }
+
+/// The crate rejects a prefix, and so does this package without the feature `prefix`.
+#[test]
+fn prefixes() {
+    #[cfg(feature = "serde")]
+    fn field<T: FromHex<Error = hex::FromHexError>>(text: &str) -> Result<T, String> {
+        hex::deserialize(serde_json::json!(text)).map_err(|error| error.to_string())
+    }
+    for (text, c) in [("0x6b", 'x'), ("0X6b", 'X')] {
+        let error = InvalidHexCharacter { c, index: 1 };
+        let (array, vector) = match cfg!(feature = "prefix") {
+            true => (Err(InvalidStringLength), Ok(b"k".to_vec())),
+            false => (Err(error), Err(error)),
+        };
+        assert_eq!(hex::decode(text), vector);
+        assert_eq!(Vec::from_hex(text), vector);
+        assert_eq!(<[u8; 2]>::from_hex(text), array);
+        assert_eq!(hex::decode_to_slice(text, &mut [0; 2]), array.map(drop));
+        let single = vector.as_ref().map(drop).map_err(|_| InvalidStringLength);
+        assert_eq!(hex::decode_to_slice(text, &mut [0; 1]), single);
+        #[cfg(feature = "serde")]
+        {
+            assert_eq!(
+                field::<Vec<u8>>(text),
+                vector.map_err(|error| error.to_string())
+            );
+            assert_eq!(
+                field::<[u8; 2]>(text),
+                array.map_err(|error| error.to_string())
+            );
+        }
+    }
+}

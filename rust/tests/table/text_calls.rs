@@ -32,9 +32,8 @@ pub fn answers(line: &Line) -> Answers {
 /// The text of an array, by buffers.
 fn buffered<const N: usize>(array: &[u8; N]) -> Answers {
     let (mut plain, mut prefixed) = (Buffer::<N>::new(), Buffer::<N, true>::new());
-    let (constant, constant_prefixed) = (plain.clone(), prefixed.clone());
-    let constant = constant.const_format(array);
-    let constant_prefixed = constant_prefixed.const_format_upper(array);
+    let constant = plain.const_format(array);
+    let constant_prefixed = prefixed.const_format_upper(array);
     vec![
         ("Buffer::format", formed(plain.format(array), "", false)),
         (

@@ -1,0 +1,75 @@
+//! Decoding that rejects a prefix, as the crate `hex` does.
+//!
+//! The `x` of a prefix is an invalid character here. Otherwise each function returns what the function of its name
+//! in the crate's root returns.
+//!
+//! ```
+//! # use const_hex_proved::{strict, FromHexError};
+//! assert_eq!(strict::decode_to_array("6b697769"), Ok(*b"kiwi"));
+//! let error = FromHexError::InvalidHexCharacter { c: 'x', index: 1 };
+//! assert_eq!(strict::decode_to_array::<_, 5>("0x6b697769"), Err(error));
+//! ```
+
+use crate::proved::codec::body::strip_prefix;
+use crate::FromHexError;
+#[cfg(feature = "alloc")]
+use alloc::vec::Vec;
+
+pub use crate::traits::strict::FromHex;
+
+/// Returns the text if it has no prefix. Otherwise returns the error of that, in its order: the function that is
+/// called next would find an odd length, and `fits` says whether the length of the text is that of the output.
+#[inline]
+fn without_prefix(text: &[u8], fits: bool) -> Result<&[u8], FromHexError> {
+    match text.len() - strip_prefix(text).len() {
+        2 if text.len() % 2 == 0 && !fits => Err(FromHexError::InvalidStringLength),
+        2 if text.len() % 2 == 0 => Err(FromHexError::InvalidHexCharacter {
+            c: char::from(text[1]),
+            index: 1,
+        }),
+        _ => Ok(text),
+    }
+}
+
+/// Returns the bytes that a text without a prefix decodes to. Allocates.
+///
+/// # Errors
+///
+/// Returns the errors of [`decode`](crate::decode()).
+#[cfg(feature = "alloc")]
+#[inline]
+pub fn decode<T: AsRef<[u8]>>(data: T) -> Result<Vec<u8>, FromHexError> {
+    crate::decode(without_prefix(data.as_ref(), true)?)
+}
+
+/// Fills `out` with the bytes that a text without a prefix decodes to. Does not allocate.
+///
+/// # Errors
+///
+/// Returns the errors of [`decode_to_slice`](crate::decode_to_slice).
+#[inline]
+pub fn decode_to_slice<T: AsRef<[u8]>>(data: T, out: &mut [u8]) -> Result<(), FromHexError> {
+    let text = data.as_ref();
+    crate::decode_to_slice(without_prefix(text, text.len() / 2 == out.len())?, out)
+}
+
+/// Returns the `N` bytes that a text without a prefix decodes to. Does not allocate.
+///
+/// # Errors
+///
+/// Returns the errors of [`decode_to_slice`](crate::decode_to_slice).
+#[inline]
+pub fn decode_to_array<T: AsRef<[u8]>, const N: usize>(input: T) -> Result<[u8; N], FromHexError> {
+    let text = input.as_ref();
+    crate::decode_to_array(without_prefix(text, text.len() / 2 == N)?)
+}
+
+/// Returns `Ok` if a text can be decoded, and has no prefix. Does not allocate.
+///
+/// # Errors
+///
+/// Returns the errors of [`check`](crate::check).
+#[inline]
+pub fn check<T: AsRef<[u8]>>(input: T) -> Result<(), FromHexError> {
+    crate::check(without_prefix(input.as_ref(), true)?)
+}
