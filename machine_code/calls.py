@@ -60,7 +60,6 @@ class Case:
     judge: Callable
     assume: Callable = None
     may_leak: bool = False
-    is_quick: bool = True
 
     def prove(self, code, function):
         """Gives how many states were judged."""
@@ -290,7 +289,7 @@ class Call:
     def parts(self):
         """What is proved alone: the cases, the short lengths, and the classes of all others: of those that
         are longer by rounds."""
-        yield from (("case" if case.is_quick else "slow case", at) for at, case in enumerate(self.cases))
+        yield from (("case", at) for at in range(len(self.cases)))
         for at, form in enumerate(self.forms):
             for length in range(form.shortest, 2 * self.size + 2 + form.body, self.step):
                 yield ("length" if length < self.size + 2 + form.body else "class", at, length)
@@ -299,7 +298,7 @@ class Call:
         """Gives how many states were judged."""
         kind, at, *rest = part
         with lower(code.front_end.LIMITS):
-            if "case" in kind:
+            if kind == "case":
                 return self.cases[at].prove(code, function)
             if kind == "length":
                 return prove_length(code, function, self.forms[at], *rest)
@@ -307,7 +306,7 @@ class Call:
 
     def name_of(self, part):
         kind, at, *rest = part
-        if "case" in kind:
+        if kind == "case":
             return self.cases[at].name
         lengths = f"length {rest[0]}" if kind == "length" else f"lengths {rest[0]} + {self.size} * n"
         return f"{self.forms[at].name}, {lengths}"

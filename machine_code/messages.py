@@ -96,4 +96,4 @@ def messages(case):
     for it in found:
         regions = [Region("error", 16, False, 8, it.error), Region("message", SIZE, True)]
         arguments = [Pointer("error", 0), Pointer("message", 0), SIZE]
-        yield case(it.name, arguments, regions, it.judge, it.assume, may_leak=True, is_quick=not it.digits)
+        yield case(it.name, arguments, regions, it.judge, it.assume, may_leak=True)

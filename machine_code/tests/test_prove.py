@@ -22,23 +22,30 @@ from tests.mutations import FILES, assembled_object, edited
 
 FUNCTION = "const_hex_check_raw_v3"
 FRONT_ENDS = ("x86_64", "aarch64", "wasm")
-# The form of `encode` with this flag alone, and that of a decoder which has read 2 or more characters.
-NO_NUL, LATER = 4, 4
+# The form of `encode` with this flag alone, that of a decoder which has read 2 or more characters, and a position in a
+# message.
+NO_NUL, LATER, POSITION = 4, 4, 8
 # The function of the module that encodes, by an instruction that no other has.
 LANES = "i16x8.extend_high_i8x16_u"
-# What one length shows: the build, the call, the function, the lines before and after, the form of the arguments, the
-# length, and what the tool says.
-WRONG_AT_ONE_LENGTH = [
-    ("v3", "encode", "const_hex_encode_v3", "cmp rsi,0x40", "cmp rsi,0x3f", NO_NUL, 63, "read of 16 bytes outside"),
-    ("v2", "check_raw", "const_hex_check_raw_v2", "cmp rsi,0x20", "cmp rsi,0x1f", 0, 31, r"outside .*: text\[-1\]"),
-    ("v2", "check_raw", "const_hex_check_raw_v2", "cmp rsi,0x10", "cmp rsi,0x11", 0, 17, "not a digit is accepted"),
-    ("v2", "decoder_update", "const_hex_decoder_update_nonnull_v2", "cmp r15,0x80", "cmp r15,0x7f", LATER, 127,
+# What one part shows that is not for all lengths: the build, the call, the function, the lines before and after, the
+# part, and what the tool says.
+WRONG_IN_ONE_PART = [
+    ("v3", "encode", "const_hex_encode_v3", "cmp rsi,0x40", "cmp rsi,0x3f", ("length", NO_NUL, 63),
      "read of 16 bytes outside"),
-    ("aarch64", "decode_exact", "const_hex_decode_exact_nonnull", "cmp x3, #0x40", "cmp x3, #0x3f", 0, 126,
-     "read of 32 bytes outside"),
-    ("aarch64", "encode", "const_hex_encode", "cmp x1, #0x11", "cmp x1, #0x12", NO_NUL, 17, "is written before 16"),
-    (library.WASM, "encode", LANES, "local.get 1; i32.const 7; i32.gt_u", "local.get 1; i32.const 6; i32.gt_u", 0, 7,
-     "read of 8 bytes outside"),
+    ("v2", "check_raw", "const_hex_check_raw_v2", "cmp rsi,0x20", "cmp rsi,0x1f", ("length", 0, 31),
+     r"outside .*: text\[-1\]"),
+    ("v2", "check_raw", "const_hex_check_raw_v2", "cmp rsi,0x10", "cmp rsi,0x11", ("length", 0, 17),
+     "not a digit is accepted"),
+    ("v2", "decoder_update", "const_hex_decoder_update_nonnull_v2", "cmp r15,0x80", "cmp r15,0x7f",
+     ("length", LATER, 127), "read of 16 bytes outside"),
+    ("v3", "error_message", "const_hex_message_write_ended_v3", "cmp rax,rcx; je 4f", "", ("case", POSITION),
+     "write of 1 bytes outside"),
+    ("aarch64", "decode_exact", "const_hex_decode_exact_nonnull", "cmp x3, #0x40", "cmp x3, #0x3f",
+     ("length", 0, 126), "read of 32 bytes outside"),
+    ("aarch64", "encode", "const_hex_encode", "cmp x1, #0x11", "cmp x1, #0x12", ("length", NO_NUL, 17),
+     "is written before 16"),
+    (library.WASM, "encode", LANES, "local.get 1; i32.const 7; i32.gt_u", "local.get 1; i32.const 6; i32.gt_u",
+     ("length", 0, 7), "read of 8 bytes outside"),
 ]
 
 
@@ -144,9 +151,9 @@ class TestProve(unittest.TestCase):
         self.assertFalse(self.passes(code, "check_raw", "--sums"))
 
     def test_code_whose_sum_was_written(self):
-        """The part of one length shows what is wrong, and is run without --all."""
+        """The part that shows what is wrong is run without --all."""
         module, options = script(), types.SimpleNamespace(sums=False, all=False)
-        for build, call, name, old, new, form, length, wanted in WRONG_AT_ONE_LENGTH:
+        for build, call, name, old, new, part, wanted in WRONG_IN_ONE_PART:
             if not {"aarch64": HAS_AARCH64, library.WASM: HAS_MODULE}.get(build, True):
                 continue
             with self.subTest(build=build, call=call, new=new):
@@ -156,7 +163,7 @@ class TestProve(unittest.TestCase):
                 with mock.patch.object(module, "code_of", lambda *_: code):
                     row = module.Row(ARCHIVE, call, build, options)
                     self.assertTrue(row.is_recorded and row.is_proved)
-                    [task] = [task for task in row.tasks() if task[3] == ("length", form, length)]
+                    [task] = [task for task in row.tasks() if task[3] == part]
                     _, fault, states, _, seconds = module.prove(task)
                 self.assertRegex(fault, wanted)
                 row.add(fault, states, seconds)
