@@ -2,8 +2,11 @@
 //!
 //!     cargo run --release                            # every library
 //!     cargo run --release -- const-hex               # these libraries alone
+//!     cargo run --release -- --figure                # a figure in SVG
 //!
 //! Each cell is the difference of two runs of this program, by the number of calls between them.
+
+mod figure;
 
 use const_hex_bench::{cases, CALLS, SIZES};
 use std::collections::BTreeMap;
@@ -55,17 +58,15 @@ fn repeat(call: &str, library: &str, size: &str, count: &str) -> ExitCode {
     ExitCode::SUCCESS
 }
 
-/// Prints a table for each call, with a row for each size and a column for each library.
+/// Prints a figure, or a table for each call, with a row for each size and a column for each library.
 fn print(only: &[String]) -> io::Result<()> {
-    let cells: Vec<Cell> = SIZES
-        .into_iter()
-        .flat_map(|size| {
-            cases(size)
-                .into_iter()
-                .map(move |case| (case.call, case.library, size))
-        })
-        .filter(|(_, library, _)| only.is_empty() || only.iter().any(|name| name == library))
-        .collect();
+    if only == ["--figure"] {
+        let mut cells = cells(&[]);
+        cells.retain(|(call, _, _)| figure::CALLS.contains(call));
+        print!("{}", figure::figure(&count_all(&cells)?));
+        return Ok(());
+    }
+    let cells = cells(only);
     let counted = count_all(&cells)?;
     for call in CALLS {
         let mut libraries: Vec<&str> = Vec::new();
@@ -87,6 +88,19 @@ fn print(only: &[String]) -> io::Result<()> {
         }
     }
     Ok(())
+}
+
+/// The cells of the named libraries, or of all.
+fn cells(only: &[String]) -> Vec<Cell> {
+    SIZES
+        .into_iter()
+        .flat_map(|size| {
+            cases(size)
+                .into_iter()
+                .map(move |case| (case.call, case.library, size))
+        })
+        .filter(|(_, library, _)| only.is_empty() || only.iter().any(|name| name == library))
+        .collect()
 }
 
 /// Counts every cell, by as many threads as there are processors.

@@ -20,6 +20,7 @@ use core::{fmt, str};
 ///
 /// const PEAR: Buffer<4> = Buffer::new().const_format(b"pear");
 /// assert_eq!(PEAR.as_str(), "70656172");
+/// assert_eq!(format!("{PEAR:>10}"), "  70656172");
 /// ```
 // `as_ptr` relies on the order of the fields, and that nothing lies between them. The text is always UTF-8.
 #[must_use]

@@ -18,9 +18,10 @@ use std::io::{BufRead, BufReader, BufWriter, Error, ErrorKind, Read, Result, Wri
 /// # use const_hex_proved::DecodeReader;
 /// use std::io::Read;
 ///
-/// let mut bytes = Vec::new();
-/// DecodeReader::new("0x6b697769".as_bytes()).read_to_end(&mut bytes)?;
+/// let (mut reader, mut bytes) = (DecodeReader::new("0x6b697769".as_bytes()), Vec::new());
+/// reader.read_to_end(&mut bytes)?;
 /// assert_eq!(bytes, b"kiwi");
+/// assert!(reader.get_ref().is_empty() && reader.into_inner().is_empty());
 /// # Ok::<(), std::io::Error>(())
 /// ```
 #[derive(Debug)]
@@ -95,6 +96,8 @@ impl<R: Read> Read for DecodeReader<R> {
 ///
 /// let mut writer = EncodeWriter::new(Vec::new());
 /// writer.write_all(b"ki")?;
+/// writer.flush()?;
+/// assert_eq!(writer.get_ref(), b"6b69");
 /// writer.write_all(b"wi")?;
 /// assert_eq!(writer.finish()?, b"6b697769");
 /// # Ok::<(), std::io::Error>(())

@@ -6,8 +6,10 @@
 //! ```
 //! # use const_hex_proved::{strict, FromHexError};
 //! assert_eq!(strict::decode_to_array("6b697769"), Ok(*b"kiwi"));
+//! assert!(strict::check("6b697769").is_ok());
 //! let error = FromHexError::InvalidHexCharacter { c: 'x', index: 1 };
-//! assert_eq!(strict::decode_to_array::<_, 5>("0x6b697769"), Err(error));
+//! assert_eq!(strict::check("0x6b697769"), Err(error));
+//! assert_eq!(strict::decode_to_slice("0x6b697769", &mut [0; 5]), Err(error));
 //! ```
 
 use crate::proved::codec::body::strip_prefix;
@@ -17,8 +19,8 @@ use alloc::vec::Vec;
 
 pub use crate::traits::strict::FromHex;
 
-/// Returns the text if it has no prefix. Otherwise returns the error of that, in its order: the function that is
-/// called next would find an odd length, and `fits` says whether the length of the text is that of the output.
+/// Returns the text, unless it begins with a prefix and has an even length. Then returns the error that comes first:
+/// if its length is not that of the output, which is what `fits` says, this, and otherwise the invalid `x` or `X`.
 #[inline]
 fn without_prefix(text: &[u8], fits: bool) -> Result<&[u8], FromHexError> {
     match text.len() - strip_prefix(text).len() {

@@ -156,18 +156,8 @@ fn fails_with(text: &[u8], count: usize, error: FromHexError) {
         assert!(rest.iter().all(|byte| *byte == 0xEE), "{error:?}");
         assert!(!check_raw(&text[prefix..]) && !const_check_raw(&text[prefix..]));
     }
-    let mut bytes = vec![0xEE; count + 1];
-    assert_eq!(decode_to_front(text, &mut bytes), Err(error));
-    assert_eq!(bytes[count], 0xEE);
     assert_eq!(check(text), Err(error));
     assert_eq!(const_check(text), Err(error));
-    if text.len() == 2 * count {
-        assert_eq!(
-            strict::decode_to_slice(text, &mut bytes[..count]),
-            Err(error)
-        );
-        assert_eq!(strict::check(text), Err(error));
-    }
     match count {
         20 => assert_eq!(const_decode_to_array::<20>(text), Err(error)),
         LONGEST => assert_eq!(const_decode_to_array::<LONGEST>(text), Err(error)),
@@ -175,14 +165,27 @@ fn fails_with(text: &[u8], count: usize, error: FromHexError) {
         _ => {}
     }
     #[cfg(feature = "alloc")]
+    assert_eq!(const_hex_proved::decode(text), Err(error));
+    if count <= 70 {
+        others_fail_with(text, count, error);
+    }
+}
+
+/// The functions that differ from those above by a space or a prefix do so, too.
+fn others_fail_with(text: &[u8], count: usize, error: FromHexError) {
+    let mut bytes = vec![0xEE; count + 1];
+    assert_eq!(decode_to_front(text, &mut bytes), Err(error));
+    assert_eq!(bytes[count], 0xEE);
+    if text.len() == 2 * count {
+        let bytes = &mut bytes[..count];
+        assert_eq!(strict::decode_to_slice(text, bytes), Err(error));
+        assert_eq!(strict::check(text), Err(error));
+    }
+    #[cfg(feature = "alloc")]
     {
-        assert_eq!(const_hex_proved::decode(text), Err(error));
         let mut bytes = b"kiwi".to_vec();
-        assert_eq!(
-            const_hex_proved::decode_append(text, &mut bytes),
-            Err(error)
-        );
-        assert_eq!(bytes, b"kiwi");
+        let appended = const_hex_proved::decode_append(text, &mut bytes);
+        assert_eq!((appended, &bytes[..]), (Err(error), &b"kiwi"[..]));
     }
 }
 

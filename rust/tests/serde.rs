@@ -97,11 +97,10 @@ fn options_and_vectors() {
     let text = text.replace('}', r#","signed_option":"0xff","signed_vec":["80"]}"#);
     (several.signed_option, several.signed_vec) = (Some([-1]), vec![[-128]]);
     assert_eq!(serde_json::from_str::<Several>(&text).unwrap(), several);
+    let empty = r#"{"option":null,"vec":[],"bare_option":null,"bare_vec":[],"strict":"","strict_option":null,"strict_vec":[]}"#;
+    assert_eq!(serde_json::to_string(&Several::default()).unwrap(), empty);
     // A field may be missing or nothing, and a vector empty. A prefix may be there or not.
-    for text in [
-        "{}",
-        r#"{"option":null,"strict_option":null,"signed_option":null,"vec":[],"strict_vec":[]}"#,
-    ] {
+    for text in ["{}", empty, r#"{"signed_option":null}"#] {
         assert_eq!(
             serde_json::from_str::<Several>(text).unwrap(),
             Several::default()
