@@ -17,7 +17,7 @@ start = record {
   check = false;
   upper = false;
   prefix = false;
-  ignore_newlines = false;
+  ignore_whitespace = false;
   help = false;
   version = false;
   columns = 0;
@@ -54,7 +54,8 @@ with_name o name =
     else if bytes_eq name (codes "check") then Some (record o { check = true })
     else if bytes_eq name (codes "upper") then Some (record o { upper = true })
     else if bytes_eq name (codes "prefix") then Some (record o { prefix = true })
-    else if bytes_eq name (codes "ignore-newlines") then Some (record o { ignore_newlines = true })
+    else if bytes_eq name (codes "ignore-whitespace") then Some (record o { ignore_whitespace = true })
+    else if bytes_eq name (codes "ignore-newlines") then Some (record o { ignore_whitespace = true })
     else if bytes_eq name (codes "help") then Some (record o { help = true })
     else if bytes_eq name (codes "version") then Some (record o { version = true })
     else if bytes_eq name (codes "wrap") then Some (record o { next = Columns })
@@ -73,6 +74,7 @@ with_letter o c =
     if c == 100 then Some (record o { decode = true })
     else if c == 117 then Some (record o { upper = true })
     else if c == 112 then Some (record o { prefix = true })
+    else if c == 105 then Some (record o { ignore_whitespace = true })
     else None
 
 -- the letters that follow one dash: what follows `w` is COLUMNS
@@ -102,7 +104,7 @@ with_arguments o i (a ∷ rest) = option_and_then (λ p. with_arguments p (i + 1
 
 -- the mode that is set
 abbrev pub mode_of : Options → Mode
-mode_of o = if o.check then Check o.ignore_newlines else if o.decode then Decode o.ignore_newlines else Encode o.prefix o.upper o.columns
+mode_of o = if o.check then Check o.ignore_whitespace else if o.decode then Decode o.ignore_whitespace else Encode o.prefix o.upper o.columns
 
 -- what is asked for, unless COLUMNS are missing
 abbrev pub asked : Next → Options → Option Request

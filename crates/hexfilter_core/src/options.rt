@@ -38,7 +38,7 @@ pub(crate) struct Options {
     check: bool,
     upper: bool,
     prefix: bool,
-    ignore_newlines: bool,
+    ignore_whitespace: bool,
     help: bool,
     version: bool,
     columns: usize,
@@ -51,7 +51,7 @@ const START: Options = Options {
     check: false,
     upper: false,
     prefix: false,
-    ignore_newlines: false,
+    ignore_whitespace: false,
     help: false,
     version: false,
     columns: 0,
@@ -109,7 +109,8 @@ impl Options {
             "check" => self.check = true,
             "upper" => self.upper = true,
             "prefix" => self.prefix = true,
-            "ignore-newlines" => self.ignore_newlines = true,
+            "ignore-whitespace" => self.ignore_whitespace = true,
+            "ignore-newlines" => self.ignore_whitespace = true,
             "help" => self.help = true,
             "version" => self.version = true,
             "wrap" => self.next = Next::Columns,
@@ -140,6 +141,7 @@ impl Options {
             b'd' => self.decode = true,
             b'u' => self.upper = true,
             b'p' => self.prefix = true,
+            b'i' => self.ignore_whitespace = true,
             _ => return None,
         }
         Some(self)
@@ -176,11 +178,11 @@ impl Options {
     fn mode(self) -> Mode
         ensures { result ≡ mode_of self }
     {
-        let ignore_newlines = self.ignore_newlines;
+        let ignore_whitespace = self.ignore_whitespace;
         if self.check {
-            Mode::Check { ignore_newlines }
+            Mode::Check { ignore_whitespace }
         } else if self.decode {
-            Mode::Decode { ignore_newlines }
+            Mode::Decode { ignore_whitespace }
         } else {
             Mode::Encode {
                 prefix: self.prefix,

@@ -1,6 +1,6 @@
 //! The whole program, from its arguments to its exit status.
 
-ghost use Rattle.std.specs.Prelude.{◌≡◌, ◌≢◌, ◌≤◌, ◌⊎◌, List, ℕ};
+ghost use Rattle.std.specs.Prelude.{◌≡◌, ◌≢◌, ◌≤◌, ◌⊎◌, List, ℕ, Option};
 ghost use Rattle.std.specs.Io.KnownBytes.{Appends, Consumes};
 ghost use Rattle.std.specs.Process.{exit_status};
 ghost use Rattle.const_hex.specs.declared.error.FromHexError.{FromHexError};
@@ -8,10 +8,12 @@ ghost use Rattle.hexfilter_core.specs.Errors.{status_of};
 ghost use Rattle.hexfilter_core.specs.Inputs.{ReadsAll};
 ghost use Rattle.hexfilter_core.specs.Outcome.{FailsWith, Makes};
 ghost use Rattle.hexfilter_core.specs.declared.mode.Mode.{Mode};
+ghost use Rattle.hexfilter_core.specs.declared.place.Place.{Place};
 
 use crate::error::RunError;
 use crate::mode::Mode;
 use crate::options::{Request, request_of};
+use crate::place::Place;
 use crate::runs::run;
 use crate::transfer::{flush, write_piece};
 use std::env::{self, Env};
@@ -31,7 +33,9 @@ is -, reads standard input. Writes to standard output.
   -u, --upper            write digits in uppercase
   -p, --prefix           write 0x before the digits
   -w, --wrap COLUMNS     write lines of COLUMNS characters (0: no lines)
-      --ignore-newlines  leave out newlines before the text is decoded
+  -i, --ignore-whitespace
+                         leave out spaces, tabs and the ends of lines before the
+                         text is decoded
       --help             print this help
       --version          print the version
 
@@ -65,8 +69,8 @@ pub fn program<R: Read, W: Write>(
     // Standard input was not asked for, or a mode fails with an error of its text.
     ensures invalid { exit_status result ≡ 1
         → (input.new ≡ input.old) ⊎ ((m : Mode) × (x : List ℕ) × (e : FromHexError)
-        × Consumes (R.remaining input.old) (R.remaining input.new) x
-        × FailsWith m (R.remaining input.new) x e) }
+        × (place : Option Place) × Consumes (R.remaining input.old) (R.remaining input.new) x
+        × FailsWith m (R.remaining input.new) x e place) }
     // Nothing was read or written.
     ensures misused { exit_status result ≡ 2
         → (input.new ≡ input.old) × (output.new ≡ output.old) }
@@ -110,8 +114,8 @@ fn run_standard_input<R: Read, W: Write>(
         × ReadsAll (R.remaining input.old) (R.remaining input.new) x × Makes mode x y
         × Appends (W.contents output.old) (W.contents output.new) y }
     ensures invalid { exit_status result ≡ 1 → (x : List ℕ) × (e : FromHexError)
-        × Consumes (R.remaining input.old) (R.remaining input.new) x
-        × FailsWith mode (R.remaining input.new) x e }
+        × (place : Option Place) × Consumes (R.remaining input.old) (R.remaining input.new) x
+        × FailsWith mode (R.remaining input.new) x e place }
     ensures used { exit_status result ≢ 2 }
     ensures statuses { exit_status result ≤ 3 }
 {
@@ -165,7 +169,10 @@ fn failed(rt: &impl Eprint, name: &str, error: RunError) -> ExitCode
 {
     // Nothing is left to be done if standard error fails.
     let _ = match error {
-        RunError::Text(error) => eprintln!(rt; "hexfilter: {name}: {error}"),
+        RunError::Text(error, None) => eprintln!(rt; "hexfilter: {name}: {error}"),
+        RunError::Text(error, Some(Place { line, column })) => {
+            eprintln!(rt; "hexfilter: {name}: {error} (line {line}, column {column})")
+        }
         RunError::Read(error) => eprintln!(rt; "hexfilter: {name}: {error}"),
         RunError::Write(error) if error.kind() == ErrorKind::BrokenPipe => Ok(()),
         RunError::Write(error) => eprintln!(rt; "hexfilter: standard output: {error}"),

@@ -50,7 +50,7 @@ pub use self::formatting::text::*;
 //   10  a function for C takes slices, which capi makes of pointers and lengths
 //   16  a kernel is compiled for each kind of register, so it names the others beside it
 //   36  a range that is proved to be within its slice is not tested in release builds
-//   83  all crates are one module
+//   89  all crates are one module
 //    5  an allocation never fails: without memory the program ends
 //    1  an argument's copy takes no allocator
 //  130  an assertion names no runtime
@@ -61,8 +61,8 @@ pub use self::formatting::text::*;
 //    6  and the vectors of its kind
 //    2  callers that nothing exports are left out
 //   46  deleted: attribute
-//  256  deleted: contract
-//  217  deleted: ghost item
+//  260  deleted: contract
+//  226  deleted: ghost item
 //    4  deleted: model
 //    1  each value may be dropped
 //   22  the allocator is a value

@@ -1,6 +1,6 @@
 //! What the arguments ask for.
 
-use crate::tests::{CHECK, CHECK_LINES, DECODE, DECODE_LINES, ENCODE};
+use crate::tests::{CHECK, CHECK_SPACED, DECODE, DECODE_SPACED, ENCODE};
 use const_hex_vectors::{Testing, same};
 use hexfilter_core::{Mode, Request, request_of};
 
@@ -20,8 +20,9 @@ fn requests(rt: HostRuntime) {
         ("--decode", DECODE, None),
         ("--check", CHECK, None),
         ("--check -d", CHECK, None),
-        ("--decode --ignore-newlines", DECODE_LINES, None),
-        ("--ignore-newlines --check", CHECK_LINES, None),
+        ("--decode --ignore-newlines", DECODE_SPACED, None),
+        ("--ignore-whitespace --check", CHECK_SPACED, None),
+        ("-di", DECODE_SPACED, None),
         ("-u", encode(false, true, 0), None),
         ("-p --upper", encode(true, true, 0), None),
         ("-pu", encode(true, true, 0), None),

@@ -5,6 +5,7 @@ use crate::rattle::prelude::*;
 use crate::proved::error::RunError;
 use crate::proved::mode::Mode;
 use crate::proved::options::{Request, request_of};
+use crate::proved::place::Place;
 use crate::proved::runs::run;
 use crate::proved::transfer::{flush, write_piece};
 use crate::rattle::env::{self, Env};
@@ -24,7 +25,9 @@ is -, reads standard input. Writes to standard output.
   -u, --upper            write digits in uppercase
   -p, --prefix           write 0x before the digits
   -w, --wrap COLUMNS     write lines of COLUMNS characters (0: no lines)
-      --ignore-newlines  leave out newlines before the text is decoded
+  -i, --ignore-whitespace
+                         leave out spaces, tabs and the ends of lines before the
+                         text is decoded
       --help             print this help
       --version          print the version
 
@@ -116,7 +119,10 @@ fn print<W: Write>(rt: &impl Eprint, text: &str, output: &mut W) -> ExitCode {
 fn failed(rt: &impl Eprint, name: &str, error: RunError) -> ExitCode {
     // Nothing is left to be done if standard error fails.
     let _ = match &error {
-        RunError::Text(error) => eprintln!(rt; "hexfilter: {name}: {error}"),
+        RunError::Text(error, None) => eprintln!(rt; "hexfilter: {name}: {error}"),
+        RunError::Text(error, Some(Place { line, column })) => {
+            eprintln!(rt; "hexfilter: {name}: {error} (line {line}, column {column})")
+        }
         RunError::Read(error) => eprintln!(rt; "hexfilter: {name}: {error}"),
         RunError::Write(error) if error.kind() == ErrorKind::BrokenPipe => Ok(()),
         RunError::Write(error) => eprintln!(rt; "hexfilter: standard output: {error}"),
