@@ -21,7 +21,7 @@ mod whitespace;
 
 pub use crate::error::RunError;
 pub use crate::mode::Mode;
-pub use crate::options::{Request, request_of};
+pub use crate::options::{Fault, Request, UsageError, request_of};
 pub use crate::place::Place;
 pub use crate::process::program;
 pub use crate::runs::run;

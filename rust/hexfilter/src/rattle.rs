@@ -142,11 +142,15 @@ pub mod simd {
         /// Returns a bit for each lane, the lowest for the first.
         #[inline(always)]
         pub fn to_bitmask(self) -> u64 {
-            if self.0 == [0; 4] {
+            if self.0.iter().fold(0, |all, word| all | word) == 0 {
                 return 0;
             }
             // Bit 7 of byte i is moved to bit i of the highest byte.
-            let bits = |word: u64| (word >> 7).wrapping_mul(0x0102_0408_1020_4080).to_le_bytes()[7];
+            let bits = |word: u64| {
+                (word >> 7)
+                    .wrapping_mul(0x0102_0408_1020_4080)
+                    .to_le_bytes()[7]
+            };
             u64::from(u32::from_le_bytes(self.0.map(bits)))
         }
     }

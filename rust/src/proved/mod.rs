@@ -56,12 +56,12 @@ pub use self::formatting::text::*;
 //  130  an assertion names no runtime
 //    4  an example of hexfilter uses no allocator
 //    1  and a constant converts by a cast
-//    1  and an error is borrowed
+//    2  and an error is borrowed
 //    3  and panics instead of returning an error
 //    6  and the vectors of its kind
 //    2  callers that nothing exports are left out
 //   46  deleted: attribute
-//  260  deleted: contract
+//  265  deleted: contract
 //  226  deleted: ghost item
 //    4  deleted: model
 //    1  each value may be dropped

@@ -31,14 +31,14 @@ fn hexfilter_mode_mode() -> Result<(), Box<dyn Error>> {
 
 #[test]
 fn hexfilter_options_request() -> Result<(), Box<dyn Error>> {
-    assert_eq!(request_of(&[]), Some(Request::Run(Mode::Encode { prefix: false, upper: false, columns: 0 }, None)));
+    assert_eq!(request_of(&[]), Ok(Request::Run(Mode::Encode { prefix: false, upper: false, columns: 0 }, None)));
     Ok(())
 }
 
 #[test]
 fn hexfilter_options_request_of() -> Result<(), Box<dyn Error>> {
     let arguments = [String::from_str("--version").unwrap()];
-    assert_eq!(request_of(&arguments), Some(Request::Version));
+    assert_eq!(request_of(&arguments), Ok(Request::Version));
     Ok(())
 }
 

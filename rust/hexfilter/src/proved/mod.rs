@@ -22,7 +22,7 @@ mod whitespace;
 
 pub use crate::proved::error::RunError;
 pub use crate::proved::mode::Mode;
-pub use crate::proved::options::{Request, request_of};
+pub use crate::proved::options::{Fault, Request, UsageError, request_of};
 pub use crate::proved::place::Place;
 pub use crate::proved::process::program;
 pub use crate::proved::runs::run;
