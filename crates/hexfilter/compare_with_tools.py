@@ -106,7 +106,7 @@ class Filter:
             (["--check"], b"6b69\n", 1, b"", named("invalid character '\\n' at position 4")),
             (["--check", "-i"], b"6b\r\n\xff", 1, b"",
              named("invalid character 'ÿ' at position 4 (line 2, column 1)")),
-            (["-di"], b"6b\n69 z", 1, b"", named("invalid character 'z' at position 6 (line 2, column 4)")),
+            (["-di"], b"6b\n69 z", 1, b"ki", named("invalid character 'z' at position 6 (line 2, column 4)")),
             (["-d"], b"6b6", 1, b"k", named("odd number of digits")),
             (["-dx"], b"kiwi", 2, b"", usage("unknown option '-dx'")),
             (["-p", "--wrap"], b"kiwi", 2, b"", usage("missing value after '--wrap'")),

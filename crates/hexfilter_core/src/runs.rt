@@ -16,7 +16,7 @@ use crate::mode::Mode;
 use std::io::{self, Read, Write};
 
 /// Reads the input to its end, writes what the mode makes of it, and flushes. The input may have any
-/// length: it is read in chunks of 64 KiB, and nothing is allocated.
+/// length: it is read in chunks of at most 32 KiB, and nothing is allocated.
 ///
 /// Returns
 ///
@@ -26,8 +26,8 @@ use std::io::{self, Read, Write};
 /// - [`RunError::Read`], if a read fails;
 /// - [`RunError::Write`], if a write or the flush fails, or a write takes no bytes.
 ///
-/// A beginning of the result may then have been written. A call that a signal interrupts is made
-/// again.
+/// A beginning of the result may then have been written: before an invalid character, the bytes of all
+/// whole pairs of digits. A call that a signal interrupts is made again.
 ///
 /// ```rust
 /// let mut output = Vec::new(rt.alloc());

@@ -44,7 +44,7 @@ pub use self::formatting::text::*;
 // The places that each rule of rust/erase has changed:
 //
 //   27  Rattle's std is the module rattle
-//    2  Rust's errors and the crate's decoder are not copied
+//    1  Rust's errors are not copied
 //   26  a formatter has a lifetime in place of its writer's type
 //   52  a function for AVX2 takes in all that it calls
 //   10  a function for C takes slices, which capi makes of pointers and lengths
@@ -58,11 +58,13 @@ pub use self::formatting::text::*;
 //    1  and a constant converts by a cast
 //    2  and an error is borrowed
 //    3  and panics instead of returning an error
+//    1  and the crate's decoder is cloned
 //    6  and the vectors of its kind
+//    1  before it reads a chunk
 //    2  callers that nothing exports are left out
 //   46  deleted: attribute
-//  265  deleted: contract
-//  226  deleted: ghost item
+//  266  deleted: contract
+//  227  deleted: ghost item
 //    4  deleted: model
 //    1  each value may be dropped
 //   22  the allocator is a value

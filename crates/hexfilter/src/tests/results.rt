@@ -101,14 +101,39 @@ fn invalid_texts(rt: HostRuntime) {
     for (mode, input, error, place) in rows {
         let row = (mode, Text(input));
         let end = End::Text(error, place);
-        same!(&rt, "run", row; run_on(&rt, mode, &mut { input }).0, end);
+        let (ended, written) = run_on(&rt, mode, &mut { input });
+        same!(&rt, "run", row; ended, end);
         let mut source = Source::new(input, 0, ErrorKind::Other);
-        same!(&rt, "run by bytes", row; run_on(&rt, mode, &mut source).0, end);
+        let (ended, by_bytes) = run_on(&rt, mode, &mut source);
+        same!(&rt, "run by bytes", row; ended, end);
+        same_bytes!(&rt, "run", row; written, by_bytes);
     }
 }
 
 fn at(line: usize, column: usize) -> Option<Place> {
     Some(Place { line, column })
+}
+
+#[test]
+fn bytes_before_an_error(rt: HostRuntime) {
+    let rows: [(Mode, &[u8], &[u8]); 6] = [
+        (DECODE, b"0x6b6z", b"k"),
+        (DECODE, b"6b69776g", b"kiw"),
+        (DECODE, b"6b\n69", b"k"),
+        (DECODE_SPACED, b" 6 b\n69 7z", b"ki"),
+        (DECODE_SPACED, b"6b6", b"k"),
+        (CHECK, b"6b69z", b""),
+    ];
+    for (mode, input, want) in rows {
+        let row = (mode, Text(input));
+        same_bytes!(&rt, "run", row; run_on(&rt, mode, &mut { input }).1, want);
+    }
+    let (_, written) = run_on(
+        &rt,
+        DECODE,
+        &mut io::repeat(b'0').take(400_003).chain(&b"z"[..]),
+    );
+    same!(&rt; written.len(), 200_001);
 }
 
 // The bytes 32 to 63, as text.

@@ -1,6 +1,7 @@
 -- What was decoded so far, and the error of an input.
-use Rattle.std.proofs.Common.{◌≡◌, ℕ, ◌*◌, ◌≤◌, Bool, List, [], ◌++◌, length, take, Option, Result, Err, None, refl, subst, sym, ap, ◌∙◌, arith}
-use Rattle.std.proofs.lemmas.List.{append-nil, length-take, take-take, take_min}
+use Rattle.std.proofs.Common.{◌≡◌, ℕ, ◌+◌, ◌*◌, ◌≤◌, ◌⊎◌, inl, inr, Bool, List, [], ◌++◌, length, take, drop, Option, Result, Err, None, refl, subst, sym, ap, ◌∙◌, arith, append_assoc}
+use Rattle.std.proofs.Math.Seq.{take-append-add}
+use Rattle.std.proofs.lemmas.List.{append-nil, length-take, take-append-drop, take-take, take_min}
 use Rattle.std.specs.Io.KnownBytes.{IsAtEnd}
 use Rattle.const_hex.proofs.lemmas.Decoding.{read_digits, read_front}
 use Rattle.const_hex.specs.Results.{IsOdd, body_of}
@@ -11,7 +12,7 @@ use Rattle.const_hex_arch.proofs.lemmas.Spelling.{Spells-parts}
 use Rattle.hexfilter_core.proofs.lemmas.InputTexts.{text_of-append}
 use Rattle.hexfilter_core.proofs.lemmas.InvalidCharacters.{NamesInvalid-longer}
 use Rattle.hexfilter_core.specs.Decoding.{HasDecoded, IsInvalid, ignores}
-use Rattle.hexfilter_core.specs.Errors.{IsNotInterrupted}
+use Rattle.hexfilter_core.specs.Errors.{IsFailedWrite, IsNotInterrupted}
 use Rattle.hexfilter_core.specs.Inputs.{NamesInvalid, HasError, SpellsBeginning, text_of}
 use Rattle.hexfilter_core.specs.declared.error.RunError.{RunError}
 use Rattle.hexfilter_core.specs.declared.error.RunError.TheVariants.{Text, Read, Write}
@@ -67,13 +68,34 @@ pub invalid_error : (ig : Bool) (left : Option (List ℕ)) (x : List ℕ) (f : R
     → HasError ig left x e p
 invalid_error ig left x f e p is told = character_error ig left x e p (rw is at told)
 
-pub not_interrupted : (ig : Bool) (x : List ℕ) (f : RunError) → IsInvalid ig x f → IsNotInterrupted f
+pub not_interrupted : (ig : Bool) (x : List ℕ) (f : RunError) → IsInvalid ig x f ⊎ IsFailedWrite f → IsNotInterrupted f
 not_interrupted ig x (Text e p) h = tt
-not_interrupted ig x (Read e) h = absurd h
-not_interrupted ig x (Write e) h = absurd h
+not_interrupted ig x (Read e) (inl h) = absurd h
+not_interrupted ig x (Read e) (inr h) = absurd h
+not_interrupted ig x (Write e) (inl h) = absurd h
+not_interrupted ig x (Write e) (inr h) = h
+
+text_error : (ig : Bool) (left : Option (List ℕ)) (x : List ℕ) (f : RunError) (e : FromHexError) (p : Option Place) → f ≡ Text e p
+    → IsInvalid ig x f ⊎ IsFailedWrite f → HasError ig left x e p
+text_error ig left x f e p is (inl h) = invalid_error ig left x f e p is h
+text_error ig left x f e p is (inr h) = absurd (subst IsFailedWrite is h)
+
+pub text_or_write : {V : Type 0} (ig : Bool) (left : Option (List ℕ)) (x : List ℕ) (f : RunError) (e : FromHexError) (p : Option Place)
+    → ◌≡◌ {A = Result V RunError} (Err f) (Err (Text e p)) → IsInvalid ig x f ⊎ IsFailedWrite f → HasError ig left x e p
+text_or_write ig left x f e p is told = text_error ig left x f e p (same_value f (Text e p) is) told
 
 pub only_odd : {V : Type 0} (f : RunError) → ◌≡◌ {A = Result V RunError} (Err f) (Err (Text OddLength None)) → IsNotInterrupted f
 only_odd f is = subst IsNotInterrupted (sym (same_value f (Text OddLength None) is)) tt
 
 pub which_odd : (e : FromHexError) (p : Option Place) → Text OddLength None ≡ Text e p → e ≡ OddLength
 which_odd e p is = cc
+
+-- what a front of a chunk decodes to
+module _ (d : InputDecoder) (ig : Bool) (x chunk bs piece : List ℕ) (k : ℕ) (same : ignores d ≡ ig) (has : HasDecoded d (x ++ take k chunk) (bs ++ piece)) where
+  pub front_spelled : SpellsBeginning ig (x ++ chunk) (bs ++ piece)
+  front_spelled =
+      let whole : (x ++ take k chunk) ++ drop k chunk ≡ x ++ chunk = append_assoc x (take k chunk) (drop k chunk) ∙ ap (λ l. x ++ l) (take-append-drop k chunk) in
+      rw whole at (spelled_before d ig (x ++ take k chunk) (bs ++ piece) same has (drop k chunk))
+
+  pub part_spelled : (n : ℕ) → SpellsBeginning ig (x ++ chunk) (bs ++ take n piece)
+  part_spelled n = rw (take-append-add bs piece n) at (fewer_spelled ig (x ++ chunk) (bs ++ piece) (length bs + n) front_spelled)

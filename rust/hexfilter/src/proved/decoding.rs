@@ -26,8 +26,40 @@ pub(crate) fn decode_stream<R: Read, W: Write>(
             decoder.finish()?;
             return flush(output);
         }
-        let decoded = decoder.decode(&chunk[..count], &mut text, &mut bytes)?;
-        write_piece(output, &bytes[..decoded])?;
+        let before = decoder.clone();
+        match decoder.decode(&chunk[..count], &mut text, &mut bytes) {
+            Ok(decoded) => write_piece(output, &bytes[..decoded])?,
+            Err(error) => {
+                return Err(write_front(
+                    before,
+                    &chunk[..count],
+                    error,
+                    &mut text,
+                    &mut bytes,
+                    output,
+                ));
+            }
+        }
     }
     Err(too_many_reads())
+}
+
+/// Writes the bytes before the error of a chunk, and returns the error, or that of a write that fails. The
+/// decoder has not read the chunk.
+#[cold]
+fn write_front<W: Write>(
+    mut decoder: InputDecoder,
+    chunk: &[u8],
+    error: RunError,
+    text: &mut [u8],
+    bytes: &mut [u8],
+    output: &mut W,
+) -> RunError {
+    let front = decoder.bytes_before(&error).min(chunk.len());
+    if let Ok(count) = decoder.decode(&chunk[..front], text, bytes) {
+        if let Err(failed) = write_piece(output, &bytes[..count]) {
+            return failed;
+        }
+    }
+    error
 }

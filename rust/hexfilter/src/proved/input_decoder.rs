@@ -8,14 +8,15 @@ use crate::proved::whitespace::{index_in_chunk, remove_whitespace};
 use crate::rattle::codec::{Decoder, FromHexError};
 
 /// Decodes an input that comes in chunks, with or without its whitespace. Positions count in the input.
-#[derive(Debug)]
+#[derive(Clone, Debug)]
 pub(crate) struct InputDecoder {
     decoder: Decoder,
     ignore_whitespace: bool,
-    /// If whitespace is ignored: how many bytes were read, how many of them were not whitespace, or
-    /// `usize::MAX` for more, and the place after them.
+    /// How many bytes were read, or `usize::MAX` for more.
     read: usize,
+    /// If whitespace is ignored: how many of these bytes were not whitespace, or `usize::MAX` for more.
     kept: usize,
+    /// If whitespace is ignored: the place after these bytes.
     place: Place,
 }
 
@@ -43,8 +44,21 @@ impl InputDecoder {
             return self.decode_kept(chunk, text, output);
         }
         match self.decoder.decode(chunk, output) {
-            Ok(count) => Ok(count),
+            Ok(count) => {
+                self.read = self.read.saturating_add(chunk.len());
+                Ok(count)
+            }
             Err(error) => Err(RunError::Text(error, None)),
+        }
+    }
+
+    /// How many of the bytes that this decoder has not read come before the invalid character.
+    pub(crate) fn bytes_before(&self, error: &RunError) -> usize {
+        match error {
+            RunError::Text(FromHexError::InvalidHexCharacter { index, .. }, _) => {
+                index.saturating_sub(self.read)
+            }
+            _ => 0,
         }
     }
 

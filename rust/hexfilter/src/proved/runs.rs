@@ -9,7 +9,7 @@ use crate::proved::mode::Mode;
 use crate::rattle::io::{self, Read, Write};
 
 /// Reads the input to its end, writes what the mode makes of it, and flushes. The input may have any
-/// length: it is read in chunks of 64 KiB, and nothing is allocated.
+/// length: it is read in chunks of at most 32 KiB, and nothing is allocated.
 ///
 /// Returns
 ///
@@ -19,8 +19,8 @@ use crate::rattle::io::{self, Read, Write};
 /// - [`RunError::Read`], if a read fails;
 /// - [`RunError::Write`], if a write or the flush fails, or a write takes no bytes.
 ///
-/// A beginning of the result may then have been written. A call that a signal interrupts is made
-/// again.
+/// A beginning of the result may then have been written: before an invalid character, the bytes of all
+/// whole pairs of digits. A call that a signal interrupts is made again.
 pub fn run<R: Read, W: Write>(mode: Mode, input: &mut R, output: &mut W) -> Result<(), RunError> {
     match mode {
         Mode::Encode {
