@@ -80,6 +80,26 @@ class Filter:
         od = "od -An -v -tx1 | tr -d ' \\n'"
         self.agree(["--wrap=0"], ["sh", "-c", od], ["-d"], 131_073)
 
+    def decodes(self, tool):
+        """hexfilter decodes what the tool writes, in lines and with spaces."""
+        for path in FILES[:-1]:
+            with self.subTest(size=path.name):
+                theirs = self.output("theirs", tool, path)
+                again = self.output("again", [self.program, "-di"], theirs)
+                self.assertTrue(filecmp.cmp(again, path, shallow=False))
+
+    @needs("xxd")
+    def test_xxd_in_uppercase(self):
+        self.decodes(["xxd", "-p", "-u"])
+
+    @needs("od")
+    def test_od_with_spaces(self):
+        self.decodes(["od", "-An", "-v", "-tx1"])
+
+    @needs("hexdump")
+    def test_hexdump(self):
+        self.decodes(["hexdump", "-v", "-e", '16/1 "%02x " "\\n"'])
+
     # Exit statuses, and what standard error has.
 
     def ends(self, arguments, text, status, output, error, folder=None):
