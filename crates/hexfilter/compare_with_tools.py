@@ -64,12 +64,12 @@ class Filter:
 
     @needs("xxd")
     def test_xxd(self):
-        self.agree(["-w60"], ["xxd", "-p"], ["-d", "--ignore-newlines"])
+        self.agree(["-w60"], ["xxd", "-p"], ["-d", "--ignore-whitespace"])
 
     @needs("basenc")
     def test_basenc_in_lines(self):
-        self.agree(["-uw", "76"], ["basenc", "--base16"], ["-d", "--ignore-newlines"], 131_073)
-        self.agree(["-uw1"], ["basenc", "--base16", "-w1"], ["-d", "--ignore-newlines"], 131_073)
+        self.agree(["-uw", "76"], ["basenc", "--base16"], ["-d", "--ignore-whitespace"], 131_073)
+        self.agree(["-uw1"], ["basenc", "--base16", "-w1"], ["-d", "--ignore-whitespace"], 131_073)
 
     @needs("basenc")
     def test_basenc_in_one_piece(self):
@@ -79,6 +79,26 @@ class Filter:
     def test_od(self):
         od = "od -An -v -tx1 | tr -d ' \\n'"
         self.agree(["--wrap=0"], ["sh", "-c", od], ["-d"], 131_073)
+
+    def decodes(self, tool):
+        """hexfilter decodes what the tool writes, in lines and with spaces."""
+        for path in FILES[:-1]:
+            with self.subTest(size=path.name):
+                theirs = self.output("theirs", tool, path)
+                again = self.output("again", [self.program, "-di"], theirs)
+                self.assertTrue(filecmp.cmp(again, path, shallow=False))
+
+    @needs("xxd")
+    def test_xxd_in_uppercase(self):
+        self.decodes(["xxd", "-p", "-u"])
+
+    @needs("od")
+    def test_od_with_spaces(self):
+        self.decodes(["od", "-An", "-v", "-tx1"])
+
+    @needs("hexdump")
+    def test_hexdump(self):
+        self.decodes(["hexdump", "-v", "-e", '16/1 "%02x " "\\n"'])
 
     # Exit statuses, and what standard error has.
 
@@ -92,7 +112,9 @@ class Filter:
         def named(words):
             return f"hexfilter: standard input: {words}\n".encode()
 
-        usage = b"hexfilter: invalid arguments; try --help\n"
+        def usage(words):
+            return f"hexfilter: {words}; try --help\n".encode()
+
         rows = [
             ([], b"kiwi", 0, b"6b697769", b""),
             (["-pu"], b"kiwi", 0, b"0x6B697769", b""),
@@ -102,11 +124,14 @@ class Filter:
             (["--version"], b"", 0, b"hexfilter 1.0.0\n", b""),
             (["--check"], b"6b697z", 1, b"", named("invalid character 'z' at position 5")),
             (["--check"], b"6b69\n", 1, b"", named("invalid character '\\n' at position 4")),
-            (["--check", "--ignore-newlines"], b"6b\n\xff", 1, b"", named("invalid character 'ÿ' at position 3")),
+            (["--check", "-i"], b"6b\r\n\xff", 1, b"",
+             named("invalid character 'ÿ' at position 4 (line 2, column 1)")),
+            (["-di"], b"6b\n69 z", 1, b"ki", named("invalid character 'z' at position 6 (line 2, column 4)")),
             (["-d"], b"6b6", 1, b"k", named("odd number of digits")),
-            (["-x"], b"kiwi", 2, b"", usage),
-            (["-w"], b"kiwi", 2, b"", usage),
-            (["one", "two"], b"kiwi", 2, b"", usage),
+            (["-dx"], b"kiwi", 2, b"", usage("unknown option '-dx'")),
+            (["-p", "--wrap"], b"kiwi", 2, b"", usage("missing value after '--wrap'")),
+            (["-w", "7o"], b"kiwi", 2, b"", usage("invalid number '7o'")),
+            (["one", "two"], b"kiwi", 2, b"", usage("second file 'two'")),
             (["\udcff"], b"kiwi", 2, b"", b"hexfilter: cannot read the arguments: invalid data\n"),
         ]
         for row in rows:

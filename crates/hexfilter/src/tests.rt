@@ -7,7 +7,7 @@ mod results;
 
 use const_hex::FromHexError;
 use const_hex_vectors::Testing;
-use hexfilter_core::{Mode, RunError, run};
+use hexfilter_core::{Mode, Place, RunError, run};
 use std::io::{ErrorKind, Read};
 
 const ENCODE: Mode = Mode::Encode {
@@ -17,26 +17,26 @@ const ENCODE: Mode = Mode::Encode {
 };
 
 const DECODE: Mode = Mode::Decode {
-    ignore_newlines: false,
+    ignore_whitespace: false,
 };
 
 const CHECK: Mode = Mode::Check {
-    ignore_newlines: false,
+    ignore_whitespace: false,
 };
 
-const DECODE_LINES: Mode = Mode::Decode {
-    ignore_newlines: true,
+const DECODE_SPACED: Mode = Mode::Decode {
+    ignore_whitespace: true,
 };
 
-const CHECK_LINES: Mode = Mode::Check {
-    ignore_newlines: true,
+const CHECK_SPACED: Mode = Mode::Check {
+    ignore_whitespace: true,
 };
 
 /// How a run ends.
 #[derive(Clone, Copy, PartialEq, Eq, Debug)]
 enum End {
     Done,
-    Text(FromHexError),
+    Text(FromHexError, Option<Place>),
     Read(ErrorKind),
     Write(ErrorKind),
 }
@@ -44,7 +44,7 @@ enum End {
 fn end_of(outcome: Result<(), RunError>) -> End {
     match outcome {
         Ok(()) => End::Done,
-        Err(RunError::Text(error)) => End::Text(error),
+        Err(RunError::Text(error, place)) => End::Text(error, place),
         Err(RunError::Read(error)) => End::Read(error.kind()),
         Err(RunError::Write(error)) => End::Write(error.kind()),
     }

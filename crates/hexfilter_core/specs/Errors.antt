@@ -7,30 +7,30 @@ use Rattle.hexfilter_core.specs.declared.error.RunError.TheVariants.{Text, Read,
 
 -- the exit status of the program
 abbrev pub status_of : RunError → ℕ
-status_of (Text e) = 1
+status_of (Text e place) = 1
 status_of (Read e) = 3
 status_of (Write e) = 3
 
 -- a read failed, and no signal interrupted it
 abbrev pub IsFailedRead : RunError → Type 0
-IsFailedRead (Text e) = ⊥
+IsFailedRead (Text e place) = ⊥
 IsFailedRead (Read e) = error_kind e ≢ Interrupted
 IsFailedRead (Write e) = ⊥
 
 -- a write or a flush failed, and no signal interrupted it
 abbrev pub IsFailedWrite : RunError → Type 0
-IsFailedWrite (Text e) = ⊥
+IsFailedWrite (Text e place) = ⊥
 IsFailedWrite (Read e) = ⊥
 IsFailedWrite (Write e) = error_kind e ≢ Interrupted
 
 -- no call failed because a signal interrupted it
 abbrev pub IsNotInterrupted : RunError → Type 0
-IsNotInterrupted (Text e) = Unit {0}
+IsNotInterrupted (Text e place) = Unit {0}
 IsNotInterrupted (Read e) = error_kind e ≢ Interrupted
 IsNotInterrupted (Write e) = error_kind e ≢ Interrupted
 
 -- a read, a write or a flush failed, and no signal interrupted it
 abbrev pub IsFailedCall : RunError → Type 0
-IsFailedCall (Text e) = ⊥
+IsFailedCall (Text e place) = ⊥
 IsFailedCall (Read e) = error_kind e ≢ Interrupted
 IsFailedCall (Write e) = error_kind e ≢ Interrupted

@@ -4,4 +4,5 @@ pub mod Errors
 pub mod Inputs
 pub mod Lines
 pub mod Outcome
+pub mod Places
 pub mod Options

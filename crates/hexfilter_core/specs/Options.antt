@@ -1,14 +1,45 @@
 -- What the arguments of the program ask for.
-use Rattle.std.specs.Prelude.{ℕ, ◌+◌, ◌-◌, ◌*◌, ◌^◌, ◌==◌, nat_le, nat_lt, ◌&&◌, true, false, if◌then◌else◌, List, [], ◌∷◌, take, drop, Option, Some, None, codes, option_and_then}
+use Rattle.std.specs.Prelude.{ℕ, ◌+◌, ◌-◌, ◌*◌, ◌^◌, ◌==◌, nat_le, nat_lt, ◌&&◌, true, false, if◌then◌else◌, Bool, List, [], ◌∷◌, take, drop, Option, Some, None, Result, Ok, Err, codes, option_and_then}
 use Rattle.std.specs.Option.{is_some}
 use Rattle.std.specs.Str.{bytes_eq}
 use Rattle.hexfilter_core.specs.declared.mode.Mode.{Mode}
 use Rattle.hexfilter_core.specs.declared.mode.Mode.TheVariants.{Encode, Decode, Check}
+use Rattle.hexfilter_core.specs.declared.options.Fault.{Fault}
+use Rattle.hexfilter_core.specs.declared.options.Fault.TheVariants.{UnknownOption, MissingValue, InvalidNumber, SecondFile}
 use Rattle.hexfilter_core.specs.declared.options.Next.{Next}
-use Rattle.hexfilter_core.specs.declared.options.Next.TheVariants.{Any, Columns, File}
+use Rattle.hexfilter_core.specs.declared.options.Next.TheVariants.{Any, Value, File}
 use Rattle.hexfilter_core.specs.declared.options.Options.{Options}
 use Rattle.hexfilter_core.specs.declared.options.Request.{Request}
 use Rattle.hexfilter_core.specs.declared.options.Request.TheVariants.{Help, Version, Run}
+use Rattle.hexfilter_core.specs.declared.options.Setting.{Setting}
+use Rattle.hexfilter_core.specs.declared.options.Setting.TheVariants as setting
+use Rattle.hexfilter_core.specs.declared.options.UsageError.{UsageError}
+
+-- the option with a name
+abbrev pub named : List ℕ → Option Setting
+named name =
+    if bytes_eq name (codes "decode") then Some setting.Decode
+    else if bytes_eq name (codes "check") then Some setting.Check
+    else if bytes_eq name (codes "upper") then Some setting.Upper
+    else if bytes_eq name (codes "prefix") then Some setting.Prefix
+    else if bytes_eq name (codes "ignore-whitespace") then Some setting.IgnoreWhitespace
+    else if bytes_eq name (codes "ignore-newlines") then Some setting.IgnoreWhitespace
+    else if bytes_eq name (codes "help") then Some setting.Help
+    else if bytes_eq name (codes "version") then Some setting.Version
+    else if bytes_eq name (codes "wrap") then Some setting.Wrap
+    else None
+
+-- the option with a letter: d, u, p, i, h, V or w
+abbrev pub lettered : ℕ → Option Setting
+lettered c =
+    if c == 100 then Some setting.Decode
+    else if c == 117 then Some setting.Upper
+    else if c == 112 then Some setting.Prefix
+    else if c == 105 then Some setting.IgnoreWhitespace
+    else if c == 104 then Some setting.Help
+    else if c == 86 then Some setting.Version
+    else if c == 119 then Some setting.Wrap
+    else None
 
 -- no option is set
 abbrev pub start : Options
@@ -17,13 +48,24 @@ start = record {
   check = false;
   upper = false;
   prefix = false;
-  ignore_newlines = false;
+  ignore_whitespace = false;
   help = false;
   version = false;
   columns = 0;
   file = None;
   next = Any;
 }
+
+-- the options with one more: `Wrap` takes a value
+abbrev pub set : Options → Setting → Options
+set o setting.Decode = record o { decode = true }
+set o setting.Check = record o { check = true }
+set o setting.Upper = record o { upper = true }
+set o setting.Prefix = record o { prefix = true }
+set o setting.IgnoreWhitespace = record o { ignore_whitespace = true }
+set o setting.Help = record o { help = true }
+set o setting.Version = record o { version = true }
+set o setting.Wrap = record o { next = Value }
 
 -- the number n with one more decimal digit, if that is at most the greatest `usize`
 abbrev pub with_digit : ℕ → ℕ → Option ℕ
@@ -39,80 +81,84 @@ abbrev pub decimal : List ℕ → Option ℕ
 decimal [] = None
 decimal (c ∷ t) = with_digits 0 (c ∷ t)
 
--- COLUMNS
-abbrev pub with_columns : Options → List ℕ → Option Options
-with_columns o text = option_and_then (λ n. Some (record o { columns = n; next = Any })) (decimal text)
+-- the value of an option
+abbrev pub value_read : Options → Option ℕ → Result Options Fault
+value_read o None = Err InvalidNumber
+value_read o (Some n) = Ok (record o { columns = n; next = Any })
+
+abbrev pub with_value : Options → List ℕ → Result Options Fault
+with_value o text = value_read o (decimal text)
 
 -- FILE, of which there is one at most
-abbrev pub with_operand : Options → ℕ → Option Options
-with_operand o i = if is_some o.file then None else Some (record o { file = Some i })
+abbrev pub with_operand : Options → ℕ → Result Options Fault
+with_operand o i = if is_some o.file then Err SecondFile else Ok (record o { file = Some i })
+
+-- a name, an equals sign and a value
+abbrev pub with_assignment : Options → List ℕ → Result Options Fault
+with_assignment o text = if bytes_eq (take 5 text) (codes "wrap=") then with_value o (drop 5 text) else Err UnknownOption
 
 -- what follows the two dashes of an argument
-abbrev pub with_name : Options → List ℕ → Option Options
-with_name o name =
-    if bytes_eq name (codes "decode") then Some (record o { decode = true })
-    else if bytes_eq name (codes "check") then Some (record o { check = true })
-    else if bytes_eq name (codes "upper") then Some (record o { upper = true })
-    else if bytes_eq name (codes "prefix") then Some (record o { prefix = true })
-    else if bytes_eq name (codes "ignore-newlines") then Some (record o { ignore_newlines = true })
-    else if bytes_eq name (codes "help") then Some (record o { help = true })
-    else if bytes_eq name (codes "version") then Some (record o { version = true })
-    else if bytes_eq name (codes "wrap") then Some (record o { next = Columns })
-    else if bytes_eq name [] then Some (record o { next = File })
-    else if bytes_eq (take 5 name) (codes "wrap=") then with_columns o (drop 5 name)
-    else None
+abbrev pub with_named : Options → List ℕ → Option Setting → Result Options Fault
+with_named o text None = with_assignment o text
+with_named o text (Some s) = Ok (set o s)
 
--- what follows the letter `w`: COLUMNS, or nothing if they are the next argument
-abbrev pub with_value : Options → List ℕ → Option Options
-with_value o [] = Some (record o { next = Columns })
-with_value o (c ∷ t) = with_columns o (c ∷ t)
+abbrev pub with_name : Options → List ℕ → Result Options Fault
+with_name o text = if bytes_eq text [] then Ok (record o { next = File }) else with_named o text (named text)
 
--- a letter that follows one dash
-abbrev pub with_letter : Options → ℕ → Option Options
-with_letter o c =
-    if c == 100 then Some (record o { decode = true })
-    else if c == 117 then Some (record o { upper = true })
-    else if c == 112 then Some (record o { prefix = true })
-    else None
+abbrev pub wants_value : Next → Bool
+wants_value Any = false
+wants_value Value = true
+wants_value File = false
 
--- the letters that follow one dash: what follows `w` is COLUMNS
-unfoldable pub with_letters : Options → List ℕ → Option Options
-with_letters o [] = Some o
-with_letters o (c ∷ t) = if c == 119 then with_value o t else option_and_then (λ p. with_letters p t) (with_letter o c)
+-- what follows a letter that takes a value: the value, or nothing if that is the next argument
+abbrev pub with_rest : Options → List ℕ → Result Options Fault
+with_rest o [] = Ok o
+with_rest o (c ∷ t) = with_value o (c ∷ t)
+
+-- an option by its letter, and the letters that follow: after one that takes a value they are the value
+unfoldable pub goes_on : Options → Option Setting → List ℕ → Result Options Fault
+goes_on o None t = Err UnknownOption
+goes_on o (Some s) [] = Ok (set o s)
+goes_on o (Some s) (c ∷ t) = if wants_value (set o s).next then with_value (set o s) (c ∷ t) else goes_on (set o s) (lettered c) t
+
+-- the letters that follow one dash
+abbrev pub with_letters : Options → List ℕ → Result Options Fault
+with_letters o [] = Ok o
+with_letters o (c ∷ t) = goes_on o (lettered c) t
 
 -- an argument with dashes, or FILE, which may be one dash
-abbrev pub with_dashes : Options → ℕ → List ℕ → Option Options
+abbrev pub with_dashes : Options → ℕ → List ℕ → Result Options Fault
 with_dashes o i [] = with_operand o i
 with_dashes o i (c ∷ []) = with_operand o i
 with_dashes o i (c ∷ d ∷ t) = if c == 45 then (if d == 45 then with_name o t else with_letters o (d ∷ t)) else with_operand o i
 
 -- the argument with the number i
-abbrev pub with_argument_at : Next → Options → ℕ → List ℕ → Option Options
+abbrev pub with_argument_at : Next → Options → ℕ → List ℕ → Result Options Fault
 with_argument_at Any o i a = with_dashes o i a
-with_argument_at Columns o i a = with_columns o a
+with_argument_at Value o i a = with_value o a
 with_argument_at File o i a = with_operand o i
 
-abbrev pub with_argument : Options → ℕ → List ℕ → Option Options
+abbrev pub with_argument : Options → ℕ → List ℕ → Result Options Fault
 with_argument o i a = with_argument_at o.next o i a
-
--- the arguments from the number i on
-unfoldable pub with_arguments : Options → ℕ → List (List ℕ) → Option Options
-with_arguments o i [] = Some o
-with_arguments o i (a ∷ rest) = option_and_then (λ p. with_arguments p (i + 1) rest) (with_argument o i a)
 
 -- the mode that is set
 abbrev pub mode_of : Options → Mode
-mode_of o = if o.check then Check o.ignore_newlines else if o.decode then Decode o.ignore_newlines else Encode o.prefix o.upper o.columns
+mode_of o = if o.check then Check o.ignore_whitespace else if o.decode then Decode o.ignore_whitespace else Encode o.prefix o.upper o.columns
 
--- what is asked for, unless COLUMNS are missing
-abbrev pub asked : Next → Options → Option Request
-asked Columns o = None
-asked Any o = Some (if o.help then Help else if o.version then Version else Run (mode_of o) o.file)
-asked File o = Some (if o.help then Help else if o.version then Version else Run (mode_of o) o.file)
+-- what is asked for by so many arguments, unless a value is missing
+abbrev pub request : Options → ℕ → Result Request UsageError
+request o count =
+    if wants_value o.next then Err (record { fault = MissingValue; index = count - 1 })
+    else if o.help then Ok Help
+    else if o.version then Ok Version
+    else Ok (Run (mode_of o) o.file)
 
-abbrev pub request : Options → Option Request
-request o = asked o.next o
+-- the arguments from the number i on
+unfoldable pub with_arguments : Result Options Fault → ℕ → List (List ℕ) → Result Request UsageError
+with_arguments (Err e) i rest = Err (record { fault = e; index = i - 1 })
+with_arguments (Ok o) i [] = request o i
+with_arguments (Ok o) i (a ∷ rest) = with_arguments (with_argument o i a) (i + 1) rest
 
 -- what the arguments ask for
-abbrev pub request_for : List (List ℕ) → Option Request
-request_for arguments = option_and_then request (with_arguments start 0 arguments)
+abbrev pub request_for : List (List ℕ) → Result Request UsageError
+request_for arguments = with_arguments (Ok start) 0 arguments

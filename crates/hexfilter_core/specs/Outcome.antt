@@ -5,6 +5,7 @@ use Rattle.const_hex.specs.declared.error.FromHexError.{FromHexError}
 use Rattle.hexfilter_core.specs.Encoded.{encoded}
 use Rattle.hexfilter_core.specs.Inputs.{HasError, SpellsBeginning, text_of}
 use Rattle.hexfilter_core.specs.declared.mode.Mode.{Mode}
+use Rattle.hexfilter_core.specs.declared.place.Place.{Place}
 use Rattle.hexfilter_core.specs.declared.mode.Mode.TheVariants.{Encode, Decode, Check}
 
 -- the mode makes the bytes y of the input x
@@ -20,8 +21,8 @@ MakesBeginning (Encode prefix upper columns) x y = (left : List ℕ) × (encoded
 MakesBeginning (Decode ignores) x y = SpellsBeginning ignores x y
 MakesBeginning (Check ignores) x y = y ≡ []
 
--- the mode fails with the error e of the text of an input of which x was read
-abbrev pub FailsWith : Mode → Option (List ℕ) → List ℕ → FromHexError → Type 0
-FailsWith (Encode prefix upper columns) left x e = ⊥
-FailsWith (Decode ignores) left x e = HasError ignores left x e
-FailsWith (Check ignores) left x e = HasError ignores left x e
+-- the mode fails with the error e of the text of an input of which x was read, and its place
+abbrev pub FailsWith : Mode → Option (List ℕ) → List ℕ → FromHexError → Option Place → Type 0
+FailsWith (Encode prefix upper columns) left x e place = ⊥
+FailsWith (Decode ignores) left x e place = HasError ignores left x e place
+FailsWith (Check ignores) left x e place = HasError ignores left x e place

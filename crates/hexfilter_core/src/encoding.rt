@@ -16,7 +16,7 @@ use const_hex::{FixedKernel, fill_text};
 use std::io::{Read, Write};
 
 /// How many bytes are read at a time.
-const CHUNK: usize = 65_536;
+const CHUNK: usize = 16_384;
 
 /// Writes the text of all that the reader has, and flushes.
 pub(crate) fn encode_stream<R: Read, W: Write>(

@@ -22,12 +22,13 @@ pub enum Mode {
     },
     /// The bytes that the text decodes to.
     Decode {
-        /// Whether the newlines of the input are left out before it is decoded.
-        ignore_newlines: bool,
+        /// Whether spaces, tabs, line feeds, vertical tabs, form feeds and carriage returns are left out
+        /// before the text is decoded.
+        ignore_whitespace: bool,
     },
     /// Nothing. Only tests whether the text can be decoded.
     Check {
-        /// Whether the newlines of the input are left out before it is tested.
-        ignore_newlines: bool,
+        /// Whether they are left out before the text is tested.
+        ignore_whitespace: bool,
     },
 }

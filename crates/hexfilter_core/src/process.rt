@@ -1,6 +1,6 @@
 //! The whole program, from its arguments to its exit status.
 
-ghost use Rattle.std.specs.Prelude.{◌≡◌, ◌≢◌, ◌≤◌, ◌⊎◌, List, ℕ};
+ghost use Rattle.std.specs.Prelude.{◌≡◌, ◌≢◌, ◌≤◌, ◌⊎◌, List, ℕ, Option};
 ghost use Rattle.std.specs.Io.KnownBytes.{Appends, Consumes};
 ghost use Rattle.std.specs.Process.{exit_status};
 ghost use Rattle.const_hex.specs.declared.error.FromHexError.{FromHexError};
@@ -8,10 +8,12 @@ ghost use Rattle.hexfilter_core.specs.Errors.{status_of};
 ghost use Rattle.hexfilter_core.specs.Inputs.{ReadsAll};
 ghost use Rattle.hexfilter_core.specs.Outcome.{FailsWith, Makes};
 ghost use Rattle.hexfilter_core.specs.declared.mode.Mode.{Mode};
+ghost use Rattle.hexfilter_core.specs.declared.place.Place.{Place};
 
 use crate::error::RunError;
 use crate::mode::Mode;
-use crate::options::{Request, request_of};
+use crate::options::{Fault, Request, UsageError, request_of};
+use crate::place::Place;
 use crate::runs::run;
 use crate::transfer::{flush, write_piece};
 use std::env::{self, Env};
@@ -26,17 +28,22 @@ Usage: hexfilter [OPTION]... [FILE]
 Writes FILE as hexadecimal text, or decodes such a text. Without FILE, or if FILE
 is -, reads standard input. Writes to standard output.
 
-  -d, --decode           decode the text
-      --check            only test whether the text can be decoded
-  -u, --upper            write digits in uppercase
-  -p, --prefix           write 0x before the digits
-  -w, --wrap COLUMNS     write lines of COLUMNS characters (0: no lines)
-      --ignore-newlines  leave out newlines before the text is decoded
-      --help             print this help
-      --version          print the version
+  -d, --decode             decode the text
+      --check              only test whether the text can be decoded
+  -i, --ignore-whitespace  leave out spaces, tabs and ends of lines before the
+                           text is decoded
+  -u, --upper              write digits in uppercase
+  -p, --prefix             write 0x before the digits
+  -w, --wrap COLUMNS       write lines of COLUMNS characters (0: no lines)
+  -h, --help               print this help
+  -V, --version            print the version
 
 Exit status: 0 done, 1 the text cannot be decoded, 2 an argument is not valid,
 3 a read or a write failed.
+
+Examples:
+  xxd -p disk.img | hexfilter -di > copy.img
+  hexfilter -pw64 disk.img
 ";
 
 /// What `--version` prints.
@@ -65,8 +72,8 @@ pub fn program<R: Read, W: Write>(
     // Standard input was not asked for, or a mode fails with an error of its text.
     ensures invalid { exit_status result ≡ 1
         → (input.new ≡ input.old) ⊎ ((m : Mode) × (x : List ℕ) × (e : FromHexError)
-        × Consumes (R.remaining input.old) (R.remaining input.new) x
-        × FailsWith m (R.remaining input.new) x e) }
+        × (place : Option Place) × Consumes (R.remaining input.old) (R.remaining input.new) x
+        × FailsWith m (R.remaining input.new) x e place) }
     // Nothing was read or written.
     ensures misused { exit_status result ≡ 2
         → (input.new ≡ input.old) × (output.new ≡ output.old) }
@@ -80,18 +87,34 @@ pub fn program<R: Read, W: Write>(
         }
     };
     match request_of(&arguments) {
-        Some(Request::Help) => print(rt, HELP, output),
-        Some(Request::Version) => print(rt, VERSION, output),
-        Some(Request::Run(mode, None)) => run_standard_input(rt, mode, input, output),
-        Some(Request::Run(mode, Some(index))) => match arguments.get(index) {
+        Ok(Request::Help) => print(rt, HELP, output),
+        Ok(Request::Version) => print(rt, VERSION, output),
+        Ok(Request::Run(mode, None)) => run_standard_input(rt, mode, input, output),
+        Ok(Request::Run(mode, Some(index))) => match arguments.get(index) {
             Some(name) if name.as_str() != "-" => run_file(rt, mode, name.as_str(), output),
             _ => run_standard_input(rt, mode, input, output),
         },
-        None => {
-            let _ = eprintln!(rt; "hexfilter: invalid arguments; try --help");
-            ExitCode::from(2)
-        }
+        Err(error) => misused(rt, &arguments, error),
     }
+}
+
+/// Prints which argument is not valid, and why.
+fn misused(rt: &impl Eprint, arguments: &[String], error: UsageError) -> ExitCode
+    ensures { exit_status result ≡ 2 }
+{
+    let argument = match arguments.get(error.index) {
+        Some(argument) => argument.as_str(),
+        None => "",
+    };
+    let reason = match error.fault {
+        Fault::UnknownOption => "unknown option",
+        Fault::MissingValue => "missing value after",
+        Fault::InvalidNumber => "invalid number",
+        Fault::SecondFile => "second file",
+    };
+    // Nothing is left to be done if standard error fails.
+    let _ = eprintln!(rt; "hexfilter: {reason} '{argument}'; try --help");
+    ExitCode::from(2)
 }
 
 /// The arguments after the program's name.
@@ -110,8 +133,8 @@ fn run_standard_input<R: Read, W: Write>(
         × ReadsAll (R.remaining input.old) (R.remaining input.new) x × Makes mode x y
         × Appends (W.contents output.old) (W.contents output.new) y }
     ensures invalid { exit_status result ≡ 1 → (x : List ℕ) × (e : FromHexError)
-        × Consumes (R.remaining input.old) (R.remaining input.new) x
-        × FailsWith mode (R.remaining input.new) x e }
+        × (place : Option Place) × Consumes (R.remaining input.old) (R.remaining input.new) x
+        × FailsWith mode (R.remaining input.new) x e place }
     ensures used { exit_status result ≢ 2 }
     ensures statuses { exit_status result ≤ 3 }
 {
@@ -165,7 +188,10 @@ fn failed(rt: &impl Eprint, name: &str, error: RunError) -> ExitCode
 {
     // Nothing is left to be done if standard error fails.
     let _ = match error {
-        RunError::Text(error) => eprintln!(rt; "hexfilter: {name}: {error}"),
+        RunError::Text(error, None) => eprintln!(rt; "hexfilter: {name}: {error}"),
+        RunError::Text(error, Some(Place { line, column })) => {
+            eprintln!(rt; "hexfilter: {name}: {error} (line {line}, column {column})")
+        }
         RunError::Read(error) => eprintln!(rt; "hexfilter: {name}: {error}"),
         RunError::Write(error) if error.kind() == ErrorKind::BrokenPipe => Ok(()),
         RunError::Write(error) => eprintln!(rt; "hexfilter: standard output: {error}"),

@@ -1,12 +1,13 @@
 //! A whole run over any reader and writer.
 
-ghost use Rattle.std.specs.Prelude.{◌≡◌, List, ℕ, Err, OnOk, OnErr, IfErr};
+ghost use Rattle.std.specs.Prelude.{◌≡◌, List, ℕ, Err, Option, OnOk, OnErr, IfErr};
 ghost use Rattle.std.specs.Io.KnownBytes.{Appends, Consumes};
 ghost use Rattle.const_hex.specs.declared.error.FromHexError.{FromHexError};
 ghost use Rattle.hexfilter_core.specs.Errors.{IsNotInterrupted};
 ghost use Rattle.hexfilter_core.specs.Inputs.{ReadsAll};
 ghost use Rattle.hexfilter_core.specs.Outcome.{Makes, MakesBeginning, FailsWith};
 ghost use Rattle.hexfilter_core.specs.declared.error.RunError.TheVariants.{Text};
+ghost use Rattle.hexfilter_core.specs.declared.place.Place.{Place};
 
 use crate::decoding::decode_stream;
 use crate::encoding::encode_stream;
@@ -15,22 +16,22 @@ use crate::mode::Mode;
 use std::io::{self, Read, Write};
 
 /// Reads the input to its end, writes what the mode makes of it, and flushes. The input may have any
-/// length: it is read in chunks of 64 or 128 KiB, and nothing is allocated.
+/// length: it is read in chunks of at most 32 KiB, and nothing is allocated.
 ///
 /// Returns
 ///
 /// - [`RunError::Text`], if the text cannot be decoded: with `InvalidHexCharacter` for its first
 ///   invalid character, at once, and with `OddLength` at the end. The position counts in the input,
-///   newlines included, from 0; `usize::MAX` stands for a position beyond it;
+///   whitespace included, from 0; `usize::MAX` stands for a position beyond it;
 /// - [`RunError::Read`], if a read fails;
 /// - [`RunError::Write`], if a write or the flush fails, or a write takes no bytes.
 ///
-/// A beginning of the result may then have been written. A call that a signal interrupts is made
-/// again.
+/// A beginning of the result may then have been written: before an invalid character, the bytes of all
+/// whole pairs of digits. A call that a signal interrupts is made again.
 ///
 /// ```rust
 /// let mut output = Vec::new(rt.alloc());
-/// let mode = Mode::Decode { ignore_newlines: true };
+/// let mode = Mode::Decode { ignore_whitespace: true };
 /// run(mode, &mut b"6b69\n7769\n".as_slice(), &mut output)?;
 /// assert_eq!(rt; output.as_slice(), b"kiwi".as_slice());
 /// ```
@@ -40,9 +41,9 @@ pub fn run<R: Read, W: Write>(mode: Mode, input: &mut R, output: &mut W) -> Resu
         × ReadsAll (R.remaining input.old) (R.remaining input.new) x × Makes mode x y
         × Appends (W.contents output.old) (W.contents output.new) y) }
     // `e` is the error of what was read, whatever follows, or of all that the reader had.
-    ensures text { (e : FromHexError) → result ≡ Err (Text e) → (x : List ℕ)
-        × Consumes (R.remaining input.old) (R.remaining input.new) x
-        × FailsWith mode (R.remaining input.new) x e }
+    ensures text { (e : FromHexError) (place : Option Place) → result ≡ Err (Text e place)
+        → (x : List ℕ) × Consumes (R.remaining input.old) (R.remaining input.new) x
+        × FailsWith mode (R.remaining input.new) x e place }
     // A beginning of what the mode makes of the bytes that were read was written.
     ensures begun { OnErr result ((x : List ℕ) × (y : List ℕ)
         × Consumes (R.remaining input.old) (R.remaining input.new) x × MakesBeginning mode x y
@@ -55,9 +56,9 @@ pub fn run<R: Read, W: Write>(mode: Mode, input: &mut R, output: &mut W) -> Resu
             upper,
             columns,
         } => encode_stream(prefix, upper, columns, input, output),
-        Mode::Decode { ignore_newlines } => decode_stream(ignore_newlines, input, output),
-        Mode::Check { ignore_newlines } => {
-            decode_stream(ignore_newlines, input, &mut io::sink())
+        Mode::Decode { ignore_whitespace } => decode_stream(ignore_whitespace, input, output),
+        Mode::Check { ignore_whitespace } => {
+            decode_stream(ignore_whitespace, input, &mut io::sink())
         }
     }
 }

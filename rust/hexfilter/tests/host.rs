@@ -114,3 +114,42 @@ fn an_argument_that_is_no_text() {
     let error = "hexfilter: cannot read the arguments: invalid data\n";
     assert_eq!(end, (Some(2), vec![], error.to_string()));
 }
+
+/// The manual page has each line of the help, without its markup.
+#[test]
+fn the_manual_page() {
+    let page = include_str!("../hexfilter.1")
+        .replace("\\fI", "")
+        .replace("\\fR", "")
+        .replace('\\', "");
+    let page: String = page
+        .lines()
+        .map(|line| {
+            line.strip_prefix(".BR ")
+                .or(line.strip_prefix(".B "))
+                .unwrap_or(line)
+        })
+        .flat_map(|line| [line, " "])
+        .collect();
+    let words = |text: &str| {
+        text.replace(['"', ','], "")
+            .split_whitespace()
+            .collect::<Vec<_>>()
+            .join(" ")
+    };
+    let page = words(&page);
+    let help = String::from_utf8(run(&mut hexfilter(&["--help"]), b"").1).unwrap();
+    let (_, parts) = help.split_once("\n\n").unwrap();
+    let parts = parts.replace("Exit status: ", "");
+    for part in parts
+        .replace("\n                           ", " ")
+        .split('\n')
+    {
+        for column in part.split("  ").filter(|column| !column.ends_with(':')) {
+            assert!(
+                page.contains(&words(column)),
+                "{column:?} is not in the manual page"
+            );
+        }
+    }
+}

@@ -44,25 +44,27 @@ pub use self::formatting::text::*;
 // The places that each rule of rust/erase has changed:
 //
 //   27  Rattle's std is the module rattle
-//    2  Rust's errors and the crate's decoder are not copied
+//    1  Rust's errors are not copied
 //   26  a formatter has a lifetime in place of its writer's type
 //   53  a function for AVX2 takes in all that it calls
 //   10  a function for C takes slices, which capi makes of pointers and lengths
 //   16  a kernel is compiled for each kind of register, so it names the others beside it
 //   36  a range that is proved to be within its slice is not tested in release builds
-//   83  all crates are one module
+//   89  all crates are one module
 //    5  an allocation never fails: without memory the program ends
 //    1  an argument's copy takes no allocator
 //  130  an assertion names no runtime
 //    4  an example of hexfilter uses no allocator
 //    1  and a constant converts by a cast
-//    1  and an error is borrowed
+//    2  and an error is borrowed
 //    3  and panics instead of returning an error
+//    1  and the crate's decoder is cloned
 //    6  and the vectors of its kind
+//    1  before it reads a chunk
 //    2  callers that nothing exports are left out
 //   46  deleted: attribute
-//  256  deleted: contract
-//  217  deleted: ghost item
+//  266  deleted: contract
+//  227  deleted: ghost item
 //    4  deleted: model
 //    1  each value may be dropped
 //   22  the allocator is a value

@@ -1,10 +1,10 @@
 //! What is written, and which error is returned: of given inputs, at every cut, and of long ones.
 
-use crate::tests::{CHECK, CHECK_LINES, DECODE, DECODE_LINES, ENCODE, End, run_on};
+use crate::tests::{CHECK, CHECK_SPACED, DECODE, DECODE_SPACED, ENCODE, End, run_on};
 use const_hex::FromHexError;
 use const_hex_vectors::texts::invalid;
 use const_hex_vectors::{Fault, Source, Target, Testing, Text, same, same_bytes};
-use hexfilter_core::{Mode, run};
+use hexfilter_core::{Mode, Place, run};
 use std::io::{self, ErrorKind, Read};
 
 fn encode(prefix: bool, upper: bool, columns: usize) -> Mode {
@@ -40,7 +40,7 @@ fn encoded(rt: HostRuntime) {
 
 #[test]
 fn decoded(rt: HostRuntime) {
-    let rows: [(Mode, &[u8], &[u8]); 12] = [
+    let rows: [(Mode, &[u8], &[u8]); 13] = [
         (DECODE, b"", b""),
         (DECODE, b"0x", b""),
         (DECODE, b"0X", b""),
@@ -49,10 +49,11 @@ fn decoded(rt: HostRuntime) {
         (DECODE, b"0X6b697769", b"kiwi"),
         (DECODE, b"ff00", b"\xff\0"),
         (CHECK, b"0x6b697769", b""),
-        (DECODE_LINES, b"\n", b""),
-        (DECODE_LINES, b"6b697769\n", b"kiwi"),
-        (DECODE_LINES, b"\n0\n\nx6\nb697769\n\n", b"kiwi"),
-        (CHECK_LINES, b"0\nx6b\n", b""),
+        (DECODE_SPACED, b"\n", b""),
+        (DECODE_SPACED, b"6b697769\n", b"kiwi"),
+        (DECODE_SPACED, b"\n0\n\nx6\nb697769\n\n", b"kiwi"),
+        (DECODE_SPACED, b" 6b\t69\r\n77\x0b6\x0c9 \n", b"kiwi"),
+        (CHECK_SPACED, b"0\nx6b\n", b""),
     ];
     for (mode, input, want) in rows {
         ends(&rt, mode, input, End::Done, want);
@@ -75,31 +76,64 @@ fn ends(rt: &impl Testing, mode: Mode, input: &[u8], end: End, want: &[u8]) {
 #[test]
 fn invalid_texts(rt: HostRuntime) {
     let odd = FromHexError::OddLength;
-    let rows: [(Mode, &[u8], FromHexError); 17] = [
-        (DECODE, b"0", odd),
-        (DECODE, b"0x6", odd),
-        (CHECK, b"6b6", odd),
-        (DECODE_LINES, b"6b\n6\n", odd),
-        (DECODE, b"z", invalid(b'z', 0)),
-        (DECODE, b"6b69z", invalid(b'z', 4)),
-        (CHECK, b"0xzz", invalid(b'z', 2)),
-        (DECODE, b"0x0x6b", invalid(b'x', 3)),
-        (DECODE, b"6b0x6b", invalid(b'x', 3)),
-        (DECODE, b"x06b", invalid(b'x', 0)),
-        (DECODE, b"0y6b", invalid(b'y', 1)),
-        (DECODE, b"6b69\n", invalid(b'\n', 4)),
-        (DECODE, b"6b\xff0", invalid(0xff, 2)),
-        (DECODE_LINES, b"6b\n\nz", invalid(b'z', 4)),
-        (CHECK_LINES, b"\n0\nx6b\n6g", invalid(b'g', 8)),
-        (DECODE_LINES, b"6b\r\n69", invalid(b'\r', 2)),
-        (DECODE_LINES, b"6b 69", invalid(b' ', 2)),
+    let rows: [(Mode, &[u8], FromHexError, Option<Place>); 20] = [
+        (DECODE, b"0", odd, None),
+        (DECODE, b"0x6", odd, None),
+        (CHECK, b"6b6", odd, None),
+        (DECODE_SPACED, b"6b\n6\n", odd, None),
+        (DECODE, b"z", invalid(b'z', 0), None),
+        (DECODE, b"6b69z", invalid(b'z', 4), None),
+        (CHECK, b"0xzz", invalid(b'z', 2), None),
+        (DECODE, b"0x0x6b", invalid(b'x', 3), None),
+        (DECODE, b"6b0x6b", invalid(b'x', 3), None),
+        (DECODE, b"x06b", invalid(b'x', 0), None),
+        (DECODE, b"0y6b", invalid(b'y', 1), None),
+        (DECODE, b"6b69\n", invalid(b'\n', 4), None),
+        (DECODE, b"6b\xff0", invalid(0xff, 2), None),
+        (DECODE_SPACED, b"z", invalid(b'z', 0), at(1, 1)),
+        (DECODE_SPACED, b"6b\n\nz", invalid(b'z', 4), at(3, 1)),
+        (CHECK_SPACED, b"\n0\nx6b\n6g", invalid(b'g', 8), at(4, 2)),
+        (DECODE_SPACED, b"6b\r\n69 :", invalid(b':', 7), at(2, 4)),
+        (DECODE_SPACED, b"\t\x0b\x0c \r\x00", invalid(0, 5), at(1, 6)),
+        (DECODE_SPACED, b"6b\x08", invalid(8, 2), at(1, 3)),
+        (DECODE_SPACED, b"6b\x0e69", invalid(14, 2), at(1, 3)),
     ];
-    for (mode, input, error) in rows {
+    for (mode, input, error, place) in rows {
         let row = (mode, Text(input));
-        same!(&rt, "run", row; run_on(&rt, mode, &mut { input }).0, End::Text(error));
+        let end = End::Text(error, place);
+        let (ended, written) = run_on(&rt, mode, &mut { input });
+        same!(&rt, "run", row; ended, end);
         let mut source = Source::new(input, 0, ErrorKind::Other);
-        same!(&rt, "run by bytes", row; run_on(&rt, mode, &mut source).0, End::Text(error));
+        let (ended, by_bytes) = run_on(&rt, mode, &mut source);
+        same!(&rt, "run by bytes", row; ended, end);
+        same_bytes!(&rt, "run", row; written, by_bytes);
     }
+}
+
+fn at(line: usize, column: usize) -> Option<Place> {
+    Some(Place { line, column })
+}
+
+#[test]
+fn bytes_before_an_error(rt: HostRuntime) {
+    let rows: [(Mode, &[u8], &[u8]); 6] = [
+        (DECODE, b"0x6b6z", b"k"),
+        (DECODE, b"6b69776g", b"kiw"),
+        (DECODE, b"6b\n69", b"k"),
+        (DECODE_SPACED, b" 6 b\n69 7z", b"ki"),
+        (DECODE_SPACED, b"6b6", b"k"),
+        (CHECK, b"6b69z", b""),
+    ];
+    for (mode, input, want) in rows {
+        let row = (mode, Text(input));
+        same_bytes!(&rt, "run", row; run_on(&rt, mode, &mut { input }).1, want);
+    }
+    let (_, written) = run_on(
+        &rt,
+        DECODE,
+        &mut io::repeat(b'0').take(400_003).chain(&b"z"[..]),
+    );
+    same!(&rt; written.len(), 200_001);
 }
 
 // The bytes 32 to 63, as text.
@@ -116,12 +150,12 @@ fn every_cut(rt: HostRuntime) {
         let (end, written) = run_on(&rt, DECODE, &mut first.chain(last));
         same!(&rt, "decode", cut; end, End::Done);
         same_bytes!(&rt, "decode", cut; written, BYTES);
-        let (end, written) = run_on(&rt, DECODE_LINES, &mut first.chain(&b"\n"[..]).chain(last));
+        let (end, written) = run_on(&rt, DECODE_SPACED, &mut first.chain(&b"\n"[..]).chain(last));
         same!(&rt, "decode lines", cut; end, End::Done);
         same_bytes!(&rt, "decode lines", cut; written, BYTES);
         let (first, last) = faulty.split_at(cut);
         let (end, _) = run_on(&rt, CHECK, &mut first.chain(last));
-        same!(&rt, "check", cut; end, End::Text(invalid(b'g', 63)));
+        same!(&rt, "check", cut; end, End::Text(invalid(b'g', 63), None));
         let (first, last) = BYTES.split_at(cut / 2);
         let (end, written) = run_on(&rt, encode(false, false, 0), &mut first.chain(last));
         same!(&rt, "encode", cut; end, End::Done);
@@ -129,7 +163,7 @@ fn every_cut(rt: HostRuntime) {
     }
 }
 
-// Chunks have 65536 bytes to encode and 131072 to decode.
+// A chunk has 65536 bytes.
 const COUNTS: [u64; 4] = [65_535, 65_536, 65_537, 131_073];
 
 #[test]
@@ -142,7 +176,7 @@ fn long_inputs(rt: HostRuntime) {
         same!(&rt, "decode", count; end, End::Done);
         same!(&rt, "decode", count; (bytes.len() as u64, bytes.iter().all(|b| *b == 0)), (count, true));
         let (end, _) = run_on(&rt, CHECK, &mut io::repeat(b'0').take(2 * count + 1));
-        same!(&rt, "check", count; end, End::Text(FromHexError::OddLength));
+        same!(&rt, "check", count; end, End::Text(FromHexError::OddLength, None));
     }
 }
 
@@ -155,9 +189,9 @@ fn positions_in_long_inputs(rt: HostRuntime) {
             DECODE,
             &mut io::repeat(b'0').take(count).chain(&b"z"[..]),
         );
-        same!(&rt, "decode", count; end, End::Text(invalid(b'z', index)));
+        same!(&rt, "decode", count; end, End::Text(invalid(b'z', index), None));
         let lines = &mut io::repeat(b'\n').take(count).chain(&b"0\nz"[..]);
-        same!(&rt, "decode lines", count; run_on(&rt, DECODE_LINES, lines).0, End::Text(invalid(b'z', index + 2)));
+        same!(&rt, "decode lines", count; run_on(&rt, DECODE_SPACED, lines).0, End::Text(invalid(b'z', index + 2), at(index + 2, 1)));
     }
 }
 
@@ -174,7 +208,7 @@ fn long_lines(rt: HostRuntime) {
         let (end, text) = run_on(&rt, mode, &mut io::repeat(0).take(131_073));
         same!(&rt, "encode", columns; end, End::Done);
         same_bytes!(&rt, "encode", columns; text, want);
-        let (end, bytes) = run_on(&rt, DECODE_LINES, &mut text.as_slice());
+        let (end, bytes) = run_on(&rt, DECODE_SPACED, &mut text.as_slice());
         same!(&rt, "decode lines", columns; end, End::Done);
         same!(&rt, "decode lines", columns; bytes.len(), 131_073);
     }

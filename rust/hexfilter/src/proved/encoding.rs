@@ -9,7 +9,7 @@ use crate::rattle::codec::{FixedKernel, fill_text};
 use crate::rattle::io::{Read, Write};
 
 /// How many bytes are read at a time.
-const CHUNK: usize = 65_536;
+const CHUNK: usize = 16_384;
 
 /// Writes the text of all that the reader has, and flushes.
 pub(crate) fn encode_stream<R: Read, W: Write>(

@@ -2,14 +2,16 @@
 //! Why a run fails.
 
 use crate::rattle::prelude::*;
+use crate::proved::place::Place;
 use crate::rattle::codec::FromHexError;
 use crate::rattle::io;
 
 /// Why a run fails.
 #[derive(Debug)]
 pub enum RunError {
-    /// The text has an odd number of digits, or an invalid character.
-    Text(FromHexError),
+    /// The text has an odd number of digits, or an invalid character. If whitespace is ignored, the
+    /// character stands at that place, and else in the first line.
+    Text(FromHexError, Option<Place>),
     /// A read failed with this error. It is never `Interrupted`.
     Read(io::Error),
     /// A write or the flush failed with this error. It is never `Interrupted`.
@@ -20,14 +22,8 @@ impl RunError {
     /// The exit status of the program: 1 for the text, 3 for input and output.
     pub fn status(&self) -> u8 {
         match self {
-            RunError::Text(_) => 1,
+            RunError::Text(..) => 1,
             RunError::Read(_) | RunError::Write(_) => 3,
         }
-    }
-}
-
-impl From<FromHexError> for RunError {
-    fn from(error: FromHexError) -> RunError {
-        RunError::Text(error)
     }
 }

@@ -8,7 +8,7 @@ use std::str::FromStr;
 #[test]
 fn hexfilter_error_runerror() -> Result<(), Box<dyn Error>> {
     let mut output = Vec::new();
-    let mode = Mode::Decode { ignore_newlines: false };
+    let mode = Mode::Decode { ignore_whitespace: false };
     let error = run(mode, &mut b"6b6".as_slice(), &mut output).unwrap_err();
     assert_eq!(error.status(), 1);
     Ok(())
@@ -16,7 +16,7 @@ fn hexfilter_error_runerror() -> Result<(), Box<dyn Error>> {
 
 #[test]
 fn hexfilter_error_status() -> Result<(), Box<dyn Error>> {
-    assert_eq!(RunError::Text(FromHexError::OddLength).status(), 1);
+    assert_eq!(RunError::Text(FromHexError::OddLength, None).status(), 1);
     Ok(())
 }
 
@@ -31,21 +31,21 @@ fn hexfilter_mode_mode() -> Result<(), Box<dyn Error>> {
 
 #[test]
 fn hexfilter_options_request() -> Result<(), Box<dyn Error>> {
-    assert_eq!(request_of(&[]), Some(Request::Run(Mode::Encode { prefix: false, upper: false, columns: 0 }, None)));
+    assert_eq!(request_of(&[]), Ok(Request::Run(Mode::Encode { prefix: false, upper: false, columns: 0 }, None)));
     Ok(())
 }
 
 #[test]
 fn hexfilter_options_request_of() -> Result<(), Box<dyn Error>> {
     let arguments = [String::from_str("--version").unwrap()];
-    assert_eq!(request_of(&arguments), Some(Request::Version));
+    assert_eq!(request_of(&arguments), Ok(Request::Version));
     Ok(())
 }
 
 #[test]
 fn hexfilter_runs_run() -> Result<(), Box<dyn Error>> {
     let mut output = Vec::new();
-    let mode = Mode::Decode { ignore_newlines: true };
+    let mode = Mode::Decode { ignore_whitespace: true };
     run(mode, &mut b"6b69\n7769\n".as_slice(), &mut output).unwrap();
     assert_eq!(output.as_slice(), b"kiwi".as_slice());
     Ok(())

@@ -10,18 +10,20 @@ use crate::rattle::prelude::*;
 mod decoding;
 mod encoding;
 mod error;
-mod line_decoder;
+mod input_decoder;
 mod lines;
 mod mode;
-mod newlines;
 mod options;
+mod place;
 mod process;
 mod runs;
 mod transfer;
+mod whitespace;
 
 pub use crate::proved::error::RunError;
 pub use crate::proved::mode::Mode;
-pub use crate::proved::options::{Request, request_of};
+pub use crate::proved::options::{Fault, Request, UsageError, request_of};
+pub use crate::proved::place::Place;
 pub use crate::proved::process::program;
 pub use crate::proved::runs::run;
 

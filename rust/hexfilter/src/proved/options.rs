@@ -15,13 +15,48 @@ pub enum Request {
     Run(Mode, Option<usize>),
 }
 
+/// Why an argument is not valid.
+#[derive(Clone, Copy, PartialEq, Eq, Debug)]
+pub enum Fault {
+    /// It has an option that there is not.
+    UnknownOption,
+    /// It ends in an option whose value is missing.
+    MissingValue,
+    /// It has or is a value that is no number of at most `usize::MAX`.
+    InvalidNumber,
+    /// It is a second file.
+    SecondFile,
+}
+
+/// The first argument that is not valid.
+#[derive(Clone, Copy, PartialEq, Eq, Debug)]
+pub struct UsageError {
+    /// Why it is not valid.
+    pub fault: Fault,
+    /// Its index.
+    pub index: usize,
+}
+
+/// An option.
+#[derive(Clone, Copy)]
+pub(crate) enum Setting {
+    Decode,
+    Check,
+    Upper,
+    Prefix,
+    IgnoreWhitespace,
+    Help,
+    Version,
+    Wrap,
+}
+
 /// What the next argument may be.
 #[derive(Clone, Copy)]
 pub(crate) enum Next {
     /// Options or a file.
     Any,
-    /// The number of columns.
-    Columns,
+    /// The value of the last option.
+    Value,
     /// A file.
     File,
 }
@@ -33,7 +68,7 @@ pub(crate) struct Options {
     check: bool,
     upper: bool,
     prefix: bool,
-    ignore_newlines: bool,
+    ignore_whitespace: bool,
     help: bool,
     version: bool,
     columns: usize,
@@ -46,7 +81,7 @@ const START: Options = Options {
     check: false,
     upper: false,
     prefix: false,
-    ignore_newlines: false,
+    ignore_whitespace: false,
     help: false,
     version: false,
     columns: 0,
@@ -54,27 +89,74 @@ const START: Options = Options {
     next: Next::Any,
 };
 
-/// What the arguments after the program's name ask for, or `None` if they are not valid.
-pub fn request_of(arguments: &[String]) -> Option<Request> {
+/// What the arguments after the program's name ask for, or the first of them that is not valid.
+pub fn request_of(arguments: &[String]) -> Result<Request, UsageError> {
     let mut options = START;
     for index in 0..arguments.len() {
-        options = options.with_argument(index, arguments[index].as_str())?;
+        match options.with_argument(index, arguments[index].as_str()) {
+            Ok(more) => options = more,
+            Err(fault) => return Err(UsageError { fault, index }),
+        }
     }
-    options.request()
+    options.request(arguments.len())
+}
+
+/// The option with that name.
+fn named(name: &str) -> Option<Setting> {
+    match name {
+        "decode" => Some(Setting::Decode),
+        "check" => Some(Setting::Check),
+        "upper" => Some(Setting::Upper),
+        "prefix" => Some(Setting::Prefix),
+        "ignore-whitespace" | "ignore-newlines" => Some(Setting::IgnoreWhitespace),
+        "help" => Some(Setting::Help),
+        "version" => Some(Setting::Version),
+        "wrap" => Some(Setting::Wrap),
+        _ => None,
+    }
+}
+
+/// The option with that letter.
+fn lettered(letter: u8) -> Option<Setting> {
+    match letter {
+        b'd' => Some(Setting::Decode),
+        b'u' => Some(Setting::Upper),
+        b'p' => Some(Setting::Prefix),
+        b'i' => Some(Setting::IgnoreWhitespace),
+        b'h' => Some(Setting::Help),
+        b'V' => Some(Setting::Version),
+        b'w' => Some(Setting::Wrap),
+        _ => None,
+    }
 }
 
 impl Options {
-    /// The options with an argument, or `None` if it is not valid.
-    fn with_argument(self, index: usize, argument: &str) -> Option<Options> {
+    /// The options with one more. Its value may follow.
+    fn set(mut self, setting: Setting) -> Options {
+        match setting {
+            Setting::Decode => self.decode = true,
+            Setting::Check => self.check = true,
+            Setting::Upper => self.upper = true,
+            Setting::Prefix => self.prefix = true,
+            Setting::IgnoreWhitespace => self.ignore_whitespace = true,
+            Setting::Help => self.help = true,
+            Setting::Version => self.version = true,
+            Setting::Wrap => self.next = Next::Value,
+        }
+        self
+    }
+
+    /// The options with an argument.
+    fn with_argument(self, index: usize, argument: &str) -> Result<Options, Fault> {
         match self.next {
             Next::Any => self.with_dashes(index, argument),
-            Next::Columns => self.with_columns(argument.as_bytes()),
+            Next::Value => self.with_value(argument.as_bytes()),
             Next::File => self.with_operand(index),
         }
     }
 
     /// The options with an argument that may begin with dashes.
-    fn with_dashes(self, index: usize, argument: &str) -> Option<Options> {
+    fn with_dashes(self, index: usize, argument: &str) -> Result<Options, Fault> {
         if let Some(name) = argument.strip_prefix("--") {
             return self.with_name(name);
         }
@@ -84,75 +166,97 @@ impl Options {
         }
     }
 
-    /// The options with a name after two dashes.
-    fn with_name(mut self, name: &str) -> Option<Options> {
-        match name {
-            "decode" => self.decode = true,
-            "check" => self.check = true,
-            "upper" => self.upper = true,
-            "prefix" => self.prefix = true,
-            "ignore-newlines" => self.ignore_newlines = true,
-            "help" => self.help = true,
-            "version" => self.version = true,
-            "wrap" => self.next = Next::Columns,
-            "" => self.next = Next::File,
-            _ => return self.with_columns(name.strip_prefix("wrap=")?.as_bytes()),
+    /// The options with what follows two dashes.
+    fn with_name(mut self, name: &str) -> Result<Options, Fault> {
+        if name.is_empty() {
+            self.next = Next::File;
+            return Ok(self);
         }
-        Some(self)
+        match named(name) {
+            Some(setting) => Ok(self.set(setting)),
+            None => self.with_assignment(name),
+        }
+    }
+
+    /// The options with a name, an equals sign and a value.
+    fn with_assignment(self, text: &str) -> Result<Options, Fault> {
+        match text.strip_prefix("wrap=") {
+            Some(value) => self.with_value(value.as_bytes()),
+            None => Err(Fault::UnknownOption),
+        }
     }
 
     /// The options with the letters after one dash.
-    fn with_letters(mut self, letters: &[u8]) -> Option<Options> {
+    fn with_letters(mut self, letters: &[u8]) -> Result<Options, Fault> {
         for index in 0..letters.len() {
-            if letters[index] == b'w' {
-                return self.with_value(&letters[index + 1..]);
+            match lettered(letters[index]) {
+                Some(setting) => self = self.set(setting),
+                None => return Err(Fault::UnknownOption),
             }
-            self = self.with_letter(letters[index])?;
+            if self.wants_value() {
+                return self.with_rest(&letters[index + 1..]);
+            }
         }
-        Some(self)
+        Ok(self)
     }
 
-    /// The options with one letter, other than `w`.
-    fn with_letter(mut self, letter: u8) -> Option<Options> {
-        match letter {
-            b'd' => self.decode = true,
-            b'u' => self.upper = true,
-            b'p' => self.prefix = true,
-            _ => return None,
+    /// The options with what follows a letter that takes a value. If that is nothing, the value is the next
+    /// argument.
+    fn with_rest(self, text: &[u8]) -> Result<Options, Fault> {
+        match text {
+            [] => Ok(self),
+            _ => self.with_value(text),
         }
-        Some(self)
     }
 
-    /// The options with what follows the letter `w`.
-    fn with_value(mut self, text: &[u8]) -> Option<Options> {
-        if !text.is_empty() {
-            return self.with_columns(text);
-        }
-        self.next = Next::Columns;
-        Some(self)
+    /// Whether a value follows.
+    fn wants_value(self) -> bool {
+        matches!(self.next, Next::Value)
     }
 
-    /// What the options ask for, or `None` if the number of columns is missing.
-    fn request(self) -> Option<Request> {
-        if matches!(self.next, Next::Columns) {
-            return None;
+    /// The options with a file.
+    fn with_operand(mut self, index: usize) -> Result<Options, Fault> {
+        if self.file.is_some() {
+            return Err(Fault::SecondFile);
+        }
+        self.file = Some(index);
+        Ok(self)
+    }
+
+    /// The options with the value of the last option.
+    fn with_value(mut self, text: &[u8]) -> Result<Options, Fault> {
+        match decimal(text) {
+            Some(columns) => self.columns = columns,
+            None => return Err(Fault::InvalidNumber),
+        }
+        self.next = Next::Any;
+        Ok(self)
+    }
+
+    /// What the options ask for after so many arguments.
+    fn request(self, count: usize) -> Result<Request, UsageError> {
+        if self.wants_value() {
+            return Err(UsageError {
+                fault: Fault::MissingValue,
+                index: count.saturating_sub(1),
+            });
         }
         if self.help {
-            return Some(Request::Help);
+            return Ok(Request::Help);
         }
         if self.version {
-            return Some(Request::Version);
+            return Ok(Request::Version);
         }
-        Some(Request::Run(self.mode(), self.file))
+        Ok(Request::Run(self.mode(), self.file))
     }
 
     /// The mode that is set.
     fn mode(self) -> Mode {
-        let ignore_newlines = self.ignore_newlines;
+        let ignore_whitespace = self.ignore_whitespace;
         if self.check {
-            Mode::Check { ignore_newlines }
+            Mode::Check { ignore_whitespace }
         } else if self.decode {
-            Mode::Decode { ignore_newlines }
+            Mode::Decode { ignore_whitespace }
         } else {
             Mode::Encode {
                 prefix: self.prefix,
@@ -160,22 +264,6 @@ impl Options {
                 columns: self.columns,
             }
         }
-    }
-
-    /// The options with a number of columns.
-    fn with_columns(mut self, text: &[u8]) -> Option<Options> {
-        self.columns = decimal(text)?;
-        self.next = Next::Any;
-        Some(self)
-    }
-
-    /// The options with a file.
-    fn with_operand(mut self, index: usize) -> Option<Options> {
-        if self.file.is_some() {
-            return None;
-        }
-        self.file = Some(index);
-        Some(self)
     }
 }
 

@@ -4,7 +4,8 @@
 use crate::rattle::prelude::*;
 use crate::proved::error::RunError;
 use crate::proved::mode::Mode;
-use crate::proved::options::{Request, request_of};
+use crate::proved::options::{Fault, Request, UsageError, request_of};
+use crate::proved::place::Place;
 use crate::proved::runs::run;
 use crate::proved::transfer::{flush, write_piece};
 use crate::rattle::env::{self, Env};
@@ -19,17 +20,22 @@ Usage: hexfilter [OPTION]... [FILE]
 Writes FILE as hexadecimal text, or decodes such a text. Without FILE, or if FILE
 is -, reads standard input. Writes to standard output.
 
-  -d, --decode           decode the text
-      --check            only test whether the text can be decoded
-  -u, --upper            write digits in uppercase
-  -p, --prefix           write 0x before the digits
-  -w, --wrap COLUMNS     write lines of COLUMNS characters (0: no lines)
-      --ignore-newlines  leave out newlines before the text is decoded
-      --help             print this help
-      --version          print the version
+  -d, --decode             decode the text
+      --check              only test whether the text can be decoded
+  -i, --ignore-whitespace  leave out spaces, tabs and ends of lines before the
+                           text is decoded
+  -u, --upper              write digits in uppercase
+  -p, --prefix             write 0x before the digits
+  -w, --wrap COLUMNS       write lines of COLUMNS characters (0: no lines)
+  -h, --help               print this help
+  -V, --version            print the version
 
 Exit status: 0 done, 1 the text cannot be decoded, 2 an argument is not valid,
 3 a read or a write failed.
+
+Examples:
+  xxd -p disk.img | hexfilter -di > copy.img
+  hexfilter -pw64 disk.img
 ";
 
 /// What `--version` prints.
@@ -52,18 +58,32 @@ pub fn program<R: Read, W: Write>(
         }
     };
     match request_of(&arguments) {
-        Some(Request::Help) => print(rt, HELP, output),
-        Some(Request::Version) => print(rt, VERSION, output),
-        Some(Request::Run(mode, None)) => run_standard_input(rt, mode, input, output),
-        Some(Request::Run(mode, Some(index))) => match arguments.get(index) {
+        Ok(Request::Help) => print(rt, HELP, output),
+        Ok(Request::Version) => print(rt, VERSION, output),
+        Ok(Request::Run(mode, None)) => run_standard_input(rt, mode, input, output),
+        Ok(Request::Run(mode, Some(index))) => match arguments.get(index) {
             Some(name) if name.as_str() != "-" => run_file(rt, mode, name.as_str(), output),
             _ => run_standard_input(rt, mode, input, output),
         },
-        None => {
-            let _ = eprintln!(rt; "hexfilter: invalid arguments; try --help");
-            ExitCode::from(2)
-        }
+        Err(error) => misused(rt, &arguments, error),
     }
+}
+
+/// Prints which argument is not valid, and why.
+fn misused(rt: &impl Eprint, arguments: &[String], error: UsageError) -> ExitCode {
+    let argument = match arguments.get(error.index) {
+        Some(argument) => argument.as_str(),
+        None => "",
+    };
+    let reason = match &error.fault {
+        Fault::UnknownOption => "unknown option",
+        Fault::MissingValue => "missing value after",
+        Fault::InvalidNumber => "invalid number",
+        Fault::SecondFile => "second file",
+    };
+    // Nothing is left to be done if standard error fails.
+    let _ = eprintln!(rt; "hexfilter: {reason} '{argument}'; try --help");
+    ExitCode::from(2)
 }
 
 /// The arguments after the program's name.
@@ -116,7 +136,10 @@ fn print<W: Write>(rt: &impl Eprint, text: &str, output: &mut W) -> ExitCode {
 fn failed(rt: &impl Eprint, name: &str, error: RunError) -> ExitCode {
     // Nothing is left to be done if standard error fails.
     let _ = match &error {
-        RunError::Text(error) => eprintln!(rt; "hexfilter: {name}: {error}"),
+        RunError::Text(error, None) => eprintln!(rt; "hexfilter: {name}: {error}"),
+        RunError::Text(error, Some(Place { line, column })) => {
+            eprintln!(rt; "hexfilter: {name}: {error} (line {line}, column {column})")
+        }
         RunError::Read(error) => eprintln!(rt; "hexfilter: {name}: {error}"),
         RunError::Write(error) if error.kind() == ErrorKind::BrokenPipe => Ok(()),
         RunError::Write(error) => eprintln!(rt; "hexfilter: standard output: {error}"),

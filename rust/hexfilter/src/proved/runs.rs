@@ -9,18 +9,18 @@ use crate::proved::mode::Mode;
 use crate::rattle::io::{self, Read, Write};
 
 /// Reads the input to its end, writes what the mode makes of it, and flushes. The input may have any
-/// length: it is read in chunks of 64 or 128 KiB, and nothing is allocated.
+/// length: it is read in chunks of at most 32 KiB, and nothing is allocated.
 ///
 /// Returns
 ///
 /// - [`RunError::Text`], if the text cannot be decoded: with `InvalidHexCharacter` for its first
 ///   invalid character, at once, and with `OddLength` at the end. The position counts in the input,
-///   newlines included, from 0; `usize::MAX` stands for a position beyond it;
+///   whitespace included, from 0; `usize::MAX` stands for a position beyond it;
 /// - [`RunError::Read`], if a read fails;
 /// - [`RunError::Write`], if a write or the flush fails, or a write takes no bytes.
 ///
-/// A beginning of the result may then have been written. A call that a signal interrupts is made
-/// again.
+/// A beginning of the result may then have been written: before an invalid character, the bytes of all
+/// whole pairs of digits. A call that a signal interrupts is made again.
 pub fn run<R: Read, W: Write>(mode: Mode, input: &mut R, output: &mut W) -> Result<(), RunError> {
     match mode {
         Mode::Encode {
@@ -28,9 +28,9 @@ pub fn run<R: Read, W: Write>(mode: Mode, input: &mut R, output: &mut W) -> Resu
             upper,
             columns,
         } => encode_stream(prefix, upper, columns, input, output),
-        Mode::Decode { ignore_newlines } => decode_stream(ignore_newlines, input, output),
-        Mode::Check { ignore_newlines } => {
-            decode_stream(ignore_newlines, input, &mut io::sink())
+        Mode::Decode { ignore_whitespace } => decode_stream(ignore_whitespace, input, output),
+        Mode::Check { ignore_whitespace } => {
+            decode_stream(ignore_whitespace, input, &mut io::sink())
         }
     }
 }

@@ -5,7 +5,7 @@ use Rattle.hexfilter_core.proofs.decoding.decode_stream.Given as goal
 
 abbrev pub invariant-chunks : goal.invariant-chunks
 invariant-chunks g l = record {
-  ignores : ignores l.decoder ≡ l.ignore_newlines;
+  ignores : ignores l.decoder ≡ l.ignore_whitespace;
   so_far : (x : List ℕ) × (y : List ℕ) × HasDecoded l.decoder x y × Consumes (g.R.Read.remaining l.fn.input) (g.R.Read.remaining l.input) x
       × Appends (g.W.Write.contents l.fn.output) (g.W.Write.contents l.output) y;
 }

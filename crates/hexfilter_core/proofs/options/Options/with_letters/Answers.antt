@@ -1,21 +1,31 @@
-use Rattle.std.proofs.Common.{None, Some, sym, ◌∙◌, arith}
-use Rattle.hexfilter_core.proofs.lemmas.Arguments.{letters_at, letters_end, value_at}
+use Rattle.std.proofs.Common.{◌≡◌, ◌+◌, ◌-◌, None, Some, length, take, drop, sym, ap, ◌∙◌, arith}
+use Rattle.std.proofs.lemmas.List.{length-drop, take_all}
+use Rattle.hexfilter_core.proofs.lemmas.Arguments.{letters_at, next_letter, value_after}
+use Rattle.hexfilter_core.specs.Options.{goes_on, with_rest}
 use Rattle.hexfilter_core.proofs.options.Options.with_letters.Goals as goal
 
-pub returns-then-letters-index-eq119 : goal.returns-then-letters-index-eq119
-returns-then-letters-index-eq119 c =
-    c.with_value.ensures ∙ sym (value_at c.args.letters.now c.loop-index.index c.loop-index.self c.loop-index-test.true c.if-letters-index-eq119.true)
-    ∙ c.loop-index.invariant
+pub returns-in-None : goal.returns-in-None
+unfolding goes_on
+returns-in-None c =
+    let at = letters_at c.args.letters.now c.loop-index.index c.loop-index.self None c.loop-index-test.true (sym c.in-None.is ∙ c.lettered.ensures) in
+    sym at ∙ c.loop-index.invariant
 
-pub returns-in_err-self : goal.returns-in_err-self
-returns-in_err-self c =
-    let found = letters_at c.args.letters.now c.loop-index.index c.loop-index.self None c.loop-index-test.true c.if-letters-index-eq119.false c.in_err-self.ensures in
-    c.from_residual.ensures ∙ sym (sym c.loop-index.invariant ∙ found)
+pub returns-then-wants_value : goal.returns-then-wants_value
+returns-then-wants_value c =
+    let text = c.args.letters.now in
+    let i = c.loop-index.index in
+    let o = c.loop-index.self in
+    let at = letters_at text i o (Some c.in-Some.setting) c.loop-index-test.true (sym c.in-Some.is ∙ c.lettered.ensures) in
+    let rest : take (length text - (i + 1)) (drop (i + 1) text) ≡ drop (i + 1) text = take_all (length text - (i + 1)) (drop (i + 1) text) (omega (arith, length-drop (i + 1) text)) in
+    let wants = sym c.wants_value.ensures ∙ c.if-wants_value.true in
+    c.with_rest.ensures ∙ ap (λ t. with_rest c.set-self.result t) rest
+    ∙ sym (at ∙ value_after o c.set-self.result c.in-Some.setting (drop (i + 1) text) c.set-self.ensures wants) ∙ c.loop-index.invariant
 
 pub loop-index-preserved : goal.loop-index-preserved
 loop-index-preserved c =
-    sym (letters_at c.args.letters.now c.loop-index.index c.loop-index.self (Some c.in_ok-self.self) c.loop-index-test.true c.if-letters-index-eq119.false c.in_ok-self.ensures)
-    ∙ c.loop-index.invariant
-
-pub returns : goal.returns
-returns c = sym (letters_end c.args.letters.now c.loop-index.index c.loop-index.self (omega arith)) ∙ c.loop-index.invariant
+    let text = c.args.letters.now in
+    let i = c.loop-index.index in
+    let o = c.loop-index.self in
+    let at = letters_at text i o (Some c.in-Some.setting) c.loop-index-test.true (sym c.in-Some.is ∙ c.lettered.ensures) in
+    let wants = sym c.wants_value.ensures ∙ c.if-wants_value.false in
+    sym (at ∙ next_letter o c.set-self.result c.in-Some.setting (drop (i + 1) text) c.set-self.ensures wants) ∙ c.loop-index.invariant
