@@ -27,9 +27,15 @@ pub struct Decoder(decoder::Decoder);
 
 impl Decoder {
     /// Returns a decoder that has read nothing.
+    ///
+    /// ```
+    /// # use const_hex_proved::Decoder;
+    /// const NEW: Decoder = Decoder::new();
+    /// assert_eq!(NEW.position(), 0);
+    /// ```
     #[inline]
     #[must_use]
-    pub fn new() -> Decoder {
+    pub const fn new() -> Decoder {
         Decoder(decoder::Decoder::new())
     }
 

@@ -17,6 +17,17 @@ fn decoded<'a>(
     decoder.finish().map(|()| (output, count))
 }
 
+/// Each use of a constant is a decoder of its own.
+#[test]
+fn in_a_constant() {
+    const NEW: Decoder = Decoder::new();
+    for digit in ["6", "7"] {
+        let mut decoder = NEW;
+        assert_eq!(decoder.decode(digit, &mut []), Ok(0));
+        assert_eq!(decoder.position(), 1);
+    }
+}
+
 /// A digit that waits is not shown.
 #[test]
 fn debug() {

@@ -120,6 +120,7 @@ fn what_each_rule_changes() {
         ("codec/encoders", "pub fn owned(alloc: Global) {}", Ok("#[cfg(feature = \"alloc\")]\npub fn owned(alloc: Global) {}")),
         ("tables", "pub fn value_at(byte: u8) -> u8 {}", Ok("pub const fn value_at(byte: u8) -> u8 {}")),
         ("codec/body", "c: char::from(byte),", Ok("c: byte as char,")),
+        ("codec/decoder", "    pub fn new() -> Decoder {}", Ok("pub const fn new() -> Decoder {}")),
         ("codec/checks", "/// One.\n///\n/// ```rust\n/// assert_eq!(rt; owned(rt.alloc()), 1);\n/// ```\npub fn one() {}", Ok("/// One.\npub fn one() {}\n#[test]\nfn checks_one() -> Result<(), Box<dyn Error>> {\n    \
                 assert_eq!(owned(Global), 1);\n    Ok(())\n}")),
         ("hexfilter/runs", "/// One.\n///\n/// ```rust\n/// let v = Vec::new(rt.alloc());\n/// f(v)?;\n/// assert!(rt; g(rt.alloc(), [f(v)?]));\n/// ```\nfn one() {}", Ok("/// One.\nfn one() {}\n\

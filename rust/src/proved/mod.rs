@@ -49,6 +49,7 @@ pub use self::formatting::text::*;
 //   53  a function for AVX2 takes in all that it calls
 //   10  a function for C takes slices, which capi makes of pointers and lengths
 //   16  a kernel is compiled for each kind of register, so it names the others beside it
+//    1  a new decoder is constant
 //   36  a range that is proved to be within its slice is not tested in release builds
 //   89  all crates are one module
 //    5  an allocation never fails: without memory the program ends

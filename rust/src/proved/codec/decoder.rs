@@ -36,7 +36,7 @@ pub struct Decoder {
 impl Decoder {
     /// A decoder that has read nothing. Does not allocate.
     #[inline(always)]
-    pub fn new() -> Decoder {
+    pub const fn new() -> Decoder {
         Decoder {
             index: 0,
             byte: 0,
