@@ -24,7 +24,7 @@
 //! - `alloc` adds what returns a `String` or a vector, such as `encode` and `decode`.
 //! - `serde` adds fields of hexadecimal text, by `#[serde(with = "const_hex_proved")]`.
 //! - `core-error` implements `core::error::Error` without `std`. It needs Rust 1.81.
-//! - `checked` tests in release builds that ranges lie within their slices, which is proved.
+//! - `force-generic` uses the portable code on each target, and no machine code.
 #![no_std]
 #![deny(unsafe_code, unsafe_op_in_unsafe_fn)]
 #![warn(missing_docs)]
@@ -34,9 +34,6 @@ extern crate alloc;
 #[cfg(any(feature = "std", test))]
 extern crate std;
 
-#[cfg(all(target_arch = "x86_64", target_feature = "sse2"))]
-#[allow(unsafe_code)]
-mod avx2;
 #[allow(unsafe_code)]
 mod buffer;
 mod constants;
@@ -45,7 +42,7 @@ mod display;
 #[cfg(feature = "std")]
 mod io;
 #[allow(unsafe_code)]
-mod processor;
+mod kernel;
 // The source is a library, of which this crate calls and exports a part. Its labels name loops for the proofs.
 // Anything else that is unused may show that the eraser has deleted code. It is an error in the tests alone, so that
 // a new lint of the compiler stops no user.
@@ -53,7 +50,7 @@ mod processor;
 #[allow(dead_code, unsafe_code, unused_imports, unused_labels)]
 #[rustfmt::skip]
 mod proved;
-#[allow(dead_code, unsafe_code)]
+#[allow(dead_code, unsafe_code, unused_imports)]
 mod rattle;
 #[cfg(feature = "serde")]
 pub mod serde;
@@ -262,7 +259,10 @@ fn text_in<'a>(
 #[cfg(feature = "alloc")]
 #[inline]
 pub fn decode<T: AsRef<[u8]>>(data: T) -> Result<Vec<u8>, FromHexError> {
-    processor::decode(data.as_ref())
+    fn decoded(text: &[u8]) -> Result<Vec<u8>, FromHexError> {
+        decoders::decode_with::<FixedKernel>(Global, text).map(|bytes| bytes.0)
+    }
+    decoded(data.as_ref())
 }
 
 /// Fills `out` with the bytes that a text decodes to. Does not allocate.

@@ -72,11 +72,10 @@ fn what_is_deleted() {
         ("contract", "fn f(x: u8) -> u8\n    requires { x < 9 }\n    ensures* a { b (λ c. { d }) }\n{\n    x\n}", Ok("fn f(x: u8) -> u8 {\n    x\n}")),
         ("ghost_use", "struct S;\n\nghost use A.{b, c};\n\nfn f() {}", Ok("struct S;\n\nfn f() {}")),
         ("ghost_field", "struct S {\n    x: u8,\n    ghost small: { x < 9 },\n}", Ok("struct S {\n    x: u8,\n}")),
-        ("attribute", "#[tactic(auto, using(a::b))]\n#[inline]\nfn f() {}", Ok("#[inline(always)]\nfn f() {}")),
+        ("attribute", "#[tactic(auto, using(a::b))]\n#[inline]\nfn f() {}", Ok("#[inline]\nfn f() {}")),
         ("derive", "#[derive(Clone, Copy, Drop)]\nstruct S;", Ok("#[derive(Clone, Copy)]\nstruct S;")),
         ("model", "struct S;\nuse std::marker::Model;\n\nimpl Model for S {\n    ghost view = { x };\n}", Ok("struct S;")),
         // Comments that a rule would make false.
-        ("text", "/// One.\n// Not inlined: it is\n// long.\n#[inline(never)]\nfn f() {}", Ok("/// One.\n// In the source not inlined: it is\n// long.\n#[inline(always)]\nfn f() {}")),
         ("text", "/// One.\n///\n/// - [`E::NoMemory`], if so;\nfn f() {}", Ok("/// One.\nfn f() {}")),
     ]);
 }
@@ -97,30 +96,31 @@ fn what_stays() {
 #[test]
 fn what_each_rule_changes() {
     check(&[
-        ("arch/a", "use crate::arch::plain::Plain;", Ok("use super::plain::Plain;")),
-        ("arch/a", "use std::simd::prelude::*;", Ok("use super::simd::prelude::*;")),
+        ("arch", "mod lanes32;\npub mod plain;", Ok("pub mod plain;")),
+        ("arch", "pub mod lanes16;\npub mod plain;", Ok("#[cfg(all(target_arch = \"wasm32\", target_feature = \"simd128\"))]\npub mod lanes16;\npub mod plain;")),
         ("c/message", "use crate::error::HexError;\nuse const_hex::Decoder;", Ok("use crate::proved::c::error::HexError;\nuse crate::proved::Decoder;")),
         ("hexfilter/error", "use const_hex::FromHexError;", Ok("use crate::rattle::codec::FromHexError;")),
         ("stream", "use crate::sink::Sink;\nuse const_hex_arch::Kernel;", Ok("use crate::proved::sink::Sink;\nuse crate::proved::Kernel;")),
         ("sink", "use std::fmt;", Ok("use crate::rattle::fmt;")),
-        ("arch", "pub type FixedKernel = Lanes32;", Ok("pub type FixedKernel = crate::processor::Native;")),
-        ("text", "#[inline(never)]\nfn f() {}", Ok("#[inline(always)]\nfn f() {}")),
-        ("arch/steps", "fn f(x: &[u8], y: &mut [u8]) {\n    g(&x[h[0]..9], &mut y[..9]);\n}\n\nfn g() {}", Ok("fn f(x: &[u8], y: &mut [u8]) {\n    g(x.within(h[0]..9), y.within_mut(..9));\n}\n\nfn g() {}")),
+        ("arch", "pub type FixedKernel = Lanes32;", Ok("pub type FixedKernel = crate::kernel::Native;")),
+        ("codec/encoders", "use crate::reserved::encode_reserved;", Ok("#[cfg(feature = \"alloc\")]\nuse crate::kernel::encode_reserved;")),
         ("arch/a", "fn f(a: u8x16, b: u8x16) -> u8x32 {\n    a.shuffle(\n        b,\n        [\n            0, 1, 2,\n        ],\n    )\n}", Ok("fn f(a: u8x16, b: u8x16) -> u8x32 {\n    a.join(b)\n}")),
         ("error", "fn fmt<W: fmt::Write>(f: &mut fmt::Formatter<W>) {}\n\nfn g() {\n    fmt::<W, 8>(f);\n}", Ok("fn fmt<'w>(f: &mut fmt::Formatter<'w>) {}\n\nfn g() {\n    fmt::<8>(f);\n}")),
         ("sink", "struct S<T: Drop>(T);", Ok("struct S<T>(T);")),
         ("error", "enum FromHexError {\n    OddLength,\n    NoMemory,\n}", Ok("enum FromHexError {\n    OddLength,\n}")),
         ("c/error", "match kind {\n    4 => Some(FromHexError::NoMemory),\n    _ => None,\n}", Ok("match kind {\n    _ => None,\n}")),
-        ("c", "#[unsafe(no_mangle)]\npub extern \"C\" fn f(bytes: &[u8]) {}", Ok("pub fn f(bytes: &[u8]) {}")),
+        ("c", "#[unsafe(no_mangle)]\npub extern \"C\" fn f(bytes: &[u8]) {}", Ok("#[cfg_attr(not(target_arch = \"wasm32\"), inline)]\npub fn f(bytes: &[u8]) {}")),
         ("c", "mod callers;\nmod error;", Ok("mod error;")),
-        ("reserved", "for byte in bytes {\n    self.bytes.push_reserved(*byte);\n}", Ok("self.bytes.extend_reserved(bytes);")),
+        ("reserved", "for byte in bytes {\n    self.bytes.push_reserved(*byte);\n}", Ok("self.bytes.extend_from_slice(bytes);")),
         ("hexfilter/process", "fn f(rt: &R) {\n    env::args(rt)?.skip(1).collect(rt.alloc())?;\n}", Ok("fn f(rt: &R) {\n    env::args(rt)?.skip(1).collect();\n}")),
         ("hexfilter/error", "#[derive(Clone, Copy, Debug)]\nenum E {}", Ok("#[derive(Debug)]\nenum E {}")),
         ("hexfilter/process", "fn f(error: E) {\n    match error {}\n}", Ok("fn f(error: E) {\n    match &error {}\n}")),
         ("codec/encoders", "pub fn owned(alloc: Global) {}", Ok("#[cfg(feature = \"alloc\")]\npub fn owned(alloc: Global) {}")),
+        ("sink", "pub mod pieces;", Ok("#[cfg(all(test, feature = \"alloc\"))]\npub mod pieces;")),
         ("tables", "pub fn value_at(byte: u8) -> u8 {}", Ok("pub const fn value_at(byte: u8) -> u8 {}")),
         ("codec/body", "c: char::from(byte),", Ok("c: byte as char,")),
         ("codec/decoder", "    pub fn new() -> Decoder {}", Ok("pub const fn new() -> Decoder {}")),
+        ("codec/decoder", "/// One.\n///\n/// ```rust\n/// assert!(rt; f::<Lanes16>());\n/// ```\npub fn one() {}", Ok("/// One.\npub fn one() {}\n#[test]\nfn decoder_one() -> Result<(), Box<dyn Error>> {\n    assert!(f::<CheckFirst::<Plain>>());\n    Ok(())\n}")),
         ("codec/checks", "/// One.\n///\n/// ```rust\n/// assert_eq!(rt; owned(rt.alloc()), 1);\n/// ```\npub fn one() {}", Ok("/// One.\npub fn one() {}\n#[test]\nfn checks_one() -> Result<(), Box<dyn Error>> {\n    \
                 assert_eq!(owned(Global), 1);\n    Ok(())\n}")),
         ("hexfilter/runs", "/// One.\n///\n/// ```rust\n/// let v = Vec::new(rt.alloc());\n/// f(v)?;\n/// assert!(rt; g(rt.alloc(), [f(v)?]));\n/// ```\nfn one() {}", Ok("/// One.\nfn one() {}\n\

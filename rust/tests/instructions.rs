@@ -19,7 +19,7 @@ const LIMITS: [(&str, usize, i64); 10] = [
     ("check", 32, 97),
     ("check", 64, 123),
     ("check", 256, 279),
-    ("display", 1 << 20, 20_000),
+    ("display", 1 << 20, 25_000),
 ];
 
 #[test]

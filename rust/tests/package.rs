@@ -54,7 +54,7 @@ fn manifests() {
     assert_eq!(ours["version"], "1.0.0");
     let features = json!({
         "default": ["std"], "alloc": ["serde?/alloc"], "std": ["alloc"], "serde": ["dep:serde"],
-        "core-error": [], "checked": [],
+        "core-error": [], "force-generic": [],
     });
     assert_eq!(ours["features"], features);
     for (name, version) in [("const-hex", "1.99.0"), ("hex", "0.4.99")] {

@@ -3,22 +3,24 @@
 
 use crate::rattle::prelude::*;
 
-pub mod arithmetic16;
 pub mod check_first;
+#[cfg(all(target_arch = "wasm32", target_feature = "simd128"))]
 mod drivers;
+#[cfg(all(target_arch = "wasm32", target_feature = "simd128"))]
 mod lanes;
+#[cfg(all(target_arch = "wasm32", target_feature = "simd128"))]
 pub mod lanes16;
-pub mod lanes32;
 pub mod plain;
+#[cfg(all(target_arch = "wasm32", target_feature = "simd128"))]
 mod short;
+#[cfg(all(target_arch = "wasm32", target_feature = "simd128"))]
 mod steps;
 
-use crate::proved::arch::lanes32::Lanes32;
 use crate::proved::output::Output;
 use crate::proved::output::slice::SliceOutput;
 
 /// The kernel of every call that does not name one. It is named here and nowhere else.
-pub type FixedKernel = crate::processor::Native;
+pub type FixedKernel = crate::kernel::Native;
 
 /// Encodes bytes as digits, and decodes digits to bytes.
 ///
@@ -60,7 +62,7 @@ pub trait Kernel {
     #[inline(always)]
     fn decode_part(input: &[u8], start: usize, output: &mut [u8]) -> bool {
         let end = start + output.len();
-        Self::decode_checked(input.within(2 * start..2 * end), output)
+        Self::decode_checked(&input[2 * start..2 * end], output)
     }
 
     /// Decodes the input into the output. The input must have two bytes for each byte of the

@@ -30,6 +30,7 @@ use crate::proved::{Decoder, FixedKernel, Kernel};
 /// ```c
 /// size_t size = const_hex_encoded_size(20, CONST_HEX_PREFIX); /* 43 */
 /// ```
+#[cfg_attr(not(target_arch = "wasm32"), inline)]
 pub fn const_hex_encoded_size(bytes_length: usize, flags: u32) -> usize {
     let beside = size_beside(flags);
     if !are_flags(flags) || bytes_length > (usize::MAX - beside) / 2 {
@@ -49,6 +50,7 @@ pub fn const_hex_encoded_size(bytes_length: usize, flags: u32) -> usize {
 /// char text[11];
 /// bool fits = const_hex_encode("kiwi", 4, text, sizeof text, CONST_HEX_PREFIX); /* "0x6b697769" */
 /// ```
+#[cfg_attr(not(target_arch = "wasm32"), inline)]
 pub fn const_hex_encode(bytes: &[u8], text: &mut [u8], flags: u32) -> bool {
     match length_of(flags, bytes.len()) {
         Some(length) if end_text(text, length, flags) => {
@@ -79,6 +81,7 @@ pub fn const_hex_encode(bytes: &[u8], text: &mut [u8], flags: u32) -> bool {
 /// bool ok = const_hex_decode("6B697769", 8, bytes, sizeof bytes, &written, &error);
 /// /* written is 4 */
 /// ```
+#[cfg_attr(not(target_arch = "wasm32"), inline)]
 pub fn const_hex_decode_nonnull(
     text: &[u8],
     bytes: &mut [u8],
@@ -107,6 +110,7 @@ pub fn const_hex_decode_nonnull(
 /// struct const_hex_error error;
 /// bool ok = const_hex_decode_exact("0x6b697769", 10, bytes, sizeof bytes, &error); /* kiwi */
 /// ```
+#[cfg_attr(not(target_arch = "wasm32"), inline)]
 pub fn const_hex_decode_exact_nonnull(
     text: &[u8],
     bytes: &mut [u8],
@@ -145,6 +149,7 @@ pub fn const_hex_decode_exact_nonnull(
 /// bool ok = const_hex_decoder_update(&decoder, "0x6b6", 5, bytes, sizeof bytes, &written, &error);
 /// /* written is 1 */
 /// ```
+#[cfg_attr(not(target_arch = "wasm32"), inline)]
 pub fn const_hex_decoder_update_nonnull(
     decoder: &mut Decoder,
     text: &[u8],
@@ -175,6 +180,7 @@ pub fn const_hex_decoder_update_nonnull(
 /// struct const_hex_error error;
 /// bool whole = const_hex_decoder_finish(&decoder, &error); /* true: the empty text */
 /// ```
+#[cfg_attr(not(target_arch = "wasm32"), inline)]
 pub fn const_hex_decoder_finish_nonnull(decoder: &Decoder, error: &mut HexError) -> bool {
     match decoder.finish() {
         Ok(()) => true,
@@ -194,6 +200,7 @@ pub fn const_hex_decoder_finish_nonnull(decoder: &Decoder, error: &mut HexError)
 /// struct const_hex_error error;
 /// if (!const_hex_check("0xzz", 4, &error)) { /* byte is 'z', index is 2 */ }
 /// ```
+#[cfg_attr(not(target_arch = "wasm32"), inline)]
 pub fn const_hex_check_nonnull(text: &[u8], error: &mut HexError) -> bool {
     match crate::proved::check_with::<FixedKernel>(text) {
         Ok(()) => true,
@@ -210,6 +217,7 @@ pub fn const_hex_check_nonnull(text: &[u8], error: &mut HexError) -> bool {
 /// ```c
 /// bool digits = const_hex_check_raw("6b6", 3); /* true */
 /// ```
+#[cfg_attr(not(target_arch = "wasm32"), inline)]
 pub fn const_hex_check_raw(text: &[u8]) -> bool {
     FixedKernel::check(text)
 }
@@ -225,6 +233,7 @@ pub fn const_hex_check_raw(text: &[u8]) -> bool {
 /// char message[CONST_HEX_MESSAGE_SIZE];
 /// size_t count = const_hex_error_message(&error, message, sizeof message);
 /// ```
+#[cfg_attr(not(target_arch = "wasm32"), inline)]
 pub fn const_hex_error_message(error: &HexError, message: &mut [u8]) -> usize {
     match error.kind {
         ODD_LENGTH => write_known(b"odd number of digits", message),
@@ -243,6 +252,7 @@ pub fn const_hex_error_message(error: &HexError, message: &mut [u8]) -> usize {
 /// ```c
 /// uint32_t version = const_hex_version(); /* 10000 is 1.0.0 */
 /// ```
+#[cfg_attr(not(target_arch = "wasm32"), inline)]
 pub fn const_hex_version() -> u32 {
     10_000
 }

@@ -1,11 +1,8 @@
 // Made by rust/erase from the examples of the source. Do not edit.
 
-use crate::proved::arch::arithmetic16::Arithmetic16;
 use crate::proved::arch::check_first::CheckFirst;
-use crate::proved::arch::lanes16::Lanes16;
-use crate::proved::arch::lanes32::Lanes32;
 use crate::proved::arch::plain::Plain;
-use crate::proved::arch::{FixedKernel, Kernel, lanes16, lanes32};
+use crate::proved::arch::{FixedKernel, Kernel};
 use crate::proved::output::Output;
 use crate::proved::output::buffered::BufferedOutput;
 use crate::proved::output::slice::SliceOutput;
@@ -40,106 +37,10 @@ use alloc::boxed::Box;
 use std::error::Error;
 
 #[test]
-fn arch_arithmetic16_arithmetic16() -> Result<(), Box<dyn Error>> {
-    let mut bytes = [0; 4];
-    assert!(Arithmetic16::decode_checked(b"6b697769", &mut bytes));
-    assert_eq!(bytes, *b"kiwi");
-    Ok(())
-}
-
-#[test]
 fn arch_check_first_checkfirst() -> Result<(), Box<dyn Error>> {
     let mut bytes = [0; 2];
     assert!(!CheckFirst::<Plain>::decode_checked(b"6bzz", &mut bytes));
     assert_eq!(bytes, [0; 2]);
-    Ok(())
-}
-
-#[test]
-fn arch_lanes16_encode_chunk() -> Result<(), Box<dyn Error>> {
-    let [first, _] = lanes16::encode_chunk::<false>(u8x16::splat(0xAF));
-    assert_eq!(first.to_array(), *b"afafafafafafafaf");
-    Ok(())
-}
-
-#[test]
-fn arch_lanes16_check_chunk() -> Result<(), Box<dyn Error>> {
-    assert!(lanes16::check_chunk(u8x16::splat(b'f')));
-    assert!(!lanes16::check_chunk(u8x16::splat(b'g')));
-    Ok(())
-}
-
-#[test]
-fn arch_lanes16_nibbles() -> Result<(), Box<dyn Error>> {
-    let values = lanes16::nibbles(u8x16::splat(b'B'));
-    assert_eq!(values.to_array(), [11; 16]);
-    Ok(())
-}
-
-#[test]
-fn arch_lanes16_decode_chunk() -> Result<(), Box<dyn Error>> {
-    let text = [u8x16::splat(b'7'), u8x16::splat(b'7')];
-    let bytes = lanes16::decode_chunk(text).map(|bytes| bytes.to_array());
-    assert_eq!(bytes, Some([0x77; 16]));
-    Ok(())
-}
-
-#[test]
-fn arch_lanes16_unhex() -> Result<(), Box<dyn Error>> {
-    let values = lanes16::unhex(u8x16::splat(b'B'));
-    assert_eq!(values.to_array(), [11; 16]);
-    Ok(())
-}
-
-#[test]
-fn arch_lanes16_lanes16() -> Result<(), Box<dyn Error>> {
-    let mut bytes = [0; 4];
-    assert!(Lanes16::decode_checked(b"6b697769", &mut bytes));
-    assert_eq!(bytes, *b"kiwi");
-    Ok(())
-}
-
-#[test]
-fn arch_lanes32_encode_chunk() -> Result<(), Box<dyn Error>> {
-    let [first, _] = lanes32::encode_chunk::<true>(u8x32::splat(0xAF));
-    assert_eq!(first.to_array(), *b"AFAFAFAFAFAFAFAFAFAFAFAFAFAFAFAF");
-    Ok(())
-}
-
-#[test]
-fn arch_lanes32_check_chunk() -> Result<(), Box<dyn Error>> {
-    assert!(lanes32::check_chunk(u8x32::splat(b'f')));
-    assert!(!lanes32::check_chunk(u8x32::splat(b'g')));
-    Ok(())
-}
-
-#[test]
-fn arch_lanes32_nibbles() -> Result<(), Box<dyn Error>> {
-    let values = lanes32::nibbles(u8x32::splat(b'B'));
-    assert_eq!(values.to_array(), [11; 32]);
-    Ok(())
-}
-
-#[test]
-fn arch_lanes32_decode_chunk() -> Result<(), Box<dyn Error>> {
-    let text = [u8x32::splat(b'7'), u8x32::splat(b'7')];
-    let bytes = lanes32::decode_chunk(text).map(|bytes| bytes.to_array());
-    assert_eq!(bytes, Some([0x77; 32]));
-    Ok(())
-}
-
-#[test]
-fn arch_lanes32_unhex() -> Result<(), Box<dyn Error>> {
-    let values = lanes32::unhex(u8x32::splat(b'B'));
-    assert_eq!(values.to_array(), [11; 32]);
-    Ok(())
-}
-
-#[test]
-fn arch_lanes32_lanes32() -> Result<(), Box<dyn Error>> {
-    let mut bytes = [0; 4];
-    assert!(Lanes32::decode_checked(b"6b697769", &mut bytes));
-    assert_eq!(bytes, *b"kiwi");
     Ok(())
 }
 
@@ -164,7 +65,7 @@ fn arch_kernel() -> Result<(), Box<dyn Error>> {
         if K::decode_checked(text, &mut bytes) { Some(bytes) } else { None }
     }
     assert_eq!(read::<Plain>(b"6b697769"), Some(*b"kiwi"));
-    assert_eq!(read::<Lanes16>(b"6b69776g"), None);
+    assert_eq!(read::<CheckFirst::<Plain>>(b"6b69776g"), None);
     Ok(())
 }
 
@@ -540,7 +441,7 @@ fn codec_decoder_decode() -> Result<(), Box<dyn Error>> {
 fn codec_decoder_decode_with() -> Result<(), Box<dyn Error>> {
     let mut decoder = Decoder::new();
     assert_eq!(decoder.decode_with::<Plain>(b"0X6", &mut [0; 1]), Ok(0));
-    assert_eq!(decoder.decode_with::<Lanes16>(b"B", &mut [0; 1]), Ok(1));
+    assert_eq!(decoder.decode_with::<CheckFirst::<Plain>>(b"B", &mut [0; 1]), Ok(1));
     Ok(())
 }
 

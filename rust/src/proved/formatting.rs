@@ -9,7 +9,7 @@ pub mod text;
 use crate::proved::formatting::text::Display;
 
 /// Bytes to be printed as text: `{}` prints lowercase digits. Does not allocate.
-#[inline(always)]
+#[inline]
 pub fn display(input: &[u8]) -> Display<'_> {
     Display { input }
 }

@@ -16,12 +16,9 @@ pub(crate) mod c;
 #[cfg(all(test, feature = "std"))]
 mod examples;
 
-pub use self::arch::arithmetic16::Arithmetic16;
 pub use self::arch::check_first::CheckFirst;
-pub use self::arch::lanes16::Lanes16;
-pub use self::arch::lanes32::Lanes32;
 pub use self::arch::plain::Plain;
-pub use self::arch::{FixedKernel, Kernel, lanes16, lanes32};
+pub use self::arch::{FixedKernel, Kernel};
 pub use self::output::Output;
 pub use self::output::buffered::BufferedOutput;
 pub use self::output::slice::SliceOutput;
@@ -43,36 +40,37 @@ pub use self::formatting::text::*;
 
 // The places that each rule of rust/erase has changed:
 //
-//   27  Rattle's std is the module rattle
+//   31  Rattle's std is the module rattle
 //    1  Rust's errors are not copied
 //   26  a formatter has a lifetime in place of its writer's type
-//   53  a function for AVX2 takes in all that it calls
-//   10  a function for C takes slices, which capi makes of pointers and lengths
-//   16  a kernel is compiled for each kind of register, so it names the others beside it
+//   10  a function for C takes slices, which capi makes of pointers and lengths, and is compiled there alone
 //    1  a new decoder is constant
-//   36  a range that is proved to be within its slice is not tested in release builds
-//   89  all crates are one module
+//   96  all crates are one module
 //    5  an allocation never fails: without memory the program ends
 //    1  an argument's copy takes no allocator
-//  130  an assertion names no runtime
+//  112  an assertion names no runtime
+//    3  an example names a kernel that each target has
 //    4  an example of hexfilter uses no allocator
 //    1  and a constant converts by a cast
+//    1  and a sink that only the examples use is there for them alone
 //    2  and an error is borrowed
+//    2  and makes the vectors that are returned
 //    3  and panics instead of returning an error
 //    1  and the crate's decoder is cloned
-//    6  and the vectors of its kind
+//    5  and those over vectors are there for WebAssembly alone
 //    1  before it reads a chunk
 //    2  callers that nothing exports are left out
-//   46  deleted: attribute
-//  266  deleted: contract
-//  227  deleted: ghost item
+//   42  deleted: attribute
+//  249  deleted: contract
+//  213  deleted: ghost item
 //    4  deleted: model
 //    1  each value may be dropped
+//    3  kernels that no target uses are left out
 //   22  the allocator is a value
 //    1  the bytes of a slice are appended at once, and not one by one
 //    1  the kernel is chosen for the processor
-//    2  the only shuffle puts two vectors one after the other
+//    1  the only shuffle puts two vectors one after the other
 //   10  what a constant calls is constant
-//   14  what allocates is there with the feature alloc
+//   13  what allocates is there with the feature alloc
 //    3  what hexfilter uses of const_hex is a module of rattle
 //    5  what is for C is a module of const_hex

@@ -20,7 +20,7 @@ impl ReservedOutput {
     #[inline(always)]
     
     fn put(&mut self, bytes: &[u8]) {
-        self.bytes.extend_reserved(bytes);
+        self.bytes.extend_from_slice(bytes);
     }
 }
 

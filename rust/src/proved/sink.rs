@@ -4,7 +4,7 @@
 use crate::rattle::prelude::*;
 
 pub mod output;
-#[cfg(feature = "alloc")]
+#[cfg(all(test, feature = "alloc"))]
 pub mod pieces;
 
 use crate::rattle::error::Error;
@@ -35,7 +35,7 @@ pub trait Sink {
 }
 
 /// An error if the sink has refused.
-#[inline(always)]
+#[inline]
 pub(crate) fn fail_if_refused<S: Sink>(sink: &S) -> Result<(), SinkError> {
     if sink.refused() {
         Err(SinkError)

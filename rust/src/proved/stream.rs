@@ -28,7 +28,7 @@ pub struct BufferedHex<'a, const UPPER: bool, const PREFIX: bool> {
 
 impl<'a, const UPPER: bool, const PREFIX: bool> BufferedHex<'a, UPPER, PREFIX> {
     /// These bytes, to be written as text.
-    #[inline(always)]
+    #[inline]
     pub fn new(bytes: &'a [u8]) -> BufferedHex<'a, UPPER, PREFIX> {
         BufferedHex { bytes }
     }
@@ -65,8 +65,8 @@ impl<'a, const UPPER: bool, const PREFIX: bool> BufferedHex<'a, UPPER, PREFIX> {
     }
 
     /// As `write_with`, with up to 4096 bytes gathered for each call.
-    // In the source not inlined: the machine code for long texts is faster on its own.
-    #[inline(always)]
+    // Not inlined: the machine code for long texts is faster on its own.
+    #[inline(never)]
     fn gather<K: Kernel, S: Sink>(&self, sink: &mut S) -> Result<(), SinkError> {
         let mut output = BufferedOutput::<SinkOutput<'_, S>, GATHERED>::new(SinkOutput::new(sink));
         encode_full::<K, BufferedOutput<SinkOutput<'_, S>, GATHERED>>(

@@ -31,7 +31,7 @@ pub const HEX_DECODE_LUT: &[u8; 256] = &[
 ];
 
 /// The digit of a value below 16, in uppercase or lowercase.
-#[inline(always)]
+#[inline]
 pub const fn digit_at(upper: bool, v: u8) -> u8 {
     if upper {
         HEX_CHARS_UPPER[v as usize]
@@ -41,7 +41,7 @@ pub const fn digit_at(upper: bool, v: u8) -> u8 {
 }
 
 /// The value of a digit in either case, or [`NIL`] for a byte that is not a digit.
-#[inline(always)]
+#[inline]
 pub const fn value_at(b: u8) -> u8 {
     HEX_DECODE_LUT[b as usize]
 }

@@ -2,7 +2,7 @@
 //! A kernel that checks all of a text before it decodes it.
 
 use crate::rattle::prelude::*;
-use super::Kernel;
+use crate::proved::arch::Kernel;
 use crate::proved::output::Output;
 use crate::rattle::marker::PhantomData;
 
@@ -27,9 +27,9 @@ impl<K: Kernel> Kernel for CheckFirst<K> {
         K::check(input)
     }
 
-    // In the source not `always`: `decode_body` calls this in a branch that is never taken for most kernels. With
+    // Not `always`: `decode_body` calls this in a branch that is never taken for most kernels. With
     // its body in that branch, the decoders would be too large to be inlined.
-    #[inline(always)]
+    #[inline]
     fn decode_checked(input: &[u8], output: &mut [u8]) -> bool {
         if !K::check(input) {
             return false;

@@ -7,8 +7,8 @@
 //! kernel.
 
 use crate::rattle::prelude::*;
-use super::lanes::Vectors;
-use super::{lanes16, short, steps};
+use crate::proved::arch::lanes::Vectors;
+use crate::proved::arch::{lanes16, short, steps};
 use crate::proved::output::Output;
 
 /// Encodes two steps in each turn of the loop, then one more step if the input has one, and then the
@@ -41,8 +41,8 @@ pub(crate) fn encode_in_steps<
 }
 
 /// Encodes fewer bytes than a step, as one piece.
-// In the source not `always`: its callers would be too large to be inlined.
-#[inline(always)]
+// Not `always`: its callers would be too large to be inlined.
+#[inline]
 fn encode_remainder<const H: usize, const N: usize, V: Vectors<N>, W: Vectors<16>, O: Output>(
     bytes: &[u8],
     upper: bool,
@@ -72,21 +72,21 @@ pub(crate) fn check_in_steps<const N: usize, V: Vectors<N>>(input: &[u8]) -> boo
     let mut at = 0;
     while input.len() - at > 4 * N {
         let end = at + 4 * N;
-        if !steps::check_four_steps::<N, V>(input.within(at..end)) {
+        if !steps::check_four_steps::<N, V>(&input[at..end]) {
             return false;
         }
         at = end;
     }
     if input.len() - at > 2 * N {
         let end = at + 2 * N;
-        if !steps::check_two_steps::<N, V>(input.within(at..end)) {
+        if !steps::check_two_steps::<N, V>(&input[at..end]) {
             return false;
         }
         at = end;
     }
-    let last = input.within(input.len() - N..);
+    let last = &input[input.len() - N..];
     if input.len() - at > N {
-        steps::check_pair::<N, V>(input.within(at..at + N), last)
+        steps::check_pair::<N, V>(&input[at..at + N], last)
     } else {
         steps::check_step::<N, V>(last)
     }
@@ -110,21 +110,21 @@ pub(crate) fn decode_in_steps<const N: usize, V: Vectors<N>, W: Vectors<16>>(
     while output.len() - at >= 2 * N {
         let end = at + 2 * N;
         let copy = lanes16::copy_for(output.len());
-        if !steps::decode_two_steps::<N, V>(input.within(2 * at..2 * end), output.within_mut(at..end), copy) {
+        if !steps::decode_two_steps::<N, V>(&input[2 * at..2 * end], &mut output[at..end], copy) {
             break;
         }
         at = end;
     }
     while output.len() - at >= N {
         let end = at + N;
-        if !steps::decode_step::<N, V>(input.within(2 * at..2 * end), output.within_mut(at..end), false) {
+        if !steps::decode_step::<N, V>(&input[2 * at..2 * end], &mut output[at..end], false) {
             return false;
         }
         at = end;
     }
     if output.len() - at >= 16 {
         let end = at + 16;
-        if !steps::decode_step::<16, W>(input.within(2 * at..2 * end), output.within_mut(at..end), false) {
+        if !steps::decode_step::<16, W>(&input[2 * at..2 * end], &mut output[at..end], false) {
             return false;
         }
         at = end;
@@ -133,10 +133,10 @@ pub(crate) fn decode_in_steps<const N: usize, V: Vectors<N>, W: Vectors<16>>(
         return true;
     }
     let start = output.len() - 16;
-    if steps::decode_step::<16, W>(input.within(2 * start..), output.within_mut(start..), false) {
+    if steps::decode_step::<16, W>(&input[2 * start..], &mut output[start..], false) {
         return true;
     }
-    short::decode::<W>(input.within(2 * at..), output.within_mut(at..))
+    short::decode::<W>(&input[2 * at..], &mut output[at..])
 }
 
 /// Decodes two steps, one step or 16 bytes by one test. A part of any other size is decoded as a
@@ -148,7 +148,7 @@ pub(crate) fn decode_part<const N: usize, V: Vectors<N>, W: Vectors<16>>(
     output: &mut [u8],
 ) -> bool {
     let end = start + output.len();
-    let text = input.within(2 * start..2 * end);
+    let text = &input[2 * start..2 * end];
     if output.len() == 2 * N {
         let copy = lanes16::copy_for(input.len());
         steps::decode_two_steps::<N, V>(text, output, copy)
@@ -162,8 +162,8 @@ pub(crate) fn decode_part<const N: usize, V: Vectors<N>, W: Vectors<16>>(
 }
 
 /// As `decode_in_steps`.
-// In the source not inlined: with this body `decode_part` would be too large to be inlined.
-#[inline(always)]
+// Not inlined: with this body `decode_part` would be too large to be inlined.
+#[inline(never)]
 fn decode_any_part<const N: usize, V: Vectors<N>, W: Vectors<16>>(
     text: &[u8],
     output: &mut [u8],
@@ -186,16 +186,16 @@ pub(crate) fn decode_digits_in_steps<const N: usize, V: Vectors<N>, W: Vectors<1
     while output.len() - at >= N {
         let end = at + N;
         let copy = lanes16::copy_for(output.len());
-        steps::decode_digits_step::<N, V>(input.within(2 * at..2 * end), output.within_mut(at..end), copy);
+        steps::decode_digits_step::<N, V>(&input[2 * at..2 * end], &mut output[at..end], copy);
         at = end;
     }
     if output.len() - at >= 16 {
         let end = at + 16;
-        steps::decode_digits_step::<16, W>(input.within(2 * at..2 * end), output.within_mut(at..end), false);
+        steps::decode_digits_step::<16, W>(&input[2 * at..2 * end], &mut output[at..end], false);
         at = end;
     }
     if at < output.len() {
         let start = output.len() - 16;
-        steps::decode_digits_step::<16, W>(input.within(2 * start..), output.within_mut(start..), false);
+        steps::decode_digits_step::<16, W>(&input[2 * start..], &mut output[start..], false);
     }
 }

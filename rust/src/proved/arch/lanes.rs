@@ -4,7 +4,7 @@
 //! example.
 
 use crate::rattle::prelude::*;
-use super::simd::prelude::*;
+use crate::rattle::simd::prelude::*;
 
 /// The operations that depend on the number of lanes `N`, or on whether the target has a byte
 /// shuffle. Everything else in a kernel is written once, over this trait. The argument `copy` never

@@ -5,10 +5,10 @@
 //! [`decode_chunk`], [`nibbles`] and [`unhex`].
 
 use crate::rattle::prelude::*;
-use super::lanes::{self, Vectors};
-use super::{Kernel, drivers, short};
+use crate::proved::arch::lanes::{self, Vectors};
+use crate::proved::arch::{Kernel, drivers, short};
 use crate::proved::output::Output;
-use super::simd::prelude::*;
+use crate::rattle::simd::prelude::*;
 
 /// For each low half of a byte the limit: no digit with this low half has a greater value.
 // `byte - 48` is the value of `0` to `9`, and more than the value of a letter. For a low half that
@@ -109,9 +109,9 @@ impl Kernel for Lanes16 {
         drivers::encode_in_steps::<8, 16, Lanes16, Lanes16, O>(input, upper, output);
     }
 
-    // In the source not `always`: `decode_body` calls `CheckFirst::<K>` in a branch that is never taken for this
+    // Not `always`: `decode_body` calls `CheckFirst::<K>` in a branch that is never taken for this
     // kernel. With all of `check` in that branch, the decoders would be too large to be inlined.
-    #[inline(always)]
+    #[inline]
     fn check(input: &[u8]) -> bool {
         if input.len() < 16 {
             return short::check::<Lanes16>(input);

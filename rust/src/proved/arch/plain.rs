@@ -2,7 +2,7 @@
 //! The kernel that goes byte by byte.
 
 use crate::rattle::prelude::*;
-use super::Kernel;
+use crate::proved::arch::Kernel;
 use crate::proved::output::Output;
 use crate::proved::tables::{NIL, digit_at, value_at};
 

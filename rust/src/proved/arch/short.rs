@@ -2,10 +2,10 @@
 //! Checks and decodes a short text, by its first and its last digits at once.
 
 use crate::rattle::prelude::*;
-use super::lanes::Vectors;
-use super::plain::Plain;
-use super::{Kernel, steps};
-use super::simd::prelude::*;
+use crate::proved::arch::lanes::Vectors;
+use crate::proved::arch::plain::Plain;
+use crate::proved::arch::{Kernel, steps};
+use crate::rattle::simd::prelude::*;
 
 /// Whether every byte of a text of at most 16 bytes is a digit.
 #[inline(always)]
@@ -31,8 +31,8 @@ fn check_ends<const H: usize, W: Vectors<16>>(text: &[u8]) -> bool {
 /// pairs before it and returns false. A valid text takes one vector operation on its first and last
 /// characters. Only if that finds an invalid character does [`Plain`] go through the pairs, with
 /// its table.
-// In the source not inlined: with this body the public decoders would be too large to be inlined.
-#[inline(always)]
+// Not inlined: with this body the public decoders would be too large to be inlined.
+#[inline(never)]
 pub(crate) fn decode<W: Vectors<16>>(text: &[u8], output: &mut [u8]) -> bool {
     let is_decoded = if output.len() >= 8 {
         decode_ends::<8, 16, W>(text, output)
@@ -64,7 +64,7 @@ fn decode_ends<const H: usize, const D: usize, W: Vectors<16>>(
     if are_digits {
         put::<H>(
             Simd::from_slice(&bytes),
-            Simd::from_slice(bytes.within(H..)),
+            Simd::from_slice(&bytes[H..]),
             output,
         );
     }
@@ -77,5 +77,5 @@ fn decode_ends<const H: usize, const D: usize, W: Vectors<16>>(
 fn put<const H: usize>(first: Simd<u8, H>, last: Simd<u8, H>, output: &mut [u8]) {
     let start = output.len() - H;
     first.copy_to_slice(output);
-    last.copy_to_slice(output.within_mut(start..));
+    last.copy_to_slice(&mut output[start..]);
 }

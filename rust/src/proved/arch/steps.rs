@@ -4,9 +4,9 @@
 //! `V` has the `N` lanes of a step.
 
 use crate::rattle::prelude::*;
-use super::lanes::{self, Vectors};
+use crate::proved::arch::lanes::{self, Vectors};
 use crate::proved::output::Output;
-use super::simd::prelude::*;
+use crate::rattle::simd::prelude::*;
 
 /// Writes two digits for each of `H` to `2 * H` bytes, as one piece. The first `H` bytes and the last
 /// `H` share a vector.
@@ -17,7 +17,7 @@ pub(crate) fn encode_ends<const H: usize, const N: usize, V: Vectors<N>, O: Outp
     output: &mut O,
 ) {
     let text = &encode_to_array::<N, V>(&load_ends::<H, N>(bytes, 0), upper, false)[..2 * N];
-    output.write_ends(text.within(..2 * H), text.within(2 * H..4 * H), 2 * bytes.len());
+    output.write_ends(&text[..2 * H], &text[2 * H..4 * H], 2 * bytes.len());
 }
 
 /// Writes two digits for each byte of a step, as one piece.
@@ -36,9 +36,9 @@ pub(crate) fn encode_step<const N: usize, V: Vectors<N>, O: Output>(
 fn encode_to_array<const N: usize, V: Vectors<N>>(bytes: &[u8], upper: bool, copy: bool) -> [u8; 64] {
     let digits = V::digits_of(Simd::from_slice(bytes), upper, copy);
     let mut text = [0; 64];
-    let lanes = text.within_mut(..);
+    let lanes = &mut text[..];
     digits[0].copy_to_slice(lanes);
-    digits[1].copy_to_slice(lanes.within_mut(N..));
+    digits[1].copy_to_slice(&mut lanes[N..]);
     text
 }
 
@@ -48,9 +48,9 @@ fn encode_to_array<const N: usize, V: Vectors<N>>(bytes: &[u8], upper: bool, cop
 #[inline(always)]
 pub(crate) fn load_ends<const H: usize, const N: usize>(bytes: &[u8], fill: u8) -> [u8; N] {
     let mut step = [fill; N];
-    let lanes = step.within_mut(..);
-    lanes[..H].copy_from_slice(bytes.within(..H));
-    lanes[H..2 * H].copy_from_slice(bytes.within(bytes.len() - H..));
+    let lanes = &mut step[..];
+    lanes[..H].copy_from_slice(&bytes[..H]);
+    lanes[H..2 * H].copy_from_slice(&bytes[bytes.len() - H..]);
     step
 }
 
@@ -83,7 +83,7 @@ pub(crate) fn check_four_steps<const N: usize, V: Vectors<N>>(text: &[u8]) -> bo
 /// Joined marks of the text of two steps. They are clear if and only if each byte is a digit.
 #[inline(always)]
 fn marks_of_two_steps<const N: usize, V: Vectors<N>>(text: &[u8]) -> Simd<u8, N> {
-    lanes::joint_marks::<N, V>(Simd::from_slice(text), Simd::from_slice(text.within(N..)))
+    lanes::joint_marks::<N, V>(Simd::from_slice(text), Simd::from_slice(&text[N..]))
 }
 
 /// Decodes the text of a step into the output and returns true. If some byte is not a digit,
@@ -124,7 +124,7 @@ pub(crate) fn decode_two_steps<const N: usize, V: Vectors<N>>(
 // The test has already computed these values for the marks. The compiler merges both computations.
 #[inline(always)]
 fn decode_vector<const N: usize, V: Vectors<N>>(text: &[u8], copy: bool) -> Simd<u8, N> {
-    lanes::decode::<N, V>(Simd::from_slice(text), Simd::from_slice(text.within(N..)), copy)
+    lanes::decode::<N, V>(Simd::from_slice(text), Simd::from_slice(&text[N..]), copy)
 }
 
 /// Decodes the digits of a step into the output.
@@ -135,5 +135,5 @@ pub(crate) fn decode_digits_step<const N: usize, V: Vectors<N>>(
     copy: bool,
 ) {
     let first = Simd::from_slice(text);
-    lanes::decode_digits::<N, V>(first, Simd::from_slice(text.within(N..)), copy).copy_to_slice(output);
+    lanes::decode_digits::<N, V>(first, Simd::from_slice(&text[N..]), copy).copy_to_slice(output);
 }

@@ -76,9 +76,9 @@ pub(crate) fn write_known<const N: usize>(text: &[u8; N], output: &mut [u8]) -> 
 
 /// Writes the text and a NUL, and returns the number of bytes before the NUL. A text that does not fit is
 /// truncated, and an empty buffer stays empty.
-// In the source not inlined: LLVM keeps the buffer of a function without calls below the stack pointer, where some
+// Not inlined: LLVM keeps the buffer of a function without calls below the stack pointer, where some
 // systems do not leave it alone.
-#[inline(always)]
+#[inline(never)]
 pub(crate) fn write_ended(text: &[u8], output: &mut [u8]) -> usize {
     if output.is_empty() {
         return 0;

@@ -11,13 +11,13 @@ use crate::proved::{FixedKernel, Kernel};
 /// Returns [`FromHexError::OddLength`] for an odd length. Otherwise returns
 /// [`FromHexError::InvalidHexCharacter`] with the first byte after the prefix that is not a digit,
 /// if there is one. Does not allocate.
-#[inline(always)]
+#[inline]
 pub fn check(input: &[u8]) -> Result<(), FromHexError> {
     check_with::<FixedKernel>(input)
 }
 
 /// As [`check`], by a kernel of the caller's choice. Does not allocate.
-#[inline(always)]
+#[inline]
 pub fn check_with<K: Kernel>(input: &[u8]) -> Result<(), FromHexError> {
     if K::check(strip_even(input)?) {
         Ok(())
@@ -30,7 +30,7 @@ pub fn check_with<K: Kernel>(input: &[u8]) -> Result<(), FromHexError> {
 ///
 /// It looks each digit up in a table, so its timing may depend on the text. At run time call
 /// `check`.
-#[inline(always)]
+#[inline]
 pub const fn const_check(input: &[u8]) -> Result<(), FromHexError> {
     match strip_even(input) {
         Ok(body) if const_check_raw(body) => Ok(()),
@@ -41,7 +41,7 @@ pub const fn const_check(input: &[u8]) -> Result<(), FromHexError> {
 
 /// Whether every byte is a digit. No prefix is allowed, and the length does not matter. Does not
 /// allocate.
-#[inline(always)]
+#[inline]
 pub fn check_raw(input: &[u8]) -> bool {
     FixedKernel::check(input)
 }
@@ -50,7 +50,7 @@ pub fn check_raw(input: &[u8]) -> bool {
 ///
 /// It looks each digit up in a table, so its timing may depend on the text. At run time call
 /// `check_raw`.
-#[inline(always)]
+#[inline]
 pub const fn const_check_raw(input: &[u8]) -> bool {
     let (_, index) = find_first_bad(input);
     index == input.len()

@@ -35,7 +35,7 @@ pub struct Decoder {
 
 impl Decoder {
     /// A decoder that has read nothing. Does not allocate.
-    #[inline(always)]
+    #[inline]
     pub const fn new() -> Decoder {
         Decoder {
             index: 0,
@@ -61,14 +61,14 @@ impl Decoder {
     ///   the output is unchanged.
     ///
     /// Does not allocate.
-    #[inline(always)]
+    #[inline]
     pub fn decode(&mut self, chunk: &[u8], output: &mut [u8]) -> Result<usize, FromHexError> {
         self.decode_with::<FixedKernel>(chunk, output)
     }
 
     /// As [`decode`](Decoder::decode), by a kernel of the caller's choice. Each chunk may have
     /// another. Does not allocate.
-    #[inline(always)]
+    #[inline]
     pub fn decode_with<K: Kernel>(
         &mut self,
         chunk: &[u8],
@@ -94,7 +94,7 @@ impl Decoder {
     ///
     /// Returns [`FromHexError::OddLength`] if the text has an odd number of bytes and no invalid
     /// character, so also for a lone `0`. If a chunk had an invalid character, returns its error again. Does not allocate.
-    #[inline(always)]
+    #[inline]
     pub fn finish(self) -> Result<(), FromHexError> {
         if let Some(error) = self.error() {
             return Err(error);
@@ -107,7 +107,7 @@ impl Decoder {
 
     /// How many bytes of the text were read, or `usize::MAX` if they were more. After an invalid
     /// character, its position. Does not allocate.
-    #[inline(always)]
+    #[inline]
     pub fn position(&self) -> usize {
         self.index
     }
@@ -204,8 +204,8 @@ fn decode_next<K: Kernel>(waiting: Option<u8>, digits: &[u8], output: &mut [u8])
 }
 
 /// As `decode_next`, after a digit that waits.
-// In the source not inlined: with this body `decode_with` would be too large to be inlined.
-#[inline(always)]
+// Not inlined: with this body `decode_with` would be too large to be inlined.
+#[inline(never)]
 fn decode_after<K: Kernel>(high: u8, digits: &[u8], output: &mut [u8]) -> bool {
     match digits {
         [low, rest @ ..] => {

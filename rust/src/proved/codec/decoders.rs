@@ -5,7 +5,7 @@ use crate::rattle::prelude::*;
 use crate::proved::codec::body::{decode_body, find_invalid_character, strip_even};
 use crate::proved::error::FromHexError;
 #[cfg(feature = "alloc")]
-use crate::proved::reserved::decode_reserved;
+use crate::kernel::decode_reserved;
 use crate::proved::{FixedKernel, Kernel, NIL, value_at};
 use crate::rattle::alloc::Global;
 
@@ -22,7 +22,7 @@ pub fn decode(alloc: Global, input: &[u8]) -> Result<Vec<u8>, FromHexError> {
 }
 
 /// As [`decode`], with the same errors, by a kernel of the caller's choice.
-#[inline(always)]
+#[inline]
 #[cfg(feature = "alloc")]
 pub fn decode_with<K: Kernel>(alloc: Global, input: &[u8]) -> Result<Vec<u8>, FromHexError> {
     decode_owned::<K>(alloc, input)
@@ -50,14 +50,14 @@ fn decode_owned<K: Kernel>(alloc: Global, input: &[u8]) -> Result<Vec<u8>, FromH
 ///   unchanged.
 ///
 /// Does not allocate.
-#[inline(always)]
+#[inline]
 pub fn decode_to_slice(input: &[u8], output: &mut [u8]) -> Result<(), FromHexError> {
     decode_to_slice_with::<FixedKernel>(input, output)
 }
 
 /// As [`decode_to_slice`], by a kernel of the caller's choice. If the kernel checks a text before
 /// it decodes, every error leaves the output unchanged. Does not allocate.
-#[inline(always)]
+#[inline]
 pub fn decode_to_slice_with<K: Kernel>(input: &[u8], output: &mut [u8]) -> Result<(), FromHexError> {
     let body = strip_even(input)?;
     if body.len() / 2 != output.len() {
@@ -85,13 +85,13 @@ pub fn decode_to_slice_with<K: Kernel>(input: &[u8], output: &mut [u8]) -> Resul
 ///   unchanged.
 ///
 /// Does not allocate.
-#[inline(always)]
+#[inline]
 pub fn decode_to_front(input: &[u8], output: &mut [u8]) -> Result<usize, FromHexError> {
     decode_to_front_with::<FixedKernel>(input, output)
 }
 
 /// As [`decode_to_front`], by a kernel of the caller's choice. Does not allocate.
-#[inline(always)]
+#[inline]
 pub fn decode_to_front_with<K: Kernel>(
     input: &[u8],
     output: &mut [u8],
@@ -112,7 +112,7 @@ pub fn decode_to_front_with<K: Kernel>(
 /// The first of these errors is returned: [`FromHexError::OddLength`];
 /// [`FromHexError::InvalidStringLength`], if the text after the prefix does not have 2 * N bytes;
 /// [`FromHexError::InvalidHexCharacter`]. Does not allocate.
-#[inline(always)]
+#[inline]
 pub fn decode_to_array<const N: usize>(input: &[u8]) -> Result<[u8; N], FromHexError> {
     read_array(input)
 }
@@ -130,7 +130,7 @@ fn read_array<const N: usize>(input: &[u8]) -> Result<[u8; N], FromHexError> {
 ///
 /// It looks each digit up in a table, so its timing may depend on the text. At run time call
 /// `decode_to_array`.
-#[inline(always)]
+#[inline]
 pub const fn const_decode_to_array<const N: usize>(input: &[u8]) -> Result<[u8; N], FromHexError> {
     let body = match strip_even(input) {
         Ok(body) => body,
@@ -157,7 +157,7 @@ pub const fn const_decode_to_array<const N: usize>(input: &[u8]) -> Result<[u8; 
 ///
 /// If a character is not a digit, or the length is another, verification of the Rattle program
 /// that makes this call fails, so it never runs. Does not allocate.
-#[inline(always)]
+#[inline]
 pub fn bytes_of<const N: usize>(text: &[u8]) -> [u8; N] {
     decode_to_array(text).unwrap()
 }

@@ -4,7 +4,7 @@
 use crate::rattle::prelude::*;
 use crate::proved::error::FromHexError;
 #[cfg(feature = "alloc")]
-use crate::proved::reserved::encode_reserved;
+use crate::kernel::encode_reserved;
 use crate::proved::{FixedKernel, Kernel, ascii_text, fill_text, text_length};
 use crate::rattle::alloc::{AllocError, Global};
 
@@ -52,7 +52,7 @@ pub fn encode_upper_prefixed(alloc: Global, input: &[u8]) -> Result<String, Allo
 
 /// As [`encode`] or [`encode_upper`], by a kernel of the caller's choice.
 ///
-#[inline(always)]
+#[inline]
 #[cfg(feature = "alloc")]
 pub fn encode_with<K: Kernel, const UPPER: bool>(
     alloc: Global,
@@ -79,13 +79,13 @@ fn encode_into<'a>(input: &[u8], upper: bool, output: &'a mut [u8]) -> &'a mut [
 ///
 /// The output must have exactly two bytes for each byte of the input. Otherwise returns
 /// [`FromHexError::InvalidStringLength`], and the output is unchanged. Does not allocate.
-#[inline(always)]
+#[inline]
 pub fn encode_to_slice(input: &[u8], output: &mut [u8]) -> Result<(), FromHexError> {
     encode_full_to_slice(input, false, false, output)
 }
 
 /// As [`encode_to_slice`], in uppercase. Does not allocate.
-#[inline(always)]
+#[inline]
 pub fn encode_to_slice_upper(input: &[u8], output: &mut [u8]) -> Result<(), FromHexError> {
     encode_full_to_slice(input, false, true, output)
 }
@@ -96,7 +96,7 @@ pub fn encode_to_slice_upper(input: &[u8], output: &mut [u8]) -> Result<(), From
 /// The output must have exactly two bytes for each byte of the input, and two more for a prefix.
 /// Otherwise returns [`FromHexError::InvalidStringLength`], and the output is unchanged. Does not
 /// allocate.
-#[inline(always)]
+#[inline]
 pub fn encode_full_to_slice(
     input: &[u8],
     prefix: bool,
@@ -107,7 +107,7 @@ pub fn encode_full_to_slice(
 }
 
 /// As [`encode_full_to_slice`], by a kernel of the caller's choice. Does not allocate.
-#[inline(always)]
+#[inline]
 pub fn encode_full_to_slice_with<K: Kernel>(
     input: &[u8],
     prefix: bool,
@@ -125,7 +125,7 @@ pub fn encode_full_to_slice_with<K: Kernel>(
 ///
 /// The output must have exactly two bytes for each byte of the input. Otherwise returns
 /// [`FromHexError::InvalidStringLength`], and the output is unchanged. Does not allocate.
-#[inline(always)]
+#[inline]
 pub fn encode_to_str<'a>(input: &[u8], output: &'a mut [u8]) -> Result<&'a str, FromHexError> {
     if !two_per_byte(input.len(), output.len()) {
         return Err(FromHexError::InvalidStringLength);
@@ -134,7 +134,7 @@ pub fn encode_to_str<'a>(input: &[u8], output: &'a mut [u8]) -> Result<&'a str, 
 }
 
 /// As [`encode_to_str`], in uppercase. Does not allocate.
-#[inline(always)]
+#[inline]
 pub fn encode_to_str_upper<'a>(input: &[u8], output: &'a mut [u8]) -> Result<&'a str, FromHexError> {
     if !two_per_byte(input.len(), output.len()) {
         return Err(FromHexError::InvalidStringLength);

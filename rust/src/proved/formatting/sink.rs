@@ -13,7 +13,7 @@ pub struct FormatterSink<'f, 'w> {
 
 impl<'f, 'w> FormatterSink<'f, 'w> {
     /// A sink over the given formatter, which has not refused.
-    #[inline(always)]
+    #[inline]
     pub fn new(formatter: &'f mut fmt::Formatter<'w>) -> FormatterSink<'f, 'w> {
         FormatterSink {
             formatter,
@@ -23,12 +23,12 @@ impl<'f, 'w> FormatterSink<'f, 'w> {
 }
 
 impl<'w> Sink for FormatterSink<'_, 'w> {
-    #[inline(always)]
+    #[inline]
     fn refused(&self) -> bool {
         self.failed
     }
 
-    #[inline(always)]
+    #[inline]
     fn write_str(&mut self, s: &str) -> Result<(), SinkError> {
         if self.formatter.write_str(s).is_err() {
             self.failed = true;

@@ -19,7 +19,7 @@ pub struct BufferedOutput<O: Output, const N: usize> {
 
 impl<O: Output, const N: usize> BufferedOutput<O, N> {
     /// Gathers for the given output, with nothing pending. N must not be 0.
-    #[inline(always)]
+    #[inline]
     pub fn new(output: O) -> BufferedOutput<O, N> {
         BufferedOutput {
             output,
@@ -29,7 +29,7 @@ impl<O: Output, const N: usize> BufferedOutput<O, N> {
     }
 
     /// Passes on the pending text, if there is any, and returns the output.
-    #[inline(always)]
+    #[inline]
     pub fn finish(self) -> O {
         let mut this = self;
         this.flush();
@@ -37,7 +37,7 @@ impl<O: Output, const N: usize> BufferedOutput<O, N> {
     }
 
     /// The output. The pending text is lost.
-    #[inline(always)]
+    #[inline]
     pub(crate) fn into_output(self) -> O {
         let BufferedOutput {
             output,
@@ -48,7 +48,7 @@ impl<O: Output, const N: usize> BufferedOutput<O, N> {
     }
 
     /// Passes on the pending text, if there is any.
-    #[inline(always)]
+    #[inline]
     pub(crate) fn flush(&mut self) {
         if self.count != 0 {
             self.output.write(&self.buffer[..self.count]);
@@ -75,7 +75,7 @@ impl<O: Output, const N: usize> BufferedOutput<O, N> {
 
 impl<O: Output, const N: usize> Output for BufferedOutput<O, N> {
     /// The remaining space of the output, less the pending bytes.
-    #[inline(always)]
+    #[inline]
     fn remaining(&self) -> Option<usize> {
         match self.output.remaining() {
             Some(room) => Some(room - self.count),

@@ -35,7 +35,7 @@ impl Output for SliceOutput<'_> {
         }
         let end = self.count + bytes.len();
         let slice = &mut *self.slice;
-        copy_over(slice.within_mut(self.count..end), bytes);
+        copy_over(&mut slice[self.count..end], bytes);
         self.count = end;
     }
 
@@ -55,7 +55,7 @@ fn copy_over(target: &mut [u8], bytes: &[u8]) {
     if bytes.len() == 64 {
         let (front, back) = target.split_at_mut(32);
         u8x32::from_slice(bytes).copy_to_slice(front);
-        u8x32::from_slice(bytes.within(32..)).copy_to_slice(back);
+        u8x32::from_slice(&bytes[32..]).copy_to_slice(back);
     } else if bytes.len() == 32 {
         copy_lanes::<32>(target, bytes);
     } else if bytes.len() == 16 {

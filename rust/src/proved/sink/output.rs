@@ -13,7 +13,7 @@ pub struct SinkOutput<'a, S: Sink> {
 
 impl<'a, S: Sink> SinkOutput<'a, S> {
     /// An output to the given sink, which must not have refused.
-    #[inline(always)]
+    #[inline]
     pub fn new(sink: &'a mut S) -> SinkOutput<'a, S> {
         SinkOutput { sink }
     }
@@ -24,7 +24,7 @@ impl<'a, S: Sink> SinkOutput<'a, S> {
     }
 
     /// The sink, lent again.
-    #[inline(always)]
+    #[inline]
     pub(crate) fn into_inner(self) -> &'a mut S {
         self.sink
     }
@@ -32,12 +32,12 @@ impl<'a, S: Sink> SinkOutput<'a, S> {
 
 impl<S: Sink> Output for SinkOutput<'_, S> {
     /// A sink has no limit.
-    #[inline(always)]
+    #[inline]
     fn remaining(&self) -> Option<usize> {
         None
     }
 
-    #[inline(always)]
+    #[inline]
     fn write(&mut self, bytes: &[u8]) {
         if self.sink.refused() {
             return;

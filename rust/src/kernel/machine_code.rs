@@ -1,0 +1,252 @@
+//! The machine code in `../asm`, and on x86-64 the choice between two builds of it.
+//!
+//! `machine_code` in the repository has proved what each function does with its arguments where they are declared
+//! here. It reads no byte of its output that it has not written. The names have the version of this crate, so that a
+//! program may have several; no other library can name them.
+
+// What assembles the files for the proof needs the directive for the syntax that is the default here.
+#![allow(bad_asm_style)]
+
+#[cfg(target_vendor = "apple")]
+macro_rules! directives {
+    () => {
+        include_str!("../asm/mach_o.s")
+    };
+}
+#[cfg(any(windows, target_os = "uefi"))]
+macro_rules! directives {
+    () => {
+        include_str!("../asm/coff.s")
+    };
+}
+#[cfg(not(any(windows, target_os = "uefi", target_vendor = "apple")))]
+macro_rules! directives {
+    () => {
+        include_str!("../asm/elf.s")
+    };
+}
+
+#[cfg(target_arch = "x86_64")]
+core::arch::global_asm!(
+    directives!(),
+    include_str!("../asm/x86_64_v2.s"),
+    include_str!("../asm/x86_64_v3.s"),
+    include_str!("../asm/end.s"),
+    options(raw)
+);
+#[cfg(target_arch = "aarch64")]
+core::arch::global_asm!(
+    directives!(),
+    include_str!("../asm/aarch64.s"),
+    include_str!("../asm/end.s"),
+    options(raw)
+);
+
+/// Each function calls the machine code. It is not inlined into another crate, which could not name that.
+#[cfg(target_arch = "x86_64")]
+macro_rules! functions {
+    ($(
+        $(#[$comment:meta])*
+        $name:ident($($argument:ident: $type:ty),*) $(-> $result:ty)?, $v2:ident, $v3:ident, $aarch64:ident;
+    )*) => {$(
+        $(#[$comment])*
+        #[inline(never)]
+        pub unsafe fn $name($($argument: $type),*) $(-> $result)? {
+            extern "sysv64" {
+                fn $v2($($argument: $type),*) $(-> $result)?;
+                fn $v3($($argument: $type),*) $(-> $result)?;
+            }
+            #[cold]
+            #[inline(never)]
+            unsafe fn first($($argument: $type),*) $(-> $result)? {
+                // SAFETY: the caller promises what the function requires, and this CPU has what it needs.
+                unsafe {
+                    match choice::ask() {
+                        3 => $v3($($argument),*),
+                        2 => $v2($($argument),*),
+                        _ => portable::$name($($argument),*),
+                    }
+                }
+            }
+            // SAFETY: the same.
+            unsafe {
+                let build = if choice::IS_V3 { 3 } else { choice::known() };
+                if build == 3 {
+                    return $v3($($argument),*);
+                }
+                if build == 2 {
+                    return $v2($($argument),*);
+                }
+                first($($argument),*)
+            }
+        }
+    )*};
+}
+#[cfg(target_arch = "aarch64")]
+macro_rules! functions {
+    ($(
+        $(#[$comment:meta])*
+        $name:ident($($argument:ident: $type:ty),*) $(-> $result:ty)?, $v2:ident, $v3:ident, $aarch64:ident;
+    )*) => {$(
+        $(#[$comment])*
+        #[inline(never)]
+        pub unsafe fn $name($($argument: $type),*) $(-> $result)? {
+            extern "C" {
+                fn $aarch64($($argument: $type),*) $(-> $result)?;
+            }
+            // SAFETY: the caller promises what the function requires.
+            unsafe { $aarch64($($argument),*) }
+        }
+    )*};
+}
+
+functions! {
+    /// Fills the text with the digits of the bytes, in uppercase if `upper` is 1, and in lowercase if it is 0.
+    ///
+    /// # Safety
+    ///
+    /// There are so many bytes, and `text` may be written for two bytes for each. These need not be initialized, and
+    /// are afterwards.
+    fill(bytes: *const u8, length: usize, text: *mut u8, upper: u32),
+        const_hex_1_0_0_fill_v2, const_hex_1_0_0_fill_v3, const_hex_1_0_0_fill;
+    /// Returns whether every byte of the text is a digit.
+    ///
+    /// # Safety
+    ///
+    /// The text has so many bytes.
+    check(text: *const u8, length: usize) -> bool,
+        const_hex_1_0_0_check_v2, const_hex_1_0_0_check_v3, const_hex_1_0_0_check;
+    /// Decodes the text to the bytes, and returns true. Returns false if some character is not a digit. Then bytes
+    /// before it may be written, and no others.
+    ///
+    /// # Safety
+    ///
+    /// The text has so many bytes, twice as many as `count`, and `bytes` may be written for `count` bytes. These need
+    /// not be initialized, and are if the result is true.
+    read(text: *const u8, length: usize, bytes: *mut u8, count: usize) -> bool,
+        const_hex_1_0_0_read_v2, const_hex_1_0_0_read_v3, const_hex_1_0_0_read;
+}
+
+/// The choice between the builds.
+#[cfg(target_arch = "x86_64")]
+mod choice {
+    use core::sync::atomic::{AtomicU8, Ordering::Relaxed};
+
+    /// The build for this CPU: 3 for x86-64-v3, 2 for x86-64-v2, 1 for portable code, or 0 until the CPU was asked.
+    /// Threads that ask at the same time store the same number.
+    static BUILD: AtomicU8 = AtomicU8::new(0);
+
+    /// Whether each CPU that can run this program has x86-64-v3.
+    pub const IS_V3: bool = cfg!(all(
+        target_feature = "avx2",
+        target_feature = "bmi1",
+        target_feature = "bmi2",
+        target_feature = "f16c",
+        target_feature = "fma",
+        target_feature = "lzcnt",
+        target_feature = "movbe"
+    ));
+
+    /// Returns the build, if it is known.
+    #[inline(always)]
+    pub fn known() -> u8 {
+        BUILD.load(Relaxed)
+    }
+
+    /// Asks the CPU, and stores the answer. The operating system has to keep the registers of AVX, too.
+    #[cold]
+    pub fn ask() -> u8 {
+        use core::arch::x86_64::{__cpuid, __cpuid_count, _xgetbv};
+
+        #[target_feature(enable = "xsave")]
+        unsafe fn kept_registers() -> u64 {
+            // SAFETY: the caller promises that the CPU has this instruction.
+            unsafe { _xgetbv(0) }
+        }
+        // SSE3, SSSE3, CMPXCHG16B, SSE4.1, SSE4.2 and POPCNT; then FMA, MOVBE, OSXSAVE, AVX and F16C; then BMI1, AVX2
+        // and BMI2; and LZCNT.
+        const V2: u32 = 1 | 1 << 9 | 1 << 13 | 1 << 19 | 1 << 20 | 1 << 23;
+        const V3: u32 = 1 << 12 | 1 << 22 | 1 << 27 | 1 << 28 | 1 << 29;
+        const V3_OF_7: u32 = 1 << 3 | 1 << 5 | 1 << 8;
+        const LZCNT: u32 = 1 << 5;
+        let has = |found: u32, wanted: u32| found & wanted == wanted;
+        // SAFETY: each x86-64 CPU has the instruction `cpuid`. The registers that are kept are asked for only if
+        // `cpuid` has reported OSXSAVE.
+        #[allow(unused_unsafe)]
+        let build = unsafe {
+            let features = __cpuid(1).ecx;
+            let has_v3 = has(features, V3)
+                && __cpuid(0).eax >= 7
+                && has(__cpuid_count(7, 0).ebx, V3_OF_7)
+                && __cpuid(0x8000_0000).eax > 0x8000_0000
+                && has(__cpuid(0x8000_0001).ecx, LZCNT)
+                && kept_registers() & 6 == 6;
+            match has(features, V2) {
+                true if has_v3 => 3,
+                true => 2,
+                false => 1,
+            }
+        };
+        BUILD.store(build, Relaxed);
+        build
+    }
+
+    #[cfg(test)]
+    #[test]
+    fn the_build_is_that_for_this_cpu() {
+        let has = |is_detected: &[bool]| is_detected.iter().all(|has| *has);
+        macro_rules! detected {
+            ($($feature:tt)*) => { has(&[$(std::is_x86_feature_detected!($feature)),*]) };
+        }
+        let is_v2 = detected!("sse3" "ssse3" "sse4.1" "sse4.2" "popcnt" "cmpxchg16b");
+        let is_v3 = is_v2 && detected!("avx" "avx2" "bmi1" "bmi2" "f16c" "fma" "lzcnt");
+        assert_eq!(ask(), 1 + u8::from(is_v2) + u8::from(is_v3));
+        assert_eq!(known(), ask());
+    }
+}
+
+/// For x86-64 without SSE4.2: by the portable kernel, a byte at a time, since the output may not be initialized.
+#[cfg(target_arch = "x86_64")]
+mod portable {
+    use crate::proved::{Kernel, Plain};
+    use core::mem::MaybeUninit;
+    use core::slice::{from_raw_parts, from_raw_parts_mut};
+
+    pub unsafe fn fill(bytes: *const u8, length: usize, text: *mut u8, upper: u32) {
+        // SAFETY: the caller promises so many bytes.
+        let (bytes, text) = unsafe {
+            (
+                from_raw_parts(bytes, length),
+                from_raw_parts_mut(text.cast::<MaybeUninit<[u8; 2]>>(), length),
+            )
+        };
+        for (byte, pair) in bytes.iter().zip(text) {
+            let mut digits = [0; 2];
+            Plain::fill(&[*byte], upper != 0, &mut digits);
+            *pair = MaybeUninit::new(digits);
+        }
+    }
+
+    pub unsafe fn check(text: *const u8, length: usize) -> bool {
+        // SAFETY: the caller promises so many bytes.
+        Plain::check(unsafe { from_raw_parts(text, length) })
+    }
+
+    pub unsafe fn read(text: *const u8, length: usize, bytes: *mut u8, count: usize) -> bool {
+        // SAFETY: the caller promises so many bytes.
+        let (text, bytes) = unsafe {
+            (
+                from_raw_parts(text, length),
+                from_raw_parts_mut(bytes.cast::<MaybeUninit<u8>>(), count),
+            )
+        };
+        text.chunks_exact(2).zip(bytes).all(|(pair, byte)| {
+            let mut decoded = [0];
+            let is_valid = Plain::decode_checked(pair, &mut decoded);
+            if is_valid {
+                *byte = MaybeUninit::new(decoded[0]);
+            }
+            is_valid
+        })
+    }
+}

@@ -1,0 +1,117 @@
+//! The kernel by machine code, and the vectors that it fills.
+
+use super::machine_code;
+use crate::proved::{Kernel, Output};
+
+/// The kernel by machine code.
+pub struct Native;
+
+impl Kernel for Native {
+    const USE_CHECK_FN: bool = false;
+
+    fn encode<O: Output>(input: &[u8], upper: bool, output: &mut O) {
+        let mut text = [0; 1024];
+        for bytes in input.chunks(512) {
+            let text = &mut text[..2 * bytes.len()];
+            Self::fill(bytes, upper, text);
+            let mut pieces = text.chunks_exact(64);
+            for piece in &mut pieces {
+                output.write(piece);
+            }
+            if !pieces.remainder().is_empty() {
+                output.write(pieces.remainder());
+            }
+        }
+    }
+
+    #[inline]
+    fn fill(input: &[u8], upper: bool, output: &mut [u8]) {
+        require(output.len() == 2 * input.len());
+        let (bytes, text) = (input.as_ptr(), output.as_mut_ptr());
+        // SAFETY: the output has two bytes for each byte of the input.
+        unsafe { machine_code::fill(bytes, input.len(), text, upper.into()) }
+    }
+
+    #[inline]
+    fn check(input: &[u8]) -> bool {
+        // SAFETY: these are the bytes of the input.
+        unsafe { machine_code::check(input.as_ptr(), input.len()) }
+    }
+
+    #[inline]
+    fn decode_checked(input: &[u8], output: &mut [u8]) -> bool {
+        require(input.len() == 2 * output.len());
+        let (text, bytes) = (input.as_ptr(), output.as_mut_ptr());
+        // SAFETY: the input has two bytes for each byte of the output.
+        unsafe { machine_code::read(text, input.len(), bytes, output.len()) }
+    }
+
+    #[inline]
+    fn decode_unchecked(input: &[u8], output: &mut [u8]) {
+        Self::decode_checked(input, output);
+    }
+}
+
+/// Panics unless a length fits, which is proved of each caller, and tested again. No length overflows when it is
+/// doubled: a slice has at most `isize::MAX` bytes.
+#[inline]
+fn require(fits: bool) {
+    #[cold]
+    #[inline(never)]
+    fn fail() -> ! {
+        panic!("a length does not fit")
+    }
+    if !fits {
+        fail();
+    }
+}
+
+#[cfg(feature = "alloc")]
+pub use owned::{decode_reserved, encode_reserved};
+
+/// What the proved module `reserved` has, in memory that is not initialized.
+#[cfg(feature = "alloc")]
+mod owned {
+    use super::machine_code;
+    use crate::proved::text_length;
+    use crate::rattle::alloc::{AllocError, Global, Vec};
+
+    /// Returns the text of bytes, with `0x` before it if `prefix` is true.
+    #[inline]
+    pub fn encode_reserved<K>(
+        _: Global,
+        input: &[u8],
+        prefix: bool,
+        upper: bool,
+    ) -> Result<Vec<u8>, AllocError> {
+        // A length that overflows is `usize::MAX`, for which this panics.
+        let length = text_length(prefix, input.len());
+        let mut text = alloc::vec::Vec::with_capacity(length);
+        if prefix {
+            text.extend_from_slice(b"0x");
+        }
+        // SAFETY: after the prefix the vector has space for two bytes for each byte of the input, and all of them
+        // are written.
+        unsafe {
+            let digits = text.as_mut_ptr().add(text.len());
+            machine_code::fill(input.as_ptr(), input.len(), digits, upper.into());
+            text.set_len(length);
+        }
+        Ok(Vec(text))
+    }
+
+    /// Returns the bytes of digits, or `None` if some byte is not a digit. The number of digits is even.
+    #[inline]
+    pub fn decode_reserved<K>(_: Global, digits: &[u8]) -> Result<Option<Vec<u8>>, AllocError> {
+        let (length, count) = (digits.len() & !1, digits.len() / 2);
+        let mut bytes = alloc::vec::Vec::with_capacity(count);
+        // SAFETY: the vector has space for one byte for two digits. If the result is true, all of it is written.
+        unsafe {
+            if !machine_code::read(digits.as_ptr(), length, bytes.as_mut_ptr(), count) {
+                return Ok(None);
+            }
+            bytes.set_len(count);
+        }
+        Ok(Some(Vec(bytes)))
+    }
+}
