@@ -16,7 +16,7 @@ use crate::transfer::{flush, read_chunk, too_many_reads, write_piece};
 use std::io::{Read, Write};
 
 /// How many bytes are read at a time.
-const CHUNK: usize = 32_768;
+const CHUNK: usize = 65_536;
 
 /// Writes the bytes that all of the reader's text decodes to, and flushes.
 pub(crate) fn decode_stream<R: Read, W: Write>(

@@ -16,7 +16,7 @@ use crate::mode::Mode;
 use std::io::{self, Read, Write};
 
 /// Reads the input to its end, writes what the mode makes of it, and flushes. The input may have any
-/// length: it is read in chunks of at most 32 KiB, and nothing is allocated.
+/// length: it is read in chunks of 16 or 64 KiB, and nothing is allocated.
 ///
 /// Returns
 ///

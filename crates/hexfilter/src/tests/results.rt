@@ -163,7 +163,7 @@ fn every_cut(rt: HostRuntime) {
     }
 }
 
-// A chunk has 65536 bytes.
+// A chunk has 16384 bytes to encode and 65536 to decode.
 const COUNTS: [u64; 4] = [65_535, 65_536, 65_537, 131_073];
 
 #[test]
