@@ -2,6 +2,7 @@
 //!
 //!     cargo run --release                            # every library
 //!     cargo run --release -- const-hex               # these libraries alone
+//!     MOST=2048 cargo run                            # without optimization, up to so many bytes
 //!
 //! Each cell is the difference of two runs of this program, by the number of calls between them.
 
@@ -57,8 +58,10 @@ fn repeat(call: &str, library: &str, size: &str, count: &str) -> ExitCode {
 
 /// Prints a table for each call, with a row for each size and a column for each library.
 fn print(only: &[String]) -> io::Result<()> {
-    let cells: Vec<Cell> = SIZES
-        .into_iter()
+    let sizes: Vec<usize> = SIZES.into_iter().filter(|size| *size <= most()).collect();
+    let cells: Vec<Cell> = sizes
+        .iter()
+        .copied()
         .flat_map(|size| {
             cases(size)
                 .into_iter()
@@ -79,7 +82,7 @@ fn print(only: &[String]) -> io::Result<()> {
             libraries.join(" | "),
             "---|".repeat(libraries.len() + 1)
         );
-        for size in SIZES {
+        for &size in &sizes {
             let row = libraries
                 .iter()
                 .map(|library| counted[&(call, *library, size)].to_string());
@@ -87,6 +90,12 @@ fn print(only: &[String]) -> io::Result<()> {
         }
     }
     Ok(())
+}
+
+/// The greatest number of bytes, if the variable `MOST` says one.
+fn most() -> usize {
+    let most = env::var("MOST").ok().and_then(|most| most.parse().ok());
+    most.unwrap_or(usize::MAX)
 }
 
 /// Counts every cell, by as many threads as there are processors.
