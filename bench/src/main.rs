@@ -3,6 +3,7 @@
 //!     cargo run --release                            # every library
 //!     cargo run --release -- const-hex               # these libraries alone
 //!     cargo run --release -- --figure                # a figure in SVG
+//!     MOST=2048 cargo run                            # without optimization, up to so many bytes
 //!
 //! Each cell is the difference of two runs of this program, by the number of calls between them.
 
@@ -80,7 +81,7 @@ fn print(only: &[String]) -> io::Result<()> {
             libraries.join(" | "),
             "---|".repeat(libraries.len() + 1)
         );
-        for size in SIZES {
+        for size in SIZES.into_iter().filter(|size| *size <= most()) {
             let row = libraries
                 .iter()
                 .map(|library| counted[&(call, *library, size)].to_string());
@@ -94,6 +95,7 @@ fn print(only: &[String]) -> io::Result<()> {
 fn cells(only: &[String]) -> Vec<Cell> {
     SIZES
         .into_iter()
+        .filter(|size| *size <= most())
         .flat_map(|size| {
             cases(size)
                 .into_iter()
@@ -101,6 +103,12 @@ fn cells(only: &[String]) -> Vec<Cell> {
         })
         .filter(|(_, library, _)| only.is_empty() || only.iter().any(|name| name == library))
         .collect()
+}
+
+/// The greatest number of bytes, if the variable `MOST` says one.
+fn most() -> usize {
+    let most = env::var("MOST").ok().and_then(|most| most.parse().ok());
+    most.unwrap_or(usize::MAX)
 }
 
 /// Counts every cell, by as many threads as there are processors.

@@ -13,9 +13,9 @@ from tests.library import HAS_AARCH64, HAS_MODULE, code_of, needs_aarch64, needs
 from tests.mutations import edited, flipped
 
 # The call's own function, what checks digits on AArch64, and what searches; and in the module, by an instruction that
-# no other function has, what encodes, decodes, and searches.
+# no other function has, what encodes, and what searches.
 CALL, CHECK, FIND = None, "const_hex_lanes32kernel_check", "const_hex_body_find_invalid_character_v3"
-LANES, PAIRS, SEARCH = "i16x8.extend_high_i8x16_u", "v128.any_true", "i32.store8 offset=5"
+LANES, SEARCH = "i16x8.extend_high_i8x16_u", "i32.store8 offset=5"
 ENCODE, NO_NUL, PREFIX, DIGITS = ("encode", 0, 150), ("encode", 4, 63), ("encode", 2, 150), ("check_raw", 0, 150)
 UPDATE, POSITION, ARM = ("decoder_update", 0, 150), ("error_message", 8), "dispatch for AArch64"
 ONE_PATH, NO_DIGIT, THIS_CPU = "have more than one path", "what is not a digit", "the build is not the one for this CPU"
@@ -100,11 +100,11 @@ MUTATIONS = [
     ("the local error is too high", ARM, ("decode",), "or_null", "sp, #16", "sp, #24", "the local error"),
     ("a size that is too small", WASM, ("encode",), CALL, "i32.le_u", "i32.ne", "the module traps"),
     ("a byte decides a select", WASM, ENCODE, LANES, "", "i32.const 1; i32.const 2; local.get 0; i32.load8_u; select; "
-     "local.set 4", "a `select` depends on"),
+     "local.set 5", "a `select` depends on"),
     ("one length is another", WASM, ENCODE, LANES, "",
-     "block; local.get 1; i32.const 40001; i32.ne; br_if 0; return; end", "too many cases"),
+     "block; local.get 1; i32.const 40001; i32.ne; br_if 0; i32.const 1; return; end", "too many cases"),
     ("a constant is written", WASM, ENCODE, LANES, "", "i32.const 4192; i32.const 0; i32.store8", "write to image"),
-    ("one of four vectors is not tested", WASM, UPDATE, PAIRS, "v128.or", "local.set 17", NO_DIGIT),
+    ("one of four vectors is not tested", WASM, UPDATE, CALL, "v128.or", "local.set 23", NO_DIGIT),
     ("the search counts in 12 bits", WASM, UPDATE, SEARCH, "local.get 5; i32.const 1; i32.add; local.tee 5; i32.ne",
      "i32.const 20; i32.shl; local.get 5; i32.const 1; i32.add; local.tee 5; i32.const 20; i32.shl; i32.ne",
      "may have wrapped"),
