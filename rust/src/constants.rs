@@ -23,9 +23,10 @@ use crate::{Buffer, FromHexError};
 #[macro_export]
 macro_rules! hex {
     ($text:expr) => {{
-        const DECODED: [u8; $crate::decoded_length($text.as_bytes())] =
+        // The text may be a name of the user's, who would not write this one.
+        const __CONST_HEX_DECODED: [u8; $crate::decoded_length($text.as_bytes())] =
             $crate::bytes_of($text.as_bytes());
-        DECODED
+        __CONST_HEX_DECODED
     }};
 }
 

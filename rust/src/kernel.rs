@@ -2,15 +2,20 @@
 //! kernel of the proved source.
 
 /// Compiles the first items for targets that have the machine code, and the others for all others. Miri runs no
-/// machine code, in an SGX enclave no program may ask the CPU what it has, and code for the kernel of an operating
-/// system often has no vector registers.
+/// machine code, in an SGX enclave no program may ask the CPU what it has, code for the kernel of an operating system
+/// often has no vector registers, and aarch64 without an operating system may have no unaligned accesses.
 macro_rules! with_machine_code {
     ({ $($with:item)* } else { $($without:item)* }) => {
         $(
             #[cfg(all(
                 any(
                     all(target_arch = "x86_64", target_feature = "sse2", not(target_env = "sgx")),
-                    all(target_arch = "aarch64", target_feature = "neon", target_endian = "little"),
+                    all(
+                        target_arch = "aarch64",
+                        target_feature = "neon",
+                        target_endian = "little",
+                        not(target_os = "none")
+                    ),
                 ),
                 target_pointer_width = "64",
                 not(any(miri, feature = "force-generic")),
@@ -21,7 +26,12 @@ macro_rules! with_machine_code {
             #[cfg(not(all(
                 any(
                     all(target_arch = "x86_64", target_feature = "sse2", not(target_env = "sgx")),
-                    all(target_arch = "aarch64", target_feature = "neon", target_endian = "little"),
+                    all(
+                        target_arch = "aarch64",
+                        target_feature = "neon",
+                        target_endian = "little",
+                        not(target_os = "none")
+                    ),
                 ),
                 target_pointer_width = "64",
                 not(any(miri, feature = "force-generic")),

@@ -86,7 +86,7 @@ use crate::proved::codec::encoders::encode_full_to_slice;
 use crate::proved::codec::{checks, decoders};
 #[cfg(feature = "alloc")]
 use crate::{
-    proved::{codec::encoders, text_length, FixedKernel},
+    proved::{codec::body::strip_even, codec::encoders, text_length, FixedKernel},
     rattle::alloc::{allocated, Global},
 };
 #[cfg(feature = "alloc")]
@@ -309,7 +309,8 @@ pub fn decode_to_front<T: AsRef<[u8]>>(data: T, out: &mut [u8]) -> Result<usize,
 ///
 /// # Errors
 ///
-/// Returns the errors of [`decode`]. The vector has the same bytes as before then.
+/// Returns the errors of [`decode`]. The vector has the same bytes as before then, but bytes that were decoded before
+/// an invalid character may remain in its spare capacity.
 ///
 /// ```
 /// # use const_hex_proved::decode_append;
@@ -320,7 +321,8 @@ pub fn decode_to_front<T: AsRef<[u8]>>(data: T, out: &mut [u8]) -> Result<usize,
 #[cfg(feature = "alloc")]
 pub fn decode_append<T: AsRef<[u8]>>(data: T, output: &mut Vec<u8>) -> Result<usize, FromHexError> {
     let (text, start) = (data.as_ref(), output.len());
-    output.resize(start.saturating_add(text.len() / 2), 0);
+    let count = strip_even(text)?.len() / 2;
+    output.resize(start.saturating_add(count), 0);
     let count = decoders::decode_to_front(text, &mut output[start..]);
     output.truncate(start + count.unwrap_or(0));
     count

@@ -94,11 +94,11 @@ fn in_constants() {
     assert_eq!(UPPER.as_str(), "ABCD");
 }
 
-/// The length is that of the text.
+/// The length is that of the text. A constant of the macro's has no name that the text may have.
 #[test]
 fn in_a_macro() {
-    const FRUIT: &str = "0X6B697769";
-    const BYTES: [u8; 4] = hex!(FRUIT);
+    const DECODED: &str = "0X6B697769";
+    const BYTES: [u8; 4] = hex!(DECODED);
     static PARTS: [&[u8]; 3] = [&hex!(""), &hex!("0x"), &hex!(concat!("6b", "69"))];
     assert_eq!((&BYTES, PARTS), (b"kiwi", [b"" as &[u8], b"", b"ki"]));
 }

@@ -94,6 +94,15 @@ fn appended() {
             assert_eq!(back, [before.as_bytes(), &bytes, &bytes].concat());
         }
     }
+    let mut full = b"kiwi".to_vec();
+    full.shrink_to_fit();
+    let space = full.capacity();
+    for (text, wanted) in [("0x", Ok(0)), ("0x7", Err(FromHexError::OddLength))] {
+        assert_eq!(
+            (decode_append(text, &mut full), full.capacity()),
+            (wanted, space)
+        );
+    }
 }
 
 /// An output of another length stays as it was.

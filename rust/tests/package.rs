@@ -136,7 +136,8 @@ fn places_of_unsafe() {
             }
         }
     }
-    let folders = ["src", "capi/src", "hexfilter/src"].map(|folder| files(&Path::new(FOLDER).join(folder)));
+    let folders =
+        ["src", "capi/src", "hexfilter/src"].map(|folder| files(&Path::new(FOLDER).join(folder)));
     let mut found = BTreeMap::new();
     for file in folders.concat() {
         let counts = unsafe_code(&fs::read_to_string(&file).unwrap());

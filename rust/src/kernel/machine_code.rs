@@ -2,7 +2,7 @@
 //!
 //! `machine_code` in the repository has proved what each function does with its arguments where they are declared
 //! here. It reads no byte of its output that it has not written. The names have the version of this crate, so that a
-//! program may have several; no other library can name them.
+//! program may have several. In ELF and Mach-O they are hidden from other shared libraries.
 
 // What assembles the files for the proof needs the directive for the syntax that is the default here.
 #![allow(bad_asm_style)]
@@ -13,13 +13,13 @@ macro_rules! directives {
         include_str!("../asm/mach_o.s")
     };
 }
-#[cfg(any(windows, target_os = "uefi"))]
+#[cfg(any(windows, target_os = "uefi", target_os = "cygwin"))]
 macro_rules! directives {
     () => {
         include_str!("../asm/coff.s")
     };
 }
-#[cfg(not(any(windows, target_os = "uefi", target_vendor = "apple")))]
+#[cfg(not(any(windows, target_os = "uefi", target_os = "cygwin", target_vendor = "apple")))]
 macro_rules! directives {
     () => {
         include_str!("../asm/elf.s")

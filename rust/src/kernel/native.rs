@@ -101,16 +101,16 @@ mod owned {
         Ok(Vec(text))
     }
 
-    /// Returns the bytes of digits, or `None` if some byte is not a digit. The number of digits is even, which
-    /// `strip_even` has tested.
+    /// Returns the bytes of digits, or `None` if some byte is not a digit. An odd last digit is not read; there is none,
+    /// since `strip_even` has tested it.
     #[inline]
     pub fn decode_reserved<K>(_: Global, digits: &[u8]) -> Result<Option<Vec<u8>>, AllocError> {
-        debug_assert!(digits.len() % 2 == 0);
         let count = digits.len() / 2;
         let mut bytes = alloc::vec::Vec::with_capacity(count);
-        // SAFETY: the vector has space for one byte for two digits. If the result is true, all of it is written.
+        // SAFETY: there are twice as many digits as `count`, for which the vector has space. If the result is true, all
+        // of it is written.
         unsafe {
-            if !machine_code::read(digits.as_ptr(), digits.len(), bytes.as_mut_ptr(), count) {
+            if !machine_code::read(digits.as_ptr(), 2 * count, bytes.as_mut_ptr(), count) {
                 return Ok(None);
             }
             bytes.set_len(count);
