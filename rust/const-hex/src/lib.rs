@@ -16,9 +16,9 @@
 //! assert_eq!(buffer.format(b"kiwi"), "0x6b697769");
 //! ```
 //!
-//! The features are those of `const-hex`: `std` (by default), `alloc`, `core-error` (needs Rust 1.81), and `serde`
-//! for `#[serde(with = "const_hex")]`; `force-generic`, `hex`, `nightly` and `portable-simd` have no effect. The
-//! feature `checked` is added: it tests in release builds that ranges lie within their slices, which is proved.
+//! The features are those of `const-hex`: `std` (by default), `alloc`, `core-error` (needs Rust 1.81), `serde` for
+//! `#[serde(with = "const_hex")]`, and `force-generic`, which uses the portable code; `hex`, `nightly` and
+//! `portable-simd` have no effect.
 #![no_std]
 #![forbid(unsafe_code)]
 #![warn(missing_docs)]

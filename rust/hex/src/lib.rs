@@ -16,9 +16,8 @@
 //! # }
 //! ```
 //!
-//! The features are those of `hex`: `std` (by default), `alloc`, and `serde` for `#[serde(with = "hex")]`. Two are
-//! added. `prefix` makes everything that decodes accept one prefix `0x` or `0X`, for all packages of the program.
-//! `checked` tests in release builds that ranges lie within their slices, which is proved.
+//! The features are those of `hex`: `std` (by default), `alloc`, and `serde` for `#[serde(with = "hex")]`. One is
+//! added: `prefix` makes everything that decodes accept one prefix `0x` or `0X`, for all packages of the program.
 #![no_std]
 #![forbid(unsafe_code)]
 #![warn(missing_docs)]
