@@ -1,7 +1,7 @@
 //! The body of a text, which is what follows the prefix: the rule of the prefix, the first invalid
 //! character, and decoding by a kernel.
 
-ghost use Rattle.std.specs.Prelude.{◌≡◌, ◌*◌, ◌%◌, ◌≤◌, ◌==◌, ◌&&◌, ◌||◌, ◌↔◌, true, false, length, slice_index, Err, IfErr, IfOk, IsTrue};
+ghost use Rattle.std.specs.Prelude.{◌≡◌, ◌*◌, ◌%◌, ◌≤◌, ◌==◌, ◌&&◌, ◌||◌, ◌↔◌, true, false, length, take, slice_index, Err, IfErr, IfOk, IsTrue};
 ghost use Rattle.const_hex_arch.specs.Texts.{AllDigits, FirstBad, Spells, Partial};
 ghost use Rattle.const_hex.specs.Results.{IsEven, IsOdd, Reads, body_of};
 ghost use Rattle.const_hex.specs.declared.error.FromHexError.TheVariants.{OddLength};
@@ -74,7 +74,7 @@ pub(crate) fn find_first_bad(digits: &[u8]) -> (u8, usize)
     ensures within { result.1 ≤ length digits.now }
     ensures all { (result.1 ≡ length digits.now) ↔ AllDigits digits.now }
 {
-    let mut index = 0;
+    let mut index = skip_digits(digits);
     'digits: while index < digits.len() {
         let byte = digits[index];
         if value_at(byte) == NIL {
@@ -83,6 +83,27 @@ pub(crate) fn find_first_bad(digits: &[u8]) -> (u8, usize)
         index += 1;
     }
     (0, digits.len())
+}
+
+/// How many digits come before the first four bytes of which one is not a digit. After them stand at most four, or
+/// fewer than four bytes are left.
+// `||` over four bytes takes two thirds of the instructions that a test of each byte and of the index takes.
+fn skip_digits(text: &[u8]) -> usize
+    ensures digits { AllDigits (take result text.now) }
+    ensures within { result ≤ length text.now }
+{
+    let mut index = 0;
+    'fours: while text.len() - index >= 4 {
+        if value_at(text[index]) == NIL
+            || value_at(text[index + 1]) == NIL
+            || value_at(text[index + 2]) == NIL
+            || value_at(text[index + 3]) == NIL
+        {
+            return index;
+        }
+        index += 4;
+    }
+    index
 }
 
 /// Decodes the body into the output and returns true. Returns false if some byte is not a digit.
