@@ -67,7 +67,7 @@ pub(crate) fn find_invalid_character(text: &[u8]) -> FromHexError
 /// the index after the last byte.
 // A caller that has already seen an invalid character may get the latter, if another process has
 // removed it from shared memory in between. Nothing is read out of bounds then.
-#[cold]
+#[inline(always)]
 pub(crate) fn find_first_bad(digits: &[u8]) -> (u8, usize)
     ensures bad { (AllDigits digits.now → ⊥) → FirstBad digits.now result.1 }
     ensures byte { result.0 ≡ slice_index digits.now result.1 }
@@ -85,25 +85,22 @@ pub(crate) fn find_first_bad(digits: &[u8]) -> (u8, usize)
     (0, digits.len())
 }
 
-/// How many digits come before the first four bytes of which one is not a digit. After them stand at most four, or
-/// fewer than four bytes are left.
-// `||` over four bytes takes two thirds of the instructions that a test of each byte and of the index takes.
+/// How many digits the text begins with, counted by fours, as long as all four are digits.
+// One test of four bytes takes half the instructions of four tests. NIL has bits that no value has.
+#[inline(always)]
 fn skip_digits(text: &[u8]) -> usize
     ensures digits { AllDigits (take result text.now) }
     ensures within { result ≤ length text.now }
 {
-    let mut index = 0;
-    'fours: while text.len() - index >= 4 {
-        if value_at(text[index]) == NIL
-            || value_at(text[index + 1]) == NIL
-            || value_at(text[index + 2]) == NIL
-            || value_at(text[index + 3]) == NIL
-        {
-            return index;
+    let mut rest = text;
+    'fours: while let [first, second, third, fourth, after @ ..] = rest {
+        let joined = value_at(*first) | value_at(*second) | value_at(*third) | value_at(*fourth);
+        if joined >= 16 {
+            break;
         }
-        index += 4;
+        rest = after;
     }
-    index
+    text.len() - rest.len()
 }
 
 /// Decodes the body into the output and returns true. Returns false if some byte is not a digit.

@@ -1,6 +1,5 @@
-use Rattle.std.proofs.Common.{◌≡◌, ◌+◌, ◌-◌, ◌*◌, ◌≤◌, length, refl, sym, ◌∙◌, arith}
+use Rattle.std.proofs.Common.{◌+◌, ◌-◌, ◌*◌, ◌≤◌, length, refl, sym, ◌∙◌, arith}
 use Rattle.std.proofs.lemmas.List.{take_all}
-use borrow.Rule.Slice.PartMut.{put_mid}
 use Rattle.const_hex_arch.proofs.lemmas.Spelling.{false_is_true}
 use Rattle.const_hex_arch.proofs.lemmas.Steps.{IsDecoded, decoded_step, decoded_less, kept_step, refused_step, spells_rest}
 use Rattle.const_hex_arch.proofs.arch.drivers.decode_in_steps.Given.{Over}
