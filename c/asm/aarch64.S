@@ -14,6 +14,7 @@
 	str x21, [sp, #32]
 	add x29, sp, #0x10
 	stp x20, x19, [sp, #48]
+	stp xzr, xzr, [sp]
 	tbnz w1, #0, 3f
 	add x19, x0, x8
 	mov x21, x2
@@ -114,6 +115,7 @@
 	csel x11, x9, xzr, eq
 	stp x20, x19, [sp, #48]
 	add x29, sp, #0x10
+	stp xzr, xzr, [sp]
 	tbnz w1, #0, 3f
 	add x19, x0, x8
 	subs x9, x1, #0x2
@@ -453,6 +455,7 @@
 	stp x22, x21, [sp, #48]
 	add x29, sp, #0x10
 	stp x20, x19, [sp, #64]
+	stp xzr, xzr, [sp]
 	tbnz w1, #0, 4f
 	add x19, x0, x8
 	subs x9, x1, #0x2
@@ -812,27 +815,29 @@
 /* const_hex_c::const_hex_decoder_update_nonnull */
 	hidden SYMBOL(const_hex_decoder_update_nonnull)
 	function SYMBOL(const_hex_decoder_update_nonnull)
-	stp x29, x30, [sp, #-80]!
+	sub sp, sp, #0x60
 	cmp x1, #0x0
 	mov w10, #0x1000
 	ldrb w9, [x0, #9]
 	csel x8, x10, xzr, eq
 	cmp x3, #0x0
-	stp x26, x25, [sp, #16]
+	stp x29, x30, [sp, #16]
 	csel x11, x10, xzr, eq
 	cmp w9, #0x2
-	stp x24, x23, [sp, #32]
-	stp x22, x21, [sp, #48]
-	mov x29, sp
-	stp x20, x19, [sp, #64]
+	stp x26, x25, [sp, #32]
+	stp x24, x23, [sp, #48]
+	add x29, sp, #0x10
+	stp x22, x21, [sp, #64]
+	stp x20, x19, [sp, #80]
+	stp xzr, xzr, [sp]
 	b.cs 2f
 	ldr x10, [x0]
 	add x19, x1, x8
 	add x8, x3, x11
-	cbz x10, 5f
-	cbz x2, 4f
+	cbz x10, 4f
+	cbz x2, 3f
 	cmp x10, #0x1
-	b.ne 4f
+	b.ne 3f
 	mov x10, x19
 	ldrb w13, [x0, #8]
 	ldrb w12, [x10], #1
@@ -840,93 +845,87 @@
 	mov w13, #0x7830
 	orr w12, w12, #0x2000
 	cmp w12, w13
-	b.ne 4f
+	b.ne 3f
 	sub x21, x2, #0x1
 	mov x19, x10
-	b 8f
+	b 7f
 2:
 	ldrb w8, [x0, #8]
 	ldr x9, [x0]
-3:
-	str xzr, [x5]
-	and w8, w8, #0xff
 	mov w10, #0x3
+	str xzr, [x5]
 	b 12f
-4:
+3:
 	cmp w9, #0x1
-	b.ne 6f
+	b.ne 5f
 	add x26, x2, #0x1
 	lsr x20, x26, #1
 	cmp x4, x20
-	b.cc 9f
-	ldrb w22, [x0, #8]
-	mov x25, x0
+	b.cc 8f
+	ldrb w23, [x0, #8]
+	mov x22, x0
 	mov x1, x19
 	mov x3, x8
 	mov x4, x20
-	mov x24, x6
-	mov w0, w22
-	mov x23, x5
+	mov x24, x5
+	mov w0, w23
+	mov x25, x6
 	mov x21, x2
 	bl const_hex_decoder_decode_after
 	mov x2, x21
-	tbz w0, #0, 31f
-	cbz x2, 29f
+	tbz w0, #0, 32f
+	cbz x2, 30f
 	and x8, x26, #0xfffffffffffffffe
 	cmp x2, x8
 	b.ne 24f
 	add x8, x19, x2
 	b 26f
-5:
+4:
 	subs x9, x2, #0x2
-	b.cs 7f
-6:
+	b.cs 6f
+5:
 	mov x21, x2
-	b 8f
-7:
+	b 7f
+6:
 	ldrh w10, [x19]
 	mov w12, #0x7830
 	mov x21, x2
 	orr w10, w10, #0x2000
 	cmp w10, w12
-	b.ne 8f
+	b.ne 7f
 	add x19, x19, #0x2
 	mov x21, x9
-8:
+7:
 	lsr x20, x21, #1
 	cmp x4, x20
 	b.cs 13f
+8:
+	str xzr, [x5]
 9:
 	mov w8, wzr
 	mov x9, xzr
 	mov w10, #0x2
-	str xzr, [x5]
 12:
 	mov w0, wzr
 	stp w10, w8, [x6]
 	str x9, [x6, #8]
-	ldp x20, x19, [sp, #64]
-	ldp x22, x21, [sp, #48]
-	ldp x24, x23, [sp, #32]
-	ldp x26, x25, [sp, #16]
-	ldp x29, x30, [sp], #80
-	ret
+	b 29f
 13:
 	cmp x21, #0x20
-	and x22, x21, #0xfffffffffffffffe
+	and x23, x21, #0xfffffffffffffffe
 	b.cs 14f
-	mov x25, x0
+	mov x22, x0
 	and x1, x21, #0xfffffffffffffffe
 	mov x0, x19
 	mov x26, x2
 	mov x2, x8
 	mov x3, x20
-	mov x24, x6
-	mov x23, x5
+	mov x24, x5
+	mov x25, x6
 	bl const_hex_short_decode
 	mov x2, x26
 	cbnz w0, 19f
-	b 31f
+	b 32f
 14:
 	cmp x21, #0x80
 	adrp_label x9, const_hex_constant_1
@@ -1072,7 +1071,7 @@
 	orr w13, w13, w14
 	orr w13, w13, w13, lsr #8
 	tst w13, #0xff
-	b.ne 30f
+	b.ne 31f
 	mov w13, #0x1001
 	sub x11, x11, #0x20
 	dup v4.8h, w13
@@ -1116,13 +1115,13 @@
 	orr w11, w11, w12
 	orr w11, w11, w11, lsr #8
 	tst w11, #0xff
-	b.ne 30f
+	b.ne 31f
 	mov w11, #0x1001
-	mov x24, x6
-	mov x25, x0
+	mov x22, x0
+	mov x24, x5
 	dup v2.8h, w11
 	orr x11, x10, #0x10
-	mov x23, x5
+	mov x25, x6
 	mul v1.8h, v1.8h, v2.8h
 	mul v0.8h, v0.8h, v2.8h
 	uzp2 v0.16b, v0.16b, v1.16b
@@ -1132,7 +1131,7 @@
 19:
 	tbz w21, #0, 23f
 20:
-	ldrb w8, [x19, x22]
+	ldrb w8, [x19, x23]
 	sub w9, w8, #0x41
 	sub w10, w8, #0x30
 	sub w8, w8, #0x61
@@ -1145,13 +1144,13 @@
 	csel w9, w9, w10, cc
 	cmp w8, w9
 	csel w8, w8, w9, cc
-	cmp w8, #0xa
-	b.cc 23f
-	b 31f
+	cmp w8, #0x9
+	b.ls 23f
+	b 32f
 21:
-	mov x24, x6
-	mov x25, x0
-	mov x23, x5
+	mov x22, x0
+	mov x24, x5
+	mov x25, x6
 	cmp x10, x20
 	b.eq 19b
 22:
@@ -1182,7 +1181,7 @@
 	orr w9, w9, w11
 	orr w9, w9, w9, lsr #8
 	tst w9, #0xff
-	b.ne 31f
+	b.ne 32f
 	mov w9, #0x1001
 	dup v2.8h, w9
 	mul v1.8h, v1.8h, v2.8h
@@ -1191,63 +1190,75 @@
 	str q0, [x8, x10]
 	tbnz w21, #0, 20b
 23:
-	cmp x22, x21
+	cmp x23, x21
 	b.ne 25f
 24:
-	ldr x9, [x25]
+	ldr x9, [x22]
 	mov w8, wzr
 	adds x9, x2, x9
 	csinv x9, x9, xzr, cc
-	str x9, [x25]
+	str x9, [x22]
 	b 28f
 25:
 	add x8, x19, x21
 26:
-	ldurb w22, [x8, #-1]
+	ldurb w23, [x8, #-1]
 27:
-	ldr x8, [x25]
-	strb w22, [x25, #8]
+	ldr x8, [x22]
+	strb w23, [x22, #8]
 	adds x8, x2, x8
 	csinv x8, x8, xzr, cc
-	str x8, [x25]
+	str x8, [x22]
 	mov w8, #0x1
 28:
-	strb w8, [x25, #9]
+	strb w8, [x22, #9]
 	mov w0, #0x1
-	str x20, [x23]
-	ldp x20, x19, [sp, #64]
-	ldp x22, x21, [sp, #48]
-	ldp x24, x23, [sp, #32]
-	ldp x26, x25, [sp, #16]
-	ldp x29, x30, [sp], #80
-	ret
+	str x20, [x24]
 29:
+	ldp x20, x19, [sp, #80]
+	ldp x22, x21, [sp, #64]
+	ldp x24, x23, [sp, #48]
+	ldp x26, x25, [sp, #32]
+	ldp x29, x30, [sp, #16]
+	add sp, sp, #0x60
+	ret
+30:
 	mov x20, xzr
 	b 27b
-30:
-	mov x24, x6
-	mov x25, x0
-	mov x23, x5
 31:
-	mov x0, x19
-	mov x1, x21
-	sub x20, x2, x21
-	bl const_hex_body_find_first_bad
-	ldr x9, [x25]
-	mov w10, #0x2
-	mov w8, w0
-	stur wzr, [x25, #10]
-	mov x5, x23
-	mov x6, x24
-	adds x9, x20, x9
-	strb w0, [x25, #8]
-	csinv x9, x9, xzr, cc
-	strb w10, [x25, #9]
-	adds x9, x1, x9
-	strh wzr, [x25, #14]
-	csinv x9, x9, xzr, cc
-	str x9, [x25]
-	b 3b
+	mov x22, x0
+	mov x24, x5
+	mov x25, x6
+32:
+	sub x2, x2, x21
+	mov x0, sp
+	mov x1, x22
+	mov x3, x19
+	mov x4, x21
+	bl const_hex_decoder_fail
+	ldrb w8, [sp]
+	ldr w11, [sp, #4]
+	ldr x9, [sp, #8]
+	str xzr, [x24]
+	cmp w8, #0x1
+	b.gt 33f
+	mov x6, x25
+	cbnz w8, 9b
+	mov w10, #0x1
+	mov x9, x8
+	b 12b
+33:
+	cmp w8, #0x2
+	mov x6, x25
+	b.ne 34f
+	mov w10, #0x3
+	mov w8, w11
+	b 12b
+34:
+	mov w8, wzr
+	mov x9, xzr
+	mov w10, #0x4
+	b 12b
 	end SYMBOL(const_hex_decoder_update_nonnull)
 
 /* const_hex_c::const_hex_encode */
@@ -1871,92 +1882,81 @@
 	ret
 	end SYMBOL(const_hex_version)
 
-/* const_hex::codec::body::find_first_bad */
-	function const_hex_body_find_first_bad
-	cmp x1, #0x4
-	adrp_label x9, const_hex_constant_16
-	add_label x9, x9, const_hex_constant_16
-	mov x10, xzr
-	b.cc 3f
-	mov x8, x1
-2:
-	ldrb w11, [x0, x10]
-	ldrb w11, [x9, x11]
-	cmp w11, #0xff
-	b.eq 3f
-	add x11, x0, x10
-	ldrb w12, [x11, #1]
-	ldrb w12, [x9, x12]
-	cmp w12, #0xff
-	b.eq 3f
-	ldrb w11, [x11, #2]
-	ldrb w11, [x9, x11]
-	cmp w11, #0xff
-	b.eq 3f
-	add x11, x0, x10
-	ldrb w11, [x11, #3]
-	ldrb w11, [x9, x11]
-	cmp w11, #0xff
-	b.eq 3f
-	sub x8, x8, #0x4
-	add x10, x10, #0x4
-	cmp x8, #0x3
-	b.hi 2b
-	and x10, x1, #0xfffffffffffffffc
-3:
-	cmp x10, x1
-	b.cs 5f
-4:
-	ldrb w8, [x0, x10]
-	ldrb w11, [x9, x8]
-	cmp w11, #0xff
-	b.eq 6f
-	add x10, x10, #0x1
-	cmp x1, x10
-	b.ne 4b
-5:
-	mov w8, wzr
-	mov w0, w8
-	ret
-6:
-	mov x1, x10
-	mov w0, w8
-	ret
-	end const_hex_body_find_first_bad
-
 /* const_hex::codec::body::find_invalid_character */
 	function const_hex_body_find_invalid_character
-	stp x29, x30, [sp, #-48]!
-	stp x20, x19, [sp, #32]
-	mov x20, x2
 	subs x8, x2, #0x2
-	mov x19, x0
-	str x21, [sp, #16]
-	mov x29, sp
+	adrp_label x9, const_hex_constant_16
+	add_label x9, x9, const_hex_constant_16
 	b.cs 2f
-	mov x21, x20
-	b 3f
+	mov x8, x2
+	mov x10, x2
+	b 7f
 2:
-	ldrh w9, [x1]
-	mov w10, #0x7830
-	add x11, x1, #0x2
-	orr w9, w9, #0x2000
-	cmp w9, w10
-	csel x21, x8, x20, eq
-	csel x1, x11, x1, eq
+	ldrh w10, [x1]
+	mov w11, #0x7830
+	orr w10, w10, #0x2000
+	cmp w10, w11
+	b.ne 4f
+	add x1, x1, #0x2
+	cmp x8, #0x4
+	b.cs 5f
 3:
-	mov x0, x1
-	mov x1, x21
-	bl const_hex_body_find_first_bad
-	mov w8, #0x2
-	sub x9, x20, x21
-	and w10, w0, #0xff
-	stp w8, w10, [x19]
-	add x8, x9, x1
-	ldr x21, [sp, #16]
-	str x8, [x19, #8]
-	ldp x20, x19, [sp, #32]
-	ldp x29, x30, [sp], #48
+	mov x10, x8
+	b 7f
+4:
+	mov x8, x2
+	cmp x2, #0x4
+	b.cc 3b
+5:
+	mov x11, x1
+	mov x10, x8
+6:
+	ldrb w12, [x11]
+	ldrb w13, [x11, #1]
+	ldrb w14, [x11, #2]
+	ldrb w15, [x11, #3]
+	ldrb w12, [x9, x12]
+	ldrb w13, [x9, x13]
+	ldrb w14, [x9, x14]
+	ldrb w15, [x9, x15]
+	orr w12, w13, w12
+	orr w13, w14, w15
+	orr w12, w12, w13
+	cmp w12, #0xf
+	b.hi 7f
+	sub x10, x10, #0x4
+	add x11, x11, #0x4
+	cmp x10, #0x3
+	b.hi 6b
+7:
+	sub x11, x8, x10
+	cmp x11, x8
+	b.cs 9f
+	neg x11, x10
+	add x12, x1, x8
+8:
+	ldrb w10, [x12, x11]
+	ldrb w13, [x9, x10]
+	cmp w13, #0xff
+	b.eq 12f
+	adds x11, x11, #0x1
+	b.cc 8b
+9:
+	mov w10, wzr
+	mov x9, x8
+	sub x8, x2, x8
+	mov w11, #0x2
+	add x8, x8, x9
+	stp w11, w10, [x0]
+	str x8, [x0, #8]
+	ret
+12:
+	add x9, x8, x11
+	sub x8, x2, x8
+	mov w11, #0x2
+	add x8, x8, x9
+	stp w11, w10, [x0]
+	str x8, [x0, #8]
 	ret
 	end const_hex_body_find_invalid_character
 
@@ -2280,6 +2280,68 @@
 	add sp, sp, #0x50
 	ret
 	end const_hex_decoder_decode_after
+
+/* const_hex::codec::decoder::Decoder::fail */
+	function const_hex_decoder_fail
+	cmp x4, #0x4
+	adrp_label x8, const_hex_constant_16
+	add_label x8, x8, const_hex_constant_16
+	mov x9, x4
+	b.cc 3f
+	mov x10, x3
+	mov x9, x4
+2:
+	ldrb w11, [x10]
+	ldrb w12, [x10, #1]
+	ldrb w13, [x10, #2]
+	ldrb w14, [x10, #3]
+	ldrb w11, [x8, x11]
+	ldrb w12, [x8, x12]
+	ldrb w13, [x8, x13]
+	ldrb w14, [x8, x14]
+	orr w11, w12, w11
+	orr w12, w13, w14
+	orr w11, w11, w12
+	cmp w11, #0xf
+	b.hi 3f
+	sub x9, x9, #0x4
+	add x10, x10, #0x4
+	cmp x9, #0x3
+	b.hi 2b
+3:
+	sub x10, x4, x9
+	cmp x10, x4
+	b.cs 5f
+	neg x10, x9
+	add x11, x3, x4
+4:
+	ldrb w9, [x11, x10]
+	ldrb w12, [x8, x9]
+	cmp w12, #0xff
+	b.eq 6f
+	adds x10, x10, #0x1
+	b.cc 4b
+5:
+	mov w9, wzr
+	b 7f
+6:
+	add x4, x4, x10
+7:
+	ldr x8, [x1]
+	mov w10, #0x2
+	strb w9, [x1, #8]
+	stur wzr, [x1, #10]
+	adds x8, x2, x8
+	strh wzr, [x1, #14]
+	csinv x8, x8, xzr, cc
+	strb w10, [x1, #9]
+	adds x8, x4, x8
+	csinv x8, x8, xzr, cc
+	str x8, [x1]
+	stp w10, w9, [x0]
+	str x8, [x0, #8]
+	ret
+	end const_hex_decoder_fail
 
 /* const_hex_arch::arch::lanes32::Lanes32Kernel::check */
 	function const_hex_lanes32kernel_check

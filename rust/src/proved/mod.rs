@@ -45,7 +45,7 @@ pub use self::formatting::text::*;
 //   26  a formatter has a lifetime in place of its writer's type
 //   10  a function for C takes slices, which capi makes of pointers and lengths, and is compiled there alone
 //    1  a new decoder is constant
-//   96  all crates are one module
+//   95  all crates are one module
 //    5  an allocation never fails: without memory the program ends
 //    1  an argument's copy takes no allocator
 //  112  an assertion names no runtime
@@ -60,8 +60,8 @@ pub use self::formatting::text::*;
 //    5  and those over vectors are there for WebAssembly alone
 //    1  before it reads a chunk
 //    2  callers that nothing exports are left out
-//   42  deleted: attribute
-//  249  deleted: contract
+//   44  deleted: attribute
+//  250  deleted: contract
 //  213  deleted: ghost item
 //    4  deleted: model
 //    1  each value may be dropped
@@ -70,7 +70,7 @@ pub use self::formatting::text::*;
 //    1  the bytes of a slice are appended at once, and not one by one
 //    1  the kernel is chosen for the processor
 //    1  the only shuffle puts two vectors one after the other
-//   10  what a constant calls is constant
+//   11  what a constant calls is constant
 //   13  what allocates is there with the feature alloc
 //    3  what hexfilter uses of const_hex is a module of rattle
 //    5  what is for C is a module of const_hex
