@@ -12,9 +12,10 @@ from library import WASM, calls_of
 from tests.library import HAS_AARCH64, HAS_MODULE, code_of, needs_aarch64, needs_module
 from tests.mutations import edited, flipped
 
-# The call's own function, what checks digits on AArch64, and what searches; and in the module, by an instruction that
+# The call's own function, what checks digits on AArch64, and what searches, for a decoder too; and in the module, by an instruction that
 # no other function has, what encodes, and what searches.
 CALL, CHECK, FIND = None, "const_hex_lanes32kernel_check", "const_hex_body_find_invalid_character_v3"
+FAIL = "const_hex_decoder_fail_v3"
 LANES, SEARCH = "i16x8.extend_high_i8x16_u", "i32.store8 offset=5"
 ENCODE, NO_NUL, PREFIX, DIGITS = ("encode", 0, 150), ("encode", 4, 63), ("encode", 2, 150), ("check_raw", 0, 150)
 UPDATE, POSITION, ARM = ("decoder_update", 0, 150), ("error_message", 8), "dispatch for AArch64"
@@ -46,14 +47,17 @@ MUTATIONS = [
     ("a limit that lets g pass", "v3", DIGITS, "const_hex_constant_1_v3", "0x0f, 0x08", "0x0f, 0x57", NO_DIGIT),
     ("one of four vectors is not tested", "v3", DIGITS, CALL, "vpor ymm0,ymm1,ymm0", "vpor ymm0,ymm0,ymm0", NO_DIGIT),
     ("what is rejected is accepted", "v3", ("check_raw", 0, 40), CALL, "sete al", "setne al", "digits are rejected"),
-    ("G is a digit in the search", "v3", ("check", 0, 150), "const_hex_constant_11_v3", "0x0f, 0xff", "0x0f, 0x00",
+    ("G is a digit in the search", "v3", ("check", 0, 150), "const_hex_constant_21_v3", "0x0f, 0xff", "0x0f, 0x00",
      NO_DIGIT),
-    ("the search counts in 32 bits", "v3", ("check", 0, 150), FIND, "inc rcx", "inc ecx", "add of 4 unknown bytes"),
+    ("the search counts in 32 bits", "v3", ("check", 0, 150), FIND, "add rcx,0xfffffffffffffffc", "add ecx,-4",
+     "add of 4 unknown bytes"),
+    ("the search tests three of four", "v3", ("check", 0, 150), FIND, "or r11b,BYTE PTR [r9+r10*1]", "", NO_DIGIT),
+    ("the search takes five for four", "v3", ("check", 0, 150), FIND, "add r8,0x4", "add r8,0x5", "outside its region"),
     ("a position without the prefix", "v3", ("decode", 1, 150), FIND, "sub rdx,rax", "xor edx,edx",
      r"error\[8\] is not what"),
-    ("the decoder forgets its digit", "v3", ("decoder_update", 0, 151), CALL, "mov BYTE PTR [rdi+0x8],bpl", "",
+    ("the decoder forgets its digit", "v3", ("decoder_update", 0, 151), CALL, "mov BYTE PTR [rdi+0x8],r14b", "",
      r"decoder\[8\] is not what"),
-    ("the decoder forgets an error", "v3", UPDATE, CALL, "PTR [rdi+0x9],0x2", "PTR [rdi+0x9],0x0",
+    ("the decoder forgets an error", "v3", UPDATE, FAIL, "PTR [rsi+0x9],0x2", "PTR [rsi+0x9],0x0",
      "the decoder does not keep its error"),
     ("a failed decoder goes on", "v3", ("decoder_update",), CALL, "cmp r11b,0x2", "cmp r11b,0x80", "too many cases"),
     ("a letter of a message", "v3", ("error_message",), CALL, "[rdx+0x10],0x73746967", "[rdx+0x10],0x73746966",
@@ -105,9 +109,8 @@ MUTATIONS = [
      "block; local.get 1; i32.const 40001; i32.ne; br_if 0; i32.const 1; return; end", "too many cases"),
     ("a constant is written", WASM, ENCODE, LANES, "", "i32.const 4192; i32.const 0; i32.store8", "write to image"),
     ("one of four vectors is not tested", WASM, UPDATE, CALL, "v128.or", "local.set 23", NO_DIGIT),
-    ("the search counts in 12 bits", WASM, UPDATE, SEARCH, "local.get 5; i32.const 1; i32.add; local.tee 5; i32.ne",
-     "i32.const 20; i32.shl; local.get 5; i32.const 1; i32.add; local.tee 5; i32.const 20; i32.shl; i32.ne",
-     "may have wrapped"),
+    ("the search counts in 12 bits", WASM, UPDATE, SEARCH, "local.tee 5; i32.const 3",
+     "local.tee 5; i32.const 20; i32.shl; i32.const 3", "may have wrapped"),
 ]
 
 

@@ -3,7 +3,7 @@
 import unittest
 
 from calls import CALLS
-from conditions import Condition, Path, are_equal
+from conditions import FALSE, Condition, Path, are_equal, are_zero
 from disassembly import Instruction
 from exploration import Refused, require_one_path, sides
 from induction import DONE, LEFT
@@ -50,6 +50,14 @@ class TestNumbers(unittest.TestCase):
     def test_carry(self):
         state = state_with()
         state.flags = Flags("add", symbol("far", GREATEST), constants(1, 8))
+        with self.assertRaises(Unknown):
+            state.flag("b")
+
+    def test_carry_from_below_zero(self):
+        state = state_with()
+        state.flags = Flags("add", LEFT * -4 - 8, constants(1, 8))
+        self.assertIs(state.flag("b"), FALSE)
+        state.flags = Flags("add", LEFT * -4 - 1, constants(1, 8))
         with self.assertRaises(Unknown):
             state.flag("b")
 
@@ -190,6 +198,13 @@ class TestPaths(unittest.TestCase):
         marks = joined(joined(bytes_[:1], bytes_[1:2]), bytes_[2:])
         with self.assertRaises(TooWide):
             each(_plus_1, marks)
+        state = state_with()
+        state.flags = Flags("sub", marks, constants(16, 1))
+        self.assertEqual(state.flag("b").atoms, are_zero(masked(marks, constants(0xF0, 1))).atoms)
+        state.flags = Flags("sub", marks, constants(15, 1))
+        self.assertEqual(state.flag("be").atoms, are_zero(masked(marks, constants(0xF0, 1))).atoms)
+        with self.assertRaises(TooWide):
+            state.flag("b")
 
     def test_one_path_for_each_length(self):
         """A byte that decides is seen although the lengths are split on one side alone."""
