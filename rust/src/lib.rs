@@ -86,7 +86,8 @@ use crate::proved::codec::encoders::encode_full_to_slice;
 use crate::proved::codec::{checks, decoders};
 #[cfg(feature = "alloc")]
 use crate::{
-    proved::{codec::body::strip_even, codec::encoders, text_length, FixedKernel},
+    proved::codec::body::{find_invalid_character, strip_even},
+    proved::{codec::encoders, FixedKernel},
     rattle::alloc::{allocated, Global},
 };
 #[cfg(feature = "alloc")]
@@ -219,13 +220,10 @@ fn owned(data: &[u8], prefix: bool, upper: bool) -> String {
 /// Appends the text of bytes to a string.
 #[cfg(feature = "alloc")]
 #[allow(unsafe_code)]
+#[inline]
 fn append(data: &[u8], prefix: bool, upper: bool, output: &mut String) {
-    // SAFETY: NUL characters are appended, and then the encoder, of which this is proved, writes ASCII over them.
-    let bytes = unsafe { output.as_mut_vec() };
-    let start = bytes.len();
-    bytes.resize(start.saturating_add(text_length(prefix, data.len())), 0);
-    encode_full_to_slice(data, prefix, upper, &mut bytes[start..])
-        .expect("it has the text's length");
+    // SAFETY: the kernel, of which this is proved, appends ASCII.
+    kernel::encode_append(data, prefix, upper, unsafe { output.as_mut_vec() });
 }
 
 /// Fills `output` with the text of bytes, and returns it as a string, which the proved functions cannot: Rattle
@@ -320,12 +318,12 @@ pub fn decode_to_front<T: AsRef<[u8]>>(data: T, out: &mut [u8]) -> Result<usize,
 /// ```
 #[cfg(feature = "alloc")]
 pub fn decode_append<T: AsRef<[u8]>>(data: T, output: &mut Vec<u8>) -> Result<usize, FromHexError> {
-    let (text, start) = (data.as_ref(), output.len());
-    let count = strip_even(text)?.len() / 2;
-    output.resize(start.saturating_add(count), 0);
-    let count = decoders::decode_to_front(text, &mut output[start..]);
-    output.truncate(start + count.unwrap_or(0));
-    count
+    let text = data.as_ref();
+    let digits = strip_even(text)?;
+    match kernel::decode_append(digits, output) {
+        true => Ok(digits.len() / 2),
+        false => Err(find_invalid_character(text)),
+    }
 }
 
 /// Returns the `N` bytes that a text decodes to. Does not allocate.

@@ -7,58 +7,65 @@
 // What assembles the files for the proof needs the directive for the syntax that is the default here.
 #![allow(bad_asm_style)]
 
+/// Assembles the files for the processor, with the directives for the format of the object file.
+macro_rules! assembled {
+    ($directives:literal) => {
+        #[cfg(target_arch = "x86_64")]
+        core::arch::global_asm!(
+            include_str!($directives),
+            include_str!("../asm/x86_64_v2.s"),
+            include_str!("../asm/x86_64_v3.s"),
+            include_str!("../asm/end.s"),
+            options(raw)
+        );
+        #[cfg(target_arch = "aarch64")]
+        core::arch::global_asm!(
+            include_str!($directives),
+            include_str!("../asm/aarch64.s"),
+            include_str!("../asm/end.s"),
+            options(raw)
+        );
+    };
+}
 #[cfg(target_vendor = "apple")]
-macro_rules! directives {
-    () => {
-        include_str!("../asm/mach_o.s")
-    };
-}
+assembled!("../asm/mach_o.s");
 #[cfg(any(windows, target_os = "uefi", target_os = "cygwin"))]
-macro_rules! directives {
-    () => {
-        include_str!("../asm/coff.s")
-    };
-}
-#[cfg(not(any(windows, target_os = "uefi", target_os = "cygwin", target_vendor = "apple")))]
-macro_rules! directives {
-    () => {
-        include_str!("../asm/elf.s")
-    };
-}
+assembled!("../asm/coff.s");
+#[cfg(not(any(
+    windows,
+    target_os = "uefi",
+    target_os = "cygwin",
+    target_vendor = "apple"
+)))]
+assembled!("../asm/elf.s");
 
-#[cfg(target_arch = "x86_64")]
-core::arch::global_asm!(
-    directives!(),
-    include_str!("../asm/x86_64_v2.s"),
-    include_str!("../asm/x86_64_v3.s"),
-    include_str!("../asm/end.s"),
-    options(raw)
-);
-#[cfg(target_arch = "aarch64")]
-core::arch::global_asm!(
-    directives!(),
-    include_str!("../asm/aarch64.s"),
-    include_str!("../asm/end.s"),
-    options(raw)
-);
-
-/// Each function calls the machine code. It is not inlined into another crate, which could not name that.
-#[cfg(target_arch = "x86_64")]
+/// Defines functions that call the machine code. They are not inlined into another crate, which could not name that.
 macro_rules! functions {
     ($(
         $(#[$comment:meta])*
         $name:ident($($argument:ident: $type:ty),*) $(-> $result:ty)?, $v2:ident, $v3:ident, $aarch64:ident;
     )*) => {$(
         $(#[$comment])*
+        #[cfg(target_arch = "aarch64")]
         #[inline(never)]
-        pub unsafe fn $name($($argument: $type),*) $(-> $result)? {
+        pub unsafe extern "C" fn $name($($argument: $type),*) $(-> $result)? {
+            extern "C" {
+                fn $aarch64($($argument: $type),*) $(-> $result)?;
+            }
+            // SAFETY: the caller promises what the function requires.
+            unsafe { $aarch64($($argument),*) }
+        }
+        $(#[$comment])*
+        #[cfg(target_arch = "x86_64")]
+        #[inline(never)]
+        pub unsafe extern "C" fn $name($($argument: $type),*) $(-> $result)? {
             extern "sysv64" {
                 fn $v2($($argument: $type),*) $(-> $result)?;
                 fn $v3($($argument: $type),*) $(-> $result)?;
             }
             #[cold]
             #[inline(never)]
-            unsafe fn first($($argument: $type),*) $(-> $result)? {
+            unsafe extern "C" fn others($($argument: $type),*) $(-> $result)? {
                 // SAFETY: the caller promises what the function requires, and this CPU has what it needs.
                 unsafe {
                     match choice::ask() {
@@ -70,32 +77,15 @@ macro_rules! functions {
             }
             // SAFETY: the same.
             unsafe {
-                let build = if choice::IS_V3 { 3 } else { choice::known() };
-                if build == 3 {
-                    return $v3($($argument),*);
+                // In this order: a `match` would look for 2 first.
+                if choice::known() == 3 {
+                    $v3($($argument),*)
+                } else if choice::known() == 2 {
+                    $v2($($argument),*)
+                } else {
+                    others($($argument),*)
                 }
-                if build == 2 {
-                    return $v2($($argument),*);
-                }
-                first($($argument),*)
             }
-        }
-    )*};
-}
-#[cfg(target_arch = "aarch64")]
-macro_rules! functions {
-    ($(
-        $(#[$comment:meta])*
-        $name:ident($($argument:ident: $type:ty),*) $(-> $result:ty)?, $v2:ident, $v3:ident, $aarch64:ident;
-    )*) => {$(
-        $(#[$comment])*
-        #[inline(never)]
-        pub unsafe fn $name($($argument: $type),*) $(-> $result)? {
-            extern "C" {
-                fn $aarch64($($argument: $type),*) $(-> $result)?;
-            }
-            // SAFETY: the caller promises what the function requires.
-            unsafe { $aarch64($($argument),*) }
         }
     )*};
 }
@@ -137,7 +127,7 @@ mod choice {
     static BUILD: AtomicU8 = AtomicU8::new(0);
 
     /// Whether each CPU that can run this program has x86-64-v3.
-    pub const IS_V3: bool = cfg!(all(
+    const IS_V3: bool = cfg!(all(
         target_feature = "avx2",
         target_feature = "bmi1",
         target_feature = "bmi2",
@@ -150,7 +140,10 @@ mod choice {
     /// Returns the build, if it is known.
     #[inline(always)]
     pub fn known() -> u8 {
-        BUILD.load(Relaxed)
+        match IS_V3 {
+            true => 3,
+            false => BUILD.load(Relaxed),
+        }
     }
 
     /// Asks the CPU, and stores the answer. The operating system has to keep the registers of AVX, too.
@@ -209,44 +202,35 @@ mod choice {
 #[cfg(target_arch = "x86_64")]
 mod portable {
     use crate::proved::{Kernel, Plain};
-    use core::mem::MaybeUninit;
-    use core::slice::{from_raw_parts, from_raw_parts_mut};
 
     pub unsafe fn fill(bytes: *const u8, length: usize, text: *mut u8, upper: u32) {
-        // SAFETY: the caller promises so many bytes.
-        let (bytes, text) = unsafe {
-            (
-                from_raw_parts(bytes, length),
-                from_raw_parts_mut(text.cast::<MaybeUninit<[u8; 2]>>(), length),
-            )
-        };
-        for (byte, pair) in bytes.iter().zip(text) {
+        for index in 0..length {
             let mut digits = [0; 2];
-            Plain::fill(&[*byte], upper != 0, &mut digits);
-            *pair = MaybeUninit::new(digits);
+            // SAFETY: the caller promises so many bytes, and space for two digits for each.
+            unsafe {
+                Plain::fill(&[*bytes.add(index)], upper != 0, &mut digits);
+                text.cast::<[u8; 2]>().add(index).write(digits);
+            }
         }
     }
 
     pub unsafe fn check(text: *const u8, length: usize) -> bool {
         // SAFETY: the caller promises so many bytes.
-        Plain::check(unsafe { from_raw_parts(text, length) })
+        Plain::check(unsafe { core::slice::from_raw_parts(text, length) })
     }
 
-    pub unsafe fn read(text: *const u8, length: usize, bytes: *mut u8, count: usize) -> bool {
-        // SAFETY: the caller promises so many bytes.
-        let (text, bytes) = unsafe {
-            (
-                from_raw_parts(text, length),
-                from_raw_parts_mut(bytes.cast::<MaybeUninit<u8>>(), count),
-            )
-        };
-        text.chunks_exact(2).zip(bytes).all(|(pair, byte)| {
-            let mut decoded = [0];
-            let is_valid = Plain::decode_checked(pair, &mut decoded);
-            if is_valid {
-                *byte = MaybeUninit::new(decoded[0]);
+    pub unsafe fn read(text: *const u8, _: usize, bytes: *mut u8, count: usize) -> bool {
+        (0..count).all(|index| {
+            let mut byte = [0];
+            // SAFETY: the caller promises space for so many bytes, and two bytes of the text for each.
+            unsafe {
+                let is_valid =
+                    Plain::decode_checked(&*text.cast::<[u8; 2]>().add(index), &mut byte);
+                if is_valid {
+                    bytes.add(index).write(byte[0]);
+                }
+                is_valid
             }
-            is_valid
         })
     }
 }

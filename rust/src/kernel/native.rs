@@ -3,6 +3,9 @@
 use super::machine_code;
 use crate::proved::{Kernel, Output};
 
+#[cfg(feature = "alloc")]
+pub use owned::*;
+
 /// The kernel by machine code.
 pub struct Native;
 
@@ -14,13 +17,7 @@ impl Kernel for Native {
         for bytes in input.chunks(512) {
             let text = &mut text[..2 * bytes.len()];
             Self::fill(bytes, upper, text);
-            let mut pieces = text.chunks_exact(64);
-            for piece in &mut pieces {
-                output.write(piece);
-            }
-            if !pieces.remainder().is_empty() {
-                output.write(pieces.remainder());
-            }
+            text.chunks(64).for_each(|piece| output.write(piece));
         }
     }
 
@@ -67,17 +64,50 @@ fn require(fits: bool) {
     }
 }
 
-#[cfg(feature = "alloc")]
-pub use owned::{decode_reserved, encode_reserved};
-
-/// What the proved module `reserved` has, in memory that is not initialized.
+/// Text and bytes in the spare capacity of vectors, which need not be initialized.
 #[cfg(feature = "alloc")]
 mod owned {
     use super::machine_code;
     use crate::proved::text_length;
     use crate::rattle::alloc::{AllocError, Global, Vec};
 
-    /// Returns the text of bytes, with `0x` before it if `prefix` is true.
+    /// Appends the text of bytes, with `0x` before it if `prefix` is true.
+    #[inline]
+    pub fn encode_append(input: &[u8], prefix: bool, upper: bool, text: &mut alloc::vec::Vec<u8>) {
+        // A length that overflows is `usize::MAX`, for which this panics.
+        let length = text_length(prefix, input.len());
+        text.reserve(length);
+        let end = text.len() + length;
+        if prefix {
+            text.extend_from_slice(b"0x");
+        }
+        // SAFETY: the vector has space for two more bytes for each byte of the input, and all of them are written.
+        unsafe {
+            let digits = text.as_mut_ptr().add(text.len());
+            machine_code::fill(input.as_ptr(), input.len(), digits, upper.into());
+            text.set_len(end);
+        }
+    }
+
+    /// Appends the bytes of digits, and returns true. Returns false if some byte is not a digit, and the vector has the
+    /// same bytes as before then. An odd last digit is not read; there is none, since `strip_even` has tested it.
+    #[inline]
+    pub fn decode_append(digits: &[u8], bytes: &mut alloc::vec::Vec<u8>) -> bool {
+        let count = digits.len() / 2;
+        bytes.reserve(count);
+        // SAFETY: there are twice as many digits as `count`, for which the vector has space. If the result is true, all
+        // of it is written.
+        unsafe {
+            let space = bytes.as_mut_ptr().add(bytes.len());
+            let is_valid = machine_code::read(digits.as_ptr(), 2 * count, space, count);
+            if is_valid {
+                bytes.set_len(bytes.len() + count);
+            }
+            is_valid
+        }
+    }
+
+    /// What the function of the proved module `reserved` returns.
     #[inline]
     pub fn encode_reserved<K>(
         _: Global,
@@ -85,36 +115,15 @@ mod owned {
         prefix: bool,
         upper: bool,
     ) -> Result<Vec<u8>, AllocError> {
-        // A length that overflows is `usize::MAX`, for which this panics.
-        let length = text_length(prefix, input.len());
-        let mut text = alloc::vec::Vec::with_capacity(length);
-        if prefix {
-            text.extend_from_slice(b"0x");
-        }
-        // SAFETY: after the prefix the vector has space for two bytes for each byte of the input, and all of them
-        // are written.
-        unsafe {
-            let digits = text.as_mut_ptr().add(text.len());
-            machine_code::fill(input.as_ptr(), input.len(), digits, upper.into());
-            text.set_len(length);
-        }
+        let mut text = alloc::vec::Vec::with_capacity(text_length(prefix, input.len()));
+        encode_append(input, prefix, upper, &mut text);
         Ok(Vec(text))
     }
 
-    /// Returns the bytes of digits, or `None` if some byte is not a digit. An odd last digit is not read; there is none,
-    /// since `strip_even` has tested it.
+    /// What the function of the proved module `reserved` returns.
     #[inline]
     pub fn decode_reserved<K>(_: Global, digits: &[u8]) -> Result<Option<Vec<u8>>, AllocError> {
-        let count = digits.len() / 2;
-        let mut bytes = alloc::vec::Vec::with_capacity(count);
-        // SAFETY: there are twice as many digits as `count`, for which the vector has space. If the result is true, all
-        // of it is written.
-        unsafe {
-            if !machine_code::read(digits.as_ptr(), 2 * count, bytes.as_mut_ptr(), count) {
-                return Ok(None);
-            }
-            bytes.set_len(count);
-        }
-        Ok(Some(Vec(bytes)))
+        let mut bytes = alloc::vec::Vec::with_capacity(digits.len() / 2);
+        Ok(decode_append(digits, &mut bytes).then(|| Vec(bytes)))
     }
 }
