@@ -88,7 +88,7 @@ use crate::proved::codec::{checks, decoders};
 use crate::{
     proved::codec::body::{find_invalid_character, strip_even},
     proved::{codec::encoders, FixedKernel},
-    rattle::alloc::{allocated, Global},
+    rattle::alloc::Global,
 };
 #[cfg(feature = "alloc")]
 use alloc::{string::String, vec::Vec};
@@ -214,7 +214,7 @@ fn owned(data: &[u8], prefix: bool, upper: bool) -> String {
         (true, false) => encoders::encode_prefixed(Global, data),
         (true, true) => encoders::encode_upper_prefixed(Global, data),
     };
-    allocated(text).0
+    text.unwrap_or_else(|error| error.never()).0
 }
 
 /// Appends the text of bytes to a string.

@@ -120,11 +120,11 @@ fn what_each_rule_changes() {
         ("tables", "pub fn value_at(byte: u8) -> u8 {}", Ok("pub const fn value_at(byte: u8) -> u8 {}")),
         ("codec/body", "c: char::from(byte),", Ok("c: byte as char,")),
         ("codec/decoder", "    pub fn new() -> Decoder {}", Ok("pub const fn new() -> Decoder {}")),
-        ("codec/decoder", "/// One.\n///\n/// ```rust\n/// assert!(rt; f::<Lanes16>());\n/// ```\npub fn one() {}", Ok("/// One.\npub fn one() {}\n#[test]\nfn decoder_one() -> Result<(), Box<dyn Error>> {\n    assert!(f::<CheckFirst::<Plain>>());\n    Ok(())\n}")),
-        ("codec/checks", "/// One.\n///\n/// ```rust\n/// assert_eq!(rt; owned(rt.alloc()), 1);\n/// ```\npub fn one() {}", Ok("/// One.\npub fn one() {}\n#[test]\nfn checks_one() -> Result<(), Box<dyn Error>> {\n    \
-                assert_eq!(owned(Global), 1);\n    Ok(())\n}")),
+        ("codec/decoder", "/// One.\n///\n/// ```rust\n/// assert!(rt; f::<Lanes16>());\n/// ```\npub fn one() {}", Ok("/// One.\npub fn one() {}\n#[test]\nfn decoder_one() {\n    assert!(f::<CheckFirst::<Plain>>());\n}")),
+        ("codec/checks", "/// One.\n///\n/// ```rust\n/// assert_eq!(rt; owned(rt.alloc()), 1);\n/// ```\npub fn one() {}", Ok("/// One.\npub fn one() {}\n#[test]\nfn checks_one() {\n    \
+                assert_eq!(owned(Global), 1);\n}")),
         ("hexfilter/runs", "/// One.\n///\n/// ```rust\n/// let v = Vec::new(rt.alloc());\n/// f(v)?;\n/// assert!(rt; g(rt.alloc(), [f(v)?]));\n/// ```\nfn one() {}", Ok("/// One.\nfn one() {}\n\
-                #[test]\nfn runs_one() -> Result<(), Box<dyn Error>> {\n    let v = Vec::new();\n    f(v).unwrap();\n    assert!(g([f(v).unwrap()]));\n    Ok(())\n}")),
+                #[test]\nfn runs_one() {\n    let v = Vec::new();\n    f(v).unwrap();\n    assert!(g([f(v).unwrap()]));\n}")),
     ]);
 }
 

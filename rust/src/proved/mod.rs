@@ -55,7 +55,7 @@ pub use self::formatting::text::*;
 //    1  and a sink that only the examples use is there for them alone
 //    2  and an error is borrowed
 //    2  and makes the vectors that are returned
-//    3  and panics instead of returning an error
+//   22  and panics instead of returning an error
 //    1  and the crate's decoder is cloned
 //    5  and those over vectors are there for WebAssembly alone
 //    1  before it reads a chunk
