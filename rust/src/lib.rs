@@ -113,26 +113,19 @@ encoders! {
     /// Returns two lowercase digits per byte, in order. Allocates.
     ///
     /// ```
-    /// # use const_hex_proved::encode;
+    /// # use const_hex_proved::{encode, encode_prefixed};
     /// assert_eq!(encode([1, 2, 254, 255]), "0102feff");
-    /// ```
-    #[must_use]
-    fn encode() -> String = owned(false, false);
-
-    /// Returns two uppercase digits per byte, in order. Allocates.
-    #[must_use]
-    fn encode_upper() -> String = owned(false, true);
-
-    /// Returns `0x`, and then two lowercase digits per byte. Allocates.
-    ///
-    /// ```
-    /// # use const_hex_proved::encode_prefixed;
     /// assert_eq!(encode_prefixed([254, 255]), "0xfeff");
     /// ```
     #[must_use]
+    fn encode() -> String = owned(false, false);
+    /// Does the same as [`encode`] in uppercase.
+    #[must_use]
+    fn encode_upper() -> String = owned(false, true);
+    /// Does the same as [`encode`] with `0x` before the digits.
+    #[must_use]
     fn encode_prefixed() -> String = owned(true, false);
-
-    /// Returns `0x`, and then two uppercase digits per byte. Allocates.
+    /// Does the same as [`encode_upper`] with `0x` before the digits.
     #[must_use]
     fn encode_upper_prefixed() -> String = owned(true, true);
 
@@ -145,13 +138,10 @@ encoders! {
     /// assert_eq!(text, "kiwi = 6b697769");
     /// ```
     fn encode_append(output: &mut String) = append(false, false);
-
     /// Does the same as [`encode_append`] in uppercase.
     fn encode_append_upper(output: &mut String) = append(false, true);
-
     /// Does the same as [`encode_append`] with `0x` before the digits.
     fn encode_append_prefixed(output: &mut String) = append(true, false);
-
     /// Does the same as [`encode_append_upper`] with `0x` before the digits.
     fn encode_append_upper_prefixed(output: &mut String) = append(true, true);
 }
@@ -165,41 +155,25 @@ encoders! {
     /// the text.
     ///
     /// ```
-    /// # use const_hex_proved::encode_to_slice;
+    /// # use const_hex_proved::{encode_to_slice, encode_to_slice_prefixed, encode_to_str};
     /// let mut text = [0; 8];
     /// encode_to_slice("kiwi", &mut text)?;
     /// assert_eq!(&text, b"6b697769");
-    /// # Ok::<(), const_hex_proved::FromHexError>(())
-    /// ```
-    fn encode_to_slice(output: &mut [u8]) -> Result<(), FromHexError> = encode_full_to_slice(false, false);
-
-    /// Does the same as [`encode_to_slice`] in uppercase, with the same error.
-    fn encode_to_slice_upper(output: &mut [u8]) -> Result<(), FromHexError> = encode_full_to_slice(false, true);
-
-    /// Does the same as [`encode_to_slice`] with `0x` before the digits, with the same error.
-    ///
-    /// ```
-    /// # use const_hex_proved::encode_to_slice_prefixed;
+    /// assert_eq!(encode_to_str("pear", &mut text)?, "70656172");
     /// let mut text = [0; 10];
     /// encode_to_slice_prefixed("kiwi", &mut text)?;
     /// assert_eq!(&text, b"0x6b697769");
     /// # Ok::<(), const_hex_proved::FromHexError>(())
     /// ```
+    fn encode_to_slice(output: &mut [u8]) -> Result<(), FromHexError> = encode_full_to_slice(false, false);
+    /// Does the same as [`encode_to_slice`] in uppercase, with the same error.
+    fn encode_to_slice_upper(output: &mut [u8]) -> Result<(), FromHexError> = encode_full_to_slice(false, true);
+    /// Does the same as [`encode_to_slice`] with `0x` before the digits, with the same error.
     fn encode_to_slice_prefixed(output: &mut [u8]) -> Result<(), FromHexError> = encode_full_to_slice(true, false);
-
     /// Does the same as [`encode_to_slice_upper`] with `0x` before the digits, with the same error.
     fn encode_to_slice_upper_prefixed(output: &mut [u8]) -> Result<(), FromHexError> = encode_full_to_slice(true, true);
-
     /// Does the same as [`encode_to_slice`], with the same error, and returns the output as a string.
-    ///
-    /// ```
-    /// # use const_hex_proved::encode_to_str;
-    /// let mut text = [0; 8];
-    /// assert_eq!(encode_to_str("kiwi", &mut text)?, "6b697769");
-    /// # Ok::<(), const_hex_proved::FromHexError>(())
-    /// ```
     fn encode_to_str(output: &mut [u8]) -> Result<&mut str, FromHexError> = text_in(false, false);
-
     /// Does the same as [`encode_to_slice_upper`], with the same error, and returns the output as a string.
     fn encode_to_str_upper(output: &mut [u8]) -> Result<&mut str, FromHexError> = text_in(false, true);
 }
@@ -242,12 +216,8 @@ fn text_in<'a>(
     Ok(unsafe { core::str::from_utf8_unchecked_mut(output) })
 }
 
-/// Returns the bytes that a text decodes to. Allocates, also for a text that is invalid, but not for one of
-/// odd length or without digits.
-///
-/// # Errors
-///
-/// Returns [`FromHexError::OddLength`] or [`FromHexError::InvalidHexCharacter`].
+/// Returns the bytes that a text decodes to, or the errors of [`check`]. Allocates, also for a text that is invalid, but
+/// not for one of odd length or without digits.
 ///
 /// ```
 /// # use const_hex_proved::{decode, FromHexError};
@@ -261,6 +231,28 @@ pub fn decode<T: AsRef<[u8]>>(data: T) -> Result<Vec<u8>, FromHexError> {
         decoders::decode_with::<FixedKernel>(Global, text).map(|bytes| bytes.0)
     }
     decoded(data.as_ref())
+}
+
+/// Appends the bytes that a text decodes to to a vector, and returns their number, or the errors of [`check`]. Allocates
+/// only if the vector has too little capacity.
+///
+/// After an error the vector has the same bytes as before, but bytes that were decoded before an invalid character may
+/// remain in its spare capacity.
+///
+/// ```
+/// # use const_hex_proved::decode_append;
+/// let mut bytes = b"kiwi".to_vec();
+/// assert_eq!(decode_append("70656172", &mut bytes), Ok(4));
+/// assert_eq!(bytes, b"kiwipear");
+/// ```
+#[cfg(feature = "alloc")]
+pub fn decode_append<T: AsRef<[u8]>>(data: T, output: &mut Vec<u8>) -> Result<usize, FromHexError> {
+    let text = data.as_ref();
+    let digits = strip_even(text)?;
+    match kernel::decode_append(digits, output) {
+        true => Ok(digits.len() / 2),
+        false => Err(find_invalid_character(text)),
+    }
 }
 
 /// Fills `out` with the bytes that a text decodes to. Does not allocate.
@@ -286,8 +278,6 @@ pub fn decode_to_slice<T: AsRef<[u8]>>(data: T, out: &mut [u8]) -> Result<(), Fr
 /// Writes the bytes that a text decodes to to the front of `out`, and returns their number. The rest of `out` is
 /// unchanged. Does not allocate.
 ///
-/// # Errors
-///
 /// Returns the errors of [`decode_to_slice`], but [`FromHexError::InvalidStringLength`] only if the text has more
 /// than two digits for each byte of `out`.
 ///
@@ -302,35 +292,7 @@ pub fn decode_to_front<T: AsRef<[u8]>>(data: T, out: &mut [u8]) -> Result<usize,
     decoders::decode_to_front(data.as_ref(), out)
 }
 
-/// Appends the bytes that a text decodes to to a vector, and returns their number. Allocates only if the vector has
-/// too little capacity.
-///
-/// # Errors
-///
-/// Returns the errors of [`decode`]. The vector has the same bytes as before then, but bytes that were decoded before
-/// an invalid character may remain in its spare capacity.
-///
-/// ```
-/// # use const_hex_proved::decode_append;
-/// let mut bytes = b"kiwi".to_vec();
-/// assert_eq!(decode_append("70656172", &mut bytes), Ok(4));
-/// assert_eq!(bytes, b"kiwipear");
-/// ```
-#[cfg(feature = "alloc")]
-pub fn decode_append<T: AsRef<[u8]>>(data: T, output: &mut Vec<u8>) -> Result<usize, FromHexError> {
-    let text = data.as_ref();
-    let digits = strip_even(text)?;
-    match kernel::decode_append(digits, output) {
-        true => Ok(digits.len() / 2),
-        false => Err(find_invalid_character(text)),
-    }
-}
-
-/// Returns the `N` bytes that a text decodes to. Does not allocate.
-///
-/// # Errors
-///
-/// Returns the errors of [`decode_to_slice`].
+/// Returns the `N` bytes that a text decodes to, or the errors of [`decode_to_slice`]. Does not allocate.
 ///
 /// ```
 /// # use const_hex_proved::decode_to_array;
@@ -341,11 +303,8 @@ pub fn decode_to_array<T: AsRef<[u8]>, const N: usize>(input: T) -> Result<[u8; 
     decoders::decode_to_array(input.as_ref())
 }
 
-/// Returns `Ok` if a text can be decoded. Does not allocate.
-///
-/// # Errors
-///
-/// Returns [`FromHexError::OddLength`] or [`FromHexError::InvalidHexCharacter`].
+/// Returns `Ok` if a text can be decoded, or else [`FromHexError::OddLength`] or
+/// [`FromHexError::InvalidHexCharacter`]. Does not allocate.
 ///
 /// ```
 /// # use const_hex_proved::check;
@@ -361,8 +320,7 @@ pub fn check<T: AsRef<[u8]>>(input: T) -> Result<(), FromHexError> {
 ///
 /// ```
 /// # use const_hex_proved::check_raw;
-/// assert!(check_raw("6b6"));
-/// assert!(!check_raw("0x6b"));
+/// assert!(check_raw("6b6") && !check_raw("0x6b"));
 /// ```
 #[inline]
 #[must_use]
