@@ -3,9 +3,8 @@
 use crate::{encode_to_slice, Decoder, FromHexError};
 use std::io::{BufRead, BufReader, BufWriter, Error, ErrorKind, Read, Result, Write};
 
-/// Wraps a reader of hexadecimal text, and yields the decoded bytes. Allocates a buffer for the text.
-///
-/// The text ends where the other reader first returns no bytes.
+/// Wraps a reader of hexadecimal text, and yields the decoded bytes. Allocates a buffer for the text, which ends where
+/// the other reader first returns no bytes.
 ///
 /// # Errors
 ///
@@ -34,9 +33,10 @@ pub struct DecodeReader<R> {
 impl<R: Read> DecodeReader<R> {
     /// Returns a reader of the bytes that the text of `reader` decodes to.
     pub fn new(reader: R) -> DecodeReader<R> {
+        let (text, decoder) = (BufReader::new(reader), Decoder::new());
         DecodeReader {
-            text: BufReader::new(reader),
-            decoder: Decoder::new(),
+            text,
+            decoder,
             end: None,
         }
     }
@@ -83,12 +83,9 @@ impl<R: Read> Read for DecodeReader<R> {
 
 /// Wraps a writer, and writes two lowercase digits to it for each byte. Allocates a buffer for the text.
 ///
-/// As with [`BufWriter`], text may wait in the buffer until the next `flush`. Call [`finish`] when all is
-/// written: dropping the writer also writes what waits, but ignores an error.
-///
-/// # Errors
-///
-/// A write that returns the other writer's error has taken none of the bytes, so it may be repeated.
+/// As with [`BufWriter`], text may wait in the buffer until the next `flush`. Call [`finish`](EncodeWriter::finish) when
+/// all is written: dropping the writer also writes what waits, but ignores an error. A write that returns the other
+/// writer's error has taken none of the bytes, so it may be repeated.
 ///
 /// ```
 /// # use const_hex_proved::EncodeWriter;
@@ -102,8 +99,6 @@ impl<R: Read> Read for DecodeReader<R> {
 /// assert_eq!(writer.finish()?, b"6b697769");
 /// # Ok::<(), std::io::Error>(())
 /// ```
-///
-/// [`finish`]: EncodeWriter::finish
 #[derive(Debug)]
 pub struct EncodeWriter<W: Write> {
     text: BufWriter<W>,
@@ -116,10 +111,9 @@ const CHUNK: usize = 256;
 impl<W: Write> EncodeWriter<W> {
     /// Returns a writer of bytes, whose text goes to `writer`.
     pub fn new(writer: W) -> EncodeWriter<W> {
-        EncodeWriter {
-            // A text that is shorter than the buffer is taken whole or not at all.
-            text: BufWriter::with_capacity(16 * CHUNK, writer),
-        }
+        // A text that is shorter than the buffer is taken whole or not at all.
+        let text = BufWriter::with_capacity(16 * CHUNK, writer);
+        EncodeWriter { text }
     }
 
     /// Returns the other writer. Some of the text may wait in the buffer.
@@ -127,19 +121,14 @@ impl<W: Write> EncodeWriter<W> {
         self.text.get_ref()
     }
 
-    /// Returns the other writer, and drops the text that waits in the buffer. To write it, use [`finish`].
-    ///
-    /// [`finish`]: EncodeWriter::finish
+    /// Returns the other writer, and drops the text that waits in the buffer. To write it, use
+    /// [`finish`](EncodeWriter::finish).
     pub fn into_inner(self) -> W {
         self.text.into_parts().0
     }
 
-    /// Writes what is in the buffer, flushes the other writer, and returns it.
-    ///
-    /// # Errors
-    ///
-    /// Returns the other writer's error. The other writer is dropped then, after one more attempt to write the
-    /// text that waits.
+    /// Writes what is in the buffer, flushes the other writer, and returns it, or its error. It is dropped then, after
+    /// one more attempt to write the text that waits.
     pub fn finish(mut self) -> Result<W> {
         self.text.flush()?;
         self.text.into_inner().map_err(|error| error.into_error())
