@@ -4,13 +4,13 @@ use crate::proved::codec::encoders::encode_full_to_slice;
 use crate::proved::tables::digit_at;
 #[cfg(feature = "alloc")]
 use alloc::{string::String, vec::Vec};
-use core::{fmt, str};
+use core::{fmt, mem::transmute, str};
 
 /// An array with the text of `N` bytes. If `PREFIX` is true, the text begins with `0x`.
 ///
-/// A new buffer has the prefix, if any, and NUL characters in place of the digits. Each method that formats
-/// writes the whole text, prefix included. No method allocates unless it says so. Buffers are equal if their texts
-/// are; the comparison is not constant-time.
+/// A new buffer has the prefix, if any, and NUL characters in place of the digits. Each method that formats writes the
+/// whole text, prefix included. No method allocates unless it says so. Buffers are equal if their texts are; the
+/// comparison is not constant-time.
 ///
 /// ```
 /// # use const_hex_proved::Buffer;
@@ -48,8 +48,8 @@ impl<const N: usize, const PREFIX: bool> Buffer<N, PREFIX> {
         }
     }
 
-    /// Returns a buffer with the text of `array` in lowercase. For constants, since it looks digits up in a
-    /// table: at run time use [`format`](Self::format).
+    /// Returns a buffer with the text of `array` in lowercase. At run time use [`format`](Self::format), since this
+    /// looks digits up in a table.
     #[inline]
     pub const fn const_format(self, array: &[u8; N]) -> Self {
         Self::of(array, false)
@@ -87,11 +87,8 @@ impl<const N: usize, const PREFIX: bool> Buffer<N, PREFIX> {
         self.write(array, true)
     }
 
-    /// Writes the text of `slice` in lowercase, and returns the whole text.
-    ///
-    /// # Panics
-    ///
-    /// Panics unless `slice` has `N` bytes. The buffer is unchanged then.
+    /// Writes the text of `slice` in lowercase, and returns the whole text. Panics unless `slice` has `N` bytes. The
+    /// buffer is unchanged then.
     ///
     /// ```
     /// # use const_hex_proved::Buffer;
@@ -232,16 +229,11 @@ impl<const N: usize, const PREFIX: bool> Buffer<N, PREFIX> {
 ///
 /// That of `core::slice::from_raw_parts`.
 const unsafe fn slice<'a>(first: *const u8, count: usize) -> &'a [u8] {
-    union Slice<'a> {
-        parts: (*const u8, usize),
-        slice: &'a [u8],
-    }
-    // A slice is a pointer and then a count. With another layout this would be an error of the compiler.
-    // SAFETY: if the layout is another, the compiler does not read a pointer as a count.
-    const _: () = assert!(unsafe { Slice { slice: b"kiwi" }.parts.1 } == 4);
-    let parts = (first, count);
+    // SAFETY: a slice is a pointer and then a count. With another layout this would be an error of the compiler, which
+    // does not read a pointer as a count.
+    const _: () = assert!(unsafe { transmute::<&[u8], (*const u8, usize)>(b"kiwi") }.1 == 4);
     // SAFETY: the parts are in the order of a slice, and the caller promises the rest.
-    unsafe { Slice { parts }.slice }
+    unsafe { transmute((first, count)) }
 }
 
 /// Implements traits for each buffer, by their methods.

@@ -1,31 +1,7 @@
-//! Functions that constants can call. They look digits up in a table, so at run time their timing may reveal
-//! the bytes.
+//! Functions that constants can call. They look digits up in a table, so at run time their timing may reveal the bytes.
 
 use crate::proved::codec::body::strip_prefix;
-use crate::{Buffer, FromHexError};
-
-/// Checks a text, with or without a prefix, in a constant.
-///
-/// ```
-/// # use const_hex_proved::const_check;
-/// const _: () = assert!(const_check(b"0x6b697769").is_ok());
-/// ```
-pub use crate::proved::codec::checks::const_check;
-/// Checks a text without a prefix in a constant.
-///
-/// ```
-/// # use const_hex_proved::const_check_raw;
-/// const _: () = assert!(const_check_raw(b"6b6") && !const_check_raw(b"0x6b"));
-/// ```
-pub use crate::proved::codec::checks::const_check_raw;
-/// Decodes a text in a constant.
-///
-/// ```
-/// # use const_hex_proved::{const_decode_to_array, FromHexError};
-/// const KIWI: Result<[u8; 4], FromHexError> = const_decode_to_array(b"0x6b697769");
-/// assert_eq!(KIWI, Ok(*b"kiwi"));
-/// ```
-pub use crate::proved::codec::decoders::const_decode_to_array;
+use crate::{const_decode_to_array, Buffer, FromHexError};
 
 /// Expands to the array of the bytes that a constant text of type `&str` decodes to. The compiler decodes it, and
 /// finds the length. An invalid text does not compile, and the error names the position of the first invalid character.
@@ -59,12 +35,8 @@ pub const fn decoded_length(text: &[u8]) -> usize {
     strip_prefix(text).len() / 2
 }
 
-/// Returns the `N` bytes that a text decodes to. In a constant, a text that does not decode to `N` bytes is a
-/// compile-time error.
-///
-/// # Panics
-///
-/// Panics if [`const_decode_to_array`] returns an error. The message names the position of an invalid character.
+/// Returns the `N` bytes that a text decodes to, or panics if [`const_decode_to_array`] returns an error, which in a
+/// constant is a compile-time error. The message names the position of an invalid character.
 ///
 /// ```
 /// # use const_hex_proved::bytes_of;
@@ -121,7 +93,7 @@ const fn panic_at(position: usize) -> ! {
 /// ```
 #[inline]
 pub const fn const_encode<const N: usize, const PREFIX: bool>(
-    input: &[u8; N],
+    array: &[u8; N],
 ) -> Buffer<N, PREFIX> {
-    Buffer::new().const_format(input)
+    Buffer::new().const_format(array)
 }

@@ -6,9 +6,8 @@ use core::fmt;
 
 /// Decodes a text that arrives in chunks, as from a file or a socket. Does not allocate.
 ///
-/// The text may be split anywhere, even between the two digits of a byte or within the prefix. A prefix is
-/// removed only at the start of the whole text, while [`decode`](crate::decode()) would remove one at the
-/// start of every chunk.
+/// The text may be split anywhere, even between the two digits of a byte or within the prefix. A prefix is removed only
+/// at the start of the whole text, while [`decode`](crate::decode()) would remove one at the start of every chunk.
 ///
 /// ```
 /// # use const_hex_proved::{Decoder, FromHexError};
@@ -43,13 +42,10 @@ impl Decoder {
     /// Decodes the next chunk. Writes the new bytes to the front of `output`, and returns their number,
     /// which is at most `(chunk.len() + 1) / 2`. The rest of `output` is unchanged.
     ///
-    /// # Errors
-    ///
-    /// Returns [`FromHexError::InvalidStringLength`] if `output` is too short for the new bytes. Neither it
-    /// nor the decoder has changed then, and the call may be made again with a longer output. Returns
-    /// [`FromHexError::InvalidHexCharacter`] with a position in the whole text if the chunk has an invalid
-    /// character. Then `output` may already contain decoded bytes, and each later call for this decoder
-    /// returns the same error.
+    /// Returns [`FromHexError::InvalidStringLength`] if `output` is too short for the new bytes. Neither it nor the
+    /// decoder has changed then, and the call may be made again with a longer output. Returns
+    /// [`FromHexError::InvalidHexCharacter`] with a position in the whole text if the chunk has an invalid character.
+    /// Then `output` may already contain decoded bytes, and each later call for this decoder returns the same error.
     #[inline]
     pub fn decode<T: AsRef<[u8]>>(
         &mut self,
@@ -67,13 +63,9 @@ impl Decoder {
         self.0.position()
     }
 
-    /// Finishes decoding. Returns `Ok` if the chunks together form a complete text, whose bytes have then all
-    /// been written.
-    ///
-    /// # Errors
-    ///
-    /// Returns the [`FromHexError::InvalidHexCharacter`] of a chunk, or else [`FromHexError::OddLength`] if
-    /// the text has an odd length.
+    /// Finishes decoding. Returns `Ok` if the chunks together form a complete text, whose bytes have then all been
+    /// written. Otherwise returns the [`FromHexError::InvalidHexCharacter`] of a chunk, or else
+    /// [`FromHexError::OddLength`].
     #[inline]
     pub fn finish(self) -> Result<(), FromHexError> {
         self.0.finish()

@@ -6,12 +6,9 @@ use std::io::{BufRead, BufReader, BufWriter, Error, ErrorKind, Read, Result, Wri
 /// Wraps a reader of hexadecimal text, and yields the decoded bytes. Allocates a buffer for the text, which ends where
 /// the other reader first returns no bytes.
 ///
-/// # Errors
-///
-/// A read returns the other reader's error, and may be repeated. It returns an error of the kind
-/// `InvalidData` with the [`FromHexError`] inside for an invalid character, or for an odd length at the end
-/// of the text. Each later read returns that error too. Bytes that the failing read has decoded before
-/// an invalid character are not returned.
+/// A read returns the other reader's error, and may be repeated. It returns an error of the kind `InvalidData` with the
+/// [`FromHexError`] inside for an invalid character, or for an odd length at the end of the text. Each later read
+/// returns that error too. Bytes that the failing read has decoded before an invalid character are not returned.
 ///
 /// ```
 /// # use const_hex_proved::DecodeReader;
@@ -51,8 +48,8 @@ impl<R: Read> DecodeReader<R> {
         self.text.into_inner()
     }
 
-    /// Decodes what is left in the buffer, after reading more if nothing is. Returns the number of bytes,
-    /// and sets `end` if there are no more.
+    /// Decodes what is in the buffer, after reading more if nothing is. Returns the number of bytes, and sets `end` if
+    /// there are no more.
     fn decode_next(&mut self, output: &mut [u8]) -> Result<usize> {
         let text = self.text.fill_buf()?;
         if text.is_empty() {

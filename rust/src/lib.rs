@@ -1,8 +1,7 @@
 //! Encodes bytes as hexadecimal text, and decodes it again.
 //!
-//! The names are those of the crates `const-hex` and `hex`. The core of this crate is made from formally
-//! verified source: a script deletes the contracts and the proofs, and makes the changes that it lists. The
-//! rest is hand-written and tested. README.md says which part is which.
+//! The names are those of the crates `const-hex` and `hex`. The core of this crate is formally verified. The rest is
+//! hand-written and tested. README.md says which part is which.
 //!
 //! ```
 //! # #[cfg(feature = "alloc")] {
@@ -11,20 +10,18 @@
 //! # }
 //! assert_eq!(const_hex_proved::decode_to_array("6b697769"), Ok(*b"kiwi"));
 //! const KIWI: [u8; 4] = const_hex_proved::bytes_of(b"0x6b697769");
+//! const _: () = assert!(const_hex_proved::const_check(b"0x6b").is_ok());
+//! const _: () = assert!(!const_hex_proved::const_check_raw(b"0x6b"));
+//! assert_eq!(const_hex_proved::const_decode_to_array(b"6b697769"), Ok(KIWI));
 //! ```
 //!
 //! A text may begin with one prefix, `0x` or `0X`, except for [`check_raw`], [`const_check_raw`] and the module
 //! [`strict`]. Errors are checked in this order: an odd length, a length that does not match the output, an invalid
 //! character.
 //!
-//! # Features
-//!
-//! - `std` (by default) adds `DecodeReader` and `EncodeWriter`, and implements `std::error::Error`. It includes
-//!   `alloc`.
-//! - `alloc` adds what returns a `String` or a vector, such as `encode` and `decode`.
-//! - `serde` adds fields of hexadecimal text, by `#[serde(with = "const_hex_proved")]`.
-//! - `core-error` implements `core::error::Error` without `std`. It needs Rust 1.81.
-//! - `force-generic` uses the portable code on each target, and no machine code.
+//! Features: `alloc` adds what returns a `String` or a vector; `std` (by default) adds `alloc`, `DecodeReader`,
+//! `EncodeWriter` and `std::error::Error`; `serde` adds `#[serde(with = "const_hex_proved")]`; `core-error` implements
+//! `core::error::Error` without `std`, by Rust 1.81; `force-generic` uses no machine code.
 #![no_std]
 #![deny(unsafe_code, unsafe_op_in_unsafe_fn)]
 #![warn(missing_docs)]
@@ -66,13 +63,13 @@ pub mod c {
 }
 
 pub use crate::buffer::Buffer;
-pub use crate::constants::{
-    bytes_of, const_check, const_check_raw, const_decode_to_array, const_encode, decoded_length,
-};
+pub use crate::constants::{bytes_of, const_encode, decoded_length};
 pub use crate::decoder::Decoder;
 pub use crate::display::display;
 #[cfg(feature = "std")]
 pub use crate::io::{DecodeReader, EncodeWriter};
+pub use crate::proved::codec::checks::{const_check, const_check_raw};
+pub use crate::proved::codec::decoders::const_decode_to_array;
 pub use crate::proved::error::FromHexError;
 pub use crate::proved::{HEX_CHARS_LOWER, HEX_CHARS_UPPER, HEX_DECODE_LUT, NIL};
 #[cfg(feature = "serde")]
@@ -149,10 +146,7 @@ encoders! {
 encoders! {
     /// Fills `output` with two lowercase digits per byte. Does not allocate.
     ///
-    /// # Errors
-    ///
-    /// Returns [`FromHexError::InvalidStringLength`], and leaves `output` unchanged, unless it has the length of
-    /// the text.
+    /// Returns [`FromHexError::InvalidStringLength`], and leaves `output` unchanged, unless it has the text's length.
     ///
     /// ```
     /// # use const_hex_proved::{encode_to_slice, encode_to_slice_prefixed, encode_to_str};
@@ -257,11 +251,9 @@ pub fn decode_append<T: AsRef<[u8]>>(data: T, output: &mut Vec<u8>) -> Result<us
 
 /// Fills `out` with the bytes that a text decodes to. Does not allocate.
 ///
-/// # Errors
-///
-/// Returns [`FromHexError::OddLength`]; or else [`FromHexError::InvalidStringLength`], unless the text has
-/// two digits for each byte of `out`; or else [`FromHexError::InvalidHexCharacter`]. After the last of these,
-/// `out` may already contain bytes decoded before the invalid character; after the others it is unchanged.
+/// Returns [`FromHexError::OddLength`]; or else [`FromHexError::InvalidStringLength`], unless the text has two digits
+/// for each byte of `out`; or else [`FromHexError::InvalidHexCharacter`]. After the last of these, `out` may already
+/// contain bytes decoded before the invalid character; after the others it is unchanged.
 ///
 /// ```
 /// # use const_hex_proved::decode_to_slice;
@@ -315,8 +307,7 @@ pub fn check<T: AsRef<[u8]>>(input: T) -> Result<(), FromHexError> {
     checks::check(input.as_ref())
 }
 
-/// Returns whether every byte of a text is a digit. A prefix is not accepted, and the length may be odd.
-/// Does not allocate.
+/// Returns whether every byte of a text is a digit. It has no prefix, and may have an odd length. Does not allocate.
 ///
 /// ```
 /// # use const_hex_proved::check_raw;

@@ -41,8 +41,6 @@ macro_rules! serializers {
     ($($(#[$doc:meta])* $name:ident($data:ident: $type:ty), $serializer:ident => $result:expr;)+) => {$(
         $(#[$doc])*
         ///
-        /// # Errors
-        ///
         /// Returns the serializer's error.
         #[inline]
         pub fn $name<S: Serializer, T: AsRef<[u8]>>($data: $type, $serializer: S) -> Result<S::Ok, S::Error> {
@@ -56,10 +54,8 @@ macro_rules! deserializer {
     ($(#[$doc:meta])* $type:ty, $from_hex:path: $deserializer:ident => $read:expr) => {
         $(#[$doc])*
         ///
-        /// # Errors
-        ///
-        /// Returns the deserializer's error for a value of another kind, and for a text from which the type cannot
-        /// be read. In the second case it has the message of the type's error.
+        /// Returns the deserializer's error for a value of another kind, and for a text from which the type cannot be
+        /// read. In the second case it has the message of the type's error.
         pub fn deserialize<'de, D: Deserializer<'de>, T: $from_hex>($deserializer: D) -> Result<$type, D::Error>
         where
             T::Error: fmt::Display,

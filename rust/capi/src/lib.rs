@@ -84,11 +84,11 @@ fn no_error() -> HexError {
 ///
 /// The buffer has this length, and nothing writes it while the result is used.
 unsafe fn slice<'a>(start: *const u8, length: usize) -> &'a [u8] {
-    if length == 0 {
-        return &[];
+    match length {
+        0 => &[],
+        // SAFETY: the caller promises this.
+        _ => unsafe { from_raw_parts(start, at_most(length)) },
     }
-    // SAFETY: the caller promises this.
-    unsafe { from_raw_parts(start, at_most(length)) }
 }
 
 /// The same for a buffer that is written.
@@ -97,11 +97,11 @@ unsafe fn slice<'a>(start: *const u8, length: usize) -> &'a [u8] {
 ///
 /// The buffer has this length, and nothing else reads or writes it while the result is used.
 unsafe fn slice_mut<'a>(start: *mut u8, length: usize) -> &'a mut [u8] {
-    if length == 0 {
-        return &mut [];
+    match length {
+        0 => &mut [],
+        // SAFETY: the caller promises this.
+        _ => unsafe { from_raw_parts_mut(start, at_most(length)) },
     }
-    // SAFETY: the caller promises this.
-    unsafe { from_raw_parts_mut(start, at_most(length)) }
 }
 
 /// The length, or the greatest one of a slice that is odd or even as well. No buffer is larger, so such a length is an

@@ -122,20 +122,16 @@ functions! {
 mod choice {
     use core::sync::atomic::{AtomicU8, Ordering::Relaxed};
 
+    macro_rules! has_all {
+        ($($feature:tt)+) => { $(cfg!(target_feature = $feature))&&+ };
+    }
+
     /// The build for this CPU: 3 for x86-64-v3, 2 for x86-64-v2, 1 for portable code, or 0 until the CPU was asked.
     /// Threads that ask at the same time store the same number.
     static BUILD: AtomicU8 = AtomicU8::new(0);
 
     /// Whether each CPU that can run this program has x86-64-v3.
-    const IS_V3: bool = cfg!(all(
-        target_feature = "avx2",
-        target_feature = "bmi1",
-        target_feature = "bmi2",
-        target_feature = "f16c",
-        target_feature = "fma",
-        target_feature = "lzcnt",
-        target_feature = "movbe"
-    ));
+    const IS_V3: bool = has_all!("avx2" "bmi1" "bmi2" "f16c" "fma" "lzcnt" "movbe");
 
     /// Returns the build, if it is known.
     #[inline(always)]
