@@ -1,38 +1,8 @@
 // Made by rust/erase from the examples of the source. Do not edit.
 
-use crate::proved::arch::check_first::CheckFirst;
-use crate::proved::arch::plain::Plain;
-use crate::proved::arch::{FixedKernel, Kernel};
-use crate::proved::output::Output;
-use crate::proved::output::buffered::BufferedOutput;
-use crate::proved::output::slice::SliceOutput;
-use crate::proved::sink::output::SinkOutput;
-use crate::proved::sink::pieces::PieceSink;
-use crate::proved::sink::{Sink, SinkError};
-use crate::proved::stream::BufferedHex;
-use crate::proved::tables::{
-    HEX_CHARS_LOWER, HEX_CHARS_UPPER, HEX_DECODE_LUT, NIL, digit_at, value_at,
-};
-use crate::proved::text::{ascii_text, encode_full, fill_text, text_length};
-use crate::proved::codec::checks::{check, check_raw, check_with, const_check, const_check_raw};
-use crate::proved::codec::decoder::Decoder;
-use crate::proved::codec::decoders::{
-    bytes_of, const_decode_to_array, decode, decode_to_array, decode_to_front,
-    decode_to_front_with, decode_to_slice, decode_to_slice_with, decode_with,
-};
-use crate::proved::codec::encoders::{
-    encode, encode_full_to_slice, encode_full_to_slice_with, encode_prefixed, encode_to_slice,
-    encode_to_slice_upper, encode_to_str, encode_to_str_upper, encode_upper, encode_upper_prefixed,
-    encode_with,
-};
-use crate::proved::error::FromHexError;
-use crate::proved::formatting::display;
-use crate::proved::formatting::sink::FormatterSink;
-use crate::proved::formatting::text::Display;
-use crate::proved::examples as const_hex;
-use crate::rattle::alloc::Global;
-use crate::rattle::prelude::*;
-use crate::rattle::simd::prelude::*;
+use crate::proved::*;
+use crate::proved::{examples as const_hex, sink::pieces::PieceSink};
+use crate::rattle::{alloc::Global, prelude::*, simd::prelude::*};
 
 #[test]
 fn arch_check_first_checkfirst() {

@@ -95,8 +95,11 @@ impl<const N: usize> Mask<N> {
 
 impl u8x16 {
     methods! {
-        /// Returns the lanes of both vectors, one after the other.
-        join(self, other: Self) -> u8x32 = bits([self, other]);
+        /// Returns the lanes of both vectors in the only order that the source names: one after the other.
+        shuffle(self, other: Self, order: [usize; 32]) -> u8x32 = {
+            debug_assert!(order.iter().copied().eq(0..32));
+            bits([self, other])
+        };
         cast(self) -> u16x16 = bits([u16x8_extend_low_u8x16(bits(self)), u16x8_extend_high_u8x16(bits(self))]);
     }
 }
