@@ -223,11 +223,7 @@ impl<const N: usize, const PREFIX: bool> Buffer<N, PREFIX> {
     }
 }
 
-/// Does what `core::slice::from_raw_parts` does. A constant can call that only from Rust 1.64 on.
-///
-/// # Safety
-///
-/// That of `core::slice::from_raw_parts`.
+/// Does and requires what `core::slice::from_raw_parts` does. A constant can call that only from Rust 1.64 on.
 const unsafe fn slice<'a>(first: *const u8, count: usize) -> &'a [u8] {
     // SAFETY: a slice is a pointer and then a count. With another layout this would be an error of the compiler, which
     // does not read a pointer as a count.

@@ -80,9 +80,7 @@ fn no_error() -> HexError {
 
 /// The bytes of a buffer, which may be NULL if it has none.
 ///
-/// # Safety
-///
-/// The buffer has this length, and nothing writes it while the result is used.
+/// Safety: the buffer has this length, and nothing writes it while the result is used.
 unsafe fn slice<'a>(start: *const u8, length: usize) -> &'a [u8] {
     match length {
         0 => &[],
@@ -93,9 +91,7 @@ unsafe fn slice<'a>(start: *const u8, length: usize) -> &'a [u8] {
 
 /// The same for a buffer that is written.
 ///
-/// # Safety
-///
-/// The buffer has this length, and nothing else reads or writes it while the result is used.
+/// Safety: the buffer has this length, and nothing else reads or writes it while the result is used.
 unsafe fn slice_mut<'a>(start: *mut u8, length: usize) -> &'a mut [u8] {
     match length {
         0 => &mut [],
@@ -107,10 +103,12 @@ unsafe fn slice_mut<'a>(start: *mut u8, length: usize) -> &'a mut [u8] {
 /// The length, or the greatest one of a slice that is odd or even as well. No buffer is larger, so such a length is an
 /// error in every function, and the same one. The package for JavaScript passes none.
 fn at_most(length: usize) -> usize {
-    match cfg!(target_arch = "wasm32") {
-        true => length,
-        false => length.min((isize::MAX as usize - 1) | (length & 1)),
-    }
+    let most = (isize::MAX as usize - 1) | (length & 1);
+    length.min(if cfg!(target_arch = "wasm32") {
+        length
+    } else {
+        most
+    })
 }
 
 /// In a release build no function panics. In another one a failed check ends here, in an endless loop.

@@ -40,29 +40,25 @@ assembled!("../asm/coff.s");
 assembled!("../asm/elf.s");
 
 /// Defines functions that call the machine code. They are not inlined into another crate, which could not name that.
+/// The ABI says that none unwinds, so that a caller need not be ready for it.
 macro_rules! functions {
     ($(
         $(#[$comment:meta])*
         $name:ident($($argument:ident: $type:ty),*) $(-> $result:ty)?, $v2:ident, $v3:ident, $aarch64:ident;
     )*) => {$(
         $(#[$comment])*
-        #[cfg(target_arch = "aarch64")]
         #[inline(never)]
         pub unsafe extern "C" fn $name($($argument: $type),*) $(-> $result)? {
+            #[cfg(target_arch = "aarch64")]
             extern "C" {
                 fn $aarch64($($argument: $type),*) $(-> $result)?;
             }
-            // SAFETY: the caller promises what the function requires.
-            unsafe { $aarch64($($argument),*) }
-        }
-        $(#[$comment])*
-        #[cfg(target_arch = "x86_64")]
-        #[inline(never)]
-        pub unsafe extern "C" fn $name($($argument: $type),*) $(-> $result)? {
+            #[cfg(target_arch = "x86_64")]
             extern "sysv64" {
                 fn $v2($($argument: $type),*) $(-> $result)?;
                 fn $v3($($argument: $type),*) $(-> $result)?;
             }
+            #[cfg(target_arch = "x86_64")]
             #[cold]
             #[inline(never)]
             unsafe extern "C" fn others($($argument: $type),*) $(-> $result)? {
@@ -77,7 +73,10 @@ macro_rules! functions {
             }
             // SAFETY: the same.
             unsafe {
+                #[cfg(target_arch = "aarch64")]
+                return $aarch64($($argument),*);
                 // In this order: a `match` would look for 2 first.
+                #[cfg(target_arch = "x86_64")]
                 if choice::known() == 3 {
                     $v3($($argument),*)
                 } else if choice::known() == 2 {
@@ -93,26 +92,20 @@ macro_rules! functions {
 functions! {
     /// Fills the text with the digits of the bytes, in uppercase if `upper` is 1, and in lowercase if it is 0.
     ///
-    /// # Safety
-    ///
-    /// There are so many bytes, and `text` may be written for two bytes for each. These need not be initialized, and
-    /// are afterwards.
+    /// Safety: there are so many bytes, and `text` may be written for two bytes for each. These need not be
+    /// initialized, and are afterwards.
     fill(bytes: *const u8, length: usize, text: *mut u8, upper: u32),
         const_hex_1_0_0_fill_v2, const_hex_1_0_0_fill_v3, const_hex_1_0_0_fill;
     /// Returns whether every byte of the text is a digit.
     ///
-    /// # Safety
-    ///
-    /// The text has so many bytes.
+    /// Safety: the text has so many bytes.
     check(text: *const u8, length: usize) -> bool,
         const_hex_1_0_0_check_v2, const_hex_1_0_0_check_v3, const_hex_1_0_0_check;
     /// Decodes the text to the bytes, and returns true. Returns false if some character is not a digit. Then bytes
     /// before it may be written, and no others.
     ///
-    /// # Safety
-    ///
-    /// The text has so many bytes, twice as many as `count`, and `bytes` may be written for `count` bytes. These need
-    /// not be initialized, and are if the result is true.
+    /// Safety: the text has so many bytes, twice as many as `count`, and `bytes` may be written for `count` bytes.
+    /// These need not be initialized, and are if the result is true.
     read(text: *const u8, length: usize, bytes: *mut u8, count: usize) -> bool,
         const_hex_1_0_0_read_v2, const_hex_1_0_0_read_v3, const_hex_1_0_0_read;
 }
