@@ -97,9 +97,7 @@ impl<R: Read> Read for DecodeReader<R> {
 /// # Ok::<(), std::io::Error>(())
 /// ```
 #[derive(Debug)]
-pub struct EncodeWriter<W: Write> {
-    text: BufWriter<W>,
-}
+pub struct EncodeWriter<W: Write>(BufWriter<W>);
 
 // Not over the proved `WriteSink`, which keeps its first error: the other writer may be asked again after one.
 /// How many bytes become text at once.
@@ -109,26 +107,25 @@ impl<W: Write> EncodeWriter<W> {
     /// Returns a writer of bytes, whose text goes to `writer`.
     pub fn new(writer: W) -> EncodeWriter<W> {
         // A text that is shorter than the buffer is taken whole or not at all.
-        let text = BufWriter::with_capacity(16 * CHUNK, writer);
-        EncodeWriter { text }
+        EncodeWriter(BufWriter::with_capacity(16 * CHUNK, writer))
     }
 
     /// Returns the other writer. Some of the text may wait in the buffer.
     pub fn get_ref(&self) -> &W {
-        self.text.get_ref()
+        self.0.get_ref()
     }
 
     /// Returns the other writer, and drops the text that waits in the buffer. To write it, use
     /// [`finish`](EncodeWriter::finish).
     pub fn into_inner(self) -> W {
-        self.text.into_parts().0
+        self.0.into_parts().0
     }
 
     /// Writes what is in the buffer, flushes the other writer, and returns it, or its error. It is dropped then, after
     /// one more attempt to write the text that waits.
     pub fn finish(mut self) -> Result<W> {
-        self.text.flush()?;
-        self.text.into_inner().map_err(|error| error.into_error())
+        self.0.flush()?;
+        self.0.into_inner().map_err(|error| error.into_error())
     }
 }
 
@@ -138,11 +135,11 @@ impl<W: Write> Write for EncodeWriter<W> {
         let bytes = &bytes[..bytes.len().min(CHUNK)];
         let text = &mut text[..2 * bytes.len()];
         encode_to_slice(bytes, text).expect("the text has two digits per byte");
-        self.text.write_all(text)?;
+        self.0.write_all(text)?;
         Ok(bytes.len())
     }
 
     fn flush(&mut self) -> Result<()> {
-        self.text.flush()
+        self.0.flush()
     }
 }

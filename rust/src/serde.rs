@@ -128,14 +128,16 @@ macro_rules! fields {
 
 fields! { true "`0x` and ", crate::FromHex: "with or without" }
 
-/// Fields of text that is written without a prefix, by `#[serde(with = "const_hex_proved::serde::no_prefix")]`.
 pub mod no_prefix {
+    //! Fields of text that is written without a prefix, by `#[serde(with = "const_hex_proved::serde::no_prefix")]`.
+
     use super::*;
     fields! { false "", crate::FromHex: "with or without" }
 }
 
-/// Fields of text without a prefix, by `#[serde(with = "const_hex_proved::serde::strict")]`.
 pub mod strict {
+    //! Fields of text without a prefix, by `#[serde(with = "const_hex_proved::serde::strict")]`.
+
     use super::*;
     fields! { false "", crate::strict::FromHex: "without" }
 }

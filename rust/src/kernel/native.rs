@@ -6,7 +6,8 @@ use crate::proved::{Kernel, Output};
 #[cfg(feature = "alloc")]
 pub use owned::*;
 
-/// The kernel by machine code.
+/// The kernel by machine code. It is proved of each caller that the lengths fit, and tested again. No length overflows
+/// when it is doubled: a slice has at most `isize::MAX` bytes.
 pub struct Native;
 
 impl Kernel for Native {
@@ -23,7 +24,7 @@ impl Kernel for Native {
 
     #[inline]
     fn fill(input: &[u8], upper: bool, output: &mut [u8]) {
-        require(output.len() == 2 * input.len());
+        assert!(output.len() == 2 * input.len());
         let (bytes, text) = (input.as_ptr(), output.as_mut_ptr());
         // SAFETY: the output has two bytes for each byte of the input.
         unsafe { machine_code::fill(bytes, input.len(), text, upper.into()) }
@@ -38,7 +39,7 @@ impl Kernel for Native {
     #[inline]
     fn decode_checked(input: &[u8], output: &mut [u8]) -> bool {
         // Callers have compared the same numbers, so the compiler removes this test.
-        require(input.len() / 2 == output.len());
+        assert!(input.len() / 2 == output.len());
         let (text, bytes) = (input.as_ptr(), output.as_mut_ptr());
         // SAFETY: the input has two bytes for each byte of the output.
         unsafe { machine_code::read(text, 2 * output.len(), bytes, output.len()) }
@@ -47,20 +48,6 @@ impl Kernel for Native {
     #[inline]
     fn decode_unchecked(input: &[u8], output: &mut [u8]) {
         Self::decode_checked(input, output);
-    }
-}
-
-/// Panics unless a length fits, which is proved of each caller, and tested again. No length overflows when it is
-/// doubled: a slice has at most `isize::MAX` bytes.
-#[inline]
-fn require(fits: bool) {
-    #[cold]
-    #[inline(never)]
-    fn fail() -> ! {
-        panic!("a length does not fit")
-    }
-    if !fits {
-        fail();
     }
 }
 
