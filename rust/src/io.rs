@@ -80,9 +80,9 @@ impl<R: Read> Read for DecodeReader<R> {
 
 /// Wraps a writer, and writes two lowercase digits to it for each byte. Allocates a buffer for the text.
 ///
-/// As with [`BufWriter`], text may wait in the buffer until the next `flush`. Call [`finish`](EncodeWriter::finish) when
-/// all is written: dropping the writer also writes what waits, but ignores an error. A write that returns the other
-/// writer's error has taken none of the bytes, so it may be repeated.
+/// As with [`BufWriter`], text may wait in the buffer until the next `flush`. When all is written, call
+/// [`finish`](EncodeWriter::finish): dropping the writer also writes what waits, but ignores an error. A write that
+/// returns the other writer's error has taken none of the bytes, so it may be repeated.
 ///
 /// ```
 /// # use const_hex_proved::EncodeWriter;

@@ -210,8 +210,8 @@ fn text_in<'a>(
     Ok(unsafe { core::str::from_utf8_unchecked_mut(output) })
 }
 
-/// Returns the bytes that a text decodes to, or the errors of [`check`]. Allocates, also for a text that is invalid, but
-/// not for one of odd length or without digits.
+/// Returns the bytes that a text decodes to, or the errors of [`check`]. Allocates, also for a text that is invalid,
+/// but not for one of odd length or without digits.
 ///
 /// ```
 /// # use const_hex_proved::{decode, FromHexError};
@@ -227,8 +227,8 @@ pub fn decode<T: AsRef<[u8]>>(data: T) -> Result<Vec<u8>, FromHexError> {
     decoded(data.as_ref())
 }
 
-/// Appends the bytes that a text decodes to to a vector, and returns their number, or the errors of [`check`]. Allocates
-/// only if the vector has too little capacity.
+/// Appends the bytes that a text decodes to to a vector, and returns their number, or the errors of [`check`].
+/// Allocates only if the vector has too little capacity.
 ///
 /// After an error the vector has the same bytes as before, but bytes that were decoded before an invalid character may
 /// remain in its spare capacity.

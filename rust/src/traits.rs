@@ -15,8 +15,9 @@ macro_rules! from_hex {
             /// Why a text cannot be read.
             type Error;
 
-            /// Returns the value that a text decodes to, or for vectors and boxed slices the errors of `decode`, for
-            /// arrays those of `decode_to_array`, and for `Box<T>`, `Rc<T>`, `Arc<T>` and `Cow<T>` that of what they hold.
+            /// Returns the value that a text decodes to. The errors of vectors and boxed slices are those of `decode`,
+            /// of arrays those of `decode_to_array`, and of `Box<T>`, `Rc<T>`, `Arc<T>` and `Cow<T>` that of what they
+            /// hold.
             fn from_hex<T: AsRef<[u8]>>(hex: T) -> Result<Self, Self::Error>;
         }
 
