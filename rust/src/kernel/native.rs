@@ -18,7 +18,12 @@ impl Kernel for Native {
         for bytes in input.chunks(512) {
             let text = &mut text[..2 * bytes.len()];
             Self::fill(bytes, upper, text);
-            text.chunks(64).for_each(|piece| output.write(piece));
+            // Pieces of a known length are faster to write.
+            let mut pieces = text.chunks_exact(64);
+            pieces.by_ref().for_each(|piece| output.write(piece));
+            if !pieces.remainder().is_empty() {
+                output.write(pieces.remainder());
+            }
         }
     }
 
