@@ -4,17 +4,18 @@ use crate::proved::codec::encoders::encode_full_to_slice;
 use crate::proved::tables::digit_at;
 #[cfg(feature = "alloc")]
 use alloc::{string::String, vec::Vec};
-use core::{fmt, str};
+use core::{fmt, mem::transmute, str};
 
 /// An array with the text of `N` bytes. If `PREFIX` is true, the text begins with `0x`.
 ///
-/// A new buffer has the prefix, if any, and NUL characters in place of the digits. Each method that formats
-/// writes the whole text, prefix included. No method allocates unless it says so. Buffers are equal if their texts
-/// are; the comparison is not constant-time.
+/// A new buffer has the prefix, if any, and NUL characters in place of the digits. Each method that formats writes the
+/// whole text, prefix included. No method allocates unless it says so. Buffers are equal if their texts are; the
+/// comparison is not constant-time.
 ///
 /// ```
 /// # use const_hex_proved::Buffer;
 /// let mut buffer = Buffer::<4, true>::new();
+/// assert_eq!(buffer.as_str(), "0x\0\0\0\0\0\0\0\0");
 /// assert_eq!(buffer.format(b"kiwi"), "0x6b697769");
 /// assert_eq!(buffer.format_upper(b"kiwi"), "0x6B697769");
 ///
@@ -39,11 +40,6 @@ impl<const N: usize, const PREFIX: bool> Buffer<N, PREFIX> {
     const PREFIX_LEN: usize = if PREFIX { 2 } else { 0 };
 
     /// Returns a buffer with the prefix, if any, and `2 * N` NUL characters.
-    ///
-    /// ```
-    /// # use const_hex_proved::Buffer;
-    /// assert_eq!(Buffer::<1, true>::new().as_str(), "0x\0\0");
-    /// ```
     #[inline]
     pub const fn new() -> Self {
         Buffer {
@@ -52,21 +48,14 @@ impl<const N: usize, const PREFIX: bool> Buffer<N, PREFIX> {
         }
     }
 
-    /// Returns a buffer with the text of `array` in lowercase. For constants, since it looks digits up in a
-    /// table: at run time use [`format`](Self::format).
-    ///
-    /// ```
-    /// # use const_hex_proved::Buffer;
-    /// const KIWI: Buffer<4> = Buffer::new().const_format(b"kiwi");
-    /// assert_eq!(KIWI.as_str(), "6b697769");
-    /// ```
+    /// Returns a buffer with the text of `array` in lowercase. At run time use [`format`](Self::format), since this
+    /// looks digits up in a table.
     #[inline]
     pub const fn const_format(self, array: &[u8; N]) -> Self {
         Self::of(array, false)
     }
 
-    /// Returns a buffer with the text of `array` in uppercase. For constants, since it looks digits up in a
-    /// table: at run time use [`format_upper`](Self::format_upper).
+    /// Does the same as [`const_format`](Self::const_format) in uppercase.
     #[inline]
     pub const fn const_format_upper(self, array: &[u8; N]) -> Self {
         Self::of(array, true)
@@ -87,27 +76,19 @@ impl<const N: usize, const PREFIX: bool> Buffer<N, PREFIX> {
     }
 
     /// Writes the text of `array` in lowercase, and returns the whole text.
-    ///
-    /// ```
-    /// # use const_hex_proved::Buffer;
-    /// assert_eq!(Buffer::<2>::new().format(&[0, 255]), "00ff");
-    /// ```
     #[inline]
     pub fn format(&mut self, array: &[u8; N]) -> &mut str {
-        self.format_slice(array)
+        self.write(array, false)
     }
 
-    /// Writes the text of `array` in uppercase, and returns the whole text.
+    /// Does the same as [`format`](Self::format) in uppercase.
     #[inline]
     pub fn format_upper(&mut self, array: &[u8; N]) -> &mut str {
-        self.format_slice_upper(array)
+        self.write(array, true)
     }
 
-    /// Writes the text of `slice` in lowercase, and returns the whole text.
-    ///
-    /// # Panics
-    ///
-    /// Panics unless `slice` has `N` bytes. The buffer is unchanged then.
+    /// Writes the text of `slice` in lowercase, and returns the whole text. Panics unless `slice` has `N` bytes. The
+    /// buffer is unchanged then.
     ///
     /// ```
     /// # use const_hex_proved::Buffer;
@@ -119,11 +100,7 @@ impl<const N: usize, const PREFIX: bool> Buffer<N, PREFIX> {
         self.write(slice.as_ref(), false)
     }
 
-    /// Writes the text of `slice` in uppercase, and returns the whole text.
-    ///
-    /// # Panics
-    ///
-    /// Panics unless `slice` has `N` bytes. The buffer is unchanged then.
+    /// Does the same as [`format_slice`](Self::format_slice) in uppercase, and panics as it does.
     #[inline]
     #[track_caller]
     pub fn format_slice_upper<T: AsRef<[u8]>>(&mut self, slice: T) -> &mut str {
@@ -143,12 +120,6 @@ impl<const N: usize, const PREFIX: bool> Buffer<N, PREFIX> {
     }
 
     /// Returns a copy of the text. Allocates.
-    ///
-    /// ```
-    /// # use const_hex_proved::const_encode;
-    /// let text: String = const_encode::<4, false>(b"kiwi").to_string();
-    /// assert_eq!(text, "6b697769");
-    /// ```
     #[cfg(feature = "alloc")]
     // Not the one of `ToString`, which formats, and is not there without an import in a crate without `std`.
     #[allow(clippy::inherent_to_string_shadow_display)]
@@ -166,12 +137,17 @@ impl<const N: usize, const PREFIX: bool> Buffer<N, PREFIX> {
         self.as_bytes().to_vec()
     }
 
-    /// Returns the text.
+    /// Returns the text. The other views are the text that can be changed, and its bytes.
     ///
     /// ```
-    /// # use const_hex_proved::const_encode;
-    /// const KIWI: &str = const_encode::<4, false>(b"kiwi").as_str();
-    /// assert_eq!(KIWI, "6b697769");
+    /// # use const_hex_proved::{const_encode, Buffer};
+    /// let mut buffer: Buffer<4> = const_encode(b"kiwi");
+    /// assert_eq!(buffer.as_str(), "6b697769");
+    /// buffer.as_mut_str().make_ascii_uppercase();
+    /// assert_eq!(buffer.as_bytes(), b"6B697769");
+    /// // SAFETY: X is ASCII.
+    /// unsafe { buffer.as_mut_bytes()[1] = b'X' };
+    /// assert_eq!(buffer.to_string(), "6X697769");
     /// ```
     #[inline]
     #[must_use]
@@ -181,24 +157,13 @@ impl<const N: usize, const PREFIX: bool> Buffer<N, PREFIX> {
     }
 
     /// Returns the text, which can be changed.
-    ///
-    /// ```
-    /// # use const_hex_proved::const_encode;
-    /// let mut buffer = const_encode::<4, false>(b"kiwi");
-    /// buffer.as_mut_str().make_ascii_uppercase();
-    /// assert_eq!(buffer.as_str(), "6B697769");
-    /// ```
     #[inline]
     pub fn as_mut_str(&mut self) -> &mut str {
         // SAFETY: the text is UTF-8, and what can be done with a `&mut str` keeps that.
         unsafe { str::from_utf8_unchecked_mut(self.as_mut_bytes()) }
     }
 
-    /// Returns the text as an array.
-    ///
-    /// # Panics
-    ///
-    /// Panics unless `LEN` is [`Self::LEN`](Self::LEN).
+    /// Returns the text as an array. Panics unless `LEN` is [`Self::LEN`](Self::LEN).
     #[inline]
     #[must_use]
     pub const fn as_byte_array<const LEN: usize>(&self) -> &[u8; LEN] {
@@ -211,11 +176,6 @@ impl<const N: usize, const PREFIX: bool> Buffer<N, PREFIX> {
     }
 
     /// Returns the text as bytes.
-    ///
-    /// ```
-    /// # use const_hex_proved::const_encode;
-    /// assert_eq!(const_encode::<1, true>(b"k").as_bytes(), b"0x6b");
-    /// ```
     #[inline]
     #[must_use]
     pub const fn as_bytes(&self) -> &[u8] {
@@ -228,14 +188,6 @@ impl<const N: usize, const PREFIX: bool> Buffer<N, PREFIX> {
     /// # Safety
     ///
     /// The bytes must be UTF-8 when the borrow ends.
-    ///
-    /// ```
-    /// # use const_hex_proved::const_encode;
-    /// let mut buffer = const_encode::<1, true>(b"k");
-    /// // SAFETY: X is ASCII.
-    /// unsafe { buffer.as_mut_bytes()[1] = b'X' };
-    /// assert_eq!(buffer.as_str(), "0X6b");
-    /// ```
     #[inline]
     pub unsafe fn as_mut_bytes(&mut self) -> &mut [u8] {
         // SAFETY: the text has so many bytes, and is borrowed with `self`.
@@ -247,14 +199,6 @@ impl<const N: usize, const PREFIX: bool> Buffer<N, PREFIX> {
     /// # Safety
     ///
     /// The bytes must be UTF-8 when the borrow ends.
-    ///
-    /// ```
-    /// # use const_hex_proved::const_encode;
-    /// let mut buffer = const_encode::<1, true>(b"k");
-    /// // SAFETY: B is ASCII.
-    /// unsafe { buffer.buffer()[1] = b'B' };
-    /// assert_eq!(buffer.as_str(), "0x6B");
-    /// ```
     #[inline]
     pub unsafe fn buffer(&mut self) -> &mut [u8] {
         // SAFETY: the caller promises what `as_mut_bytes` asks.
@@ -279,61 +223,40 @@ impl<const N: usize, const PREFIX: bool> Buffer<N, PREFIX> {
     }
 }
 
-/// Does what `core::slice::from_raw_parts` does. A constant can call that only from Rust 1.64 on.
-///
-/// # Safety
-///
-/// That of `core::slice::from_raw_parts`.
+/// Does and requires what `core::slice::from_raw_parts` does. A constant can call that only from Rust 1.64 on.
 const unsafe fn slice<'a>(first: *const u8, count: usize) -> &'a [u8] {
-    #[repr(C)]
-    #[derive(Clone, Copy)]
-    struct Parts {
-        first: *const u8,
-        count: usize,
-    }
-    #[repr(C)]
-    union Slice<'a> {
-        parts: Parts,
-        slice: &'a [u8],
-    }
-    // A slice is a pointer and then a count. With another layout this would be an error of the compiler.
-    // SAFETY: if the layout is another, the compiler does not read a pointer as a count.
-    const _: () = assert!(unsafe { Slice { slice: b"kiwi" }.parts.count } == 4);
-    let parts = Parts { first, count };
+    // SAFETY: a slice is a pointer and then a count. With another layout this would be an error of the compiler, which
+    // does not read a pointer as a count.
+    const _: () = assert!(unsafe { transmute::<&[u8], (*const u8, usize)>(b"kiwi") }.1 == 4);
     // SAFETY: the parts are in the order of a slice, and the caller promises the rest.
-    unsafe { Slice { parts }.slice }
+    unsafe { transmute((first, count)) }
 }
 
-impl<const N: usize, const PREFIX: bool> Default for Buffer<N, PREFIX> {
-    #[inline]
-    fn default() -> Self {
+/// Implements traits for each buffer, by their methods.
+macro_rules! traits {
+    ($($(#[$doc:meta])* $trait:path: $method:item)+) => {$(
+        $(#[$doc])*
+        impl<const N: usize, const PREFIX: bool> $trait for Buffer<N, PREFIX> {
+            #[inline]
+            $method
+        }
+    )+};
+}
+traits! {
+    Default: fn default() -> Self {
         Self::new()
     }
-}
-
-/// Prints the text, with the width and the fill of the formatter.
-impl<const N: usize, const PREFIX: bool> fmt::Display for Buffer<N, PREFIX> {
-    fn fmt(&self, f: &mut fmt::Formatter<'_>) -> fmt::Result {
+    /// Prints the text, with the width and the fill of the formatter.
+    fmt::Display: fn fmt(&self, f: &mut fmt::Formatter<'_>) -> fmt::Result {
         f.pad(self.as_str())
     }
-}
-
-impl<const N: usize, const PREFIX: bool> fmt::Debug for Buffer<N, PREFIX> {
-    fn fmt(&self, f: &mut fmt::Formatter<'_>) -> fmt::Result {
+    fmt::Debug: fn fmt(&self, f: &mut fmt::Formatter<'_>) -> fmt::Result {
         f.debug_tuple("Buffer").field(&self.as_str()).finish()
     }
-}
-
-impl<const N: usize, const PREFIX: bool> AsRef<str> for Buffer<N, PREFIX> {
-    #[inline]
-    fn as_ref(&self) -> &str {
+    AsRef<str>: fn as_ref(&self) -> &str {
         self.as_str()
     }
-}
-
-impl<const N: usize, const PREFIX: bool> AsRef<[u8]> for Buffer<N, PREFIX> {
-    #[inline]
-    fn as_ref(&self) -> &[u8] {
+    AsRef<[u8]>: fn as_ref(&self) -> &[u8] {
         self.as_bytes()
     }
 }

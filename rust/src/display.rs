@@ -22,7 +22,7 @@ pub fn display<T: AsRef<[u8]>>(input: T) -> impl fmt::Display + fmt::LowerHex + 
 struct Digits<T>(T);
 
 macro_rules! printed {
-    ($($format:ident $upper:literal;)*) => {$(
+    ($($format:ident $upper:literal)*) => {$(
         impl<T: AsRef<[u8]>> fmt::$format for Digits<T> {
             fn fmt(&self, f: &mut fmt::Formatter<'_>) -> fmt::Result {
                 match f.alternate() {
@@ -33,21 +33,15 @@ macro_rules! printed {
         }
     )*};
 }
-printed! {
-    Display false;
-    LowerHex false;
-    UpperHex true;
-}
+printed! { Display false LowerHex false UpperHex true }
 
-/// The number of bytes that are printed by one call of the proved `Display`, which encodes them all, even if the
-/// formatter returns an error.
-const PART: usize = 1 << 14;
-
-/// Prints the digits of bytes, and `0x` before them if `PREFIX` is true.
+/// Prints the digits of bytes, and `0x` before them if `PREFIX` is true. The proved `Display` encodes all bytes that it
+/// has, even if the formatter returns an error, so it prints a part of them at a time.
 pub(crate) fn print<const UPPER: bool, const PREFIX: bool>(
     bytes: &[u8],
     f: &mut fmt::Formatter<'_>,
 ) -> fmt::Result {
+    const PART: usize = 1 << 14;
     let (first, rest) = bytes.split_at(bytes.len().min(PART));
     formatting::display(first).write_full::<UPPER, PREFIX>(f)?;
     rest.chunks(PART)

@@ -3,16 +3,12 @@
 use crate::{encode_to_slice, Decoder, FromHexError};
 use std::io::{BufRead, BufReader, BufWriter, Error, ErrorKind, Read, Result, Write};
 
-/// Wraps a reader of hexadecimal text, and yields the decoded bytes. Allocates a buffer for the text.
+/// Wraps a reader of hexadecimal text, and yields the decoded bytes. Allocates a buffer for the text, which ends where
+/// the other reader first returns no bytes.
 ///
-/// The text ends where the other reader first returns no bytes.
-///
-/// # Errors
-///
-/// A read returns the other reader's error, and may be repeated. It returns an error of the kind
-/// `InvalidData` with the [`FromHexError`] inside for an invalid character, or for an odd length at the end
-/// of the text. Each later read returns that error too. Bytes that the failing read has decoded before
-/// an invalid character are not returned.
+/// A read returns the other reader's error, and may be repeated. It returns an error of the kind `InvalidData` with the
+/// [`FromHexError`] inside for an invalid character, or for an odd length at the end of the text. Each later read
+/// returns that error too. Bytes that the failing read has decoded before an invalid character are not returned.
 ///
 /// ```
 /// # use const_hex_proved::DecodeReader;
@@ -34,9 +30,10 @@ pub struct DecodeReader<R> {
 impl<R: Read> DecodeReader<R> {
     /// Returns a reader of the bytes that the text of `reader` decodes to.
     pub fn new(reader: R) -> DecodeReader<R> {
+        let (text, decoder) = (BufReader::new(reader), Decoder::new());
         DecodeReader {
-            text: BufReader::new(reader),
-            decoder: Decoder::new(),
+            text,
+            decoder,
             end: None,
         }
     }
@@ -51,8 +48,8 @@ impl<R: Read> DecodeReader<R> {
         self.text.into_inner()
     }
 
-    /// Decodes what is left in the buffer, after reading more if nothing is. Returns the number of bytes,
-    /// and sets `end` if there are no more.
+    /// Decodes what is in the buffer, after reading more if nothing is. Returns the number of bytes, and sets `end` if
+    /// there are no more.
     fn decode_next(&mut self, output: &mut [u8]) -> Result<usize> {
         let text = self.text.fill_buf()?;
         if text.is_empty() {
@@ -83,12 +80,9 @@ impl<R: Read> Read for DecodeReader<R> {
 
 /// Wraps a writer, and writes two lowercase digits to it for each byte. Allocates a buffer for the text.
 ///
-/// As with [`BufWriter`], text may wait in the buffer until the next `flush`. Call [`finish`] when all is
-/// written: dropping the writer also writes what waits, but ignores an error.
-///
-/// # Errors
-///
-/// A write that returns the other writer's error has taken none of the bytes, so it may be repeated.
+/// As with [`BufWriter`], text may wait in the buffer until the next `flush`. When all is written, call
+/// [`finish`](EncodeWriter::finish): dropping the writer also writes what waits, but ignores an error. A write that
+/// returns the other writer's error has taken none of the bytes, so it may be repeated.
 ///
 /// ```
 /// # use const_hex_proved::EncodeWriter;
@@ -102,12 +96,8 @@ impl<R: Read> Read for DecodeReader<R> {
 /// assert_eq!(writer.finish()?, b"6b697769");
 /// # Ok::<(), std::io::Error>(())
 /// ```
-///
-/// [`finish`]: EncodeWriter::finish
 #[derive(Debug)]
-pub struct EncodeWriter<W: Write> {
-    text: BufWriter<W>,
-}
+pub struct EncodeWriter<W: Write>(BufWriter<W>);
 
 // Not over the proved `WriteSink`, which keeps its first error: the other writer may be asked again after one.
 /// How many bytes become text at once.
@@ -116,33 +106,26 @@ const CHUNK: usize = 256;
 impl<W: Write> EncodeWriter<W> {
     /// Returns a writer of bytes, whose text goes to `writer`.
     pub fn new(writer: W) -> EncodeWriter<W> {
-        EncodeWriter {
-            // A text that is shorter than the buffer is taken whole or not at all.
-            text: BufWriter::with_capacity(16 * CHUNK, writer),
-        }
+        // A text that is shorter than the buffer is taken whole or not at all.
+        EncodeWriter(BufWriter::with_capacity(16 * CHUNK, writer))
     }
 
     /// Returns the other writer. Some of the text may wait in the buffer.
     pub fn get_ref(&self) -> &W {
-        self.text.get_ref()
+        self.0.get_ref()
     }
 
-    /// Returns the other writer, and drops the text that waits in the buffer. To write it, use [`finish`].
-    ///
-    /// [`finish`]: EncodeWriter::finish
+    /// Returns the other writer, and drops the text that waits in the buffer. To write it, use
+    /// [`finish`](EncodeWriter::finish).
     pub fn into_inner(self) -> W {
-        self.text.into_parts().0
+        self.0.into_parts().0
     }
 
-    /// Writes what is in the buffer, flushes the other writer, and returns it.
-    ///
-    /// # Errors
-    ///
-    /// Returns the other writer's error. The other writer is dropped then, after one more attempt to write the
-    /// text that waits.
+    /// Writes what is in the buffer, flushes the other writer, and returns it, or its error. It is dropped then, after
+    /// one more attempt to write the text that waits.
     pub fn finish(mut self) -> Result<W> {
-        self.text.flush()?;
-        self.text.into_inner().map_err(|error| error.into_error())
+        self.0.flush()?;
+        self.0.into_inner().map_err(|error| error.into_error())
     }
 }
 
@@ -152,11 +135,11 @@ impl<W: Write> Write for EncodeWriter<W> {
         let bytes = &bytes[..bytes.len().min(CHUNK)];
         let text = &mut text[..2 * bytes.len()];
         encode_to_slice(bytes, text).expect("the text has two digits per byte");
-        self.text.write_all(text)?;
+        self.0.write_all(text)?;
         Ok(bytes.len())
     }
 
     fn flush(&mut self) -> Result<()> {
-        self.text.flush()
+        self.0.flush()
     }
 }

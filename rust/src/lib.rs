@@ -1,8 +1,7 @@
 //! Encodes bytes as hexadecimal text, and decodes it again.
 //!
-//! The names are those of the crates `const-hex` and `hex`. The core of this crate is made from formally
-//! verified source: a script deletes the contracts and the proofs, and makes the changes that it lists. The
-//! rest is hand-written and tested. README.md says which part is which.
+//! The names are those of the crates `const-hex` and `hex`. The core of this crate is formally verified. The rest is
+//! hand-written and tested. README.md says which part is which.
 //!
 //! ```
 //! # #[cfg(feature = "alloc")] {
@@ -11,20 +10,18 @@
 //! # }
 //! assert_eq!(const_hex_proved::decode_to_array("6b697769"), Ok(*b"kiwi"));
 //! const KIWI: [u8; 4] = const_hex_proved::bytes_of(b"0x6b697769");
+//! const _: () = assert!(const_hex_proved::const_check(b"0x6b").is_ok());
+//! const _: () = assert!(!const_hex_proved::const_check_raw(b"0x6b"));
+//! assert_eq!(const_hex_proved::const_decode_to_array(b"6b697769"), Ok(KIWI));
 //! ```
 //!
 //! A text may begin with one prefix, `0x` or `0X`, except for [`check_raw`], [`const_check_raw`] and the module
 //! [`strict`]. Errors are checked in this order: an odd length, a length that does not match the output, an invalid
 //! character.
 //!
-//! # Features
-//!
-//! - `std` (by default) adds `DecodeReader` and `EncodeWriter`, and implements `std::error::Error`. It includes
-//!   `alloc`.
-//! - `alloc` adds what returns a `String` or a vector, such as `encode` and `decode`.
-//! - `serde` adds fields of hexadecimal text, by `#[serde(with = "const_hex_proved")]`.
-//! - `core-error` implements `core::error::Error` without `std`. It needs Rust 1.81.
-//! - `force-generic` uses the portable code on each target, and no machine code.
+//! Features: `alloc` adds what returns a `String` or a vector; `std` (by default) adds `alloc`, `DecodeReader`,
+//! `EncodeWriter` and `std::error::Error`; `serde` adds `#[serde(with = "const_hex_proved")]`; `core-error` implements
+//! `core::error::Error` without `std`, by Rust 1.81; `force-generic` uses no machine code.
 #![no_std]
 #![deny(unsafe_code, unsafe_op_in_unsafe_fn)]
 #![warn(missing_docs)]
@@ -66,13 +63,13 @@ pub mod c {
 }
 
 pub use crate::buffer::Buffer;
-pub use crate::constants::{
-    bytes_of, const_check, const_check_raw, const_decode_to_array, const_encode, decoded_length,
-};
+pub use crate::constants::{bytes_of, const_encode, decoded_length};
 pub use crate::decoder::Decoder;
 pub use crate::display::display;
 #[cfg(feature = "std")]
 pub use crate::io::{DecodeReader, EncodeWriter};
+pub use crate::proved::codec::checks::{const_check, const_check_raw};
+pub use crate::proved::codec::decoders::const_decode_to_array;
 pub use crate::proved::error::FromHexError;
 pub use crate::proved::{HEX_CHARS_LOWER, HEX_CHARS_UPPER, HEX_DECODE_LUT, NIL};
 #[cfg(feature = "serde")]
@@ -86,8 +83,9 @@ use crate::proved::codec::encoders::encode_full_to_slice;
 use crate::proved::codec::{checks, decoders};
 #[cfg(feature = "alloc")]
 use crate::{
-    proved::{codec::body::strip_even, codec::encoders, text_length, FixedKernel},
-    rattle::alloc::{allocated, Global},
+    proved::codec::body::{find_invalid_character, strip_even},
+    proved::{codec::encoders, FixedKernel},
+    rattle::alloc::Global,
 };
 #[cfg(feature = "alloc")]
 use alloc::{string::String, vec::Vec};
@@ -112,26 +110,19 @@ encoders! {
     /// Returns two lowercase digits per byte, in order. Allocates.
     ///
     /// ```
-    /// # use const_hex_proved::encode;
+    /// # use const_hex_proved::{encode, encode_prefixed};
     /// assert_eq!(encode([1, 2, 254, 255]), "0102feff");
-    /// ```
-    #[must_use]
-    fn encode() -> String = owned(false, false);
-
-    /// Returns two uppercase digits per byte, in order. Allocates.
-    #[must_use]
-    fn encode_upper() -> String = owned(false, true);
-
-    /// Returns `0x`, and then two lowercase digits per byte. Allocates.
-    ///
-    /// ```
-    /// # use const_hex_proved::encode_prefixed;
     /// assert_eq!(encode_prefixed([254, 255]), "0xfeff");
     /// ```
     #[must_use]
+    fn encode() -> String = owned(false, false);
+    /// Does the same as [`encode`] in uppercase.
+    #[must_use]
+    fn encode_upper() -> String = owned(false, true);
+    /// Does the same as [`encode`] with `0x` before the digits.
+    #[must_use]
     fn encode_prefixed() -> String = owned(true, false);
-
-    /// Returns `0x`, and then two uppercase digits per byte. Allocates.
+    /// Does the same as [`encode_upper`] with `0x` before the digits.
     #[must_use]
     fn encode_upper_prefixed() -> String = owned(true, true);
 
@@ -144,13 +135,10 @@ encoders! {
     /// assert_eq!(text, "kiwi = 6b697769");
     /// ```
     fn encode_append(output: &mut String) = append(false, false);
-
     /// Does the same as [`encode_append`] in uppercase.
     fn encode_append_upper(output: &mut String) = append(false, true);
-
     /// Does the same as [`encode_append`] with `0x` before the digits.
     fn encode_append_prefixed(output: &mut String) = append(true, false);
-
     /// Does the same as [`encode_append_upper`] with `0x` before the digits.
     fn encode_append_upper_prefixed(output: &mut String) = append(true, true);
 }
@@ -158,47 +146,28 @@ encoders! {
 encoders! {
     /// Fills `output` with two lowercase digits per byte. Does not allocate.
     ///
-    /// # Errors
-    ///
-    /// Returns [`FromHexError::InvalidStringLength`], and leaves `output` unchanged, unless it has the length of
-    /// the text.
+    /// Returns [`FromHexError::InvalidStringLength`], and leaves `output` unchanged, unless it has the text's length.
     ///
     /// ```
-    /// # use const_hex_proved::encode_to_slice;
+    /// # use const_hex_proved::{encode_to_slice, encode_to_slice_prefixed, encode_to_str};
     /// let mut text = [0; 8];
     /// encode_to_slice("kiwi", &mut text)?;
     /// assert_eq!(&text, b"6b697769");
-    /// # Ok::<(), const_hex_proved::FromHexError>(())
-    /// ```
-    fn encode_to_slice(output: &mut [u8]) -> Result<(), FromHexError> = encode_full_to_slice(false, false);
-
-    /// Does the same as [`encode_to_slice`] in uppercase, with the same error.
-    fn encode_to_slice_upper(output: &mut [u8]) -> Result<(), FromHexError> = encode_full_to_slice(false, true);
-
-    /// Does the same as [`encode_to_slice`] with `0x` before the digits, with the same error.
-    ///
-    /// ```
-    /// # use const_hex_proved::encode_to_slice_prefixed;
+    /// assert_eq!(encode_to_str("pear", &mut text)?, "70656172");
     /// let mut text = [0; 10];
     /// encode_to_slice_prefixed("kiwi", &mut text)?;
     /// assert_eq!(&text, b"0x6b697769");
     /// # Ok::<(), const_hex_proved::FromHexError>(())
     /// ```
+    fn encode_to_slice(output: &mut [u8]) -> Result<(), FromHexError> = encode_full_to_slice(false, false);
+    /// Does the same as [`encode_to_slice`] in uppercase, with the same error.
+    fn encode_to_slice_upper(output: &mut [u8]) -> Result<(), FromHexError> = encode_full_to_slice(false, true);
+    /// Does the same as [`encode_to_slice`] with `0x` before the digits, with the same error.
     fn encode_to_slice_prefixed(output: &mut [u8]) -> Result<(), FromHexError> = encode_full_to_slice(true, false);
-
     /// Does the same as [`encode_to_slice_upper`] with `0x` before the digits, with the same error.
     fn encode_to_slice_upper_prefixed(output: &mut [u8]) -> Result<(), FromHexError> = encode_full_to_slice(true, true);
-
     /// Does the same as [`encode_to_slice`], with the same error, and returns the output as a string.
-    ///
-    /// ```
-    /// # use const_hex_proved::encode_to_str;
-    /// let mut text = [0; 8];
-    /// assert_eq!(encode_to_str("kiwi", &mut text)?, "6b697769");
-    /// # Ok::<(), const_hex_proved::FromHexError>(())
-    /// ```
     fn encode_to_str(output: &mut [u8]) -> Result<&mut str, FromHexError> = text_in(false, false);
-
     /// Does the same as [`encode_to_slice_upper`], with the same error, and returns the output as a string.
     fn encode_to_str_upper(output: &mut [u8]) -> Result<&mut str, FromHexError> = text_in(false, true);
 }
@@ -213,19 +182,16 @@ fn owned(data: &[u8], prefix: bool, upper: bool) -> String {
         (true, false) => encoders::encode_prefixed(Global, data),
         (true, true) => encoders::encode_upper_prefixed(Global, data),
     };
-    allocated(text).0
+    text.unwrap_or_else(|error| error.never()).0
 }
 
 /// Appends the text of bytes to a string.
 #[cfg(feature = "alloc")]
 #[allow(unsafe_code)]
+#[inline]
 fn append(data: &[u8], prefix: bool, upper: bool, output: &mut String) {
-    // SAFETY: NUL characters are appended, and then the encoder, of which this is proved, writes ASCII over them.
-    let bytes = unsafe { output.as_mut_vec() };
-    let start = bytes.len();
-    bytes.resize(start.saturating_add(text_length(prefix, data.len())), 0);
-    encode_full_to_slice(data, prefix, upper, &mut bytes[start..])
-        .expect("it has the text's length");
+    // SAFETY: the kernel, of which this is proved, appends ASCII.
+    kernel::encode_append(data, prefix, upper, unsafe { output.as_mut_vec() });
 }
 
 /// Fills `output` with the text of bytes, and returns it as a string, which the proved functions cannot: Rattle
@@ -244,12 +210,8 @@ fn text_in<'a>(
     Ok(unsafe { core::str::from_utf8_unchecked_mut(output) })
 }
 
-/// Returns the bytes that a text decodes to. Allocates, also for a text that is invalid, but not for one of
-/// odd length or without digits.
-///
-/// # Errors
-///
-/// Returns [`FromHexError::OddLength`] or [`FromHexError::InvalidHexCharacter`].
+/// Returns the bytes that a text decodes to, or the errors of [`check`]. Allocates, also for a text that is invalid,
+/// but not for one of odd length or without digits.
 ///
 /// ```
 /// # use const_hex_proved::{decode, FromHexError};
@@ -265,13 +227,33 @@ pub fn decode<T: AsRef<[u8]>>(data: T) -> Result<Vec<u8>, FromHexError> {
     decoded(data.as_ref())
 }
 
+/// Appends the bytes that a text decodes to to a vector, and returns their number, or the errors of [`check`].
+/// Allocates only if the vector has too little capacity.
+///
+/// After an error the vector has the same bytes as before, but bytes that were decoded before an invalid character may
+/// remain in its spare capacity.
+///
+/// ```
+/// # use const_hex_proved::decode_append;
+/// let mut bytes = b"kiwi".to_vec();
+/// assert_eq!(decode_append("70656172", &mut bytes), Ok(4));
+/// assert_eq!(bytes, b"kiwipear");
+/// ```
+#[cfg(feature = "alloc")]
+pub fn decode_append<T: AsRef<[u8]>>(data: T, output: &mut Vec<u8>) -> Result<usize, FromHexError> {
+    let text = data.as_ref();
+    let digits = strip_even(text)?;
+    match kernel::decode_append(digits, output) {
+        true => Ok(digits.len() / 2),
+        false => Err(find_invalid_character(text)),
+    }
+}
+
 /// Fills `out` with the bytes that a text decodes to. Does not allocate.
 ///
-/// # Errors
-///
-/// Returns [`FromHexError::OddLength`]; or else [`FromHexError::InvalidStringLength`], unless the text has
-/// two digits for each byte of `out`; or else [`FromHexError::InvalidHexCharacter`]. After the last of these,
-/// `out` may already contain bytes decoded before the invalid character; after the others it is unchanged.
+/// Returns [`FromHexError::OddLength`]; or else [`FromHexError::InvalidStringLength`], unless the text has two digits
+/// for each byte of `out`; or else [`FromHexError::InvalidHexCharacter`]. After the last of these, `out` may already
+/// contain bytes decoded before the invalid character; after the others it is unchanged.
 ///
 /// ```
 /// # use const_hex_proved::decode_to_slice;
@@ -288,8 +270,6 @@ pub fn decode_to_slice<T: AsRef<[u8]>>(data: T, out: &mut [u8]) -> Result<(), Fr
 /// Writes the bytes that a text decodes to to the front of `out`, and returns their number. The rest of `out` is
 /// unchanged. Does not allocate.
 ///
-/// # Errors
-///
 /// Returns the errors of [`decode_to_slice`], but [`FromHexError::InvalidStringLength`] only if the text has more
 /// than two digits for each byte of `out`.
 ///
@@ -304,35 +284,7 @@ pub fn decode_to_front<T: AsRef<[u8]>>(data: T, out: &mut [u8]) -> Result<usize,
     decoders::decode_to_front(data.as_ref(), out)
 }
 
-/// Appends the bytes that a text decodes to to a vector, and returns their number. Allocates only if the vector has
-/// too little capacity.
-///
-/// # Errors
-///
-/// Returns the errors of [`decode`]. The vector has the same bytes as before then, but bytes that were decoded before
-/// an invalid character may remain in its spare capacity.
-///
-/// ```
-/// # use const_hex_proved::decode_append;
-/// let mut bytes = b"kiwi".to_vec();
-/// assert_eq!(decode_append("70656172", &mut bytes), Ok(4));
-/// assert_eq!(bytes, b"kiwipear");
-/// ```
-#[cfg(feature = "alloc")]
-pub fn decode_append<T: AsRef<[u8]>>(data: T, output: &mut Vec<u8>) -> Result<usize, FromHexError> {
-    let (text, start) = (data.as_ref(), output.len());
-    let count = strip_even(text)?.len() / 2;
-    output.resize(start.saturating_add(count), 0);
-    let count = decoders::decode_to_front(text, &mut output[start..]);
-    output.truncate(start + count.unwrap_or(0));
-    count
-}
-
-/// Returns the `N` bytes that a text decodes to. Does not allocate.
-///
-/// # Errors
-///
-/// Returns the errors of [`decode_to_slice`].
+/// Returns the `N` bytes that a text decodes to, or the errors of [`decode_to_slice`]. Does not allocate.
 ///
 /// ```
 /// # use const_hex_proved::decode_to_array;
@@ -343,11 +295,8 @@ pub fn decode_to_array<T: AsRef<[u8]>, const N: usize>(input: T) -> Result<[u8; 
     decoders::decode_to_array(input.as_ref())
 }
 
-/// Returns `Ok` if a text can be decoded. Does not allocate.
-///
-/// # Errors
-///
-/// Returns [`FromHexError::OddLength`] or [`FromHexError::InvalidHexCharacter`].
+/// Returns `Ok` if a text can be decoded, or else [`FromHexError::OddLength`] or
+/// [`FromHexError::InvalidHexCharacter`]. Does not allocate.
 ///
 /// ```
 /// # use const_hex_proved::check;
@@ -358,13 +307,11 @@ pub fn check<T: AsRef<[u8]>>(input: T) -> Result<(), FromHexError> {
     checks::check(input.as_ref())
 }
 
-/// Returns whether every byte of a text is a digit. A prefix is not accepted, and the length may be odd.
-/// Does not allocate.
+/// Returns whether every byte of a text is a digit. It has no prefix, and may have an odd length. Does not allocate.
 ///
 /// ```
 /// # use const_hex_proved::check_raw;
-/// assert!(check_raw("6b6"));
-/// assert!(!check_raw("0x6b"));
+/// assert!(check_raw("6b6") && !check_raw("0x6b"));
 /// ```
 #[inline]
 #[must_use]

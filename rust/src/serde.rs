@@ -36,41 +36,31 @@ use ::serde::{Serialize, Serializer};
 use alloc::vec::Vec;
 use core::fmt;
 
-/// Defines a function that serializes.
-macro_rules! serializer {
-    ($name:ident($data:ident: $type:ty, $serializer:ident) = $body:expr, $doc:expr) => {
-        #[doc = $doc]
-        ///
-        /// # Errors
+/// Defines functions that serialize.
+macro_rules! serializers {
+    ($($(#[$doc:meta])* $name:ident($data:ident: $type:ty), $serializer:ident => $result:expr;)+) => {$(
+        $(#[$doc])*
         ///
         /// Returns the serializer's error.
         #[inline]
-        pub fn $name<S, T>($data: $type, $serializer: S) -> Result<S::Ok, S::Error>
-        where
-            S: Serializer,
-            T: AsRef<[u8]>,
-        {
-            $body
+        pub fn $name<S: Serializer, T: AsRef<[u8]>>($data: $type, $serializer: S) -> Result<S::Ok, S::Error> {
+            $result
         }
-    };
+    )+};
 }
 
-/// Defines a function that deserializes a type `$type` of any `T` with a trait.
+/// Defines the function that deserializes a type of any `T` with a trait.
 macro_rules! deserializer {
-    ($type:ty, $from_hex:path, $deserializer:ident => $body:expr, $doc:expr) => {
-        #[doc = $doc]
+    ($(#[$doc:meta])* $type:ty, $from_hex:path: $deserializer:ident => $read:expr) => {
+        $(#[$doc])*
         ///
-        /// # Errors
-        ///
-        /// Returns the deserializer's error for a value of another kind, and for a text from which the type cannot
-        /// be read. In the second case it has the message of the type's error.
-        pub fn deserialize<'de, D, T>($deserializer: D) -> Result<$type, D::Error>
+        /// Returns the deserializer's error for a value of another kind, and for a text from which the type cannot be
+        /// read. In the second case it has the message of the type's error.
+        pub fn deserialize<'de, D: Deserializer<'de>, T: $from_hex>($deserializer: D) -> Result<$type, D::Error>
         where
-            D: Deserializer<'de>,
-            T: $from_hex,
             T::Error: fmt::Display,
         {
-            $body
+            $read
         }
     };
 }
@@ -78,17 +68,15 @@ macro_rules! deserializer {
 /// Defines the functions of a module, which write a prefix or none, and read by a trait.
 macro_rules! fields {
     ($prefix:literal $written:literal, $from_hex:path: $read:literal) => {
-        serializer! {
-            serialize(data: T, serializer) = Digits::<false, $prefix>(data.as_ref()).serialize(serializer),
-            concat!("Serializes bytes as ", $written, "lowercase digits.")
-        }
-        serializer! {
-            serialize_upper(data: T, serializer) = Digits::<true, $prefix>(data.as_ref()).serialize(serializer),
-            concat!("Serializes bytes as ", $written, "uppercase digits.")
+        serializers! {
+            #[doc = concat!("Serializes bytes as ", $written, "lowercase digits.")]
+            serialize(data: T), serializer => Digits::<false, $prefix>(data.as_ref()).serialize(serializer);
+            #[doc = concat!("Serializes bytes as ", $written, "uppercase digits.")]
+            serialize_upper(data: T), serializer => Digits::<true, $prefix>(data.as_ref()).serialize(serializer);
         }
         deserializer! {
-            T, $from_hex, deserializer => deserializer.deserialize_str(Text(|text| T::from_hex(text))),
-            concat!("Deserializes a text, ", $read, " a prefix.")
+            #[doc = concat!("Deserializes a text, ", $read, " a prefix.")]
+            T, $from_hex: deserializer => Read::deserialize(deserializer).map(|Read(value)| value)
         }
 
         /// A value that is read from one text.
@@ -99,43 +87,40 @@ macro_rules! fields {
             T::Error: fmt::Display,
         {
             fn deserialize<D: Deserializer<'de>>(deserializer: D) -> Result<Self, D::Error> {
-                deserialize(deserializer).map(Read)
+                deserializer.deserialize_str(Text(|text| T::from_hex(text).map(Read)))
             }
         }
 
+        /// Fields that have a text or nothing, which is `null` in JSON. If a field may also be missing, add
+        /// `default` to its attribute.
         pub mod option {
-            //! Fields that have a text or nothing, which is `null` in JSON. If a field may also be missing, add
-            //! `default` to its attribute.
-
             use super::*;
 
-            serializer! {
-                serialize(data: &Option<T>, serializer)
-                    = data.as_ref().map(|data| Digits::<false, $prefix>(data.as_ref())).serialize(serializer),
-                concat!("Serializes bytes, if there are any, as ", $written, "lowercase digits.")
+            serializers! {
+                #[doc = concat!("Serializes bytes, if there are any, as ", $written, "lowercase digits.")]
+                serialize(data: &Option<T>), serializer =>
+                    data.as_ref().map(|data| Digits::<false, $prefix>(data.as_ref())).serialize(serializer);
             }
             deserializer! {
-                Option<T>, $from_hex,
-                deserializer => Option::deserialize(deserializer).map(|read| read.map(|Read(value)| value)),
-                concat!("Deserializes a text, ", $read, " a prefix, or nothing.")
+                #[doc = concat!("Deserializes a text, ", $read, " a prefix, or nothing.")]
+                Option<T>, $from_hex: deserializer => Ok(Option::deserialize(deserializer)?.map(|Read(value)| value))
             }
         }
 
+        /// Fields that have a vector of texts.
         #[cfg(feature = "alloc")]
         pub mod vec {
-            //! Fields that have a vector of texts.
-
             use super::*;
 
-            serializer! {
-                serialize(data: &[T], serializer)
-                    = serializer.collect_seq(data.iter().map(|data| Digits::<false, $prefix>(data.as_ref()))),
-                concat!("Serializes each element as ", $written, "lowercase digits.")
+            serializers! {
+                #[doc = concat!("Serializes each element as ", $written, "lowercase digits.")]
+                serialize(data: &[T]), serializer =>
+                    serializer.collect_seq(data.iter().map(|data| Digits::<false, $prefix>(data.as_ref())));
             }
             deserializer! {
-                Vec<T>, $from_hex,
-                deserializer => Ok(Vec::deserialize(deserializer)?.into_iter().map(|Read(value)| value).collect()),
-                concat!("Deserializes texts, each ", $read, " a prefix. Allocates.")
+                #[doc = concat!("Deserializes texts, each ", $read, " a prefix. Allocates.")]
+                Vec<T>, $from_hex:
+                deserializer => Ok(Vec::deserialize(deserializer)?.into_iter().map(|Read(value)| value).collect())
             }
         }
     };
@@ -144,11 +129,9 @@ macro_rules! fields {
 fields! { true "`0x` and ", crate::FromHex: "with or without" }
 
 pub mod no_prefix {
-    //! Fields of text that is written without a prefix, by
-    //! `#[serde(with = "const_hex_proved::serde::no_prefix")]`.
+    //! Fields of text that is written without a prefix, by `#[serde(with = "const_hex_proved::serde::no_prefix")]`.
 
     use super::*;
-
     fields! { false "", crate::FromHex: "with or without" }
 }
 
@@ -156,22 +139,17 @@ pub mod strict {
     //! Fields of text without a prefix, by `#[serde(with = "const_hex_proved::serde::strict")]`.
 
     use super::*;
-
     fields! { false "", crate::strict::FromHex: "without" }
 }
 
+/// The module `serde` of the crate `const-hex`, which also reads arrays, vectors and boxes of `i8`.
 pub mod signed {
-    //! The module `serde` of the crate `const-hex`, which also reads arrays, vectors and boxes of `i8`.
-
     use super::*;
-
     fields! { true "`0x` and ", crate::traits::signed::FromHex: "with or without" }
 
+    /// Fields of text that is written without a prefix.
     pub mod no_prefix {
-        //! Fields of text that is written without a prefix.
-
         use super::*;
-
         fields! { false "", crate::traits::signed::FromHex: "with or without" }
     }
 }
@@ -182,19 +160,17 @@ struct Digits<'a, const UPPER: bool, const PREFIX: bool>(&'a [u8]);
 impl<const UPPER: bool, const PREFIX: bool> Serialize for Digits<'_, UPPER, PREFIX> {
     #[inline]
     fn serialize<S: Serializer>(&self, serializer: S) -> Result<S::Ok, S::Error> {
-        let mut text = [0; 2 + 2 * AT_ONCE];
-        if self.0.len() > AT_ONCE {
-            return serializer.collect_str(self);
+        let mut text = [0; 2 + 2 * 128];
+        match text.get_mut(..text_length(PREFIX, self.0.len())) {
+            Some(text) => {
+                let text = text_in(self.0, PREFIX, UPPER, text);
+                serializer.serialize_str(text.expect("it has the text's length"))
+            }
+            // It is longer, so it is printed.
+            None => serializer.collect_str(self),
         }
-        let text = &mut text[..text_length(PREFIX, self.0.len())];
-        let text = text_in(self.0, PREFIX, UPPER, text).expect("it has the text's length");
-        serializer.serialize_str(text)
     }
 }
-
-/// The number of bytes up to which a text is passed to `serialize_str`. A longer one is printed, by
-/// `collect_str`.
-const AT_ONCE: usize = 128;
 
 impl<const UPPER: bool, const PREFIX: bool> fmt::Display for Digits<'_, UPPER, PREFIX> {
     fn fmt(&self, f: &mut fmt::Formatter<'_>) -> fmt::Result {

@@ -1,7 +1,7 @@
 //! Decoding that rejects a prefix, as the crate `hex` does.
 //!
 //! The `x` of a prefix is an invalid character here. Otherwise each function returns what the function of its name
-//! in the crate's root returns.
+//! in the crate's root returns, with the same errors.
 //!
 //! ```
 //! # use const_hex_proved::{strict, FromHexError};
@@ -23,21 +23,17 @@ pub use crate::traits::strict::FromHex;
 /// if its length is not that of the output, which is what `fits` says, this, and otherwise the invalid `x` or `X`.
 #[inline]
 fn without_prefix(text: &[u8], fits: bool) -> Result<&[u8], FromHexError> {
-    match text.len() - strip_prefix(text).len() {
-        2 if text.len() % 2 == 0 && !fits => Err(FromHexError::InvalidStringLength),
-        2 if text.len() % 2 == 0 => Err(FromHexError::InvalidHexCharacter {
-            c: char::from(text[1]),
-            index: 1,
-        }),
-        _ => Ok(text),
+    if text.len() % 2 != 0 || strip_prefix(text).len() == text.len() {
+        return Ok(text);
     }
+    let (c, index) = (char::from(text[1]), 1);
+    Err(match fits {
+        true => FromHexError::InvalidHexCharacter { c, index },
+        false => FromHexError::InvalidStringLength,
+    })
 }
 
 /// Returns the bytes that a text without a prefix decodes to. Allocates.
-///
-/// # Errors
-///
-/// Returns the errors of [`decode`](crate::decode()).
 #[cfg(feature = "alloc")]
 #[inline]
 pub fn decode<T: AsRef<[u8]>>(data: T) -> Result<Vec<u8>, FromHexError> {
@@ -45,10 +41,6 @@ pub fn decode<T: AsRef<[u8]>>(data: T) -> Result<Vec<u8>, FromHexError> {
 }
 
 /// Fills `out` with the bytes that a text without a prefix decodes to. Does not allocate.
-///
-/// # Errors
-///
-/// Returns the errors of [`decode_to_slice`](crate::decode_to_slice).
 #[inline]
 pub fn decode_to_slice<T: AsRef<[u8]>>(data: T, out: &mut [u8]) -> Result<(), FromHexError> {
     let text = data.as_ref();
@@ -56,10 +48,6 @@ pub fn decode_to_slice<T: AsRef<[u8]>>(data: T, out: &mut [u8]) -> Result<(), Fr
 }
 
 /// Returns the `N` bytes that a text without a prefix decodes to. Does not allocate.
-///
-/// # Errors
-///
-/// Returns the errors of [`decode_to_slice`](crate::decode_to_slice).
 #[inline]
 pub fn decode_to_array<T: AsRef<[u8]>, const N: usize>(input: T) -> Result<[u8; N], FromHexError> {
     let text = input.as_ref();
@@ -67,10 +55,6 @@ pub fn decode_to_array<T: AsRef<[u8]>, const N: usize>(input: T) -> Result<[u8; 
 }
 
 /// Returns `Ok` if a text can be decoded, and has no prefix. Does not allocate.
-///
-/// # Errors
-///
-/// Returns the errors of [`check`](crate::check).
 #[inline]
 pub fn check<T: AsRef<[u8]>>(input: T) -> Result<(), FromHexError> {
     crate::check(without_prefix(input.as_ref(), true)?)

@@ -1,6 +1,6 @@
 //! Traits of types that are read from hexadecimal text, or written as it.
 
-use crate::proved::codec::encoders::encode_full_to_slice;
+use crate::proved::{FixedKernel, Kernel};
 use crate::FromHexError;
 #[cfg(all(feature = "alloc", target_has_atomic = "ptr"))]
 use alloc::sync::Arc;
@@ -15,60 +15,36 @@ macro_rules! from_hex {
             /// Why a text cannot be read.
             type Error;
 
-            /// Returns the value that a text decodes to.
-            ///
-            /// # Errors
-            ///
-            /// For vectors and boxed slices the errors of `decode`, for arrays those of `decode_to_array`,
-            /// and for `Box<T>`, `Rc<T>`, `Arc<T>` and `Cow<T>` the error of what they hold.
+            /// Returns the value that a text decodes to. The errors of vectors and boxed slices are those of `decode`,
+            /// of arrays those of `decode_to_array`, and of `Box<T>`, `Rc<T>`, `Arc<T>` and `Cow<T>` that of what they
+            /// hold.
             fn from_hex<T: AsRef<[u8]>>(hex: T) -> Result<Self, Self::Error>;
         }
 
-        impl<const N: usize> FromHex for [u8; N] {
-            type Error = FromHexError;
-
-            #[inline]
-            fn from_hex<T: AsRef<[u8]>>(hex: T) -> Result<Self, FromHexError> {
-                codec::decode_to_array(hex)
-            }
-        }
-
+        read! { [const N: usize] [u8; N], FromHexError, hex => codec::decode_to_array(hex); }
         #[cfg(feature = "alloc")]
-        impl FromHex for Vec<u8> {
-            type Error = FromHexError;
-
-            #[inline]
-            fn from_hex<T: AsRef<[u8]>>(hex: T) -> Result<Self, FromHexError> {
-                codec::decode(hex)
-            }
-        }
-
-        #[cfg(feature = "alloc")]
-        holders! {
-            [] Box<[u8]>, of Vec<u8>: Vec::into_boxed_slice;
-            [T: FromHex] Box<T>, of T: Box::new;
-            [T: FromHex] Rc<T>, of T: Rc::new;
+        read! {
+            [] Vec<u8>, FromHexError, hex => codec::decode(hex);
+            [] Box<[u8]>, FromHexError, hex => Vec::from_hex(hex).map(Vec::<u8>::into_boxed_slice);
+            [H: FromHex] Box<H>, H::Error, hex => H::from_hex(hex).map(Box::new);
+            [H: FromHex] Rc<H>, H::Error, hex => H::from_hex(hex).map(Rc::new);
             #[cfg(target_has_atomic = "ptr")]
-            [T: FromHex] Arc<T>, of T: Arc::new;
-            [T: ToOwned + ?Sized] Cow<'_, T>, of T::Owned: Cow::Owned;
+            [H: FromHex] Arc<H>, H::Error, hex => H::from_hex(hex).map(Arc::new);
+            [H: ToOwned<Owned = O> + ?Sized, O: FromHex] Cow<'_, H>, O::Error, hex => O::from_hex(hex).map(Cow::Owned);
         }
     };
 }
 
-/// Implements `FromHex` for types that hold another value.
-#[cfg(feature = "alloc")]
-macro_rules! holders {
-    ($($(#[$attribute:meta])* [$($parameter:tt)*] $holder:ty, of $held:ty: $make:expr;)+) => {$(
+/// Implements `FromHex` for types, each with its parameters, its error, and how it is read.
+macro_rules! read {
+    ($($(#[$attribute:meta])* [$($parameter:tt)*] $type:ty, $error:ty, $hex:ident => $read:expr;)+) => {$(
         $(#[$attribute])*
-        impl<$($parameter)*> FromHex for $holder
-        where
-            $held: FromHex,
-        {
-            type Error = <$held as FromHex>::Error;
+        impl<$($parameter)*> FromHex for $type {
+            type Error = $error;
 
             #[inline]
-            fn from_hex<U: AsRef<[u8]>>(hex: U) -> Result<Self, Self::Error> {
-                <$held>::from_hex(hex).map($make)
+            fn from_hex<T: AsRef<[u8]>>($hex: T) -> Result<Self, $error> {
+                $read
             }
         }
     )+};
@@ -126,126 +102,100 @@ pub mod signed {
         /// ```
     }
 
-    impl<const N: usize> FromHex for [i8; N] {
-        type Error = FromHexError;
-
-        #[inline]
-        fn from_hex<T: AsRef<[u8]>>(hex: T) -> Result<Self, FromHexError> {
-            <[u8; N]>::from_hex(hex).map(|bytes| bytes.map(|byte| byte as i8))
-        }
+    read! {
+        [const N: usize] [i8; N], FromHexError,
+        hex => <[u8; N]>::from_hex(hex).map(|bytes| bytes.map(|byte| byte as i8));
     }
-
     #[cfg(feature = "alloc")]
-    impl FromHex for Vec<i8> {
-        type Error = FromHexError;
-
-        fn from_hex<T: AsRef<[u8]>>(hex: T) -> Result<Self, FromHexError> {
-            let bytes = crate::decode(hex)?;
-            Ok(bytes.into_iter().map(|byte| byte as i8).collect())
-        }
-    }
-
-    #[cfg(feature = "alloc")]
-    holders! {
-        [] Box<[i8]>, of Vec<i8>: Vec::into_boxed_slice;
+    read! {
+        [] Vec<i8>, FromHexError,
+        hex => crate::decode(hex).map(|bytes| bytes.into_iter().map(|byte| byte as i8).collect());
+        [] Box<[i8]>, FromHexError, hex => Vec::from_hex(hex).map(Vec::<i8>::into_boxed_slice);
     }
 }
 
-/// A value that has a hexadecimal text.
-///
-/// Every type with `AsRef<[u8]>` has this trait: `str`, `String`, `[u8]`, `Vec<u8>`, arrays of bytes.
-///
-/// ```
-/// # use const_hex_proved::ToHex;
-/// assert_eq!("kiwi".encode_hex::<String>(), "6b697769");
-/// ```
-pub trait ToHex {
+/// Defines a trait with methods without arguments, and implements it for each type with `AsRef<[u8]>`.
+macro_rules! to_hex {
+    (
+        $(#[$attribute:meta])* $trait:ident;
+        $($(#[$doc:meta])* fn $name:ident $(<$type:ident: $bound:path>)?() -> $result:ty = $function:path;)+
+    ) => {
+        $(#[$attribute])*
+        pub trait $trait {
+            $($(#[$doc])* fn $name $(<$type: $bound>)?(&self) -> $result;)+
+        }
+
+        impl<B: AsRef<[u8]> + ?Sized> $trait for B {
+            $(
+                #[inline]
+                fn $name $(<$type: $bound>)?(&self) -> $result {
+                    $function(self.as_ref())
+                }
+            )+
+        }
+    };
+}
+
+to_hex! {
+    /// A value that has a hexadecimal text.
+    ///
+    /// Every type with `AsRef<[u8]>` has this trait: `str`, `String`, `[u8]`, `Vec<u8>`, arrays of bytes.
+    ///
+    /// ```
+    /// # use const_hex_proved::ToHex;
+    /// assert_eq!("kiwi".encode_hex::<String>(), "6b697769");
+    /// ```
+    ToHex;
     /// Returns the digits in order, in lowercase. It allocates if the collection does.
-    fn encode_hex<T: FromIterator<char>>(&self) -> T;
-
+    fn encode_hex<T: FromIterator<char>>() -> T = digits::<false, T>;
     /// Returns the digits in order, in uppercase. It allocates if the collection does.
-    fn encode_hex_upper<T: FromIterator<char>>(&self) -> T;
+    fn encode_hex_upper<T: FromIterator<char>>() -> T = digits::<true, T>;
 }
 
-impl<B: AsRef<[u8]> + ?Sized> ToHex for B {
-    #[inline]
-    fn encode_hex<T: FromIterator<char>>(&self) -> T {
-        digits::<false, T>(self.as_ref())
-    }
-
-    #[inline]
-    fn encode_hex_upper<T: FromIterator<char>>(&self) -> T {
-        digits::<true, T>(self.as_ref())
-    }
+#[cfg(feature = "alloc")]
+to_hex! {
+    /// A value that has a hexadecimal text, as a `String`.
+    ///
+    /// Every type with `AsRef<[u8]>` has this trait: `str`, `String`, `[u8]`, `Vec<u8>`, arrays of bytes.
+    /// Each method allocates.
+    ///
+    /// ```
+    /// # use const_hex_proved::ToHexExt;
+    /// assert_eq!("kiwi".encode_hex(), "6b697769");
+    /// assert_eq!("kiwi".encode_hex_upper(), "6B697769");
+    /// assert_eq!("kiwi".encode_hex_with_prefix(), "0x6b697769");
+    /// assert_eq!("kiwi".encode_hex_upper_with_prefix(), "0x6B697769");
+    /// ```
+    ToHexExt;
+    /// Returns two lowercase digits per byte.
+    fn encode_hex() -> String = crate::encode;
+    /// Returns two uppercase digits per byte.
+    fn encode_hex_upper() -> String = crate::encode_upper;
+    /// Returns `0x`, and then two lowercase digits per byte.
+    fn encode_hex_with_prefix() -> String = crate::encode_prefixed;
+    /// Returns `0x`, and then two uppercase digits per byte.
+    fn encode_hex_upper_with_prefix() -> String = crate::encode_upper_prefixed;
 }
 
 /// Collects the digits of bytes, which are encoded 32 bytes at a time. The proved iterator `BytesToHexChars` looks
 /// each digit up in a table.
 // A slice and arrays say how many digits they have, so that a collection allocates once.
 fn digits<const UPPER: bool, T: FromIterator<char>>(bytes: &[u8]) -> T {
-    let text_of = |bytes: &[u8]| {
-        let mut text = [0; 64];
-        encode_full_to_slice(bytes, false, UPPER, &mut text[..2 * bytes.len()])
-            .expect("it has the text's length");
-        text
-    };
     // A string that sees here that a digit is ASCII need not find out how many bytes it has.
     let digit = |byte: u8| char::from(byte & 0x7F);
     let parts = bytes.chunks_exact(32);
-    let rest = text_of(parts.remainder());
-    let rest = rest[..2 * parts.remainder().len()].iter().copied();
-    match bytes.len() {
-        0..=31 => rest.map(digit).collect(),
-        _ => parts.flat_map(text_of).chain(rest).map(digit).collect(),
+    let rest = parts.remainder();
+    let mut text = [0; 64];
+    let text = &mut text[..2 * rest.len()];
+    FixedKernel::fill(rest, UPPER, text);
+    let rest = text.iter().copied();
+    if bytes.len() < 32 {
+        return rest.map(digit).collect();
     }
-}
-
-/// A value that has a hexadecimal text, as a `String`.
-///
-/// Every type with `AsRef<[u8]>` has this trait: `str`, `String`, `[u8]`, `Vec<u8>`, arrays of bytes.
-/// Each method allocates.
-///
-/// ```
-/// # use const_hex_proved::ToHexExt;
-/// assert_eq!("kiwi".encode_hex(), "6b697769");
-/// assert_eq!("kiwi".encode_hex_upper(), "6B697769");
-/// assert_eq!("kiwi".encode_hex_with_prefix(), "0x6b697769");
-/// assert_eq!("kiwi".encode_hex_upper_with_prefix(), "0x6B697769");
-/// ```
-#[cfg(feature = "alloc")]
-pub trait ToHexExt {
-    /// Returns two lowercase digits per byte.
-    fn encode_hex(&self) -> String;
-
-    /// Returns two uppercase digits per byte.
-    fn encode_hex_upper(&self) -> String;
-
-    /// Returns `0x`, and then two lowercase digits per byte.
-    fn encode_hex_with_prefix(&self) -> String;
-
-    /// Returns `0x`, and then two uppercase digits per byte.
-    fn encode_hex_upper_with_prefix(&self) -> String;
-}
-
-#[cfg(feature = "alloc")]
-impl<T: AsRef<[u8]> + ?Sized> ToHexExt for T {
-    #[inline]
-    fn encode_hex(&self) -> String {
-        crate::encode(self)
-    }
-
-    #[inline]
-    fn encode_hex_upper(&self) -> String {
-        crate::encode_upper(self)
-    }
-
-    #[inline]
-    fn encode_hex_with_prefix(&self) -> String {
-        crate::encode_prefixed(self)
-    }
-
-    #[inline]
-    fn encode_hex_upper_with_prefix(&self) -> String {
-        crate::encode_upper_prefixed(self)
-    }
+    let text_of = |part: &[u8]| {
+        let mut text = [0; 64];
+        FixedKernel::fill(part, UPPER, &mut text);
+        text
+    };
+    parts.flat_map(text_of).chain(rest).map(digit).collect()
 }

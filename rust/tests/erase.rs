@@ -97,6 +97,7 @@ fn what_stays() {
 fn what_each_rule_changes() {
     check(&[
         ("arch", "mod lanes32;\npub mod plain;", Ok("pub mod plain;")),
+        ("c", "mod callers;\nmod error;", Ok("mod error;")),
         ("arch", "pub mod lanes16;\npub mod plain;", Ok("#[cfg(all(target_arch = \"wasm32\", target_feature = \"simd128\"))]\npub mod lanes16;\npub mod plain;")),
         ("c/message", "use crate::error::HexError;\nuse const_hex::Decoder;", Ok("use crate::proved::c::error::HexError;\nuse crate::proved::Decoder;")),
         ("hexfilter/error", "use const_hex::FromHexError;", Ok("use crate::rattle::codec::FromHexError;")),
@@ -104,27 +105,25 @@ fn what_each_rule_changes() {
         ("sink", "use std::fmt;", Ok("use crate::rattle::fmt;")),
         ("arch", "pub type FixedKernel = Lanes32;", Ok("pub type FixedKernel = crate::kernel::Native;")),
         ("codec/encoders", "use crate::reserved::encode_reserved;", Ok("#[cfg(feature = \"alloc\")]\nuse crate::kernel::encode_reserved;")),
-        ("arch/a", "fn f(a: u8x16, b: u8x16) -> u8x32 {\n    a.shuffle(\n        b,\n        [\n            0, 1, 2,\n        ],\n    )\n}", Ok("fn f(a: u8x16, b: u8x16) -> u8x32 {\n    a.join(b)\n}")),
         ("error", "fn fmt<W: fmt::Write>(f: &mut fmt::Formatter<W>) {}\n\nfn g() {\n    fmt::<W, 8>(f);\n}", Ok("fn fmt<'w>(f: &mut fmt::Formatter<'w>) {}\n\nfn g() {\n    fmt::<8>(f);\n}")),
         ("sink", "struct S<T: Drop>(T);", Ok("struct S<T>(T);")),
         ("error", "enum FromHexError {\n    OddLength,\n    NoMemory,\n}", Ok("enum FromHexError {\n    OddLength,\n}")),
         ("c/error", "match kind {\n    4 => Some(FromHexError::NoMemory),\n    _ => None,\n}", Ok("match kind {\n    _ => None,\n}")),
         ("c", "#[unsafe(no_mangle)]\npub extern \"C\" fn f(bytes: &[u8]) {}", Ok("#[cfg_attr(not(target_arch = \"wasm32\"), inline)]\npub fn f(bytes: &[u8]) {}")),
-        ("c", "mod callers;\nmod error;", Ok("mod error;")),
         ("reserved", "for byte in bytes {\n    self.bytes.push_reserved(*byte);\n}", Ok("self.bytes.extend_from_slice(bytes);")),
         ("hexfilter/process", "fn f(rt: &R) {\n    env::args(rt)?.skip(1).collect(rt.alloc())?;\n}", Ok("fn f(rt: &R) {\n    env::args(rt)?.skip(1).collect();\n}")),
         ("hexfilter/error", "#[derive(Clone, Copy, Debug)]\nenum E {}", Ok("#[derive(Debug)]\nenum E {}")),
         ("hexfilter/process", "fn f(error: E) {\n    match error {}\n}", Ok("fn f(error: E) {\n    match &error {}\n}")),
         ("codec/encoders", "pub fn owned(alloc: Global) {}", Ok("#[cfg(feature = \"alloc\")]\npub fn owned(alloc: Global) {}")),
-        ("sink", "pub mod pieces;", Ok("#[cfg(all(test, feature = \"alloc\"))]\npub mod pieces;")),
+        ("sink", "pub mod pieces;", Ok("#[cfg(feature = \"alloc\")]\npub mod pieces;")),
         ("tables", "pub fn value_at(byte: u8) -> u8 {}", Ok("pub const fn value_at(byte: u8) -> u8 {}")),
         ("codec/body", "c: char::from(byte),", Ok("c: byte as char,")),
         ("codec/decoder", "    pub fn new() -> Decoder {}", Ok("pub const fn new() -> Decoder {}")),
-        ("codec/decoder", "/// One.\n///\n/// ```rust\n/// assert!(rt; f::<Lanes16>());\n/// ```\npub fn one() {}", Ok("/// One.\npub fn one() {}\n#[test]\nfn decoder_one() -> Result<(), Box<dyn Error>> {\n    assert!(f::<CheckFirst::<Plain>>());\n    Ok(())\n}")),
-        ("codec/checks", "/// One.\n///\n/// ```rust\n/// assert_eq!(rt; owned(rt.alloc()), 1);\n/// ```\npub fn one() {}", Ok("/// One.\npub fn one() {}\n#[test]\nfn checks_one() -> Result<(), Box<dyn Error>> {\n    \
-                assert_eq!(owned(Global), 1);\n    Ok(())\n}")),
+        ("codec/decoder", "/// One.\n///\n/// ```rust\n/// assert!(rt; f::<Lanes16>());\n/// ```\npub fn one() {}", Ok("/// One.\npub fn one() {}\n#[test]\nfn decoder_one() {\n    assert!(f::<CheckFirst::<Plain>>());\n}")),
+        ("codec/checks", "/// One.\n///\n/// ```rust\n/// assert_eq!(rt; owned(rt.alloc()), 1);\n/// ```\npub fn one() {}", Ok("/// One.\npub fn one() {}\n#[test]\nfn checks_one() {\n    \
+                assert_eq!(owned(Global), 1);\n}")),
         ("hexfilter/runs", "/// One.\n///\n/// ```rust\n/// let v = Vec::new(rt.alloc());\n/// f(v)?;\n/// assert!(rt; g(rt.alloc(), [f(v)?]));\n/// ```\nfn one() {}", Ok("/// One.\nfn one() {}\n\
-                #[test]\nfn runs_one() -> Result<(), Box<dyn Error>> {\n    let v = Vec::new();\n    f(v).unwrap();\n    assert!(g([f(v).unwrap()]));\n    Ok(())\n}")),
+                #[test]\nfn runs_one() {\n    let v = Vec::new();\n    f(v).unwrap();\n    assert!(g([f(v).unwrap()]));\n}")),
     ]);
 }
 
@@ -191,6 +190,5 @@ fn what_is_an_error() {
         ("c/other", "#[unsafe(no_mangle)]\npub extern \"C\" fn f(x: u8) requires { x < 9 } {\n}", Err("a condition of a function that is exported")),
         ("error", "fn f(x: E) {\n    match x {\n        E::Odd | E::NoMemory => 1,\n    }\n}", Err("a rule does not fit: NoMemory")),
         ("error", "fn f() -> &str {\n    \"expected W, not <W>\"\n}", Err("a rule does not fit: \"expected 'w, not <'w>\"")),
-        ("arch/unknown", "fn f(a: u8x16, b: u8x16) -> u8x32 {\n    a.shuffle(b, [1, 0])\n}", Err("the order of a shuffle: [1, 0]")),
     ]);
 }

@@ -6,106 +6,109 @@
 //! here allocates, or panics in a release build.
 //!
 //! `cmake` in the folder `c` builds this crate and makes both libraries of it. For the target
-//! `wasm32-unknown-unknown` it becomes the module, which exports the three functions of this file alone.
+//! `wasm32-unknown-unknown` it becomes the module, which exports three functions alone.
 #![no_std]
 #![deny(unsafe_op_in_unsafe_fn)]
 #![allow(clippy::missing_safety_doc)] // The header says what each function requires.
 
-#[cfg(not(all(target_arch = "wasm32", target_os = "unknown")))]
-mod whole;
-
-#[cfg(not(all(target_arch = "wasm32", target_os = "unknown")))]
-pub use whole::*;
-
 use const_hex_proved::c::{self, Decoder, HexError};
 use core::mem::{align_of, size_of};
 use core::slice::{from_raw_parts, from_raw_parts_mut};
+
+/// Exports functions, each by its name, its first argument, the buffers that it reads and writes with their lengths,
+/// its other arguments, and what it returns.
+macro_rules! exports {
+    ($(
+        fn $name:ident($($first:ident: $first_type:ty)?)
+            [$($input:ident $input_length:ident)?] [$($output:ident $output_size:ident)?]
+            ($($other:ident: $other_type:ty),*) -> $result:ty = $call:expr;
+    )+) => {$(
+        #[no_mangle]
+        pub unsafe extern "C" fn $name(
+            $($first: $first_type,)?
+            $($input: *const u8, $input_length: usize,)?
+            $($output: *mut u8, $output_size: usize,)?
+            $($other: $other_type,)*
+        ) -> $result {
+            // SAFETY: the header requires of these buffers what `slice` and `slice_mut` do.
+            $(let $input = unsafe { slice($input, $input_length) };)?
+            // SAFETY: the same.
+            $(let $output = unsafe { slice_mut($output, $output_size) };)?
+            $call
+        }
+    )+};
+}
 
 /// `struct const_hex_decoder` is a `Decoder`: two numbers, of which any values are valid, and zeros are new.
 const _: () = assert!(
     size_of::<Decoder>() == size_of::<[usize; 2]>() && align_of::<Decoder>() == align_of::<usize>()
 );
 
-#[no_mangle]
-pub unsafe extern "C" fn const_hex_encode(
-    bytes: *const u8,
-    bytes_length: usize,
-    text: *mut u8,
-    text_size: usize,
-    flags: u32,
-) -> bool {
-    // SAFETY: the header requires of these buffers what `slice` and `slice_mut` do.
-    let (bytes, text) = unsafe { (slice(bytes, bytes_length), slice_mut(text, text_size)) };
-    c::const_hex_encode(bytes, text, flags)
+exports! {
+    fn const_hex_encode() [bytes bytes_length] [text text_size] (flags: u32) -> bool =
+        c::const_hex_encode(bytes, text, flags);
+    fn const_hex_decoder_update(decoder: &mut Decoder) [text text_length] [bytes bytes_size]
+        (written: &mut usize, error: Option<&mut HexError>) -> bool =
+        c::const_hex_decoder_update_nonnull(decoder, text, bytes, written, error.unwrap_or(&mut no_error()));
+    fn const_hex_decoder_finish(decoder: &Decoder) [] [] (error: Option<&mut HexError>) -> bool =
+        c::const_hex_decoder_finish_nonnull(decoder, error.unwrap_or(&mut no_error()));
 }
 
-#[no_mangle]
-pub unsafe extern "C" fn const_hex_decoder_update(
-    decoder: &mut Decoder,
-    text: *const u8,
-    text_length: usize,
-    bytes: *mut u8,
-    bytes_size: usize,
-    written: &mut usize,
-    error: Option<&mut HexError>,
-) -> bool {
-    // SAFETY: the header requires of these buffers what `slice` and `slice_mut` do.
-    let (text, bytes) = unsafe { (slice(text, text_length), slice_mut(bytes, bytes_size)) };
-    let mut unused = no_error();
-    let error = error.unwrap_or(&mut unused);
-    c::const_hex_decoder_update_nonnull(decoder, text, bytes, written, error)
-}
-
-#[no_mangle]
-pub extern "C" fn const_hex_decoder_finish(
-    decoder: &Decoder,
-    error: Option<&mut HexError>,
-) -> bool {
-    c::const_hex_decoder_finish_nonnull(decoder, error.unwrap_or(&mut no_error()))
+// The module for JavaScript does not need these.
+#[cfg(not(all(target_arch = "wasm32", target_os = "unknown")))]
+exports! {
+    fn const_hex_encoded_size() [] [] (bytes_length: usize, flags: u32) -> usize =
+        c::const_hex_encoded_size(bytes_length, flags);
+    fn const_hex_decode() [text text_length] [bytes bytes_size]
+        (written: &mut usize, error: Option<&mut HexError>) -> bool =
+        c::const_hex_decode_nonnull(text, bytes, written, error.unwrap_or(&mut no_error()));
+    fn const_hex_decode_exact() [text text_length] [bytes bytes_length] (error: Option<&mut HexError>) -> bool =
+        c::const_hex_decode_exact_nonnull(text, bytes, error.unwrap_or(&mut no_error()));
+    fn const_hex_check() [text text_length] [] (error: Option<&mut HexError>) -> bool =
+        c::const_hex_check_nonnull(text, error.unwrap_or(&mut no_error()));
+    fn const_hex_check_raw() [text text_length] [] () -> bool = c::const_hex_check_raw(text);
+    fn const_hex_error_message(error: &HexError) [] [message message_size] () -> usize =
+        c::const_hex_error_message(error, message);
+    fn const_hex_version() [] [] () -> u32 = c::const_hex_version();
 }
 
 /// What takes the reason of a failure if the caller passes NULL.
 fn no_error() -> HexError {
-    HexError {
-        kind: 0,
-        byte: 0,
-        index: 0,
-    }
+    let (kind, byte, index) = (0, 0, 0);
+    HexError { kind, byte, index }
 }
 
 /// The bytes of a buffer, which may be NULL if it has none.
 ///
-/// # Safety
-///
-/// The buffer has this length, and nothing writes it while the result is used.
+/// Safety: the buffer has this length, and nothing writes it while the result is used.
 unsafe fn slice<'a>(start: *const u8, length: usize) -> &'a [u8] {
-    if length == 0 {
-        return &[];
+    match length {
+        0 => &[],
+        // SAFETY: the caller promises this.
+        _ => unsafe { from_raw_parts(start, at_most(length)) },
     }
-    // SAFETY: the caller promises this.
-    unsafe { from_raw_parts(start, at_most(length)) }
+}
+
+/// The same for a buffer that is written.
+///
+/// Safety: the buffer has this length, and nothing else reads or writes it while the result is used.
+unsafe fn slice_mut<'a>(start: *mut u8, length: usize) -> &'a mut [u8] {
+    match length {
+        0 => &mut [],
+        // SAFETY: the caller promises this.
+        _ => unsafe { from_raw_parts_mut(start, at_most(length)) },
+    }
 }
 
 /// The length, or the greatest one of a slice that is odd or even as well. No buffer is larger, so such a length is an
 /// error in every function, and the same one. The package for JavaScript passes none.
 fn at_most(length: usize) -> usize {
-    if cfg!(target_arch = "wasm32") {
-        return length;
-    }
-    length.min((isize::MAX as usize - 1) | (length & 1))
-}
-
-/// The same for a buffer that is written.
-///
-/// # Safety
-///
-/// The buffer has this length, and nothing else reads or writes it while the result is used.
-unsafe fn slice_mut<'a>(start: *mut u8, length: usize) -> &'a mut [u8] {
-    if length == 0 {
-        return &mut [];
-    }
-    // SAFETY: the caller promises this.
-    unsafe { from_raw_parts_mut(start, at_most(length)) }
+    let most = (isize::MAX as usize - 1) | (length & 1);
+    length.min(if cfg!(target_arch = "wasm32") {
+        length
+    } else {
+        most
+    })
 }
 
 /// In a release build no function panics. In another one a failed check ends here, in an endless loop.

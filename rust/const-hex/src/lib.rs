@@ -1,12 +1,5 @@
 //! The names of the crate `const-hex`, over the formally verified source in [`const_hex_proved`].
 //!
-//! Put it in the place of `const-hex` for all that you depend on:
-//!
-//! ```toml
-//! [patch.crates-io]
-//! const-hex = { path = "../const_hex/rust/const-hex" }
-//! ```
-//!
 //! ```
 //! # #[cfg(feature = "alloc")] {
 //! assert_eq!(const_hex::encode_prefixed("kiwi"), "0x6b697769");

@@ -1,12 +1,5 @@
 //! The names of the crate `hex`, over the formally verified source in [`const_hex_proved`].
 //!
-//! Put it in the place of `hex` for all that you depend on:
-//!
-//! ```toml
-//! [patch.crates-io]
-//! hex = { path = "../const_hex/rust/hex" }
-//! ```
-//!
 //! ```
 //! # #[cfg(feature = "alloc")] {
 //! assert_eq!(hex::encode("kiwi"), "6b697769");

@@ -7,43 +7,40 @@
 // What assembles the files for the proof needs the directive for the syntax that is the default here.
 #![allow(bad_asm_style)]
 
+/// Assembles the files for the processor, with the directives for the format of the object file.
+macro_rules! assembled {
+    ($directives:literal) => {
+        #[cfg(target_arch = "x86_64")]
+        core::arch::global_asm!(
+            include_str!($directives),
+            include_str!("../asm/x86_64_v2.s"),
+            include_str!("../asm/x86_64_v3.s"),
+            include_str!("../asm/end.s"),
+            options(raw)
+        );
+        #[cfg(target_arch = "aarch64")]
+        core::arch::global_asm!(
+            include_str!($directives),
+            include_str!("../asm/aarch64.s"),
+            include_str!("../asm/end.s"),
+            options(raw)
+        );
+    };
+}
 #[cfg(target_vendor = "apple")]
-macro_rules! directives {
-    () => {
-        include_str!("../asm/mach_o.s")
-    };
-}
+assembled!("../asm/mach_o.s");
 #[cfg(any(windows, target_os = "uefi", target_os = "cygwin"))]
-macro_rules! directives {
-    () => {
-        include_str!("../asm/coff.s")
-    };
-}
-#[cfg(not(any(windows, target_os = "uefi", target_os = "cygwin", target_vendor = "apple")))]
-macro_rules! directives {
-    () => {
-        include_str!("../asm/elf.s")
-    };
-}
+assembled!("../asm/coff.s");
+#[cfg(not(any(
+    windows,
+    target_os = "uefi",
+    target_os = "cygwin",
+    target_vendor = "apple"
+)))]
+assembled!("../asm/elf.s");
 
-#[cfg(target_arch = "x86_64")]
-core::arch::global_asm!(
-    directives!(),
-    include_str!("../asm/x86_64_v2.s"),
-    include_str!("../asm/x86_64_v3.s"),
-    include_str!("../asm/end.s"),
-    options(raw)
-);
-#[cfg(target_arch = "aarch64")]
-core::arch::global_asm!(
-    directives!(),
-    include_str!("../asm/aarch64.s"),
-    include_str!("../asm/end.s"),
-    options(raw)
-);
-
-/// Each function calls the machine code. It is not inlined into another crate, which could not name that.
-#[cfg(target_arch = "x86_64")]
+/// Defines functions that call the machine code. They are not inlined into another crate, which could not name that.
+/// The ABI says that none unwinds, so that a caller need not be ready for it.
 macro_rules! functions {
     ($(
         $(#[$comment:meta])*
@@ -51,14 +48,20 @@ macro_rules! functions {
     )*) => {$(
         $(#[$comment])*
         #[inline(never)]
-        pub unsafe fn $name($($argument: $type),*) $(-> $result)? {
+        pub unsafe extern "C" fn $name($($argument: $type),*) $(-> $result)? {
+            #[cfg(target_arch = "aarch64")]
+            extern "C" {
+                fn $aarch64($($argument: $type),*) $(-> $result)?;
+            }
+            #[cfg(target_arch = "x86_64")]
             extern "sysv64" {
                 fn $v2($($argument: $type),*) $(-> $result)?;
                 fn $v3($($argument: $type),*) $(-> $result)?;
             }
+            #[cfg(target_arch = "x86_64")]
             #[cold]
             #[inline(never)]
-            unsafe fn first($($argument: $type),*) $(-> $result)? {
+            unsafe extern "C" fn others($($argument: $type),*) $(-> $result)? {
                 // SAFETY: the caller promises what the function requires, and this CPU has what it needs.
                 unsafe {
                     match choice::ask() {
@@ -70,32 +73,18 @@ macro_rules! functions {
             }
             // SAFETY: the same.
             unsafe {
-                let build = if choice::IS_V3 { 3 } else { choice::known() };
-                if build == 3 {
-                    return $v3($($argument),*);
+                #[cfg(target_arch = "aarch64")]
+                return $aarch64($($argument),*);
+                // In this order: a `match` would look for 2 first.
+                #[cfg(target_arch = "x86_64")]
+                if choice::known() == 3 {
+                    $v3($($argument),*)
+                } else if choice::known() == 2 {
+                    $v2($($argument),*)
+                } else {
+                    others($($argument),*)
                 }
-                if build == 2 {
-                    return $v2($($argument),*);
-                }
-                first($($argument),*)
             }
-        }
-    )*};
-}
-#[cfg(target_arch = "aarch64")]
-macro_rules! functions {
-    ($(
-        $(#[$comment:meta])*
-        $name:ident($($argument:ident: $type:ty),*) $(-> $result:ty)?, $v2:ident, $v3:ident, $aarch64:ident;
-    )*) => {$(
-        $(#[$comment])*
-        #[inline(never)]
-        pub unsafe fn $name($($argument: $type),*) $(-> $result)? {
-            extern "C" {
-                fn $aarch64($($argument: $type),*) $(-> $result)?;
-            }
-            // SAFETY: the caller promises what the function requires.
-            unsafe { $aarch64($($argument),*) }
         }
     )*};
 }
@@ -103,26 +92,20 @@ macro_rules! functions {
 functions! {
     /// Fills the text with the digits of the bytes, in uppercase if `upper` is 1, and in lowercase if it is 0.
     ///
-    /// # Safety
-    ///
-    /// There are so many bytes, and `text` may be written for two bytes for each. These need not be initialized, and
-    /// are afterwards.
+    /// Safety: there are so many bytes, and `text` may be written for two bytes for each. These need not be
+    /// initialized, and are afterwards.
     fill(bytes: *const u8, length: usize, text: *mut u8, upper: u32),
         const_hex_1_0_0_fill_v2, const_hex_1_0_0_fill_v3, const_hex_1_0_0_fill;
     /// Returns whether every byte of the text is a digit.
     ///
-    /// # Safety
-    ///
-    /// The text has so many bytes.
+    /// Safety: the text has so many bytes.
     check(text: *const u8, length: usize) -> bool,
         const_hex_1_0_0_check_v2, const_hex_1_0_0_check_v3, const_hex_1_0_0_check;
     /// Decodes the text to the bytes, and returns true. Returns false if some character is not a digit. Then bytes
     /// before it may be written, and no others.
     ///
-    /// # Safety
-    ///
-    /// The text has so many bytes, twice as many as `count`, and `bytes` may be written for `count` bytes. These need
-    /// not be initialized, and are if the result is true.
+    /// Safety: the text has so many bytes, twice as many as `count`, and `bytes` may be written for `count` bytes.
+    /// These need not be initialized, and are if the result is true.
     read(text: *const u8, length: usize, bytes: *mut u8, count: usize) -> bool,
         const_hex_1_0_0_read_v2, const_hex_1_0_0_read_v3, const_hex_1_0_0_read;
 }
@@ -132,25 +115,24 @@ functions! {
 mod choice {
     use core::sync::atomic::{AtomicU8, Ordering::Relaxed};
 
+    macro_rules! has_all {
+        ($($feature:tt)+) => { $(cfg!(target_feature = $feature))&&+ };
+    }
+
     /// The build for this CPU: 3 for x86-64-v3, 2 for x86-64-v2, 1 for portable code, or 0 until the CPU was asked.
     /// Threads that ask at the same time store the same number.
     static BUILD: AtomicU8 = AtomicU8::new(0);
 
     /// Whether each CPU that can run this program has x86-64-v3.
-    pub const IS_V3: bool = cfg!(all(
-        target_feature = "avx2",
-        target_feature = "bmi1",
-        target_feature = "bmi2",
-        target_feature = "f16c",
-        target_feature = "fma",
-        target_feature = "lzcnt",
-        target_feature = "movbe"
-    ));
+    const IS_V3: bool = has_all!("avx2" "bmi1" "bmi2" "f16c" "fma" "lzcnt" "movbe");
 
     /// Returns the build, if it is known.
     #[inline(always)]
     pub fn known() -> u8 {
-        BUILD.load(Relaxed)
+        match IS_V3 {
+            true => 3,
+            false => BUILD.load(Relaxed),
+        }
     }
 
     /// Asks the CPU, and stores the answer. The operating system has to keep the registers of AVX, too.
@@ -209,44 +191,35 @@ mod choice {
 #[cfg(target_arch = "x86_64")]
 mod portable {
     use crate::proved::{Kernel, Plain};
-    use core::mem::MaybeUninit;
-    use core::slice::{from_raw_parts, from_raw_parts_mut};
 
     pub unsafe fn fill(bytes: *const u8, length: usize, text: *mut u8, upper: u32) {
-        // SAFETY: the caller promises so many bytes.
-        let (bytes, text) = unsafe {
-            (
-                from_raw_parts(bytes, length),
-                from_raw_parts_mut(text.cast::<MaybeUninit<[u8; 2]>>(), length),
-            )
-        };
-        for (byte, pair) in bytes.iter().zip(text) {
+        for index in 0..length {
             let mut digits = [0; 2];
-            Plain::fill(&[*byte], upper != 0, &mut digits);
-            *pair = MaybeUninit::new(digits);
+            // SAFETY: the caller promises so many bytes, and space for two digits for each.
+            unsafe {
+                Plain::fill(&[*bytes.add(index)], upper != 0, &mut digits);
+                text.cast::<[u8; 2]>().add(index).write(digits);
+            }
         }
     }
 
     pub unsafe fn check(text: *const u8, length: usize) -> bool {
         // SAFETY: the caller promises so many bytes.
-        Plain::check(unsafe { from_raw_parts(text, length) })
+        Plain::check(unsafe { core::slice::from_raw_parts(text, length) })
     }
 
-    pub unsafe fn read(text: *const u8, length: usize, bytes: *mut u8, count: usize) -> bool {
-        // SAFETY: the caller promises so many bytes.
-        let (text, bytes) = unsafe {
-            (
-                from_raw_parts(text, length),
-                from_raw_parts_mut(bytes.cast::<MaybeUninit<u8>>(), count),
-            )
-        };
-        text.chunks_exact(2).zip(bytes).all(|(pair, byte)| {
-            let mut decoded = [0];
-            let is_valid = Plain::decode_checked(pair, &mut decoded);
-            if is_valid {
-                *byte = MaybeUninit::new(decoded[0]);
+    pub unsafe fn read(text: *const u8, _: usize, bytes: *mut u8, count: usize) -> bool {
+        (0..count).all(|index| {
+            let mut byte = [0];
+            // SAFETY: the caller promises space for so many bytes, and two bytes of the text for each.
+            unsafe {
+                let is_valid =
+                    Plain::decode_checked(&*text.cast::<[u8; 2]>().add(index), &mut byte);
+                if is_valid {
+                    bytes.add(index).write(byte[0]);
+                }
+                is_valid
             }
-            is_valid
         })
     }
 }

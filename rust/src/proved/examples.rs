@@ -1,196 +1,145 @@
 // Made by rust/erase from the examples of the source. Do not edit.
 
-use crate::proved::arch::check_first::CheckFirst;
-use crate::proved::arch::plain::Plain;
-use crate::proved::arch::{FixedKernel, Kernel};
-use crate::proved::output::Output;
-use crate::proved::output::buffered::BufferedOutput;
-use crate::proved::output::slice::SliceOutput;
-use crate::proved::sink::output::SinkOutput;
-use crate::proved::sink::pieces::PieceSink;
-use crate::proved::sink::{Sink, SinkError};
-use crate::proved::stream::BufferedHex;
-use crate::proved::tables::{
-    HEX_CHARS_LOWER, HEX_CHARS_UPPER, HEX_DECODE_LUT, NIL, digit_at, value_at,
-};
-use crate::proved::text::{ascii_text, encode_full, fill_text, text_length};
-use crate::proved::codec::checks::{check, check_raw, check_with, const_check, const_check_raw};
-use crate::proved::codec::decoder::Decoder;
-use crate::proved::codec::decoders::{
-    bytes_of, const_decode_to_array, decode, decode_to_array, decode_to_front,
-    decode_to_front_with, decode_to_slice, decode_to_slice_with, decode_with,
-};
-use crate::proved::codec::encoders::{
-    encode, encode_full_to_slice, encode_full_to_slice_with, encode_prefixed, encode_to_slice,
-    encode_to_slice_upper, encode_to_str, encode_to_str_upper, encode_upper, encode_upper_prefixed,
-    encode_with,
-};
-use crate::proved::error::FromHexError;
-use crate::proved::formatting::display;
-use crate::proved::formatting::sink::FormatterSink;
-use crate::proved::formatting::text::Display;
-use crate::proved::examples as const_hex;
-use crate::rattle::alloc::Global;
-use crate::rattle::prelude::*;
-use crate::rattle::simd::prelude::*;
-use alloc::boxed::Box;
-use std::error::Error;
+use crate::proved::*;
+use crate::proved::{examples as const_hex, sink::pieces::PieceSink};
+use crate::rattle::{alloc::Global, prelude::*, simd::prelude::*};
 
 #[test]
-fn arch_check_first_checkfirst() -> Result<(), Box<dyn Error>> {
+fn arch_check_first_checkfirst() {
     let mut bytes = [0; 2];
     assert!(!CheckFirst::<Plain>::decode_checked(b"6bzz", &mut bytes));
     assert_eq!(bytes, [0; 2]);
-    Ok(())
 }
 
 #[test]
-fn arch_plain_plain() -> Result<(), Box<dyn Error>> {
+fn arch_plain_plain() {
     let mut bytes = [0; 2];
     assert!(!Plain::decode_checked(b"6bzz", &mut bytes));
     assert_eq!(bytes, [0x6b, 0]);
-    Ok(())
 }
 
 #[test]
-fn arch_fixedkernel() -> Result<(), Box<dyn Error>> {
+fn arch_fixedkernel() {
     assert!(FixedKernel::check(b"6b697769"));
-    Ok(())
 }
 
 #[test]
-fn arch_kernel() -> Result<(), Box<dyn Error>> {
+fn arch_kernel() {
     fn read<K: Kernel>(text: &[u8; 8]) -> Option<[u8; 4]> {
         let mut bytes = [0; 4];
         if K::decode_checked(text, &mut bytes) { Some(bytes) } else { None }
     }
     assert_eq!(read::<Plain>(b"6b697769"), Some(*b"kiwi"));
     assert_eq!(read::<CheckFirst::<Plain>>(b"6b69776g"), None);
-    Ok(())
 }
 
 #[test]
-fn arch_encode() -> Result<(), Box<dyn Error>> {
+fn arch_encode() {
     let mut text = [0; 8];
     FixedKernel::encode(b"kiwi", false, &mut SliceOutput::new(&mut text));
     assert_eq!(text, *b"6b697769");
-    Ok(())
 }
 
 #[test]
-fn arch_fill() -> Result<(), Box<dyn Error>> {
+fn arch_fill() {
     let mut text = [0; 8];
     FixedKernel::fill(b"kiwi", false, &mut text);
     assert_eq!(text, *b"6b697769");
-    Ok(())
 }
 
 #[test]
-fn arch_check() -> Result<(), Box<dyn Error>> {
+fn arch_check() {
     assert!(FixedKernel::check(b"6B6"));
     assert!(!FixedKernel::check(b"0x6b"));
-    Ok(())
 }
 
 #[test]
-fn arch_decode_checked() -> Result<(), Box<dyn Error>> {
+fn arch_decode_checked() {
     let mut bytes = [0; 4];
     assert!(FixedKernel::decode_checked(b"6B697769", &mut bytes));
     assert_eq!(bytes, *b"kiwi");
-    Ok(())
 }
 
 #[test]
-fn arch_decode_part() -> Result<(), Box<dyn Error>> {
+fn arch_decode_part() {
     let mut bytes = [0; 2];
     assert!(FixedKernel::decode_part(b"6B697769", 1, &mut bytes));
     assert_eq!(bytes, *b"iw");
-    Ok(())
 }
 
 #[test]
-fn arch_decode_unchecked() -> Result<(), Box<dyn Error>> {
+fn arch_decode_unchecked() {
     let mut bytes = [0; 4];
     FixedKernel::decode_unchecked(b"6b697769", &mut bytes);
     assert_eq!(bytes, *b"kiwi");
-    Ok(())
 }
 
 #[test]
-fn output_buffered_bufferedoutput() -> Result<(), Box<dyn Error>> {
+fn output_buffered_bufferedoutput() {
     let mut text = [0u8; 6];
     let mut output = BufferedOutput::<SliceOutput<'_>, 4>::new(SliceOutput::new(&mut text));
     output.write(b"abc");
     output.write(b"def");
     let _ = output.finish();
     assert_eq!(text, *b"abcdef");
-    Ok(())
 }
 
 #[test]
-fn output_buffered_new() -> Result<(), Box<dyn Error>> {
+fn output_buffered_new() {
     let mut text = [0; 6];
     let output = BufferedOutput::<SliceOutput<'_>, 4>::new(SliceOutput::new(&mut text));
     assert_eq!(output.remaining(), Some(6));
-    Ok(())
 }
 
 #[test]
-fn output_buffered_finish() -> Result<(), Box<dyn Error>> {
+fn output_buffered_finish() {
     let mut text = [0; 6];
     let mut output = BufferedOutput::<SliceOutput<'_>, 4>::new(SliceOutput::new(&mut text));
     output.write(b"abc");
     assert_eq!(output.finish().remaining(), Some(3));
-    Ok(())
 }
 
 #[test]
-fn output_slice_sliceoutput() -> Result<(), Box<dyn Error>> {
+fn output_slice_sliceoutput() {
     let mut text = [b'.'; 4];
     let mut output = SliceOutput::new(&mut text);
     output.write(b"abc");
     assert_eq!(output.remaining(), Some(1));
-    Ok(())
 }
 
 #[test]
-fn output_slice_new() -> Result<(), Box<dyn Error>> {
+fn output_slice_new() {
     assert_eq!(SliceOutput::new(&mut [0; 4]).remaining(), Some(4));
-    Ok(())
 }
 
 #[test]
-fn output_remaining() -> Result<(), Box<dyn Error>> {
+fn output_remaining() {
     assert_eq!(SliceOutput::new(&mut [0; 4]).remaining(), Some(4));
-    Ok(())
 }
 
 #[test]
-fn output_write() -> Result<(), Box<dyn Error>> {
+fn output_write() {
     let mut text = [b'.'; 4];
     SliceOutput::new(&mut text).write(b"abc");
     assert_eq!(text, *b"abc.");
-    Ok(())
 }
 
 #[test]
-fn output_write_byte() -> Result<(), Box<dyn Error>> {
+fn output_write_byte() {
     let mut text = [b'.'; 4];
     SliceOutput::new(&mut text).write_byte(b'a');
     assert_eq!(text, *b"a...");
-    Ok(())
 }
 
 #[test]
-fn output_write_ends() -> Result<(), Box<dyn Error>> {
+fn output_write_ends() {
     let mut text = [b'.'; 4];
     SliceOutput::new(&mut text).write_ends(b"ab", b"bc", 3);
     assert_eq!(text, *b"abc.");
-    Ok(())
 }
 
 #[test]
-fn sink_output_sinkoutput() -> Result<(), Box<dyn Error>> {
+fn sink_output_sinkoutput() {
     let mut sink = PieceSink::new(Global, 2);
     let mut output = SinkOutput::new(&mut sink);
     output.write(b"one");
@@ -198,420 +147,363 @@ fn sink_output_sinkoutput() -> Result<(), Box<dyn Error>> {
     output.write(b"three");
     assert_eq!(output.finish(), Err(SinkError));
     assert_eq!(sink.calls(), 2);
-    Ok(())
 }
 
 #[test]
-fn sink_output_new() -> Result<(), Box<dyn Error>> {
+fn sink_output_new() {
     let mut sink = PieceSink::new(Global, 0);
     assert_eq!(SinkOutput::new(&mut sink).remaining(), None);
-    Ok(())
 }
 
 #[test]
-fn sink_output_finish() -> Result<(), Box<dyn Error>> {
+fn sink_output_finish() {
     let mut sink = PieceSink::new(Global, 0);
     let mut output = SinkOutput::new(&mut sink);
     output.write(b"one");
     assert!(output.finish().is_ok());
-    Ok(())
 }
 
 #[test]
-fn sink_pieces_piecesink() -> Result<(), Box<dyn Error>> {
+fn sink_pieces_piecesink() {
     let mut sink = PieceSink::new(Global, 0);
     assert!(sink.write_str("one").is_ok());
     assert_eq!(sink.pieces()[0].as_str(), "one");
     assert_eq!(sink.calls(), 1);
-    Ok(())
 }
 
 #[test]
-fn sink_pieces_new() -> Result<(), Box<dyn Error>> {
+fn sink_pieces_new() {
     let mut sink = PieceSink::new(Global, 2);
     assert!(sink.write_str("one").is_ok());
     assert_eq!(sink.write_str("two"), Err(SinkError));
-    Ok(())
 }
 
 #[test]
-fn sink_pieces_pieces() -> Result<(), Box<dyn Error>> {
+fn sink_pieces_pieces() {
     assert!(PieceSink::new(Global, 0).pieces().is_empty());
-    Ok(())
 }
 
 #[test]
-fn sink_pieces_calls() -> Result<(), Box<dyn Error>> {
+fn sink_pieces_calls() {
     let mut sink = PieceSink::new(Global, 1);
     assert!(sink.write_str("one").is_err());
     assert_eq!((sink.calls(), sink.pieces().len()), (1, 0));
-    Ok(())
 }
 
 #[test]
-fn sink_pieces_no_memory() -> Result<(), Box<dyn Error>> {
+fn sink_pieces_no_memory() {
     let mut sink = PieceSink::new(Global, 1);
     assert!(sink.write_str("one").is_err());
     assert!(!sink.no_memory());
-    Ok(())
 }
 
 #[test]
-fn sink_sinkerror() -> Result<(), Box<dyn Error>> {
+fn sink_sinkerror() {
     let mut sink = PieceSink::new(Global, 1);
     assert_eq!(sink.write_str("one"), Err(SinkError));
-    Ok(())
 }
 
 #[test]
-fn sink_refused() -> Result<(), Box<dyn Error>> {
+fn sink_refused() {
     assert!(!PieceSink::new(Global, 1).refused());
-    Ok(())
 }
 
 #[test]
-fn sink_write_str() -> Result<(), Box<dyn Error>> {
+fn sink_write_str() {
     assert!(PieceSink::new(Global, 0).write_str("one").is_ok());
-    Ok(())
 }
 
 #[test]
-fn stream_bufferedhex() -> Result<(), Box<dyn Error>> {
+fn stream_bufferedhex() {
     let mut sink = PieceSink::new(Global, 0);
     let hex = BufferedHex::<false, true>::new(b"kiwi");
     assert!(hex.write_to(&mut sink).is_ok());
     assert_eq!(sink.pieces()[0].as_str(), "0x6b697769");
-    Ok(())
 }
 
 #[test]
-fn stream_new() -> Result<(), Box<dyn Error>> {
+fn stream_new() {
     let mut sink = PieceSink::new(Global, 0);
     assert!(BufferedHex::<true, false>::new(&[0xab]).write_to(&mut sink).is_ok());
     assert_eq!(sink.pieces()[0].as_str(), "AB");
-    Ok(())
 }
 
 #[test]
-fn stream_write_to() -> Result<(), Box<dyn Error>> {
+fn stream_write_to() {
     let mut sink = PieceSink::new(Global, 1);
     let hex = BufferedHex::<false, false>::new(b"kiwi");
     assert_eq!(hex.write_to(&mut sink), Err(SinkError));
-    Ok(())
 }
 
 #[test]
-fn stream_write_with() -> Result<(), Box<dyn Error>> {
+fn stream_write_with() {
     let mut sink = PieceSink::new(Global, 0);
     let hex = BufferedHex::<false, false>::new(b"kiwi");
     assert!(hex.write_with::<Plain, PieceSink>(&mut sink).is_ok());
     assert_eq!(sink.pieces()[0].as_str(), "6b697769");
-    Ok(())
 }
 
 #[test]
-fn tables_hex_chars_lower() -> Result<(), Box<dyn Error>> {
+fn tables_hex_chars_lower() {
     assert_eq!(HEX_CHARS_LOWER[11], b'b');
-    Ok(())
 }
 
 #[test]
-fn tables_hex_chars_upper() -> Result<(), Box<dyn Error>> {
+fn tables_hex_chars_upper() {
     assert_eq!(HEX_CHARS_UPPER[11], b'B');
-    Ok(())
 }
 
 #[test]
-fn tables_nil() -> Result<(), Box<dyn Error>> {
+fn tables_nil() {
     assert_eq!(HEX_DECODE_LUT[usize::from(b'g')], NIL);
-    Ok(())
 }
 
 #[test]
-fn tables_hex_decode_lut() -> Result<(), Box<dyn Error>> {
+fn tables_hex_decode_lut() {
     assert_eq!(HEX_DECODE_LUT[usize::from(b'B')], 11);
-    Ok(())
 }
 
 #[test]
-fn tables_digit_at() -> Result<(), Box<dyn Error>> {
+fn tables_digit_at() {
     assert_eq!(const_hex::digit_at(false, 11), b'b');
     assert_eq!(const_hex::digit_at(true, 11), b'B');
-    Ok(())
 }
 
 #[test]
-fn tables_value_at() -> Result<(), Box<dyn Error>> {
+fn tables_value_at() {
     assert_eq!(const_hex::value_at(b'B'), 11);
     assert_eq!(const_hex::value_at(b'g'), const_hex::NIL);
-    Ok(())
 }
 
 #[test]
-fn text_text_length() -> Result<(), Box<dyn Error>> {
+fn text_text_length() {
     assert_eq!(text_length(true, 20), 42);
     assert_eq!(text_length(false, usize::MAX), usize::MAX);
-    Ok(())
 }
 
 #[test]
-fn text_fill_text() -> Result<(), Box<dyn Error>> {
+fn text_fill_text() {
     let mut text = [0; 10];
     fill_text::<Plain>(b"kiwi", true, false, &mut text);
     assert_eq!(text, *b"0x6b697769");
-    Ok(())
 }
 
 #[test]
-fn text_encode_full() -> Result<(), Box<dyn Error>> {
+fn text_encode_full() {
     let mut text = [0; 10];
     let mut output = SliceOutput::new(&mut text);
     encode_full::<Plain, SliceOutput>(b"kiwi", true, false, &mut output);
     assert_eq!(text, *b"0x6b697769");
-    Ok(())
 }
 
 #[test]
-fn text_ascii_text() -> Result<(), Box<dyn Error>> {
+fn text_ascii_text() {
     assert_eq!(ascii_text(b"0x6b"), "0x6b");
-    Ok(())
 }
 
 #[test]
-fn codec_checks_check() -> Result<(), Box<dyn Error>> {
+fn codec_checks_check() {
     assert_eq!(const_hex::check(b"0x6b"), Ok(()));
     assert_eq!(const_hex::check(b"6b6"), Err(FromHexError::OddLength));
-    Ok(())
 }
 
 #[test]
-fn codec_checks_check_with() -> Result<(), Box<dyn Error>> {
+fn codec_checks_check_with() {
     assert_eq!(const_hex::check_with::<Plain>(b"0X6B"), Ok(()));
-    Ok(())
 }
 
 #[test]
-fn codec_checks_const_check() -> Result<(), Box<dyn Error>> {
+fn codec_checks_const_check() {
     let error = FromHexError::InvalidHexCharacter { c: 'z', index: 2 };
     assert_eq!(const_hex::const_check(b"0xzz"), Err(error));
-    Ok(())
 }
 
 #[test]
-fn codec_checks_check_raw() -> Result<(), Box<dyn Error>> {
+fn codec_checks_check_raw() {
     assert!(const_hex::check_raw(b"6b6"));
     assert!(!const_hex::check_raw(b"0x6b"));
-    Ok(())
 }
 
 #[test]
-fn codec_checks_const_check_raw() -> Result<(), Box<dyn Error>> {
+fn codec_checks_const_check_raw() {
     assert!(const_hex::const_check_raw(b"6B6"));
-    Ok(())
 }
 
 #[test]
-fn codec_decoder_as() -> Result<(), Box<dyn Error>> {
+fn codec_decoder_as() {
     let mut decoder = Decoder::new();
     let mut bytes = [0; 4];
     assert_eq!(decoder.decode(b"0x6b6", &mut bytes), Ok(1));
     assert_eq!(decoder.decode(b"97769", &mut bytes[1..]), Ok(3));
     assert_eq!(decoder.finish(), Ok(()));
     assert_eq!(&bytes, b"kiwi");
-    Ok(())
 }
 
 #[test]
-fn codec_decoder_new() -> Result<(), Box<dyn Error>> {
+fn codec_decoder_new() {
     assert_eq!(Decoder::new().finish(), Ok(()));
-    Ok(())
 }
 
 #[test]
-fn codec_decoder_decode() -> Result<(), Box<dyn Error>> {
+fn codec_decoder_decode() {
     let mut decoder = Decoder::new();
     assert_eq!(decoder.decode(b"6b69", &mut [0; 2]), Ok(2));
     let error = FromHexError::InvalidHexCharacter { c: 'x', index: 5 };
     assert_eq!(decoder.decode(b"0x77", &mut [0; 2]), Err(error));
     assert_eq!(decoder.decode(b"77", &mut [0; 2]), Err(error));
-    Ok(())
 }
 
 #[test]
-fn codec_decoder_decode_with() -> Result<(), Box<dyn Error>> {
+fn codec_decoder_decode_with() {
     let mut decoder = Decoder::new();
     assert_eq!(decoder.decode_with::<Plain>(b"0X6", &mut [0; 1]), Ok(0));
     assert_eq!(decoder.decode_with::<CheckFirst::<Plain>>(b"B", &mut [0; 1]), Ok(1));
-    Ok(())
 }
 
 #[test]
-fn codec_decoder_finish() -> Result<(), Box<dyn Error>> {
+fn codec_decoder_finish() {
     let mut decoder = Decoder::new();
     assert_eq!(decoder.decode(b"6b6", &mut [0; 2]), Ok(1));
     assert_eq!(decoder.finish(), Err(FromHexError::OddLength));
-    Ok(())
 }
 
 #[test]
-fn codec_decoder_position() -> Result<(), Box<dyn Error>> {
+fn codec_decoder_position() {
     let mut decoder = Decoder::new();
     assert_eq!(decoder.decode(b"0x6b6", &mut [0; 2]), Ok(1));
     assert_eq!(decoder.position(), 5);
-    Ok(())
 }
 
 #[test]
-fn codec_decoders_decode() -> Result<(), Box<dyn Error>> {
-    let bytes = const_hex::decode(Global, b"0x6b697769")?;
+fn codec_decoders_decode() {
+    let bytes = const_hex::decode(Global, b"0x6b697769").unwrap();
     assert_eq!(bytes.as_slice(), b"kiwi".as_slice());
-    Ok(())
 }
 
 #[test]
-fn codec_decoders_decode_with() -> Result<(), Box<dyn Error>> {
-    let bytes = const_hex::decode_with::<Plain>(Global, b"6B697769")?;
+fn codec_decoders_decode_with() {
+    let bytes = const_hex::decode_with::<Plain>(Global, b"6B697769").unwrap();
     assert_eq!(bytes.as_slice(), b"kiwi".as_slice());
-    Ok(())
 }
 
 #[test]
-fn codec_decoders_decode_to_slice() -> Result<(), Box<dyn Error>> {
+fn codec_decoders_decode_to_slice() {
     let mut bytes = [0; 4];
-    const_hex::decode_to_slice(b"6b697769", &mut bytes)?;
+    const_hex::decode_to_slice(b"6b697769", &mut bytes).unwrap();
     assert_eq!(&bytes, b"kiwi");
-    Ok(())
 }
 
 #[test]
-fn codec_decoders_decode_to_slice_with() -> Result<(), Box<dyn Error>> {
+fn codec_decoders_decode_to_slice_with() {
     let mut bytes = [0; 4];
-    const_hex::decode_to_slice_with::<Plain>(b"0X6B697769", &mut bytes)?;
+    const_hex::decode_to_slice_with::<Plain>(b"0X6B697769", &mut bytes).unwrap();
     assert_eq!(&bytes, b"kiwi");
-    Ok(())
 }
 
 #[test]
-fn codec_decoders_decode_to_front() -> Result<(), Box<dyn Error>> {
+fn codec_decoders_decode_to_front() {
     let mut bytes = *b"......";
     assert_eq!(const_hex::decode_to_front(b"0x6b697769", &mut bytes), Ok(4));
     assert_eq!(&bytes, b"kiwi..");
-    Ok(())
 }
 
 #[test]
-fn codec_decoders_decode_to_front_with() -> Result<(), Box<dyn Error>> {
+fn codec_decoders_decode_to_front_with() {
     let mut bytes = *b"......";
     assert_eq!(const_hex::decode_to_front_with::<Plain>(b"6B697769", &mut bytes), Ok(4));
     assert_eq!(&bytes, b"kiwi..");
-    Ok(())
 }
 
 #[test]
-fn codec_decoders_decode_to_array() -> Result<(), Box<dyn Error>> {
-    let bytes = const_hex::decode_to_array::<4>(b"0x6b697769")?;
+fn codec_decoders_decode_to_array() {
+    let bytes = const_hex::decode_to_array::<4>(b"0x6b697769").unwrap();
     assert_eq!(&bytes, b"kiwi");
-    Ok(())
 }
 
 #[test]
-fn codec_decoders_const_decode_to_array() -> Result<(), Box<dyn Error>> {
-    let bytes = const_hex::const_decode_to_array::<4>(b"6B697769")?;
+fn codec_decoders_const_decode_to_array() {
+    let bytes = const_hex::const_decode_to_array::<4>(b"6B697769").unwrap();
     assert_eq!(&bytes, b"kiwi");
-    Ok(())
 }
 
 #[test]
-fn codec_decoders_bytes_of() -> Result<(), Box<dyn Error>> {
+fn codec_decoders_bytes_of() {
     let bytes: [u8; 4] = const_hex::bytes_of(b"0x6b697769");
     assert_eq!(&bytes, b"kiwi");
-    Ok(())
 }
 
 #[test]
-fn codec_encoders_encode() -> Result<(), Box<dyn Error>> {
-    let text = const_hex::encode(Global, b"Hello world!")?;
+fn codec_encoders_encode() {
+    let text = const_hex::encode(Global, b"Hello world!").unwrap();
     assert_eq!(text.as_str(), "48656c6c6f20776f726c6421");
-    Ok(())
 }
 
 #[test]
-fn codec_encoders_encode_upper() -> Result<(), Box<dyn Error>> {
-    let text = const_hex::encode_upper(Global, b"kiwi")?;
+fn codec_encoders_encode_upper() {
+    let text = const_hex::encode_upper(Global, b"kiwi").unwrap();
     assert_eq!(text.as_str(), "6B697769");
-    Ok(())
 }
 
 #[test]
-fn codec_encoders_encode_prefixed() -> Result<(), Box<dyn Error>> {
-    let text = const_hex::encode_prefixed(Global, b"kiwi")?;
+fn codec_encoders_encode_prefixed() {
+    let text = const_hex::encode_prefixed(Global, b"kiwi").unwrap();
     assert_eq!(text.as_str(), "0x6b697769");
-    Ok(())
 }
 
 #[test]
-fn codec_encoders_encode_upper_prefixed() -> Result<(), Box<dyn Error>> {
-    let text = const_hex::encode_upper_prefixed(Global, b"kiwi")?;
+fn codec_encoders_encode_upper_prefixed() {
+    let text = const_hex::encode_upper_prefixed(Global, b"kiwi").unwrap();
     assert_eq!(text.as_str(), "0x6B697769");
-    Ok(())
 }
 
 #[test]
-fn codec_encoders_encode_with() -> Result<(), Box<dyn Error>> {
-    let text = const_hex::encode_with::<Plain, true>(Global, b"kiwi")?;
+fn codec_encoders_encode_with() {
+    let text = const_hex::encode_with::<Plain, true>(Global, b"kiwi").unwrap();
     assert_eq!(text.as_str(), "6B697769");
-    Ok(())
 }
 
 #[test]
-fn codec_encoders_encode_to_slice() -> Result<(), Box<dyn Error>> {
+fn codec_encoders_encode_to_slice() {
     let mut text = [0; 8];
-    const_hex::encode_to_slice(b"kiwi", &mut text)?;
+    const_hex::encode_to_slice(b"kiwi", &mut text).unwrap();
     assert_eq!(&text, b"6b697769");
-    Ok(())
 }
 
 #[test]
-fn codec_encoders_encode_to_slice_upper() -> Result<(), Box<dyn Error>> {
+fn codec_encoders_encode_to_slice_upper() {
     let mut text = [0; 8];
-    const_hex::encode_to_slice_upper(b"kiwi", &mut text)?;
+    const_hex::encode_to_slice_upper(b"kiwi", &mut text).unwrap();
     assert_eq!(&text, b"6B697769");
-    Ok(())
 }
 
 #[test]
-fn codec_encoders_encode_full_to_slice() -> Result<(), Box<dyn Error>> {
+fn codec_encoders_encode_full_to_slice() {
     let mut text = [0; 10];
-    const_hex::encode_full_to_slice(b"kiwi", true, false, &mut text)?;
+    const_hex::encode_full_to_slice(b"kiwi", true, false, &mut text).unwrap();
     assert_eq!(&text, b"0x6b697769");
-    Ok(())
 }
 
 #[test]
-fn codec_encoders_encode_full_to_slice_with() -> Result<(), Box<dyn Error>> {
+fn codec_encoders_encode_full_to_slice_with() {
     let mut text = [0; 8];
-    const_hex::encode_full_to_slice_with::<Plain>(b"kiwi", false, true, &mut text)?;
+    const_hex::encode_full_to_slice_with::<Plain>(b"kiwi", false, true, &mut text).unwrap();
     assert_eq!(&text, b"6B697769");
-    Ok(())
 }
 
 #[test]
-fn codec_encoders_encode_to_str() -> Result<(), Box<dyn Error>> {
+fn codec_encoders_encode_to_str() {
     let mut output = [0; 8];
-    assert_eq!(const_hex::encode_to_str(b"kiwi", &mut output)?, "6b697769");
-    Ok(())
+    assert_eq!(const_hex::encode_to_str(b"kiwi", &mut output).unwrap(), "6b697769");
 }
 
 #[test]
-fn codec_encoders_encode_to_str_upper() -> Result<(), Box<dyn Error>> {
+fn codec_encoders_encode_to_str_upper() {
     let mut output = [0; 8];
-    assert_eq!(const_hex::encode_to_str_upper(b"kiwi", &mut output)?, "6B697769");
-    Ok(())
+    assert_eq!(const_hex::encode_to_str_upper(b"kiwi", &mut output).unwrap(), "6B697769");
 }
 
 #[test]
-fn error_fromhexerror() -> Result<(), Box<dyn Error>> {
+fn error_fromhexerror() {
     let error = const_hex::check(b"0xzz").unwrap_err();
     assert_eq!(error, FromHexError::InvalidHexCharacter { c: 'z', index: 2 });
-    Ok(())
 }

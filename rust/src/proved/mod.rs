@@ -16,19 +16,17 @@ pub(crate) mod c;
 #[cfg(all(test, feature = "std"))]
 mod examples;
 
-pub use self::arch::check_first::CheckFirst;
-pub use self::arch::plain::Plain;
-pub use self::arch::{FixedKernel, Kernel};
-pub use self::output::Output;
-pub use self::output::buffered::BufferedOutput;
-pub use self::output::slice::SliceOutput;
-pub use self::sink::output::SinkOutput;
-pub use self::sink::{Sink, SinkError};
-pub use self::stream::BufferedHex;
-pub use self::tables::{
-    HEX_CHARS_LOWER, HEX_CHARS_UPPER, HEX_DECODE_LUT, NIL, digit_at, value_at,
-};
-pub use self::text::{ascii_text, encode_full, fill_text, text_length};
+pub use self::arch::check_first::*;
+pub use self::arch::plain::*;
+pub use self::arch::*;
+pub use self::output::*;
+pub use self::output::buffered::*;
+pub use self::output::slice::*;
+pub use self::sink::output::*;
+pub use self::sink::*;
+pub use self::stream::*;
+pub use self::tables::*;
+pub use self::text::*;
 pub use self::codec::checks::*;
 pub use self::codec::decoder::*;
 pub use self::codec::decoders::*;
@@ -44,7 +42,6 @@ pub use self::formatting::text::*;
 //    1  Rust's errors are not copied
 //   26  a formatter has a lifetime in place of its writer's type
 //   10  a function for C takes slices, which capi makes of pointers and lengths, and is compiled there alone
-//    1  a new decoder is constant
 //   95  all crates are one module
 //    5  an allocation never fails: without memory the program ends
 //    1  an argument's copy takes no allocator
@@ -52,25 +49,22 @@ pub use self::formatting::text::*;
 //    3  an example names a kernel that each target has
 //    4  an example of hexfilter uses no allocator
 //    1  and a constant converts by a cast
-//    1  and a sink that only the examples use is there for them alone
 //    2  and an error is borrowed
+//    5  and kernels over vectors are there for WebAssembly alone
 //    2  and makes the vectors that are returned
-//    3  and panics instead of returning an error
+//   22  and panics instead of returning an error
 //    1  and the crate's decoder is cloned
-//    5  and those over vectors are there for WebAssembly alone
 //    1  before it reads a chunk
-//    2  callers that nothing exports are left out
 //   44  deleted: attribute
 //  250  deleted: contract
 //  213  deleted: ghost item
 //    4  deleted: model
 //    1  each value may be dropped
-//    3  kernels that no target uses are left out
+//    5  kernels that no target uses are left out, and callers that nothing exports
 //   22  the allocator is a value
 //    1  the bytes of a slice are appended at once, and not one by one
 //    1  the kernel is chosen for the processor
-//    1  the only shuffle puts two vectors one after the other
-//   11  what a constant calls is constant
-//   13  what allocates is there with the feature alloc
+//   12  what a constant calls is constant
+//   14  what allocates is there with the feature alloc
 //    3  what hexfilter uses of const_hex is a module of rattle
 //    5  what is for C is a module of const_hex

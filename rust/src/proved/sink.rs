@@ -4,7 +4,7 @@
 use crate::rattle::prelude::*;
 
 pub mod output;
-#[cfg(all(test, feature = "alloc"))]
+#[cfg(feature = "alloc")]
 pub mod pieces;
 
 use crate::rattle::error::Error;

@@ -2,51 +2,44 @@
 
 use crate::proved::*;
 use crate::rattle::codec::FromHexError;
-use std::error::Error;
 use std::str::FromStr;
 
 #[test]
-fn hexfilter_error_runerror() -> Result<(), Box<dyn Error>> {
+fn hexfilter_error_runerror() {
     let mut output = Vec::new();
     let mode = Mode::Decode { ignore_whitespace: false };
     let error = run(mode, &mut b"6b6".as_slice(), &mut output).unwrap_err();
     assert_eq!(error.status(), 1);
-    Ok(())
 }
 
 #[test]
-fn hexfilter_error_status() -> Result<(), Box<dyn Error>> {
+fn hexfilter_error_status() {
     assert_eq!(RunError::Text(FromHexError::OddLength, None).status(), 1);
-    Ok(())
 }
 
 #[test]
-fn hexfilter_mode_mode() -> Result<(), Box<dyn Error>> {
+fn hexfilter_mode_mode() {
     let mut output = Vec::new();
     let mode = Mode::Encode { prefix: true, upper: false, columns: 4 };
     run(mode, &mut b"kiwi".as_slice(), &mut output).unwrap();
     assert_eq!(output.as_slice(), b"0x6b\n6977\n69\n".as_slice());
-    Ok(())
 }
 
 #[test]
-fn hexfilter_options_request() -> Result<(), Box<dyn Error>> {
+fn hexfilter_options_request() {
     assert_eq!(request_of(&[]), Ok(Request::Run(Mode::Encode { prefix: false, upper: false, columns: 0 }, None)));
-    Ok(())
 }
 
 #[test]
-fn hexfilter_options_request_of() -> Result<(), Box<dyn Error>> {
+fn hexfilter_options_request_of() {
     let arguments = [String::from_str("--version").unwrap()];
     assert_eq!(request_of(&arguments), Ok(Request::Version));
-    Ok(())
 }
 
 #[test]
-fn hexfilter_runs_run() -> Result<(), Box<dyn Error>> {
+fn hexfilter_runs_run() {
     let mut output = Vec::new();
     let mode = Mode::Decode { ignore_whitespace: true };
     run(mode, &mut b"6b69\n7769\n".as_slice(), &mut output).unwrap();
     assert_eq!(output.as_slice(), b"kiwi".as_slice());
-    Ok(())
 }

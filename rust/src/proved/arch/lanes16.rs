@@ -199,7 +199,13 @@ fn decode_flagged(text: [u8x16; 2]) -> (u8x16, bool) {
 /// The lanes of both vectors, in order.
 #[inline(always)]
 pub(crate) fn join(first: u8x16, second: u8x16) -> u8x32 {
-    first.join(second)
+    first.shuffle(
+        second,
+        [
+            0, 1, 2, 3, 4, 5, 6, 7, 8, 9, 10, 11, 12, 13, 14, 15, 16, 17, 18, 19, 20, 21, 22, 23,
+            24, 25, 26, 27, 28, 29, 30, 31,
+        ],
+    )
 }
 
 /// One byte for each two lanes, which must be values.
