@@ -14,4 +14,17 @@ set(CPACK_PACKAGE_CHECKSUM SHA256)
 set(CPACK_INSTALL_CMAKE_PROJECTS ${PROJECT_BINARY_DIR} const_hex ALL / ${PROJECT_BINARY_DIR} const_hex archive /)
 set(CPACK_CONST_HEX_ARCHIVE ${PROJECT_BINARY_DIR}/libconst_hex.a)
 set(CPACK_VERBATIM_VARIABLES ON)
+# `cpack -G DEB` makes a Debian package of what is installed, with the licences. It is for a build with the prefix /usr.
+install(FILES ../LICENSE-APACHE ../LICENSE-MIT ../NOTICE DESTINATION share/doc/libconst-hex-dev COMPONENT debian
+  EXCLUDE_FROM_ALL)
+set(CPACK_PROJECT_CONFIG_FILE ${PROJECT_SOURCE_DIR}/cmake/debian.cmake)
+set(CPACK_DEBIAN_PACKAGE_NAME libconst-hex-dev)
+# PUBLISHER: write the address here to which users of the package write.
+set(CPACK_DEBIAN_PACKAGE_MAINTAINER "the maintainers of const_hex <maintainers@users.noreply.yilmoszur.example>")
+set(CPACK_DEBIAN_PACKAGE_ARCHITECTURE amd64)
+if(CMAKE_SYSTEM_PROCESSOR MATCHES "aarch64|arm64")
+  set(CPACK_DEBIAN_PACKAGE_ARCHITECTURE arm64)
+endif()
+set(CPACK_DEBIAN_PACKAGE_SECTION libdevel)
+set(CPACK_DEBIAN_FILE_NAME DEB-DEFAULT)
 include(CPack)
