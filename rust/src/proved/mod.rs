@@ -45,7 +45,7 @@ pub use self::formatting::text::*;
 //   26  a formatter has a lifetime in place of its writer's type
 //   10  a function for C takes slices, which capi makes of pointers and lengths, and is compiled there alone
 //    1  a new decoder is constant
-//   96  all crates are one module
+//  100  all crates are one module
 //    5  an allocation never fails: without memory the program ends
 //    1  an argument's copy takes no allocator
 //  112  an assertion names no runtime
@@ -61,8 +61,8 @@ pub use self::formatting::text::*;
 //    1  before it reads a chunk
 //    2  callers that nothing exports are left out
 //   42  deleted: attribute
-//  249  deleted: contract
-//  213  deleted: ghost item
+//  258  deleted: contract
+//  216  deleted: ghost item
 //    4  deleted: model
 //    1  each value may be dropped
 //    3  kernels that no target uses are left out

@@ -1,6 +1,6 @@
 //! Readers and writers that fail at each call, or take no bytes.
 
-use crate::tests::{CHECK, DECODE, End, end_of};
+use crate::tests::{End, end_of, lines, reading};
 use const_hex_vectors::{Fault, Source, Target, Testing, same, same_bytes};
 use hexfilter_core::{Mode, run};
 use std::io::ErrorKind;
@@ -26,7 +26,11 @@ fn reads(rt: &impl Testing, kind: ErrorKind, call: usize) {
     let row = (kind, call);
     let mut input = Source::new(b"0x6b697769", call, kind);
     let mut output = Target::new(rt.alloc(), 1, Fault::Nothing);
-    let end = end_of(run(DECODE, &mut input, &mut output));
+    let end = end_of(run(
+        Mode::Decode(reading(false, 0, b' ')),
+        &mut input,
+        &mut output,
+    ));
     let want = match kind {
         ErrorKind::Interrupted => (End::Done, 4, 12),
         _ => (End::Read(kind), call.saturating_sub(3) / 2, call),
@@ -35,20 +39,18 @@ fn reads(rt: &impl Testing, kind: ErrorKind, call: usize) {
     same_bytes!(rt, "what the writer has", row; output.taken, &b"kiwi"[..output.taken.len().min(4)]);
 }
 
-const LINES: Mode = Mode::Encode {
-    prefix: true,
-    upper: false,
-    columns: 3,
-};
-
 /// A mode, an input, and what is written.
 type Row<'a> = (Mode, &'a [u8], &'a [u8]);
 
 #[test]
 fn failed_writes(rt: HostRuntime) {
     let rows: [Row<'_>; 2] = [
-        (LINES, b"kiwi", b"0x6\nb69\n776\n9\n"),
-        (DECODE, b"0x6b697769", b"kiwi"),
+        (lines(true, false, 3), b"kiwi", b"0x6\nb69\n776\n9\n"),
+        (
+            Mode::Decode(reading(false, 0, b' ')),
+            b"0x6b697769",
+            b"kiwi",
+        ),
     ];
     for row in rows {
         for kind in KINDS {
@@ -92,6 +94,10 @@ fn writes(
 #[test]
 fn checking_writes_nothing(rt: HostRuntime) {
     let mut output = Target::new(rt.alloc(), 1, Fault::Writes(1, 1, ErrorKind::Other));
-    let end = end_of(run(CHECK, &mut b"0x6b69".as_slice(), &mut output));
+    let end = end_of(run(
+        Mode::Check(reading(false, 0, b' ')),
+        &mut b"0x6b69".as_slice(),
+        &mut output,
+    ));
     same!(&rt; (end, output.writes, output.flushes), (End::Done, 0, 0));
 }

@@ -1,8 +1,8 @@
 -- Digits, letters and arguments, one after another.
-use Rattle.std.proofs.Common.{◌≡◌, ℕ, ◌+◌, ◌-◌, ◌<◌, ◌≤◌, true, false, List, [], ◌∷◌, length, drop, get_or, map, Option, Some, Result, Ok, Err, refl, sym, ap, ◌∙◌, arith}
+use Rattle.std.proofs.Common.{◌≡◌, ℕ, ◌+◌, ◌-◌, ◌<◌, ◌≤◌, true, false, List, [], ◌∷◌, length, drop, get_or, map, Option, None, Some, Result, Ok, Err, refl, sym, ap, ◌∙◌, arith}
 use Rattle.std.proofs.lemmas.List.{drop_all, drop_more, get_or-map, length-map}
 use Rattle.std.specs.Prelude.{option_and_then}
-use Rattle.hexfilter_core.specs.Options.{goes_on, lettered, request, set, wants_value, with_argument, with_arguments, with_digit, with_digits, with_letters, with_rest}
+use Rattle.hexfilter_core.specs.Options.{goes_on, lettered, request, set, valued, with_argument, with_arguments, with_digit, with_digits, with_letters, with_rest}
 use Rattle.hexfilter_core.specs.declared.options.Fault.{Fault}
 use Rattle.hexfilter_core.specs.declared.options.Options.{Options}
 use Rattle.hexfilter_core.specs.declared.options.Setting.{Setting}
@@ -22,15 +22,15 @@ pub letters_at : (text : List ℕ) (i : ℕ) (o : Options) (found : Option Setti
     → with_letters o (drop i text) ≡ goes_on o found (drop (i + 1) text)
 letters_at text i o found h is = rw (drop_more text i 0 h, is) refl
 
-pub next_letter : (o p : Options) (s : Setting) (t : List ℕ) → p ≡ set o s → wants_value p.next ≡ false → goes_on o (Some s) t ≡ with_letters p t
+pub next_letter : (o p : Options) (s : Setting) (t : List ℕ) → p ≡ set o s → None ≡ valued p.next → goes_on o (Some s) t ≡ with_letters p t
 unfolding goes_on
 next_letter o p s [] e h = ap Ok (sym e)
-next_letter o p s (c ∷ t) e h = let h' = rw e at h in rw (h', e) refl
+next_letter o p s (c ∷ t) e h = let h' = rw e at h in rw (← h', e) refl
 
-pub value_after : (o p : Options) (s : Setting) (t : List ℕ) → p ≡ set o s → wants_value p.next ≡ true → goes_on o (Some s) t ≡ with_rest p t
+pub value_after : (o p : Options) (s v : Setting) (t : List ℕ) → p ≡ set o s → Some v ≡ valued p.next → goes_on o (Some s) t ≡ with_rest p v t
 unfolding goes_on
-value_after o p s [] e h = ap Ok (sym e)
-value_after o p s (c ∷ t) e h = let h' = rw e at h in rw (h', e) refl
+value_after o p s v [] e h = ap Ok (sym e)
+value_after o p s v (c ∷ t) e h = let h' = rw e at h in rw (← h', e) refl
 
 -- the argument at i
 pub argument_at : {X : Type 0} (bytes : X → List ℕ) (xs : List X) (i : ℕ) (o : Options) (next : Result Options Fault) (x : X) (a : List ℕ) → i < length xs

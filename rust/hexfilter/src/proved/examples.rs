@@ -8,7 +8,8 @@ use std::str::FromStr;
 #[test]
 fn hexfilter_error_runerror() -> Result<(), Box<dyn Error>> {
     let mut output = Vec::new();
-    let mode = Mode::Decode { ignore_whitespace: false };
+    let groups = Groups { size: 0, separator: b' ' };
+    let mode = Mode::Decode(Reading { ignore_whitespace: false, groups });
     let error = run(mode, &mut b"6b6".as_slice(), &mut output).unwrap_err();
     assert_eq!(error.status(), 1);
     Ok(())
@@ -23,7 +24,7 @@ fn hexfilter_error_status() -> Result<(), Box<dyn Error>> {
 #[test]
 fn hexfilter_mode_mode() -> Result<(), Box<dyn Error>> {
     let mut output = Vec::new();
-    let mode = Mode::Encode { prefix: true, upper: false, columns: 4 };
+    let mode = Mode::Encode { prefix: true, upper: false, groups: Groups { size: 4, separator: b'\n' } };
     run(mode, &mut b"kiwi".as_slice(), &mut output).unwrap();
     assert_eq!(output.as_slice(), b"0x6b\n6977\n69\n".as_slice());
     Ok(())
@@ -31,7 +32,8 @@ fn hexfilter_mode_mode() -> Result<(), Box<dyn Error>> {
 
 #[test]
 fn hexfilter_options_request() -> Result<(), Box<dyn Error>> {
-    assert_eq!(request_of(&[]), Ok(Request::Run(Mode::Encode { prefix: false, upper: false, columns: 0 }, None)));
+    let groups = Groups { size: 0, separator: b'\n' };
+    assert_eq!(request_of(&[]), Ok(Request::Run(Mode::Encode { prefix: false, upper: false, groups }, None)));
     Ok(())
 }
 
@@ -45,7 +47,8 @@ fn hexfilter_options_request_of() -> Result<(), Box<dyn Error>> {
 #[test]
 fn hexfilter_runs_run() -> Result<(), Box<dyn Error>> {
     let mut output = Vec::new();
-    let mode = Mode::Decode { ignore_whitespace: true };
+    let groups = Groups { size: 0, separator: b' ' };
+    let mode = Mode::Decode(Reading { ignore_whitespace: true, groups });
     run(mode, &mut b"6b69\n7769\n".as_slice(), &mut output).unwrap();
     assert_eq!(output.as_slice(), b"kiwi".as_slice());
     Ok(())
