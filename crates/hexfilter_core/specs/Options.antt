@@ -1,5 +1,5 @@
 -- What the arguments of the program ask for.
-use Rattle.std.specs.Prelude.{ℕ, ◌+◌, ◌-◌, ◌*◌, ◌^◌, ◌==◌, nat_le, nat_lt, min, ◌&&◌, ◌||◌, not, true, false, if◌then◌else◌, Bool, List, [], ◌∷◌, take, drop, Option, Some, None, Result, Ok, Err, codes, option_and_then}
+use Rattle.std.specs.Prelude.{◌≡◌, ◌⊎◌, ◌++◌, ℕ, ◌+◌, ◌-◌, ◌*◌, ◌^◌, ◌==◌, nat_le, nat_lt, min, ◌&&◌, ◌||◌, not, true, false, if◌then◌else◌, Bool, List, [], ◌∷◌, take, drop, Option, Some, None, Result, Ok, Err, codes, option_and_then}
 use Rattle.std.specs.Char.{is_ascii_hexdigit}
 use Rattle.std.specs.Option.{is_some}
 use Rattle.std.specs.Str.{bytes_eq}
@@ -207,3 +207,29 @@ with_arguments (Ok o) i (a ∷ rest) = with_arguments (with_argument o i a) (i +
 -- what the arguments ask for
 abbrev pub request_for : List (List ℕ) → Result Request UsageError
 request_for arguments = with_arguments (Ok start) 0 arguments
+
+-- ---- the arguments that ask for a mode
+
+abbrev pub flag : Bool → List ℕ → List (List ℕ)
+flag wanted name = if wanted then name ∷ [] else []
+
+-- those of a mode, and then those of its groups
+abbrev pub written : Mode → List (List ℕ) → List (List ℕ)
+written (Encode prefix upper groups) words = flag prefix (codes "--prefix") ++ (flag upper (codes "--upper") ++ words)
+written (Decode r) words = codes "--decode" ∷ flag r.ignore_whitespace (codes "--ignore-whitespace") ++ words
+written (Check r) words = codes "--check" ∷ flag r.ignore_whitespace (codes "--ignore-whitespace") ++ words
+
+-- the words write the groups of a mode: lines, if they are written, by their columns, other groups by their bytes and the
+-- separator, an ASCII character that is no digit
+abbrev pub WritesLines : Groups → List (List ℕ) → Type 0
+WritesLines g words = (v : List ℕ) × (decimal v ≡ Some g.size) × (g.separator ≡ 10) × (words ≡ codes "--wrap" ∷ v ∷ [])
+
+abbrev pub WritesGroups : Groups → List (List ℕ) → Type 0
+WritesGroups g words =
+    (v : List ℕ) × (n : ℕ) × (decimal v ≡ Some n) × (g.size ≡ min (n * 2) (2 ^ 64 - 1)) × ((nat_lt g.separator 128 && not (is_ascii_hexdigit g.separator)) ≡ true)
+    × (words ≡ codes "--group" ∷ v ∷ codes "--separator" ∷ (g.separator ∷ []) ∷ [])
+
+abbrev pub Writes : Mode → List (List ℕ) → Type 0
+Writes (Encode prefix upper groups) words = WritesLines groups words ⊎ WritesGroups groups words
+Writes (Decode r) words = WritesGroups r.groups words
+Writes (Check r) words = WritesGroups r.groups words

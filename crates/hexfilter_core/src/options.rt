@@ -1,7 +1,9 @@
 //! What the arguments of the program ask for.
 
-ghost use Rattle.std.specs.Prelude.{◌≡◌, map, string_bytes};
-ghost use Rattle.hexfilter_core.specs.Options.{decimal, groups_of, lettered, mode_of, named, request, request_for, set, valued, with_argument, with_assignment, with_dashes, with_digit, with_digits, with_letters, with_name, with_number, with_operand, with_rest, with_value, with_word};
+ghost use Rattle.std.specs.Prelude.{◌≡◌, ℕ, List, None, Ok, map, string_bytes};
+ghost use Rattle.hexfilter_core.specs.Options.{Writes, decimal, groups_of, lettered, mode_of, named, request, request_for, set, valued, with_argument, with_assignment, with_dashes, with_digit, with_digits, with_letters, with_name, with_number, with_operand, with_rest, with_value, with_word, written};
+ghost use Rattle.hexfilter_core.specs.declared.mode.Mode.{Mode};
+ghost use Rattle.hexfilter_core.specs.declared.options.Request.TheVariants.{Run};
 
 use crate::mode::{Groups, Mode, Reading};
 
@@ -117,6 +119,16 @@ const START: Options = Options {
 /// assert_eq!(rt; request_of(&arguments), Ok(Request::Version));
 /// ```
 pub fn request_of(arguments: &[String]) -> Result<Request, UsageError>
+    ensures grammar { result ≡ request_for (map string_bytes arguments.now) }
+    // What is written as arguments is read back.
+    ensures read_back { (m : Mode) (words : List (List ℕ)) → Writes m words
+        → map string_bytes arguments.now ≡ written m words → result ≡ Ok (Run m None) }
+{
+    read(arguments)
+}
+
+/// As `request_of`.
+fn read(arguments: &[String]) -> Result<Request, UsageError>
     ensures { result ≡ request_for (map string_bytes arguments.now) }
 {
     let mut options = START;

@@ -61,8 +61,8 @@ pub use self::formatting::text::*;
 //    1  before it reads a chunk
 //    2  callers that nothing exports are left out
 //   42  deleted: attribute
-//  258  deleted: contract
-//  216  deleted: ghost item
+//  259  deleted: contract
+//  218  deleted: ghost item
 //    4  deleted: model
 //    1  each value may be dropped
 //    3  kernels that no target uses are left out

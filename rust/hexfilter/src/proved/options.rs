@@ -106,6 +106,11 @@ const START: Options = Options {
 
 /// What the arguments after the program's name ask for, or the first of them that is not valid.
 pub fn request_of(arguments: &[String]) -> Result<Request, UsageError> {
+    read(arguments)
+}
+
+/// As `request_of`.
+fn read(arguments: &[String]) -> Result<Request, UsageError> {
     let mut options = START;
     for index in 0..arguments.len() {
         match options.with_argument(index, arguments[index].as_str()) {
