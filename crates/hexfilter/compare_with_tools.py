@@ -86,8 +86,9 @@ class Filter:
     def test_fingerprint_of_openssl(self):
         made = ["openssl", "req", "-x509", "-newkey", "ed25519", "-nodes", "-subj", "/CN=kiwi", "-keyout", "/dev/null"]
         certificate = subprocess.run(made, capture_output=True, check=True).stdout
-        shown, der = (subprocess.run(["openssl", "x509", *options], input=certificate, capture_output=True, check=True).stdout
-                      for options in (["-noout", "-fingerprint", "-sha256"], ["-outform", "DER"]))
+        options = [["-noout", "-fingerprint", "-sha256"], ["-outform", "DER"]]
+        shown, der = (subprocess.run(["openssl", "x509", *row], input=certificate, capture_output=True, check=True).stdout
+                      for row in options)
         self.fingerprint(shown.partition(b"=")[2], hashlib.sha256(der).digest(), ["-us:"])
 
     @needs("ssh-keygen")

@@ -226,7 +226,8 @@ WritesLines g words = (v : List ℕ) × (decimal v ≡ Some g.size) × (g.separa
 
 abbrev pub WritesGroups : Groups → List (List ℕ) → Type 0
 WritesGroups g words =
-    (v : List ℕ) × (n : ℕ) × (decimal v ≡ Some n) × (g.size ≡ min (n * 2) (2 ^ 64 - 1)) × ((nat_lt g.separator 128 && not (is_ascii_hexdigit g.separator)) ≡ true)
+    (v : List ℕ) × (n : ℕ) × (decimal v ≡ Some n) × (g.size ≡ min (n * 2) (2 ^ 64 - 1))
+    × ((nat_lt g.separator 128 && not (is_ascii_hexdigit g.separator)) ≡ true)
     × (words ≡ codes "--group" ∷ v ∷ codes "--separator" ∷ (g.separator ∷ []) ∷ [])
 
 abbrev pub Writes : Mode → List (List ℕ) → Type 0

@@ -65,7 +65,8 @@ at_fault e i rest = let same : i + 1 - 1 ≡ i = omega arith in rw same refl
 abbrev set_by : (check decode ignores prefix upper : Bool) → Options
 set_by check decode ignores prefix upper = record start { check = check; decode = decode; ignore_whitespace = ignores; prefix = prefix; upper = upper }
 
-lines_at : (p u : Bool) (i : ℕ) (g : Groups) (words : List (List ℕ)) → WritesLines g words → with_arguments (Ok (set_by false false false p u)) i words ≡ Ok (Run (Encode p u g) None)
+lines_at : (p u : Bool) (i : ℕ) (g : Groups) (words : List (List ℕ)) → WritesLines g words
+    → with_arguments (Ok (set_by false false false p u)) i words ≡ Ok (Run (Encode p u g) None)
 unfolding with_arguments
 lines_at p u i g words (v, h, e, is) =
     let o : Options = record (set_by false false false p u) { wrapped = true; next = Any } in
@@ -75,25 +76,29 @@ lines_at p u i g words (v, h, e, is) =
 
 groups_at : (check decode ig p u : Bool) (i : ℕ) (g : Groups) (words : List (List ℕ)) → WritesGroups g words
     → with_arguments (Ok (set_by check decode ig p u)) i words
-    ≡ Ok (Run (if check then Check (record { ignore_whitespace = ig; groups = g }) else if decode then Decode (record { ignore_whitespace = ig; groups = g }) else Encode p u g) None)
+    ≡ Ok (Run (if check then Check (record { ignore_whitespace = ig; groups = g })
+    else if decode then Decode (record { ignore_whitespace = ig; groups = g }) else Encode p u g) None)
 unfolding with_arguments
 groups_at check decode ig p u i g words (v, n, h, size, sep, is) =
     let o : Options = record (set_by check decode ig p u) { grouped = true; next = Any } in
     ap (with_arguments (Ok (set_by check decode ig p u)) i) is
     ∙ ap (λ d. with_arguments (checked (number_read o setting.Group d)) (i + 1 + 1) (codes "--separator" ∷ (g.separator ∷ []) ∷ [])) h
-    ∙ ap (λ b. with_arguments (checked (if b then Ok (record o { group = n; separator = g.separator }) else Err InvalidSeparator)) (i + 1 + 1 + 1 + 1) []) sep
+    ∙ ap (λ b.
+    with_arguments (checked (if b then Ok (record o { group = n; separator = g.separator }) else Err InvalidSeparator)) (i + 1 + 1 + 1 + 1) []) sep
     ∙ ap (λ s. Ok (Run (if check then Check (record { ignore_whitespace = ig; groups = record { size = s; separator = g.separator } })
     else if decode then Decode (record { ignore_whitespace = ig; groups = record { size = s; separator = g.separator } })
     else Encode p u (record { size = s; separator = g.separator })) None)) (sym size)
 
 decode_read : (ig : Bool) (g : Groups) (words : List (List ℕ)) → WritesGroups g words
-    → request_for (written (Decode (record { ignore_whitespace = ig; groups = g })) words) ≡ Ok (Run (Decode (record { ignore_whitespace = ig; groups = g })) None)
+    → request_for (written (Decode (record { ignore_whitespace = ig; groups = g })) words)
+    ≡ Ok (Run (Decode (record { ignore_whitespace = ig; groups = g })) None)
 unfolding with_arguments
 decode_read true g words h = groups_at false true true false false 2 g words h
 decode_read false g words h = groups_at false true false false false 1 g words h
 
 check_read : (ig : Bool) (g : Groups) (words : List (List ℕ)) → WritesGroups g words
-    → request_for (written (Check (record { ignore_whitespace = ig; groups = g })) words) ≡ Ok (Run (Check (record { ignore_whitespace = ig; groups = g })) None)
+    → request_for (written (Check (record { ignore_whitespace = ig; groups = g })) words)
+    ≡ Ok (Run (Check (record { ignore_whitespace = ig; groups = g })) None)
 unfolding with_arguments
 check_read true g words h = groups_at true false true false false 2 g words h
 check_read false g words h = groups_at true false false false false 1 g words h

@@ -28,9 +28,9 @@ same_value : {V : Type 0} (f g : RunError) → ◌≡◌ {A = Result V RunError}
 same_value f g is = cc
 
 -- an odd number of digits
-pub odd_error : {V W : Type 0} (res : Result V RunError) (r : Reading) (left : Option (List ℕ)) (x y : List ℕ) (f : RunError) (e : FromHexError) (place : Option Place)
-    → res ≡ Err f → ◌≡◌ {A = Result W RunError} (Err f) (Err (Text OddLength None)) → res ≡ Err (Text e place) → IsAtEnd left × IsOdd (length (text_of r x)) × SpellsPairs (text_of r x) y
-    → HasError r left x y e place
+pub odd_error : {V W : Type 0} (res : Result V RunError) (r : Reading) (left : Option (List ℕ)) (x y : List ℕ) (f : RunError) (e : FromHexError)
+    (place : Option Place) → res ≡ Err f → ◌≡◌ {A = Result W RunError} (Err f) (Err (Text OddLength None)) → res ≡ Err (Text e place)
+    → IsAtEnd left × IsOdd (length (text_of r x)) × SpellsPairs (text_of r x) y → HasError r left x y e place
 odd_error res r left x y f e place is odd asked h =
     let one : f ≡ Text OddLength None = same_value f (Text OddLength None) odd in
     let same : OddLength ≡ e = cc in

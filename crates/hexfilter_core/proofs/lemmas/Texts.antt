@@ -115,6 +115,9 @@ take_put a m k xs ys started within =
     let both = take-append-add (take a xs) (ys ++ post_of a m xs) k ∙ ap (λ l. take a xs ++ l) (take-append-le k ys (post_of a m xs) within) in
     rw front at both
 
+pub rest-size : (chunk : List ℕ) (done : ℕ) → length (take (length chunk - done) (drop done chunk)) ≡ length chunk - done
+rest-size chunk done = omega (arith, length-take (length chunk - done) (drop done chunk), length-drop done chunk)
+
 -- n more after the first `done` of a chunk
 pub joined : (x chunk : List ℕ) (done n : ℕ) → done ≤ length chunk
     → (x ++ take done chunk) ++ take n (take (length chunk - done) (drop done chunk)) ≡ x ++ take (done + n) chunk

@@ -9,6 +9,7 @@ groups-preserved c =
       within = omega arith;
       room = omega (arith, parted.within);
       column = omega (arith, parted.column);
-      groups = goes_on _ _ _ _ c.args.text.now c.groups.done c.min-count.result _ _ (λ rest some. laid.groups rest ∙ parted.groups rest some) (omega arith) (omega arith)
+      groups = goes_on _ _ _ _ c.args.text.now c.groups.done c.min-count.result _ _ (λ rest some.
+          laid.groups rest ∙ parted.groups rest some) (omega arith) (omega arith)
           c.put-end.ensures.front (omega arith);
     }

@@ -24,7 +24,8 @@ returns-in-Err-clause-err c = λ x y rest has.
         cut = rw c.from-c.ensures refl;
         bytes = pairs r c.args.self.now.decoder x y has.text;
         invalid = rw (c.from-c.ensures, c.in-Some.ensures.text x has.scanned)
-            (not_digits (text_of r x ++ c.in-Some.character ∷ []) y (length c.args.output.now) c.in-Err.field-0 (told.answer (text_of r x) y has.text) (told.enough (omega (arith, c.requires))));
+            (not_digits (text_of r x ++ c.in-Some.character ∷ []) y (length c.args.output.now) c.in-Err.field-0
+            (told.answer (text_of r x) y has.text) (told.enough (omega (arith, c.requires))));
         position = c.position-index.ensures.count x has.scanned;
         stands = c.position-index.ensures.place x has.scanned;
       },

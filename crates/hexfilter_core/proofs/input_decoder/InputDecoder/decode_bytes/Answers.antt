@@ -38,14 +38,19 @@ loop-byte-preserved c =
       within = omega (arith, told.within);
       reads = told.reads ∙ i.reads;
       decoded = λ x y has.
-          let put = take_put end _ c.in-Ok.count c.loop-byte.output c.decode_byte.new.output (omega (arith, c.loop-byte.auto.output)) (omega (arith, told.length, told.within, c.loop-byte.auto.output)) in
-          rw (joined_one x chunk at c.loop-byte-test.true, append_assoc y (take end c.loop-byte.output) (take c.in-Ok.count c.decode_byte.new.output), sym put) at
-          (told.ok (x ++ take at chunk) (y ++ take end c.loop-byte.output) (i.decoded x y has));
+          let out = c.loop-byte.output in
+          let new = c.decode_byte.new.output in
+          let room = c.loop-byte.auto.output in
+          let put = take_put end _ c.in-Ok.count out new (omega (arith, room)) (omega (arith, told.length, told.within, room)) in
+          rw (joined_one x chunk at c.loop-byte-test.true, append_assoc y (take end out) (take c.in-Ok.count new), sym put) at
+          (told.ok (x ++ take at chunk) (y ++ take end out) (i.decoded x y has));
     }
 
 pub returns-clause-begun : goal.returns-clause-begun
 returns-clause-begun c = λ x y has.
-    rw c.loop-byte.invariant.reads at (decoded_before c.loop-byte.self x c.args.chunk.now (y ++ take c.loop-byte.end c.loop-byte.output) c.loop-byte.byte-index (c.loop-byte.invariant.decoded x y has))
+    let i = c.loop-byte.invariant in
+    let out = y ++ take c.loop-byte.end c.loop-byte.output in
+    rw i.reads at (decoded_before c.loop-byte.self x c.args.chunk.now out c.loop-byte.byte-index (i.decoded x y has))
 
 pub returns-clause-ok : goal.returns-clause-ok
 returns-clause-ok c = λ x y has none. rw (take_all c.loop-byte.byte-index c.args.chunk.now (omega arith)) at (c.loop-byte.invariant.decoded x y has)

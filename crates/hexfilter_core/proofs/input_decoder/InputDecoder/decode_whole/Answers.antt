@@ -16,5 +16,8 @@ returns-clause-ok c = λ x y has.
     let plain = text_plain r in
     let none = rw c.leaves_out.ensures at c.if-leaves_out.false in
     if_ok_weaker c.decode-2.result (λ n read.
-    record { text = rw (c.pass.ensures.reading, plain (x ++ c.args.chunk.now) none) (rw (plain x none) at read); scanned = c.pass.ensures.scanned x c.args.chunk.now has.scanned refl })
+    record {
+      text = rw (c.pass.ensures.reading, plain (x ++ c.args.chunk.now) none) (rw (plain x none) at read);
+      scanned = c.pass.ensures.scanned x c.args.chunk.now has.scanned refl;
+    })
     (c.decode-2.ensures.ok (text_of r x) y has.text)

@@ -1,7 +1,7 @@
 use Rattle.std.proofs.Common.{◌≡◌, ◌-◌, ◌+◌, ◌<◌, ◌≤◌, ◌++◌, ◌∷◌, ◌∙◌, [], ℕ, length, take, drop, ap, sym, arith}
-use Rattle.std.proofs.lemmas.List.{length-take, length-drop, take_all}
+use Rattle.std.proofs.lemmas.List.{take_all}
 use Rattle.const_hex.specs.Decoding.{listed}
-use Rattle.hexfilter_core.proofs.lemmas.Texts.{byte_text, joined, joined_one, run_text}
+use Rattle.hexfilter_core.proofs.lemmas.Texts.{byte_text, joined, joined_one, rest-size, run_text}
 use Rattle.hexfilter_core.proofs.scanner.Scanner.text.Goals as goal
 
 pub runs-preserved-then-count-eq-LANES : goal.runs-preserved-then-count-eq-LANES
@@ -10,12 +10,14 @@ runs-preserved-then-count-eq-LANES c =
     let done = c.runs.done in
     let i = c.runs.invariant in
     let ran = rw c.if-count-eq-LANES.true at c.run-count.ensures in
-    let size : length (take (length chunk - done) (drop done chunk)) ≡ length chunk - done = omega (arith, length-take (length chunk - done) (drop done chunk), length-drop done chunk) in record {
+    let size = rest-size chunk done in
+    let room = c.runs.auto.output in record {
       within = omega (arith, ran.within, size);
       fewer = omega arith;
       how = ran.reading ∙ i.how;
       text = λ x is.
-          rw ran.reading (run_text _ x chunk _ c.runs.end done i.within (i.text x is) _ 32 _ (omega (arith, c.runs.auto.output)) (omega (arith, ran.length, ran.within, size, c.runs.auto.output))
+          rw ran.reading (run_text _ x chunk _ c.runs.end done i.within (i.text x is) _ 32 _ (omega (arith, room))
+          (omega (arith, ran.length, ran.within, size, room))
           (ran.text (x ++ take done chunk) (i.scanned x is)));
       scanned = λ x is. rw (joined x chunk done 32 i.within) at (ran.scanned (x ++ take done chunk) (i.scanned x is));
     }
@@ -27,12 +29,14 @@ runs-preserved c =
     let n = c.run-count.result in
     let i = c.runs.invariant in
     let ran = c.run-count.ensures in
-    let size : length (take (length chunk - done) (drop done chunk)) ≡ length chunk - done = omega (arith, length-take (length chunk - done) (drop done chunk), length-drop done chunk) in record {
+    let size = rest-size chunk done in
+    let room = c.runs.auto.output in record {
       within = omega (arith, ran.within, size);
       fewer = omega arith;
       how = ran.reading ∙ i.how;
       text = λ x is.
-          rw ran.reading (run_text _ x chunk _ c.runs.end done i.within (i.text x is) _ n _ (omega (arith, c.runs.auto.output)) (omega (arith, ran.length, ran.within, size, c.runs.auto.output))
+          rw ran.reading (run_text _ x chunk _ c.runs.end done i.within (i.text x is) _ n _ (omega (arith, room))
+          (omega (arith, ran.length, ran.within, size, room))
           (ran.text (x ++ take done chunk) (i.scanned x is)));
       scanned = λ x is. rw (joined x chunk done n i.within) at (ran.scanned (x ++ take done chunk) (i.scanned x is));
     }
@@ -45,16 +49,19 @@ runs-preserved-then-done-chunk c =
     let i = c.runs.invariant in
     let ran = c.run-count.ensures in
     let inside : done + n < length chunk = omega arith in
-    let size : length (take (length chunk - done) (drop done chunk)) ≡ length chunk - done = omega (arith, length-take (length chunk - done) (drop done chunk), length-drop done chunk) in record {
+    let size = rest-size chunk done in
+    let room = c.runs.auto.output in record {
       within = omega arith;
       fewer = omega (arith, c.put-end.ensures.within);
       how = c.next.ensures.reading ∙ ran.reading ∙ i.how;
       text = λ x is.
           let there = rw (joined x chunk done n i.within) at (ran.scanned (x ++ take done chunk) (i.scanned x is)) in
           rw (c.next.ensures.reading ∙ ran.reading) (byte_text _ x chunk _ (c.runs.end + n) (done + n) (omega arith)
-          (run_text _ x chunk _ c.runs.end done i.within (i.text x is) _ n _ (omega (arith, c.runs.auto.output)) (omega (arith, ran.length, ran.within, size, c.runs.auto.output))
+          (run_text _ x chunk _ c.runs.end done i.within (i.text x is) _ n _ (omega (arith, room))
+          (omega (arith, ran.length, ran.within, size, room))
           (ran.text (x ++ take done chunk) (i.scanned x is)))
-          _ (listed c.next.result) c.put-end.result inside c.put-end.ensures.front (rw ran.reading at (c.next.ensures.text (x ++ take (done + n) chunk) there)));
+          _ (listed c.next.result) c.put-end.result inside c.put-end.ensures.front
+          (rw ran.reading at (c.next.ensures.text (x ++ take (done + n) chunk) there)));
       scanned = λ x is.
           let there = rw (joined x chunk done n i.within) at (ran.scanned (x ++ take done chunk) (i.scanned x is)) in
           rw (joined_one x chunk (done + n) inside) at (c.next.ensures.scanned (x ++ take (done + n) chunk) there);
