@@ -1,5 +1,5 @@
 #!/usr/bin/env python3
-"""Compares hexfilter with xxd, basenc and od, and tests its errors and its exit statuses.
+"""Compares hexfilter with other tools, and tests its errors and its exit statuses.
 
     crates/hexfilter/compare_with_tools.py                  # both builds
     crates/hexfilter/compare_with_tools.py Cargo            # one of them, Cargo or Rattle
@@ -9,7 +9,9 @@ The build by cargo is made first. The one by Rattle is what `rt run` or `rt ci` 
 it is not there. A test is also skipped if its tool is missing. The last line is "N passed, M failed", and ", K skipped"
 if tests were skipped.
 """
+import base64
 import filecmp
+import hashlib
 import pathlib
 import random
 import shutil
@@ -38,10 +40,21 @@ def needs(tool):
     return unittest.skipUnless(shutil.which(tool), f"needs {tool}")
 
 
+# A tool, its command, the options that decode what it writes, those that write the same, and the largest file.
+TOOLS = [
+    ("xxd", "xxd -p", "-d --ignore-whitespace", "-w60", SIZES[-1]),
+    ("xxd", "xxd -p -u", "-di", None, 131_073),
+    ("basenc", "basenc --base16", "-di", "-uw 76", 131_073),
+    ("basenc", "basenc --base16 -w1", "-di", "-uw1", 131_073),
+    ("basenc", "basenc --base16 -w0", "-d", "--upper", SIZES[-1]),
+    ("od", "od -An -v -tx1", "-di", None, 131_073),
+    ("od", "od -An -v -tx1 -w9999999 | cut -c2- | tr -d '\\n'", "-d --group 1", "-g1", 131_073),
+    ("hexdump", """hexdump -v -e '16/1 "%02x " "\\n"'""", "-di", None, 131_073),
+]
+
+
 class Filter:
     """The tests of each build, whose path is `program`."""
-
-    # Files of 0 bytes to 64 MiB, in both ways.
 
     def output(self, name, command, path):
         """What the command writes if it reads the file, as another file."""
@@ -50,55 +63,41 @@ class Filter:
             subprocess.run(command, stdin=read, stdout=write, check=True)
         return made
 
-    def agree(self, options, tool, decode, largest=SIZES[-1]):
-        """hexfilter writes what the tool writes, and decodes that."""
-        for path in FILES:
-            if int(path.name) > largest:
-                continue
-            with self.subTest(size=path.name, options=options):
-                theirs = self.output("theirs", tool, path)
-                ours = self.output("ours", [self.program, *options], path)
-                self.assertTrue(filecmp.cmp(ours, theirs, shallow=False))
-                again = self.output("again", [self.program, *decode], theirs)
-                self.assertTrue(filecmp.cmp(again, path, shallow=False))
+    def test_tools(self):
+        """hexfilter decodes what each tool writes, and writes the same if there are options for that."""
+        for tool, command, decode, encode, largest in TOOLS:
+            for path in [path for path in FILES if int(path.name) <= largest]:
+                with self.subTest(tool=tool, size=path.name):
+                    if not shutil.which(tool):
+                        self.skipTest(f"needs {tool}")
+                    theirs = self.output("theirs", ["sh", "-c", command], path)
+                    again = self.output("again", [self.program, *decode.split()], theirs)
+                    self.assertTrue(filecmp.cmp(again, path, shallow=False))
+                    if encode is not None:
+                        ours = self.output("ours", [self.program, *encode.split()], path)
+                        self.assertTrue(filecmp.cmp(ours, theirs, shallow=False))
 
-    @needs("xxd")
-    def test_xxd(self):
-        self.agree(["-w60"], ["xxd", "-p"], ["-d", "--ignore-whitespace"])
+    def fingerprint(self, text, digest, encode):
+        """hexfilter decodes a fingerprint, of which the end of the line may be left, and writes it."""
+        self.ends(["-di", "--separator", ":"], text, 0, digest, b"")
+        self.ends(encode, digest, 0, text.strip(), b"")
 
-    @needs("basenc")
-    def test_basenc_in_lines(self):
-        self.agree(["-uw", "76"], ["basenc", "--base16"], ["-d", "--ignore-whitespace"], 131_073)
-        self.agree(["-uw1"], ["basenc", "--base16", "-w1"], ["-d", "--ignore-whitespace"], 131_073)
+    @needs("openssl")
+    def test_fingerprint_of_openssl(self):
+        made = ["openssl", "req", "-x509", "-newkey", "ed25519", "-nodes", "-subj", "/CN=kiwi", "-keyout", "/dev/null"]
+        certificate = subprocess.run(made, capture_output=True, check=True).stdout
+        options = [["-noout", "-fingerprint", "-sha256"], ["-outform", "DER"]]
+        shown, der = (subprocess.run(["openssl", "x509", *row], input=certificate, capture_output=True, check=True).stdout
+                      for row in options)
+        self.fingerprint(shown.partition(b"=")[2], hashlib.sha256(der).digest(), ["-us:"])
 
-    @needs("basenc")
-    def test_basenc_in_one_piece(self):
-        self.agree(["--upper"], ["basenc", "--base16", "-w0"], ["-d"])
-
-    @needs("od")
-    def test_od(self):
-        od = "od -An -v -tx1 | tr -d ' \\n'"
-        self.agree(["--wrap=0"], ["sh", "-c", od], ["-d"], 131_073)
-
-    def decodes(self, tool):
-        """hexfilter decodes what the tool writes, in lines and with spaces."""
-        for path in FILES[:-1]:
-            with self.subTest(size=path.name):
-                theirs = self.output("theirs", tool, path)
-                again = self.output("again", [self.program, "-di"], theirs)
-                self.assertTrue(filecmp.cmp(again, path, shallow=False))
-
-    @needs("xxd")
-    def test_xxd_in_uppercase(self):
-        self.decodes(["xxd", "-p", "-u"])
-
-    @needs("od")
-    def test_od_with_spaces(self):
-        self.decodes(["od", "-An", "-v", "-tx1"])
-
-    @needs("hexdump")
-    def test_hexdump(self):
-        self.decodes(["hexdump", "-v", "-e", '16/1 "%02x " "\\n"'])
+    @needs("ssh-keygen")
+    def test_fingerprint_of_ssh(self):
+        key = pathlib.Path(FOLDER.name, f"key{type(self).__name__}")
+        subprocess.run(["ssh-keygen", "-q", "-t", "ed25519", "-N", "", "-f", key], check=True)
+        shown = subprocess.run(["ssh-keygen", "-l", "-E", "md5", "-f", key], capture_output=True, check=True).stdout
+        digest = hashlib.md5(base64.b64decode(key.with_suffix(".pub").read_bytes().split()[1])).digest()
+        self.fingerprint(shown.split()[1].partition(b":")[2], digest, ["--group", "1", "--separator", ":"])
 
     # Exit statuses, and what standard error has.
 
@@ -121,6 +120,9 @@ class Filter:
             (["-pw4"], b"kiwi", 0, b"0x6b\n6977\n69\n", b""),
             (["-d", "-"], b"0x6b697769", 0, b"kiwi", b""),
             (["--check"], b"6b69", 0, b"", b""),
+            (["-us:"], b"kiwi", 0, b"6B:69:77:69", b""),
+            (["-dg2"], b"6b69 7769", 0, b"kiwi", b""),
+            (["-ds:"], b"6b:6977", 1, b"ki", named("invalid character '7' at position 5 (line 1, column 6)")),
             (["--version"], b"", 0, b"hexfilter 1.0.0\n", b""),
             (["--check"], b"6b697z", 1, b"", named("invalid character 'z' at position 5")),
             (["--check"], b"6b69\n", 1, b"", named("invalid character '\\n' at position 4")),
@@ -131,6 +133,8 @@ class Filter:
             (["-dx"], b"kiwi", 2, b"", usage("unknown option '-dx'")),
             (["-p", "--wrap"], b"kiwi", 2, b"", usage("missing value after '--wrap'")),
             (["-w", "7o"], b"kiwi", 2, b"", usage("invalid number '7o'")),
+            (["--separator=a"], b"kiwi", 2, b"", usage("invalid separator '--separator=a'")),
+            (["-w4", "-g2"], b"kiwi", 2, b"", usage("--wrap beside --group or --separator: '-g2'")),
             (["one", "two"], b"kiwi", 2, b"", usage("second file 'two'")),
             (["\udcff"], b"kiwi", 2, b"", b"hexfilter: cannot read the arguments: invalid data\n"),
         ]

@@ -1,7 +1,6 @@
 pub mod Arguments
-pub mod DecodedInputs
 pub mod Encoding
-pub mod InputTexts
-pub mod InvalidCharacters
-pub mod LineBreaks
+pub mod Errors
+pub mod GroupBreaks
 pub mod PlacesOfCharacters
+pub mod Texts

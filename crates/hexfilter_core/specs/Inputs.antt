@@ -1,12 +1,14 @@
 -- An input that is read as a text.
-use Rattle.std.specs.Prelude.{◌≡◌, ℕ, ◌*◌, ◌==◌, nat_le, ◌&&◌, ◌||◌, Bool, not, if◌then◌else◌, List, ◌∷◌, ◌++◌, length, take, filter, Option}
+use Rattle.std.specs.Prelude.{◌≡◌, ℕ, ◌+◌, ◌*◌, ◌/◌, ◌==◌, nat_le, nat_lt, min, ◌&&◌, ◌||◌, Bool, not, if◌then◌else◌, List, [], ◌∷◌, ◌++◌, length, take, Option}
 use Rattle.std.specs.Io.KnownBytes.{Consumes, IsAtEnd}
-use Rattle.const_hex.specs.Results.{IsOdd, NamesFirstBad, body_of}
+use Rattle.const_hex.specs.Results.{IsOdd, body_of}
 use Rattle.const_hex.specs.Decoding.{counted}
 use Rattle.const_hex.specs.Texts.{AllDigits, Spells}
 use Rattle.const_hex.specs.declared.error.FromHexError.{FromHexError}
 use Rattle.const_hex.specs.declared.error.FromHexError.TheVariants.{OddLength, InvalidStringLength, InvalidHexCharacter, NoMemory}
 use Rattle.hexfilter_core.specs.Places.{StandsAfter}
+use Rattle.hexfilter_core.specs.declared.mode.Groups.{Groups}
+use Rattle.hexfilter_core.specs.declared.mode.Reading.{Reading}
 use Rattle.hexfilter_core.specs.declared.place.Place.{Place}
 
 -- x is all that the reader had
@@ -17,35 +19,65 @@ ReadsAll had left x = Consumes had left x × IsAtEnd left
 abbrev pub is_whitespace : ℕ → Bool
 is_whitespace b = (b == 32) || (nat_le 9 b && nat_le b 13)
 
--- the text of an input: the input without its whitespace if that is ignored, or else the input
-abbrev pub text_of : Bool → List ℕ → List ℕ
-text_of ignores x = if ignores then filter (λ b. not (is_whitespace b)) x else x
+-- ---- the text of an input
 
--- the first invalid character of the text of x is c, and i and the place say where it stands in x: i is
--- its position, or the greatest `usize` for a position beyond it
-pub record FirstInvalid (ignores : Bool) (x : List ℕ) (c i : ℕ) (place : Option Place) : Type 0 where
+-- a group that has k characters is whole
+abbrev pub is_whole : Groups → ℕ → Bool
+is_whole g k = nat_lt 0 g.size && (k == g.size)
+
+-- the byte b is left out if k characters came since the last separator: a separator after a whole group, or whitespace
+abbrev pub is_left_out : Reading → ℕ → ℕ → Bool
+is_left_out r k b = (is_whole r.groups k && (b == r.groups.separator)) || (r.ignore_whitespace && is_whitespace b)
+
+-- what the byte b adds to the text: after a whole group, a byte that is not left out counts as a NUL, which is no digit
+abbrev pub kept : Reading → ℕ → ℕ → List ℕ
+kept r k b = if is_left_out r k b then [] else (if is_whole r.groups k then 0 else b) ∷ []
+
+-- how many characters came since the last separator, after the byte b
+abbrev pub next : Reading → ℕ → ℕ → ℕ
+next r k b =
+    if is_whole r.groups k && (b == r.groups.separator) then 0
+    else if r.ignore_whitespace && is_whitespace b then k
+    else min (k + 1) r.groups.size
+
+unfoldable pub text_from : Reading → ℕ → List ℕ → List ℕ
+text_from r k [] = []
+text_from r k (b ∷ x) = kept r k b ++ text_from r (next r k b) x
+
+unfoldable pub next_from : Reading → ℕ → List ℕ → ℕ
+next_from r k [] = k
+next_from r k (b ∷ x) = next_from r (next r k b) x
+
+-- the text of an input: the input without what is left out
+abbrev pub text_of : Reading → List ℕ → List ℕ
+text_of r x = text_from r 0 x
+
+-- ---- its bytes, and its error
+
+-- all pairs of digits of the text t, of which one more digit may follow, decode to y
+abbrev pub SpellsPairs : List ℕ → List ℕ → Type 0
+SpellsPairs t y = AllDigits (body_of t) × Spells (take (2 * (length (body_of t) / 2)) (body_of t)) y
+
+-- the first digits of the text of x, two for each byte of y, decode to y
+abbrev pub SpellsBeginning : Reading → List ℕ → List ℕ → Type 0
+SpellsBeginning r x y = Spells (take (2 * length y) (body_of (text_of r x))) y
+
+-- c is the first invalid character of x, whatever follows: up to it the text has digits alone, which decode to y,
+-- and with it no more. i and the place say where it stands in x: i is its position, or the greatest `usize` for
+-- a position beyond it
+pub record FirstInvalid (r : Reading) (x y : List ℕ) (c i : ℕ) (place : Option Place) : Type 0 where
   pub front : List ℕ
   pub rest : List ℕ
   pub cut : x ≡ front ++ c ∷ rest
-  pub first : NamesFirstBad (text_of ignores x) c (length (text_of ignores front))
+  pub bytes : SpellsPairs (text_of r front) y
+  pub invalid : AllDigits (body_of (text_of r (front ++ c ∷ []))) → ⊥
   pub position : i ≡ counted (length front)
-  pub stands : StandsAfter ignores front place
+  pub stands : StandsAfter r front place
 
--- the error names the first invalid character of x
-abbrev pub NamesInvalid : Bool → List ℕ → FromHexError → Option Place → Type 0
-NamesInvalid ignores x OddLength place = ⊥
-NamesInvalid ignores x InvalidStringLength place = ⊥
-NamesInvalid ignores x (InvalidHexCharacter c i) place = FirstInvalid ignores x c i place
-NamesInvalid ignores x NoMemory place = ⊥
-
--- the error of an input of which x was read: an odd number of digits, at the end, or the first
--- invalid character, whatever follows
-abbrev pub HasError : Bool → Option (List ℕ) → List ℕ → FromHexError → Option Place → Type 0
-HasError ignores left x OddLength place = IsAtEnd left × IsOdd (length (text_of ignores x)) × AllDigits (body_of (text_of ignores x))
-HasError ignores left x InvalidStringLength place = ⊥
-HasError ignores left x (InvalidHexCharacter c i) place = (rest : List ℕ) → NamesInvalid ignores (x ++ rest) (InvalidHexCharacter c i) place
-HasError ignores left x NoMemory place = ⊥
-
--- the first digits of the text of x, two for each byte of y, decode to y
-abbrev pub SpellsBeginning : Bool → List ℕ → List ℕ → Type 0
-SpellsBeginning ignores x y = Spells (take (2 * length y) (body_of (text_of ignores x))) y
+-- the error of an input of which x was read, before which the text decodes to y: an odd number of digits, at the
+-- end, or the first invalid character
+abbrev pub HasError : Reading → Option (List ℕ) → List ℕ → List ℕ → FromHexError → Option Place → Type 0
+HasError r left x y OddLength place = IsAtEnd left × IsOdd (length (text_of r x)) × SpellsPairs (text_of r x) y
+HasError r left x y InvalidStringLength place = ⊥
+HasError r left x y (InvalidHexCharacter c i) place = FirstInvalid r x y c i place
+HasError r left x y NoMemory place = ⊥

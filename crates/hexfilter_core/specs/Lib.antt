@@ -1,8 +1,7 @@
 pub mod Decoding
-pub mod Encoded
 pub mod Errors
+pub mod Groups
 pub mod Inputs
-pub mod Lines
+pub mod Options
 pub mod Outcome
 pub mod Places
-pub mod Options

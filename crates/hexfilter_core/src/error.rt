@@ -11,14 +11,15 @@ use std::io;
 ///
 /// ```rust
 /// let mut output = Vec::new(rt.alloc());
-/// let mode = Mode::Decode { ignore_whitespace: false };
+/// let groups = Groups { size: 0, separator: b' ' };
+/// let mode = Mode::Decode(Reading { ignore_whitespace: false, groups });
 /// let error = run(mode, &mut b"6b6".as_slice(), &mut output).unwrap_err();
 /// assert_eq!(rt; error.status(), 1);
 /// ```
 #[derive(Clone, Copy, Debug)]
 pub enum RunError {
-    /// The text has an odd number of digits, or an invalid character. If whitespace is ignored, the
-    /// character stands at that place, and else in the first line.
+    /// The text has an odd number of digits, or an invalid character. If bytes may be left out of the input,
+    /// the character stands at that place, and else in the first line.
     Text(FromHexError, Option<Place>),
     /// A read failed with this error. It is never `Interrupted`.
     Read(io::Error),

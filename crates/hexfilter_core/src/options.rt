@@ -1,14 +1,17 @@
 //! What the arguments of the program ask for.
 
-ghost use Rattle.std.specs.Prelude.{◌≡◌, map, string_bytes};
-ghost use Rattle.hexfilter_core.specs.Options.{decimal, lettered, mode_of, named, request, request_for, set, wants_value, with_argument, with_assignment, with_dashes, with_digit, with_digits, with_letters, with_name, with_operand, with_rest, with_value};
+ghost use Rattle.std.specs.Prelude.{◌≡◌, ℕ, List, None, Ok, map, string_bytes};
+ghost use Rattle.hexfilter_core.specs.Options.{Writes, decimal, groups_of, lettered, mode_of, named, request, request_for, set, valued, with_argument, with_assignment, with_dashes, with_digit, with_digits, with_letters, with_name, with_number, with_operand, with_rest, with_value, with_word, written};
+ghost use Rattle.hexfilter_core.specs.declared.mode.Mode.{Mode};
+ghost use Rattle.hexfilter_core.specs.declared.options.Request.TheVariants.{Run};
 
-use crate::mode::Mode;
+use crate::mode::{Groups, Mode, Reading};
 
 /// What the program is asked to do.
 ///
 /// ```rust
-/// assert_eq!(rt; request_of(&[]), Ok(Request::Run(Mode::Encode { prefix: false, upper: false, columns: 0 }, None)));
+/// let groups = Groups { size: 0, separator: b'\n' };
+/// assert_eq!(rt; request_of(&[]), Ok(Request::Run(Mode::Encode { prefix: false, upper: false, groups }, None)));
 /// ```
 #[derive(Clone, Copy, PartialEq, Eq, Debug)]
 pub enum Request {
@@ -29,6 +32,10 @@ pub enum Fault {
     MissingValue,
     /// It has or is a value that is no number of at most `usize::MAX`.
     InvalidNumber,
+    /// It has or is a separator that is no ASCII character, or a digit.
+    InvalidSeparator,
+    /// It asks for groups beside lines, or for lines beside groups.
+    GroupsInLines,
     /// It is a second file.
     SecondFile,
 }
@@ -53,6 +60,8 @@ pub(crate) enum Setting {
     Help,
     Version,
     Wrap,
+    Group,
+    Separator,
 }
 
 /// What the next argument may be.
@@ -60,8 +69,8 @@ pub(crate) enum Setting {
 pub(crate) enum Next {
     /// Options or a file.
     Any,
-    /// The value of the last option.
-    Value,
+    /// The value of this option.
+    Value(Setting),
     /// A file.
     File,
 }
@@ -76,7 +85,12 @@ pub(crate) struct Options {
     ignore_whitespace: bool,
     help: bool,
     version: bool,
+    /// Whether lines and groups are asked for.
+    wrapped: bool,
+    grouped: bool,
     columns: usize,
+    group: usize,
+    separator: u8,
     file: Option<usize>,
     next: Next,
 }
@@ -89,7 +103,11 @@ const START: Options = Options {
     ignore_whitespace: false,
     help: false,
     version: false,
+    wrapped: false,
+    grouped: false,
     columns: 0,
+    group: 1,
+    separator: b' ',
     file: None,
     next: Next::Any,
 };
@@ -101,6 +119,16 @@ const START: Options = Options {
 /// assert_eq!(rt; request_of(&arguments), Ok(Request::Version));
 /// ```
 pub fn request_of(arguments: &[String]) -> Result<Request, UsageError>
+    ensures grammar { result ≡ request_for (map string_bytes arguments.now) }
+    // What is written as arguments is read back.
+    ensures read_back { (m : Mode) (words : List (List ℕ)) → Writes m words
+        → map string_bytes arguments.now ≡ written m words → result ≡ Ok (Run m None) }
+{
+    read(arguments)
+}
+
+/// As `request_of`.
+fn read(arguments: &[String]) -> Result<Request, UsageError>
     ensures { result ≡ request_for (map string_bytes arguments.now) }
 {
     let mut options = START;
@@ -126,6 +154,8 @@ fn named(name: &str) -> Option<Setting>
         "help" => Some(Setting::Help),
         "version" => Some(Setting::Version),
         "wrap" => Some(Setting::Wrap),
+        "group" => Some(Setting::Group),
+        "separator" => Some(Setting::Separator),
         _ => None,
     }
 }
@@ -142,6 +172,8 @@ fn lettered(letter: u8) -> Option<Setting>
         b'h' => Some(Setting::Help),
         b'V' => Some(Setting::Version),
         b'w' => Some(Setting::Wrap),
+        b'g' => Some(Setting::Group),
+        b's' => Some(Setting::Separator),
         _ => None,
     }
 }
@@ -159,7 +191,14 @@ impl Options {
             Setting::IgnoreWhitespace => self.ignore_whitespace = true,
             Setting::Help => self.help = true,
             Setting::Version => self.version = true,
-            Setting::Wrap => self.next = Next::Value,
+            Setting::Wrap => self.wrapped = true,
+            Setting::Group | Setting::Separator => self.grouped = true,
+        }
+        match setting {
+            Setting::Wrap | Setting::Group | Setting::Separator => {
+                self.next = Next::Value(setting);
+            }
+            _ => {}
         }
         self
     }
@@ -168,9 +207,19 @@ impl Options {
     fn with_argument(self, index: usize, argument: &str) -> Result<Options, Fault>
         ensures { result ≡ with_argument self index argument.now }
     {
+        match self.with_word(index, argument) {
+            Ok(more) if more.wrapped && more.grouped => Err(Fault::GroupsInLines),
+            more => more,
+        }
+    }
+
+    /// The options with an argument, which may ask for both lines and groups.
+    fn with_word(self, index: usize, argument: &str) -> Result<Options, Fault>
+        ensures { result ≡ with_word self index argument.now }
+    {
         match self.next {
             Next::Any => self.with_dashes(index, argument),
-            Next::Value => self.with_value(argument.as_bytes()),
+            Next::Value(setting) => self.with_value(setting, argument.as_bytes()),
             Next::File => self.with_operand(index),
         }
     }
@@ -206,8 +255,20 @@ impl Options {
     fn with_assignment(self, text: &str) -> Result<Options, Fault>
         ensures { result ≡ with_assignment self text.now }
     {
-        match text.strip_prefix("wrap=") {
-            Some(value) => self.with_value(value.as_bytes()),
+        if let Some(value) = text.strip_prefix("wrap=") {
+            return self
+                .set(Setting::Wrap)
+                .with_value(Setting::Wrap, value.as_bytes());
+        }
+        if let Some(value) = text.strip_prefix("group=") {
+            return self
+                .set(Setting::Group)
+                .with_value(Setting::Group, value.as_bytes());
+        }
+        match text.strip_prefix("separator=") {
+            Some(value) => self
+                .set(Setting::Separator)
+                .with_value(Setting::Separator, value.as_bytes()),
             None => Err(Fault::UnknownOption),
         }
     }
@@ -221,29 +282,32 @@ impl Options {
                 Some(setting) => self = self.set(setting),
                 None => return Err(Fault::UnknownOption),
             }
-            if self.wants_value() {
-                return self.with_rest(&letters[index + 1..]);
+            if let Some(setting) = self.valued() {
+                return self.with_rest(setting, &letters[index + 1..]);
             }
         }
         Ok(self)
     }
 
-    /// The options with what follows a letter that takes a value. If that is nothing, the value is the next
-    /// argument.
-    fn with_rest(self, text: &[u8]) -> Result<Options, Fault>
-        ensures { result ≡ with_rest self text.now }
+    /// The options with what follows the letter of an option that takes a value. If that is nothing, the value is
+    /// the next argument.
+    fn with_rest(self, setting: Setting, text: &[u8]) -> Result<Options, Fault>
+        ensures { result ≡ with_rest self setting text.now }
     {
         match text {
             [] => Ok(self),
-            _ => self.with_value(text),
+            _ => self.with_value(setting, text),
         }
     }
 
-    /// Whether a value follows.
-    fn wants_value(self) -> bool
-        ensures { result ≡ wants_value self.next }
+    /// The option whose value follows.
+    fn valued(self) -> Option<Setting>
+        ensures { result ≡ valued self.next }
     {
-        matches!(self.next, Next::Value)
+        match self.next {
+            Next::Value(setting) => Some(setting),
+            _ => None,
+        }
     }
 
     /// The options with a file.
@@ -257,15 +321,30 @@ impl Options {
         Ok(self)
     }
 
-    /// The options with the value of the last option.
-    fn with_value(mut self, text: &[u8]) -> Result<Options, Fault>
-        ensures { result ≡ with_value self text.now }
+    /// The options with the value of an option.
+    fn with_value(mut self, setting: Setting, text: &[u8]) -> Result<Options, Fault>
+        ensures { result ≡ with_value self setting text.now }
     {
-        match decimal(text) {
-            Some(columns) => self.columns = columns,
-            None => return Err(Fault::InvalidNumber),
-        }
         self.next = Next::Any;
+        match (setting, text) {
+            (Setting::Separator, [byte]) if byte.is_ascii() && !byte.is_ascii_hexdigit() => {
+                self.separator = *byte;
+                Ok(self)
+            }
+            (Setting::Separator, _) => Err(Fault::InvalidSeparator),
+            _ => self.with_number(setting, text),
+        }
+    }
+
+    /// The options with a number.
+    fn with_number(mut self, setting: Setting, text: &[u8]) -> Result<Options, Fault>
+        ensures { result ≡ with_number self setting text.now }
+    {
+        match (decimal(text), setting) {
+            (Some(number), Setting::Group) => self.group = number,
+            (Some(number), _) => self.columns = number,
+            (None, _) => return Err(Fault::InvalidNumber),
+        }
         Ok(self)
     }
 
@@ -273,7 +352,7 @@ impl Options {
     fn request(self, count: usize) -> Result<Request, UsageError>
         ensures { result ≡ request self count }
     {
-        if self.wants_value() {
+        if self.valued().is_some() {
             return Err(UsageError {
                 fault: Fault::MissingValue,
                 index: count.saturating_sub(1),
@@ -292,17 +371,36 @@ impl Options {
     fn mode(self) -> Mode
         ensures { result ≡ mode_of self }
     {
-        let ignore_whitespace = self.ignore_whitespace;
+        let reading = Reading {
+            ignore_whitespace: self.ignore_whitespace,
+            groups: self.groups(0),
+        };
         if self.check {
-            Mode::Check { ignore_whitespace }
+            Mode::Check(reading)
         } else if self.decode {
-            Mode::Decode { ignore_whitespace }
+            Mode::Decode(reading)
         } else {
             Mode::Encode {
                 prefix: self.prefix,
                 upper: self.upper,
-                columns: self.columns,
+                groups: self.groups(self.columns),
             }
+        }
+    }
+
+    /// The groups that are set, or else lines of so many characters.
+    fn groups(self, columns: usize) -> Groups
+        ensures { result ≡ groups_of self columns }
+    {
+        if self.grouped {
+            return Groups {
+                size: self.group.saturating_mul(2),
+                separator: self.separator,
+            };
+        }
+        Groups {
+            size: columns,
+            separator: b'\n',
         }
     }
 }

@@ -1,7 +1,8 @@
 //! Where a character stands, as editors count.
 
-ghost use Rattle.std.specs.Prelude.{◌≡◌, ◌≢◌, ◌++◌, ◌∷◌, [], List, ℕ, length, All};
-ghost use Rattle.hexfilter_core.specs.Places.{IsPlace};
+ghost use Rattle.std.specs.Prelude.{◌≡◌, ◌+◌, ◌++◌, ◌∷◌, [], List, ℕ, length};
+ghost use Rattle.const_hex.specs.Decoding.{counted};
+ghost use Rattle.hexfilter_core.specs.Places.{IsPlace, IsLine};
 
 /// The line and the column of a character. Both count from 1, and a line ends with `\n`.
 #[derive(Clone, Copy, PartialEq, Eq, Debug)]
@@ -12,42 +13,42 @@ pub struct Place {
     pub column: usize,
 }
 
-impl Place {
-    /// The place of the first character.
-    pub(crate) const START: Place = Place { line: 1, column: 1 };
+/// A line of an input.
+#[derive(Clone, Copy, Debug)]
+pub(crate) struct Line {
+    /// Its number.
+    number: usize,
+    /// The position where it starts.
+    start: usize,
+}
 
-    /// The place after more of the input.
-    pub(crate) fn after(self, front: &[u8]) -> Place
-        ensures { (x : List ℕ) → IsPlace x self → IsPlace (x ++ front.now) result }
-    {
-        let mut place = self;
-        for byte in front {
-            place = place.after_byte(*byte);
-        }
-        place
-    }
+impl Line {
+    /// The first line.
+    pub(crate) const FIRST: Line = Line {
+        number: 1,
+        start: 0,
+    };
 
-    /// The place after one more byte.
-    pub(crate) fn after_byte(self, byte: u8) -> Place
-        ensures { (x : List ℕ) → IsPlace x self → IsPlace (x ++ byte ∷ []) result }
+    /// The line after one more byte, of `read`.
+    pub(crate) fn after(self, byte: u8, read: usize) -> Line
+        ensures { (x : List ℕ) → IsLine x self → read ≡ counted (length x + 1) → IsLine (x ++ byte ∷ []) result }
     {
         if byte == b'\n' {
-            return Place {
-                line: self.line.saturating_add(1),
-                column: 1,
+            return Line {
+                number: self.number.saturating_add(1),
+                start: read,
             };
         }
-        self.after_run(1)
+        self
     }
 
-    /// The place after as many bytes more, none of which is `\n`.
-    pub(crate) fn after_run(self, count: usize) -> Place
-        ensures { (x run : List ℕ) → IsPlace x self → length run ≡ count → All (λ b. b ≢ 10) run
-            → IsPlace (x ++ run) result }
+    /// The place of the byte after the first `read`.
+    pub(crate) fn place(self, read: usize) -> Place
+        ensures { (x : List ℕ) → IsLine x self → read ≡ counted (length x) → IsPlace x result }
     {
         Place {
-            line: self.line,
-            column: self.column.saturating_add(count),
+            line: self.number,
+            column: read.saturating_sub(self.start).saturating_add(1),
         }
     }
 }

@@ -35,6 +35,10 @@ is -, reads standard input. Writes to standard output.
   -u, --upper              write digits in uppercase
   -p, --prefix             write 0x before the digits
   -w, --wrap COLUMNS       write lines of COLUMNS characters (0: no lines)
+  -g, --group BYTES        write or read groups of BYTES bytes, with a space
+                           between them (0: no groups)
+  -s, --separator TEXT     write or read TEXT between the groups, which are of
+                           1 byte without --group. TEXT is one character
   -h, --help               print this help
   -V, --version            print the version
 
@@ -44,6 +48,7 @@ Exit status: 0 done, 1 the text cannot be decoded, 2 an argument is not valid,
 Examples:
   xxd -p disk.img | hexfilter -di > copy.img
   hexfilter -pw64 disk.img
+  echo 6B:69:77:69 | hexfilter -di --separator :
 ";
 
 /// What `--version` prints.
@@ -69,11 +74,12 @@ pub fn program<R: Read, W: Write>(
         × Appends (W.contents output.old) (W.contents output.new) y
         × ((input.new ≡ input.old) ⊎ ((m : Mode) × (x : List ℕ)
         × ReadsAll (R.remaining input.old) (R.remaining input.new) x × Makes m x y)) }
-    // Standard input was not asked for, or a mode fails with an error of its text.
+    // Standard input was not asked for, or a mode fails with an error of its text, and all before it was written.
     ensures invalid { exit_status result ≡ 1
-        → (input.new ≡ input.old) ⊎ ((m : Mode) × (x : List ℕ) × (e : FromHexError)
+        → (input.new ≡ input.old) ⊎ ((m : Mode) × (x : List ℕ) × (y : List ℕ) × (e : FromHexError)
         × (place : Option Place) × Consumes (R.remaining input.old) (R.remaining input.new) x
-        × FailsWith m (R.remaining input.new) x e place) }
+        × FailsWith m (R.remaining input.new) x y e place
+        × Appends (W.contents output.old) (W.contents output.new) y) }
     // Nothing was read or written.
     ensures misused { exit_status result ≡ 2
         → (input.new ≡ input.old) × (output.new ≡ output.old) }
@@ -110,6 +116,8 @@ fn misused(rt: &impl Eprint, arguments: &[String], error: UsageError) -> ExitCod
         Fault::UnknownOption => "unknown option",
         Fault::MissingValue => "missing value after",
         Fault::InvalidNumber => "invalid number",
+        Fault::InvalidSeparator => "invalid separator",
+        Fault::GroupsInLines => "--wrap beside --group or --separator:",
         Fault::SecondFile => "second file",
     };
     // Nothing is left to be done if standard error fails.
@@ -132,9 +140,10 @@ fn run_standard_input<R: Read, W: Write>(
     ensures done { exit_status result ≡ 0 → (x : List ℕ) × (y : List ℕ)
         × ReadsAll (R.remaining input.old) (R.remaining input.new) x × Makes mode x y
         × Appends (W.contents output.old) (W.contents output.new) y }
-    ensures invalid { exit_status result ≡ 1 → (x : List ℕ) × (e : FromHexError)
+    ensures invalid { exit_status result ≡ 1 → (x : List ℕ) × (y : List ℕ) × (e : FromHexError)
         × (place : Option Place) × Consumes (R.remaining input.old) (R.remaining input.new) x
-        × FailsWith mode (R.remaining input.new) x e place }
+        × FailsWith mode (R.remaining input.new) x y e place
+        × Appends (W.contents output.old) (W.contents output.new) y }
     ensures used { exit_status result ≢ 2 }
     ensures statuses { exit_status result ≤ 3 }
 {

@@ -26,12 +26,13 @@ use std::io::{self, Read, Write};
 /// - [`RunError::Read`], if a read fails;
 /// - [`RunError::Write`], if a write or the flush fails, or a write takes no bytes.
 ///
-/// A beginning of the result may then have been written: before an invalid character, the bytes of all
-/// whole pairs of digits. A call that a signal interrupts is made again.
+/// Before an error of the text, the bytes of all whole pairs of digits before it were written, and before one
+/// of a read or a write, a beginning of the result. A call that a signal interrupts is made again.
 ///
 /// ```rust
 /// let mut output = Vec::new(rt.alloc());
-/// let mode = Mode::Decode { ignore_whitespace: true };
+/// let groups = Groups { size: 0, separator: b' ' };
+/// let mode = Mode::Decode(Reading { ignore_whitespace: true, groups });
 /// run(mode, &mut b"6b69\n7769\n".as_slice(), &mut output)?;
 /// assert_eq!(rt; output.as_slice(), b"kiwi".as_slice());
 /// ```
@@ -40,10 +41,12 @@ pub fn run<R: Read, W: Write>(mode: Mode, input: &mut R, output: &mut W) -> Resu
     ensures ok { OnOk result ((x : List ℕ) × (y : List ℕ)
         × ReadsAll (R.remaining input.old) (R.remaining input.new) x × Makes mode x y
         × Appends (W.contents output.old) (W.contents output.new) y) }
-    // `e` is the error of what was read, whatever follows, or of all that the reader had.
+    // `e` is the error of what was read, whatever follows, or of all that the reader had. All bytes before it
+    // were written.
     ensures text { (e : FromHexError) (place : Option Place) → result ≡ Err (Text e place)
-        → (x : List ℕ) × Consumes (R.remaining input.old) (R.remaining input.new) x
-        × FailsWith mode (R.remaining input.new) x e place }
+        → (x : List ℕ) × (y : List ℕ) × Consumes (R.remaining input.old) (R.remaining input.new) x
+        × FailsWith mode (R.remaining input.new) x y e place
+        × Appends (W.contents output.old) (W.contents output.new) y }
     // A beginning of what the mode makes of the bytes that were read was written.
     ensures begun { OnErr result ((x : List ℕ) × (y : List ℕ)
         × Consumes (R.remaining input.old) (R.remaining input.new) x × MakesBeginning mode x y
@@ -54,11 +57,9 @@ pub fn run<R: Read, W: Write>(mode: Mode, input: &mut R, output: &mut W) -> Resu
         Mode::Encode {
             prefix,
             upper,
-            columns,
-        } => encode_stream(prefix, upper, columns, input, output),
-        Mode::Decode { ignore_whitespace } => decode_stream(ignore_whitespace, input, output),
-        Mode::Check { ignore_whitespace } => {
-            decode_stream(ignore_whitespace, input, &mut io::sink())
-        }
+            groups,
+        } => encode_stream(prefix, upper, groups, input, output),
+        Mode::Decode(reading) => decode_stream(reading, input, output),
+        Mode::Check(reading) => decode_stream(reading, input, &mut io::sink()),
     }
 }

@@ -4,6 +4,7 @@
 use crate::rattle::prelude::*;
 use crate::proved::error::RunError;
 use crate::proved::input_decoder::InputDecoder;
+use crate::proved::mode::Reading;
 use crate::proved::transfer::{flush, read_chunk, too_many_reads, write_piece};
 use crate::rattle::io::{Read, Write};
 
@@ -12,54 +13,37 @@ const CHUNK: usize = 65_536;
 
 /// Writes the bytes that all of the reader's text decodes to, and flushes.
 pub(crate) fn decode_stream<R: Read, W: Write>(
-    ignore_whitespace: bool,
+    reading: Reading,
     input: &mut R,
     output: &mut W,
 ) -> Result<(), RunError> {
+    if reading.leaves_out() {
+        return decode_chunks(reading, input, &mut [0; CHUNK], output);
+    }
+    decode_chunks(reading, input, &mut [], output)
+}
+
+/// As `decode_stream`. The text is space for a chunk, if bytes may be left out.
+fn decode_chunks<R: Read, W: Write>(
+    reading: Reading,
+    input: &mut R,
+    text: &mut [u8],
+    output: &mut W,
+) -> Result<(), RunError> {
     let mut chunk = [0; CHUNK];
-    let mut text = [0; CHUNK];
-    let mut bytes = [0; CHUNK / 2];
-    let mut decoder = InputDecoder::new(ignore_whitespace);
+    let mut bytes = [0; CHUNK];
+    let mut decoder = InputDecoder::new(reading);
     'chunks: for _ in 0..u64::MAX {
         let count = read_chunk(input, &mut chunk)?;
         if count == 0 {
             decoder.finish()?;
             return flush(output);
         }
-        let before = decoder.clone();
-        match decoder.decode(&chunk[..count], &mut text, &mut bytes) {
-            Ok(decoded) => write_piece(output, &bytes[..decoded])?,
-            Err(error) => {
-                return Err(write_front(
-                    before,
-                    &chunk[..count],
-                    error,
-                    &mut text,
-                    &mut bytes,
-                    output,
-                ));
-            }
+        let (end, error) = decoder.decode(&chunk[..count], text, &mut bytes);
+        write_piece(output, &bytes[..end])?;
+        if let Some(error) = error {
+            return Err(error);
         }
     }
     Err(too_many_reads())
-}
-
-/// Writes the bytes before the error of a chunk, and returns the error, or that of a write that fails. The
-/// decoder has not read the chunk.
-#[cold]
-fn write_front<W: Write>(
-    mut decoder: InputDecoder,
-    chunk: &[u8],
-    error: RunError,
-    text: &mut [u8],
-    bytes: &mut [u8],
-    output: &mut W,
-) -> RunError {
-    let front = decoder.bytes_before(&error).min(chunk.len());
-    if let Ok(count) = decoder.decode(&chunk[..front], text, bytes) {
-        if let Err(failed) = write_piece(output, &bytes[..count]) {
-            return failed;
-        }
-    }
-    error
 }

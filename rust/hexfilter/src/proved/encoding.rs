@@ -3,7 +3,8 @@
 
 use crate::rattle::prelude::*;
 use crate::proved::error::RunError;
-use crate::proved::lines::break_lines;
+use crate::proved::groups::put_groups;
+use crate::proved::mode::Groups;
 use crate::proved::transfer::{flush, read_chunk, too_many_reads, write_piece};
 use crate::rattle::codec::{FixedKernel, fill_text};
 use crate::rattle::io::{Read, Write};
@@ -15,22 +16,22 @@ const CHUNK: usize = 16_384;
 pub(crate) fn encode_stream<R: Read, W: Write>(
     prefix: bool,
     upper: bool,
-    columns: usize,
+    groups: Groups,
     input: &mut R,
     output: &mut W,
 ) -> Result<(), RunError> {
     let mut bytes = [0; CHUNK];
     let mut digits = [0; 2 * CHUNK];
-    let mut lines = [0; 4 * CHUNK];
-    let mut column = write_text(columns, 0, prefix_text(prefix), &mut lines, output)?;
+    let mut grouped = [0; 4 * CHUNK];
+    let mut column = write_text(groups, 0, prefix_text(prefix), &mut grouped, output)?;
     'chunks: for _ in 0..u64::MAX {
         let count = read_chunk(input, &mut bytes)?;
         if count == 0 {
-            return write_last(column, output);
+            return write_last(groups, column, output);
         }
         let text = &mut digits[..2 * count];
         fill_text::<FixedKernel>(&bytes[..count], false, upper, text);
-        column = write_text(columns, column, text, &mut lines, output)?;
+        column = write_text(groups, column, text, &mut grouped, output)?;
     }
     Err(too_many_reads())
 }
@@ -40,27 +41,27 @@ fn prefix_text(prefix: bool) -> &'static [u8] {
     if prefix { b"0x" } else { b"" }
 }
 
-/// Writes a part of a text in lines. The line that it goes on has `column` characters already.
-/// Returns how many characters the last line has. The buffer is only used if there are lines.
+/// Writes a part of a text in groups. The group that it goes on has `column` characters already.
+/// Returns how many characters the last group has. The buffer is only used if there are groups.
 fn write_text<W: Write>(
-    columns: usize,
+    groups: Groups,
     column: usize,
     text: &[u8],
-    lines: &mut [u8],
+    grouped: &mut [u8],
     output: &mut W,
 ) -> Result<usize, RunError> {
-    if columns == 0 {
+    if groups.size == 0 {
         write_piece(output, text)?;
         return Ok(column);
     }
-    let (count, next) = break_lines(columns, column, text, lines);
-    write_piece(output, &lines[..count])?;
+    let (count, next) = put_groups(groups, column, text, grouped);
+    write_piece(output, &grouped[..count])?;
     Ok(next)
 }
 
-/// Ends a line that has characters, and flushes.
-fn write_last<W: Write>(column: usize, output: &mut W) -> Result<(), RunError> {
-    if column > 0 {
+/// Ends a last line that has characters, and flushes.
+fn write_last<W: Write>(groups: Groups, column: usize, output: &mut W) -> Result<(), RunError> {
+    if groups.separator == b'\n' && column > 0 {
         write_piece(output, b"\n")?;
     }
     flush(output)

@@ -9,8 +9,8 @@ use crate::rattle::io;
 /// Why a run fails.
 #[derive(Debug)]
 pub enum RunError {
-    /// The text has an odd number of digits, or an invalid character. If whitespace is ignored, the
-    /// character stands at that place, and else in the first line.
+    /// The text has an odd number of digits, or an invalid character. If bytes may be left out of the input,
+    /// the character stands at that place, and else in the first line.
     Text(FromHexError, Option<Place>),
     /// A read failed with this error. It is never `Interrupted`.
     Read(io::Error),

@@ -7,7 +7,8 @@ use std::str::FromStr;
 #[test]
 fn hexfilter_error_runerror() {
     let mut output = Vec::new();
-    let mode = Mode::Decode { ignore_whitespace: false };
+    let groups = Groups { size: 0, separator: b' ' };
+    let mode = Mode::Decode(Reading { ignore_whitespace: false, groups });
     let error = run(mode, &mut b"6b6".as_slice(), &mut output).unwrap_err();
     assert_eq!(error.status(), 1);
 }
@@ -20,14 +21,15 @@ fn hexfilter_error_status() {
 #[test]
 fn hexfilter_mode_mode() {
     let mut output = Vec::new();
-    let mode = Mode::Encode { prefix: true, upper: false, columns: 4 };
+    let mode = Mode::Encode { prefix: true, upper: false, groups: Groups { size: 4, separator: b'\n' } };
     run(mode, &mut b"kiwi".as_slice(), &mut output).unwrap();
     assert_eq!(output.as_slice(), b"0x6b\n6977\n69\n".as_slice());
 }
 
 #[test]
 fn hexfilter_options_request() {
-    assert_eq!(request_of(&[]), Ok(Request::Run(Mode::Encode { prefix: false, upper: false, columns: 0 }, None)));
+    let groups = Groups { size: 0, separator: b'\n' };
+    assert_eq!(request_of(&[]), Ok(Request::Run(Mode::Encode { prefix: false, upper: false, groups }, None)));
 }
 
 #[test]
@@ -39,7 +41,8 @@ fn hexfilter_options_request_of() {
 #[test]
 fn hexfilter_runs_run() {
     let mut output = Vec::new();
-    let mode = Mode::Decode { ignore_whitespace: true };
+    let groups = Groups { size: 0, separator: b' ' };
+    let mode = Mode::Decode(Reading { ignore_whitespace: true, groups });
     run(mode, &mut b"6b69\n7769\n".as_slice(), &mut output).unwrap();
     assert_eq!(output.as_slice(), b"kiwi".as_slice());
 }

@@ -6,25 +6,43 @@ use crate::rattle::prelude::*;
 /// What a run makes of its input.
 #[derive(Clone, Copy, PartialEq, Eq, Debug)]
 pub enum Mode {
-    /// Two digits for each byte, and nothing else if the other fields are `false` and 0.
+    /// Two digits for each byte, in groups. If the separator is a newline, these are lines, and one follows
+    /// the last, too.
     Encode {
         /// Whether `0x` stands before the digits, also if there are none.
         prefix: bool,
         /// Whether the digits are in uppercase. The prefix stays `0x`.
         upper: bool,
-        /// How many characters a line has, the prefix included. A newline follows each line, also
-        /// the last, which may be shorter. With 0 there are no lines and no newline.
-        columns: usize,
+        /// The groups of the text, prefix included.
+        groups: Groups,
     },
     /// The bytes that the text decodes to.
-    Decode {
-        /// Whether spaces, tabs, line feeds, vertical tabs, form feeds and carriage returns are left out
-        /// before the text is decoded.
-        ignore_whitespace: bool,
-    },
+    Decode(Reading),
     /// Nothing. Only tests whether the text can be decoded.
-    Check {
-        /// Whether they are left out before the text is tested.
-        ignore_whitespace: bool,
-    },
+    Check(Reading),
+}
+
+/// Groups of characters, with a separator between them.
+#[derive(Clone, Copy, PartialEq, Eq, Debug)]
+pub struct Groups {
+    /// How many characters a group has. The last may have fewer. With 0 there are no groups.
+    pub size: usize,
+    /// The byte between two groups.
+    pub separator: u8,
+}
+
+/// What is left out of an input before it is decoded.
+#[derive(Clone, Copy, PartialEq, Eq, Debug)]
+pub struct Reading {
+    /// Whether spaces, tabs, line feeds, vertical tabs, form feeds and carriage returns are left out.
+    pub ignore_whitespace: bool,
+    /// The groups of the text. After a whole group, only a separator can follow, which is left out.
+    pub groups: Groups,
+}
+
+impl Reading {
+    /// Whether bytes may be left out.
+    pub(crate) fn leaves_out(self) -> bool {
+        self.ignore_whitespace || self.groups.size > 0
+    }
 }

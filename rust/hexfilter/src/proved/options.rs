@@ -2,7 +2,7 @@
 //! What the arguments of the program ask for.
 
 use crate::rattle::prelude::*;
-use crate::proved::mode::Mode;
+use crate::proved::mode::{Groups, Mode, Reading};
 
 /// What the program is asked to do.
 #[derive(Clone, Copy, PartialEq, Eq, Debug)]
@@ -24,6 +24,10 @@ pub enum Fault {
     MissingValue,
     /// It has or is a value that is no number of at most `usize::MAX`.
     InvalidNumber,
+    /// It has or is a separator that is no ASCII character, or a digit.
+    InvalidSeparator,
+    /// It asks for groups beside lines, or for lines beside groups.
+    GroupsInLines,
     /// It is a second file.
     SecondFile,
 }
@@ -48,6 +52,8 @@ pub(crate) enum Setting {
     Help,
     Version,
     Wrap,
+    Group,
+    Separator,
 }
 
 /// What the next argument may be.
@@ -55,8 +61,8 @@ pub(crate) enum Setting {
 pub(crate) enum Next {
     /// Options or a file.
     Any,
-    /// The value of the last option.
-    Value,
+    /// The value of this option.
+    Value(Setting),
     /// A file.
     File,
 }
@@ -71,7 +77,12 @@ pub(crate) struct Options {
     ignore_whitespace: bool,
     help: bool,
     version: bool,
+    /// Whether lines and groups are asked for.
+    wrapped: bool,
+    grouped: bool,
     columns: usize,
+    group: usize,
+    separator: u8,
     file: Option<usize>,
     next: Next,
 }
@@ -84,13 +95,22 @@ const START: Options = Options {
     ignore_whitespace: false,
     help: false,
     version: false,
+    wrapped: false,
+    grouped: false,
     columns: 0,
+    group: 1,
+    separator: b' ',
     file: None,
     next: Next::Any,
 };
 
 /// What the arguments after the program's name ask for, or the first of them that is not valid.
 pub fn request_of(arguments: &[String]) -> Result<Request, UsageError> {
+    read(arguments)
+}
+
+/// As `request_of`.
+fn read(arguments: &[String]) -> Result<Request, UsageError> {
     let mut options = START;
     for index in 0..arguments.len() {
         match options.with_argument(index, arguments[index].as_str()) {
@@ -112,6 +132,8 @@ fn named(name: &str) -> Option<Setting> {
         "help" => Some(Setting::Help),
         "version" => Some(Setting::Version),
         "wrap" => Some(Setting::Wrap),
+        "group" => Some(Setting::Group),
+        "separator" => Some(Setting::Separator),
         _ => None,
     }
 }
@@ -126,6 +148,8 @@ fn lettered(letter: u8) -> Option<Setting> {
         b'h' => Some(Setting::Help),
         b'V' => Some(Setting::Version),
         b'w' => Some(Setting::Wrap),
+        b'g' => Some(Setting::Group),
+        b's' => Some(Setting::Separator),
         _ => None,
     }
 }
@@ -141,16 +165,31 @@ impl Options {
             Setting::IgnoreWhitespace => self.ignore_whitespace = true,
             Setting::Help => self.help = true,
             Setting::Version => self.version = true,
-            Setting::Wrap => self.next = Next::Value,
+            Setting::Wrap => self.wrapped = true,
+            Setting::Group | Setting::Separator => self.grouped = true,
+        }
+        match setting {
+            Setting::Wrap | Setting::Group | Setting::Separator => {
+                self.next = Next::Value(setting);
+            }
+            _ => {}
         }
         self
     }
 
     /// The options with an argument.
     fn with_argument(self, index: usize, argument: &str) -> Result<Options, Fault> {
+        match self.with_word(index, argument) {
+            Ok(more) if more.wrapped && more.grouped => Err(Fault::GroupsInLines),
+            more => more,
+        }
+    }
+
+    /// The options with an argument, which may ask for both lines and groups.
+    fn with_word(self, index: usize, argument: &str) -> Result<Options, Fault> {
         match self.next {
             Next::Any => self.with_dashes(index, argument),
-            Next::Value => self.with_value(argument.as_bytes()),
+            Next::Value(setting) => self.with_value(setting, argument.as_bytes()),
             Next::File => self.with_operand(index),
         }
     }
@@ -180,8 +219,20 @@ impl Options {
 
     /// The options with a name, an equals sign and a value.
     fn with_assignment(self, text: &str) -> Result<Options, Fault> {
-        match text.strip_prefix("wrap=") {
-            Some(value) => self.with_value(value.as_bytes()),
+        if let Some(value) = text.strip_prefix("wrap=") {
+            return self
+                .set(Setting::Wrap)
+                .with_value(Setting::Wrap, value.as_bytes());
+        }
+        if let Some(value) = text.strip_prefix("group=") {
+            return self
+                .set(Setting::Group)
+                .with_value(Setting::Group, value.as_bytes());
+        }
+        match text.strip_prefix("separator=") {
+            Some(value) => self
+                .set(Setting::Separator)
+                .with_value(Setting::Separator, value.as_bytes()),
             None => Err(Fault::UnknownOption),
         }
     }
@@ -193,25 +244,28 @@ impl Options {
                 Some(setting) => self = self.set(setting),
                 None => return Err(Fault::UnknownOption),
             }
-            if self.wants_value() {
-                return self.with_rest(&letters[index + 1..]);
+            if let Some(setting) = self.valued() {
+                return self.with_rest(setting, &letters[index + 1..]);
             }
         }
         Ok(self)
     }
 
-    /// The options with what follows a letter that takes a value. If that is nothing, the value is the next
-    /// argument.
-    fn with_rest(self, text: &[u8]) -> Result<Options, Fault> {
+    /// The options with what follows the letter of an option that takes a value. If that is nothing, the value is
+    /// the next argument.
+    fn with_rest(self, setting: Setting, text: &[u8]) -> Result<Options, Fault> {
         match text {
             [] => Ok(self),
-            _ => self.with_value(text),
+            _ => self.with_value(setting, text),
         }
     }
 
-    /// Whether a value follows.
-    fn wants_value(self) -> bool {
-        matches!(self.next, Next::Value)
+    /// The option whose value follows.
+    fn valued(self) -> Option<Setting> {
+        match self.next {
+            Next::Value(setting) => Some(setting),
+            _ => None,
+        }
     }
 
     /// The options with a file.
@@ -223,19 +277,32 @@ impl Options {
         Ok(self)
     }
 
-    /// The options with the value of the last option.
-    fn with_value(mut self, text: &[u8]) -> Result<Options, Fault> {
-        match decimal(text) {
-            Some(columns) => self.columns = columns,
-            None => return Err(Fault::InvalidNumber),
-        }
+    /// The options with the value of an option.
+    fn with_value(mut self, setting: Setting, text: &[u8]) -> Result<Options, Fault> {
         self.next = Next::Any;
+        match (setting, text) {
+            (Setting::Separator, [byte]) if byte.is_ascii() && !byte.is_ascii_hexdigit() => {
+                self.separator = *byte;
+                Ok(self)
+            }
+            (Setting::Separator, _) => Err(Fault::InvalidSeparator),
+            _ => self.with_number(setting, text),
+        }
+    }
+
+    /// The options with a number.
+    fn with_number(mut self, setting: Setting, text: &[u8]) -> Result<Options, Fault> {
+        match (decimal(text), setting) {
+            (Some(number), Setting::Group) => self.group = number,
+            (Some(number), _) => self.columns = number,
+            (None, _) => return Err(Fault::InvalidNumber),
+        }
         Ok(self)
     }
 
     /// What the options ask for after so many arguments.
     fn request(self, count: usize) -> Result<Request, UsageError> {
-        if self.wants_value() {
+        if self.valued().is_some() {
             return Err(UsageError {
                 fault: Fault::MissingValue,
                 index: count.saturating_sub(1),
@@ -252,17 +319,34 @@ impl Options {
 
     /// The mode that is set.
     fn mode(self) -> Mode {
-        let ignore_whitespace = self.ignore_whitespace;
+        let reading = Reading {
+            ignore_whitespace: self.ignore_whitespace,
+            groups: self.groups(0),
+        };
         if self.check {
-            Mode::Check { ignore_whitespace }
+            Mode::Check(reading)
         } else if self.decode {
-            Mode::Decode { ignore_whitespace }
+            Mode::Decode(reading)
         } else {
             Mode::Encode {
                 prefix: self.prefix,
                 upper: self.upper,
-                columns: self.columns,
+                groups: self.groups(self.columns),
             }
+        }
+    }
+
+    /// The groups that are set, or else lines of so many characters.
+    fn groups(self, columns: usize) -> Groups {
+        if self.grouped {
+            return Groups {
+                size: self.group.saturating_mul(2),
+                separator: self.separator,
+            };
+        }
+        Groups {
+            size: columns,
+            separator: b'\n',
         }
     }
 }

@@ -12,35 +12,38 @@ pub struct Place {
     pub column: usize,
 }
 
-impl Place {
-    /// The place of the first character.
-    pub(crate) const START: Place = Place { line: 1, column: 1 };
+/// A line of an input.
+#[derive(Clone, Copy, Debug)]
+pub(crate) struct Line {
+    /// Its number.
+    number: usize,
+    /// The position where it starts.
+    start: usize,
+}
 
-    /// The place after more of the input.
-    pub(crate) fn after(self, front: &[u8]) -> Place {
-        let mut place = self;
-        for byte in front {
-            place = place.after_byte(*byte);
-        }
-        place
-    }
+impl Line {
+    /// The first line.
+    pub(crate) const FIRST: Line = Line {
+        number: 1,
+        start: 0,
+    };
 
-    /// The place after one more byte.
-    pub(crate) fn after_byte(self, byte: u8) -> Place {
+    /// The line after one more byte, of `read`.
+    pub(crate) fn after(self, byte: u8, read: usize) -> Line {
         if byte == b'\n' {
-            return Place {
-                line: self.line.saturating_add(1),
-                column: 1,
+            return Line {
+                number: self.number.saturating_add(1),
+                start: read,
             };
         }
-        self.after_run(1)
+        self
     }
 
-    /// The place after as many bytes more, none of which is `\n`.
-    pub(crate) fn after_run(self, count: usize) -> Place {
+    /// The place of the byte after the first `read`.
+    pub(crate) fn place(self, read: usize) -> Place {
         Place {
-            line: self.line,
-            column: self.column.saturating_add(count),
+            line: self.number,
+            column: read.saturating_sub(self.start).saturating_add(1),
         }
     }
 }

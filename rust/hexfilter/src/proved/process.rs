@@ -27,6 +27,10 @@ is -, reads standard input. Writes to standard output.
   -u, --upper              write digits in uppercase
   -p, --prefix             write 0x before the digits
   -w, --wrap COLUMNS       write lines of COLUMNS characters (0: no lines)
+  -g, --group BYTES        write or read groups of BYTES bytes, with a space
+                           between them (0: no groups)
+  -s, --separator TEXT     write or read TEXT between the groups, which are of
+                           1 byte without --group. TEXT is one character
   -h, --help               print this help
   -V, --version            print the version
 
@@ -36,6 +40,7 @@ Exit status: 0 done, 1 the text cannot be decoded, 2 an argument is not valid,
 Examples:
   xxd -p disk.img | hexfilter -di > copy.img
   hexfilter -pw64 disk.img
+  echo 6B:69:77:69 | hexfilter -di --separator :
 ";
 
 /// What `--version` prints.
@@ -79,6 +84,8 @@ fn misused(rt: &impl Eprint, arguments: &[String], error: UsageError) -> ExitCod
         Fault::UnknownOption => "unknown option",
         Fault::MissingValue => "missing value after",
         Fault::InvalidNumber => "invalid number",
+        Fault::InvalidSeparator => "invalid separator",
+        Fault::GroupsInLines => "--wrap beside --group or --separator:",
         Fault::SecondFile => "second file",
     };
     // Nothing is left to be done if standard error fails.

@@ -19,18 +19,16 @@ use crate::rattle::io::{self, Read, Write};
 /// - [`RunError::Read`], if a read fails;
 /// - [`RunError::Write`], if a write or the flush fails, or a write takes no bytes.
 ///
-/// A beginning of the result may then have been written: before an invalid character, the bytes of all
-/// whole pairs of digits. A call that a signal interrupts is made again.
+/// Before an error of the text, the bytes of all whole pairs of digits before it were written, and before one
+/// of a read or a write, a beginning of the result. A call that a signal interrupts is made again.
 pub fn run<R: Read, W: Write>(mode: Mode, input: &mut R, output: &mut W) -> Result<(), RunError> {
     match mode {
         Mode::Encode {
             prefix,
             upper,
-            columns,
-        } => encode_stream(prefix, upper, columns, input, output),
-        Mode::Decode { ignore_whitespace } => decode_stream(ignore_whitespace, input, output),
-        Mode::Check { ignore_whitespace } => {
-            decode_stream(ignore_whitespace, input, &mut io::sink())
-        }
+            groups,
+        } => encode_stream(prefix, upper, groups, input, output),
+        Mode::Decode(reading) => decode_stream(reading, input, output),
+        Mode::Check(reading) => decode_stream(reading, input, &mut io::sink()),
     }
 }

@@ -9,7 +9,7 @@ pub returns-in_err-column-clause-begun : goal.returns-in_err-column-clause-begun
 returns-in_err-column-clause-begun g c =
     let (z, wrote, begins) = c.in_err-column.ensures.begun in
     let holds = g.W.Write.contents c.args.output.now in
-    let n = c.args.columns in
+    let n = c.args.groups in
     let first = then_begins holds holds _ n 0 [] [] 0 (Appends-nil holds) (λ rest. refl) (prefix_of c.args.prefix) z wrote (rw c.prefix_text.ensures at begins) in
     if_err c.from_residual.result ([], Consumes-nil (g.R.Read.remaining c.args.input.now), rw (full_text-nil c.args.prefix c.args.upper) first)
 

@@ -13,4 +13,4 @@ text_of e h = grind arith
 pub returns-in-Err-clause-invalid : goal.returns-in-Err-clause-invalid
 returns-in-Err-clause-invalid g c = λ h.
     let (f, place, is) = text_of c.in-Err.error (sym c.failed.ensures ∙ h) in
-    let (x, read, fails) = c.run.ensures.text f place (c.in-Err.is ∙ ap Err is) in (x, f, place, read, fails)
+    let (x, y, read, fails, wrote) = c.run.ensures.text f place (c.in-Err.is ∙ ap Err is) in (x, y, f, place, read, fails, wrote)

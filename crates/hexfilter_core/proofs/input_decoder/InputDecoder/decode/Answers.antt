@@ -1,11 +1,8 @@
-use Rattle.hexfilter_core.proofs.lemmas.InvalidCharacters.{error_plain}
+use Rattle.hexfilter_core.proofs.lemmas.Texts.{decoded}
 use Rattle.hexfilter_core.proofs.input_decoder.InputDecoder.decode.Goals as goal
 
-pub returns-then-self-clause-err : goal.returns-then-self-clause-err
-returns-then-self-clause-err c = λ x bs has. rw c.if-self.true (c.decode_kept.ensures.err x bs has)
+pub returns-in-Ok-clause-ok : goal.returns-in-Ok-clause-ok
+returns-in-Ok-clause-ok c = λ x y has none. c.in-Ok.ensures.ok x y has
 
-pub returns-in-Err-clause-err : goal.returns-in-Err-clause-err
-returns-in-Err-clause-err c = λ x bs has.
-    let told = c.in-Err.ensures in
-    let read = rw c.if-self.false at has.text in
-    rw c.if-self.false (error_plain _ x bs c.args.chunk.now read c.in-Err.error _ (told.answer x bs read) (told.enough c.requires.room))
+pub returns-in-Ok-clause-begun : goal.returns-in-Ok-clause-begun
+returns-in-Ok-clause-begun c = λ x y has. rw c.in-Ok.ensures.reads at (decoded c.decode_whole.new.self _ _ (c.in-Ok.ensures.ok x y has))

@@ -1,8 +1,7 @@
-use Rattle.std.proofs.Common.{refl}
-use Rattle.hexfilter_core.specs.Places.{column_after, line_after}
-use Rattle.hexfilter_core.proofs.lemmas.InputTexts.{text_of-nil}
+use Rattle.std.proofs.Common.{[]}
+use Rattle.hexfilter_core.specs.Inputs.{text_from}
 use Rattle.hexfilter_core.proofs.input_decoder.InputDecoder.new.Goals as goal
 
 pub returns-clause-starts : goal.returns-clause-starts
-unfolding line_after column_after
-returns-clause-starts c = record { text = rw (text_of-nil c.args.ignore_whitespace) c.new.ensures.starts; counts = λ ig. (refl, refl, λ short. (refl, refl)) }
+unfolding text_from
+returns-clause-starts c = record { text = c.new.ensures.starts; scanned = c.new-2.ensures.starts }

@@ -1,0 +1,119 @@
+use Rattle.std.proofs.Common.{None, Err, ap, ◌++◌, take, length, arith, append-nil, refl, ◌+◌, ◌∙◌}
+use Rattle.std.proofs.KnownBytes.{Appends-kept, Appends-trans, Consumes-kept, Consumes-trans}
+use Rattle.std.proofs.lemmas.Result.{err_from_is_err_and}
+use Rattle.std.proofs.Math.Seq.{take-append-add}
+use Rattle.const_hex.specs.declared.error.FromHexError.TheVariants.{OddLength}
+use Rattle.hexfilter_core.proofs.lemmas.Encoding.{if_err, if_ok}
+use Rattle.hexfilter_core.proofs.lemmas.Errors.{invalid_error, not_interrupted, odd_error, only_odd}
+use Rattle.hexfilter_core.proofs.lemmas.Texts.{decoded, decoded_pairs, fewer_spelled}
+use Rattle.hexfilter_core.specs.declared.error.RunError.TheVariants.{Text}
+use Rattle.hexfilter_core.proofs.decoding.decode_chunks.Goals as goal
+
+pub returns-in_err-count-clause-begun : goal.returns-in_err-count-clause-begun
+returns-in_err-count-clause-begun g c =
+    let (x, y, has, read, wrote) = c.chunks.invariant.so_far in
+    if_err c.from_residual.result
+    (x, y, Consumes-kept _ _ _ x read c.in_err-count.ensures.nothing_read, rw c.chunks.invariant.reads at (decoded _ x y has), wrote)
+
+pub returns-in_err-finish-clause-text : goal.returns-in_err-finish-clause-text
+returns-in_err-finish-clause-text g c = λ e place is.
+    let (x, y, has, read, wrote) = c.chunks.invariant.so_far in
+    let p = err_from_is_err_and c.from_residual-in_err-finish.result c.from_residual-in_err-finish.ensures.1 in
+    let got = c.in_ok-count.ensures in
+    let all = rw (c.if-count-eq0.true, append-nil x) at (Consumes-trans _ _ _ x _ read got.bytes) in
+    let told = c.in_err-finish.ensures in
+    let odd = (told.odd x y has).0 (told.err x y has) in
+    let error = odd_error _ _ (g.R.Read.remaining c.read_chunk.new.input) x y p.0 e place p.1 (ap Err p.2 ∙ told.err x y has) is
+    (got.end c.if-count-eq0.true (omega (arith, c.read_chunk.auto.buffer)), odd, decoded_pairs _ x y has) in
+    (x, y, all, rw c.chunks.invariant.reads at error, wrote)
+
+pub returns-in_err-finish-clause-retried : goal.returns-in_err-finish-clause-retried
+returns-in_err-finish-clause-retried g c =
+    let (x, y, has, read, wrote) = c.chunks.invariant.so_far in
+    let p = err_from_is_err_and c.from_residual-in_err-finish.result c.from_residual-in_err-finish.ensures.1 in
+    let odd = c.in_err-finish.ensures.err x y has in rw (p.1, p.2) (only_odd _ odd)
+
+pub returns-in_err-finish-clause-begun : goal.returns-in_err-finish-clause-begun
+returns-in_err-finish-clause-begun g c =
+    let (x, y, has, read, wrote) = c.chunks.invariant.so_far in
+    let all = rw (c.if-count-eq0.true, append-nil x) at (Consumes-trans _ _ _ x _ read c.in_ok-count.ensures.bytes) in
+    if_err c.from_residual-in_err-finish.result (x, y, all, rw c.chunks.invariant.reads at (decoded _ x y has), wrote)
+
+pub returns-then-count-eq0-clause-ok : goal.returns-then-count-eq0-clause-ok
+returns-then-count-eq0-clause-ok g c =
+    let (x, y, has, read, wrote) = c.chunks.invariant.so_far in
+    let got = c.in_ok-count.ensures in
+    let all = rw (c.if-count-eq0.true, append-nil x) at (Consumes-trans _ _ _ x _ read got.bytes) in
+    let reads = rw c.chunks.invariant.reads at ((c.in_ok-finish.ensures.ok x y has).0 refl) in
+    if_ok c.flush.result
+    (x, y, (all, got.end c.if-count-eq0.true (omega (arith, c.read_chunk.auto.buffer))), reads, Appends-kept _ _ _ y wrote c.flush.ensures.bytes)
+
+pub returns-then-count-eq0-clause-begun : goal.returns-then-count-eq0-clause-begun
+returns-then-count-eq0-clause-begun g c =
+    let (x, y, has, read, wrote) = c.chunks.invariant.so_far in
+    let all = rw (c.if-count-eq0.true, append-nil x) at (Consumes-trans _ _ _ x _ read c.in_ok-count.ensures.bytes) in
+    if_err c.flush.result (x, y, all, rw c.chunks.invariant.reads at (decoded _ x y has), Appends-kept _ _ _ y wrote c.flush.ensures.bytes)
+
+pub returns-in_err-write_piece-clause-begun : goal.returns-in_err-write_piece-clause-begun
+returns-in_err-write_piece-clause-begun g c =
+    let (x, y, has, read, wrote) = c.chunks.invariant.so_far in
+    let chunk = take c.in_ok-count.count c.read_chunk.new.buffer in
+    let piece = take c.decode-end.result.0 c.decode-end.new.output in
+    let (n, begun) = c.in_err-write_piece.ensures.begun in
+    let all = rw c.chunks.invariant.reads at (c.decode-end.ensures.begun x y has) in
+    if_err c.from_residual-in_err-write_piece.result (
+      x ++ chunk,
+      y ++ take n piece,
+      Consumes-trans _ _ _ x chunk read c.in_ok-count.ensures.bytes,
+      rw (take-append-add y piece n) at (fewer_spelled _ (x ++ chunk) (y ++ piece) (length y + n) all),
+      Appends-trans _ _ _ y (take n piece) wrote begun,
+    )
+
+pub returns-in-Some-clause-text : goal.returns-in-Some-clause-text
+returns-in-Some-clause-text g c = λ e place is.
+    let (x, y, has, read, wrote) = c.chunks.invariant.so_far in
+    let chunk = take c.in_ok-count.count c.read_chunk.new.buffer in
+    let piece = take c.decode-end.result.0 c.decode-end.new.output in
+    let told = rw c.chunks.invariant.reads at (c.decode-end.ensures.err x y c.in-Some.error has c.in-Some.is) in (
+      x ++ chunk,
+      y ++ piece,
+      Consumes-trans _ _ _ x chunk read c.in_ok-count.ensures.bytes,
+      invalid_error _ _ (x ++ chunk) (y ++ piece) c.in-Some.error e place is told,
+      Appends-trans _ _ _ y piece wrote c.in_ok-write_piece.ensures.ok,
+    )
+
+pub returns-in-Some-clause-begun : goal.returns-in-Some-clause-begun
+returns-in-Some-clause-begun g c =
+    let (x, y, has, read, wrote) = c.chunks.invariant.so_far in
+    let chunk = take c.in_ok-count.count c.read_chunk.new.buffer in
+    let piece = take c.decode-end.result.0 c.decode-end.new.output in (
+      x ++ chunk,
+      y ++ piece,
+      Consumes-trans _ _ _ x chunk read c.in_ok-count.ensures.bytes,
+      rw c.chunks.invariant.reads at (c.decode-end.ensures.begun x y has),
+      Appends-trans _ _ _ y piece wrote c.in_ok-write_piece.ensures.ok,
+    )
+
+pub returns-in-Some-clause-retried : goal.returns-in-Some-clause-retried
+returns-in-Some-clause-retried g c =
+    let (x, y, has, read, wrote) = c.chunks.invariant.so_far in
+    not_interrupted _ _ _ c.in-Some.error (c.decode-end.ensures.err x y c.in-Some.error has c.in-Some.is)
+
+pub chunks-preserved : goal.chunks-preserved
+chunks-preserved g c =
+    let (x, y, has, read, wrote) = c.chunks.invariant.so_far in
+    let chunk = take c.in_ok-count.count c.read_chunk.new.buffer in
+    let piece = take c.decode-end.result.0 c.decode-end.new.output in record {
+      reads = c.decode-end.ensures.reads ∙ c.chunks.invariant.reads;
+      so_far = (
+        x ++ chunk,
+        y ++ piece,
+        c.decode-end.ensures.ok x y has c.in_default.is,
+        Consumes-trans _ _ _ x chunk read c.in_ok-count.ensures.bytes,
+        Appends-trans _ _ _ y piece wrote c.in_ok-write_piece.ensures.ok,
+      );
+    }
+
+pub returns-clause-begun : goal.returns-clause-begun
+returns-clause-begun g c =
+    let (x, y, has, read, wrote) = c.chunks.invariant.so_far in (x, y, read, rw c.chunks.invariant.reads at (decoded _ x y has), wrote)

@@ -1,0 +1,66 @@
+//! A text in groups.
+
+ghost use Rattle.std.specs.Prelude.{◌≡◌, ◌≢◌, ◌+◌, ◌*◌, ◌≤◌, ◌<◌, ◌++◌, List, ℕ, length, take};
+ghost use Rattle.hexfilter_core.specs.Groups.{groups_from};
+
+use crate::mode::Groups;
+
+/// Puts the text into the output, with a separator before each character that follows a whole group. The
+/// first group has `column` characters already. Returns how many bytes were put there, and how many
+/// characters the last group has.
+pub(crate) fn put_groups(
+    groups: Groups,
+    column: usize,
+    text: &[u8],
+    output: &mut [u8],
+) -> (usize, usize)
+    requires size { groups.size ≢ 0 }
+    requires column { column ≤ groups.size }
+    requires room { 2 * length text.now ≤ length output.old }
+    ensures within { result.0 ≤ length output.new }
+    ensures column { result.1 ≤ groups.size }
+    ensures groups { (rest : List ℕ) → groups_from groups.size groups.separator column (text.now ++ rest)
+        ≡ take result.0 output.new ++ groups_from groups.size groups.separator result.1 rest }
+{
+    let mut column = column;
+    let mut done = 0;
+    let mut end = 0;
+    'groups: while done < text.len() {
+        let (start, first) = separate(groups, column, output, end);
+        let count = (groups.size - first).min(text.len() - done);
+        end = put(&text[done..done + count], output, start);
+        done += count;
+        column = first + count;
+    }
+    (end, column)
+}
+
+/// Puts a separator into the output at an index if the group is whole. Returns the index after it, and how many
+/// characters the group then has.
+fn separate(groups: Groups, column: usize, output: &mut [u8], end: usize) -> (usize, usize)
+    requires size { groups.size ≢ 0 }
+    requires column { column ≤ groups.size }
+    requires room { end < length output.old }
+    ensures within { result.0 ≤ end + 1 }
+    ensures column { result.1 < groups.size }
+    ensures groups { (rest : List ℕ) → 0 < length rest
+        → take end output.old ++ groups_from groups.size groups.separator column rest
+        ≡ take result.0 output.new ++ groups_from groups.size groups.separator result.1 rest }
+    ensures length { length output.new ≡ length output.old }
+{
+    if column == groups.size {
+        return (put(&[groups.separator], output, end), 0);
+    }
+    (end, column)
+}
+
+/// Puts a piece into the output at an index, and returns the index after it.
+fn put(piece: &[u8], output: &mut [u8], start: usize) -> usize
+    requires { start + length piece.now ≤ length output.old }
+    ensures end { result ≡ start + length piece.now }
+    ensures front { take result output.new ≡ take start output.old ++ piece.now }
+{
+    let end = start + piece.len();
+    output[start..end].copy_from_slice(piece);
+    end
+}

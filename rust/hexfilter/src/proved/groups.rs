@@ -1,0 +1,43 @@
+// Made by rust/erase from crates/hexfilter_core/src/groups.rt. Do not edit.
+//! A text in groups.
+
+use crate::rattle::prelude::*;
+use crate::proved::mode::Groups;
+
+/// Puts the text into the output, with a separator before each character that follows a whole group. The
+/// first group has `column` characters already. Returns how many bytes were put there, and how many
+/// characters the last group has.
+pub(crate) fn put_groups(
+    groups: Groups,
+    column: usize,
+    text: &[u8],
+    output: &mut [u8],
+) -> (usize, usize) {
+    let mut column = column;
+    let mut done = 0;
+    let mut end = 0;
+    'groups: while done < text.len() {
+        let (start, first) = separate(groups, column, output, end);
+        let count = (groups.size - first).min(text.len() - done);
+        end = put(&text[done..done + count], output, start);
+        done += count;
+        column = first + count;
+    }
+    (end, column)
+}
+
+/// Puts a separator into the output at an index if the group is whole. Returns the index after it, and how many
+/// characters the group then has.
+fn separate(groups: Groups, column: usize, output: &mut [u8], end: usize) -> (usize, usize) {
+    if column == groups.size {
+        return (put(&[groups.separator], output, end), 0);
+    }
+    (end, column)
+}
+
+/// Puts a piece into the output at an index, and returns the index after it.
+fn put(piece: &[u8], output: &mut [u8], start: usize) -> usize {
+    let end = start + piece.len();
+    output[start..end].copy_from_slice(piece);
+    end
+}

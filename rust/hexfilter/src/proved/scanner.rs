@@ -1,0 +1,131 @@
+// Made by rust/erase from crates/hexfilter_core/src/scanner.rt. Do not edit.
+//! The text of an input: the input without what is left out.
+
+use crate::rattle::prelude::*;
+use crate::proved::mode::Reading;
+use crate::proved::place::{Line, Place};
+use crate::rattle::simd::prelude::*;
+
+/// How many bytes are looked at together.
+const LANES: usize = 32;
+
+/// How far an input was read.
+#[derive(Clone, Copy, Debug)]
+pub(crate) struct Scanner {
+    pub(crate) reading: Reading,
+    /// How many characters came since the last separator, if there are groups.
+    column: usize,
+    /// How many bytes were read, or `usize::MAX` for more.
+    read: usize,
+    /// If bytes may be left out: the line after these bytes.
+    line: Line,
+}
+
+impl Scanner {
+    /// A scanner that has read nothing.
+    pub(crate) fn new(how: Reading) -> Scanner {
+        Scanner {
+            reading: how,
+            column: 0,
+            read: 0,
+            line: Line::FIRST,
+        }
+    }
+
+    /// How many bytes were read, and the place of the next.
+    pub(crate) fn position(&self) -> (usize, Option<Place>) {
+        if self.reading.leaves_out() {
+            return (self.read, Some(self.line.place(self.read)));
+        }
+        (self.read, None)
+    }
+
+    /// Reads a chunk of which no byte is left out.
+    pub(crate) fn pass(&mut self, count: usize) {
+        self.read = self.read.saturating_add(count);
+    }
+
+    /// Reads a byte. Returns what it adds to the text.
+    pub(crate) fn next(&mut self, byte: u8) -> Option<u8> {
+        let (added, column) = step(self.reading, self.column, byte);
+        self.column = column;
+        self.read = self.read.saturating_add(1);
+        self.line = self.line.after(byte, self.read);
+        added
+    }
+
+    /// Reads a chunk. Puts what it adds to the text into the front of the output, and returns how long that is.
+    pub(crate) fn text(&mut self, chunk: &[u8], output: &mut [u8]) -> usize {
+        let mut scanner = *self;
+        let mut done = 0;
+        let mut end = 0;
+        'runs: while done < chunk.len() {
+            let count = scanner.run(&chunk[done..], &mut output[end..]);
+            // A block that is all text is a branch of its own, which the processor predicts.
+            if count == LANES {
+                done += LANES;
+                end += LANES;
+            } else {
+                done += count;
+                end += count;
+                if done < chunk.len() {
+                    end = put(scanner.next(chunk[done]), output, end);
+                    done += 1;
+                }
+            }
+        }
+        *self = scanner;
+        end
+    }
+
+    /// Copies bytes before the first whitespace, or fewer, of which none is left out. Returns how many.
+    fn run(&mut self, chunk: &[u8], output: &mut [u8]) -> usize {
+        if self.reading.groups.size > 0 || chunk.len() < LANES {
+            return 0;
+        }
+        let block = u8x32::from_slice(chunk);
+        block.copy_to_slice(output);
+        let count = count_digits(block);
+        self.read = self.read.saturating_add(count);
+        count
+    }
+}
+
+/// What a byte adds to the text, and how many characters then came since the last separator.
+fn step(reading: Reading, column: usize, byte: u8) -> (Option<u8>, usize) {
+    let groups = reading.groups;
+    let is_whole = groups.size > 0 && column == groups.size;
+    if is_whole && byte == groups.separator {
+        return (None, 0);
+    }
+    if reading.ignore_whitespace && is_whitespace(byte) {
+        return (None, column);
+    }
+    let next = column.saturating_add(1).min(groups.size);
+    (Some(if is_whole { 0 } else { byte }), next)
+}
+
+/// Puts a byte, if there is one, into the output at an index, and returns the index after it.
+fn put(byte: Option<u8>, output: &mut [u8], end: usize) -> usize {
+    match byte {
+        Some(byte) => {
+            output[end] = byte;
+            end + 1
+        }
+        None => end,
+    }
+}
+
+/// How many lanes come before the first with a space or a control character.
+fn count_digits(block: u8x32) -> usize {
+    let others = block.simd_lt(u8x32::splat(33)).to_bitmask();
+    if others == 0 {
+        return LANES;
+    }
+    others.trailing_zeros() as usize
+}
+
+/// Whether the byte is whitespace.
+fn is_whitespace(byte: u8) -> bool {
+    matches!(byte, b'\t'..=b'\r' | b' ')
+}
