@@ -1,7 +1,7 @@
 //! Random inputs, given to const-hex and to this codec under the same names. The only difference that is
 //! allowed is the position of an invalid character after a prefix: only `check` of const-hex counts the prefix.
 //!
-//! BESIDE=1000000 in the environment gives the number of inputs.
+//! CASES=1000000 in the environment gives the number of inputs.
 
 use const_hex as theirs;
 use const_hex_proved as ours;
@@ -176,7 +176,7 @@ fn arrays<const N: usize>(text: &[u8], added: usize) {
 
 #[test]
 fn random_inputs() {
-    let count = env::var("BESIDE").map_or(100_000, |count| count.parse().unwrap());
+    let count = env::var("CASES").map_or(100_000, |count| count.parse().unwrap());
     let mut random = Random(0x9E37_79B9_7F4A_7C15);
     for _ in 0..count {
         let bytes = random.bytes();
