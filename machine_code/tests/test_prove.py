@@ -36,7 +36,7 @@ WRONG_IN_ONE_PART = [
      r"outside .*: text\[-1\]"),
     ("v2", "check_raw", "const_hex_check_raw_v2", "cmp rsi,0x10", "cmp rsi,0x11", ("length", 0, 17),
      "not a digit is accepted"),
-    ("v2", "decoder_update", "const_hex_decoder_update_nonnull_v2", "cmp r15,0x80", "cmp r15,0x7f",
+    ("v2", "decoder_update", "const_hex_decoder_update_nonnull_v2", "cmp r14,0x80", "cmp r14,0x7f",
      ("length", LATER, 127), "read of 16 bytes outside"),
     ("v3", "error_message", "const_hex_message_write_ended_v3", "cmp rax,rcx; je 4f", "", ("case", POSITION),
      "write of 1 bytes outside"),

@@ -14,81 +14,13 @@ from library import WASM
 from linear import Unknown, symbol
 from memory import Fault, Image, Memory, Pointer, Region
 from tests.library import code_of, needs_module
-from tests.node import Node, assembled, is_alone
+from tests.node import assembled
 from values import ZERO, constants, unknown, variable
 from wasm import vector
 from wasm.calls import CALLS
 from wasm.general import HANDLERS, computed
 from wasm.module import Instruction, parse
 from wasm.state import State
-
-
-def instructions():
-    """Each instruction of the module that runs alone, once."""
-    code = code_of(WASM)
-    found = {}
-    for function in code.object.functions:
-        for instruction in code.front_end.instructions(function).values():
-            if is_alone(instruction):
-                found.setdefault(instruction.text, instruction)
-    return list(found.values())
-
-
-def _two(operation):
-    return computed((16, 16), lambda state, i, first, second: operation(first, second))
-
-
-def _branch_one_less(state, i):
-    """The last entry is out of reach."""
-    index = state.operands.pop()[0].value
-    return state.branch(i.operands[min(index, len(i.operands) - 2)])
-
-
-def _select_swapped(state, i):
-    first, second, choice = state.operands[-3:]
-    state.operands[-3:] = [second if state.decide(state.is_true(choice)) else first]
-
-
-# Instructions, and a meaning that is wrong in a way that is easy to overlook.
-WRONG = {
-    "i8x16.swizzle": _two(lambda row, places: tuple(row[place.value & 15] for place in places)),
-    "i8x16.narrow_i16x8_u": _two(lambda a, b: (a + b)[::2]),
-    "i8x16.min_u": _two(by_lanes(max, 1)),
-    "i8x16.shuffle": computed((16, 16), lambda state, i, a, b: tuple((b + a)[at] for at in i.operands)),
-    "i16x8.mul": _two(by_lanes(lambda a, b: a * b >> 16, 2)),
-    "i16x8.shr_u": computed((16, 4), lambda state, i, a, n: by_count(operator.rshift, 1)(a, n[0].value & 15)),
-    "i16x8.extend_high_i8x16_u": computed((16,), lambda state, i, a: vector._widened(a[:8])),
-    "v128.load8x8_u": computed((4,), lambda state, i, at: state.fetch(at, 0, 8) + (ZERO,) * 8),
-    "v128.store64_lane": computed((4, 16), lambda state, i, at, a: state.put(at, i.operands[0], a[:8])),
-    "v128.any_true": computed((16,), lambda state, i, a: state.truth(are_zero(a[:8]).negated())),
-    "i8x16.replace_lane": computed((16, 4), lambda state, i, a, b: b[:1] + a[1:]),
-    "i32.load8_u": computed((4,), lambda state, i, at: state.fetch(at, i.operands[0], 1) * 4),
-    "i32.store16": computed((4, 4), lambda state, i, at, a: state.put(at, i.operands[0], a)),
-    "i32.shr_u": HANDLERS["i32.shl"],
-    "i32.sub": HANDLERS["i32.add"],
-    "i32.xor": HANDLERS["i32.or"],
-    "i32.gt_u": HANDLERS["i32.ge_u"],
-    "i32.lt_u": HANDLERS["i32.le_u"],
-    "i32.wrap_i64": computed((8,), lambda state, i, a: a[4:]),
-    "br_table": _branch_one_less,
-    "select": _select_swapped,
-}
-
-
-@needs_module
-class TestInstructions(unittest.TestCase):
-    @classmethod
-    def setUpClass(cls):
-        cls.node = Node(instructions())
-
-    def test_each_instruction(self):
-        self.assertGreater(len(self.node.texts), 60)
-        self.assertEqual(self.node.differences(), set())
-
-    def test_wrong_meanings_are_noticed(self):
-        for mnemonic, wrong in WRONG.items():
-            with self.subTest(mnemonic), mock.patch.dict(HANDLERS, {mnemonic: wrong}):
-                self.assertNotEqual(self.node.differences(mnemonic), set())
 
 
 def _state(*regions):
