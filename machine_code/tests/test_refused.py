@@ -1,13 +1,13 @@
 """Forms of instructions that have to be refused: with them the CPU does something else than with those that have
 a meaning, or it does not have them."""
 
-import re
+import contextlib
 import unittest
 
 from calls import CALLS
 from exploration import Refused
 from library import code_from
-from tests.library import needs_aarch64
+from tests.library import add_tests
 from tests.mutations import assembled_object
 from x86_64.decoding import NOPS
 
@@ -158,36 +158,24 @@ FORMS = [
      "adrp x8, table; .reloc ., R_AARCH64_ADR_PREL_PG_HI21, table; adr x8, .", f"adr .*: {NO_MEANING}"),
 ]
 ACCEPTED = [
-    ("v2", "pxor xmm1, xmm1; pshufb xmm0, xmm1; push rax; pop rax"),
-    ("v3",
+    ("known forms", "v2", "pxor xmm1, xmm1; pshufb xmm0, xmm1; push rax; pop rax"),
+    ("a wide register that is cleared", "v3",
      "vpxor ymm0, ymm0, ymm0; vzeroupper; vpxor xmm0, xmm0, xmm0; xor edx, edx; xor ecx, ecx; mulx rax, rcx, rcx"),
-    ("v2", f".byte {', '.join(f'{byte:#x}' for byte in bytes.fromhex(''.join(NOPS)))}"),
-    ("dispatch", "pxor xmm0, xmm0"),
-    ("aarch64", f"adrp x8, table; .reloc ., {LOWER_BITS}, table; add x8, x8, #0; mov x9, #1; neg x8, x9"),
+    ("nops of each length", "v2", f".byte {', '.join(f'{byte:#x}' for byte in bytes.fromhex(''.join(NOPS)))}"),
+    ("SSE2 in what chooses a build", "dispatch", "pxor xmm0, xmm0"),
+    ("the lower bits of a page", "aarch64",
+     f"adrp x8, table; .reloc ., {LOWER_BITS}, table; add x8, x8, #0; mov x9, #1; neg x8, x9"),
 ]
 
 
-def prove(build, form):
-    """Proves a function that has a form and returns the version."""
-    machine = 183 if build == "aarch64" else 62
-    code = code_from(assembled_object(machine, SOURCES[machine].format(form, VERSION)), build)
-    CALLS["version"].prove(code, "const_hex_version", ("case", 0))
-
-
 class TestRefused(unittest.TestCase):
-    pass
+    def prove(self, build, form, wanted=None):
+        """Proves a function that has a form and returns the version."""
+        machine = 183 if build == "aarch64" else 62
+        code = code_from(assembled_object(machine, SOURCES[machine].format(form, VERSION)), build)
+        with self.assertRaisesRegex(Refused, wanted) if wanted else contextlib.nullcontext():
+            CALLS["version"].prove(code, "const_hex_version", ("case", 0))
 
 
-def _test(build, form, wanted=None):
-    def test(self):
-        if wanted is None:
-            prove(build, form)
-        else:
-            with self.assertRaisesRegex(Refused, wanted):
-                prove(build, form)
-
-    return needs_aarch64(test) if build == "aarch64" else test
-
-
-for _what, *_row in [*FORMS, *((f"accepted for {build}", build, form) for build, form in ACCEPTED)]:
-    setattr(TestRefused, "test_" + re.sub(r"\W+", "_", f"{_row[0]} {_what}".lower()), _test(*_row))
+add_tests(TestRefused, TestRefused.prove, FORMS)
+add_tests(TestRefused, TestRefused.prove, ACCEPTED)

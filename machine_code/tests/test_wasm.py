@@ -1,73 +1,102 @@
-"""The meanings of instructions for WebAssembly, compared with Node on random operands; and wrong meanings,
-which are noticed."""
+"""What the front end for WebAssembly has to refuse, or to see."""
 
-import operator
 import unittest
-from unittest import mock
 
 import wasm.front_end
-from arithmetic import by_count, by_lanes
-from conditions import are_zero
 from exploration import Code, Fork, Refused, outcomes
 from induction import heads_of
 from library import WASM
 from linear import Unknown, symbol
 from memory import Fault, Image, Memory, Pointer, Region
-from tests.library import code_of, needs_module
+from tests.library import add_tests, code_of, needs_module
 from tests.node import assembled
+from tests.test_soundness import assert_refused
 from values import ZERO, constants, unknown, variable
-from wasm import vector
 from wasm.calls import CALLS
-from wasm.general import HANDLERS, computed
+from wasm.general import HANDLERS
 from wasm.module import Instruction, parse
 from wasm.state import State
 
+FUNCTION = """(module (memory 1 1) (global (mut i32) (i32.const 4096)) {1}
+    (global i32 (i32.const 4096)) (export "__data_end" (global 1)) (export "__heap_base" (global 1))
+    (func (export "f") (param i32) (result i32) {0}))"""
+DATA, KNOWN = '(data (i32.const {}) "\\00\\01")', "local.get 0"
+FAR, BYTE = symbol("beyond 32 bits", 1 << 32), (unknown("text", 0), ZERO, ZERO, ZERO)
+OVERLAP = "the data and `__heap_base` lie at"
 
-def _state(*regions):
-    return State(Memory([*regions, Region("stack", 4096, True), Image(code_of(WASM).object)]))
+
+def state_with(*operands):
+    state = State(Memory([Region("text", 64), Region("stack", 4096, True), Image(code_of(WASM).object)]))
+    state.operands = list(operands)
+    return state
+
+
+def put(address, offset):
+    state_with().put(constants(address, 4), offset, constants(0, 1))
+
+
+def data_end():
+    [data] = [section for section in code_of(WASM).object.sections if not section.is_code]
+    return data.end
+
+
+def handle(mnemonic, operands, *values):
+    HANDLERS[mnemonic](state_with(*values), Instruction(0, 1, mnemonic, operands, ""))
+
+
+def run(body=KNOWN, part="", arguments=(0,), text=FUNCTION, needs=None):
+    """Runs a function of a module to its end."""
+    code = Code(parse(assembled(text.format(body, part)), *([needs] if needs else [])), wasm.front_end)
+    list(outcomes(code, wasm.front_end.start(code, "f", list(arguments), [])))
+
+
+# What is wrong, how it is refused, by which message, and what it is.
+REFUSED = [
+    # Only a pointer into its region is its address, and so not 0.
+    *((f"the {use} of a pointer that may have wrapped to {offset}", Fault, "",
+       lambda use=use, more=more, offset=offset: getattr(state_with(), use)(Pointer("text", offset), *more))
+      for use, *more in (("place", 4), ("is_true",), ("wide",)) for offset in (-4, 65)),
+    ("a number that may have wrapped", Unknown, "", lambda: state_with().wide(FAR)),
+    ("whether a number that may have wrapped is 0", Unknown, "", lambda: state_with().is_true(FAR + 1)),
+    ("a write after the stack", Fault, "", lambda: put(4096, 0)),
+    ("a write after the data", Fault, "", lambda: put(data_end(), 0)),
+    ("a write before the memory", Fault, "", lambda: put(-1, 0)),
+    ("a write whose address wraps", Fault, "", lambda: put(-4, 4)),
+    ("a read over the end of the data", Fault, "",
+     lambda: state_with().fetch(constants(data_end() - 1, 4), 0, 2)),
+    ("a table of branches by a byte", Fault, "", lambda: handle("br_table", (0, 1), BYTE)),
+    ("a branch by a byte", Fork, "", lambda: handle("br_if", (0,), BYTE)),
+    ("a loop above operands", Fault, "", lambda: handle("loop", (), constants(0, 4))),
+    ("an instruction", Refused, "popcnt: an instruction without a meaning", lambda: run("local.get 0 i32.popcnt")),
+    ("a block with a result", Refused, "block .*: an instruction without a meaning",
+     lambda: run("block (result i32) i32.const 1 end")),
+    ("a table", ValueError, r"not known here: \(table", lambda: run(part="(table 1 funcref)")),
+    ("a global that the engine may change", ValueError, "__stack_pointer, which the engine may change",
+     lambda: run(part='(export "__stack_pointer" (global 0))')),
+    ("a memory that is not exported", ValueError, "the memory is not exported", lambda: run(needs="memory")),
+    ("a function of another type", Refused, "f has another type", lambda: run(arguments=(0, 0))),
+    # The caller's memory follows the data, which follow the stack.
+    *((f"data at {place}", Refused, OVERLAP, lambda place=place: run(part=DATA.format(place)))
+      for place in (4094, 4095, 4096)),
+    *((f"{new} for {old}", Refused, OVERLAP, lambda old=old, new=new: run(text=FUNCTION.replace(old, new)))
+      for old, new in (("(mut i32) (i32.const 4096)", "(mut i32) (i32.const 4080)"), ("__heap_base", "__other"),
+                       ("(global i32 (i32.const 4096))", "(global i32 (i32.const 65537))"))),
+]
 
 
 @needs_module
 class TestModule(unittest.TestCase):
-    """What the tool has to refuse, or to see."""
-
-    def test_pointer_that_may_have_wrapped(self):
-        """Only a pointer into its region is its address, and so not 0."""
-        state = _state(Region("text", 64))
-        state.place(Pointer("text", 60), 4)
-        for use in (lambda at: state.place(at, 4), state.is_true, state.wide):
-            for offset in (-4, 65):
-                with self.assertRaises(Fault):
-                    use(Pointer("text", offset))
-
-    def test_number_that_may_have_wrapped(self):
-        far = symbol("beyond 32 bits", 1 << 32)
-        with self.assertRaises(Unknown):
-            _state().wide(far)
-        with self.assertRaises(Unknown):
-            _state().is_true(far + 1)
-
     def test_addresses(self):
-        state = _state()
-        stack_end, [data] = 4096, [section for section in code_of(WASM).object.sections if not section.is_code]
-        state.put(constants(stack_end - 1, 4), 0, constants(0, 1))
-        state.fetch(constants(data.end - 1, 4), 0, 1)
-        for address, offset in ((stack_end, 0), (data.end, 0), (-1, 0), (-4, 4)):
-            with self.assertRaises(Fault):
-                state.put(constants(address, 4), offset, constants(0, 1))
-        with self.assertRaises(Fault):
-            state.fetch(constants(data.end - 1, 4), 0, 2)
+        """The last bytes of the stack and of the data."""
+        run()
+        put(4095, 0)
+        state_with().fetch(constants(data_end() - 1, 4), 0, 1)
+        state_with().place(Pointer("text", 60), 4)
 
-    def test_bytes_that_decide(self):
-        state, byte = _state(Region("text", 1)), (unknown("text", 0), ZERO, ZERO, ZERO)
-        state.operands = [constants(1, 4), constants(2, 4), byte]
+    def test_select(self):
+        state = state_with(constants(1, 4), constants(2, 4), BYTE)
         HANDLERS["select"](state, None)
         self.assertEqual(state.selects, {variable("text", 0)})
-        state.operands = [byte]
-        with self.assertRaises(Fault):
-            HANDLERS["br_table"](state, Instruction(0, 1, "br_table", (0, 1), ""))
-        with self.assertRaises(Fork):
-            HANDLERS["br_if"](state, Instruction(0, 1, "br_if", (0,), ""))
 
     def test_which_byte_may_decide_a_select(self):
         """The last digit of a chunk, if its other half comes in the next one."""
@@ -77,52 +106,11 @@ class TestModule(unittest.TestCase):
                 last = {variable("text", length - 1)} if (length - form.digits + form.waits) % 2 else set()
                 self.assertEqual(form.alone(state), last)
 
-    def test_loop_above_operands(self):
-        state = _state()
-        state.operands = [constants(0, 4)]
-        with self.assertRaises(Fault):
-            HANDLERS["loop"](state, None)
-
-    def test_what_is_not_known(self):
-        """An instruction is an error that names it, and so is a part of a module."""
-        for text in ("local.get 0 i32.popcnt", "block (result i32) i32.const 1 end"):
-            code = Code(parse(assembled(ONE_FUNCTION.format(text, ""))), wasm.front_end)
-            state = wasm.front_end.start(code, "f", [0], [])
-            with self.assertRaisesRegex(Refused, "(popcnt|block .*): an instruction without a meaning here"):
-                list(outcomes(code, state))
-        with self.assertRaisesRegex(ValueError, r"not known here: \(table"):
-            parse(assembled(ONE_FUNCTION.format("local.get 0", "(table 1 funcref)")))
-        with self.assertRaisesRegex(ValueError, "__stack_pointer, which the engine may change"):
-            parse(assembled(ONE_FUNCTION.format("local.get 0", '(export "__stack_pointer" (global 0))')))
-        with self.assertRaisesRegex(ValueError, "the memory is not exported"):
-            parse(assembled(ONE_FUNCTION.format("local.get 0", "")), "memory")
-        code = Code(parse(assembled(ONE_FUNCTION.format("local.get 0", ""))), wasm.front_end)
-        with self.assertRaisesRegex(Refused, "f has another type"):
-            wasm.front_end.start(code, "f", [0, 0], [])
-
-    def test_places_that_overlap(self):
-        """The caller's memory follows the data, which follow the stack."""
-        data = '(data (i32.const {}) "\\00\\01")'
-        for text, part in (
-            (ONE_FUNCTION, data.format(4095)),
-            (ONE_FUNCTION, data.format(4096)),
-            (ONE_FUNCTION, data.format(4094)),
-            (ONE_FUNCTION.replace("(mut i32) (i32.const 4096)", "(mut i32) (i32.const 4080)"), ""),
-            (ONE_FUNCTION.replace("__heap_base", "__other"), ""),
-            (ONE_FUNCTION.replace("(global i32 (i32.const 4096))", "(global i32 (i32.const 65537))"), ""),
-        ):
-            code = Code(parse(assembled(text.format("local.get 0", part))), wasm.front_end)
-            with self.assertRaisesRegex(Refused, "the data and `__heap_base` lie at"):
-                wasm.front_end.start(code, "f", [0], [])
-
     def test_vectors_are_used(self):
         """A loop takes 16 bytes of the input or more at once, but for the search."""
         for call in ("encode", "decoder_update"):
-            form, size = CALLS[call].forms[0], CALLS[call].size
-            loops = [head for head in heads_of(code_of(WASM), f"const_hex_{call}", form, size).values()]
+            loops = heads_of(code_of(WASM), f"const_hex_{call}", CALLS[call].forms[0], CALLS[call].size).values()
             self.assertTrue(all(head.is_search or head.size // head.visits >= 16 for head in loops))
 
 
-ONE_FUNCTION = """(module (memory 1 1) (global (mut i32) (i32.const 4096)) {1}
-    (global i32 (i32.const 4096)) (export "__data_end" (global 1)) (export "__heap_base" (global 1))
-    (func (export "f") (param i32) (result i32) {0}))"""
+add_tests(TestModule, assert_refused, REFUSED)
