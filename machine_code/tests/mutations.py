@@ -72,51 +72,31 @@ def _edited_module(function, old, new):
     return code, code.object.functions[number].address + text.count("\n", start, at)
 
 
-def _code_of_module(content):
-    """Where the code stands in a module: the section with number 10."""
-    at = 8
-    while True:
-        kind, size, shift = content[at], 0, 0
-        for start in range(at + 1, at + 6):
-            size, shift = size | (content[start] & 127) << shift, shift + 7
-            if content[start] < 128:
-                break
-        if kind == 10:
-            return range(start + 1, start + 1 + size)
-        at = start + 1 + size
-
-
-def _flipped_module(some, base):
-    """A bit of the module's code is another one, which still makes a module."""
-    content = bytearray(base.object.content)
-    while True:
-        place, bit = some.choice(_code_of_module(content)), some.randrange(8)
-        content[place] ^= 1 << bit
-        try:
-            return library.code_from(bytes(content), library.WASM)
-        except (subprocess.CalledProcessError, ValueError, KeyError):
-            content[place] ^= 1 << bit
-
-
 def instructions(code):
-    return {at: known.text for section in code.object.sections if section.is_code
+    return {at: known for section in code.object.sections if section.is_code
             for at, known in code.front_end.instructions(section).items()}
 
 
 def flipped(build, some, base):
     """The code of a build in which one bit of an instruction is another one that `base` has run; where; and the
     texts before and after."""
-    if build == library.WASM:
-        while True:
-            code = _flipped_module(some, base)
-            before, after = instructions(base), instructions(code)
-            changed = [at for at in before if before[at] != after.get(at)]
-            if changed and changed[0] in base.run:
-                return code, changed[0], before[changed[0]], after.get(changed[0])
-    at = some.choice(sorted(base.run))
-    code = code_of(build)
-    section = code.object.section_at(at)
-    old = code.front_end.instructions(section)[at]
-    section.content[at - section.address + some.randrange(old.size)] ^= 1 << some.randrange(8)
-    new = code.front_end.instructions(section).get(at)
-    return code, at, old.text, new and new.text
+    before = instructions(base)
+    while True:
+        if build == library.WASM:
+            content = bytearray(base.object.content)
+            content[some.randrange(len(content))] ^= 1 << some.randrange(8)
+            try:
+                code = library.code_from(bytes(content), build)
+            except (subprocess.CalledProcessError, ValueError, KeyError):
+                # It is no module.
+                continue
+        else:
+            code, at = code_of(build), some.choice(sorted(base.run))
+            section = code.object.section_at(at)
+            size = code.front_end.instructions(section)[at].size
+            section.content[at - section.address + some.randrange(size)] ^= 1 << some.randrange(8)
+        after = instructions(code)
+        changed = [at for at in before if before[at] != after.get(at)]
+        if changed and changed[0] in base.run:
+            new = after.get(changed[0])
+            return code, changed[0], before[changed[0]].text, new and new.text
