@@ -7,14 +7,13 @@ scratch area. node.py does the same for WebAssembly.
 
 import pathlib
 import random
+import re
 import struct
 import subprocess
 import tempfile
 from collections import namedtuple
 
-import aarch64.decoding
 import aarch64.state
-import x86_64.decoding
 import x86_64.state
 from linear import Unknown
 from memory import PAGE, Fault, Image, Memory, Pointer, Region, as_lane
@@ -73,8 +72,8 @@ class Processor(Program):
             for instruction in front_end.instructions(section).values() if section.is_code else ():
                 has_meaning = instruction.mnemonic in front_end.HANDLERS and not instruction.refused
                 if has_meaning and self._can_run_alone(instruction):
-                    form = " ".join([instruction.mnemonic, *map(self.kind_of, instruction.operands)])
-                    forms.setdefault(form, []).append(instruction)
+                    operands = re.sub(self.NOT_FORM, "", instruction.text.partition(" ")[2])
+                    forms.setdefault(f"{instruction.mnemonic} {operands}", []).append(instruction)
         return {form: found[:: max(1, len(found) // PLACES)][:PLACES] for form, found in forms.items()}
 
     def _target_of(self, instruction):
@@ -95,7 +94,7 @@ class Processor(Program):
         if operand.index is not None:
             offset = some.randrange(256) & -32
             state.registers[operand.index.family] = constants(offset, 8)
-            offset *= self.scale_of(operand)
+            offset *= operand.scale if hasattr(operand, "scale") else 1 << operand.extension.count
         if operand.base is not None and operand.base.family not in ("rip", "sp"):
             place = MIDDLE + 64 * some.randrange(16)
             state.registers[operand.base.family] = Pointer("scratch", place - offset - operand.displacement)
@@ -160,6 +159,8 @@ class Processor(Program):
 
 
 class X86_64(Processor):
+    # Which register of a size it is, numbers, and how an address is made.
+    NOT_FORM = r"\b([abcd]|[sd]i|[sb]p)l\b|(?<=\b[re])([abcd]x|[sd]i|[sb]p)\b|(?<=[a-z])\d+|0x[0-9a-f]+|\[.*\]"
     SOURCE, COMPILER, EMULATOR, JUMP_SIZE = "run_x86_64.S", ("cc",), (), 5
     # The carry, zero, sign and overflow.
     FLAGS, CONDITIONS = 1 | 1 << 6 | 1 << 7 | 1 << 11, x86_64.state.CODES
@@ -169,33 +170,14 @@ class X86_64(Processor):
         bits = [bits >> 7 & 1, bits >> 6 & 1, ~bits & 1, bits >> 11 & 1]
         return aarch64.state.Known(int("".join(map(str, bits)), 2))
 
-    def kind_of(self, operand):
-        if type(operand) is x86_64.decoding.Register:
-            return f"{'v' if operand.family.startswith('v') else 'r'}{8 * operand.size}"
-        return f"m{8 * (operand.size or 0)}" if type(operand) is x86_64.decoding.Memory else "i"
-
-    def scale_of(self, operand):
-        return operand.scale
-
 
 class AArch64(Processor):
+    NOT_FORM = r"(?<=\b[xwvqdsbh])\d+|(?<=#)-?\w+|0x[0-9a-f]+"
     SOURCE, COMPILER, EMULATOR = "run_aarch64.S", ("aarch64-linux-gnu-gcc", "-static"), ("qemu-aarch64",)
     JUMP_SIZE, FLAGS, CONDITIONS = 4, 15 << 28, aarch64.state.CODES
 
     def known(self, bits):
         return aarch64.state.Known(bits >> 28)
-
-    def kind_of(self, operand):
-        if type(operand) is aarch64.decoding.Register:
-            return f"{operand.kind[0]}{8 * operand.size}{f'/{8 * operand.lane}' if operand.lane else ''}"
-        if type(operand) is aarch64.decoding.Address:
-            index = operand.extension.kind if operand.index else ""
-            moved = "!" if operand.is_moved else "+" if operand.after is not None else ""
-            return f"[{operand.base.family if operand.base.family == 'sp' else 'x'}{index}{moved}]"
-        return operand.kind if type(operand) is aarch64.decoding.Extension else "i"
-
-    def scale_of(self, operand):
-        return 1 << operand.extension.count
 
     def prepare(self, state, instruction):
         """Where the lower bits of a place are added, its page is the base."""
@@ -214,6 +196,6 @@ def _byte(byte):
 
 
 def _random_bytes(some, count):
-    """Random bytes; often at the edges."""
-    found = some.randbytes(count)
-    return found if some.random() < 0.5 else found.translate(EDGES)
+    """Random bytes; often at the edges, and sometimes all 0."""
+    found, kind = some.randbytes(count), some.randrange(8)
+    return bytes(count) if kind == 0 else found if kind < 4 else found.translate(EDGES)

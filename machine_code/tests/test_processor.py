@@ -39,16 +39,25 @@ class Checks:
             self.assertGreater(len(processor.forms), 60)
             self.assertEqual(list(differences(processor)), [])
 
+    def assert_noticed(self, names, wrong):
+        with self.subTest(names), contextlib.ExitStack() as patches:
+            for processor in self.processors:
+                handlers = processor.code.front_end.HANDLERS
+                patches.enter_context(mock.patch.dict(handlers, dict.fromkeys(names.split(), wrong)))
+            self.assertTrue(any(any(differences(processor, names.split())) for processor in self.processors))
+
     def test_wrong_meanings_are_noticed(self):
         for names, wrong in self.wrong.items():
-            with self.subTest(names), contextlib.ExitStack() as patches:
-                for processor in self.processors:
-                    handlers = processor.code.front_end.HANDLERS
-                    patches.enter_context(mock.patch.dict(handlers, dict.fromkeys(names.split(), wrong)))
-                self.assertTrue(any(any(differences(processor, names.split())) for processor in self.processors))
+            self.assert_noticed(names, wrong)
 
 
-class TestX86_64(Checks, unittest.TestCase):
+class ChecksOfProcessors(Checks):
+    def test_instructions_without_a_meaning_are_noticed(self):
+        for name in sorted({form.split()[0] for processor in self.processors for form in processor.forms}):
+            self.assert_noticed(name, lambda state, i: None)
+
+
+class TestX86_64(ChecksOfProcessors, unittest.TestCase):
     runner, wrong, builds = X86_64, wrong_meanings.X86_64, ("v2", "v3") if HAS_AVX2 else ("v2",)
 
     @unittest.skipUnless(HAS_AVX2, "this processor has no AVX2")
@@ -57,7 +66,7 @@ class TestX86_64(Checks, unittest.TestCase):
 
 
 @needs_aarch64
-class TestAArch64(Checks, unittest.TestCase):
+class TestAArch64(ChecksOfProcessors, unittest.TestCase):
     runner, wrong, builds = AArch64, wrong_meanings.AARCH64, ("aarch64",)
 
 
