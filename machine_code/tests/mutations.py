@@ -40,19 +40,22 @@ def _text_of_module():
     return re.sub(r"^ +| +$", "", re.sub(r"\(;@?\d+;\)|;; .*$", "", text, flags=re.M), flags=re.M)
 
 
-def edited(build, function, old, new):
-    """The code of a build after an edit, and the address of the edit: in a function, a constant or a macro, `new`
-    stands in the place of the first `old`, or at the start if that is empty. Lines end in `; `."""
+def edited(build, call, old, new, function=None):
+    """The code of a build after an edit, and the address of the edit: in the function of a call, or in another one, a
+    constant or a macro, `new` stands in the place of the first `old`, or at the start if that is empty. Lines end in
+    `; `."""
+    old, new = old.replace("; ", "\n"), new.replace("; ", "\n")
     if build == library.WASM:
-        return _edited_module(function, old.replace("; ", "\n"), new.replace("; ", "\n"))
-    text, machine, old = _source(build), FILES[build][1], old.replace("; ", "\n")
+        return _edited_module(function or f"const_hex_{call}", old, new)
+    text, machine = _source(build), FILES[build][1]
+    function = function or rf"const_hex(_\d+)*_{call}(_nonnull)?(_v\d)?"
     starts = re.finditer(rf"^(function|constant|\.macro) (SYMBOL\()?{function}\b.*\n", text, re.M)
     found = [text.find(old, start.end(), text.index("\n\n", start.end())) for start in starts]
     at = next(at for at in found if at >= 0)
     line = text.rindex("\n", 0, at) + 1
     # A macro is used more than once.
     mark = f".ifndef changed\nchanged:\n.endif\n{text[line:at]}"
-    text = text[:line] + mark + new.replace("; ", "\n") + ("" if old else "\n") + text[at + len(old) :]
+    text = text[:line] + mark + new + ("" if old else "\n") + text[at + len(old) :]
     code = library.code_from(assembled_object(machine, text), build.split()[0])
     return code, code.object.symbols["changed"]
 

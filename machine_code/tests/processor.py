@@ -11,7 +11,6 @@ import re
 import struct
 import subprocess
 import tempfile
-from collections import namedtuple
 
 import aarch64.state
 import x86_64.state
@@ -28,8 +27,6 @@ NOT_ALONE, NO_ACCESS = ("ret", "call", "jmp", "cpuid", "xgetbv", "nop", "bl", "b
 # So many instructions of each form.
 PLACES = 2
 EDGES = bytes([0, 1, 0x7F, 0x80, 0xFF, 0x30, 0x39, 0x41, 0x66, 0x0F, 0x10] * 24)[:256]
-# What an instruction makes: registers by name, flags as a number, whether it has jumped, and the scratch area.
-Result = namedtuple("Result", "registers flags is_taken scratch")
 
 
 class Program:
@@ -99,9 +96,6 @@ class Processor(Program):
             place = MIDDLE + 64 * some.randrange(16)
             state.registers[operand.base.family] = Pointer("scratch", place - offset - operand.displacement)
 
-    def prepare(self, state, instruction):
-        """Changes what else an instruction needs."""
-
     def difference(self, instruction, seed):
         """What differs between the processor and the tool for one random state, or None."""
         some = random.Random(seed)
@@ -116,33 +110,30 @@ class Processor(Program):
         state.registers[state.top], state.has_moved = Pointer("scratch", MIDDLE), lambda old, pushed: None
         for operand in instruction.operands if instruction.mnemonic not in NO_ACCESS else ():
             self._point(state, operand, some)
-        self.prepare(state, instruction)
+        if instruction.mnemonic != "adrp" and (place := getattr(state, "place_named_here", lambda: None)()) is not None:
+            # Where the lower bits of a place are added, its page is the base.
+            bases = [operand.base for operand in instruction.operands if hasattr(operand, "base")]
+            state.registers[(bases or instruction.operands[1:])[0].family] = Pointer(PAGE, place)
         flags = some.getrandbits(32) & self.FLAGS
         state.flags = self.known(flags)
-        found = self._run(instruction, state, flags, scratch)
-        self.code.step(state)
-        return self._compared(instruction, state, scratch, found)
-
-    def _run(self, instruction, state, flags, scratch):
-        """What the processor makes of a state."""
         places = instruction.address, instruction.address + instruction.size, self._target_of(instruction)
         given = b"".join(self._bytes(state, name) for name in state.sizes) + struct.pack("<QQ", flags, 0) + scratch
-        found, registers, at = self.answer(struct.pack("<QQQ", *places) + given, len(given)), {}, 0
-        for name, size in state.sizes.items():
-            registers[name], at = found[at : at + size], at + size
-        flags, is_taken = struct.unpack_from("<QQ", found, at)
-        return Result(registers, flags, bool(is_taken), found[at + 16 :])
+        found = self.answer(struct.pack("<QQQ", *places) + given, len(given))
+        self.code.step(state)
+        return self._compared(state, places[2], scratch, found)
 
-    def _compared(self, instruction, state, scratch, found):
-        if (target := self._target_of(instruction)) and found.is_taken != (state.at == target):
-            return "the jump"
-        wanted = bytearray(scratch)
+    def _compared(self, state, target, scratch, found):
+        """The names of what differs after an instruction."""
+        names, at, wanted = [], 0, bytearray(scratch)
+        for name, size in state.sizes.items():
+            names += [name] if self._bytes(state, name) != found[at : at + size] else []
+            at += size
+        flags, is_taken = struct.unpack_from("<QQ", found, at)
         for offset, byte in state.memory.written("scratch").items():
             wanted[offset] = _byte(byte)
-        if wanted != found.scratch:
-            return "memory"
-        names = [name for name in state.sizes if self._bytes(state, name) != found.registers[name]]
-        names += [name for name in self.CONDITIONS if state.flags and self._is_other_flag(state, name, found.flags)]
+        names += ["memory"] if wanted != found[at + 16 :] else []
+        names += ["the jump"] if target and is_taken != (state.at == target) else []
+        names += [name for name in self.CONDITIONS if state.flags and self._is_other_flag(state, name, flags)]
         return ", ".join(names)
 
     def _is_other_flag(self, state, name, flags):
@@ -178,12 +169,6 @@ class AArch64(Processor):
 
     def known(self, bits):
         return aarch64.state.Known(bits >> 28)
-
-    def prepare(self, state, instruction):
-        """Where the lower bits of a place are added, its page is the base."""
-        if (place := state.place_named_here()) is not None and instruction.mnemonic != "adrp":
-            bases = [operand.base for operand in instruction.operands if hasattr(operand, "base")]
-            state.registers[(bases or instruction.operands[1:])[0].family] = Pointer(PAGE, place)
 
 
 def _byte(byte):

@@ -1,5 +1,6 @@
 """The definition of digits is that of crates/const_hex_arch/specs, and texts are those that Python writes."""
 
+import itertools
 import re
 import unittest
 
@@ -28,8 +29,6 @@ class TestDigits(unittest.TestCase):
 
     def test_pairs(self):
         pair = decoded(unknown("high"), unknown("low"))
-        for high in VALUES:
-            for low in VALUES:
-                values = {("high",): high, ("low",): low}
-                found = at_inputs(pair, lambda variable: values[parts_of(variable)])
-                self.assertEqual(found, int(bytes([high, low]), 16))
+        for high, low in itertools.product(VALUES, VALUES):
+            found = at_inputs(pair, lambda variable: {"high": high, "low": low}[parts_of(variable)[0]])
+            self.assertEqual(found, int(bytes([high, low]), 16))

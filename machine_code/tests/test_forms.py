@@ -49,16 +49,14 @@ class TestForms(unittest.TestCase):
         self.assertEqual(sum(is_start(state, text, decoder) for state in states), 1, (text, decoder))
 
     def test_texts(self):
-        for _ in range(300):
-            text = self.text()
+        for text in [self.text() for _ in range(300)]:
             for call in ("check", "decode", "decode_exact") if len(text) % 2 == 0 else ():
                 self.assert_one_form(call, text)
 
     def test_decoders(self):
         for _ in range(300):
             decoder, is_ok = ctypes.create_string_buffer(16), True
-            for _ in range(self.some.randrange(1, 6)):
-                chunk = self.text()[self.some.randrange(3) :]
+            for chunk in [self.text()[self.some.randrange(3) :] for _ in range(5)]:
                 if is_ok:
                     self.assert_one_form("decoder_update", chunk, decoder.raw)
                     arguments = [decoder, chunk, ctypes.c_size_t(len(chunk)), ctypes.create_string_buffer(16)]

@@ -18,13 +18,14 @@ from memory import Fault, Image, Memory, Pointer, Region, as_lane, with_replaced
 from tests.library import add_tests, code_of
 from tests.mutations import edited
 from values import CONSTANTS, TooWide, apply, constants, each, joined, kept, masked, unknown, variable
-from x86_64.decoding import REGISTERS, Memory as Operand
+from x86_64.decoding import REGISTERS
 
 SP, X0, W0 = (Register("general", name, 0, size, None) for name, size in (("sp", 8), ("x0", 8), ("x0", 4)))
 X86_64, AARCH64 = x86_64.state.State, aarch64.front_end.State
 FAR, LONG, INPUT = symbol("far", GREATEST), Region("text", LEFT * 128), Region("text", LEFT * 128 + 150)
 TEXT, BYTES, STACK = Region("text", 64), Region("bytes", 64), Region("stack", 64, True, 16)
-LANE, BYTES_4 = as_lane(Pointer("text", 0)), tuple([unknown("error", at) for at in range(4)])
+START, BYTES_4 = Pointer("text", 0), tuple([unknown("error", at) for at in range(4)])
+LANE = as_lane(START)
 MARKS = joined(joined((unknown("text", 0),), (unknown("text", 1),)), (unknown("text", 2),))
 TABLE = tuple([unknown("table", at % 64) for at in range(128)])
 # The order of pointers into two regions, of which the second has 16 bytes.
@@ -37,11 +38,11 @@ def state_with(*regions, of=X86_64, **registers):
     return state
 
 
-def flag(name, kind, first, second=None, *regions, of=X86_64, sets={}):
+def flag(name, kind, first, second, *regions, of=X86_64, sets={}):
     """Whether a condition of flags holds, where these regions are, and bytes have these values."""
     state = state_with(*regions, of=of)
     first, second = [constants(value, 8) if type(value) is int else value for value in (first, second)]
-    state.flags = Flags(kind, result=first) if kind == "logic" else Flags(kind, first, second)
+    state.flags = Flags(kind, first, second)
     state.path.sets |= sets
     return state.decide(state.flag(name))
 
@@ -83,9 +84,17 @@ def two_places_that_may_be_one():
     memory.load(Pointer("text", 7), 1)
 
 
-def below_the_stack(displacement):
-    state = state_with(Region("stack", 1024, True, 16), rsp=Pointer("stack", 512))
-    return state.address(Operand(REGISTERS["rsp"], None, 1, displacement, 8))
+def both_sides(name):
+    """The states after a jump by an unknown byte."""
+    states = list(sides(code_of("v3"), state_with(), are_equal((unknown(name, 1, "rax", 0),), constants(0, 1))))
+    assert len(states) == 2
+    return states
+
+
+def address_that_a_byte_decides():
+    state = state_with()
+    state.leaks = (1,)
+    require_one_path([state])
 
 
 def _plus_1(value):
@@ -96,56 +105,51 @@ def _sum_of_3(first, second, third):
     return first + second + third
 
 
-# What is wrong, how it is refused, by which message, and what it is.
+# What is wrong, how it is refused, what it is, and the message.
 REFUSED = [
-    ("a comparison that may wrap", Unknown, "", lambda: flag("b", "sub", LEFT * 128 - 1, 64)),
-    ("a comparison at the end of the range", Unknown, "", lambda: flag("b", "sub", FAR + 1, 64)),
-    ("a zero that has two answers", Split, "", lambda: is_zero(LEFT * 128)),
-    ("an order that has two answers", Split, "", lambda: LEFT * 128 < 128),
-    ("a carry", Unknown, "", lambda: flag("b", "add", FAR, 1)),
-    ("a carry from below zero", Unknown, "", lambda: flag("b", "add", LEFT * -4 - 1, 1)),
-    ("two pointers that are one if left is 0", Split, "",
-     lambda: flag("e", "sub", Pointer("text", LEFT * 128), Pointer("text", 0), LONG)),
-    ("an order outside the region", Fault, "", lambda: flag("b", "sub", Pointer("text", 65), Pointer("text", 0), TEXT)),
-    ("pointers into two regions", Fault, "",
-     lambda: flag("e", "sub", Pointer("text", 0), Pointer("bytes", 0), TEXT, BYTES)),
-    ("more bytes than the region has", Fault, "", lambda: flag("b", "sub", APART, 13, Region("text", 16))),
-    ("whether another region is as far", Fault, "", lambda: flag("be", "sub", APART, 12, Region("text", 16))),
-    ("the sign of a distance of two regions", Fork, "", lambda: flag("l", "sub", APART, 12, Region("text", 16))),
-    ("a function of a byte of a pointer", TooWide, "", lambda: each(_plus_1, LANE)),
-    ("a mask of a pointer", TooWide, "", lambda: masked(LANE, LANE)),
-    ("a byte of a pointer that is compared", TooWide, "", lambda: are_equal(LANE, constants(0, 8))),
-    ("a byte counted from the end of an unknown length", Fault, "", lambda: load(INPUT, LEFT * 128)),
-    ("a byte before a region", Fault, "", lambda: load(INPUT, -1)),
-    ("a byte after a region", Fault, "", lambda: load(INPUT, LEFT * 128 + 150)),
-    ("a byte that may lie after a region", Split, "", lambda: load(INPUT, 150)),
-    ("a write to what may only be read", Fault, "",
-     lambda: Memory([TEXT]).store(Pointer("text", 0), constants(0, 1))),
-    ("two places that may be one", Fault, "", two_places_that_may_be_one),
-    ("an access that is not aligned", Fault, "", lambda: load(Region("text", LEFT * 128 + 150, False, 16), 8, 16, 16)),
-    ("an access below the stack", Fault, "an access below the stack", lambda: below_the_stack(-1)),
-    ("a sum of three unknown bytes", TooWide, "", lambda: apply(_sum_of_3, 1, [(b,) for b in BYTES_4[:3]])),
-    ("a function of marks", TooWide, "", lambda: each(_plus_1, MARKS)),
-    ("an order of marks that is no power of two", TooWide, "", lambda: flag("b", "sub", MARKS, constants(15, 1))),
-    ("an unaligned stack pointer", Fault, "not aligned", lambda: arm("ldr", X0, at(SP, 8), sp=Pointer("stack", 24))),
-    ("a store below the stack on AArch64", Fault, "below the stack", lambda: arm("str", X0, at(SP, -16))),
-    ("a load below a stack that was moved", Fault, "below the stack",
-     lambda: run(arm("ldr", X0, at(SP, 0, after=16)), "ldr", X0, at(SP, -8))),
+    ("a comparison that may wrap", Unknown, lambda: flag("b", "sub", LEFT * 128 - 1, 64)),
+    ("a comparison at the end of the range", Unknown, lambda: flag("b", "sub", FAR + 1, 64)),
+    ("a zero that has two answers", Split, lambda: is_zero(LEFT * 128)),
+    ("an order that has two answers", Split, lambda: LEFT * 128 < 128),
+    ("a carry", Unknown, lambda: flag("b", "add", FAR, 1)),
+    ("a carry from below zero", Unknown, lambda: flag("b", "add", LEFT * -4 - 1, 1)),
+    ("pointers that are one if left is 0", Split, lambda: flag("e", "sub", Pointer("text", LEFT * 128), START, LONG)),
+    ("an order outside a region", Fault, lambda: flag("b", "sub", Pointer("text", 65), START, TEXT)),
+    ("pointers into two regions", Fault, lambda: flag("e", "sub", START, Pointer("bytes", 0), TEXT, BYTES)),
+    ("more bytes than the region has", Fault, lambda: flag("b", "sub", APART, 13, Region("text", 16))),
+    ("whether another region is as far", Fault, lambda: flag("be", "sub", APART, 12, Region("text", 16))),
+    ("the sign of a distance of two regions", Fork, lambda: flag("l", "sub", APART, 12, Region("text", 16))),
+    ("a function of a byte of a pointer", TooWide, lambda: each(_plus_1, LANE)),
+    ("a mask of a pointer", TooWide, lambda: masked(LANE, LANE)),
+    ("a byte of a pointer that is compared", TooWide, lambda: are_equal(LANE, constants(0, 8))),
+    ("a byte counted from the end of an unknown length", Fault, lambda: load(INPUT, LEFT * 128)),
+    ("a byte before a region", Fault, lambda: load(INPUT, -1)),
+    ("a byte after a region", Fault, lambda: load(INPUT, LEFT * 128 + 150)),
+    ("a byte that may lie after a region", Split, lambda: load(INPUT, 150)),
+    ("a write to what may only be read", Fault, lambda: Memory([TEXT]).store(START, constants(0, 1))),
+    ("two places that may be one", Fault, two_places_that_may_be_one),
+    ("an address that a byte decides", Refused, address_that_a_byte_decides),
+    ("an access that is not aligned", Fault, lambda: load(Region("text", LEFT * 128 + 150, False, 16), 8, 16, 16)),
+    ("a sum of three unknown bytes", TooWide, lambda: apply(_sum_of_3, 1, [(b,) for b in BYTES_4[:3]])),
+    ("a function of marks", TooWide, lambda: each(_plus_1, MARKS)),
+    ("an order of marks that is no power of two", TooWide, lambda: flag("b", "sub", MARKS, constants(15, 1))),
+    ("an unaligned stack pointer", Fault, lambda: arm("ldr", X0, at(SP, 8), sp=Pointer("stack", 24)), "not aligned"),
+    ("a load below a stack that was moved", Fault,
+     lambda: run(arm("ldr", X0, at(SP, 0, after=16)), "ldr", X0, at(SP, -8)), "below the stack"),
     # One that is moved by 0 is moved.
-    *((f"{mnemonic} of a base that is moved by {moved}", Fault, "a base that is moved",
-       lambda mnemonic=mnemonic, operands=operands, moved=moved:
-       arm(mnemonic, *operands, at(X0, 0, **moved), x0=Pointer("stack", 32)))
-      for mnemonic, operands in (("ldrb", [W0]), ("str", [X0]), ("stp", [SP, X0]), ("ldp", [X0, SP]))
+    *((f"{name} of a base that is moved by {moved}", Fault, lambda name=name, operands=operands, moved=moved:
+       arm(name, *operands, at(X0, 0, **moved), x0=Pointer("stack", 32)), "a base that is moved")
+      for name, *operands in (("ldrb", W0), ("str", X0), ("stp", SP, X0), ("ldp", X0, SP))
       for moved in ({"after": 0}, {"is_moved": True})),
-    ("half of a pointer", TooWide, "", lambda: arm("add", W0, W0, 1, x0=Pointer("stack", 0))),
-    ("an order by the flags of a sum", Fault, "", lambda: flag("hi", "add", -1, 1, of=AARCH64)),
-    ("a signed order of bytes that may be any", Fork, "", lambda: flag("le", "sub", BYTES_4, constants(3, 4))),
-    ("other bytes at the places of an unknown bit", Fault, "other bytes are read",
-     lambda: load(Region("table", 128), bit() + 5)),
-    ("one place of an unknown bit outside", Fault, "outside",
-     lambda: load(Region("table", 127, content=TABLE), bit() + 63)),
-    *((f"the bits {mask} of a length", Fault, "",
-       lambda mask=mask: logic("and", LEFT * 64 + 3, constants(mask, 8))) for mask in (128, 192, 32 + 64)),
+    ("half of a pointer", TooWide, lambda: arm("add", W0, W0, 1, x0=Pointer("stack", 0))),
+    ("an order by the flags of a sum", Fault, lambda: flag("hi", "add", -1, 1, of=AARCH64)),
+    ("a signed order of bytes that may be any", Fork, lambda: flag("le", "sub", BYTES_4, constants(3, 4))),
+    ("other bytes at the places of an unknown bit", Fault, lambda: load(Region("table", 128), bit() + 5),
+     "other bytes are read"),
+    ("one place of an unknown bit outside", Fault, lambda: load(Region("table", 127, content=TABLE), bit() + 63),
+     "outside"),
+    *((f"the bits {mask} of a length", Fault, lambda mask=mask: logic("and", LEFT * 64 + 3, constants(mask, 8)))
+      for mask in (128, 192, 32 + 64)),
 ]
 # What is seen, and what it is, the wanted value first.
 SEEN = [
@@ -158,17 +162,6 @@ SEEN = [
     ("another region is not near", lambda: (False, flag("b", "sub", APART, 12, Region("text", 16)))),
     ("a number that a split replaces in a lane",
      lambda: (constants(256, 8)[:4], with_replaced(as_lane(LEFT * 128)[:4], "left", 2))),
-    ("a byte at a known place", lambda: (1, len(load(INPUT, 149)))),
-    ("an aligned access", lambda: (16, len(load(Region("text", LEFT * 128 + 150, False, 16), 16, 16, 16)))),
-    ("the end of the stack", lambda: (Pointer("stack", 512), below_the_stack(0))),
-    ("a base is moved before", lambda: (Pointer("stack", 16),
-                                        arm("str", X0, at(SP, -16, is_moved=True)).registers["sp"])),
-    ("the upper half is cleared", lambda: (constants(0, 4), arm("mov", W0, W0).registers["x0"][4:])),
-    ("a sum that is too great has a carry", lambda: (True, flag("cs", "add", -1, 1, of=AARCH64))),
-    ("a difference that is 0 has a carry", lambda: (True, flag("cs", "sub", 1, 1, of=AARCH64))),
-    ("a difference that is 0 is not higher", lambda: (False, flag("hi", "sub", 1, 1, of=AARCH64))),
-    ("a logical result has no carry", lambda: (False, flag("cs", "logic", 1, of=AARCH64))),
-    ("a logical result is lower or the same", lambda: (True, flag("ls", "logic", 1, of=AARCH64))),
     ("less by the highest byte",
      lambda: (True, flag("lt", "sub", BYTES_4, constants(3, 4), of=AARCH64, sets=first_byte_is(range(128, 256))))),
     ("greater by the highest byte",
@@ -187,7 +180,7 @@ class TestSoundness(unittest.TestCase):
     def test_pointer_in_a_vector_register(self):
         """What a split makes of a pointer is made of its bytes in a vector, too."""
         state = run(state_with(LONG, rax=Pointer("text", LEFT * 128)), "movq", "xmm0", "rax").replaced("left", 0)
-        self.assertEqual(run(state, "movq", "rcx", "xmm0").registers["rcx"], Pointer("text", 0))
+        self.assertEqual(run(state, "movq", "rcx", "xmm0").registers["rcx"], START)
 
     def test_number_on_the_stack(self):
         memory = Memory([STACK])
@@ -216,37 +209,23 @@ class TestSoundness(unittest.TestCase):
             state.flags = Flags("sub", MARKS, constants(limit, 1))
             self.assertEqual(state.flag(name).atoms, upper)
 
-    def assert_paths(self, is_refused, *states):
-        if is_refused:
-            with self.assertRaises(Refused):
-                require_one_path(states)
-        else:
-            require_one_path(states)
-
     def test_one_path_for_each_length(self):
         """A byte that decides is seen although the lengths are split on one side alone."""
         states = [state_with() for _ in range(3)]
         states[0].trail = (("bytes", 1, True),)
         states[1].trail = (("bytes", 1, False), ("length", 2, 0))
         states[2].trail = (("bytes", 1, False), ("length", 2, 1))
-        self.assert_paths(False, *states[1:])
-        self.assert_paths(True, *states)
+        require_one_path(states[1:])
+        assert_refused(self, Refused, lambda: require_one_path(states))
 
-    def test_byte_that_decides(self):
+    def test_what_decides(self):
         """A jump by what the CPU is makes two paths, and one by a byte of the input is refused."""
-        for name, is_refused in (("cpuid", False), ("image", False), ("text", True)):
-            condition = are_equal((unknown(name, 1, "rax", 0),), constants(0, 1))
-            states = list(sides(code_of("v3"), state_with(), condition))
-            self.assertEqual(len(states), 2)
-            self.assert_paths(is_refused, *states)
-
-    def test_address_that_a_byte_decides(self):
-        state = state_with()
-        state.leaks = (1,)
-        self.assert_paths(True, state)
+        for name in ("cpuid", "image"):
+            require_one_path(both_sides(name))
+        assert_refused(self, Refused, lambda: require_one_path(both_sides("text")))
 
 
-def assert_refused(case, kind, message, function):
+def assert_refused(case, kind, function, message=""):
     with case.assertRaisesRegex(kind, message):
         function()
 
@@ -273,7 +252,7 @@ LENGTHS = [
 
 class TestLengths(unittest.TestCase):
     def prove(self, text, rest):
-        code, _ = edited("v3", "const_hex_check_raw_v3", "", text)
+        code, _ = edited("v3", "check_raw", "", text)
         CALLS["check_raw"].prove(code, "const_hex_check_raw_v3", ("class", 0, rest))
 
     def test_detour_that_changes_nothing(self):
@@ -282,10 +261,10 @@ class TestLengths(unittest.TestCase):
     def test_byte_that_is_kept(self):
         """A round writes a byte of the object in the place of one of its stores."""
         store = "vmovdqu YMMWORD PTR [rcx+rdx*1+0x60],ymm3"
-        code, _ = edited("v3", "const_hex_encode_v3", store, "mov [rip + kept], al; .lcomm kept, 1")
+        code, _ = edited("v3", "encode", store, "mov [rip + kept], al; .lcomm kept, 1")
         with self.assertRaisesRegex(Refused, "something is kept between calls, in the loop at"):
             CALLS["encode"].prove(code, "const_hex_encode_v3", ("class", 0, 150))
 
 
-add_tests(TestLengths, lambda case, text, rest, wanted: assert_refused(case, Refused, wanted, lambda: case.prove(text, rest)),
-          LENGTHS)
+add_tests(TestLengths, lambda case, text, rest, wanted: assert_refused(
+    case, Refused, lambda: case.prove(text, rest), wanted), LENGTHS)

@@ -50,35 +50,34 @@ def run(body=KNOWN, part="", arguments=(0,), text=FUNCTION, needs=None):
     list(outcomes(code, wasm.front_end.start(code, "f", list(arguments), [])))
 
 
-# What is wrong, how it is refused, by which message, and what it is.
+# What is wrong, how it is refused, what it is, and the message.
 REFUSED = [
     # Only a pointer into its region is its address, and so not 0.
-    *((f"the {use} of a pointer that may have wrapped to {offset}", Fault, "",
+    *((f"the {use} of a pointer that may have wrapped to {offset}", Fault,
        lambda use=use, more=more, offset=offset: getattr(state_with(), use)(Pointer("text", offset), *more))
       for use, *more in (("place", 4), ("is_true",), ("wide",)) for offset in (-4, 65)),
-    ("a number that may have wrapped", Unknown, "", lambda: state_with().wide(FAR)),
-    ("whether a number that may have wrapped is 0", Unknown, "", lambda: state_with().is_true(FAR + 1)),
-    ("a write after the stack", Fault, "", lambda: put(4096, 0)),
-    ("a write after the data", Fault, "", lambda: put(data_end(), 0)),
-    ("a write before the memory", Fault, "", lambda: put(-1, 0)),
-    ("a write whose address wraps", Fault, "", lambda: put(-4, 4)),
-    ("a read over the end of the data", Fault, "",
-     lambda: state_with().fetch(constants(data_end() - 1, 4), 0, 2)),
-    ("a table of branches by a byte", Fault, "", lambda: handle("br_table", (0, 1), BYTE)),
-    ("a branch by a byte", Fork, "", lambda: handle("br_if", (0,), BYTE)),
-    ("a loop above operands", Fault, "", lambda: handle("loop", (), constants(0, 4))),
-    ("an instruction", Refused, "popcnt: an instruction without a meaning", lambda: run("local.get 0 i32.popcnt")),
-    ("a block with a result", Refused, "block .*: an instruction without a meaning",
-     lambda: run("block (result i32) i32.const 1 end")),
-    ("a table", ValueError, r"not known here: \(table", lambda: run(part="(table 1 funcref)")),
-    ("a global that the engine may change", ValueError, "__stack_pointer, which the engine may change",
-     lambda: run(part='(export "__stack_pointer" (global 0))')),
-    ("a memory that is not exported", ValueError, "the memory is not exported", lambda: run(needs="memory")),
-    ("a function of another type", Refused, "f has another type", lambda: run(arguments=(0, 0))),
+    ("a number that may have wrapped", Unknown, lambda: state_with().wide(FAR)),
+    ("whether a number that may have wrapped is 0", Unknown, lambda: state_with().is_true(FAR + 1)),
+    ("a write after the stack", Fault, lambda: put(4096, 0)),
+    ("a write after the data", Fault, lambda: put(data_end(), 0)),
+    ("a write before the memory", Fault, lambda: put(-1, 0)),
+    ("a write whose address wraps", Fault, lambda: put(-4, 4)),
+    ("a read over the end of the data", Fault, lambda: state_with().fetch(constants(data_end() - 1, 4), 0, 2)),
+    ("a table of branches by a byte", Fault, lambda: handle("br_table", (0, 1), BYTE)),
+    ("a branch by a byte", Fork, lambda: handle("br_if", (0,), BYTE)),
+    ("a loop above operands", Fault, lambda: handle("loop", (), constants(0, 4))),
+    ("an instruction", Refused, lambda: run("local.get 0 i32.popcnt"), "popcnt: an instruction without a meaning"),
+    ("a block with a result", Refused, lambda: run("block (result i32) i32.const 1 end"),
+     "block .*: an instruction without a meaning"),
+    ("a table", ValueError, lambda: run(part="(table 1 funcref)"), r"not known here: \(table"),
+    ("a global that the engine may change", ValueError, lambda: run(part='(export "__stack_pointer" (global 0))'),
+     "__stack_pointer, which the engine may change"),
+    ("a memory that is not exported", ValueError, lambda: run(needs="memory"), "the memory is not exported"),
+    ("a function of another type", Refused, lambda: run(arguments=(0, 0)), "f has another type"),
     # The caller's memory follows the data, which follow the stack.
-    *((f"data at {place}", Refused, OVERLAP, lambda place=place: run(part=DATA.format(place)))
+    *((f"data at {place}", Refused, lambda place=place: run(part=DATA.format(place)), OVERLAP)
       for place in (4094, 4095, 4096)),
-    *((f"{new} for {old}", Refused, OVERLAP, lambda old=old, new=new: run(text=FUNCTION.replace(old, new)))
+    *((f"{new} for {old}", Refused, lambda old=old, new=new: run(text=FUNCTION.replace(old, new)), OVERLAP)
       for old, new in (("(mut i32) (i32.const 4096)", "(mut i32) (i32.const 4080)"), ("__heap_base", "__other"),
                        ("(global i32 (i32.const 4096))", "(global i32 (i32.const 65537))"))),
 ]
@@ -86,18 +85,6 @@ REFUSED = [
 
 @needs_module
 class TestModule(unittest.TestCase):
-    def test_addresses(self):
-        """The last bytes of the stack and of the data."""
-        run()
-        put(4095, 0)
-        state_with().fetch(constants(data_end() - 1, 4), 0, 1)
-        state_with().place(Pointer("text", 60), 4)
-
-    def test_select(self):
-        state = state_with(constants(1, 4), constants(2, 4), BYTE)
-        HANDLERS["select"](state, None)
-        self.assertEqual(state.selects, {variable("text", 0)})
-
     def test_which_byte_may_decide_a_select(self):
         """The last digit of a chunk, if its other half comes in the next one."""
         for form in CALLS["decoder_update"].forms:

@@ -1,5 +1,5 @@
-"""Wrong meanings of instructions: mnemonics, and a meaning that is wrong in a way that is easy to overlook. Many are the
-meaning of another instruction, or that of other operands."""
+"""Wrong meanings of instructions: mnemonics, and a meaning that is wrong in a way that is easy to overlook. Many are
+the meaning of another instruction, or that of other operands."""
 
 import operator
 
@@ -8,7 +8,6 @@ import wasm.general
 import x86_64.general
 from arithmetic import by_count, by_lanes
 from conditions import are_zero
-from flags import Flags
 from memory import as_lane
 from values import ZERO
 from wasm.general import computed
@@ -26,22 +25,6 @@ def _first_16(row, places):
     return tuple(row[place.value & 15] for place in places)
 
 
-def _no_zeros(state, i):
-    """Takes the bytes of the register for those above the loaded ones."""
-    value = state.read(i.operands[1])
-    state.write(i.operands[0], value + state.register(i.operands[0])[len(value) :])
-
-
-X86_64 = {
-    "psubusb vpsubusb": _handler(by_lanes(operator.sub, 1)),
-    "packuswb vpackuswb": _handler(_in_halves(lambda a, b: (a + b)[::2])),
-    "vpshufb pshufb": _handler(_in_halves(_first_16)),
-    "psrlw vpsrlw": _handler(by_count(operator.rshift, 4)),
-    "movzx": _no_zeros,
-    "jb": _as("jbe"),
-}
-
-
 def _keeps_rest(mnemonic):
     """What is above the lowest byte in the register stays."""
     handler = RIGHT[mnemonic]
@@ -54,16 +37,18 @@ def _keeps_rest(mnemonic):
     return handle
 
 
-def _borrows(state, i, adds=RIGHT["adds"]):
-    """The flags of a difference, after a sum."""
-    adds(state, i)
-    state.flags = Flags("sub", state.flags.first, state.flags.second)
+X86_64 = {
+    "psubusb vpsubusb": _handler(by_lanes(operator.sub, 1)),
+    "packuswb vpackuswb": _handler(_in_halves(lambda a, b: (a + b)[::2])),
+    "vpshufb pshufb": _handler(_in_halves(_first_16)),
+    "psrlw vpsrlw": _handler(by_count(operator.rshift, 4)),
+    "movzx": _keeps_rest("movzx"),
+    "jb": _as("jbe"),
+}
 
 
 AARCH64 = {
-    "uqsub": _as("sub"),
     "ushr": _as("ushr", lambda target, source, count: (target, source, count - 1)),
-    "shrn": _as("xtn", lambda target, source, count: (target, source)),
     "xtn": _as("shrn", lambda target, source: (target, source, 1)),
     "uxtl2": _as("uxtl"),
     "uzp2": _as("uzp2", lambda target, first, second: (target, second, first)),
@@ -75,7 +60,7 @@ AARCH64 = {
     "csel": _as("csel", lambda target, first, second, name: (target, second, first, name)),
     "csinv": _as("csel"),
     "cset": _keeps_rest("cset"),
-    "adds": _borrows,
+    "cmn": _as("cmp"),
     "movk": _as("movk", lambda target, value, *shift: (target, value)),
     "msub": _as("msub", lambda target, first, second, minuend: (target, first, minuend, second)),
     "bfxil": _as("lsr", lambda target, source, first, count: (target, source, first)),
@@ -85,10 +70,6 @@ AARCH64 = {
     "b.gt": _as("b.ge"),
     "tbnz": _as("tbnz", lambda register, bit, target: (register, bit + 1, target)),
 }
-
-
-def _two(operation):
-    return computed((16, 16), lambda state, i, first, second: operation(first, second))
 
 
 def _branch_one_less(state, i):
@@ -102,22 +83,15 @@ def _select_swapped(state, i):
 
 
 WEBASSEMBLY = {
-    "i8x16.swizzle": _two(_first_16),
-    "i8x16.narrow_i16x8_u": _two(lambda a, b: (a + b)[::2]),
-    "i8x16.min_u": _two(by_lanes(max, 1)),
+    "i8x16.swizzle": computed((16, 16), lambda state, i, a, b: _first_16(a, b)),
+    "i8x16.narrow_i16x8_u": computed((16, 16), lambda state, i, a, b: (a + b)[::2]),
     "i8x16.shuffle": computed((16, 16), lambda state, i, a, b: tuple((b + a)[at] for at in i.operands)),
-    "i16x8.mul": _two(by_lanes(lambda a, b: a * b >> 16, 2)),
-    "i16x8.shr_u": computed((16, 4), lambda state, i, a, n: by_count(operator.rshift, 1)(a, n[0].value & 15)),
-    "i16x8.extend_high_i8x16_u": _as("i16x8.extend_low_i8x16_u"),
     "v128.load8x8_u": computed((4,), lambda state, i, at: state.fetch(at, 0, 8) + (ZERO,) * 8),
     "v128.store64_lane": computed((4, 16), lambda state, i, at, a: state.put(at, i.operands[0], a[:8])),
     "v128.any_true": computed((16,), lambda state, i, a: state.truth(are_zero(a[:8]).negated())),
     "i8x16.replace_lane": computed((16, 4), lambda state, i, a, b: b[:1] + a[1:]),
     "i32.load8_u": computed((4,), lambda state, i, at: state.fetch(at, i.operands[0], 1) * 4),
     "i32.store16": computed((4, 4), lambda state, i, at, a: state.put(at, i.operands[0], a)),
-    "i32.wrap_i64": computed((8,), lambda state, i, a: a[4:]),
-    "i32.shr_u": _as("i32.shl"),
-    "i32.sub": _as("i32.add"),
     "i32.gt_u": _as("i32.ge_u"),
     "i32.lt_u": _as("i32.le_u"),
     "br_table": _branch_one_less,
