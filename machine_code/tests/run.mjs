@@ -1,5 +1,5 @@
-// Runs functions of a module, for node.py. Standard input has the module's size and the module, and requests: the length
-// of a function's name, the name, and its memory. For each it writes the memory afterwards.
+// Runs functions of a module, for node.py. Standard input has the module's size and the module, and requests: the
+// length of a function's name, the name, and its memory. For each it writes the memory afterwards.
 import { readSync, writeSync } from 'node:fs';
 
 function read(size) {

@@ -41,6 +41,7 @@ MUTATIONS = [
     ("what is rejected is accepted", "v3", ("check_raw", 0, 40), "sete al", "setne al", "digits are rejected"),
     ("the search counts in 32 bits", "v3", ("check", 0, 150), "add rcx,0xfffffffffffffffc", "add ecx,-4",
      "add of 4 unknown bytes", FIND),
+    ("the search takes five for four", "v3", ("check", 0, 150), "add r8,0x4", "add r8,0x5", "outside its region", FIND),
     ("the search tests three of four", "v3", ("check", 0, 150), "or r11b,BYTE PTR [r9+r10*1]", "", NO_DIGIT, FIND),
     ("a position without the prefix", "v3", ("decode", 1, 150), "sub rdx,rax", "xor edx,edx", r"error\[8\] is not what",
      FIND),

@@ -1,6 +1,8 @@
 """What the tool has to refuse, or to see: each test is a way in which it could be wrong, or was."""
 
+import operator
 import unittest
+from types import SimpleNamespace
 
 import aarch64.front_end
 import x86_64.general
@@ -91,20 +93,6 @@ def both_sides(name):
     return states
 
 
-def address_that_a_byte_decides():
-    state = state_with()
-    state.leaks = (1,)
-    require_one_path([state])
-
-
-def _plus_1(value):
-    return value + 1
-
-
-def _sum_of_3(first, second, third):
-    return first + second + third
-
-
 # What is wrong, how it is refused, what it is, and the message.
 REFUSED = [
     ("a comparison that may wrap", Unknown, lambda: flag("b", "sub", LEFT * 128 - 1, 64)),
@@ -119,7 +107,7 @@ REFUSED = [
     ("more bytes than the region has", Fault, lambda: flag("b", "sub", APART, 13, Region("text", 16))),
     ("whether another region is as far", Fault, lambda: flag("be", "sub", APART, 12, Region("text", 16))),
     ("the sign of a distance of two regions", Fork, lambda: flag("l", "sub", APART, 12, Region("text", 16))),
-    ("a function of a byte of a pointer", TooWide, lambda: each(_plus_1, LANE)),
+    ("a function of a byte of a pointer", TooWide, lambda: each(operator.index, LANE)),
     ("a mask of a pointer", TooWide, lambda: masked(LANE, LANE)),
     ("a byte of a pointer that is compared", TooWide, lambda: are_equal(LANE, constants(0, 8))),
     ("a byte counted from the end of an unknown length", Fault, lambda: load(INPUT, LEFT * 128)),
@@ -128,10 +116,10 @@ REFUSED = [
     ("a byte that may lie after a region", Split, lambda: load(INPUT, 150)),
     ("a write to what may only be read", Fault, lambda: Memory([TEXT]).store(START, constants(0, 1))),
     ("two places that may be one", Fault, two_places_that_may_be_one),
-    ("an address that a byte decides", Refused, address_that_a_byte_decides),
+    ("an address that a byte decides", Refused, lambda: require_one_path([SimpleNamespace(leaks=(1,))])),
     ("an access that is not aligned", Fault, lambda: load(Region("text", LEFT * 128 + 150, False, 16), 8, 16, 16)),
-    ("a sum of three unknown bytes", TooWide, lambda: apply(_sum_of_3, 1, [(b,) for b in BYTES_4[:3]])),
-    ("a function of marks", TooWide, lambda: each(_plus_1, MARKS)),
+    ("the greatest of three unknown bytes", TooWide, lambda: apply(max, 1, [(b,) for b in BYTES_4[:3]])),
+    ("a function of marks", TooWide, lambda: each(operator.index, MARKS)),
     ("an order of marks that is no power of two", TooWide, lambda: flag("b", "sub", MARKS, constants(15, 1))),
     ("an unaligned stack pointer", Fault, lambda: arm("ldr", X0, at(SP, 8), sp=Pointer("stack", 24)), "not aligned"),
     ("a load below a stack that was moved", Fault,
