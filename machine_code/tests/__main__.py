@@ -1,5 +1,4 @@
-"""Runs the tests of the tool: `python3 machine_code/tests`. One alone: `cd machine_code && python3 -m
-unittest -k NAME`."""
+"""Runs the tests of the tool: `python3 machine_code/tests`. One: `cd machine_code && python3 -m unittest -k NAME`."""
 
 import pathlib
 import sys

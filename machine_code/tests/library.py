@@ -2,6 +2,7 @@
 
 import os
 import pathlib
+import re
 import shutil
 import unittest
 
@@ -31,3 +32,17 @@ def code_of(build, archive=None):
     """The code of a build, or that of the dispatcher."""
     own = KERNELS if build.startswith("rust_") else ARCHIVE
     return library.code_of(archive or {"aarch64": AARCH64, library.WASM: MODULE}.get(build, own), build)
+
+
+NEEDS = {"aarch64": needs_aarch64, "rust_aarch64": needs_aarch64, "dispatch for AArch64": needs_aarch64,
+         library.WASM: needs_module}
+
+
+def add_tests(case, check, rows):
+    """Each row of a table becomes a test of a class: what it shows, by which the test has its name, and what `check`
+    takes, perhaps a build first."""
+    for what, *row in rows:
+        build = row[0] if row[0] in NEEDS or type(row[0]) is str and row[0].isidentifier() else ""
+        name = "test_" + re.sub(r"\W+", "_", f"{build} {what}".lower().strip())
+        assert not hasattr(case, name), name
+        setattr(case, name, NEEDS.get(build, lambda test: test)(lambda self, row=row: check(self, *row)))

@@ -40,19 +40,22 @@ def _text_of_module():
     return re.sub(r"^ +| +$", "", re.sub(r"\(;@?\d+;\)|;; .*$", "", text, flags=re.M), flags=re.M)
 
 
-def edited(build, function, old, new):
-    """The code of a build after an edit, and the address of the edit: in a function, a constant or a macro, `new`
-    stands in the place of the first `old`, or at the start if that is empty. Lines end in `; `."""
+def edited(build, call, old, new, function=None):
+    """The code of a build after an edit, and the address of the edit: in the function of a call, or in another one, a
+    constant or a macro, `new` stands in the place of the first `old`, or at the start if that is empty. Lines end in
+    `; `."""
+    old, new = old.replace("; ", "\n"), new.replace("; ", "\n")
     if build == library.WASM:
-        return _edited_module(function, old.replace("; ", "\n"), new.replace("; ", "\n"))
-    text, machine, old = _source(build), FILES[build][1], old.replace("; ", "\n")
+        return _edited_module(function or f"const_hex_{call}", old, new)
+    text, machine = _source(build), FILES[build][1]
+    function = function or rf"const_hex(_\d+)*_{call}(_nonnull)?(_v\d)?"
     starts = re.finditer(rf"^(function|constant|\.macro) (SYMBOL\()?{function}\b.*\n", text, re.M)
     found = [text.find(old, start.end(), text.index("\n\n", start.end())) for start in starts]
     at = next(at for at in found if at >= 0)
     line = text.rindex("\n", 0, at) + 1
     # A macro is used more than once.
     mark = f".ifndef changed\nchanged:\n.endif\n{text[line:at]}"
-    text = text[:line] + mark + new.replace("; ", "\n") + ("" if old else "\n") + text[at + len(old) :]
+    text = text[:line] + mark + new + ("" if old else "\n") + text[at + len(old) :]
     code = library.code_from(assembled_object(machine, text), build.split()[0])
     return code, code.object.symbols["changed"]
 
@@ -72,51 +75,31 @@ def _edited_module(function, old, new):
     return code, code.object.functions[number].address + text.count("\n", start, at)
 
 
-def _code_of_module(content):
-    """Where the code stands in a module: the section with number 10."""
-    at = 8
-    while True:
-        kind, size, shift = content[at], 0, 0
-        for start in range(at + 1, at + 6):
-            size, shift = size | (content[start] & 127) << shift, shift + 7
-            if content[start] < 128:
-                break
-        if kind == 10:
-            return range(start + 1, start + 1 + size)
-        at = start + 1 + size
-
-
-def _flipped_module(some, base):
-    """A bit of the module's code is another one, which still makes a module."""
-    content = bytearray(base.object.content)
-    while True:
-        place, bit = some.choice(_code_of_module(content)), some.randrange(8)
-        content[place] ^= 1 << bit
-        try:
-            return library.code_from(bytes(content), library.WASM)
-        except (subprocess.CalledProcessError, ValueError, KeyError):
-            content[place] ^= 1 << bit
-
-
 def instructions(code):
-    return {at: known.text for section in code.object.sections if section.is_code
+    return {at: known for section in code.object.sections if section.is_code
             for at, known in code.front_end.instructions(section).items()}
 
 
 def flipped(build, some, base):
     """The code of a build in which one bit of an instruction is another one that `base` has run; where; and the
     texts before and after."""
-    if build == library.WASM:
-        while True:
-            code = _flipped_module(some, base)
-            before, after = instructions(base), instructions(code)
-            changed = [at for at in before if before[at] != after.get(at)]
-            if changed and changed[0] in base.run:
-                return code, changed[0], before[changed[0]], after.get(changed[0])
-    at = some.choice(sorted(base.run))
-    code = code_of(build)
-    section = code.object.section_at(at)
-    old = code.front_end.instructions(section)[at]
-    section.content[at - section.address + some.randrange(old.size)] ^= 1 << some.randrange(8)
-    new = code.front_end.instructions(section).get(at)
-    return code, at, old.text, new and new.text
+    before = instructions(base)
+    while True:
+        if build == library.WASM:
+            content = bytearray(base.object.content)
+            content[some.randrange(len(content))] ^= 1 << some.randrange(8)
+            try:
+                code = library.code_from(bytes(content), build)
+            except (subprocess.CalledProcessError, ValueError, KeyError):
+                # It is no module.
+                continue
+        else:
+            code, at = code_of(build), some.choice(sorted(base.run))
+            section = code.object.section_at(at)
+            size = code.front_end.instructions(section)[at].size
+            section.content[at - section.address + some.randrange(size)] ^= 1 << some.randrange(8)
+        after = instructions(code)
+        changed = [at for at in before if before[at] != after.get(at)]
+        if changed and changed[0] in base.run:
+            new = after.get(changed[0])
+            return code, changed[0], before[changed[0]].text, new and new.text

@@ -1,30 +1,42 @@
-"""What messages need of the engine: numbers by their decimal digits, and the order of two regions."""
+"""What messages need of the engine: numbers by their decimal digits."""
 
 import math
 import operator
 import unittest
 
 from arithmetic import TENTH, added, logic, multiplied, product, shifted, subtracted
-from exploration import Fork
-from flags import Flags
 from linear import GREATEST, Unknown, least_of, most_value
-from memory import Fault, Pointer, Region
+from memory import Fault
 from messages import Digit, position_of, positions
-from tests.test_soundness import state_with
+from tests.library import add_tests
+from tests.test_soundness import assert_refused, flag
 from values import TooWide, at_inputs, constants, parts_of
 
 # A number of three digits, and one of two. Only the first is not 0.
-THREE, TWO = (
-    [Digit(f"digit {place}: {int(place == 0)}-9", int(place == 0), 9) for place in range(count)] for count in (3, 2)
-)
+DIGITS = [Digit(f"digit {place}: {int(place == 0)}-9", int(place == 0), 9) for place in range(3)]
+THREE, TWO, TEN = position_of(DIGITS), position_of(DIGITS[:2]), constants(10, 4)
 
 
-def quotient(value):
+def quotient(value, count=3):
     _, upper = product(value, constants(TENTH, 8))
-    return shifted(operator.rshift, upper, 3)
+    return shifted(operator.rshift, upper, count)
 
 
-class TestDigits(unittest.TestCase):
+LAST = subtracted(THREE.low_bytes(4), multiplied(quotient(THREE).low_bytes(4), TEN))
+REFUSED = [
+    ("another factor", Fault, lambda: product(THREE, constants(TENTH + 1, 8)), "a product of a number with symbols"),
+    ("a shift by 2", TooWide, lambda: quotient(THREE, 2)),
+    ("a shift by 4", TooWide, lambda: quotient(THREE, 4)),
+    ("a quotient of another number", Unknown, lambda: quotient(THREE * 3)),
+    ("digits before the last one", TooWide, lambda: logic("or", THREE.low_bytes(4), constants(48, 4))),
+    ("a sum of the last digit", TooWide, lambda: logic("or", added(LAST, TEN), constants(48, 4))),
+    ("a product of the last digit", TooWide, lambda: logic("or", multiplied(LAST, TEN), constants(48, 4))),
+    ("a question that a digit decides", Unknown, lambda: flag("b", "sub", TWO, 50)),
+    ("a shift of a position", Unknown, lambda: shifted(operator.rshift, TWO, 1)),
+]
+
+
+class TestMessages(unittest.TestCase):
     def test_positions_are_all_numbers_once(self):
         ranges = [(position_of(digits), math.prod(d.most - d.least + 1 for d in digits)) for digits in positions()]
         end = 0
@@ -38,66 +50,15 @@ class TestDigits(unittest.TestCase):
     def test_tenth(self):
         """The error of the factor is too small to be seen, even for the greatest number."""
         self.assertLess((10 * TENTH - 2**67) * GREATEST, 2**67)
-        for digits in positions():
-            value = position_of(digits)
-            found = quotient(value)
-            if len(digits) > 1:
-                self.assertEqual(least_of(found), least_of(value) // 10)
-                self.assertEqual(most_value(found), most_value(value) // 10)
-
-    def test_another_product(self):
-        value = position_of(THREE)
-        with self.assertRaisesRegex(Fault, "a product of a number with symbols"):
-            product(value, constants(TENTH + 1, 8))
-        _, upper = product(value, constants(TENTH, 8))
-        for count in (2, 4):
-            with self.assertRaises(TooWide):
-                shifted(operator.rshift, upper, count)
-        with self.assertRaises(Unknown):
-            quotient(position_of(THREE) * 3)
+        for value in [position_of(digits) for digits in positions() if len(digits) > 1]:
+            self.assertEqual(least_of(quotient(value)), least_of(value) // 10)
+            self.assertEqual(most_value(quotient(value)), most_value(value) // 10)
 
     def test_last_digit(self):
-        """It is a byte by itself only without those before it."""
-        value, ten = position_of(THREE), constants(10, 4)
-        last = subtracted(value.low_bytes(4), multiplied(quotient(value).low_bytes(4), ten))
-        [digit, *rest] = logic("or", last, constants(48, 4))
+        """It is a byte by itself."""
+        digit, *rest = logic("or", LAST, constants(48, 4))
         self.assertEqual(tuple(rest), constants(0, 3))
-        self.assertEqual(at_inputs(digit, lambda at: {THREE[-1].name: 5}[parts_of(at)[1]]), ord("5"))
-        for lane in (value.low_bytes(4), added(last, ten), multiplied(last, ten)):
-            with self.assertRaises(TooWide):
-                logic("or", lane, constants(48, 4))
-
-    def test_question_of_a_digit(self):
-        state = state_with()
-        state.flags = Flags("sub", position_of(TWO), constants(99, 8))
-        self.assertTrue(state.decide(state.flag("be")))
-        state.flags = Flags("sub", position_of(TWO), constants(50, 8))
-        with self.assertRaises(Unknown):
-            state.flag("b")
-        with self.assertRaises(Unknown):
-            shifted(operator.rshift, position_of(TWO), 1)
+        self.assertEqual(at_inputs(digit, lambda at: {DIGITS[-1].name: 5}[parts_of(at)[1]]), ord("5"))
 
 
-class TestOrder(unittest.TestCase):
-    """Of pointers into two regions."""
-
-    def state(self, size):
-        state = state_with(Region("text", 16))
-        state.flags = Flags("sub", subtracted(Pointer("stack", 8), Pointer("text", 4)), constants(size, 8))
-        return state
-
-    def test_bytes_of_another_region(self):
-        self.assertFalse(self.state(12).flag("b").atoms)
-        self.assertTrue(self.state(12).flag("b").is_negated)
-
-    def test_more_bytes_than_the_region_has(self):
-        with self.assertRaises(Fault):
-            self.state(13).flag("b")
-        with self.assertRaises(Fault):
-            self.state(12).flag("be")
-
-    def test_sign(self):
-        """It may be any."""
-        with self.assertRaises(Fork):
-            state = self.state(12)
-            state.decide(state.flag("l"))
+add_tests(TestMessages, assert_refused, REFUSED)

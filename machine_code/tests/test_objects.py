@@ -1,5 +1,6 @@
 """Relocations: the object is what the linker makes of it, with its sections at the same places."""
 
+import pathlib
 import struct
 import subprocess
 import tempfile
@@ -9,48 +10,41 @@ from unittest import mock
 import objects
 from calls import CALLS
 from exploration import Refused
-from tests.library import AARCH64, ARCHIVE, code_of, needs_aarch64
+from tests.library import AARCH64, ARCHIVE, add_tests, code_of, needs_aarch64
 from tests.mutations import assembled_object
 
 
-def linked(data, obj, linker):
+def linked(data, obj, tools):
     """The contents of the sections of an object after the linker has placed them as `obj` has them."""
-    places = "".join(
-        f'.s{at} {section.address:#x} : {{ *("{section.name}") }}\n' for at, section in enumerate(obj.sections)
-    )
-    named = {name: place for place, name in obj.undefined.items() if name.isidentifier()}
-    absent = "".join(f"{name} = {place:#x};\n" for name, place in named.items())
+    places = [f'.s{at} {section.address:#x} : {{ *("{section.name}") }}' for at, section in enumerate(obj.sections)]
+    absent = [f"{name} = {place:#x};" for place, name in obj.undefined.items() if name.isidentifier()]
     with tempfile.TemporaryDirectory() as folder:
-        with open(f"{folder}/object.o", "wb") as file:
-            file.write(data)
-        with open(f"{folder}/script", "w") as file:
-            file.write(f"SECTIONS {{\n{places}/DISCARD/ : {{ *(*) }}\n}}\n{absent}")
-        objcopy = f"{linker.removesuffix('ld')}objcopy"
-        command = [linker, "-T", f"{folder}/script", "-o", f"{folder}/linked", f"{folder}/object.o"]
-        subprocess.run(command, check=True)
-        found = []
+        pathlib.Path(folder, "object.o").write_bytes(data)
+        script = "\n".join(["SECTIONS {", *places, "/DISCARD/ : { *(*) }", "}", *absent, ""])
+        pathlib.Path(folder, "script").write_text(script)
+        subprocess.run([f"{tools}ld", "-T", "script", "-o", "linked", "object.o"], check=True, cwd=folder)
         for at in range(len(obj.sections)):
-            command = [objcopy, "-O", "binary", "-j", f".s{at}", f"{folder}/linked", f"{folder}/section"]
-            subprocess.run(command, check=True)
-            with open(f"{folder}/section", "rb") as file:
-                found.append(file.read())
-        return found
+            command = [f"{tools}objcopy", "-O", "binary", "-j", f".s{at}", "linked", "section"]
+            subprocess.run(command, check=True, cwd=folder)
+            yield pathlib.Path(folder, "section").read_bytes()
+
+
+def with_headers(text, offset, kind, change):
+    """The bytes of an object, in which a field of each section's header is another one."""
+    data = bytearray(assembled_object(62, text))
+    [start], [size, count] = struct.unpack_from("<Q", data, 40), struct.unpack_from("<HH", data, 58)
+    for at in range(start + offset, start + size * count, size):
+        struct.pack_into(kind, data, at, change(*struct.unpack_from(kind, data, at)))
+    return bytes(data)
 
 
 class TestObjects(unittest.TestCase):
-    def assert_linked(self, archive, name, linker):
+    def assert_linked(self, build, archive, name, tools):
         data = objects.member(archive, name)
         obj = objects.read(data)
         self.assertTrue(any(section.references for section in obj.sections))
-        for section, content in zip(obj.sections, linked(data, obj, linker)):
+        for section, content in zip(obj.sections, linked(data, obj, tools)):
             self.assertEqual(bytes(section.content), content, section.name)
-
-    def test_x86_64(self):
-        self.assert_linked(ARCHIVE, "x86_64_v3.S.o", "ld")
-
-    @needs_aarch64
-    def test_aarch64(self):
-        self.assert_linked(AARCH64, "aarch64.S.o", "aarch64-linux-gnu-ld")
 
     def test_layout(self):
         """Each run has another one."""
@@ -63,27 +57,17 @@ class TestObjects(unittest.TestCase):
 
     def test_section_without_an_alignment(self):
         """The linker may place it anywhere."""
-        data = bytearray(assembled_object(62, '.section .rodata; .balign 16; .skip 32'))
-        [start], [size, count] = struct.unpack_from("<Q", data, 40), struct.unpack_from("<HH", data, 58)
-        for at in range(start, start + size * count, size):
-            struct.pack_into("<Q", data, at + 48, 0)
-        [section] = objects.read(bytes(data)).sections
+        text = ".section .rodata; .balign 16; .skip 32"
+        [section] = objects.read(with_headers(text, 48, "<Q", lambda alignment: 0)).sections
         self.assertEqual(section.alignment, 1)
 
     def test_sections_that_are_not_known(self):
-        for text in (
-            '.section .init_array, "aw"; .quad 0',
-            '.section .ctors, "aw"; .quad 0',
-        ):
-            with self.subTest(text), self.assertRaisesRegex(ValueError, "a section that is not known here"):
-                objects.read(assembled_object(62, text))
         # Relocations without an addend of their own have another type.
-        data = bytearray(assembled_object(62, "call memcpy@PLT"))
-        [start], [size, count] = struct.unpack_from("<Q", data, 40), struct.unpack_from("<HH", data, 58)
-        for at in range(start, start + size * count, size):
-            data[at + 4] = 9 if data[at + 4] == objects.ADDENDS else data[at + 4]
-        with self.assertRaisesRegex(ValueError, r"a section that is not known here: \.rela\.text"):
-            objects.read(bytes(data))
+        rel = with_headers("call memcpy@PLT", 4, "<I", lambda kind: 9 if kind == objects.ADDENDS else kind)
+        for name, data in ((r"\.rela\.text", rel), *((name, assembled_object(62, f'.section {name}, "aw"; .quad 0'))
+                                                     for name in (".init_array", ".ctors"))):
+            with self.subTest(name), self.assertRaisesRegex(ValueError, f"a section that is not known here: {name}"):
+                objects.read(data)
 
     def test_sections_of_other_objects(self):
         for text in ('.section .text.one, "axG", @progbits, one, comdat; one: ret',
@@ -109,3 +93,9 @@ class TestObjects(unittest.TestCase):
             code = code_of("aarch64")
         with self.assertRaisesRegex(Refused, r"check\S*, which has a relocation of the unknown kind 299"):
             CALLS["check_raw"].prove(code, "const_hex_check_raw", ("length", 0, 20))
+
+
+add_tests(TestObjects, TestObjects.assert_linked, [
+    ("as linked", "v3", ARCHIVE, "x86_64_v3.S.o", ""),
+    ("as linked", "aarch64", AARCH64, "aarch64.S.o", "aarch64-linux-gnu-"),
+])

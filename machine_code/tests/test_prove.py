@@ -17,71 +17,58 @@ import sums
 from calls import function_of
 from exploration import Refused
 from reached import not_reached
-from tests.library import ARCHIVE, HAS_AARCH64, HAS_MODULE, code_of
-from tests.mutations import FILES, assembled_object, edited
+from tests.library import ARCHIVE, add_tests, code_of
+from tests.mutations import FILES, assembled_object, edited, instructions
 
 FUNCTION = "const_hex_check_raw_v3"
 FRONT_ENDS = ("x86_64", "aarch64", "wasm")
 # The form of `encode` with this flag alone, that of a decoder which has read 2 or more characters, and a position in a
 # message.
 NO_NUL, LATER, POSITION = 4, 4, 8
-# The function of the module that encodes, by an instruction that no other has.
-LANES = "i16x8.extend_high_i8x16_u"
-# What one part shows that is not for all lengths: the build, the call, the function, the lines before and after, the
-# part, and what the tool says.
+# What one part shows that is not for all lengths: the build, the call, the lines before and after, the part, what the
+# tool says, and the function if it is not that of the call.
 WRONG_IN_ONE_PART = [
-    ("v3", "encode", "const_hex_encode_v3", "cmp rsi,0x40", "cmp rsi,0x3f", ("length", NO_NUL, 63),
-     "read of 16 bytes outside"),
-    ("v2", "check_raw", "const_hex_check_raw_v2", "cmp rsi,0x20", "cmp rsi,0x1f", ("length", 0, 31),
-     r"outside .*: text\[-1\]"),
-    ("v2", "check_raw", "const_hex_check_raw_v2", "cmp rsi,0x10", "cmp rsi,0x11", ("length", 0, 17),
-     "not a digit is accepted"),
-    ("v2", "decoder_update", "const_hex_decoder_update_nonnull_v2", "cmp r15,0x80", "cmp r15,0x7f",
-     ("length", LATER, 127), "read of 16 bytes outside"),
-    ("v3", "error_message", "const_hex_message_write_ended_v3", "cmp rax,rcx; je 4f", "", ("case", POSITION),
-     "write of 1 bytes outside"),
-    ("aarch64", "decode_exact", "const_hex_decode_exact_nonnull", "cmp x3, #0x40", "cmp x3, #0x3f",
-     ("length", 0, 126), "read of 32 bytes outside"),
-    ("aarch64", "encode", "const_hex_encode", "cmp x1, #0x11", "cmp x1, #0x12", ("length", NO_NUL, 17),
-     "is written before 16"),
-    (library.WASM, "encode", LANES, "local.get 1; i32.const 7; i32.gt_u", "local.get 1; i32.const 6; i32.gt_u",
-     ("length", 0, 7), "the module traps"),
+    ("v3", "encode", "cmp rsi,0x40", "cmp rsi,0x3f", ("length", NO_NUL, 63), "read of 16 bytes outside"),
+    ("v2", "check_raw", "cmp rsi,0x20", "cmp rsi,0x1f", ("length", 0, 31), r"outside .*: text\[-1\]"),
+    ("v2", "check_raw", "cmp rsi,0x10", "cmp rsi,0x11", ("length", 0, 17), "not a digit is accepted"),
+    ("v2", "decoder_update", "cmp r14,0x80", "cmp r14,0x7f", ("length", LATER, 127), "read of 16 bytes outside"),
+    ("v3", "error_message", "cmp rax,rcx; je 4f", "", ("case", POSITION), "write of 1 bytes outside",
+     "const_hex_message_write_ended_v3"),
+    ("aarch64", "decode_exact", "cmp x3, #0x40", "cmp x3, #0x3f", ("length", 0, 126), "read of 32 bytes outside"),
+    ("aarch64", "encode", "cmp x1, #0x11", "cmp x1, #0x12", ("length", NO_NUL, 17), "is written before 16"),
+    (library.WASM, "encode", "local.get 1; i32.const 7; i32.gt_u", "local.get 1; i32.const 6; i32.gt_u",
+     ("length", 0, 7), "the module traps", "i16x8.extend_high_i8x16_u"),
 ]
 
 
-def script():
-    """`prove`, as a module."""
-    module = types.ModuleType("prove")
-    SourceFileLoader("prove", str(sums.FOLDER / "prove")).exec_module(module)
-    return module
+def sums_of(code, function):
+    return sums.sum_of(code.object, function), sums.sum_of_tool(library.processor_of(code.object))
 
 
 class TestProve(unittest.TestCase):
     def setUp(self):
-        """The sums are in a file of the test."""
+        """`prove` as a module, which writes the sums to a file of the test."""
         folder = tempfile.TemporaryDirectory()
         self.addCleanup(folder.cleanup)
-        patch = mock.patch.object(sums, "FILE", pathlib.Path(folder.name) / "proved.txt")
+        self.folder, self.script = pathlib.Path(folder.name), types.ModuleType("prove")
+        SourceFileLoader("prove", str(sums.FOLDER / "prove")).exec_module(self.script)
+        patch = mock.patch.object(sums, "FILE", self.folder / "proved.txt")
         patch.start()
         self.addCleanup(patch.stop)
 
-    def passes(self, code, call, *options, archive=ARCHIVE, build="v3"):
-        """Whether `prove` passes, where this is the code of the build."""
-        module = script()
-        argv = ["prove", str(archive), "--build", build, "--call", call, "--jobs", "1", *options]
-        with mock.patch.object(module, "code_of", lambda *_: code), mock.patch.object(sys, "argv", argv):
-            with contextlib.redirect_stdout(io.StringIO()) as self.output:
-                return not module.main()
-
-    def sums_of(self, code, function):
-        return sums.sum_of(code.object, function), sums.sum_of_tool("x86_64")
+    def accepts(self, code, call, build="v3"):
+        """What `prove --sums` says, where this is the code of the build."""
+        argv = ["prove", str(ARCHIVE), "--build", build, "--call", call, "--jobs", "1", "--sums"]
+        with mock.patch.object(self.script, "code_of", lambda *_: code), mock.patch.object(sys, "argv", argv):
+            with contextlib.redirect_stdout(io.StringIO()) as output:
+                is_accepted = not self.script.main()
+        self.assertEqual("NOT RECORDED" in output.getvalue(), not is_accepted)
+        return is_accepted
 
     def test_code_that_is_not_reached(self):
         code = code_of("v3")
-        every = {at for section in code.object.sections if section.is_code
-                 for at in code.front_end.instructions(section)}
+        every, start = set(instructions(code)), code.object.symbols[FUNCTION]
         self.assertEqual(not_reached(code, every), ([], 0))
-        start = code.object.symbols[FUNCTION]
         [line], count = not_reached(code, every - {start})
         self.assertEqual((line.split("+")[0], count), (FUNCTION, 1))
         self.assertEqual(not_reached(code, every - {start, code.object.symbols["const_hex_encode_v3"]})[1], 2)
@@ -96,28 +83,21 @@ class TestProve(unittest.TestCase):
             function_of(code, "encode", "v3")
 
     def test_archive_with_another_object(self):
-        with tempfile.TemporaryDirectory() as folder:
-            archive, other = f"{folder}/libconst_hex.a", f"{folder}/other.o"
-            shutil.copy(ARCHIVE, archive)
-            pathlib.Path(other).write_bytes(assembled_object(62, ".globl memcpy; memcpy: ret"))
-            subprocess.run(["ar", "q", archive, other], check=True)
-            with self.assertRaisesRegex(ValueError, "has other objects"):
-                library.builds_of(archive)
+        archive, other = self.folder / "libconst_hex.a", self.folder / "other.o"
+        shutil.copy(ARCHIVE, archive)
+        other.write_bytes(assembled_object(62, ".globl memcpy; memcpy: ret"))
+        subprocess.run(["ar", "q", archive, other], check=True)
+        with self.assertRaisesRegex(ValueError, "has other objects"):
+            library.builds_of(archive)
 
     def test_one_byte_of_what_rust_includes(self):
-        """Each archive is assembled as `./test` does it. The sum of `fill` is recorded of the first one."""
+        """The sum of `fill` is recorded of the files that the Rust crate includes."""
         text = "".join(path.read_text() for path in FILES["rust_v3"][0])
-        with tempfile.TemporaryDirectory() as folder:
-            for name, old, new in (("same", "", ""), ("other", "0x64, 0x65, 0x66", "0x64, 0x65, 0x67")):
-                file, archive = pathlib.Path(folder, "rust_x86_64_v3.o"), f"{folder}/{name}.a"
-                file.write_bytes(assembled_object(62, text.replace(old, new, 1)))
-                subprocess.run(["ar", "rc", archive, file], check=True)
-                code = library.code_of(archive, "rust_v3")
-                if name == "same":
-                    function = function_of(code, "fill", "rust_v3")
-                    sums.write({("fill", "rust_v3"): self.sums_of(code, function)})
-                passes = self.passes(code, "fill", "--sums", archive=archive, build="rust_v3")
-                self.assertEqual(passes, name == "same")
+        same, other = (library.code_from(assembled_object(62, text.replace("0x64, 0x65, 0x66", new, 1)), "rust_v3")
+                       for new in ("0x64, 0x65, 0x66", "0x64, 0x65, 0x67"))
+        sums.write({("fill", "rust_v3"): sums_of(code_of("rust_v3"), function_of(same, "fill", "rust_v3"))})
+        self.assertTrue(self.accepts(same, "fill", "rust_v3"))
+        self.assertFalse(self.accepts(other, "fill", "rust_v3"))
 
     def test_sum_of_other_code(self):
         obj = code_of("v3").object
@@ -132,8 +112,7 @@ class TestProve(unittest.TestCase):
 
     def test_files_of_the_tool(self):
         files = {file for front_end in FRONT_ENDS for file in sums.files_of_tool(front_end)}
-        loaded = [pathlib.Path(module.__file__) for module in list(sys.modules.values())
-                  if getattr(module, "__file__", None)]
+        loaded = [pathlib.Path(getattr(module, "__file__", None) or "/") for module in list(sys.modules.values())]
         used = {file for file in loaded if sums.FOLDER in file.parents and sums.FOLDER / "tests" not in file.parents}
         self.assertEqual(used - files, set())
         self.assertEqual(len({sums.sum_of_tool(front_end) for front_end in FRONT_ENDS}), len(FRONT_ENDS))
@@ -141,42 +120,37 @@ class TestProve(unittest.TestCase):
     def test_sums(self):
         """With --sums nothing is accepted but the code and the tool of which the sums stand there."""
         code = code_of("v3")
-        self.assertFalse(self.passes(code, "check_raw", "--sums"))
-        of_code, of_tool = self.sums_of(code, FUNCTION)
+        self.assertFalse(self.accepts(code, "check_raw"))
+        of_code, of_tool = sums_of(code, FUNCTION)
         sums.write({("check_raw", "v3"): (of_code, of_tool)})
-        self.assertTrue(self.passes(code, "check_raw", "--sums"))
-        self.assertFalse(self.passes(edited("v3", FUNCTION, "sete al", "setne al")[0], "check_raw", "--sums"))
-        self.assertIn("NOT RECORDED", self.output.getvalue())
+        self.assertTrue(self.accepts(code, "check_raw"))
+        self.assertFalse(self.accepts(edited("v3", "check_raw", "sete al", "setne al")[0], "check_raw"))
         sums.write({("check_raw", "v3"): (of_code, of_tool[::-1])})
-        self.assertFalse(self.passes(code, "check_raw", "--sums"))
+        self.assertFalse(self.accepts(code, "check_raw"))
 
-    def test_code_whose_sum_was_written(self):
-        """The part that shows what is wrong is run without --all."""
-        module, options = script(), types.SimpleNamespace(sums=False, all=False)
-        for build, call, name, old, new, part, wanted in WRONG_IN_ONE_PART:
-            if not {"aarch64": HAS_AARCH64, library.WASM: HAS_MODULE}.get(build, True):
-                continue
-            with self.subTest(build=build, call=call, new=new):
-                code, _ = edited(build, name, old, new)
-                processor, function = library.processor_of(code.object), function_of(code, call, build)
-                sums.write({(call, build): (sums.sum_of(code.object, function), sums.sum_of_tool(processor))})
-                with mock.patch.object(module, "code_of", lambda *_: code):
-                    row = module.Row(ARCHIVE, call, build, options)
-                    self.assertTrue(row.is_recorded and row.is_proved)
-                    [task] = [task for task in row.tasks() if task[3] == part]
-                    _, fault, states, _, seconds = module.prove(task)
-                self.assertRegex(fault, wanted)
-                row.add(fault, states, seconds)
-                self.assertIn("REFUSED", row.outcome())
-                self.assertFalse(row.is_proved)
+    def refuse(self, build, call, old, new, part, wanted, function=None):
+        """The sum of wrong code was written. The part that shows what is wrong is run without --all."""
+        code, _ = edited(build, call, old, new, function)
+        sums.write({(call, build): sums_of(code, function_of(code, call, build))})
+        with mock.patch.object(self.script, "code_of", lambda *_: code):
+            row = self.script.Row(ARCHIVE, call, build, types.SimpleNamespace(sums=False, all=False))
+            self.assertTrue(row.is_recorded and row.is_proved)
+            [task] = [task for task in row.tasks() if task[3] == part]
+            _, fault, states, _, seconds = self.script.prove(task)
+        self.assertRegex(fault, wanted)
+        row.add(fault, states, seconds)
+        self.assertIn("REFUSED", row.outcome())
+        self.assertFalse(row.is_proved)
 
     def test_what_is_run(self):
         """Each part, if it is not recorded, and then each single length; with --all each part again."""
-        module, call = script(), library.calls_of("v3")["check_raw"]
-        every, rows = list(call.parts()), []
+        every, rows = list(library.calls_of("v3")["check_raw"].parts()), []
         for is_all, is_recorded in ((False, False), (False, True), (True, True)):
             if is_recorded:
-                sums.write({("check_raw", "v3"): self.sums_of(code_of("v3"), FUNCTION)})
+                sums.write({("check_raw", "v3"): sums_of(code_of("v3"), FUNCTION)})
             options = types.SimpleNamespace(sums=False, all=is_all)
-            rows.append(module.Row(ARCHIVE, "check_raw", "v3", options).parts)
+            rows.append(self.script.Row(ARCHIVE, "check_raw", "v3", options).parts)
         self.assertEqual(rows, [every, [part for part in every if part[0] == "length"], every])
+
+
+add_tests(TestProve, TestProve.refuse, [(" ".join(row[1:4]), *row) for row in WRONG_IN_ONE_PART])

@@ -1,13 +1,13 @@
 """Forms of instructions that have to be refused: with them the CPU does something else than with those that have
 a meaning, or it does not have them."""
 
-import re
+import contextlib
 import unittest
 
 from calls import CALLS
 from exploration import Refused
 from library import code_from
-from tests.library import needs_aarch64
+from tests.library import add_tests
 from tests.mutations import assembled_object
 from x86_64.decoding import NOPS
 
@@ -25,17 +25,13 @@ SOURCES = {
         .section .rodata; .balign 16; table: .skip 32
         .section .text.other, "ax"; other: ret""",
 }
-BELOW = "an access below the stack"
+BELOW, NO_CODE = "an access below the stack", "a jump to what is no code"
 OUTSIDE, LEAVES = "a pointer that is compared outside its region", "the stack pointer leaves the stack"
-SHIFT, XGETBV = "a shift by 0", "xgetbv on a CPU that may not have it"
-UNPREDICTABLE, PAGE = "unpredictable", "arithmetic with a page"
-NO_CODE, NOT_HERE = "a jump to what is no code", "an instruction that the CPU may not have"
-PUSHED, VECTOR = "less than 8 bytes on the stack", "a vector in an instruction of the general registers"
+PUSHED, PAGE = "less than 8 bytes on the stack", "arithmetic with a page"
 NO_MEANING, OTHER_FORM = "an instruction without a meaning here", "a form without a meaning here"
 REASSEMBLED, WIDE = "is not what the assembler makes of it", "vzeroupper is missing"
 OTHER = f"{NO_MEANING}|{REASSEMBLED}"
-PLATFORM = "x18, which belongs to the platform"
-LOWER_BITS, LOWER_BITS_16 = "R_AARCH64_ADD_ABS_LO12_NC", "R_AARCH64_LDST128_ABS_LO12_NC"
+LOWER_BITS = ".reloc ., R_AARCH64_ADD_ABS_LO12_NC, table"
 
 # What is wrong, the build, the instructions, and what the tool has to say.
 FORMS = [
@@ -51,8 +47,8 @@ FORMS = [
     ("a byte that is kept", "v2", "mov byte ptr [rip + kept], 7", "something is kept between calls"),
     ("AVX without a check", "v2", "vpxor ymm0, ymm0, ymm0", REASSEMBLED),
     ("BMI2 without a check", "v2", "mulx rax, rcx, rcx", REASSEMBLED),
-    ("SSSE3 in what chooses a build", "dispatch", "pshufb xmm0, xmm0", REASSEMBLED),
     ("SSE4.1 in what chooses a build", "dispatch", "ptest xmm0, xmm0", REASSEMBLED),
+    ("SSSE3 in what chooses a build", "dispatch", "pshufb xmm0, xmm0", REASSEMBLED),
     ("AVX-512", "v3", "vpbroadcastd ymm0, esi", REASSEMBLED),
     ("AVX-512 by its encoding", "v3", "{evex} vpaddb ymm0, ymm0, ymm0", NO_MEANING),
     ("a byte of the stack that a signal may change", "v2",
@@ -64,10 +60,10 @@ FORMS = [
     ("a stack in a buffer", "v2", "mov rax, rsp; mov rsp, rdi; mov rsp, rax", LEAVES),
     ("a pointer that may be null", "v2", "lea rax, [rsp-0x10000]; test rax, rax; je helper", OUTSIDE),
     ("a pointer that may be 0", "v2", "lea rax, [rsp-0x10000]; cmp rax, 0; je helper", OUTSIDE),
-    ("a shift by 32 of 32 bits", "v2", ".byte 0xc1, 0xe0, 0x20", SHIFT),
+    ("a shift by 32 of 32 bits", "v2", ".byte 0xc1, 0xe0, 0x20", "a shift by 0"),
     ("a jump of 16 bits", "v2", ".byte 0x66, 0xeb, 0", f"data16 jmp.*: {NO_MEANING}"),
     ("another prefix of AVX", "v3", ".byte 0x66; vpxor xmm0, xmm0, xmm0", f"data16 vpxor.*: {NO_MEANING}"),
-    ("xgetbv without a check", "v2", "xor ecx, ecx; xgetbv", XGETBV),
+    ("xgetbv without a check", "v2", "xor ecx, ecx; xgetbv", "xgetbv on a CPU that may not have it"),
     ("an aligned look-up by an unknown byte", "v2",
      "movzx ecx, dil; and ecx, 7; lea rax, [rip + table]; por xmm0, [rax+rcx]", "that needs an alignment"),
     ("a constant that the linker may merge", "v2", "movdqa xmm0, [rip + one]", "outside its region"),
@@ -95,8 +91,7 @@ FORMS = [
     ("a wide register, of which the rest is cleared", "v3", "vpxor ymm0, ymm0, ymm0; vpxor xmm0, xmm0, xmm0", WIDE),
     ("a wide register after a jump", "v3",
      "vpxor ymm0, ymm0, ymm0; jmp other; .section .text.other, \"ax\"; other: nop", WIDE),
-    ("a wide register on one of two ways", "v3",
-     "vzeroupper; cmp dil, 1; je 1f; vpxor ymm0, ymm0, ymm0; 1:", WIDE),
+    ("a wide register on one of two ways", "v3", "vzeroupper; cmp dil, 1; je 1f; vpxor ymm0, ymm0, ymm0; 1:", WIDE),
     ("RBIT", "aarch64", "rbit x9, x9", f"rbit x9, x9: {NO_MEANING}"),
     ("two vectors of LD1", "aarch64", "ld1 {v0.8b, v1.8b}, [x0]", f"ld1 .*: {NO_MEANING}"),
     ("a shift by a register", "aarch64", "lsl x9, x9, x1", "lsl x9, x9, x1: a shift by a register"),
@@ -107,34 +102,27 @@ FORMS = [
      f"mov w9, #{VERSION}; str x9, [sp, #-16]!; add sp, sp, #16; sub sp, sp, #16; ldr x0, [sp], #16; ret",
      "the version"),
     ("a byte below the stack", "aarch64", "strb wzr, [sp, #-1]", BELOW),
-    ("a stack that is too long for a moment", "aarch64",
-     "sub sp, sp, #1024, lsl #12; add sp, sp, #1024, lsl #12", LEAVES),
+    ("a stack that is too long", "aarch64", "sub sp, sp, #1024, lsl #12; add sp, sp, #1024, lsl #12", LEAVES),
     ("a base that a load moves", "aarch64",
      "sub sp, sp, #16; str xzr, [sp]; mov x8, sp; ldrb w10, [x8], #1; mov x9, sp; add sp, sp, #16; "
      f"sub x8, x8, x9; mov w9, #{VERSION}; add w0, w8, w9; ret", "the version"),
-    ("a base that is loaded and moved", "aarch64", "sub sp, sp, #16; mov x8, sp; ldr x8, [x8], #8", UNPREDICTABLE),
-    ("a base that is stored and moved", "aarch64", "sub sp, sp, #16; mov x8, sp; str x8, [x8], #8", UNPREDICTABLE),
-    ("two loads of one register", "aarch64", "sub sp, sp, #16; ldp x9, x9, [sp]", UNPREDICTABLE),
+    ("a base that is loaded and moved", "aarch64", "sub sp, sp, #16; mov x8, sp; ldr x8, [x8], #8", "unpredictable"),
+    ("a base that is stored and moved", "aarch64", "sub sp, sp, #16; mov x8, sp; str x8, [x8], #8", "unpredictable"),
+    ("two loads of one register", "aarch64", "sub sp, sp, #16; ldp x9, x9, [sp]", "unpredictable"),
     ("a page that is moved", "aarch64", "adrp x8, table; add x8, x8, #8", PAGE),
     ("the distance of two pages", "aarch64", "adrp x8, table; adrp x9, table + 8; sub x8, x8, x9", PAGE),
     ("a register that code of the linker may change", "aarch64",
      f"mov x9, x30; mov w16, #{VERSION}; bl other; mov x30, x9; mov w0, w16; ret", "the version"),
-    ("NEG of a vector", "aarch64", "movi v0.16b, #1; neg v0.16b, v0.16b", VECTOR),
-    ("NOT of a vector", "aarch64", "movi v0.16b, #1; mvn v0.16b, v0.16b", VECTOR),
-    ("XOR of vectors", "aarch64", "movi v0.16b, #1; eor v0.16b, v0.16b, v0.16b", VECTOR),
+    *((f"vectors in {form}", "aarch64", f"movi v0.16b, #1; {form}", "a vector in an instruction of the general")
+      for form in ("neg v0.16b, v0.16b", "mvn v0.16b, v0.16b", "eor v0.16b, v0.16b, v0.16b")),
     ("a product by one element", "aarch64", "movi v0.8h, #1; mul v0.8h, v0.8h, v0.h[0]", OTHER_FORM),
-    ("lower bits that are shifted", "aarch64",
-     f"adrp x8, table; .reloc ., {LOWER_BITS}, table; add x8, x8, #0, lsl #12", f"add .*: {NO_MEANING}"),
-    ("lower bits that are subtracted", "aarch64",
-     f"adrp x8, table; .reloc ., {LOWER_BITS}, table; sub x8, x8, #0", f"sub .*: {NO_MEANING}"),
-    ("lower bits of 32 bits", "aarch64",
-     f"adrp x8, table; .reloc ., {LOWER_BITS}, table; add w8, w8, #0", f"add .*: {NO_MEANING}"),
-    ("lower bits for an access of 16 bytes", "aarch64",
-     f"adrp x8, table; .reloc ., {LOWER_BITS_16}, table; ldr d0, [x8]", f"ldr .*: {NO_MEANING}"),
-    ("lower bits between instructions", "aarch64",
-     f"adrp x8, table; .reloc . + 2, {LOWER_BITS}, table; add x8, x8, #0", f"0x4: .*: {NO_MEANING}"),
+    *((f"lower bits in {form}", "aarch64", f"adrp x8, table; .reloc {at}, R_AARCH64_{kind}_ABS_LO12_NC, table; {form}",
+       f"{'0x4:' if '+' in at else form.split()[0]} .*: {NO_MEANING}") for form, at, kind in (
+        ("add x8, x8, #0, lsl #12", ".", "ADD"), ("sub x8, x8, #0", ".", "ADD"), ("add w8, w8, #0", ".", "ADD"),
+        ("ldr d0, [x8]", ".", "LDST128"), ("add x8, x8, #0", ". + 2", "ADD"),
+    )),
     *((f"a base that is moved by 0 and a register of {text}", "aarch64",
-       f"sub sp, sp, #16; mov x10, sp; .inst {code}; add sp, sp, #16", UNPREDICTABLE) for text, code in (
+       f"sub sp, sp, #16; mov x10, sp; .inst {code}; add sp, sp, #16", "unpredictable") for text, code in (
         ("ldrb w10, [x10], #0", "0x3840054a"), ("ldrb w10, [x10, #0]!", "0x38400d4a"),
         ("str x10, [x10], #0", "0xf800054a"), ("ldr x10, [x10], #0", "0xf840054a"),
         ("stp x10, x9, [x10], #0", "0xa880254a"), ("ldp x9, x10, [x10], #0", "0xa8c02949"),
@@ -150,44 +138,29 @@ FORMS = [
         ("add of a register that is rotated", "0x0bc00000"), ("add that extends by 5", "0x0b205400"),
         ("csel with a bit", "0x1a800c00"), ("ret with a bit", "0xd65f03c1"), ("mul by v0.d", "0x4ee09c00"),
     )),
-    ("a write of x18", "aarch64", "mov x18, #1", PLATFORM),
-    ("a write of half of x18", "aarch64", "mov w18, #1", PLATFORM),
-    ("a read of x18", "aarch64", "mov x9, x18", PLATFORM),
-    ("an address in x18", "aarch64", "ldrb w9, [x18]", PLATFORM),
+    *((f"x18 in {form}", "aarch64", form, "x18, which belongs to the platform")
+      for form in ("mov x18, #1", "mov w18, #1", "mov x9, x18", "ldrb w9, [x18]")),
     ("a page that is no page", "aarch64",
      "adrp x8, table; .reloc ., R_AARCH64_ADR_PREL_PG_HI21, table; adr x8, .", f"adr .*: {NO_MEANING}"),
 ]
 ACCEPTED = [
-    ("v2", "pxor xmm1, xmm1; pshufb xmm0, xmm1; push rax; pop rax"),
-    ("v3",
+    ("known forms", "v2", "pxor xmm1, xmm1; pshufb xmm0, xmm1; push rax; pop rax"),
+    ("a wide register that is cleared", "v3",
      "vpxor ymm0, ymm0, ymm0; vzeroupper; vpxor xmm0, xmm0, xmm0; xor edx, edx; xor ecx, ecx; mulx rax, rcx, rcx"),
-    ("v2", f".byte {', '.join(f'{byte:#x}' for byte in bytes.fromhex(''.join(NOPS)))}"),
-    ("dispatch", "pxor xmm0, xmm0"),
-    ("aarch64", f"adrp x8, table; .reloc ., {LOWER_BITS}, table; add x8, x8, #0; mov x9, #1; neg x8, x9"),
+    ("nops of each length", "v2", f".byte {', '.join(f'{byte:#x}' for byte in bytes.fromhex(''.join(NOPS)))}"),
+    ("SSE2 in what chooses a build", "dispatch", "pxor xmm0, xmm0"),
+    ("the lower bits of a page", "aarch64", f"adrp x8, table; {LOWER_BITS}; add x8, x8, #0; mov x9, #1; neg x8, x9"),
 ]
 
 
-def prove(build, form):
-    """Proves a function that has a form and returns the version."""
-    machine = 183 if build == "aarch64" else 62
-    code = code_from(assembled_object(machine, SOURCES[machine].format(form, VERSION)), build)
-    CALLS["version"].prove(code, "const_hex_version", ("case", 0))
-
-
 class TestRefused(unittest.TestCase):
-    pass
+    def prove(self, build, form, wanted=None):
+        """Proves a function that has a form and returns the version."""
+        machine = 183 if build == "aarch64" else 62
+        code = code_from(assembled_object(machine, SOURCES[machine].format(form, VERSION)), build)
+        with self.assertRaisesRegex(Refused, wanted) if wanted else contextlib.nullcontext():
+            CALLS["version"].prove(code, "const_hex_version", ("case", 0))
 
 
-def _test(build, form, wanted=None):
-    def test(self):
-        if wanted is None:
-            prove(build, form)
-        else:
-            with self.assertRaisesRegex(Refused, wanted):
-                prove(build, form)
-
-    return needs_aarch64(test) if build == "aarch64" else test
-
-
-for _what, *_row in [*FORMS, *((f"accepted for {build}", build, form) for build, form in ACCEPTED)]:
-    setattr(TestRefused, "test_" + re.sub(r"\W+", "_", f"{_row[0]} {_what}".lower()), _test(*_row))
+add_tests(TestRefused, TestRefused.prove, FORMS)
+add_tests(TestRefused, TestRefused.prove, ACCEPTED)

@@ -1,155 +1,179 @@
-"""What the tool has to refuse, or to see: each test is a way in which it could be wrong."""
+"""What the tool has to refuse, or to see: each test is a way in which it could be wrong, or was."""
 
+import operator
 import unittest
+from types import SimpleNamespace
 
+import aarch64.front_end
+import x86_64.general
+import x86_64.state
+from aarch64.decoding import Address, Extension, Register
+from arithmetic import logic, subtracted
 from calls import CALLS
-from conditions import FALSE, Condition, Path, are_equal, are_zero
+from conditions import Condition, Path, are_equal, are_zero
 from disassembly import Instruction
-from exploration import Refused, require_one_path, sides
-from induction import DONE, LEFT
-from linear import GREATEST, Split, Unknown, in_terms_of, is_zero, symbol
-from memory import Fault, Image, Memory, Pointer, Region, as_lane, with_replaced
-from tests.library import code_of
-from tests.mutations import edited
-from values import CONSTANTS, TooWide, apply, constants, each, joined, masked, unknown
-from x86_64.decoding import REGISTERS
+from exploration import Fork, Refused, require_one_path, sides
 from flags import Flags
-from x86_64.general import HANDLERS
-from x86_64.state import State
+from induction import DONE, LEFT
+from linear import GREATEST, Linear, Split, Unknown, in_terms_of, is_zero, symbol
+from memory import Fault, Image, Memory, Pointer, Region, as_lane, with_replaced
+from tests.library import add_tests, code_of
+from tests.mutations import edited
+from values import CONSTANTS, TooWide, apply, constants, each, joined, kept, masked, unknown, variable
+from x86_64.decoding import REGISTERS
+
+SP, X0, W0 = (Register("general", name, 0, size, None) for name, size in (("sp", 8), ("x0", 8), ("x0", 4)))
+X86_64, AARCH64 = x86_64.state.State, aarch64.front_end.State
+FAR, LONG, INPUT = symbol("far", GREATEST), Region("text", LEFT * 128), Region("text", LEFT * 128 + 150)
+TEXT, BYTES, STACK = Region("text", 64), Region("bytes", 64), Region("stack", 64, True, 16)
+START, BYTES_4 = Pointer("text", 0), tuple([unknown("error", at) for at in range(4)])
+LANE = as_lane(START)
+MARKS = joined(joined((unknown("text", 0),), (unknown("text", 1),)), (unknown("text", 2),))
+TABLE = tuple([unknown("table", at % 64) for at in range(128)])
+# The order of pointers into two regions, of which the second has 16 bytes.
+APART = subtracted(Pointer("stack", 8), Pointer("text", 4))
 
 
-def state_with(*regions):
-    return State(Memory([Region("stack", 64, True, 16), *regions]))
+def state_with(*regions, of=X86_64, **registers):
+    state = of(Memory([STACK, *regions]))
+    state.registers |= {"sp": Pointer("stack", 32)} | registers if of is AARCH64 else registers
+    return state
+
+
+def flag(name, kind, first, second, *regions, of=X86_64, sets={}):
+    """Whether a condition of flags holds, where these regions are, and bytes have these values."""
+    state = state_with(*regions, of=of)
+    first, second = [constants(value, 8) if type(value) is int else value for value in (first, second)]
+    state.flags = Flags(kind, first, second)
+    state.path.sets |= sets
+    return state.decide(state.flag(name))
 
 
 def run(state, mnemonic, *operands):
-    operands = tuple(REGISTERS.get(operand, operand) for operand in operands)
-    HANDLERS[mnemonic](state, Instruction(0, 4, mnemonic, operands, mnemonic))
+    """The state after an instruction."""
+    operands = tuple([REGISTERS.get(operand, operand) if type(operand) is str else operand for operand in operands])
+    of = x86_64.general if type(state) is X86_64 else aarch64.front_end
+    of.HANDLERS[mnemonic](state, Instruction(0, 4, mnemonic, operands, mnemonic))
+    return state
 
 
-class TestNumbers(unittest.TestCase):
-    def test_comparison_that_may_wrap(self):
-        state = state_with()
-        state.flags = Flags("sub", LEFT * 128 - 1, constants(64, 8))
-        with self.assertRaises(Unknown):
-            state.flag("b")
+def arm(mnemonic, *operands, **registers):
+    return run(state_with(of=AARCH64, **registers), mnemonic, *operands)
 
-    def test_comparison_at_the_end_of_the_range(self):
-        far = symbol("far", GREATEST)
-        state = state_with()
-        state.flags = Flags("sub", far + 1, constants(64, 8))
-        with self.assertRaises(Unknown):
-            state.flag("b")
 
-    def test_question_that_has_two_answers(self):
-        with self.assertRaises(Split):
-            is_zero(LEFT * 128)
-        with self.assertRaises(Split):
-            LEFT * 128 < 128
+def at(base, displacement, after=None, is_moved=False):
+    return Address(base, None, Extension("lsl", 0), displacement, after, is_moved)
 
-    def test_carry(self):
-        state = state_with()
-        state.flags = Flags("add", symbol("far", GREATEST), constants(1, 8))
-        with self.assertRaises(Unknown):
-            state.flag("b")
 
-    def test_carry_from_below_zero(self):
-        state = state_with()
-        state.flags = Flags("add", LEFT * -4 - 8, constants(1, 8))
-        self.assertIs(state.flag("b"), FALSE)
-        state.flags = Flags("add", LEFT * -4 - 1, constants(1, 8))
-        with self.assertRaises(Unknown):
-            state.flag("b")
+def load(region, offset, size=1, alignment=1):
+    return Memory([region]).load(Pointer(region.name, offset), size, alignment)
 
-    def test_low_bits_are_new_each_time(self):
+
+def bit():
+    """A bit of a length that is not known picks one of two places, where the same has to lie."""
+    return logic("and", LEFT * 64 + 3, constants(64, 8))
+
+
+def first_byte_is(values):
+    """The highest of four bytes has one of these values."""
+    return {variable("error", 3): kept(bytes(value in values for value in range(256)))}
+
+
+def two_places_that_may_be_one():
+    memory = Memory([Region("text", (DONE + LEFT) * 128 + 256, True)])
+    memory.store(Pointer("text", DONE * 128), constants(0, 1))
+    memory.store(Pointer("text", (DONE + LEFT) * 128 + 1), constants(0, 1))
+    memory.load(Pointer("text", 7), 1)
+
+
+def both_sides(name):
+    """The states after a jump by an unknown byte."""
+    states = list(sides(code_of("v3"), state_with(), are_equal((unknown(name, 1, "rax", 0),), constants(0, 1))))
+    assert len(states) == 2
+    return states
+
+
+# What is wrong, how it is refused, what it is, and the message.
+REFUSED = [
+    ("a comparison that may wrap", Unknown, lambda: flag("b", "sub", LEFT * 128 - 1, 64)),
+    ("a comparison at the end of the range", Unknown, lambda: flag("b", "sub", FAR + 1, 64)),
+    ("a zero that has two answers", Split, lambda: is_zero(LEFT * 128)),
+    ("an order that has two answers", Split, lambda: LEFT * 128 < 128),
+    ("a carry", Unknown, lambda: flag("b", "add", FAR, 1)),
+    ("a carry from below zero", Unknown, lambda: flag("b", "add", LEFT * -4 - 1, 1)),
+    ("pointers that are one if left is 0", Split, lambda: flag("e", "sub", Pointer("text", LEFT * 128), START, LONG)),
+    ("an order outside a region", Fault, lambda: flag("b", "sub", Pointer("text", 65), START, TEXT)),
+    ("pointers into two regions", Fault, lambda: flag("e", "sub", START, Pointer("bytes", 0), TEXT, BYTES)),
+    ("more bytes than the region has", Fault, lambda: flag("b", "sub", APART, 13, Region("text", 16))),
+    ("whether another region is as far", Fault, lambda: flag("be", "sub", APART, 12, Region("text", 16))),
+    ("the sign of a distance of two regions", Fork, lambda: flag("l", "sub", APART, 12, Region("text", 16))),
+    ("a function of a byte of a pointer", TooWide, lambda: each(operator.index, LANE)),
+    ("a mask of a pointer", TooWide, lambda: masked(LANE, LANE)),
+    ("a byte of a pointer that is compared", TooWide, lambda: are_equal(LANE, constants(0, 8))),
+    ("a byte counted from the end of an unknown length", Fault, lambda: load(INPUT, LEFT * 128)),
+    ("a byte before a region", Fault, lambda: load(INPUT, -1)),
+    ("a byte after a region", Fault, lambda: load(INPUT, LEFT * 128 + 150)),
+    ("a byte that may lie after a region", Split, lambda: load(INPUT, 150)),
+    ("a write to what may only be read", Fault, lambda: Memory([TEXT]).store(START, constants(0, 1))),
+    ("two places that may be one", Fault, two_places_that_may_be_one),
+    ("an address that a byte decides", Refused, lambda: require_one_path([SimpleNamespace(leaks=(1,))])),
+    ("an access that is not aligned", Fault, lambda: load(Region("text", LEFT * 128 + 150, False, 16), 8, 16, 16)),
+    ("the greatest of three unknown bytes", TooWide, lambda: apply(max, 1, [(b,) for b in BYTES_4[:3]])),
+    ("a function of marks", TooWide, lambda: each(operator.index, MARKS)),
+    ("an order of marks that is no power of two", TooWide, lambda: flag("b", "sub", MARKS, constants(15, 1))),
+    ("an unaligned stack pointer", Fault, lambda: arm("ldr", X0, at(SP, 8), sp=Pointer("stack", 24)), "not aligned"),
+    ("a load below a stack that was moved", Fault,
+     lambda: run(arm("ldr", X0, at(SP, 0, after=16)), "ldr", X0, at(SP, -8)), "below the stack"),
+    # One that is moved by 0 is moved.
+    *((f"{name} of a base that is moved by {moved}", Fault, lambda name=name, operands=operands, moved=moved:
+       arm(name, *operands, at(X0, 0, **moved), x0=Pointer("stack", 32)), "a base that is moved")
+      for name, *operands in (("ldrb", W0), ("str", X0), ("stp", SP, X0), ("ldp", X0, SP))
+      for moved in ({"after": 0}, {"is_moved": True})),
+    ("half of a pointer", TooWide, lambda: arm("add", W0, W0, 1, x0=Pointer("stack", 0))),
+    ("an order by the flags of a sum", Fault, lambda: flag("hi", "add", -1, 1, of=AARCH64)),
+    ("a signed order of bytes that may be any", Fork, lambda: flag("le", "sub", BYTES_4, constants(3, 4))),
+    ("other bytes at the places of an unknown bit", Fault, lambda: load(Region("table", 128), bit() + 5),
+     "other bytes are read"),
+    ("one place of an unknown bit outside", Fault, lambda: load(Region("table", 127, content=TABLE), bit() + 63),
+     "outside"),
+    *((f"the bits {mask} of a length", Fault, lambda mask=mask: logic("and", LEFT * 64 + 3, constants(mask, 8)))
+      for mask in (128, 192, 32 + 64)),
+]
+# What is seen, and what it is, the wanted value first.
+SEEN = [
+    ("a sum below zero has no carry", lambda: (False, flag("b", "add", LEFT * -4 - 8, 1))),
+    ("low bits of a number", lambda: (CONSTANTS[7], (LEFT * 256 + 7).low_bytes(1)[0])),
+    ("a number in other terms",
+     lambda: (LEFT * 32 + 32, in_terms_of(LEFT * 128 + 160, LEFT * 256 + 300, LEFT * 64 + 44))),
+    ("two symbols in terms of one", lambda: (None, in_terms_of(LEFT * 128 + DONE, (LEFT + DONE) * 128, LEFT * 128))),
+    ("terms that do not fit", lambda: (None, in_terms_of(LEFT, LEFT * 128, LEFT * 64 + 1))),
+    ("another region is not near", lambda: (False, flag("b", "sub", APART, 12, Region("text", 16)))),
+    ("a number that a split replaces in a lane",
+     lambda: (constants(256, 8)[:4], with_replaced(as_lane(LEFT * 128)[:4], "left", 2))),
+    ("less by the highest byte",
+     lambda: (True, flag("lt", "sub", BYTES_4, constants(3, 4), of=AARCH64, sets=first_byte_is(range(128, 256))))),
+    ("greater by the highest byte",
+     lambda: (True, flag("gt", "sub", BYTES_4, constants(3, 4), of=AARCH64, sets=first_byte_is(range(1, 128))))),
+    ("a bit of a length", lambda: ((Linear, 0, 64), (type(bit()), bit().least, bit().most))),
+    ("the same bytes at the places of an unknown bit",
+     lambda: ((TABLE[5],), load(Region("table", 128, content=TABLE), bit() + 5))),
+]
+
+
+class TestSoundness(unittest.TestCase):
+    def test_what_is_new_each_time(self):
         self.assertNotEqual(LEFT.low_bytes(1), LEFT.low_bytes(1))
-        self.assertIs((LEFT * 256 + 7).low_bytes(1)[0], CONSTANTS[7])
+        self.assertNotEqual(bit(), bit())
 
-    def test_new_form_of_a_number(self):
-        self.assertEqual(in_terms_of(LEFT * 128 + 160, LEFT * 256 + 300, LEFT * 64 + 44), LEFT * 32 + 32)
-        self.assertIsNone(in_terms_of(LEFT * 128 + DONE, (LEFT + DONE) * 128, LEFT * 128))
-        self.assertIsNone(in_terms_of(LEFT, LEFT * 128, LEFT * 64 + 1))
-
-
-class TestPointers(unittest.TestCase):
-    def test_two_that_may_be_one(self):
-        """They are written in two ways, and are the same if `left` is 0."""
-        state = state_with(Region("text", LEFT * 128))
-        state.flags = Flags("sub", Pointer("text", LEFT * 128), Pointer("text", 0))
-        with self.assertRaises(Split):
-            state.flag("e")
-
-    def test_order_outside_their_region(self):
-        state = state_with(Region("text", 64))
-        state.flags = Flags("sub", Pointer("text", 65), Pointer("text", 0))
-        with self.assertRaises(Fault):
-            state.flag("b")
-
-    def test_two_regions(self):
-        state = state_with(Region("text", 64), Region("bytes", 64))
-        state.flags = Flags("sub", Pointer("text", 0), Pointer("bytes", 0))
-        with self.assertRaises(Fault):
-            state.flag("e")
-
-    def test_in_a_vector_register(self):
+    def test_pointer_in_a_vector_register(self):
         """What a split makes of a pointer is made of its bytes in a vector, too."""
-        state = state_with(Region("text", LEFT * 128))
-        state.registers["rax"] = Pointer("text", LEFT * 128)
-        run(state, "movq", "xmm0", "rax")
-        state = state.replaced("left", 0)
-        run(state, "movq", "rcx", "xmm0")
-        self.assertEqual(state.registers["rcx"], Pointer("text", 0))
+        state = run(state_with(LONG, rax=Pointer("text", LEFT * 128)), "movq", "xmm0", "rax").replaced("left", 0)
+        self.assertEqual(run(state, "movq", "rcx", "xmm0").registers["rcx"], START)
 
-    def test_on_the_stack(self):
-        memory = Memory([Region("stack", 64, True, 16)])
+    def test_number_on_the_stack(self):
+        memory = Memory([STACK])
         memory.store(Pointer("stack", 0), LEFT * 128)
         self.assertEqual(memory.replaced("left", LEFT + 1).load(Pointer("stack", 0), 8), LEFT * 128 + 128)
-
-    def test_single_bytes(self):
-        lane = as_lane(Pointer("text", 0))
-        for use in (
-            lambda: each(_plus_1, lane),
-            lambda: masked(lane, lane),
-            lambda: are_equal(lane, constants(0, 8)),
-        ):
-            with self.assertRaises(TooWide):
-                use()
-
-    def test_replaced_in_a_lane(self):
-        lane = as_lane(LEFT * 128)[:4]
-        self.assertEqual(with_replaced(lane, "left", 2), constants(256, 8)[:4])
-
-
-def _plus_1(value):
-    return value + 1
-
-
-class TestMemory(unittest.TestCase):
-    def test_name_with_what_a_split_changes(self):
-        """A byte counted from the end of an input of unknown length has no name."""
-        memory = Memory([Region("text", LEFT * 128 + 150)])
-        with self.assertRaises(Fault):
-            memory.load(Pointer("text", LEFT * 128), 1)
-        memory.load(Pointer("text", 149), 1)
-
-    def test_outside(self):
-        memory = Memory([Region("text", LEFT * 128 + 150)])
-        for offset in (-1, LEFT * 128 + 150):
-            with self.assertRaises(Fault):
-                memory.load(Pointer("text", offset), 1)
-        with self.assertRaises(Split):
-            memory.load(Pointer("text", 150), 1)
-
-    def test_write_to_what_may_only_be_read(self):
-        with self.assertRaises(Fault):
-            Memory([Region("text", 8)]).store(Pointer("text", 0), constants(0, 1))
-
-    def test_two_places_that_may_be_one(self):
-        memory = Memory([Region("text", (DONE + LEFT) * 128 + 256, True)])
-        memory.store(Pointer("text", DONE * 128), constants(0, 1))
-        with self.assertRaises(Fault):
-            memory.load(Pointer("text", 7), 1)
-        memory.store(Pointer("text", (DONE + LEFT) * 128 + 1), constants(0, 1))
 
     def test_what_another_thread_may_write(self):
         """What the object has stored may be another byte when it is read."""
@@ -159,127 +183,76 @@ class TestMemory(unittest.TestCase):
         memory.store(place, constants(1, 1))
         self.assertNotEqual(memory.load(place, 1), constants(1, 1))
 
-    def test_alignment(self):
-        memory = Memory([Region("text", LEFT * 128 + 150, False, 16)])
-        memory.load(Pointer("text", 16), 16, 16)
-        with self.assertRaises(Fault):
-            memory.load(Pointer("text", 8), 16, 16)
-
-    def test_below_the_stack(self):
-        state = state_with()
-        state.memory = Memory([Region("stack", 1024, True, 16)])
-        state.registers["rsp"] = Pointer("stack", 512)
-        state.address(Memory_operand(0))
-        with self.assertRaisesRegex(Fault, "an access below the stack"):
-            state.address(Memory_operand(-1))
-
-
-def Memory_operand(displacement):
-    from x86_64.decoding import Memory as Operand
-
-    return Operand(REGISTERS["rsp"], None, 1, displacement, 8)
-
-
-class TestPaths(unittest.TestCase):
     def test_clauses(self):
-        first, second = unknown("text", 0), unknown("text", 1)
-        path = Path()
-        both = are_equal((first, second), constants(0x7830, 2))
+        path, both = Path(), are_equal((unknown("text", 0), unknown("text", 1)), constants(0x7830, 2))
         path.assume(both.negated())
         self.assertIs(path.decide(both), False)
         self.assertIsNone(path.decide(Condition(both.atoms[:1])))
         path.assume(Condition(both.atoms[:1]))
         self.assertIs(path.decide(Condition(both.atoms[1:])), False)
 
-    def test_three_unknown_bytes(self):
-        bytes_ = [unknown("text", at) for at in range(3)]
-        with self.assertRaises(TooWide):
-            apply(_sum_of_3, 1, [(byte,) for byte in bytes_])
-        marks = joined(joined(bytes_[:1], bytes_[1:2]), bytes_[2:])
-        with self.assertRaises(TooWide):
-            each(_plus_1, marks)
-        state = state_with()
-        state.flags = Flags("sub", marks, constants(16, 1))
-        self.assertEqual(state.flag("b").atoms, are_zero(masked(marks, constants(0xF0, 1))).atoms)
-        state.flags = Flags("sub", marks, constants(15, 1))
-        self.assertEqual(state.flag("be").atoms, are_zero(masked(marks, constants(0xF0, 1))).atoms)
-        with self.assertRaises(TooWide):
-            state.flag("b")
+    def test_order_of_marks(self):
+        state, upper = state_with(), are_zero(masked(MARKS, constants(0xF0, 1))).atoms
+        for name, limit in (("b", 16), ("be", 15)):
+            state.flags = Flags("sub", MARKS, constants(limit, 1))
+            self.assertEqual(state.flag(name).atoms, upper)
 
     def test_one_path_for_each_length(self):
         """A byte that decides is seen although the lengths are split on one side alone."""
-        states = [state_with(), state_with(), state_with()]
+        states = [state_with() for _ in range(3)]
         states[0].trail = (("bytes", 1, True),)
         states[1].trail = (("bytes", 1, False), ("length", 2, 0))
         states[2].trail = (("bytes", 1, False), ("length", 2, 1))
         require_one_path(states[1:])
-        with self.assertRaises(Refused):
-            require_one_path(states)
+        assert_refused(self, Refused, lambda: require_one_path(states))
 
-    def test_byte_that_decides(self):
+    def test_what_decides(self):
         """A jump by what the CPU is makes two paths, and one by a byte of the input is refused."""
-        for name, is_refused in (("cpuid", False), ("image", False), ("text", True)):
-            condition = are_equal((unknown(name, 1, "rax", 0),), constants(0, 1))
-            states = list(sides(code_of("v3"), state_with(), condition))
-            self.assertEqual(len(states), 2)
-            if is_refused:
-                with self.assertRaises(Refused):
-                    require_one_path(states)
-            else:
-                require_one_path(states)
-
-    def test_address_that_a_byte_decides(self):
-        state = state_with()
-        state.leaks = (1,)
-        with self.assertRaises(Refused):
-            require_one_path([state])
+        for name in ("cpuid", "image"):
+            require_one_path(both_sides(name))
+        assert_refused(self, Refused, lambda: require_one_path(both_sides("text")))
 
 
-def _sum_of_3(first, second, third):
-    return first + second + third
+def assert_refused(case, kind, function, message=""):
+    with case.assertRaisesRegex(kind, message):
+        function()
+
+
+add_tests(TestSoundness, assert_refused, REFUSED)
+add_tests(TestSoundness, lambda case, function: case.assertEqual(*function()), SEEN)
+
+# What stands at the start of a function, the rest of the length, and what the tool says: each is right but at lengths
+# that no test would try.
+SOME = "cmp rsi, 130; jb 1f; mov eax, esi; and eax, 127; cmp eax, 22; jne 1f; mov rax, rsi"
+RETURN, BEFORE = "jne 1f; mov eax, 1; ret; 1:", "it returns before the first round"
+LENGTHS = [
+    ("one length", f"movabs rax, 1 << 40; cmp rsi, rax; {RETURN}", 150, "too many cases"),
+    ("all lengths from one on", "movabs rax, 1 << 33; cmp rsi, rax; jb 1f; mov eax, 1; ret; 1:", 150, "too many cases"),
+    ("some bits of a length", "mov eax, esi; and eax, 15; cmp eax, 7; jne 1f; dec rsi; 1:", 151,
+     "not a digit|all is read"),
+    # Whether it is 0 is asked where its symbols are gone, and where it is 2^64.
+    ("a sum that is zero", f"{SOME}; not rax; inc rax; add rax, rsi; {RETURN}", 150, BEFORE),
+    ("a sum that wraps", f"{SOME}; movabs rcx, 1 << 63; add rax, rcx; add rax, rcx; cmp rax, rsi; {RETURN}", 150,
+     BEFORE),
+    ("a length of 32 bits", "mov esi, esi", 150, "unknown byte"),
+]
 
 
 class TestLengths(unittest.TestCase):
-    """Functions that are right but at lengths that no test would try."""
-
-    def prove(self, text, rest=150):
-        code, _ = edited("v3", "const_hex_check_raw_v3", "", text)
+    def prove(self, text, rest):
+        code, _ = edited("v3", "check_raw", "", text)
         CALLS["check_raw"].prove(code, "const_hex_check_raw_v3", ("class", 0, rest))
 
-    def assert_refused(self, text, wanted, rest=150):
-        with self.assertRaisesRegex(Refused, wanted):
-            self.prove(text, rest)
-
     def test_detour_that_changes_nothing(self):
-        self.prove("nop")
-
-    def test_one_length(self):
-        self.assert_refused(
-            "movabs rax, 1 << 40; cmp rsi, rax; jne 1f; mov eax, 1; ret; 1:", "too many cases"
-        )
-
-    def test_all_lengths_from_one_on(self):
-        self.assert_refused("movabs rax, 1 << 33; cmp rsi, rax; jb 1f; mov eax, 1; ret; 1:", "too many cases")
-
-    def test_some_bits_of_a_length(self):
-        self.assert_refused(
-            "mov eax, esi; and eax, 15; cmp eax, 7; jne 1f; dec rsi; 1:", "not a digit|all is read", 151
-        )
+        self.prove("nop", 150)
 
     def test_byte_that_is_kept(self):
         """A round writes a byte of the object in the place of one of its stores."""
         store = "vmovdqu YMMWORD PTR [rcx+rdx*1+0x60],ymm3"
-        code, _ = edited("v3", "const_hex_encode_v3", store, "mov [rip + kept], al; .lcomm kept, 1")
+        code, _ = edited("v3", "encode", store, "mov [rip + kept], al; .lcomm kept, 1")
         with self.assertRaisesRegex(Refused, "something is kept between calls, in the loop at"):
             CALLS["encode"].prove(code, "const_hex_encode_v3", ("class", 0, 150))
 
-    def test_sum_that_is_zero(self):
-        """Whether it is 0 is asked where its symbols are gone, and where it is 2^64."""
-        begin = "cmp rsi, 130; jb 1f; mov eax, esi; and eax, 127; cmp eax, 22; jne 1f; mov rax, rsi"
-        end = "jne 1f; mov eax, 1; ret; 1:"
-        self.assert_refused(f"{begin}; not rax; inc rax; add rax, rsi; {end}", "it returns before the first round")
-        twice = "movabs rcx, 1 << 63; add rax, rcx; add rax, rcx; cmp rax, rsi"
-        self.assert_refused(f"{begin}; {twice}; {end}", "it returns before the first round")
 
-    def test_length_of_32_bits(self):
-        self.assert_refused("mov esi, esi", "unknown byte")
+add_tests(TestLengths, lambda case, text, rest, wanted: assert_refused(
+    case, Refused, lambda: case.prove(text, rest), wanted), LENGTHS)

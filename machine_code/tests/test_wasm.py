@@ -1,142 +1,90 @@
-"""The meanings of instructions for WebAssembly, compared with Node on random operands; and wrong meanings,
-which are noticed."""
+"""What the front end for WebAssembly has to refuse, or to see."""
 
-import operator
 import unittest
-from unittest import mock
 
 import wasm.front_end
-from arithmetic import by_count, by_lanes
-from conditions import are_zero
 from exploration import Code, Fork, Refused, outcomes
 from induction import heads_of
 from library import WASM
 from linear import Unknown, symbol
 from memory import Fault, Image, Memory, Pointer, Region
-from tests.library import code_of, needs_module
-from tests.node import Node, assembled, is_alone
+from tests.library import add_tests, code_of, needs_module
+from tests.node import assembled
+from tests.test_soundness import assert_refused
 from values import ZERO, constants, unknown, variable
-from wasm import vector
 from wasm.calls import CALLS
-from wasm.general import HANDLERS, computed
+from wasm.general import HANDLERS
 from wasm.module import Instruction, parse
 from wasm.state import State
 
-
-def instructions():
-    """Each instruction of the module that runs alone, once."""
-    code = code_of(WASM)
-    found = {}
-    for function in code.object.functions:
-        for instruction in code.front_end.instructions(function).values():
-            if is_alone(instruction):
-                found.setdefault(instruction.text, instruction)
-    return list(found.values())
+FUNCTION = """(module (memory 1 1) (global (mut i32) (i32.const 4096)) {1}
+    (global i32 (i32.const 4096)) (export "__data_end" (global 1)) (export "__heap_base" (global 1))
+    (func (export "f") (param i32) (result i32) {0}))"""
+DATA, KNOWN = '(data (i32.const {}) "\\00\\01")', "local.get 0"
+FAR, BYTE = symbol("beyond 32 bits", 1 << 32), (unknown("text", 0), ZERO, ZERO, ZERO)
+OVERLAP = "the data and `__heap_base` lie at"
 
 
-def _two(operation):
-    return computed((16, 16), lambda state, i, first, second: operation(first, second))
+def state_with(*operands):
+    state = State(Memory([Region("text", 64), Region("stack", 4096, True), Image(code_of(WASM).object)]))
+    state.operands = list(operands)
+    return state
 
 
-def _branch_one_less(state, i):
-    """The last entry is out of reach."""
-    index = state.operands.pop()[0].value
-    return state.branch(i.operands[min(index, len(i.operands) - 2)])
+def put(address, offset):
+    state_with().put(constants(address, 4), offset, constants(0, 1))
 
 
-def _select_swapped(state, i):
-    first, second, choice = state.operands[-3:]
-    state.operands[-3:] = [second if state.decide(state.is_true(choice)) else first]
+def data_end():
+    [data] = [section for section in code_of(WASM).object.sections if not section.is_code]
+    return data.end
 
 
-# Instructions, and a meaning that is wrong in a way that is easy to overlook.
-WRONG = {
-    "i8x16.swizzle": _two(lambda row, places: tuple(row[place.value & 15] for place in places)),
-    "i8x16.narrow_i16x8_u": _two(lambda a, b: (a + b)[::2]),
-    "i8x16.min_u": _two(by_lanes(max, 1)),
-    "i8x16.shuffle": computed((16, 16), lambda state, i, a, b: tuple((b + a)[at] for at in i.operands)),
-    "i16x8.mul": _two(by_lanes(lambda a, b: a * b >> 16, 2)),
-    "i16x8.shr_u": computed((16, 4), lambda state, i, a, n: by_count(operator.rshift, 1)(a, n[0].value & 15)),
-    "i16x8.extend_high_i8x16_u": computed((16,), lambda state, i, a: vector._widened(a[:8])),
-    "v128.load8x8_u": computed((4,), lambda state, i, at: state.fetch(at, 0, 8) + (ZERO,) * 8),
-    "v128.store64_lane": computed((4, 16), lambda state, i, at, a: state.put(at, i.operands[0], a[:8])),
-    "v128.any_true": computed((16,), lambda state, i, a: state.truth(are_zero(a[:8]).negated())),
-    "i8x16.replace_lane": computed((16, 4), lambda state, i, a, b: b[:1] + a[1:]),
-    "i32.load8_u": computed((4,), lambda state, i, at: state.fetch(at, i.operands[0], 1) * 4),
-    "i32.store16": computed((4, 4), lambda state, i, at, a: state.put(at, i.operands[0], a)),
-    "i32.shr_u": HANDLERS["i32.shl"],
-    "i32.sub": HANDLERS["i32.add"],
-    "i32.xor": HANDLERS["i32.or"],
-    "i32.gt_u": HANDLERS["i32.ge_u"],
-    "i32.lt_u": HANDLERS["i32.le_u"],
-    "i32.wrap_i64": computed((8,), lambda state, i, a: a[4:]),
-    "br_table": _branch_one_less,
-    "select": _select_swapped,
-}
+def handle(mnemonic, operands, *values):
+    HANDLERS[mnemonic](state_with(*values), Instruction(0, 1, mnemonic, operands, ""))
 
 
-@needs_module
-class TestInstructions(unittest.TestCase):
-    @classmethod
-    def setUpClass(cls):
-        cls.node = Node(instructions())
-
-    def test_each_instruction(self):
-        self.assertGreater(len(self.node.texts), 60)
-        self.assertEqual(self.node.differences(), set())
-
-    def test_wrong_meanings_are_noticed(self):
-        for mnemonic, wrong in WRONG.items():
-            with self.subTest(mnemonic), mock.patch.dict(HANDLERS, {mnemonic: wrong}):
-                self.assertNotEqual(self.node.differences(mnemonic), set())
+def run(body=KNOWN, part="", arguments=(0,), text=FUNCTION, needs=None):
+    """Runs a function of a module to its end."""
+    code = Code(parse(assembled(text.format(body, part)), *([needs] if needs else [])), wasm.front_end)
+    list(outcomes(code, wasm.front_end.start(code, "f", list(arguments), [])))
 
 
-def _state(*regions):
-    return State(Memory([*regions, Region("stack", 4096, True), Image(code_of(WASM).object)]))
+# What is wrong, how it is refused, what it is, and the message.
+REFUSED = [
+    # Only a pointer into its region is its address, and so not 0.
+    *((f"the {use} of a pointer that may have wrapped to {offset}", Fault,
+       lambda use=use, more=more, offset=offset: getattr(state_with(), use)(Pointer("text", offset), *more))
+      for use, *more in (("place", 4), ("is_true",), ("wide",)) for offset in (-4, 65)),
+    ("a number that may have wrapped", Unknown, lambda: state_with().wide(FAR)),
+    ("whether a number that may have wrapped is 0", Unknown, lambda: state_with().is_true(FAR + 1)),
+    ("a write after the stack", Fault, lambda: put(4096, 0)),
+    ("a write after the data", Fault, lambda: put(data_end(), 0)),
+    ("a write before the memory", Fault, lambda: put(-1, 0)),
+    ("a write whose address wraps", Fault, lambda: put(-4, 4)),
+    ("a read over the end of the data", Fault, lambda: state_with().fetch(constants(data_end() - 1, 4), 0, 2)),
+    ("a table of branches by a byte", Fault, lambda: handle("br_table", (0, 1), BYTE)),
+    ("a branch by a byte", Fork, lambda: handle("br_if", (0,), BYTE)),
+    ("a loop above operands", Fault, lambda: handle("loop", (), constants(0, 4))),
+    ("an instruction", Refused, lambda: run("local.get 0 i32.popcnt"), "popcnt: an instruction without a meaning"),
+    ("a block with a result", Refused, lambda: run("block (result i32) i32.const 1 end"),
+     "block .*: an instruction without a meaning"),
+    ("a table", ValueError, lambda: run(part="(table 1 funcref)"), r"not known here: \(table"),
+    ("a global that the engine may change", ValueError, lambda: run(part='(export "__stack_pointer" (global 0))'),
+     "__stack_pointer, which the engine may change"),
+    ("a memory that is not exported", ValueError, lambda: run(needs="memory"), "the memory is not exported"),
+    ("a function of another type", Refused, lambda: run(arguments=(0, 0)), "f has another type"),
+    # The caller's memory follows the data, which follow the stack.
+    *((f"data at {place}", Refused, lambda place=place: run(part=DATA.format(place)), OVERLAP)
+      for place in (4094, 4095, 4096)),
+    *((f"{new} for {old}", Refused, lambda old=old, new=new: run(text=FUNCTION.replace(old, new)), OVERLAP)
+      for old, new in (("(mut i32) (i32.const 4096)", "(mut i32) (i32.const 4080)"), ("__heap_base", "__other"),
+                       ("(global i32 (i32.const 4096))", "(global i32 (i32.const 65537))"))),
+]
 
 
 @needs_module
 class TestModule(unittest.TestCase):
-    """What the tool has to refuse, or to see."""
-
-    def test_pointer_that_may_have_wrapped(self):
-        """Only a pointer into its region is its address, and so not 0."""
-        state = _state(Region("text", 64))
-        state.place(Pointer("text", 60), 4)
-        for use in (lambda at: state.place(at, 4), state.is_true, state.wide):
-            for offset in (-4, 65):
-                with self.assertRaises(Fault):
-                    use(Pointer("text", offset))
-
-    def test_number_that_may_have_wrapped(self):
-        far = symbol("beyond 32 bits", 1 << 32)
-        with self.assertRaises(Unknown):
-            _state().wide(far)
-        with self.assertRaises(Unknown):
-            _state().is_true(far + 1)
-
-    def test_addresses(self):
-        state = _state()
-        stack_end, [data] = 4096, [section for section in code_of(WASM).object.sections if not section.is_code]
-        state.put(constants(stack_end - 1, 4), 0, constants(0, 1))
-        state.fetch(constants(data.end - 1, 4), 0, 1)
-        for address, offset in ((stack_end, 0), (data.end, 0), (-1, 0), (-4, 4)):
-            with self.assertRaises(Fault):
-                state.put(constants(address, 4), offset, constants(0, 1))
-        with self.assertRaises(Fault):
-            state.fetch(constants(data.end - 1, 4), 0, 2)
-
-    def test_bytes_that_decide(self):
-        state, byte = _state(Region("text", 1)), (unknown("text", 0), ZERO, ZERO, ZERO)
-        state.operands = [constants(1, 4), constants(2, 4), byte]
-        HANDLERS["select"](state, None)
-        self.assertEqual(state.selects, {variable("text", 0)})
-        state.operands = [byte]
-        with self.assertRaises(Fault):
-            HANDLERS["br_table"](state, Instruction(0, 1, "br_table", (0, 1), ""))
-        with self.assertRaises(Fork):
-            HANDLERS["br_if"](state, Instruction(0, 1, "br_if", (0,), ""))
-
     def test_which_byte_may_decide_a_select(self):
         """The last digit of a chunk, if its other half comes in the next one."""
         for form in CALLS["decoder_update"].forms:
@@ -145,52 +93,11 @@ class TestModule(unittest.TestCase):
                 last = {variable("text", length - 1)} if (length - form.digits + form.waits) % 2 else set()
                 self.assertEqual(form.alone(state), last)
 
-    def test_loop_above_operands(self):
-        state = _state()
-        state.operands = [constants(0, 4)]
-        with self.assertRaises(Fault):
-            HANDLERS["loop"](state, None)
-
-    def test_what_is_not_known(self):
-        """An instruction is an error that names it, and so is a part of a module."""
-        for text in ("local.get 0 i32.popcnt", "block (result i32) i32.const 1 end"):
-            code = Code(parse(assembled(ONE_FUNCTION.format(text, ""))), wasm.front_end)
-            state = wasm.front_end.start(code, "f", [0], [])
-            with self.assertRaisesRegex(Refused, "(popcnt|block .*): an instruction without a meaning here"):
-                list(outcomes(code, state))
-        with self.assertRaisesRegex(ValueError, r"not known here: \(table"):
-            parse(assembled(ONE_FUNCTION.format("local.get 0", "(table 1 funcref)")))
-        with self.assertRaisesRegex(ValueError, "__stack_pointer, which the engine may change"):
-            parse(assembled(ONE_FUNCTION.format("local.get 0", '(export "__stack_pointer" (global 0))')))
-        with self.assertRaisesRegex(ValueError, "the memory is not exported"):
-            parse(assembled(ONE_FUNCTION.format("local.get 0", "")), "memory")
-        code = Code(parse(assembled(ONE_FUNCTION.format("local.get 0", ""))), wasm.front_end)
-        with self.assertRaisesRegex(Refused, "f has another type"):
-            wasm.front_end.start(code, "f", [0, 0], [])
-
-    def test_places_that_overlap(self):
-        """The caller's memory follows the data, which follow the stack."""
-        data = '(data (i32.const {}) "\\00\\01")'
-        for text, part in (
-            (ONE_FUNCTION, data.format(4095)),
-            (ONE_FUNCTION, data.format(4096)),
-            (ONE_FUNCTION, data.format(4094)),
-            (ONE_FUNCTION.replace("(mut i32) (i32.const 4096)", "(mut i32) (i32.const 4080)"), ""),
-            (ONE_FUNCTION.replace("__heap_base", "__other"), ""),
-            (ONE_FUNCTION.replace("(global i32 (i32.const 4096))", "(global i32 (i32.const 65537))"), ""),
-        ):
-            code = Code(parse(assembled(text.format("local.get 0", part))), wasm.front_end)
-            with self.assertRaisesRegex(Refused, "the data and `__heap_base` lie at"):
-                wasm.front_end.start(code, "f", [0], [])
-
     def test_vectors_are_used(self):
         """A loop takes 16 bytes of the input or more at once, but for the search."""
         for call in ("encode", "decoder_update"):
-            form, size = CALLS[call].forms[0], CALLS[call].size
-            loops = [head for head in heads_of(code_of(WASM), f"const_hex_{call}", form, size).values()]
+            loops = heads_of(code_of(WASM), f"const_hex_{call}", CALLS[call].forms[0], CALLS[call].size).values()
             self.assertTrue(all(head.is_search or head.size // head.visits >= 16 for head in loops))
 
 
-ONE_FUNCTION = """(module (memory 1 1) (global (mut i32) (i32.const 4096)) {1}
-    (global i32 (i32.const 4096)) (export "__data_end" (global 1)) (export "__heap_base" (global 1))
-    (func (export "f") (param i32) (result i32) {0}))"""
+add_tests(TestModule, assert_refused, REFUSED)

@@ -1,5 +1,5 @@
 // enter(state): loads the registers, jumps by `go` to the code, and saves them where that comes back.
-// A state has 31 general registers, the stack pointer, the flags, whether the jump was taken, and 32 vectors.
+// A state has 31 general registers, the stack pointer, 32 vectors, the flags, and whether the jump was taken.
         .section .stubs, "awx"
         .globl enter, go, back_next, back_taken
         .macro each_register instruction
@@ -7,12 +7,12 @@
         \instruction x\n, [x0, #8 * \n]
         .endr
         .irp n, 0,1,2,3,4,5,6,7,8,9,10,11,12,13,14,15,16,17,18,19,20,21,22,23,24,25,26,27,28,29,30,31
-        \instruction q\n, [x0, #272 + 16 * \n]
+        \instruction q\n, [x0, #256 + 16 * \n]
         .endr
         .endm
 place:  .quad 0
 thread: .quad 0
-host:   .skip 272 + 512
+host:   .skip 256 + 512
 enter:  adr x1, place
         mrs x2, tpidr_el0
         stp x0, x2, [x1]
@@ -23,7 +23,7 @@ enter:  adr x1, place
         ldr x0, place
         ldr x1, [x0, #248]
         mov sp, x1
-        ldr x1, [x0, #256]
+        ldr x1, [x0, #768]
         msr nzcv, x1
         each_register ldr
         ldp x0, x1, [x0]
@@ -39,13 +39,13 @@ back_next:
         ldr x0, place
         str x1, [x0, #8]
         mov x1, #0
-found:  str x1, [x0, #264]
+found:  str x1, [x0, #776]
         mrs x1, tpidr_el0
         str x1, [x0]
         mov x1, sp
         str x1, [x0, #248]
         mrs x1, nzcv
-        str x1, [x0, #256]
+        str x1, [x0, #768]
         each_register str
         ldr x0, thread
         msr tpidr_el0, x0
