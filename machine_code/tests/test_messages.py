@@ -25,8 +25,7 @@ def quotient(value, count=3):
 LAST = subtracted(THREE.low_bytes(4), multiplied(quotient(THREE).low_bytes(4), TEN))
 REFUSED = [
     ("another factor", Fault, lambda: product(THREE, constants(TENTH + 1, 8)), "a product of a number with symbols"),
-    ("a shift by 2", TooWide, lambda: quotient(THREE, 2)),
-    ("a shift by 4", TooWide, lambda: quotient(THREE, 4)),
+    ("a shift by 2", TooWide, lambda: quotient(THREE, 2)), ("a shift by 4", TooWide, lambda: quotient(THREE, 4)),
     ("a quotient of another number", Unknown, lambda: quotient(THREE * 3)),
     ("digits before the last one", TooWide, lambda: logic("or", THREE.low_bytes(4), constants(48, 4))),
     ("a sum of the last digit", TooWide, lambda: logic("or", added(LAST, TEN), constants(48, 4))),
