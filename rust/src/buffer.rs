@@ -167,10 +167,7 @@ impl<const N: usize, const PREFIX: bool> Buffer<N, PREFIX> {
     #[inline]
     #[must_use]
     pub const fn as_byte_array<const LEN: usize>(&self) -> &[u8; LEN] {
-        assert!(
-            LEN == Self::LEN,
-            "the array does not have the text's length"
-        );
+        assert!(LEN == Self::LEN, "the text has another length");
         // SAFETY: the text has so many bytes, and an array of bytes needs no alignment.
         unsafe { &*self.as_ptr().cast() }
     }

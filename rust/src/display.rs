@@ -37,10 +37,7 @@ printed! { Display false LowerHex false UpperHex true }
 
 /// Prints the digits of bytes, and `0x` before them if `PREFIX` is true. The proved `Display` encodes all bytes that it
 /// has, even if the formatter returns an error, so it prints a part of them at a time.
-pub(crate) fn print<const UPPER: bool, const PREFIX: bool>(
-    bytes: &[u8],
-    f: &mut fmt::Formatter<'_>,
-) -> fmt::Result {
+pub(crate) fn print<const UPPER: bool, const PREFIX: bool>(bytes: &[u8], f: &mut fmt::Formatter<'_>) -> fmt::Result {
     const PART: usize = 1 << 14;
     let (first, rest) = bytes.split_at(bytes.len().min(PART));
     formatting::display(first).write_full::<UPPER, PREFIX>(f)?;

@@ -30,12 +30,8 @@ pub struct DecodeReader<R> {
 impl<R: Read> DecodeReader<R> {
     /// Returns a reader of the bytes that the text of `reader` decodes to.
     pub fn new(reader: R) -> DecodeReader<R> {
-        let (text, decoder) = (BufReader::new(reader), Decoder::new());
-        DecodeReader {
-            text,
-            decoder,
-            end: None,
-        }
+        let (text, decoder, end) = (BufReader::new(reader), Decoder::new(), None);
+        DecodeReader { text, decoder, end }
     }
 
     /// Returns the other reader. More of its text may have been read than was decoded.

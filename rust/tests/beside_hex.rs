@@ -19,9 +19,7 @@ impl Random {
     /// Bytes of a length that short kernels and long ones see.
     fn bytes(&mut self) -> Vec<u8> {
         let limit = [40, 40, 400][self.below(3)];
-        (0..self.below(limit))
-            .map(|_| self.below(256) as u8)
-            .collect()
+        (0..self.below(limit)).map(|_| self.below(256) as u8).collect()
     }
 
     /// A text in both cases, with or without a prefix, sometimes with an invalid character or an odd length.
@@ -36,16 +34,7 @@ impl Random {
             .for_each(|byte| byte.make_ascii_uppercase());
         if self.below(2) == 0 && !text.is_empty() {
             let position = self.below(text.len());
-            text[position] = [
-                b'g',
-                b'/',
-                b':',
-                b'@',
-                b'G',
-                b'`',
-                b'x',
-                self.below(256) as u8,
-            ][self.below(8)];
+            text[position] = [b'g', b'/', b':', b'@', b'G', b'`', b'x', self.below(256) as u8][self.below(8)];
         }
         if self.below(8) == 0 {
             text.pop();
@@ -64,10 +53,7 @@ fn by_hex<'a, T>(
 }
 
 /// A result of `hex` for what follows so many bytes of a text.
-fn in_text<T>(
-    prefix: usize,
-    result: Result<T, hex::FromHexError>,
-) -> Result<T, proved::FromHexError> {
+fn in_text<T>(prefix: usize, result: Result<T, hex::FromHexError>) -> Result<T, proved::FromHexError> {
     result.map_err(|error| match error {
         hex::FromHexError::OddLength => OddLength,
         hex::FromHexError::InvalidStringLength => InvalidStringLength,
@@ -112,11 +98,7 @@ fn decoding() {
             let message = first.to_lowercase() + rest;
             assert_eq!(proved::decode(&text).unwrap_err().to_string(), message);
         }
-        for length in [
-            text.len() / 2,
-            text.len().saturating_sub(2) / 2,
-            random.below(200),
-        ] {
+        for length in [text.len() / 2, text.len().saturating_sub(2) / 2, random.below(200)] {
             let (mut ours, mut theirs) = (vec![0xEE; length], vec![0xEE; length]);
             let decoded = proved::decode_to_slice(&text, &mut ours);
             let wanted = by_hex(&text, |text| hex::decode_to_slice(text, &mut theirs));

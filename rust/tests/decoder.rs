@@ -7,9 +7,7 @@ const fn invalid(c: char, index: usize) -> FromHexError {
 }
 
 /// The bytes that chunks decode to, and their number.
-fn decoded<'a>(
-    chunks: impl IntoIterator<Item = &'a [u8]>,
-) -> Result<([u8; 128], usize), FromHexError> {
+fn decoded<'a>(chunks: impl IntoIterator<Item = &'a [u8]>) -> Result<([u8; 128], usize), FromHexError> {
     let (mut decoder, mut output, mut count) = (Decoder::new(), [0; 128], 0);
     for chunk in chunks {
         count += decoder.decode(chunk, &mut output[count..])?;
@@ -41,19 +39,9 @@ fn debug() {
 fn positions() {
     let mut decoder = Decoder::new();
     assert_eq!(decoder.position(), 0);
-    for (chunk, position) in [
-        ("0", 1),
-        ("x6", 3),
-        ("", 3),
-        ("b6", 5),
-        ("97z", 7),
-        ("77", 7),
-    ] {
+    for (chunk, position) in [("0", 1), ("x6", 3), ("", 3), ("b6", 5), ("97z", 7), ("77", 7)] {
         let result = decoder.decode(chunk, &mut [0; 2]);
-        assert_eq!(
-            (decoder.position(), result.is_err()),
-            (position, position == 7)
-        );
+        assert_eq!((decoder.position(), result.is_err()), (position, position == 7));
     }
 }
 
@@ -92,10 +80,7 @@ fn a_decoder_after_an_error() {
     let (mut decoder, mut output) = (Decoder::new(), [0xEE; 3]);
     assert_eq!(decoder.decode("6b697", &mut output), Ok(2));
     for chunk in ["7z", "", "77"] {
-        assert_eq!(
-            decoder.decode(chunk, &mut output[..2]),
-            Err(invalid('z', 6))
-        );
+        assert_eq!(decoder.decode(chunk, &mut output[..2]), Err(invalid('z', 6)));
         assert_eq!(output[1..], [b'i', 0xEE]);
     }
     assert_eq!(decoder.clone().finish(), Err(invalid('z', 6)));

@@ -17,9 +17,7 @@ fn erase(argument: &Path) -> Option<Output> {
     }
     let program = format!("{FOLDER}/erase");
     let output = Command::new("python3").arg(program).arg(argument).output();
-    output
-        .map_err(|error| eprintln!("skipped: python3: {error}"))
-        .ok()
+    output.map_err(|error| eprintln!("skipped: python3: {error}")).ok()
 }
 
 /// This compares the numbers of places that each rule has changed, too.
@@ -56,11 +54,7 @@ fn check(rows: &[Row]) {
     for (place, source, wanted) in rows {
         if let Some(found) = erased(place, source) {
             let wanted = wanted.map(String::from);
-            assert_eq!(
-                found,
-                wanted.map_err(|why| format!("erase: {why}")),
-                "{source}"
-            );
+            assert_eq!(found, wanted.map_err(|why| format!("erase: {why}")), "{source}");
         }
     }
 }
@@ -85,10 +79,7 @@ fn what_stays() {
     let kept = "// requires { x }\nconst S: &str = \"ensures { x }\";";
     let file = "//! A file.\n\nfn f() {}";
     let with_imports = "//! A file.\n\nuse crate::rattle::prelude::*;\n\nfn f() {}";
-    check(&[
-        ("kept", kept, Ok(kept)),
-        ("imports", file, Ok(with_imports)),
-    ]);
+    check(&[("kept", kept, Ok(kept)), ("imports", file, Ok(with_imports))]);
 }
 
 /// One row for each line of the table `RULES`, in its order, and then for `EXAMPLES`.

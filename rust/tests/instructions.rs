@@ -27,11 +27,7 @@ fn limits() {
     // The program runs itself with this variable, and then only makes the calls.
     if let Ok(call) = std::env::var("CONST_HEX_CALL") {
         let words: Vec<_> = call.split(' ').collect();
-        return make(
-            words[0],
-            words[1].parse().unwrap(),
-            words[2].parse().unwrap(),
-        );
+        return make(words[0], words[1].parse().unwrap(), words[2].parse().unwrap());
     }
     for (call, bytes, limit) in LIMITS {
         let found = (counted(call, bytes, 2000) - counted(call, bytes, 1000)) / 1000;
@@ -46,12 +42,9 @@ fn limits() {
 fn make(call: &str, bytes: usize, times: usize) {
     let (mut data, mut text) = (vec![0xa5; bytes], vec![b'a'; 2 * bytes]);
     match call {
-        "encode" => (0..times)
-            .for_each(|_| hex::encode_to_slice(black_box(&data), black_box(&mut text)).unwrap()),
-        "decode" => (0..times)
-            .for_each(|_| hex::decode_to_slice(black_box(&text), black_box(&mut data)).unwrap()),
-        "display" => (0..times)
-            .for_each(|_| assert!(write!(Full, "{}", hex::display(black_box(&data))).is_err())),
+        "encode" => (0..times).for_each(|_| hex::encode_to_slice(black_box(&data), black_box(&mut text)).unwrap()),
+        "decode" => (0..times).for_each(|_| hex::decode_to_slice(black_box(&text), black_box(&mut data)).unwrap()),
+        "display" => (0..times).for_each(|_| assert!(write!(Full, "{}", hex::display(black_box(&data))).is_err())),
         _ => (0..times).for_each(|_| hex::check(black_box(&text)).unwrap()),
     }
 }
@@ -74,10 +67,7 @@ fn counted(call: &str, bytes: usize, times: usize) -> i64 {
         .output()
         .expect("valgrind is installed");
     let said = String::from_utf8_lossy(&output.stderr);
-    let count = said
-        .split("Collected : ")
-        .nth(1)
-        .and_then(|rest| rest.lines().next());
+    let count = said.split("Collected : ").nth(1).and_then(|rest| rest.lines().next());
     count
         .and_then(|count| count.parse().ok())
         .unwrap_or_else(|| panic!("{said}"))

@@ -226,10 +226,7 @@ fn the_other_writer_is_flushed() {
     writer.flush().unwrap();
     writer.write_all(b"pear").unwrap();
     let other = writer.finish().unwrap();
-    assert_eq!(
-        (&other.inner[..], other.flushes),
-        (&b"6b69776970656172"[..], 2)
-    );
+    assert_eq!((&other.inner[..], other.flushes), (&b"6b69776970656172"[..], 2));
 }
 
 /// What waits is written when a writer is dropped.
@@ -248,10 +245,7 @@ struct Again {
 
 impl Again {
     fn after(first: &'static [u8]) -> Again {
-        Again {
-            first,
-            is_over: false,
-        }
+        Again { first, is_over: false }
     }
 }
 

@@ -1,9 +1,9 @@
 //! Each function at each short length, with an invalid character at each position.
 
 use const_hex_proved::{
-    check, check_raw, const_check, const_check_raw, const_decode_to_array, decode_to_front,
-    decode_to_slice, encode_to_slice, encode_to_slice_prefixed, encode_to_slice_upper,
-    encode_to_slice_upper_prefixed, encode_to_str, strict, FromHexError,
+    check, check_raw, const_check, const_check_raw, const_decode_to_array, decode_to_front, decode_to_slice,
+    encode_to_slice, encode_to_slice_prefixed, encode_to_slice_upper, encode_to_slice_upper_prefixed, encode_to_str,
+    strict, FromHexError,
 };
 
 /// More than four steps of the widest kernel.
@@ -70,18 +70,14 @@ fn each_length() {
 #[test]
 fn appended() {
     use const_hex_proved::{
-        decode_append, encode_append, encode_append_prefixed, encode_append_upper,
-        encode_append_upper_prefixed,
+        decode_append, encode_append, encode_append_prefixed, encode_append_upper, encode_append_upper_prefixed,
     };
     for count in 0..=LONGEST {
         let bytes = bytes_of(count);
         let lower = text_of(&bytes);
         let upper = lower.to_uppercase();
         for (before, capacity) in [("", 0), ("é", 2), ("é", 3 + 2 * count)] {
-            let (mut text, mut back) = (
-                String::with_capacity(capacity),
-                Vec::with_capacity(capacity),
-            );
+            let (mut text, mut back) = (String::with_capacity(capacity), Vec::with_capacity(capacity));
             text.push_str(before);
             encode_append(&bytes, &mut text);
             encode_append_upper(&bytes, &mut text);
@@ -98,10 +94,7 @@ fn appended() {
     full.shrink_to_fit();
     let space = full.capacity();
     for (text, wanted) in [("0x", Ok(0)), ("0x7", Err(FromHexError::OddLength))] {
-        assert_eq!(
-            (decode_append(text, &mut full), full.capacity()),
-            (wanted, space)
-        );
+        assert_eq!((decode_append(text, &mut full), full.capacity()), (wanted, space));
     }
 }
 

@@ -12,25 +12,14 @@ const FOLDER: &str = env!("CARGO_MANIFEST_DIR");
 /// The packages of this workspace, as cargo reads their manifests.
 fn packages() -> BTreeMap<String, Value> {
     let output = Command::new(env!("CARGO"))
-        .args([
-            "metadata",
-            "--no-deps",
-            "--offline",
-            "--format-version",
-            "1",
-        ])
+        .args(["metadata", "--no-deps", "--offline", "--format-version", "1"])
         .current_dir(FOLDER)
         .output()
         .unwrap();
     let metadata: Value = serde_json::from_slice(&output.stdout).unwrap();
     let packages = metadata["packages"].as_array().unwrap().iter();
     packages
-        .map(|package| {
-            (
-                package["name"].as_str().unwrap().to_string(),
-                package.clone(),
-            )
-        })
+        .map(|package| (package["name"].as_str().unwrap().to_string(), package.clone()))
         .collect()
 }
 
@@ -67,28 +56,15 @@ fn manifests() {
         assert_eq!(features["alloc"], json!(["const-hex-proved/alloc"]));
         assert_eq!(features["serde"], json!(["const-hex-proved/serde"]));
     }
-    assert_eq!(
-        dependencies(&packages["hexfilter"]),
-        [("const-hex-proved", false)]
-    );
-    assert!(packages
-        .values()
-        .all(|package| package["rust_version"] == "1.63"));
+    assert_eq!(dependencies(&packages["hexfilter"]), [("const-hex-proved", false)]);
+    assert!(packages.values().all(|package| package["rust_version"] == "1.63"));
 }
 
 /// The files of a folder and of all in it.
 fn files(folder: &Path) -> Vec<PathBuf> {
-    let entries = fs::read_dir(folder)
-        .unwrap()
-        .map(|entry| entry.unwrap().path());
+    let entries = fs::read_dir(folder).unwrap().map(|entry| entry.unwrap().path());
     entries
-        .flat_map(|path| {
-            if path.is_dir() {
-                files(&path)
-            } else {
-                vec![path]
-            }
-        })
+        .flat_map(|path| if path.is_dir() { files(&path) } else { vec![path] })
         .collect()
 }
 
@@ -136,8 +112,7 @@ fn places_of_unsafe() {
             }
         }
     }
-    let folders =
-        ["src", "capi/src", "hexfilter/src"].map(|folder| files(&Path::new(FOLDER).join(folder)));
+    let folders = ["src", "capi/src", "hexfilter/src"].map(|folder| files(&Path::new(FOLDER).join(folder)));
     let mut found = BTreeMap::new();
     for file in folders.concat() {
         let counts = unsafe_code(&fs::read_to_string(&file).unwrap());

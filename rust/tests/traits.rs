@@ -61,9 +61,7 @@ fn messages() {
 #[test]
 fn lengths_of_collections() {
     for length in 0..=130 {
-        let bytes: Vec<u8> = (0..length)
-            .map(|at: u8| at.wrapping_mul(73) ^ length)
-            .collect();
+        let bytes: Vec<u8> = (0..length).map(|at: u8| at.wrapping_mul(73) ^ length).collect();
         let text: String = bytes.iter().map(|byte| format!("{byte:02x}")).collect();
         assert_eq!(bytes.encode_hex::<String>(), text);
         assert_eq!(
@@ -77,17 +75,11 @@ fn lengths_of_collections() {
 fn collections_of_characters() {
     let bytes: Vec<u8> = (0..100).collect();
     let text: String = bytes.iter().map(|byte| format!("{byte:02x}")).collect();
-    assert_eq!(
-        bytes.encode_hex::<Vec<char>>(),
-        text.chars().collect::<Vec<char>>()
-    );
+    assert_eq!(bytes.encode_hex::<Vec<char>>(), text.chars().collect::<Vec<char>>());
     assert_eq!(bytes.encode_hex::<Box<[char]>>(), text.chars().collect());
     assert_eq!(bytes.encode_hex::<std::borrow::Cow<'_, str>>(), text);
     assert_eq!(ToHex::encode_hex::<String>(&bytes), text);
-    assert_eq!(
-        ToHex::encode_hex_upper::<String>(&bytes),
-        text.to_uppercase()
-    );
+    assert_eq!(ToHex::encode_hex_upper::<String>(&bytes), text.to_uppercase());
     assert_eq!("".encode_hex::<String>(), "");
     // types without a size
     assert_eq!(<[u8]>::encode_hex::<String>(&bytes), text);
@@ -167,10 +159,7 @@ mod owned {
     fn an_unsized_type() {
         let bytes: &dyn AsRef<[u8]> = &BYTES;
         assert_eq!(ToHexExt::encode_hex(bytes), TEXT);
-        assert_eq!(
-            ToHexExt::encode_hex_with_prefix(&BYTES[..]),
-            format!("0x{TEXT}")
-        );
+        assert_eq!(ToHexExt::encode_hex_with_prefix(&BYTES[..]), format!("0x{TEXT}"));
     }
 
     /// The type of the elements need not be named.

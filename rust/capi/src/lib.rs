@@ -104,7 +104,7 @@ unsafe fn slice_mut<'a>(start: *mut u8, length: usize) -> &'a mut [u8] {
 /// error in every function, and the same one. The package for JavaScript passes none.
 fn at_most(length: usize) -> usize {
     let most = (isize::MAX as usize - 1) | (length & 1);
-    length.min(if cfg!(target_arch = "wasm32") {
+    length.min(if cfg!(all(target_arch = "wasm32", target_os = "unknown")) {
         length
     } else {
         most

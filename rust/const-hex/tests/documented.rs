@@ -5,19 +5,10 @@ use const_hex::{Buffer, FromHex, FromHexError, ToHexExt};
 
 #[test]
 fn encoding() {
-    assert_eq!(
-        const_hex::encode("Hello world!"),
-        "48656c6c6f20776f726c6421"
-    );
+    assert_eq!(const_hex::encode("Hello world!"), "48656c6c6f20776f726c6421");
     assert_eq!(const_hex::encode([1, 2, 3, 15, 16]), "0102030f10");
-    assert_eq!(
-        const_hex::encode_upper("Hello world!"),
-        "48656C6C6F20776F726C6421"
-    );
-    assert_eq!(
-        const_hex::encode_prefixed([1, 2, 3, 15, 16]),
-        "0x0102030f10"
-    );
+    assert_eq!(const_hex::encode_upper("Hello world!"), "48656C6C6F20776F726C6421");
+    assert_eq!(const_hex::encode_prefixed([1, 2, 3, 15, 16]), "0x0102030f10");
     assert_eq!(const_hex::encode_upper_prefixed("kiwi"), "0x6B697769");
     assert_eq!("Hello world!".encode_hex(), "48656c6c6f20776f726c6421");
     assert_eq!([1, 2].encode_hex_with_prefix(), "0x0102");

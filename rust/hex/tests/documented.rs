@@ -8,15 +8,9 @@ use hex::{FromHex, ToHex};
 fn encoding() {
     assert_eq!(hex::encode("Hello world!"), "48656c6c6f20776f726c6421");
     assert_eq!(hex::encode(vec![1, 2, 3, 15, 16]), "0102030f10");
-    assert_eq!(
-        hex::encode_upper("Hello world!"),
-        "48656C6C6F20776F726C6421"
-    );
+    assert_eq!(hex::encode_upper("Hello world!"), "48656C6C6F20776F726C6421");
     assert_eq!(hex::encode_upper(vec![1, 2, 3, 15, 16]), "0102030F10");
-    assert_eq!(
-        "Hello world!".encode_hex::<String>(),
-        "48656c6c6f20776f726c6421"
-    );
+    assert_eq!("Hello world!".encode_hex::<String>(), "48656c6c6f20776f726c6421");
     assert_eq!([66, 255].encode_hex_upper::<String>(), "42FF");
 
     let mut output = [0; 8];
@@ -35,10 +29,7 @@ fn decoding() {
     assert!(hex::decode("foo").is_err());
 
     let mut bytes = [0; 4];
-    assert_eq!(
-        hex::decode_to_slice("6b697769", &mut bytes as &mut [u8]),
-        Ok(())
-    );
+    assert_eq!(hex::decode_to_slice("6b697769", &mut bytes as &mut [u8]), Ok(()));
     assert_eq!(&bytes, b"kiwi");
     assert_eq!(hex::decode_to_slice("6", &mut bytes), Err(OddLength));
     let mut bytes = [0; 4];
@@ -57,14 +48,8 @@ fn from_hex() {
     assert_eq!(error, InvalidHexCharacter { c: 'g', index: 3 });
     let error = Vec::from_hex("666f 6f62617").unwrap_err();
     assert_eq!(error, InvalidHexCharacter { c: ' ', index: 4 });
-    assert_eq!(
-        <[u8; 12]>::from_hex("48656c6c6f20776f726c6421"),
-        Ok(*b"Hello world!")
-    );
-    assert_eq!(
-        <[u8; 5]>::from_hex("666f6f626172"),
-        Err(InvalidStringLength)
-    );
+    assert_eq!(<[u8; 12]>::from_hex("48656c6c6f20776f726c6421"), Ok(*b"Hello world!"));
+    assert_eq!(<[u8; 5]>::from_hex("666f6f626172"), Err(InvalidStringLength));
 }
 
 #[cfg(feature = "serde")]
@@ -76,10 +61,7 @@ fn fields() {
         lower: Vec<u8>,
         #[serde(with = "hex::serde")]
         array: [u8; 2],
-        #[serde(
-            serialize_with = "hex::serialize_upper",
-            deserialize_with = "hex::deserialize"
-        )]
+        #[serde(serialize_with = "hex::serialize_upper", deserialize_with = "hex::deserialize")]
         upper: Vec<u8>,
     }
     let fields = Fields {
@@ -113,14 +95,8 @@ fn prefixes() {
         assert_eq!(hex::decode_to_slice(text, &mut [0; 1]), single);
         #[cfg(feature = "serde")]
         {
-            assert_eq!(
-                field::<Vec<u8>>(text),
-                vector.map_err(|error| error.to_string())
-            );
-            assert_eq!(
-                field::<[u8; 2]>(text),
-                array.map_err(|error| error.to_string())
-            );
+            assert_eq!(field::<Vec<u8>>(text), vector.map_err(|error| error.to_string()));
+            assert_eq!(field::<[u8; 2]>(text), array.map_err(|error| error.to_string()));
         }
     }
 }

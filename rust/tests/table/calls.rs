@@ -2,9 +2,9 @@
 
 use super::codec::traits::signed;
 use super::codec::{
-    check, check_raw, decode, decode_to_array, decode_to_slice, encode, encode_prefixed,
-    encode_to_slice, encode_to_slice_upper, encode_to_str, encode_to_str_upper, encode_upper,
-    encode_upper_prefixed, FromHex, FromHexError, ToHex,
+    check, check_raw, decode, decode_to_array, decode_to_slice, encode, encode_prefixed, encode_to_slice,
+    encode_to_slice_upper, encode_to_str, encode_to_str_upper, encode_upper, encode_upper_prefixed, FromHex,
+    FromHexError, ToHex,
 };
 use super::lines::{shown_answer, Line};
 
@@ -92,19 +92,13 @@ pub fn answers(line: &Line) -> Answers {
         ("read", None) => vec![
             ("decode", bytes(decode(asked))),
             ("from_hex", bytes(Vec::<u8>::from_hex(asked))),
-            (
-                "from_hex",
-                signed(<Vec<i8> as signed::FromHex>::from_hex(asked)),
-            ),
+            ("from_hex", signed(<Vec<i8> as signed::FromHex>::from_hex(asked))),
             ("from_hex", bytes(<Box<[u8]>>::from_hex(asked))),
             ("check", checked(line, check(asked))),
         ],
         ("read-into", Some(length)) => read_into(asked, length),
         ("digits", None) => vec![("check_raw", check_raw(asked).to_string())],
-        ("message", None) => vec![
-            ("decode", message(decode(asked))),
-            ("check", message(check(asked))),
-        ],
+        ("message", None) => vec![("decode", message(decode(asked))), ("check", message(check(asked)))],
         ("message", Some(length)) => {
             let answer = decode_to_slice(asked, &mut vec![0; length]);
             vec![("decode_to_slice", message(answer))]
@@ -131,10 +125,7 @@ fn written(line: &Line) -> Answers {
         ("encode_upper", formed(upper, "", true)),
         ("encode_prefixed", formed(prefixed, "0x", false)),
         ("encode_upper_prefixed", formed(upper_prefixed, "0x", true)),
-        (
-            "encode_hex",
-            formed(ToHex::encode_hex::<String>(&asked), "", false),
-        ),
+        ("encode_hex", formed(ToHex::encode_hex::<String>(&asked), "", false)),
         (
             "encode_hex_upper",
             formed(ToHex::encode_hex_upper::<String>(&asked), "", true),
@@ -156,10 +147,7 @@ fn written_into(asked: &[u8], length: usize) -> Answers {
         ("encode_to_slice", formed_answer(lower, false)),
         ("encode_to_slice_upper", formed_answer(upper, true)),
         ("encode_to_str", formed_answer(bytes(lent), false)),
-        (
-            "encode_to_str_upper",
-            formed_answer(bytes(lent_upper), true),
-        ),
+        ("encode_to_str_upper", formed_answer(bytes(lent_upper), true)),
     ]
 }
 
@@ -171,8 +159,5 @@ fn read_into(asked: &[u8], length: usize) -> Answers {
         ("from_hex", signed(<[i8; N] as signed::FromHex>::from_hex(asked))),
     ]);
     let arrays = arrays.into_iter().flatten();
-    Some(("decode_to_slice", slice))
-        .into_iter()
-        .chain(arrays)
-        .collect()
+    Some(("decode_to_slice", slice)).into_iter().chain(arrays).collect()
 }

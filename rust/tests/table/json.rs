@@ -15,10 +15,7 @@ pub fn answers(line: &Line) -> Answers {
     match &*line.kind {
         "write" => vec![
             ("serialize", text(serialize(asked, Serializer), "0x", false)),
-            (
-                "serialize_upper",
-                text(serialize_upper(asked, Serializer), "0x", true),
-            ),
+            ("serialize_upper", text(serialize_upper(asked, Serializer), "0x", true)),
             (
                 "no_prefix::serialize",
                 text(no_prefix::serialize(asked, Serializer), "", false),

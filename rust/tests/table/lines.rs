@@ -19,11 +19,7 @@ impl Line {
             return None;
         }
         let mut cells = text.split('\t');
-        let mut cell = || {
-            cells
-                .next()
-                .unwrap_or_else(|| panic!("a cell is missing: {text}"))
-        };
+        let mut cell = || cells.next().unwrap_or_else(|| panic!("a cell is missing: {text}"));
         let (question, asked, answer) = (cell(), cell(), cell());
         let (kind, number) = match question.split_once(' ') {
             Some((kind, number)) => (kind, Some(number.parse().unwrap())),

@@ -1,9 +1,7 @@
 //! Buffers, printing, `ToHexExt` and the functions for constants, and what each returns for a line.
 
 use super::calls::{bytes, checked, formed, message, Answers};
-use super::codec::{
-    const_check, const_check_raw, const_decode_to_array, const_encode, display, Buffer, ToHexExt,
-};
+use super::codec::{const_check, const_check_raw, const_decode_to_array, const_encode, display, Buffer, ToHexExt};
 use super::lines::Line;
 
 /// The answer of each call that can answer the line.
@@ -36,22 +34,10 @@ fn buffered<const N: usize>(array: &[u8; N]) -> Answers {
     let constant_prefixed = prefixed.const_format_upper(array);
     vec![
         ("Buffer::format", formed(plain.format(array), "", false)),
-        (
-            "Buffer::format_upper",
-            formed(plain.format_upper(array), "", true),
-        ),
-        (
-            "Buffer::format",
-            formed(prefixed.format(array), "0x", false),
-        ),
-        (
-            "Buffer::format_upper",
-            formed(prefixed.format_upper(array), "0x", true),
-        ),
-        (
-            "Buffer::format_slice",
-            formed(plain.format_slice(array), "", false),
-        ),
+        ("Buffer::format_upper", formed(plain.format_upper(array), "", true)),
+        ("Buffer::format", formed(prefixed.format(array), "0x", false)),
+        ("Buffer::format_upper", formed(prefixed.format_upper(array), "0x", true)),
+        ("Buffer::format_slice", formed(plain.format_slice(array), "", false)),
         (
             "Buffer::format_slice_upper",
             formed(plain.format_slice_upper(array), "", true),
@@ -83,17 +69,8 @@ fn printed(asked: &[u8]) -> Answers {
         ("display", formed(format!("{shown:X}"), "", true)),
         ("display", formed(format!("{shown:#X}"), "0x", true)),
         ("ToHexExt", formed(ToHexExt::encode_hex(&asked), "", false)),
-        (
-            "ToHexExt",
-            formed(ToHexExt::encode_hex_upper(&asked), "", true),
-        ),
-        (
-            "ToHexExt",
-            formed(asked.encode_hex_with_prefix(), "0x", false),
-        ),
-        (
-            "ToHexExt",
-            formed(asked.encode_hex_upper_with_prefix(), "0x", true),
-        ),
+        ("ToHexExt", formed(ToHexExt::encode_hex_upper(&asked), "", true)),
+        ("ToHexExt", formed(asked.encode_hex_with_prefix(), "0x", false)),
+        ("ToHexExt", formed(asked.encode_hex_upper_with_prefix(), "0x", true)),
     ]
 }
