@@ -11,7 +11,6 @@ from linear import (
     in_range,
     linear,
     unknown_bit,
-    unsigned,
 )
 from memory import PAGE, Fault, Pointer, as_lane, as_value, is_whole
 from values import (
@@ -52,7 +51,8 @@ def as_number(value):
 
 def as_unsigned(value):
     """As `as_number`, from 0 on."""
-    return unsigned(as_number(value))
+    found = as_number(value)
+    return found + (1 << 64) if type(found) is int and found < 0 else found
 
 
 def anything(*name):

@@ -18,16 +18,12 @@ pub struct KernelCase {
 impl KernelCase {
     /// How many bytes it decodes of a body of that length with an invalid character at that index.
     pub fn decoded(self, length: usize, index: usize) -> usize {
-        let mut whole = 0;
         for step in self.reads {
-            if *step > 0 {
-                whole = length - length % *step;
-                if index < whole {
-                    return (index - index % *step) / 2;
-                }
+            if *step > 0 && index < length - length % *step {
+                return (index - index % *step) / 2;
             }
         }
-        whole / 2
+        0
     }
 
     /// The sizes of the pieces in which it writes a text of that length.
@@ -52,15 +48,15 @@ macro_rules! by_each_kernel {
             $($call).+::<const_hex::CheckFirst<const_hex::Plain>>($($argument,)*
                 $crate::KernelCase { name: "CheckFirst<Plain>", number: 0, reads: &[], writes: 1 });
             $($call).+::<const_hex::Lanes16>($($argument,)*
-                $crate::KernelCase { name: "Lanes16", number: 1, reads: &[32], writes: 32 });
+                $crate::KernelCase { name: "Lanes16", number: 1, reads: &[32, 2], writes: 32 });
             $($call).+::<const_hex::CheckFirst<const_hex::Lanes16>>($($argument,)*
                 $crate::KernelCase { name: "CheckFirst<Lanes16>", number: 1, reads: &[], writes: 32 });
             $($call).+::<const_hex::Arithmetic16>($($argument,)*
-                $crate::KernelCase { name: "Arithmetic16", number: 1, reads: &[32], writes: 32 });
+                $crate::KernelCase { name: "Arithmetic16", number: 1, reads: &[32, 2], writes: 32 });
             $($call).+::<const_hex::CheckFirst<const_hex::Arithmetic16>>($($argument,)*
                 $crate::KernelCase { name: "CheckFirst<Arithmetic16>", number: 1, reads: &[], writes: 32 });
             $($call).+::<const_hex::Lanes32>($($argument,)*
-                $crate::KernelCase { name: "Lanes32", number: 2, reads: &[64, 32], writes: 64 });
+                $crate::KernelCase { name: "Lanes32", number: 2, reads: &[64, 32, 2], writes: 64 });
             $($call).+::<const_hex::CheckFirst<const_hex::Lanes32>>($($argument,)*
                 $crate::KernelCase { name: "CheckFirst<Lanes32>", number: 2, reads: &[], writes: 64 });
         }

@@ -42,7 +42,7 @@ pub use self::formatting::text::*;
 //    1  Rust's errors are not copied
 //   26  a formatter has a lifetime in place of its writer's type
 //   10  a function for C takes slices, which capi makes of pointers and lengths, and is compiled there alone
-//   99  all crates are one module
+//  100  all crates are one module
 //    5  an allocation never fails: without memory the program ends
 //    1  an argument's copy takes no allocator
 //  112  an assertion names no runtime
@@ -55,8 +55,8 @@ pub use self::formatting::text::*;
 //   22  and panics instead of returning an error
 //    1  and the crate's decoder is cloned
 //    1  before it reads a chunk
-//   44  deleted: attribute
-//  260  deleted: contract
+//   42  deleted: attribute
+//  259  deleted: contract
 //  218  deleted: ghost item
 //    4  deleted: model
 //    1  each value may be dropped
@@ -64,7 +64,7 @@ pub use self::formatting::text::*;
 //   22  the allocator is a value
 //    1  the bytes of a slice are appended at once, and not one by one
 //    1  the kernel is chosen for the processor
-//   12  what a constant calls is constant
+//   11  what a constant calls is constant
 //   14  what allocates is there with the feature alloc
 //    3  what hexfilter uses of const_hex is a module of rattle
 //    5  what is for C is a module of const_hex

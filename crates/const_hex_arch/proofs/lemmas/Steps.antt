@@ -1,14 +1,14 @@
 -- Texts that are worked through in steps, and the remainder by another call.
-use Rattle.std.proofs.Common.{◌≡◌, ℕ, ◌+◌, ◌-◌, ◌*◌, ◌≤◌, ◌↔◌, Bool, List, [], ◌++◌, length, take, drop, refl, sym, ap, subst, ◌∙◌, arith, take-add, take-append-drop, drop-drop, length-append, Option}
+use Rattle.std.proofs.Common.{◌≡◌, ℕ, ◌+◌, ◌-◌, ◌*◌, ◌≤◌, ◌↔◌, Bool, List, [], ◌++◌, length, take, drop, refl, sym, ap, subst, ◌∙◌, arith, take-add, take-append-drop, drop-drop, length-take, length-append, Option}
 use Rattle.std.proofs.lemmas.Grind.{common_steps}
-use Rattle.std.proofs.lemmas.List.{append-nil, append_assoc, take_rest}
+use Rattle.std.proofs.lemmas.List.{append-nil, append_assoc, take_at, drop_at, take_rest}
 use Rattle.std.proofs.lemmas.List.Elements.{All-take, All-drop}
 use Rattle.std.proofs.lemmas.Slice.{take-put_mid, drop-put_mid}
 use borrow.Rule.Slice.PartMut.{put_mid}
 use Rattle.const_hex_arch.specs.Texts.{IsDigit, hex_text, AllDigits, Spells, Partial}
 use Rattle.const_hex_arch.specs.Outputs.{HasRoom, less_room, Writes}
 use Rattle.const_hex_arch.proofs.lemmas.Runs.{HasRoom-less, Writes-none, Writes-more}
-use Rattle.const_hex_arch.proofs.lemmas.Spelling.{Spells-append, Spells-parts, Spells-digits, digits_append, none_decoded, Partial-after}
+use Rattle.const_hex_arch.proofs.lemmas.Spelling.{Spells-append, Spells-parts, digits_append, none_decoded, Partial-after}
 use Rattle.const_hex_arch.proofs.lemmas.Texts.{hex_text-nil, hex_text-append, length-hex_text}
 
 pub parts : (n : ℕ) {u front back : List ℕ} → front ≡ take n u → back ≡ drop n u → front ++ back ≡ u
@@ -96,18 +96,12 @@ decoded_less {u} {old} {new} {i} e d h = record {
 pub kept_step : (new r : List ℕ) (i n : ℕ) → r ≡ take n (drop i new) → put_mid i n new r ≡ new
 kept_step new r i n e = rw e (ap (λ x. take i new ++ x) (take-append-drop n (drop i new)) ∙ take-append-drop i new)
 
--- a text with an invalid character, of which nothing more is decoded
-pub refused_after : {u old new : List ℕ} {i : ℕ} → IsDecoded u old new i → length u ≡ 2 * length old → (AllDigits u → ⊥) → Partial old u new
-refused_after {u} {old} {new} {i} d size none =
-    let whole : AllDigits (drop (2 * i) u) → AllDigits u = λ a. rw (take-append-drop (2 * i) u) at ((digits_append (take (2 * i) u) (drop (2 * i) u)).1 (Spells-digits _ _ d.front, a)) in
-    let rest = none_decoded (drop i new) (drop (2 * i) u) (λ a. none (whole a)) in
-    Partial-after old u new i (2 * i) (omega arith) (omega arith) d.same_length d.within d.front (rw (← d.rest) rest)
-
--- a step anywhere in the text that fails, and wrote nothing
-pub refused_step : {u old new r : List ℕ} {i : ℕ} (j n m k : ℕ) → IsDecoded u old new i → length u ≡ 2 * length old → r ≡ take n (drop j new)
-    → (AllDigits (take m (drop k u)) → ⊥) → Partial old u (put_mid j n new r)
-refused_step {u} {old} {new} {r} {i} j n m k d size e none =
-    rw (kept_step new r j n e) (refused_after d size (λ a. none (All-take IsDigit m (drop k u) (All-drop IsDigit k u a))))
+-- a step that fails, and wrote nothing
+pub refused_step : {u old new r : List ℕ} {i : ℕ} (n m : ℕ) → IsDecoded u old new i → length u ≡ 2 * length old → r ≡ take n (drop i new)
+    → (AllDigits (take m (drop (2 * i) u)) → ⊥) → Partial old u (put_mid i n new r)
+refused_step {u} {old} {new} {r} {i} n m d size e none =
+    let rest = none_decoded (drop i new) (drop (2 * i) u) (λ a. none (All-take IsDigit m (drop (2 * i) u) a)) in
+    rw (kept_step new r i n e) (Partial-after old u new i (2 * i) (omega arith) (omega arith) d.same_length d.within d.front (rw (← d.rest) rest))
 
 -- the remainder by another call
 module _ {u old new : List ℕ} {i : ℕ} (r : List ℕ) (d : IsDecoded u old new i) (size : length u ≡ 2 * length old) (long : length r ≡ length new - i) where
@@ -118,3 +112,12 @@ module _ {u old new : List ℕ} {i : ℕ} (r : List ℕ) (d : IsDecoded u old ne
 
   pub spells_rest : Spells (take (length u - 2 * i) (drop (2 * i) u)) r → Spells u (put_mid i (length new - i) new r)
   spells_rest s = rw whole (subst (λ x. Spells x (take i new ++ r)) (take-append-drop (2 * i) u) (Spells-append _ _ _ _ d.front (rw take_rest at s)))
+
+  pub refused_rest : Partial (take (length new - i) (drop i new)) (take (length u - 2 * i) (drop (2 * i) u)) r
+      → Partial old u (put_mid i (length new - i) new r)
+  refused_rest p =
+      let front : length (take i new) ≡ i = omega (arith, length-take i new) in
+      let all : length (take i new ++ r) ≡ length old = omega (arith, length-append (take i new) r) in
+      let behind : Partial (drop i old) (drop (2 * i) u) r = rw (take_rest new i, take_rest u (2 * i), d.rest) at p in
+      rw whole (Partial-after old u (take i new ++ r) i (2 * i) refl (omega arith) all (omega arith)
+      (rw (take_at (take i new) r i front) d.front) (rw (drop_at (take i new) r i front) behind))

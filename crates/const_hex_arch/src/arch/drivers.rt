@@ -111,9 +111,9 @@ pub(crate) fn check_in_steps<const N: usize, V: Vectors<N>>(input: &[u8]) -> boo
 /// of the output may already be decoded. Two steps share one test. If it fails, single steps take
 /// over, so that the first of the two is decoded if it is valid. A step with an invalid character
 /// writes nothing. The remainder is covered by the last 16 bytes of the output, some of which are
-/// decoded twice. A text of fewer than 16 bytes is left to `short::decode`.
+/// decoded twice. If that step fails, `short::decode` decodes what is left. It also decodes every
+/// text of fewer than 16 bytes.
 #[inline(always)]
-#[tactic(auto, using(crate::proofs::lemmas::Spelling::none_decoded))]
 pub(crate) fn decode_in_steps<const N: usize, V: Vectors<N>, W: Vectors<16>>(
     input: &[u8],
     output: &mut [u8],
@@ -152,7 +152,10 @@ pub(crate) fn decode_in_steps<const N: usize, V: Vectors<N>, W: Vectors<16>>(
         return true;
     }
     let start = output.len() - 16;
-    steps::decode_step::<16, W>(&input[2 * start..], &mut output[start..], false)
+    if steps::decode_step::<16, W>(&input[2 * start..], &mut output[start..], false) {
+        return true;
+    }
+    short::decode::<W>(&input[2 * at..], &mut output[at..])
 }
 
 /// Decodes two steps, one step or 16 bytes by one test. A part of any other size is decoded as a

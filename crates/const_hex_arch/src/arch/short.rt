@@ -4,7 +4,8 @@ ghost use Rattle.std.specs.Prelude.{◌≡◌, ◌-◌, ◌*◌, ◌≤◌, ◌+
 ghost use Rattle.const_hex_arch.specs.Texts.{AllDigits, Spells, Partial};
 
 use crate::arch::lanes::Vectors;
-use crate::arch::steps;
+use crate::arch::plain::Plain;
+use crate::arch::{Kernel, steps};
 use std::simd::prelude::*;
 
 /// Whether every byte of a text of at most 16 bytes is a digit.
@@ -36,32 +37,38 @@ fn check_ends<const H: usize, W: Vectors<16>>(text: &[u8]) -> bool
     steps::check_step::<16, W>(&steps::load_ends::<H, 16>(text, b'0'))
 }
 
-/// Decodes a text to at most 16 bytes, by one vector operation on its first and last characters, and
-/// returns true. If some character is invalid, returns false, and the output is unchanged.
+/// Decodes a text to at most 16 bytes and returns true. If some character is invalid, decodes the
+/// pairs before it and returns false. A valid text takes one vector operation on its first and last
+/// characters. Only if that finds an invalid character does [`Plain`] go through the pairs, with
+/// its table.
 // Not inlined: with this body the public decoders would be too large to be inlined.
 #[inline(never)]
 pub(crate) fn decode<W: Vectors<16>>(text: &[u8], output: &mut [u8]) -> bool
     requires size { length text.now ≡ 2 * length output.old }
     requires short { length output.old ≤ 16 }
-    ensures digits { IsTrue result ↔ AllDigits text.now }
     ensures spells { IsTrue result → Spells text.now output.new }
-    ensures unchanged { result ≡ false → output.new ≡ output.old }
+    ensures refused { result ≡ false → Partial output.old text.now output.new }
 {
-    if output.len() >= 8 {
+    let is_decoded = if output.len() >= 8 {
         decode_ends::<8, 16, W>(text, output)
     } else if output.len() >= 4 {
         decode_ends::<4, 8, W>(text, output)
     } else if output.len() >= 2 {
         decode_ends::<2, 4, W>(text, output)
+    } else if output.len() == 1 {
+        decode_ends::<1, 2, W>(text, output)
     } else {
-        output.is_empty() || decode_ends::<1, 2, W>(text, output)
+        false
+    };
+    if is_decoded {
+        return true;
     }
+    Plain::decode_checked(text, output)
 }
 
 /// Decodes a text to `H` to `2 * H` bytes and returns true. If some byte is not a digit, returns
 /// false, and the output is unchanged. `D` is `2 * H`, the number of digits of `H` bytes.
 #[inline(always)]
-#[tactic(auto, using(crate::proofs::lemmas::LaneMarks::through, crate::proofs::lemmas::Ends::digits_ends))]
 fn decode_ends<const H: usize, const D: usize, W: Vectors<16>>(
     text: &[u8],
     output: &mut [u8],
@@ -71,7 +78,6 @@ fn decode_ends<const H: usize, const D: usize, W: Vectors<16>>(
     requires size { length text.now ≡ 2 * length output.old }
     requires least { H ≤ length output.old }
     requires most { length output.old ≤ 2 * H }
-    ensures digits { IsTrue result ↔ AllDigits text.now }
     ensures spells { IsTrue result → Spells text.now output.new }
     ensures unchanged { result ≡ false → output.new ≡ output.old }
 {

@@ -1,7 +1,8 @@
-use Rattle.std.proofs.Common.{◌+◌, ◌-◌, ◌*◌, ◌≤◌, length, refl, sym, ◌∙◌, arith}
+use Rattle.std.proofs.Common.{◌≡◌, ◌+◌, ◌-◌, ◌*◌, ◌≤◌, length, refl, arith}
 use Rattle.std.proofs.lemmas.List.{take_all}
+use borrow.Rule.Slice.PartMut.{put_mid}
 use Rattle.const_hex_arch.proofs.lemmas.Spelling.{false_is_true}
-use Rattle.const_hex_arch.proofs.lemmas.Steps.{IsDecoded, decoded_step, decoded_less, kept_step, refused_step, spells_rest}
+use Rattle.const_hex_arch.proofs.lemmas.Steps.{IsDecoded, decoded_step, decoded_less, kept_step, refused_step, spells_rest, refused_rest}
 use Rattle.const_hex_arch.proofs.arch.drivers.decode_in_steps.Given.{Over}
 use Rattle.const_hex_arch.proofs.arch.drivers.decode_in_steps.Goals as goal
 use Rattle.const_hex_arch.proofs.arch.drivers.decode_in_steps.Goals.{Joined-output-at-ge16, else-loop-output-test, then-loop-output-test+then-not-decode_two_steps, then-output-at-ge16+else-not-decode_step-2, else-output-at-ge16}
@@ -24,12 +25,12 @@ loop-output-2-preserved g c =
 pub returns-then-not-decode_step-clause-refused : goal.returns-then-not-decode_step-clause-refused
 returns-then-not-decode_step-clause-refused g c = λ _.
     let is = c.if-not-decode_step.ensures in
-    refused_step _ _ _ _ c.loop-output-2.invariant c.requires (is.unchanged refl) (λ d. false_is_true (is.digits.1 d))
+    refused_step _ _ c.loop-output-2.invariant c.requires (is.unchanged refl) (λ d. false_is_true (is.digits.1 d))
 
 pub returns-then-not-decode_step-2-clause-refused : goal.returns-then-not-decode_step-2-clause-refused
 returns-then-not-decode_step-2-clause-refused g c = λ _.
     let is = c.if-not-decode_step-2.ensures in
-    refused_step _ _ _ _ c.loop-output-2.invariant c.requires (is.unchanged refl) (λ d. false_is_true (is.digits.1 d))
+    refused_step _ _ c.loop-output-2.invariant c.requires (is.unchanged refl) (λ d. false_is_true (is.digits.1 d))
 
 -- before the remainder
 decoded : (g : Over) (c : Joined-output-at-ge16 g) → (length c.if-output-at-ge16.output ≤ c.if-output-at-ge16.at + 16)
@@ -51,11 +52,21 @@ returns-then-at-output-clause-spells g c = λ _.
     let before = decoded g (goal.at.returns-then-at-output-clause-spells g c).Joined-output-at-ge16 in
     rw (take_all (2 * at) c.args.input.now (omega arith), take_all at c.if-output-at-ge16.output (omega arith)) at before.1.front
 
+pub returns-then-decode_step-clause-spells : goal.returns-then-decode_step-clause-spells
+returns-then-decode_step-clause-spells g c = λ _.
+    let before = decoded g (goal.at.returns-then-decode_step-clause-spells g c).Joined-output-at-ge16 in
+    let start = length c.if-output-at-ge16.output - 16 in
+    spells_rest _ (decoded_less start before.1 (omega arith)) (omega arith) (omega arith) (c.if-decode_step.ensures.spells refl)
+
 pub returns : goal.returns
 returns g c =
     let before = decoded g (goal.at.returns g c).Joined-output-at-ge16 in
-    let start = length c.if-output-at-ge16.output - 16 in
-    let is = c.decode_step-2.ensures in record {
-      spells = λ t. spells_rest _ (decoded_less start before.1 (omega arith)) (omega arith) (omega arith) (is.spells t);
-      refused = λ f. refused_step _ _ _ _ before.1 c.requires (is.unchanged f) (λ d. false_is_true (sym f ∙ is.digits.1 d));
+    let new = c.if-output-at-ge16.output in
+    let start = length new - 16 in
+    let mid = put_mid start (length new - start) new c.decode_step-2.new.output in
+    let same : mid ≡ new = kept_step new _ _ _ (c.if-decode_step.ensures.unchanged refl) in
+    let kept : IsDecoded c.args.input.now c.args.output.now mid c.if-output-at-ge16.at = rw same before.1 in
+    let is = c.decode-2.ensures in record {
+      spells = λ t. spells_rest _ kept c.requires (omega arith) (is.spells t);
+      refused = λ f. refused_rest _ kept c.requires (omega arith) (is.refused f);
     }
