@@ -216,10 +216,7 @@ fn text_in<'a>(data: &[u8], prefix: bool, upper: bool, output: &'a mut [u8]) -> 
 #[cfg(feature = "alloc")]
 #[inline]
 pub fn decode<T: AsRef<[u8]>>(data: T) -> Result<Vec<u8>, FromHexError> {
-    fn decoded(text: &[u8]) -> Result<Vec<u8>, FromHexError> {
-        decoders::decode_with::<FixedKernel>(Global, text).map(|bytes| bytes.0)
-    }
-    decoded(data.as_ref())
+    decoders::decode_with::<FixedKernel>(Global, data.as_ref()).map(|bytes| bytes.0)
 }
 
 /// Appends the bytes that a text decodes to to a vector, and returns their number, or the errors of [`check`].
