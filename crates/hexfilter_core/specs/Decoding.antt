@@ -1,7 +1,7 @@
 -- An input that a decoder reads in chunks.
-use Rattle.std.specs.Prelude.{◌≡◌, true, ℕ, List, length}
+use Rattle.std.specs.Prelude.{◌≡◌, ◌++◌, true, ℕ, List, length}
 use Rattle.const_hex.specs.Decoding.{HasRead, counted}
-use Rattle.hexfilter_core.specs.Inputs.{FirstInvalid, HasError, next_from, text_of}
+use Rattle.hexfilter_core.specs.Inputs.{FirstInvalid, SpellsBeginning, next_from, text_of}
 use Rattle.hexfilter_core.specs.Places.{IsLine, leaves_out}
 use Rattle.const_hex.specs.declared.error.FromHexError.TheVariants.{InvalidHexCharacter}
 use Rattle.hexfilter_core.specs.declared.error.RunError.{RunError}
@@ -31,3 +31,17 @@ pub record HasDecoded (d : InputDecoder) (x y : List ℕ) : Type 0 where
 -- the error of a run is that of the first invalid character of x, before which the text decodes to y
 abbrev pub IsInvalid : Reading → List ℕ → List ℕ → RunError → Type 0
 IsInvalid r x y f = (c i : _) × (place : _) × (f ≡ Text (InvalidHexCharacter c i) place) × FirstInvalid r x y c i place
+
+-- ---- a chunk more, for which the decoder returns the bytes z
+
+-- it has read the chunk, too, without an error
+abbrev pub GoesOn : InputDecoder → InputDecoder → List ℕ → List ℕ → Type 0
+GoesOn d new chunk z = (x y : List ℕ) → HasDecoded d x y → HasDecoded new (x ++ chunk) (y ++ z)
+
+-- the chunk has the first invalid character
+abbrev pub Fails : InputDecoder → List ℕ → List ℕ → RunError → Type 0
+Fails d chunk z e = (x y : List ℕ) → HasDecoded d x y → IsInvalid (reads d) (x ++ chunk) (y ++ z) e
+
+-- z are the next bytes
+abbrev pub Begins : InputDecoder → List ℕ → List ℕ → Type 0
+Begins d chunk z = (x y : List ℕ) → HasDecoded d x y → SpellsBeginning (reads d) (x ++ chunk) (y ++ z)

@@ -5,3 +5,4 @@ pub mod Inputs
 pub mod Options
 pub mod Outcome
 pub mod Places
+pub mod Streams

@@ -1,5 +1,5 @@
 -- What the arguments of the program ask for.
-use Rattle.std.specs.Prelude.{◌≡◌, ◌⊎◌, ◌++◌, ℕ, ◌+◌, ◌-◌, ◌*◌, ◌^◌, ◌==◌, nat_le, nat_lt, min, ◌&&◌, ◌||◌, not, true, false, if◌then◌else◌, Bool, List, [], ◌∷◌, take, drop, Option, Some, None, Result, Ok, Err, codes, option_and_then}
+use Rattle.std.specs.Prelude.{◌≡◌, ◌⊎◌, ◌++◌, ℕ, ◌+◌, ◌-◌, ◌*◌, ◌^◌, ◌==◌, nat_le, nat_lt, min, ◌&&◌, not, true, false, if◌then◌else◌, Bool, List, [], ◌∷◌, take, drop, Option, Some, None, Result, Ok, Err, codes, option_and_then}
 use Rattle.std.specs.Char.{is_ascii_hexdigit}
 use Rattle.std.specs.Option.{is_some}
 use Rattle.std.specs.Str.{bytes_eq}

@@ -1,11 +1,9 @@
 //! From a reader's text to a writer's bytes.
 
-ghost use Rattle.std.specs.Prelude.{◌≡◌, ◌≤◌, List, ℕ, Ok, Err, Option, OnOk, OnErr, IfErr, length, true};
-ghost use Rattle.std.specs.Io.KnownBytes.{Appends, Consumes};
-ghost use Rattle.const_hex.specs.Results.{Reads};
+ghost use Rattle.std.specs.Prelude.{◌≡◌, ◌≤◌, Err, Option, OnOk, OnErr, IfErr, length, true};
 ghost use Rattle.const_hex.specs.declared.error.FromHexError.{FromHexError};
 ghost use Rattle.hexfilter_core.specs.Errors.{IsNotInterrupted};
-ghost use Rattle.hexfilter_core.specs.Inputs.{ReadsAll, HasError, SpellsBeginning, text_of};
+ghost use Rattle.hexfilter_core.specs.Streams.{DecodesAll, DecodesUpTo, DecodesBeginning};
 ghost use Rattle.hexfilter_core.specs.Places.{leaves_out};
 ghost use Rattle.hexfilter_core.specs.declared.error.RunError.TheVariants.{Text};
 ghost use Rattle.hexfilter_core.specs.declared.place.Place.{Place};
@@ -25,18 +23,13 @@ pub(crate) fn decode_stream<R: Read, W: Write>(
     input: &mut R,
     output: &mut W,
 ) -> Result<(), RunError>
-    ensures ok { OnOk result ((x : List ℕ) × (y : List ℕ)
-        × ReadsAll (R.remaining input.old) (R.remaining input.new) x
-        × Reads (text_of reading x) (Ok y)
-        × Appends (W.contents output.old) (W.contents output.new) y) }
+    ensures ok { OnOk result (DecodesAll reading (R.remaining input.old) (R.remaining input.new)
+        (W.contents output.old) (W.contents output.new)) }
     ensures text { (e : FromHexError) (place : Option Place) → result ≡ Err (Text e place)
-        → (x : List ℕ) × (y : List ℕ) × Consumes (R.remaining input.old) (R.remaining input.new) x
-        × HasError reading (R.remaining input.new) x y e place
-        × Appends (W.contents output.old) (W.contents output.new) y }
-    ensures begun { OnErr result ((x : List ℕ) × (y : List ℕ)
-        × Consumes (R.remaining input.old) (R.remaining input.new) x
-        × SpellsBeginning reading x y
-        × Appends (W.contents output.old) (W.contents output.new) y) }
+        → DecodesUpTo reading (R.remaining input.old) (R.remaining input.new)
+        (W.contents output.old) (W.contents output.new) e place }
+    ensures begun { OnErr result (DecodesBeginning reading (R.remaining input.old) (R.remaining input.new)
+        (W.contents output.old) (W.contents output.new)) }
     ensures retried { IfErr result IsNotInterrupted }
 {
     if reading.leaves_out() {
@@ -53,18 +46,13 @@ fn decode_chunks<R: Read, W: Write>(
     output: &mut W,
 ) -> Result<(), RunError>
     requires { leaves_out reading ≡ true → 65536 ≤ length text.old }
-    ensures ok { OnOk result ((x : List ℕ) × (y : List ℕ)
-        × ReadsAll (R.remaining input.old) (R.remaining input.new) x
-        × Reads (text_of reading x) (Ok y)
-        × Appends (W.contents output.old) (W.contents output.new) y) }
+    ensures ok { OnOk result (DecodesAll reading (R.remaining input.old) (R.remaining input.new)
+        (W.contents output.old) (W.contents output.new)) }
     ensures text { (e : FromHexError) (place : Option Place) → result ≡ Err (Text e place)
-        → (x : List ℕ) × (y : List ℕ) × Consumes (R.remaining input.old) (R.remaining input.new) x
-        × HasError reading (R.remaining input.new) x y e place
-        × Appends (W.contents output.old) (W.contents output.new) y }
-    ensures begun { OnErr result ((x : List ℕ) × (y : List ℕ)
-        × Consumes (R.remaining input.old) (R.remaining input.new) x
-        × SpellsBeginning reading x y
-        × Appends (W.contents output.old) (W.contents output.new) y) }
+        → DecodesUpTo reading (R.remaining input.old) (R.remaining input.new)
+        (W.contents output.old) (W.contents output.new) e place }
+    ensures begun { OnErr result (DecodesBeginning reading (R.remaining input.old) (R.remaining input.new)
+        (W.contents output.old) (W.contents output.new)) }
     ensures retried { IfErr result IsNotInterrupted }
 {
     let mut chunk = [0; CHUNK];

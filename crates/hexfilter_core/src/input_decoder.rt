@@ -3,8 +3,8 @@
 ghost use Rattle.std.specs.Prelude.{◌≡◌, ◌≤◌, ◌++◌, ◌∷◌, [], ◌↔◌, ℕ, List, Ok, Err, None, Some, length, take, true, IsOk, IfOk, IfErr, OnErr};
 ghost use Rattle.const_hex.specs.Results.{IsOdd, Reads};
 ghost use Rattle.const_hex.specs.declared.error.FromHexError.TheVariants.{OddLength};
-ghost use Rattle.hexfilter_core.specs.Decoding.{HasDecoded, IsInvalid, reads};
-ghost use Rattle.hexfilter_core.specs.Inputs.{SpellsBeginning, text_of};
+ghost use Rattle.hexfilter_core.specs.Decoding.{Begins, Fails, GoesOn, HasDecoded, IsInvalid, reads};
+ghost use Rattle.hexfilter_core.specs.Inputs.{text_of};
 ghost use Rattle.hexfilter_core.specs.Places.{leaves_out};
 ghost use Rattle.hexfilter_core.specs.declared.error.RunError.{RunError};
 ghost use Rattle.hexfilter_core.specs.declared.error.RunError.TheVariants.{Text};
@@ -43,13 +43,9 @@ impl InputDecoder {
     ) -> (usize, Option<RunError>)
         requires text { leaves_out (reads self.old) ≡ true → length chunk.now ≤ length text.old }
         requires room { length chunk.now ≤ length output.old }
-        // `x` was read so far, and the bytes `y` were returned.
-        ensures ok { (x y : List ℕ) → HasDecoded self.old x y → result.1 ≡ None
-            → HasDecoded self.new (x ++ chunk.now) (y ++ take result.0 output.new) }
-        ensures err { (x y : List ℕ) (e : RunError) → HasDecoded self.old x y → result.1 ≡ Some e
-            → IsInvalid (reads self.old) (x ++ chunk.now) (y ++ take result.0 output.new) e }
-        ensures begun { (x y : List ℕ) → HasDecoded self.old x y
-            → SpellsBeginning (reads self.old) (x ++ chunk.now) (y ++ take result.0 output.new) }
+        ensures ok { result.1 ≡ None → GoesOn self.old self.new chunk.now (take result.0 output.new) }
+        ensures err { (e : RunError) → result.1 ≡ Some e → Fails self.old chunk.now (take result.0 output.new) e }
+        ensures begun { Begins self.old chunk.now (take result.0 output.new) }
         ensures within { result.0 ≤ length output.new }
         ensures reads { reads self.new ≡ reads self.old }
     {
@@ -89,12 +85,9 @@ impl InputDecoder {
     #[cold]
     fn decode_bytes(&mut self, chunk: &[u8], output: &mut [u8]) -> (usize, Option<RunError>)
         requires { length chunk.now ≤ length output.old }
-        ensures ok { (x y : List ℕ) → HasDecoded self.old x y → result.1 ≡ None
-            → HasDecoded self.new (x ++ chunk.now) (y ++ take result.0 output.new) }
-        ensures err { (x y : List ℕ) (e : RunError) → HasDecoded self.old x y → result.1 ≡ Some e
-            → IsInvalid (reads self.old) (x ++ chunk.now) (y ++ take result.0 output.new) e }
-        ensures begun { (x y : List ℕ) → HasDecoded self.old x y
-            → SpellsBeginning (reads self.old) (x ++ chunk.now) (y ++ take result.0 output.new) }
+        ensures ok { result.1 ≡ None → GoesOn self.old self.new chunk.now (take result.0 output.new) }
+        ensures err { (e : RunError) → result.1 ≡ Some e → Fails self.old chunk.now (take result.0 output.new) e }
+        ensures begun { Begins self.old chunk.now (take result.0 output.new) }
         ensures within { result.0 ≤ length output.new }
         ensures reads { reads self.new ≡ reads self.old }
     {

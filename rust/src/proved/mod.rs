@@ -57,7 +57,7 @@ pub use self::formatting::text::*;
 //    1  before it reads a chunk
 //   42  deleted: attribute
 //  259  deleted: contract
-//  218  deleted: ghost item
+//  216  deleted: ghost item
 //    4  deleted: model
 //    1  each value may be dropped
 //    5  kernels that no target uses are left out, and callers that nothing exports

@@ -1,5 +1,5 @@
 -- Parts of a text that are written one after another.
-use Rattle.std.proofs.Common.{◌≡◌, ◌≢◌, ℕ, ◌+◌, ◌-◌, ◌≤◌, Bool, List, [], ◌++◌, length, take, drop, Option, Result, Ok, Err, refl, sym, ap, ◌∙◌, arith, append_assoc}
+use Rattle.std.proofs.Common.{◌≡◌, ◌≢◌, ℕ, ◌+◌, ◌≤◌, Bool, List, [], ◌++◌, length, take, drop, Option, Result, Ok, Err, refl, sym, ap, ◌∙◌, arith, append_assoc}
 use Rattle.std.proofs.KnownBytes.{Appends-trans}
 use Rattle.std.proofs.Math.Seq.{take-append-add, take-append_seam}
 use Rattle.std.proofs.lemmas.List.{append-nil, take-append-drop}
@@ -26,8 +26,11 @@ Lays-plain g c t e rest = rw e refl
 
 -- a beginning of what is written
 pub Begins-lays : (g : Groups) (c : ℕ) (t y : List ℕ) (d k : ℕ) → Lays g c t y d → Begins g c t (take k y)
-Begins-lays g c t y d k lays rest =
-    (drop k y ++ laid_out g d rest, lays rest ∙ ap (λ l. l ++ laid_out g d rest) (sym (take-append-drop k y)) ∙ append_assoc (take k y) (drop k y) (laid_out g d rest))
+Begins-lays g c t y d k lays rest = (
+  drop k y ++ laid_out g d rest,
+  lays rest ∙ ap (λ l. l ++ laid_out g d rest) (sym (take-append-drop k y))
+      ∙ append_assoc (take k y) (drop k y) (laid_out g d rest),
+)
 
 pub Lays-groups : (g : Groups) (c : ℕ) (t y : List ℕ) (d : ℕ) → g.size ≢ 0
     → ((rest : List ℕ) → groups_from g.size g.separator c (t ++ rest) ≡ y ++ groups_from g.size g.separator d rest) → Lays g c t y d
@@ -55,7 +58,8 @@ at_end : (g : Groups) (c : ℕ) (t y : List ℕ) (d : ℕ) → Lays g c t y d �
 at_end g c t y d lays = ap (λ l. laid_out g c l) (sym (append-nil t)) ∙ lays []
 
 -- the text so far
-pub so_far : (held holds : Option (List ℕ)) (g : Groups) (c : ℕ) (t y : List ℕ) (d : ℕ) → Appends held holds y → Lays g c t y d → WritesBeginning held holds (laid_out g c t)
+pub so_far : (held holds : Option (List ℕ)) (g : Groups) (c : ℕ) (t y : List ℕ) (d : ℕ) → Appends held holds y → Lays g c t y d
+    → WritesBeginning held holds (laid_out g c t)
 so_far held holds g c t y d wrote lays = (length y, rw (at_end g c t y d lays, take-append_seam y (laid_out g d [])) wrote)
 
 module _ (held mid holds : Option (List ℕ)) (g : Groups) (c : ℕ) (t y : List ℕ) (d : ℕ) (wrote : Appends held mid y) (lays : Lays g c t y d) where

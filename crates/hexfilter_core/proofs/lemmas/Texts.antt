@@ -1,16 +1,15 @@
 -- The text of an input, part after part.
 use borrow.Rule.Slice.PartMut.{put_mid, post_of}
-use Rattle.std.proofs.Common.{◌≡◌, ◌≢◌, ℕ, ◌+◌, ◌-◌, ◌*◌, ◌/◌, ◌<◌, ◌≤◌, ◌==◌, ◌&&◌, Bool, true, false, not, min, if◌then◌else◌, List, [], ◌∷◌, ◌++◌, length, take, drop, get_or, refl, sym, ap, subst, ◌∙◌, arith, append_assoc, length-append}
+use Rattle.std.proofs.Common.{◌≡◌, ◌≢◌, ℕ, ◌+◌, ◌-◌, ◌*◌, ◌/◌, ◌<◌, ◌≤◌, ◌&&◌, Bool, true, false, List, [], ◌∷◌, ◌++◌, length, take, drop, get_or, refl, sym, ap, ◌∙◌, arith, append_assoc, length-append}
 use Rattle.std.proofs.Math.Seq.{take-add, take-append-add}
 use Rattle.std.proofs.lemmas.Bool.Decides.{nat_tests}
 use Rattle.std.proofs.lemmas.List.{append-nil, get_or-take, length-drop, length-take, length-take-le, take-append-drop, take-append-le, take-take, take_all, take_min, take_more}
 use Rattle.std.proofs.lemmas.List.Elements.{All-from_get_or, All-head, All-tail, All-weaker}
 use Rattle.std.specs.List.{All}
-use Rattle.std.specs.Prelude.{nat_lt, ◌||◌}
+use Rattle.std.specs.Prelude.{nat_lt}
 use Rattle.const_hex.proofs.lemmas.Decoding.{read_digits, read_front}
 use Rattle.const_hex.specs.Decoding.{HasRead, waiting_digit}
 use Rattle.const_hex.specs.Results.{body_of}
-use Rattle.const_hex.specs.Texts.{Spells}
 use Rattle.const_hex.specs.declared.codec.decoder.Decoder.{Decoder}
 use Rattle.const_hex_arch.proofs.lemmas.Spelling.{Spells-length, Spells-parts}
 use Rattle.hexfilter_core.specs.Decoding.{HasDecoded, reads}
@@ -129,7 +128,8 @@ joined x chunk done n started =
 pub joined_one : (x chunk : List ℕ) (done : ℕ) → done < length chunk → (x ++ take done chunk) ++ get_or chunk done 0 ∷ [] ≡ x ++ take (done + 1) chunk
 joined_one x chunk done inside = append_assoc x (take done chunk) (get_or chunk done 0 ∷ []) ∙ ap (λ l. x ++ l) (sym (take_more chunk done 0 inside))
 
-module _ (r : Reading) (x chunk out : List ℕ) (end done : ℕ) (started : done ≤ length chunk) (so_far : text_of r (x ++ take done chunk) ≡ text_of r x ++ take end out) where
+module _ (r : Reading) (x chunk out : List ℕ) (end done : ℕ) (started : done ≤ length chunk)
+    (so_far : text_of r (x ++ take done chunk) ≡ text_of r x ++ take end out) where
   pub run_text : (m n : ℕ) (new : List ℕ) → end ≤ length out → n ≤ length new
       → text_of r ((x ++ take done chunk) ++ take n (take (length chunk - done) (drop done chunk))) ≡ text_of r (x ++ take done chunk) ++ take n new
       → text_of r (x ++ take (done + n) chunk) ≡ text_of r x ++ take (end + n) (put_mid end m out new)

@@ -1,12 +1,10 @@
-use Rattle.std.proofs.Common.{None, Err, ap, ◌++◌, take, length, arith, append-nil, refl, ◌+◌, ◌∙◌}
+use Rattle.std.proofs.Common.{Err, ap, ◌++◌, take, length, arith, append-nil, refl, ◌+◌, ◌∙◌}
 use Rattle.std.proofs.KnownBytes.{Appends-kept, Appends-trans, Consumes-kept, Consumes-trans}
 use Rattle.std.proofs.lemmas.Result.{err_from_is_err_and}
 use Rattle.std.proofs.Math.Seq.{take-append-add}
-use Rattle.const_hex.specs.declared.error.FromHexError.TheVariants.{OddLength}
 use Rattle.hexfilter_core.proofs.lemmas.Encoding.{if_err, if_ok}
 use Rattle.hexfilter_core.proofs.lemmas.Errors.{invalid_error, not_interrupted, odd_error, only_odd}
 use Rattle.hexfilter_core.proofs.lemmas.Texts.{decoded, decoded_pairs, fewer_spelled}
-use Rattle.hexfilter_core.specs.declared.error.RunError.TheVariants.{Text}
 use Rattle.hexfilter_core.proofs.decoding.decode_chunks.Goals as goal
 
 pub returns-in_err-count-clause-begun : goal.returns-in_err-count-clause-begun
@@ -74,7 +72,7 @@ returns-in-Some-clause-text g c = λ e place is.
     let (x, y, has, read, wrote) = c.chunks.invariant.so_far in
     let chunk = take c.in_ok-count.count c.read_chunk.new.buffer in
     let piece = take c.decode-end.result.0 c.decode-end.new.output in
-    let told = rw c.chunks.invariant.reads at (c.decode-end.ensures.err x y c.in-Some.error has c.in-Some.is) in (
+    let told = rw c.chunks.invariant.reads at (c.decode-end.ensures.err c.in-Some.error c.in-Some.is x y has) in (
       x ++ chunk,
       y ++ piece,
       Consumes-trans _ _ _ x chunk read c.in_ok-count.ensures.bytes,
@@ -97,7 +95,7 @@ returns-in-Some-clause-begun g c =
 pub returns-in-Some-clause-retried : goal.returns-in-Some-clause-retried
 returns-in-Some-clause-retried g c =
     let (x, y, has, read, wrote) = c.chunks.invariant.so_far in
-    not_interrupted _ _ _ c.in-Some.error (c.decode-end.ensures.err x y c.in-Some.error has c.in-Some.is)
+    not_interrupted _ _ _ c.in-Some.error (c.decode-end.ensures.err c.in-Some.error c.in-Some.is x y has)
 
 pub chunks-preserved : goal.chunks-preserved
 chunks-preserved g c =
@@ -108,7 +106,7 @@ chunks-preserved g c =
       so_far = (
         x ++ chunk,
         y ++ piece,
-        c.decode-end.ensures.ok x y has c.in_default.is,
+        c.decode-end.ensures.ok c.in_default.is x y has,
         Consumes-trans _ _ _ x chunk read c.in_ok-count.ensures.bytes,
         Appends-trans _ _ _ y piece wrote c.in_ok-write_piece.ensures.ok,
       );

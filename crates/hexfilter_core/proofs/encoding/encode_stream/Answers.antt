@@ -10,14 +10,22 @@ returns-in_err-column-clause-begun g c =
     let (z, wrote, begins) = c.in_err-column.ensures.begun in
     let holds = g.W.Write.contents c.args.output.now in
     let n = c.args.groups in
-    let first = then_begins holds holds _ n 0 [] [] 0 (Appends-nil holds) (λ rest. refl) (prefix_of c.args.prefix) z wrote (rw c.prefix_text.ensures at begins) in
+    let first = then_begins holds holds _ n 0 [] [] 0 (Appends-nil holds) (λ rest. refl) (prefix_of c.args.prefix) z wrote
+    (rw c.prefix_text.ensures at begins) in
     if_err c.from_residual.result ([], Consumes-nil (g.R.Read.remaining c.args.input.now), rw (full_text-nil c.args.prefix c.args.upper) first)
 
 pub chunks-init : goal.chunks-init
 chunks-init g c =
     let (y, wrote, lays) = c.in_ok-column.ensures.ok in record {
       column = c.in_ok-column.ensures.column;
-      so_far = ([], y, Consumes-nil (g.R.Read.remaining c.args.input.now), wrote, rw (full_text-nil c.args.prefix c.args.upper) (rw c.prefix_text.ensures at lays));
+      so_far = (
+        [],
+        y,
+        Consumes-nil (g.R.Read.remaining c.args.input.now),
+        wrote,
+        rw (full_text-nil c.args.prefix c.args.upper)
+            (rw c.prefix_text.ensures at lays),
+      );
     }
 
 pub returns-in_err-count-clause-begun : goal.returns-in_err-count-clause-begun
@@ -38,7 +46,8 @@ pub returns-then-count-eq0-clause-begun : goal.returns-then-count-eq0-clause-beg
 returns-then-count-eq0-clause-begun g c =
     let (x, y, read, wrote, lays) = c.chunks.invariant.so_far in
     let all = rw (c.if-count-eq0.true, append-nil x) at (Consumes-trans _ _ _ x _ read c.in_ok-count.ensures.bytes) in
-    on_err_weaker c.write_last.result (λ begun. (x, all, then_begins_to_end _ _ _ _ 0 _ y _ wrote lays c.chunks.invariant.column begun)) c.write_last.ensures.begun
+    on_err_weaker c.write_last.result (λ begun.
+    (x, all, then_begins_to_end _ _ _ _ 0 _ y _ wrote lays c.chunks.invariant.column begun)) c.write_last.ensures.begun
 
 pub returns-in_err-column-2-clause-begun : goal.returns-in_err-column-2-clause-begun
 returns-in_err-column-2-clause-begun g c =

@@ -7,7 +7,12 @@ returns-in_err-write_piece-clause-begun g c =
     let begun = c.in_err-write_piece.ensures.begun in
     let n = c.args.groups in
     let text = c.args.text.now in
-    if_err c.from_residual.result (take begun.0 text, begun.1, Begins-lays n c.args.column text text c.args.column begun.0 (Lays-plain n _ text c.if-groups-eq0.true))
+    if_err c.from_residual.result (
+      take begun.0 text,
+      begun.1,
+      Begins-lays n c.args.column text text c.args.column begun.0
+          (Lays-plain n _ text c.if-groups-eq0.true),
+    )
 
 pub returns-in_err-write_piece-2-clause-begun : goal.returns-in_err-write_piece-2-clause-begun
 returns-in_err-write_piece-2-clause-begun g c =
@@ -15,4 +20,5 @@ returns-in_err-write_piece-2-clause-begun g c =
     let laid = c.put_groups-count in
     let out = take laid.result.0 laid.new.output in
     let lays = Lays-groups c.args.groups c.args.column c.args.text.now out laid.result.1 c.if-groups-eq0.false laid.ensures.groups in
-    if_err c.from_residual-in_err-write_piece-2.result (take begun.0 out, begun.1, Begins-lays c.args.groups c.args.column c.args.text.now out laid.result.1 begun.0 lays)
+    if_err c.from_residual-in_err-write_piece-2.result
+    (take begun.0 out, begun.1, Begins-lays c.args.groups c.args.column c.args.text.now out laid.result.1 begun.0 lays)

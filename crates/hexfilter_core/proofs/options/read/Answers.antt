@@ -5,7 +5,8 @@ use Rattle.hexfilter_core.proofs.options.read.Goals as goal
 
 pub returns-in-Err : goal.returns-in-Err
 returns-in-Err c =
-    let at = argument_at string_bytes c.args.arguments.now c.loop-index.index c.loop-index.options (Err c.in-Err.fault) c.index-arguments-index.result c.as_str.result.now
+    let at = argument_at string_bytes c.args.arguments.now c.loop-index.index c.loop-index.options
+    (Err c.in-Err.fault) c.index-arguments-index.result c.as_str.result.now
     c.loop-index-test.true c.index-arguments-index.is c.as_str.ensures.value (sym c.in-Err.is ∙ c.with_argument.ensures) in
     sym (at_fault c.in-Err.fault c.loop-index.index (drop (c.loop-index.index + 1) (map string_bytes c.args.arguments.now))) ∙ sym at ∙ c.loop-index.invariant
 

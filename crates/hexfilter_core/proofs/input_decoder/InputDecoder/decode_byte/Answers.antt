@@ -1,4 +1,4 @@
-use Rattle.std.proofs.Common.{[], ◌∷◌, ◌++◌, arith, length, refl, ap}
+use Rattle.std.proofs.Common.{[], ◌∷◌, ◌++◌, arith, length, refl}
 use Rattle.hexfilter_core.proofs.lemmas.Errors.{not_digits}
 use Rattle.hexfilter_core.proofs.lemmas.Texts.{pairs}
 use Rattle.hexfilter_core.specs.Inputs.{text_of}

@@ -1,4 +1,4 @@
-use Rattle.std.proofs.Common.{◌≡◌, [], ◌∷◌, ◌++◌, ◌+◌, ◌<◌, ◌∙◌, ℕ, List, Some, Option, length, take, drop, get_or, ap, sym, arith, append_assoc}
+use Rattle.std.proofs.Common.{◌≡◌, ◌∷◌, ◌++◌, ◌+◌, ◌<◌, ◌∙◌, ℕ, List, Some, Option, length, take, drop, get_or, sym, arith, append_assoc}
 use Rattle.std.proofs.lemmas.Grind.{common_steps}
 use Rattle.std.proofs.lemmas.List.{take_all}
 use Rattle.std.proofs.lemmas.Slice.{take-put_mid_below}
@@ -13,7 +13,7 @@ same_error : (e f : RunError) → ◌≡◌ {A = Option RunError} (Some e) (Some
 same_error e f is = cc
 
 pub returns-in-Err-clause-err : goal.returns-in-Err-clause-err
-returns-in-Err-clause-err c = λ x y e has is.
+returns-in-Err-clause-err c = λ e is x y has.
     let chunk = c.args.chunk.now in
     let at = c.loop-byte.byte-index in
     let i = c.loop-byte.invariant in
@@ -53,4 +53,4 @@ returns-clause-begun c = λ x y has.
     rw i.reads at (decoded_before c.loop-byte.self x c.args.chunk.now out c.loop-byte.byte-index (i.decoded x y has))
 
 pub returns-clause-ok : goal.returns-clause-ok
-returns-clause-ok c = λ x y has none. rw (take_all c.loop-byte.byte-index c.args.chunk.now (omega arith)) at (c.loop-byte.invariant.decoded x y has)
+returns-clause-ok c = λ none x y has. rw (take_all c.loop-byte.byte-index c.args.chunk.now (omega arith)) at (c.loop-byte.invariant.decoded x y has)

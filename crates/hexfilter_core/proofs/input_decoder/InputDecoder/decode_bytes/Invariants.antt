@@ -1,4 +1,4 @@
-use Rattle.std.proofs.Common.{◌≡◌, ◌≤◌, ◌++◌, ℕ, List, length, take}
+use Rattle.std.proofs.Common.{◌≡◌, ◌≤◌, ◌++◌, ℕ, List, take}
 use Rattle.hexfilter_core.specs.Decoding.{HasDecoded, reads}
 use Rattle.hexfilter_core.proofs.input_decoder.InputDecoder.decode_bytes.Given as goal
 

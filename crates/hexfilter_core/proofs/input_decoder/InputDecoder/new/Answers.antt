@@ -1,4 +1,3 @@
-use Rattle.std.proofs.Common.{[]}
 use Rattle.hexfilter_core.specs.Inputs.{text_from}
 use Rattle.hexfilter_core.proofs.input_decoder.InputDecoder.new.Goals as goal
 

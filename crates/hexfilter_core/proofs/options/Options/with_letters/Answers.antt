@@ -16,10 +16,12 @@ returns-in-Some-valued c =
     let i = c.loop-index.index in
     let o = c.loop-index.self in
     let at = letters_at text i o (Some c.in-Some.setting) c.loop-index-test.true (sym c.in-Some.is ∙ c.lettered.ensures) in
-    let rest : take (length text - (i + 1)) (drop (i + 1) text) ≡ drop (i + 1) text = take_all (length text - (i + 1)) (drop (i + 1) text) (omega (arith, length-drop (i + 1) text)) in
+    let rest : take (length text - (i + 1)) (drop (i + 1) text) ≡ drop (i + 1) text =
+    take_all (length text - (i + 1)) (drop (i + 1) text) (omega (arith, length-drop (i + 1) text)) in
     let wants = sym c.in-Some-valued.is ∙ c.valued.ensures in
     c.with_rest.ensures ∙ ap (λ t. with_rest c.set-self.result c.in-Some-valued.setting t) rest
-    ∙ sym (at ∙ value_after o c.set-self.result c.in-Some.setting c.in-Some-valued.setting (drop (i + 1) text) c.set-self.ensures wants) ∙ c.loop-index.invariant
+    ∙ sym (at ∙ value_after o c.set-self.result c.in-Some.setting c.in-Some-valued.setting (drop (i + 1) text) c.set-self.ensures wants)
+    ∙ c.loop-index.invariant
 
 pub loop-index-preserved : goal.loop-index-preserved
 loop-index-preserved c =
@@ -27,4 +29,5 @@ loop-index-preserved c =
     let i = c.loop-index.index in
     let o = c.loop-index.self in
     let at = letters_at text i o (Some c.in-Some.setting) c.loop-index-test.true (sym c.in-Some.is ∙ c.lettered.ensures) in
-    sym (at ∙ next_letter o c.set-self.result c.in-Some.setting (drop (i + 1) text) c.set-self.ensures (sym c.in_default.is ∙ c.valued.ensures)) ∙ c.loop-index.invariant
+    sym (at ∙ next_letter o c.set-self.result c.in-Some.setting (drop (i + 1) text) c.set-self.ensures (sym c.in_default.is ∙ c.valued.ensures))
+    ∙ c.loop-index.invariant

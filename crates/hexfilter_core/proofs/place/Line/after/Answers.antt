@@ -1,5 +1,5 @@
 use Rattle.hexfilter_core.proofs.lemmas.PlacesOfCharacters.{line_after_byte, line_after_newline}
-use Rattle.std.proofs.Common.{[], ◌∷◌, ◌++◌, length, refl, sym, subst}
+use Rattle.std.proofs.Common.{[], ◌∷◌, ◌++◌, sym, subst}
 use Rattle.hexfilter_core.specs.Places.{IsLine}
 use Rattle.hexfilter_core.proofs.place.Line.after.Goals as goal
 

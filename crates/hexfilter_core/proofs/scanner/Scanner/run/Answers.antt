@@ -10,7 +10,8 @@ use lib.Lanes.{chunk, put_chunk}
 use Rattle.hexfilter_core.proofs.scanner.Scanner.run.Goals as goal
 
 -- n bytes of the block come before the first that may be whitespace
-module _ (xs out : List ℕ) (n : ℕ) (room : 0 + 32 ≤ length xs) (fits : length xs ≤ length out) (is : n ≡ prefix_len (λ b. not (nat_lt b 33)) (chunk 0 32 xs)) where
+module _ (xs out : List ℕ) (n : ℕ) (room : 0 + 32 ≤ length xs) (fits : length xs ≤ length out)
+    (is : n ≡ prefix_len (λ b. not (nat_lt b 33)) (chunk 0 32 xs)) where
   few : n ≤ 32
   few = let h = run_in_chunk_le (λ b. nat_lt b 33) xs 0 32 n 0 room is in omega (arith, h)
 

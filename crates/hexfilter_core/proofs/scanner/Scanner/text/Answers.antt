@@ -1,4 +1,4 @@
-use Rattle.std.proofs.Common.{◌≡◌, ◌-◌, ◌+◌, ◌<◌, ◌≤◌, ◌++◌, ◌∷◌, ◌∙◌, [], ℕ, length, take, drop, ap, sym, arith}
+use Rattle.std.proofs.Common.{◌+◌, ◌<◌, ◌++◌, ◌∙◌, length, take, arith}
 use Rattle.std.proofs.lemmas.List.{take_all}
 use Rattle.const_hex.specs.Decoding.{listed}
 use Rattle.hexfilter_core.proofs.lemmas.Texts.{byte_text, joined, joined_one, rest-size, run_text}
