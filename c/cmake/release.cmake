@@ -20,7 +20,7 @@ install(FILES ../LICENSE-APACHE ../LICENSE-MIT ../NOTICE DESTINATION share/doc/l
 set(CPACK_PROJECT_CONFIG_FILE ${PROJECT_SOURCE_DIR}/cmake/debian.cmake)
 set(CPACK_DEBIAN_PACKAGE_NAME libconst-hex-dev)
 # PUBLISHER: write the address here to which users of the package write.
-set(CPACK_DEBIAN_PACKAGE_MAINTAINER "the maintainers of const_hex <maintainers@users.noreply.yilmoszur.example>")
+set(CPACK_DEBIAN_PACKAGE_MAINTAINER "the maintainers of const_hex <maintainers@const-hex.invalid>")
 set(CPACK_DEBIAN_PACKAGE_ARCHITECTURE amd64)
 if(CMAKE_SYSTEM_PROCESSOR MATCHES "aarch64|arm64")
   set(CPACK_DEBIAN_PACKAGE_ARCHITECTURE arm64)
