@@ -11,6 +11,7 @@ from linear import (
     in_range,
     linear,
     unknown_bit,
+    unsigned,
 )
 from memory import PAGE, Fault, Pointer, as_lane, as_value, is_whole
 from values import (
@@ -51,8 +52,7 @@ def as_number(value):
 
 def as_unsigned(value):
     """As `as_number`, from 0 on."""
-    found = as_number(value)
-    return found + (1 << 64) if type(found) is int and found < 0 else found
+    return unsigned(as_number(value))
 
 
 def anything(*name):

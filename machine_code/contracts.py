@@ -140,13 +140,10 @@ class Form:
             require(right, f"{self.output}[{place}] is not what it should be")
         return len(cells)
 
-    def after_round(self, state, count):
-        """So many bytes of the input were read, and just what belongs to them is written."""
+    def after_round(self, state, count, written):
+        """So many bytes of the input were read, and so many of the output are written, the right ones."""
         unchanged(state, *self.last)
-        require(
-            self.written(state) == count // self.unit * self.per_unit,
-            "another number of bytes is written in a round",
-        )
+        require(self.written(state) == written, "another number of bytes is written in a round")
         require(not state.selects, SELECTS)
 
     def left_to_read(self, state):
@@ -234,8 +231,8 @@ class CheckRaw(Form):
         require(all(factor > 0 for _, factor in terms_of(left)), "it reads beyond the input")
         return state.path.decide(self.are_digits(state.ghost["read"], constant_of(left))) is False
 
-    def after_round(self, state, count):
-        super().after_round(state, count)
+    def after_round(self, state, count, written):
+        super().after_round(state, count, written)
         known = state.path.decide(self.are_digits(state.ghost["read"], count))
         require(known is True, "a round passes what is not a digit")
 

@@ -9,7 +9,7 @@ from arithmetic import as_number, as_unsigned, named, signed
 from conditions import FALSE, are_equal, are_zero, conjunction, constant
 from linear import GREATEST, GREATEST_SIGNED, Linear, Unknown, in_range, is_zero, least_of, most_value
 from memory import Fault, Pointer, with_replaced
-from values import TooWide, apply, are_constant, constants, number
+from values import TooWide, apply, are_constant, constants, masked, number
 
 def _flag(first, second, code, is_sum, size):
     """A flag of a sum or a difference of numbers of `size` bytes."""
@@ -79,6 +79,11 @@ class Flags:
                 parameters = (code, self.kind == "add", len(self.first))
                 return conjunction(apply(_flag, 1, [self.first, self.second], parameters))
             except TooWide:
+                if self.kind == "sub" and code in ("b", "be") and are_constant(self.second):
+                    limit = number(self.second) + (code == "be")
+                    if limit & (limit - 1) == 0:
+                        # Below a power of two: the bits from it on are zero.
+                        return are_zero(masked(self.first, constants(-limit, len(self.first))))
                 if self.kind == "sub" and code in ("b", "be", "l", "le"):
                     return constant(self._is_below(code[0] == "l", code[1:] == "e", decide))
                 raise

@@ -27,6 +27,11 @@ class Head:
     def __init__(self, at, visits, size, is_search):
         self.at, self.visits, self.size, self.is_search = at, visits, size, is_search
 
+    def rest(self, form, rest):
+        """What the rounds of this loop leave of a length that those of the class leave `rest` of. A search leaves
+        at least one of its own, since code may test only after a round whether there is another."""
+        return form.digits + self.size + (rest - form.digits) % self.size if self.is_search else rest
+
 
 # Where the loops are. This is only guessed: a wrong list is refused.
 
@@ -68,7 +73,7 @@ def heads_of(code, function, form, size):
         for at in many:
             if many[at] > few[at] and at not in heads:
                 more, is_search = many[at] - few[at], last is IS_NO_DIGIT
-                require(size % more == 0 or not is_search, "a search that takes several bytes at once")
+                require(size % more == 0 or not is_search, "a search whose rounds are no part of a loop's")
                 heads[at] = Head(at, 1, size // more, True) if is_search else Head(at, more, size, False)
     return heads
 
@@ -130,7 +135,7 @@ def arrived(form, state, head, rest):
         require(name == "stack", f"{name} is written before the first round")
     read = form.digits if head.is_search else form.body
     require(head.is_search or state.ghost["read"] == read, "bytes are read before the first round")
-    old, new = state.ghost["length"], LEFT * head.size + (read if head.is_search else rest)
+    old, new = state.ghost["length"], LEFT * head.size + head.rest(form, rest)
     other = state.copy()
     other.steps, other.flags, other.trail, other.leaks = 0, None, (), ()
     for name, value in state.registers.items():
@@ -184,7 +189,8 @@ class Loop:
 
     def __init__(self, code, form, begin, head, heads, rest):
         self.code, self.form, self.begin, self.head, self.heads = code, form, begin, head, heads
-        self.rest = form.digits if head.is_search else rest
+        self.rest = head.rest(form, rest)
+        self.written = 0 if head.is_search else head.size // form.unit * form.per_unit
 
     def length(self, rounds):
         return rounds * self.head.size + self.rest
@@ -213,9 +219,8 @@ class Loop:
         state = first.replaced("left", DONE + LEFT)
         for name in first.registers:
             state.registers[name] = _generalised_value(first, second.registers[name], name)
-        done = self.head.size // self.form.unit * self.form.per_unit
         read = first.ghost["read"] + DONE * self.head.size
-        written = len(self.form.begin) + DONE * done
+        written = len(self.form.begin) + DONE * self.written
         state.ghost = {
             **first.ghost,
             "length": self.length(DONE + LEFT),
@@ -282,26 +287,29 @@ class Loop:
             self.forget(general, wrong)
         for other in back:
             require(not other.memory.written("image"), KEEPS)
-            self.form.after_round(other, self.head.size)
-        if not self.head.is_search:
-            require_one_path([*back, *self.accepted(ends)])
-            return self.last_rounds(general, others, ends)
-        require(not self.accepted(ends), "a text with an invalid character is accepted")
-        return others, ends
+            self.form.after_round(other, self.head.size, self.written)
+        self.judge(ends, back)
+        return self.last_rounds(general, others, ends)
 
     def last_rounds(self, general, others, ends):
         """What comes after the last round. The rest of the input has a known length there."""
         for last in general.replaced("left", 0).possible():
-            last_heads = {at: head for at, head in self.heads.items() if head.is_search}
+            last_heads = {at for at, head in self.heads.items() if head.is_search and head is not self.head}
             last_states = list(outcomes(self.code, last, last_heads))
             last_ends = [state for state in last_states if state.at is RETURNED]
-            require_one_path(self.accepted(last_ends))
+            self.judge(last_ends)
             others = others + [state for state in last_states if state.at is not RETURNED]
             ends = ends + last_ends
         return others, ends
 
-    def accepted(self, ends):
-        return [state for end in ends for state in judged(self.code, self.form, end)]
+    def judge(self, ends, back=()):
+        """Compares the states that have returned with the contract. A search accepts nothing; before it, what is
+        accepted and what is back at the head have one path."""
+        accepted = [state for end in ends for state in judged(self.code, self.form, end)]
+        if self.head.is_search:
+            require(not accepted, "a text with an invalid character is accepted")
+        else:
+            require_one_path([*back, *accepted])
 
 
 def judged(code, form, end):

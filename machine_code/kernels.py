@@ -1,9 +1,9 @@
 """The functions that the Rust crate calls, and what has to be proved of each.
 
 They are those of crates/const_hex_rust, whose lengths the caller has compared. Which register has which argument is
-what rust/src/kernel.rs declares: a slice is a pointer and a length, and `upper` a number of 32 bits. The output may
-not be initialized, since Rust passes the spare capacity of a vector: no byte of it is read unless this call has
-written it.
+what rust/src/kernel/machine_code.rs declares: a slice is a pointer and a length, and `upper` a number of 32 bits. The
+output may not be initialized, since Rust passes the spare capacity of a vector: no byte of it is read unless this call
+has written it.
 """
 
 from calls import Call

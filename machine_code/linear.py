@@ -239,6 +239,11 @@ def in_range(number, least, most):
     return number
 
 
+def unsigned(number, size=8):
+    """A number from 0 on that has the same `size` bytes, if the number is surely below 0, or surely is not."""
+    return number + (1 << 8 * size) if most_value(number) < 0 else number
+
+
 def replaced(number, name, by):
     """The number with something else in the place of a symbol."""
     if type(number) is Linear:

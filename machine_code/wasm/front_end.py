@@ -4,6 +4,7 @@ The caller's regions lie at unknown addresses from `__heap_base` on, and so afte
 """
 
 from exploration import RETURNED, require
+from linear import terms_of
 from memory import Image, Memory, Pointer, Region
 from values import ZERO, constants, number
 from wasm import vector  # noqa: F401 (adds its instructions)
@@ -15,8 +16,9 @@ from wasm.state import State, size_of
 LIMITS = {name: 1 << 16 for name in ("more", "n", "k", "over")}
 LIMITS |= {"done": 1 << 9, "left": 1 << 9, "before": (1 << 32) - (1 << 17)}
 STACK_END = 4096
-# A search reads a byte in each round, and other loops 128.
-SEARCH_LIMITS = dict.fromkeys(("done", "left"), (1 << 16) - STACK_END)
+# A search reads so many bytes in each round, which `has_returned` tests, and other loops 128.
+SEARCH_SIZE = 4
+SEARCH_LIMITS = dict.fromkeys(("done", "left"), ((1 << 16) - STACK_END) // SEARCH_SIZE)
 
 
 def start(code, symbol, arguments, regions):
@@ -62,6 +64,9 @@ def has_returned(state):
     module = state.memory.regions["image"].object
     for at, value in enumerate(module.globals):
         require(state.registers[f"global {at}"] == value, f"global {at} is not as before")
+    if state.ghost.get("bad"):
+        sizes = [factor for name, factor in terms_of(state.ghost["length"]) if name in SEARCH_LIMITS]
+        require(set(sizes) == {SEARCH_SIZE}, "a search by another number of bytes than its limits are for")
 
 
 def is_jump(instruction):

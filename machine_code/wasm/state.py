@@ -9,7 +9,7 @@ from collections import namedtuple
 import state
 from arithmetic import selected
 from conditions import TRUE, are_zero, constant
-from linear import Linear, in_range, is_zero
+from linear import Linear, in_range, is_zero, unsigned
 from memory import Fault, Pointer, as_lane, is_whole, shown, with_replaced
 from values import ZERO, are_constant, constants, number
 
@@ -118,7 +118,9 @@ class State(state.State):
         """An i32 as a number of 64 bits, with zeros above."""
         if type(value) is Pointer:
             self._require_inside(value)
-        return in_range(value, 0, GREATEST) if is_whole(value) else value + (ZERO,) * 4
+        if type(value) is Linear:
+            return in_range(unsigned(value, self.word), 0, GREATEST)
+        return value if is_whole(value) else value + (ZERO,) * 4
 
     def truth(self, condition):
         """The i32 that is 1 if a condition holds, and 0 if not."""
