@@ -1,6 +1,6 @@
 //! Traits of types that are read from hexadecimal text, or written as it.
 
-use crate::proved::{FixedKernel, Kernel};
+use crate::proved::{FixedKernel, Kernel, Plain};
 use crate::FromHexError;
 #[cfg(all(feature = "alloc", target_has_atomic = "ptr"))]
 use alloc::sync::Arc;
@@ -177,25 +177,47 @@ to_hex! {
     fn encode_hex_upper_with_prefix() -> String = crate::encode_upper_prefixed;
 }
 
-/// Collects the digits of bytes, which are encoded 32 bytes at a time. The proved iterator `BytesToHexChars` looks
-/// each digit up in a table.
-// A slice and arrays say how many digits they have, so that a collection allocates once.
+/// Collects the digits of bytes.
+// Up to three bytes take fewer instructions by the table of `Plain` than by vectors.
+#[inline]
 fn digits<const UPPER: bool, T: FromIterator<char>>(bytes: &[u8]) -> T {
-    // A string that sees here that a digit is ASCII need not find out how many bytes it has.
-    let digit = |byte: u8| char::from(byte & 0x7F);
+    if bytes.len() < 4 {
+        few_digits::<Plain, 8, UPPER, T>(bytes)
+    } else if bytes.len() < 32 {
+        few_digits::<FixedKernel, 64, UPPER, T>(bytes)
+    } else {
+        many_digits::<UPPER, T>(bytes)
+    }
+}
+
+/// Collects the digits of at most `N / 2` bytes.
+fn few_digits<K: Kernel, const N: usize, const UPPER: bool, T: FromIterator<char>>(bytes: &[u8]) -> T {
+    let mut text = [0; N];
+    let text = &mut text[..2 * bytes.len()];
+    K::fill(bytes, UPPER, text);
+    text.iter().map(character).collect()
+}
+
+/// Collects the digits of bytes, which are encoded 32 bytes at a time.
+// A slice and arrays say how many digits they have, so that a collection allocates once.
+fn many_digits<const UPPER: bool, T: FromIterator<char>>(bytes: &[u8]) -> T {
     let parts = bytes.chunks_exact(32);
     let rest = parts.remainder();
     let mut text = [0; 64];
     let text = &mut text[..2 * rest.len()];
     FixedKernel::fill(rest, UPPER, text);
-    let rest = text.iter().copied();
-    if bytes.len() < 32 {
-        return rest.map(digit).collect();
-    }
     let text_of = |part: &[u8]| {
         let mut text = [0; 64];
         FixedKernel::fill(part, UPPER, &mut text);
         text
     };
-    parts.flat_map(text_of).chain(rest).map(digit).collect()
+    let rest = text.iter().copied();
+    parts.flat_map(text_of).chain(rest).map(|byte| character(&byte)).collect()
+}
+
+/// The character that a digit is.
+// A string that sees here that a digit is ASCII need not find out how many bytes it has.
+#[inline]
+fn character(digit: &u8) -> char {
+    char::from(digit & 0x7F)
 }

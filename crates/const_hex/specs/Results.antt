@@ -78,11 +78,11 @@ Checks t (Ok u) = (bs : List ℕ) × Reads t (Ok bs)
 Checks t (Err e) = Reads t (Err e)
 
 -- what an error for t leaves of an output that held `old`
-abbrev pub Leaves : List ℕ → List ℕ → List ℕ → FromHexError → Type 0
-Leaves t old new OddLength = new ≡ old
-Leaves t old new InvalidStringLength = new ≡ old
-Leaves t old new (InvalidHexCharacter c i) = Partial old (body_of t) new
-Leaves t old new NoMemory = ⊥
+abbrev pub LeavesOutput : List ℕ → List ℕ → List ℕ → FromHexError → Type 0
+LeavesOutput t old new OddLength = new ≡ old
+LeavesOutput t old new InvalidStringLength = new ≡ old
+LeavesOutput t old new (InvalidHexCharacter c i) = Partial old (body_of t) new
+LeavesOutput t old new NoMemory = ⊥
 
 -- ---- what the functions of the codec promise; functions that differ only by a kernel share a record
 
@@ -117,7 +117,7 @@ pub record Decodes {V : Type 0} (items : V → List ℕ) (t : List ℕ) (r : Res
 pub record DecodesToSlice (checks_first : Bool) (t old new : List ℕ) (r : Result Unit FromHexError) : Type 0 where
   pub ok : IfOk r (λ _. ReadsSized t (length old) (Ok new))
   pub err : IfErr r (λ e. ReadsSized t (length old) (Err e))
-  pub after_error : IfErr r (λ e. Leaves t old new e)
+  pub after_error : IfErr r (λ e. LeavesOutput t old new e)
   pub unchanged : checks_first ≡ true → OnErr r (new ≡ old)
 
 -- `decode_to_front`: the result for the text t and an output that may be larger, the number of bytes,
@@ -127,7 +127,7 @@ pub record DecodesToFront (t old new : List ℕ) (r : Result ℕ FromHexError) :
   pub count : IfOk r (λ n. length (body_of t) ≡ 2 * n)
   pub rest : IfOk r (λ n. drop n new ≡ drop n old)
   pub err : IfErr r (λ e. ReadsWithin t (length old) (Err e))
-  pub after_error : IfErr r (λ e. Leaves t old new e)
+  pub after_error : IfErr r (λ e. LeavesOutput t old new e)
 
 -- `decode_to_array`: the result for the text t and n bytes
 pub record DecodesToArray (n : ℕ) (t : List ℕ) (r : Result (List ℕ) FromHexError) : Type 0 where

@@ -10,7 +10,7 @@ use Rattle.std.specs.Io.KnownBytes.{Appends}
 use Rattle.std.specs.declared.io.Error.{Error}
 use Rattle.const_hex.specs.declared.write_sink.WriteSink.{WriteSink}
 use Rattle.std.specs.List.{concat}
-use Rattle.const_hex_arch.specs.Sinks.{told_after}
+use Rattle.const_hex_arch.specs.Sinks.{reported_after}
 
 -- ---- printing bytes through a formatter
 
@@ -72,7 +72,7 @@ pub record WriteStep {W : Type 0} (contents : W → Option (List ℕ)) (s : Writ
 -- ---- text that is written to a sink
 
 -- the pieces that the sink reports after are those before, and then pieces that together are the text
-pub record TellsWhole (old : Option (List (List ℕ))) (text : List ℕ) (new : Option (List (List ℕ))) : Type 0 where
+pub record ReportsWhole (old : Option (List (List ℕ))) (text : List ℕ) (new : Option (List (List ℕ))) : Type 0 where
   pub pieces : List (List ℕ)
   pub whole : concat pieces ≡ text
-  pub told : new ≡ told_after old pieces
+  pub reported : new ≡ reported_after old pieces

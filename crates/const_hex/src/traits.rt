@@ -6,7 +6,7 @@ mod faults;
 mod pointers;
 mod reading;
 mod signed;
-mod vectors;
+mod owned;
 mod writing;
 
 pub use crate::traits::chars::BytesToHexChars;

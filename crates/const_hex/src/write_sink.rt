@@ -132,7 +132,7 @@ impl<W: Write> Sink for WriteSink<'_, W> {
 
     ghost is_refused = { has_failed };
 
-    ghost told = { λ _. None };
+    ghost reported = { λ _. None };
 
     #[inline]
     fn refused(&self) -> bool {
@@ -154,7 +154,7 @@ impl<W: Write> Sink for WriteSink<'_, W> {
 
     ghost use Rattle.std.proofs.Common.{refl};
 
-    ghost tells = { λ s piece t h. refl };
+    ghost reports = { λ s piece t h. refl };
 }
 
 /// Writes a piece. If a signal interrupts a write, it is made again.

@@ -42,6 +42,6 @@ step_tells s piece t h true e = h.kept e ∙ sym (append-nil s.pieces)
 step_tells s piece t h false e = h.accepted e
 
 -- it reports its pieces
-pub PieceStep-tells : (s : PieceState) (piece : List ℕ) (t : PieceState) → PieceStep s piece t
+pub PieceStep-reports : (s : PieceState) (piece : List ℕ) (t : PieceState) → PieceStep s piece t
     → Some t.pieces ≡ Some (s.pieces ++ (if t.refused then [] else piece ∷ []))
-PieceStep-tells s piece t h = ap Some (step_tells s piece t h t.refused refl)
+PieceStep-reports s piece t h = ap Some (step_tells s piece t h t.refused refl)

@@ -8,9 +8,9 @@ use Rattle.const_hex_arch.specs.declared.stream.BufferedHex.{BufferedHex}
 -- ---- what sinks report of the accepted pieces, and what outputs over sinks do
 
 -- the pieces that were reported, and then more, if a sink reports them
-abbrev pub told_after : Option (List (List ℕ)) → List (List ℕ) → Option (List (List ℕ))
-told_after (Some told) more = Some (told ++ more)
-told_after None more = None
+abbrev pub reported_after : Option (List (List ℕ)) → List (List ℕ) → Option (List (List ℕ))
+reported_after (Some reported) more = Some (reported ++ more)
+reported_after None more = None
 
 -- the sink that an output writes to
 abbrev pub output_sink : {S : Type 0} → SinkOutput S → S
@@ -88,14 +88,14 @@ pub record Streams {S : Type 0} (step : S → List ℕ → S → Type 0) (is_ref
   pub calls : offered ≤ (length text + 4032) / 4033
 
 -- the pieces that the sink reports after are those before, and then the pieces of the text
-pub record TellsCut (old : Option (List (List ℕ))) (text : List ℕ) (new : Option (List (List ℕ))) : Type 0 where
+pub record ReportsCut (old : Option (List (List ℕ))) (text : List ℕ) (new : Option (List (List ℕ))) : Type 0 where
   pub pieces : List (List ℕ)
   pub cut : Cut text pieces
-  pub told : new ≡ told_after old pieces
+  pub reported : new ≡ reported_after old pieces
 
 -- what happens to a sink that is passed a text, and the result
-pub record Handed {S : Type 0} (step : S → List ℕ → S → Type 0) (is_refused : S → Bool) (tells : S → Option (List (List ℕ))) (old : S) (text : List ℕ)
+pub record StreamsWhole {S : Type 0} (step : S → List ℕ → S → Type 0) (is_refused : S → Bool) (reports : S → Option (List (List ℕ))) (old : S) (text : List ℕ)
     (ok : Bool) (new : S) : Type 0 where
   pub streams : Streams step is_refused old text new
   pub flag : ok ≡ not (is_refused new)
-  pub told : is_refused new ≡ false → TellsCut (tells old) text (tells new)
+  pub reported : is_refused new ≡ false → ReportsCut (reports old) text (reports new)

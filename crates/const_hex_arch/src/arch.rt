@@ -6,12 +6,12 @@ ghost use Rattle.const_hex_arch.specs.Texts.{hex_text, AllDigits, Spells, Partia
 
 pub mod arithmetic16;
 pub mod check_first;
-mod drivers;
 mod lanes;
 pub mod lanes16;
 pub mod lanes32;
+mod loops;
 pub mod plain;
-mod short;
+mod small_input;
 mod steps;
 
 use crate::arch::lanes32::Lanes32;
@@ -100,6 +100,24 @@ pub trait Kernel {
         ensures spells { IsTrue result → Spells input.now output.new }
         ensures refused { result ≡ false → Partial output.old input.now output.new }
         ensures unchanged { result ≡ false → USE_CHECK_FN ≡ true → output.new ≡ output.old };
+
+    /// As `decode_checked`, for a caller that has no use for the pairs before a byte that is not a
+    /// digit. A kernel may then decode fewer of them, and return false sooner.
+    ///
+    /// ```rust
+    /// let mut bytes = [0; 4];
+    /// assert!(rt; FixedKernel::decode_all(b"6B697769", &mut bytes));
+    /// assert_eq!(rt; bytes, *b"kiwi");
+    /// assert!(rt; !FixedKernel::decode_all(b"6B69776g", &mut bytes));
+    /// ```
+    #[inline(always)]
+    fn decode_all(input: &[u8], output: &mut [u8]) -> bool
+        requires { length input.now ≡ 2 * length output.old }
+        ensures spells { IsTrue result → Spells input.now output.new }
+        ensures refused { result ≡ false → Partial output.old input.now output.new }
+    {
+        Self::decode_checked(input, output)
+    }
 
     /// Decodes a part of the input into the output and returns true. Returns false if some byte of
     /// this part is not a digit. The part begins after the first `start` pairs of the input, and

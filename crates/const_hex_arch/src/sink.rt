@@ -1,7 +1,7 @@
 //! Sinks, which receive text piece by piece.
 
 ghost use Rattle.std.specs.Prelude.{◌≡◌, ℕ, Bool, false, not, List, [], ◌∷◌, is_ok, Option, Some, if◌then◌else◌, codes};
-ghost use Rattle.const_hex_arch.specs.Sinks.{told_after};
+ghost use Rattle.const_hex_arch.specs.Sinks.{reported_after};
 
 pub mod output;
 pub mod pieces;
@@ -47,7 +47,7 @@ pub trait Sink {
     ghost is_refused: { Self → Bool };
 
     /// The pieces that it accepted, in order, if its contract reports them.
-    ghost told: { Self → Option (List (List ℕ)) };
+    ghost reported: { Self → Option (List (List ℕ)) };
 
     /// Whether it has refused a piece.
     ///
@@ -68,9 +68,9 @@ pub trait Sink {
         ensures step { step self.old s.now self.new }
         ensures flag { is_ok result ≡ not (is_refused self.new) };
 
-    /// An accepted piece is the last of `told`. A refused piece adds nothing to it.
-    ghost tells: { (s : Self) (piece : List ℕ) (t : Self) → step s piece t
-        → told t ≡ told_after (told s) (if is_refused t then [] else piece ∷ []) };
+    /// An accepted piece is the last of `reported`. A refused piece adds nothing to it.
+    ghost reports: { (s : Self) (piece : List ℕ) (t : Self) → step s piece t
+        → reported t ≡ reported_after (reported s) (if is_refused t then [] else piece ∷ []) };
 }
 
 /// An error if the sink has refused.

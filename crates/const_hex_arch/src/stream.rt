@@ -2,7 +2,7 @@
 
 ghost use Rattle.std.specs.Prelude.{◌≡◌, ◌≤◌, false, is_ok, length};
 ghost use Rattle.const_hex_arch.specs.Texts.{full_text, text_length};
-ghost use Rattle.const_hex_arch.specs.Sinks.{Handed, hex_bytes};
+ghost use Rattle.const_hex_arch.specs.Sinks.{StreamsWhole, hex_bytes};
 
 use crate::arch::{FixedKernel, Kernel};
 use crate::output::buffered::BufferedOutput;
@@ -61,7 +61,7 @@ impl<'a, const UPPER: bool, const PREFIX: bool> BufferedHex<'a, UPPER, PREFIX> {
     /// ```
     pub fn write_to<S: Sink>(&self, sink: &mut S) -> Result<(), SinkError>
         requires { S.is_refused sink.old ≡ false }
-        ensures { Handed S.step S.is_refused S.told sink.old
+        ensures { StreamsWhole S.step S.is_refused S.reported sink.old
             (full_text PREFIX UPPER (hex_bytes self.now)) (is_ok result) sink.new }
     {
         self.write_with::<FixedKernel, S>(sink)
@@ -77,7 +77,7 @@ impl<'a, const UPPER: bool, const PREFIX: bool> BufferedHex<'a, UPPER, PREFIX> {
     /// ```
     pub fn write_with<K: Kernel, S: Sink>(&self, sink: &mut S) -> Result<(), SinkError>
         requires { S.is_refused sink.old ≡ false }
-        ensures { Handed S.step S.is_refused S.told sink.old
+        ensures { StreamsWhole S.step S.is_refused S.reported sink.old
             (full_text PREFIX UPPER (hex_bytes self.now)) (is_ok result) sink.new }
     {
         let size = text_length(PREFIX, self.bytes.len());
@@ -97,7 +97,7 @@ impl<'a, const UPPER: bool, const PREFIX: bool> BufferedHex<'a, UPPER, PREFIX> {
         requires accepting { S.is_refused sink.old ≡ false }
         requires size { N ≤ 4096 }
         requires short { text_length PREFIX (length (hex_bytes self.now)) ≤ N }
-        ensures { Handed S.step S.is_refused S.told sink.old
+        ensures { StreamsWhole S.step S.is_refused S.reported sink.old
             (full_text PREFIX UPPER (hex_bytes self.now)) (is_ok result) sink.new }
     {
         let mut buffer = [0; N];
@@ -114,7 +114,7 @@ impl<'a, const UPPER: bool, const PREFIX: bool> BufferedHex<'a, UPPER, PREFIX> {
     #[inline(never)]
     fn gather<K: Kernel, S: Sink>(&self, sink: &mut S) -> Result<(), SinkError>
         requires { S.is_refused sink.old ≡ false }
-        ensures { Handed S.step S.is_refused S.told sink.old
+        ensures { StreamsWhole S.step S.is_refused S.reported sink.old
             (full_text PREFIX UPPER (hex_bytes self.now)) (is_ok result) sink.new }
     {
         let mut output = BufferedOutput::<SinkOutput<'_, S>, GATHERED>::new(SinkOutput::new(sink));

@@ -13,7 +13,7 @@
 
 ghost use Rattle.std.specs.Prelude.{◌≡◌, ◌↔◌, ◌*◌, ◌+◌, ◌-◌, ◌<◌, ◌≤◌, ◌≢◌, ◌++◌, ℕ, List, Some, IfSome, true, false, length, take, drop, min, slice_index, IsTrue, Ok, Err};
 ghost use Rattle.const_hex.specs.Texts.{full_text, text_length, AllDigits, Partial};
-ghost use Rattle.const_hex.specs.Results.{IsOdd, Reads, ReadsSized, ReadsWithin, Leaves, body_of};
+ghost use Rattle.const_hex.specs.Results.{IsOdd, Reads, ReadsSized, ReadsWithin, LeavesOutput, body_of};
 ghost use Rattle.const_hex.specs.Decoding.{HasRead, ReadsOn, error_of};
 ghost use Rattle.const_hex.specs.declared.error.FromHexError.TheVariants.{OddLength, InvalidStringLength};
 ghost use Rattle.const_hex_c.specs.Errors.{StandsFor, message_of_struct, struct_of};
@@ -112,7 +112,7 @@ pub extern "C" fn const_hex_decode_nonnull(
     ensures err { result ≡ false
         → StandsFor error.new (λ e. ReadsWithin text.now (length bytes.old) (Err e)) }
     ensures after_error { result ≡ false
-        → StandsFor error.new (λ e. Leaves text.now bytes.old bytes.new e) }
+        → StandsFor error.new (λ e. LeavesOutput text.now bytes.old bytes.new e) }
     ensures none { result ≡ false → written.new ≡ 0 }
 {
     match const_hex::decode_to_front_with::<FixedKernel>(text, bytes) {
@@ -148,7 +148,7 @@ pub extern "C" fn const_hex_decode_exact_nonnull(
     ensures err { result ≡ false
         → StandsFor error.new (λ e. ReadsSized text.now (length bytes.old) (Err e)) }
     ensures after_error { result ≡ false
-        → StandsFor error.new (λ e. Leaves text.now bytes.old bytes.new e) }
+        → StandsFor error.new (λ e. LeavesOutput text.now bytes.old bytes.new e) }
 {
     match const_hex::decode_to_slice_with::<FixedKernel>(text, bytes) {
         Ok(()) => true,

@@ -36,7 +36,7 @@ fn read(text: &[u8], bytes: &mut [u8]) -> bool
     ensures spells { IsTrue result → Spells text.now bytes.new }
     ensures refused { result ≡ false → Partial bytes.old text.now bytes.new }
 {
-    FixedKernel::decode_checked(text, bytes)
+    FixedKernel::decode_all(text, bytes)
 }
 
 /// Calls `fill` if the text has two characters for each byte. Returns whether it has.

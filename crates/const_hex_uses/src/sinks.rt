@@ -36,9 +36,9 @@ pub fn packets(alloc: Global, bytes: &[u8]) -> Result<PieceSink, SinkError>
 /// ```
 pub fn send_json<S: Sink>(bytes: &[u8], sink: &mut S) -> Result<(), SinkError>
     requires { S.is_refused sink.old ≡ false }
-    ensures { (told : List (List ℕ)) → S.told sink.old ≡ Some told → OnOk result
+    ensures { (reported : List (List ℕ)) → S.reported sink.old ≡ Some reported → OnOk result
         ((pieces : List (List ℕ)) × (concat pieces ≡ full_text true false bytes.now)
-        × (S.told sink.new ≡ Some (told ++ pieces))) }
+        × (S.reported sink.new ≡ Some (reported ++ pieces))) }
 {
     serialize_inner::<false, true, S>(bytes, sink)
 }

@@ -38,13 +38,13 @@ abbrev pub without_newline : List ℕ → List ℕ
 without_newline x = strip_last 10 x
 
 -- the mode makes the bytes bs of the input x
-abbrev pub Makes : Mode → List ℕ → List ℕ → Type 0
-Makes Encode x bs = bs ≡ full_text false false x ++ newline
-Makes EncodeUpper x bs = bs ≡ full_text false true x ++ newline
-Makes EncodePrefixed x bs = bs ≡ full_text true false x ++ newline
-Makes EncodeUpperPrefixed x bs = bs ≡ full_text true true x ++ newline
-Makes Decode x bs = Reads (without_newline x) (Ok bs)
-Makes Check x bs = Checks (without_newline x) (Ok tt) × (bs ≡ codes "ok" ++ newline)
+abbrev pub Outputs : Mode → List ℕ → List ℕ → Type 0
+Outputs Encode x bs = bs ≡ full_text false false x ++ newline
+Outputs EncodeUpper x bs = bs ≡ full_text false true x ++ newline
+Outputs EncodePrefixed x bs = bs ≡ full_text true false x ++ newline
+Outputs EncodeUpperPrefixed x bs = bs ≡ full_text true true x ++ newline
+Outputs Decode x bs = Reads (without_newline x) (Ok bs)
+Outputs Check x bs = Checks (without_newline x) (Ok tt) × (bs ≡ codes "ok" ++ newline)
 
 -- the mode ends with this error for the text in the input x
 abbrev pub Fails : Mode → List ℕ → FromHexError → Type 0
@@ -57,7 +57,7 @@ Fails Check x e = Checks (without_newline x) (Err e)
 
 -- the one result of the mode for the input x
 abbrev pub Answer : Mode → List ℕ → Result (List ℕ) RunError → Type 0
-Answer m x (Ok bs) = (length x ≤ limit) × Makes m x bs
+Answer m x (Ok bs) = (length x ≤ limit) × Outputs m x bs
 Answer m x (Err (Text e)) = (length x ≤ limit) × Fails m x e
 Answer m x (Err TooLong) = limit < length x
 Answer m x (Err ReadFailed) = ⊥

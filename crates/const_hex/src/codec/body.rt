@@ -1,7 +1,7 @@
 //! The body of a text, which is what follows the prefix: the rule of the prefix, the first invalid
 //! character, and decoding by a kernel.
 
-ghost use Rattle.std.specs.Prelude.{◌≡◌, ◌*◌, ◌%◌, ◌≤◌, ◌==◌, ◌&&◌, ◌||◌, ◌↔◌, true, false, length, slice_index, Err, IfErr, IfOk, IsTrue};
+ghost use Rattle.std.specs.Prelude.{◌≡◌, ◌*◌, ◌%◌, ◌≤◌, ◌==◌, ◌&&◌, ◌||◌, ◌↔◌, true, false, length, take, slice_index, Err, IfErr, IfOk, IsTrue};
 ghost use Rattle.const_hex_arch.specs.Texts.{AllDigits, FirstBad, Spells, Partial};
 ghost use Rattle.const_hex.specs.Results.{IsEven, IsOdd, Reads, body_of};
 ghost use Rattle.const_hex.specs.declared.error.FromHexError.TheVariants.{OddLength};
@@ -67,14 +67,14 @@ pub(crate) fn find_invalid_character(text: &[u8]) -> FromHexError
 /// the index after the last byte.
 // A caller that has already seen an invalid character may get the latter, if another process has
 // removed it from shared memory in between. Nothing is read out of bounds then.
-#[cold]
+#[inline(always)]
 pub(crate) fn find_first_bad(digits: &[u8]) -> (u8, usize)
     ensures bad { (AllDigits digits.now → ⊥) → FirstBad digits.now result.1 }
     ensures byte { result.0 ≡ slice_index digits.now result.1 }
     ensures within { result.1 ≤ length digits.now }
     ensures all { (result.1 ≡ length digits.now) ↔ AllDigits digits.now }
 {
-    let mut index = 0;
+    let mut index = skip_digits(digits);
     'digits: while index < digits.len() {
         let byte = digits[index];
         if value_at(byte) == NIL {
@@ -83,6 +83,24 @@ pub(crate) fn find_first_bad(digits: &[u8]) -> (u8, usize)
         index += 1;
     }
     (0, digits.len())
+}
+
+/// How many digits the text begins with, counted by fours, as long as all four are digits.
+// One test of four bytes takes half the instructions of four tests. NIL has bits that no value has.
+#[inline(always)]
+fn skip_digits(text: &[u8]) -> usize
+    ensures digits { AllDigits (take result text.now) }
+    ensures within { result ≤ length text.now }
+{
+    let mut rest = text;
+    'fours: while let [first, second, third, fourth, after @ ..] = rest {
+        let joined = value_at(*first) | value_at(*second) | value_at(*third) | value_at(*fourth);
+        if joined >= 16 {
+            break;
+        }
+        rest = after;
+    }
+    text.len() - rest.len()
 }
 
 /// Decodes the body into the output and returns true. Returns false if some byte is not a digit.

@@ -45,7 +45,7 @@ impl<W: fmt::Write> Sink for FormatterSink<'_, W> {
 
     ghost is_refused = { λ s. formatter_failed s };
 
-    ghost told = { λ _. None };
+    ghost reported = { λ _. None };
 
     #[inline]
     fn refused(&self) -> bool {
@@ -63,5 +63,5 @@ impl<W: fmt::Write> Sink for FormatterSink<'_, W> {
 
     ghost use Rattle.std.proofs.Common.{refl};
 
-    ghost tells = { λ s piece t h. refl };
+    ghost reports = { λ s piece t h. refl };
 }

@@ -2,8 +2,8 @@
 
 ghost use Rattle.std.specs.Prelude.{◌≡◌, ◌+◌, ◌*◌, ◌<◌, ◌≤◌, false, not, is_ok, length};
 ghost use Rattle.const_hex_arch.specs.Texts.{full_text};
-ghost use Rattle.const_hex_arch.specs.Sinks.{Streams, TellsCut};
-ghost use Rattle.const_hex.specs.Writers.{TellsWhole};
+ghost use Rattle.const_hex_arch.specs.Sinks.{Streams, ReportsCut};
+ghost use Rattle.const_hex.specs.Writers.{ReportsWhole};
 
 use const_hex_arch::{
     BufferedHex, FixedKernel, Sink, SinkError, ascii_text, fill_text, text_length,
@@ -34,11 +34,11 @@ pub fn serialize_inner<const UPPER: bool, const PREFIX: bool, S: Sink>(
     ensures flag { is_ok result ≡ not (S.is_refused sink.new) }
     // If the sink's contract reports its pieces and it accepted all of them, they are together the
     // text.
-    ensures told { S.is_refused sink.new ≡ false
-        → TellsWhole (S.told sink.old) (full_text PREFIX UPPER bytes.now) (S.told sink.new) }
+    ensures reported { S.is_refused sink.new ≡ false
+        → ReportsWhole (S.reported sink.old) (full_text PREFIX UPPER bytes.now) (S.reported sink.new) }
     // More than 128 bytes are cut into pieces of a known size.
     ensures told_long { 128 < length bytes.now → S.is_refused sink.new ≡ false
-        → TellsCut (S.told sink.old) (full_text PREFIX UPPER bytes.now) (S.told sink.new) }
+        → ReportsCut (S.reported sink.old) (full_text PREFIX UPPER bytes.now) (S.reported sink.new) }
 {
     if bytes.len() > AT_ONCE {
         return BufferedHex::<UPPER, PREFIX>::new(bytes).write_to(sink);

@@ -8,7 +8,7 @@ use borrow.Rule.Slice.PartMut.{put_mid}
 use Rattle.const_hex_arch.specs.Texts.{IsDigit, hex_text, AllDigits, Spells, Partial}
 use Rattle.const_hex_arch.specs.Outputs.{HasRoom, less_room, Writes}
 use Rattle.const_hex_arch.proofs.lemmas.Runs.{HasRoom-less, Writes-none, Writes-more}
-use Rattle.const_hex_arch.proofs.lemmas.Spelling.{Spells-append, Spells-parts, digits_append, none_decoded, Partial-after}
+use Rattle.const_hex_arch.proofs.lemmas.Spelling.{Spells-append, Spells-parts, Spells-digits, digits_append, none_decoded, Partial-after}
 use Rattle.const_hex_arch.proofs.lemmas.Texts.{hex_text-nil, hex_text-append, length-hex_text}
 
 pub parts : (n : ℕ) {u front back : List ℕ} → front ≡ take n u → back ≡ drop n u → front ++ back ≡ u
@@ -96,12 +96,14 @@ decoded_less {u} {old} {new} {i} e d h = record {
 pub kept_step : (new r : List ℕ) (i n : ℕ) → r ≡ take n (drop i new) → put_mid i n new r ≡ new
 kept_step new r i n e = rw e (ap (λ x. take i new ++ x) (take-append-drop n (drop i new)) ∙ take-append-drop i new)
 
--- a step that fails, and wrote nothing
-pub refused_step : {u old new r : List ℕ} {i : ℕ} (n m : ℕ) → IsDecoded u old new i → length u ≡ 2 * length old → r ≡ take n (drop i new)
-    → (AllDigits (take m (drop (2 * i) u)) → ⊥) → Partial old u (put_mid i n new r)
-refused_step {u} {old} {new} {r} {i} n m d size e none =
-    let rest = none_decoded (drop i new) (drop (2 * i) u) (λ a. none (All-take IsDigit m (drop (2 * i) u) a)) in
-    rw (kept_step new r i n e) (Partial-after old u new i (2 * i) (omega arith) (omega arith) d.same_length d.within d.front (rw (← d.rest) rest))
+-- a step anywhere in the text that fails, and wrote nothing
+pub refused_step : {u old new r : List ℕ} {i : ℕ} (j n m k : ℕ) → IsDecoded u old new i → length u ≡ 2 * length old → r ≡ take n (drop j new)
+    → (AllDigits (take m (drop k u)) → ⊥) → Partial old u (put_mid j n new r)
+refused_step {u} {old} {new} {r} {i} j n m k d size e none =
+    let part : AllDigits u → AllDigits (take m (drop k u)) = λ a. All-take IsDigit m (drop k u) (All-drop IsDigit k u a) in
+    let whole : AllDigits (drop (2 * i) u) → AllDigits u = λ a. rw (take-append-drop (2 * i) u) at ((digits_append (take (2 * i) u) (drop (2 * i) u)).1 (Spells-digits _ _ d.front, a)) in
+    let rest = none_decoded (drop i new) (drop (2 * i) u) (λ a. none (part (whole a))) in
+    rw (kept_step new r j n e) (Partial-after old u new i (2 * i) (omega arith) (omega arith) d.same_length d.within d.front (rw (← d.rest) rest))
 
 -- the remainder by another call
 module _ {u old new : List ℕ} {i : ℕ} (r : List ℕ) (d : IsDecoded u old new i) (size : length u ≡ 2 * length old) (long : length r ≡ length new - i) where

@@ -8,7 +8,7 @@ use Rattle.std.proofs.lemmas.List.{append-nil, append_assoc, take_all, take_at}
 use Rattle.std.proofs.lemmas.List.Elements.{All-nil, All-cons, All-head, All-tail, All-append, All-take, All-weaker, All-same}
 use Rattle.std.proofs.lemmas.List.Folds.{concat-append}
 use Rattle.const_hex_arch.specs.Outputs.{Writes, IsKernelPiece, Gathers, piece_of, FlushesPending}
-use Rattle.const_hex_arch.specs.Sinks.{SinkStep, output_sink, sink_name, told_after, IsCallPiece, IsLargePiece, all_but_last, Cut, Offers, Streams, Handed}
+use Rattle.const_hex_arch.specs.Sinks.{SinkStep, output_sink, sink_name, reported_after, IsCallPiece, IsLargePiece, all_but_last, Cut, Offers, Streams, StreamsWhole}
 use Rattle.const_hex_arch.specs.declared.sink.output.SinkOutput.{SinkOutput}
 use Rattle.const_hex_arch.proofs.lemmas.Runs.{run_append, concat-piece_of}
 
@@ -205,30 +205,30 @@ module _ {S : Type 0} (step : S → List ℕ → S → Type 0) (is_refused : S �
 
 -- ---- what a sink reports
 
-told_after-none : (o : Option (List (List ℕ))) → told_after o [] ≡ o
-told_after-none (Some told) = ap Some (append-nil told)
-told_after-none None = refl
+reported_after-none : (o : Option (List (List ℕ))) → reported_after o [] ≡ o
+reported_after-none (Some reported) = ap Some (append-nil reported)
+reported_after-none None = refl
 
-told_after-more : (o : Option (List (List ℕ))) (xs ys : List (List ℕ)) → told_after (told_after o xs) ys ≡ told_after o (xs ++ ys)
-told_after-more (Some told) xs ys = ap Some (append_assoc told xs ys)
-told_after-more None xs ys = refl
+reported_after-more : (o : Option (List (List ℕ))) (xs ys : List (List ℕ)) → reported_after (reported_after o xs) ys ≡ reported_after o (xs ++ ys)
+reported_after-more (Some reported) xs ys = ap Some (append_assoc reported xs ys)
+reported_after-more None xs ys = refl
 
-module _ {S : Type 0} (step : S → List ℕ → S → Type 0) (is_refused : S → Bool) (told : S → Option (List (List ℕ)))
-    (tells : (s : S) (piece : List ℕ) (t : S) → step s piece t → told t ≡ told_after (told s) (if is_refused t then [] else piece ∷ [])) where
+module _ {S : Type 0} (step : S → List ℕ → S → Type 0) (is_refused : S → Bool) (reported : S → Option (List (List ℕ)))
+    (reports : (s : S) (piece : List ℕ) (t : S) → step s piece t → reported t ≡ reported_after (reported s) (if is_refused t then [] else piece ∷ [])) where
   -- what is passed to a sink that accepts all is reported
-  told-Offers : (s : S) (ps : List (List ℕ)) (t : S) → is_refused t ≡ false → Offers step is_refused s ps t → told t ≡ told_after (told s) ps
-  told-Offers s [] t e h = ap told (sym h) ∙ sym (told_after-none (told s))
-  told-Offers s (p ∷ ps) t e (o, (m, h, k)) =
+  reported-Offers : (s : S) (ps : List (List ℕ)) (t : S) → is_refused t ≡ false → Offers step is_refused s ps t → reported t ≡ reported_after (reported s) ps
+  reported-Offers s [] t e h = ap reported (sym h) ∙ sym (reported_after-none (reported s))
+  reported-Offers s (p ∷ ps) t e (o, (m, h, k)) =
       let accepted = Offers-accepting step is_refused m ps t e k in
-      told-Offers m ps t e k ∙ ap (λ x. told_after x ps) (tells s p m h ∙ ap (λ b. told_after (told s) (if b then [] else p ∷ [])) accepted)
-      ∙ told_after-more (told s) (p ∷ []) ps
+      reported-Offers m ps t e k ∙ ap (λ x. reported_after x ps) (reports s p m h ∙ ap (λ b. reported_after (reported s) (if b then [] else p ∷ [])) accepted)
+      ∙ reported_after-more (reported s) (p ∷ []) ps
 
-  pub Handed-of : (s : S) (text : List ℕ) (ok : Bool) (t : S) → Streams step is_refused s text t → ok ≡ not (is_refused t)
-      → Handed step is_refused told s text ok t
-  Handed-of s text ok t h flag = record {
+  pub StreamsWhole-of : (s : S) (text : List ℕ) (ok : Bool) (t : S) → Streams step is_refused s text t → ok ≡ not (is_refused t)
+      → StreamsWhole step is_refused reported s text ok t
+  StreamsWhole-of s text ok t h flag = record {
     streams = h;
     flag = flag;
-    told = λ e. record { pieces = h.pieces; cut = h.cut; told = told-Offers s h.pieces t e (Streams-all step is_refused s text t e h) };
+    reported = λ e. record { pieces = h.pieces; cut = h.cut; reported = reported-Offers s h.pieces t e (Streams-all step is_refused s text t e h) };
   }
 
 -- the same for the value that the sink ends as

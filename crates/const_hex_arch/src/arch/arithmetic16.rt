@@ -5,9 +5,9 @@ ghost use Rattle.std.specs.List.{AllZip, concat};
 ghost use Rattle.const_hex_arch.specs.Lanes.{AllNibbles, AllUnmarked, byte_pairs, IsValueOf};
 ghost use Rattle.const_hex_arch.specs.Texts.{hex_text, AllDigits};
 
-use crate::arch::lanes::{self, Vectors};
+use crate::arch::lanes::{self, LaneOps};
 use crate::arch::lanes16::{self, Lanes16};
-use crate::arch::{Kernel, drivers, short};
+use crate::arch::{Kernel, loops, small_input};
 use crate::output::Output;
 use std::simd::prelude::*;
 
@@ -31,35 +31,35 @@ impl Kernel for Arithmetic16 {
 
     #[inline(always)]
     fn encode<O: Output>(input: &[u8], upper: bool, output: &mut O) {
-        drivers::encode_in_steps::<8, 16, Arithmetic16, Arithmetic16, O>(input, upper, output);
+        loops::encode_in_steps::<8, 16, Arithmetic16, Arithmetic16, O>(input, upper, output);
     }
 
     #[inline]
     fn check(input: &[u8]) -> bool {
         if input.len() < 16 {
-            return short::check::<Arithmetic16>(input);
+            return small_input::check::<Arithmetic16>(input);
         }
-        drivers::check_in_steps::<16, Arithmetic16>(input)
+        loops::check_in_steps::<16, Arithmetic16>(input)
     }
 
     #[inline(always)]
     fn decode_checked(input: &[u8], output: &mut [u8]) -> bool {
-        drivers::decode_in_steps::<16, Arithmetic16, Arithmetic16>(input, output)
+        loops::decode_in_steps::<16, true, Arithmetic16, Arithmetic16>(input, output)
     }
 
     #[inline(always)]
     fn decode_unchecked(input: &[u8], output: &mut [u8]) {
-        drivers::decode_digits_in_steps::<16, Arithmetic16, Arithmetic16>(input, output);
+        loops::decode_digits_in_steps::<16, Arithmetic16, Arithmetic16>(input, output);
     }
 }
 
-impl Vectors<16> for Arithmetic16 {
+impl LaneOps<16> for Arithmetic16 {
     #[inline(always)]
-    fn digits_of(v: u8x16, upper: bool, copy: bool) -> [u8x16; 2]
+    fn digits_of(v: u8x16, upper: bool, row_copy: bool) -> [u8x16; 2]
         ensures text { concat result ≡ hex_text upper v }
         ensures lanes { map length result ≡ 16 ∷ 16 ∷ [] }
     {
-        let [_, factors] = *lanes16::select_row(upper, copy);
+        let [_, factors] = *lanes16::select_row(upper, row_copy);
         lanes16::in_two(lanes::to_digits(lanes16::split_lanes(v, factors), upper))
     }
 
@@ -78,10 +78,10 @@ impl Vectors<16> for Arithmetic16 {
     }
 
     #[inline(always)]
-    fn merge(first: u8x16, second: u8x16, copy: bool) -> u8x16
+    fn merge(first: u8x16, second: u8x16, row_copy: bool) -> u8x16
         ensures { AllNibbles (first ++ second) → result ≡ byte_pairs (first ++ second) }
     {
-        Lanes16::merge(first, second, copy)
+        Lanes16::merge(first, second, row_copy)
     }
 
     ghost use Rattle.std.proofs.Common.{arith};

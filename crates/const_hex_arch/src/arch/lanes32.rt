@@ -8,9 +8,9 @@ ghost use Rattle.std.specs.List.{AllZip, concat};
 ghost use Rattle.const_hex_arch.specs.Texts.{hex_value, hex_text, AllDigits, Spells};
 ghost use Rattle.const_hex_arch.specs.Lanes.{AllNibbles, AllUnmarked, byte_pairs, as_value, IsValueOf, IsLimitOf};
 
-use crate::arch::lanes::{self, Vectors};
+use crate::arch::lanes::{self, LaneOps};
 use crate::arch::lanes16::{self, Lanes16};
-use crate::arch::{Kernel, drivers};
+use crate::arch::{Kernel, loops};
 use crate::output::Output;
 use std::simd::prelude::*;
 
@@ -105,7 +105,7 @@ impl Kernel for Lanes32 {
 
     #[inline(always)]
     fn encode<O: Output>(input: &[u8], upper: bool, output: &mut O) {
-        drivers::encode_in_steps::<16, 32, Lanes32, Lanes16, O>(input, upper, output);
+        loops::encode_in_steps::<16, 32, Lanes32, Lanes16, O>(input, upper, output);
     }
 
     // Not `always`: `decode_body` calls `CheckFirst::<K>` in a branch that is never taken for this
@@ -115,33 +115,38 @@ impl Kernel for Lanes32 {
         if input.len() < 32 {
             return Lanes16::check(input);
         }
-        drivers::check_in_steps::<32, Lanes32>(input)
+        loops::check_in_steps::<32, Lanes32>(input)
     }
 
     #[inline(always)]
     fn decode_checked(input: &[u8], output: &mut [u8]) -> bool {
-        drivers::decode_in_steps::<32, Lanes32, Lanes16>(input, output)
+        loops::decode_in_steps::<32, true, Lanes32, Lanes16>(input, output)
+    }
+
+    #[inline(always)]
+    fn decode_all(input: &[u8], output: &mut [u8]) -> bool {
+        loops::decode_in_steps::<32, false, Lanes32, Lanes16>(input, output)
     }
 
     #[inline(always)]
     fn decode_part(input: &[u8], start: usize, output: &mut [u8]) -> bool {
-        drivers::decode_part::<32, Lanes32, Lanes16>(input, start, output)
+        loops::decode_part::<32, Lanes32, Lanes16>(input, start, output)
     }
 
     #[inline(always)]
     fn decode_unchecked(input: &[u8], output: &mut [u8]) {
-        drivers::decode_digits_in_steps::<32, Lanes32, Lanes16>(input, output);
+        loops::decode_digits_in_steps::<32, Lanes32, Lanes16>(input, output);
     }
 }
 
-impl Vectors<32> for Lanes32 {
+impl LaneOps<32> for Lanes32 {
     #[inline(always)]
-    fn digits_of(v: u8x32, upper: bool, copy: bool) -> [u8x32; 2]
+    fn digits_of(v: u8x32, upper: bool, row_copy: bool) -> [u8x32; 2]
         ensures text { concat result ≡ hex_text upper v }
         ensures lanes { map length result ≡ 32 ∷ 32 ∷ [] }
     {
-        let first = lanes16::encode_lanes(v.extract::<0, 16>(), upper, copy);
-        let second = lanes16::encode_lanes(v.extract::<16, 16>(), upper, copy);
+        let first = lanes16::encode_lanes(v.extract::<0, 16>(), upper, row_copy);
+        let second = lanes16::encode_lanes(v.extract::<16, 16>(), upper, row_copy);
         [first, second]
     }
 
@@ -161,10 +166,10 @@ impl Vectors<32> for Lanes32 {
     }
 
     #[inline(always)]
-    fn merge(first: u8x32, second: u8x32, copy: bool) -> u8x32
+    fn merge(first: u8x32, second: u8x32, row_copy: bool) -> u8x32
         ensures { AllNibbles (first ++ second) → result ≡ byte_pairs (first ++ second) }
     {
-        pack(join(first, second), copy)
+        pack(join(first, second), row_copy)
     }
 
     ghost use Rattle.std.proofs.Common.{arith};
@@ -217,11 +222,11 @@ fn join(first: u8x32, second: u8x32) -> u8x64
 // by 4097 = 0x1001, its upper byte is 16 * high + low: 0x040B becomes 0xB40B. The shift leaves
 // 0xB4.
 #[inline(always)]
-fn pack(nibbles: u8x64, copy: bool) -> u8x32
+fn pack(nibbles: u8x64, row_copy: bool) -> u8x32
     ensures { AllNibbles nibbles → result ≡ byte_pairs nibbles }
 {
     let pairs = u16x32::from_le_bytes(nibbles);
-    let half = lanes16::in_both_halves(lanes16::select_row(false, copy)[1]);
+    let half = lanes16::in_both_halves(lanes16::select_row(false, row_copy)[1]);
     let factors = u16x32::from_le_bytes(join(half, half));
     ((pairs * factors) >> u16x32::splat(8)).cast()
 }

@@ -8,7 +8,7 @@ ghost use Rattle.const_hex_arch.specs.Texts.{IsDigit, hex_text, AllDigits, Spell
 ghost use Rattle.const_hex_arch.specs.Lanes.{AllUnmarked};
 ghost use Rattle.const_hex_arch.specs.Outputs.{HasRoom};
 
-use crate::arch::lanes::{self, Vectors};
+use crate::arch::lanes::{self, LaneOps};
 use crate::output::Output;
 use std::simd::prelude::*;
 
@@ -16,7 +16,7 @@ use std::simd::prelude::*;
 /// `H` share a vector.
 #[inline(always)]
 #[tactic(auto, using(crate::proofs::lemmas::Ends::ends_text))]
-pub(crate) fn encode_ends<const H: usize, const N: usize, V: Vectors<N>, O: Output>(
+pub(crate) fn encode_ends<const H: usize, const N: usize, V: LaneOps<N>, O: Output>(
     bytes: &[u8],
     upper: bool,
     output: &mut O,
@@ -33,27 +33,27 @@ pub(crate) fn encode_ends<const H: usize, const N: usize, V: Vectors<N>, O: Outp
 
 /// Writes two digits for each byte of a step, as one piece.
 #[inline(always)]
-pub(crate) fn encode_step<const N: usize, V: Vectors<N>, O: Output>(
+pub(crate) fn encode_step<const N: usize, V: LaneOps<N>, O: Output>(
     bytes: &[u8],
     upper: bool,
-    copy: bool,
+    row_copy: bool,
     output: &mut O,
 )
     requires size { length bytes.now ≡ N }
     requires room { HasRoom (O.room output.old) (2 * N) }
     ensures { O.step output.old (hex_text upper bytes.now) output.new }
 {
-    output.write(&encode_to_array::<N, V>(bytes, upper, copy)[..2 * N]);
+    output.write(&encode_to_array::<N, V>(bytes, upper, row_copy)[..2 * N]);
 }
 
 /// An array that begins with the text of a step.
 #[inline(always)]
-fn encode_to_array<const N: usize, V: Vectors<N>>(bytes: &[u8], upper: bool, copy: bool) -> [u8; 64]
+fn encode_to_array<const N: usize, V: LaneOps<N>>(bytes: &[u8], upper: bool, row_copy: bool) -> [u8; 64]
     requires { length bytes.now ≡ N }
     ensures text { take (2 * N) result ≡ hex_text upper bytes.now }
     ensures ascii { IsAscii (take (2 * N) result) }
 {
-    let digits = V::digits_of(Simd::from_slice(bytes), upper, copy);
+    let digits = V::digits_of(Simd::from_slice(bytes), upper, row_copy);
     let mut text = [0; 64];
     let lanes = &mut text[..];
     digits[0].copy_to_slice(lanes);
@@ -81,7 +81,7 @@ pub(crate) fn load_ends<const H: usize, const N: usize>(bytes: &[u8], fill: u8) 
 /// Whether every byte of a step is a digit.
 #[inline(always)]
 #[tactic(auto, using(std::proofs::lemmas::List::take_all))]
-pub(crate) fn check_step<const N: usize, V: Vectors<N>>(text: &[u8]) -> bool
+pub(crate) fn check_step<const N: usize, V: LaneOps<N>>(text: &[u8]) -> bool
     requires { length text.now ≡ N }
     ensures { IsTrue result ↔ AllDigits text.now }
 {
@@ -91,7 +91,7 @@ pub(crate) fn check_step<const N: usize, V: Vectors<N>>(text: &[u8]) -> bool
 /// As `check_step`, for two steps that need not follow one another, by one test.
 #[inline(always)]
 #[tactic(auto, using(crate::proofs::lemmas::LaneMarks::through, std::proofs::lemmas::List::take_all))]
-pub(crate) fn check_pair<const N: usize, V: Vectors<N>>(first: &[u8], second: &[u8]) -> bool
+pub(crate) fn check_pair<const N: usize, V: LaneOps<N>>(first: &[u8], second: &[u8]) -> bool
     requires first { length first.now ≡ N }
     requires second { length second.now ≡ N }
     ensures { IsTrue result ↔ AllDigits (first.now ++ second.now) }
@@ -103,7 +103,7 @@ pub(crate) fn check_pair<const N: usize, V: Vectors<N>>(first: &[u8], second: &[
 /// As `check_step`, for the text of two steps, by one test.
 #[inline(always)]
 #[tactic(auto, using(crate::proofs::lemmas::LaneMarks::through))]
-pub(crate) fn check_two_steps<const N: usize, V: Vectors<N>>(text: &[u8]) -> bool
+pub(crate) fn check_two_steps<const N: usize, V: LaneOps<N>>(text: &[u8]) -> bool
     requires { length text.now ≡ 2 * N }
     ensures { IsTrue result ↔ AllDigits text.now }
 {
@@ -112,7 +112,7 @@ pub(crate) fn check_two_steps<const N: usize, V: Vectors<N>>(text: &[u8]) -> boo
 
 /// As `check_step`, for the text of four steps, by one test.
 #[inline(always)]
-pub(crate) fn check_four_steps<const N: usize, V: Vectors<N>>(text: &[u8]) -> bool
+pub(crate) fn check_four_steps<const N: usize, V: LaneOps<N>>(text: &[u8]) -> bool
     requires { length text.now ≡ 4 * N }
     ensures { IsTrue result ↔ AllDigits text.now }
 {
@@ -123,7 +123,7 @@ pub(crate) fn check_four_steps<const N: usize, V: Vectors<N>>(text: &[u8]) -> bo
 /// Joined marks of the text of two steps. They are clear if and only if each byte is a digit.
 #[inline(always)]
 #[tactic(auto, using(crate::proofs::lemmas::LaneBytes::in_two))]
-fn marks_of_two_steps<const N: usize, V: Vectors<N>>(text: &[u8]) -> Simd<u8, N>
+fn marks_of_two_steps<const N: usize, V: LaneOps<N>>(text: &[u8]) -> Simd<u8, N>
     requires { length text.now ≡ 2 * N }
     ensures { AllUnmarked result ↔ AllDigits text.now }
 {
@@ -134,10 +134,10 @@ fn marks_of_two_steps<const N: usize, V: Vectors<N>>(text: &[u8]) -> Simd<u8, N>
 /// returns false, and the output is unchanged.
 #[inline(always)]
 #[tactic(auto, using(std::proofs::lemmas::Simd::put_chunk_whole))]
-pub(crate) fn decode_step<const N: usize, V: Vectors<N>>(
+pub(crate) fn decode_step<const N: usize, V: LaneOps<N>>(
     text: &[u8],
     output: &mut [u8],
-    copy: bool,
+    row_copy: bool,
 ) -> bool
     requires text { length text.now ≡ 2 * N }
     requires output { length output.old ≡ N }
@@ -147,7 +147,7 @@ pub(crate) fn decode_step<const N: usize, V: Vectors<N>>(
 {
     let are_digits = check_two_steps::<N, V>(text);
     if are_digits {
-        decode_vector::<N, V>(text, copy).copy_to_slice(output);
+        decode_vector::<N, V>(text, row_copy).copy_to_slice(output);
     }
     are_digits
 }
@@ -155,10 +155,10 @@ pub(crate) fn decode_step<const N: usize, V: Vectors<N>>(
 /// As `decode_step`, for the text of two steps, by one test.
 #[inline(always)]
 #[tactic(auto, using(crate::proofs::lemmas::Spelling::spelled, crate::proofs::lemmas::Steps::parts, std::proofs::lemmas::Simd::put_chunk_whole))]
-pub(crate) fn decode_two_steps<const N: usize, V: Vectors<N>>(
+pub(crate) fn decode_two_steps<const N: usize, V: LaneOps<N>>(
     text: &[u8],
     output: &mut [u8],
-    copy: bool,
+    row_copy: bool,
 ) -> bool
     requires text { length text.now ≡ 4 * N }
     requires output { length output.old ≡ 2 * N }
@@ -169,8 +169,8 @@ pub(crate) fn decode_two_steps<const N: usize, V: Vectors<N>>(
     let are_digits = check_four_steps::<N, V>(text);
     if are_digits {
         let (text, next) = text.split_at(2 * N);
-        let first = decode_vector::<N, V>(text, copy);
-        let second = decode_vector::<N, V>(next, copy);
+        let first = decode_vector::<N, V>(text, row_copy);
+        let second = decode_vector::<N, V>(next, row_copy);
         let (front, back) = output.split_at_mut(N);
         first.copy_to_slice(front);
         second.copy_to_slice(back);
@@ -182,21 +182,21 @@ pub(crate) fn decode_two_steps<const N: usize, V: Vectors<N>>(
 // The test has already computed these values for the marks. The compiler merges both computations.
 #[inline(always)]
 #[tactic(auto, using(crate::proofs::lemmas::LaneBytes::in_two))]
-fn decode_vector<const N: usize, V: Vectors<N>>(text: &[u8], copy: bool) -> Simd<u8, N>
+fn decode_vector<const N: usize, V: LaneOps<N>>(text: &[u8], row_copy: bool) -> Simd<u8, N>
     requires text { length text.now ≡ 2 * N }
     requires digits { AllDigits text.now }
     ensures { Spells text.now result }
 {
-    lanes::decode::<N, V>(Simd::from_slice(text), Simd::from_slice(&text[N..]), copy)
+    lanes::decode::<N, V>(Simd::from_slice(text), Simd::from_slice(&text[N..]), row_copy)
 }
 
 /// Decodes the digits of a step into the output.
 #[inline(always)]
 #[tactic(auto, using(crate::proofs::lemmas::LaneBytes::in_two, std::proofs::lemmas::Simd::put_chunk_whole))]
-pub(crate) fn decode_digits_step<const N: usize, V: Vectors<N>>(
+pub(crate) fn decode_digits_step<const N: usize, V: LaneOps<N>>(
     text: &[u8],
     output: &mut [u8],
-    copy: bool,
+    row_copy: bool,
 )
     requires text { length text.now ≡ 2 * N }
     requires output { length output.old ≡ N }
@@ -204,5 +204,5 @@ pub(crate) fn decode_digits_step<const N: usize, V: Vectors<N>>(
     ensures { Spells text.now output.new }
 {
     let first = Simd::from_slice(text);
-    lanes::decode_digits::<N, V>(first, Simd::from_slice(&text[N..]), copy).copy_to_slice(output);
+    lanes::decode_digits::<N, V>(first, Simd::from_slice(&text[N..]), row_copy).copy_to_slice(output);
 }

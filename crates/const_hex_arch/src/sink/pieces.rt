@@ -115,7 +115,7 @@ impl Sink for PieceSink {
 
     ghost is_refused = { λ s. s.refused };
 
-    ghost told = { λ s. Some s.pieces };
+    ghost reported = { λ s. Some s.pieces };
 
     fn refused(&self) -> bool {
         self.refused
@@ -129,7 +129,7 @@ impl Sink for PieceSink {
         Ok(())
     }
 
-    ghost use Rattle.const_hex_arch.specs.Laws.{PieceStep-tells};
+    ghost use Rattle.const_hex_arch.specs.Laws.{PieceStep-reports};
 
-    ghost tells = { PieceStep-tells };
+    ghost reports = { PieceStep-reports };
 }

@@ -1,12 +1,12 @@
 -- What an error leaves of a key.
 use Rattle.std.proofs.Common.{◌≡◌, ℕ, ◌*◌, List, drop, take}
-use Rattle.const_hex.specs.Results.{Leaves, body_of}
+use Rattle.const_hex.specs.Results.{LeavesOutput, body_of}
 use Rattle.const_hex.specs.Texts.{Spells}
 use Rattle.const_hex.specs.declared.error.FromHexError.{FromHexError}
 use Rattle.const_hex.specs.declared.error.FromHexError.TheVariants.{OddLength, InvalidStringLength, InvalidHexCharacter, NoMemory}
 
 -- it is unchanged after a decoded front
-pub kept_behind_a_front : (t old new : List ℕ) (e : FromHexError) → Leaves t old new e
+pub kept_behind_a_front : (t old new : List ℕ) (e : FromHexError) → LeavesOutput t old new e
     → (n : ℕ) × (drop n new ≡ drop n old) × Spells (take (2 * n) (body_of t)) (take n new)
 kept_behind_a_front t old new OddLength h = (0, h, tt)
 kept_behind_a_front t old new InvalidStringLength h = (0, h, tt)

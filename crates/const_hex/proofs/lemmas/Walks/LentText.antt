@@ -23,7 +23,7 @@ pub record Input : Type 2 where
   pub silent : (κs : Lfts 5) (x : (slot.row κs).Denot) (f : Last ((slot.row κs).exit yes) x) → left ((slot.row κs).exit yes) x f ≡ ftrue
   pub last : (κs : Lfts 5) (x : (slot.row κs).Denot) → Last ((slot.row κs).exit yes) x
   pub val : (κs : Lfts 5) → (slot.row κs).Denot → Val
-  pub tells : (κs : Lfts 5) → Tells (slot.row κs) (Is (slot.row κs)) (λ x. val κs x ∷ [])
+  pub reports : (κs : Lfts 5) → Tells (slot.row κs) (Is (slot.row κs)) (λ x. val κs x ∷ [])
   pub ty : Ty
   pub typed : (κs : Lfts 5) (x : (slot.row κs).Denot) → Is (slot.row κs) x (val κs x ∷ []) → T (has_ty ty (val κs x)) × WT (val κs x)
   pub bytes : (κs : Lfts 5) → (slot.row κs).Denot → List ℕ
@@ -52,7 +52,7 @@ module _ (n p len : ℕ) where
     silent = λ κs x w. refl;
     last = λ κs x. tt;
     val = λ κs x. vptr x.ref_ptr.0 x.ref_ptr.1;
-    tells = λ κs. shr_Tells (named 1) κs.1.0 A;
+    reports = λ κs. shr_Tells (named 1) κs.1.0 A;
     ty = ty_ref (named 1) imm (pointee A.written);
     typed = λ κs x is. (tt, tt);
     bytes = λ κs x. x.now;
@@ -66,7 +66,7 @@ module _ (n p len : ℕ) where
     silent = λ κs x w. refl;
     last = λ κs x. tt;
     val = λ κs x. slice_val x.ref_ptr (length x.now);
-    tells = λ κs. shr_slice_Tells (named 1) κs.1.0 u8;
+    reports = λ κs. shr_slice_Tells (named 1) κs.1.0 u8;
     ty = text_ty (named 1);
     typed = λ κs x is. (tt, (tt, (record { fits = is.0.1.0 }, tt)));
     bytes = λ κs x. x.now;
@@ -161,7 +161,7 @@ module _ (n p len : ℕ) (I : Input) where
         let hs : Stays Texts.signature.params Texts.kept = (stay_dropped _ no, (stay_dropped _ yes, tt)) in
         proved 𝓛 Texts hs c 𝓜 𝓡 (Goes-spent_ref 𝓛 5 (0 ∷ []) tt (plain (λ κs. B)), (Goes-dropped 𝓛 5 I.slot yes I.silent, tt))
         self fn unfolded
-        (λ κs. (mut_vals, ((λ x. I.val κs x ∷ []), tt))) (λ κs. (mut_Tells (named 0) κs.0 B, (I.tells κs, tt)))
+        (λ κs. (mut_vals, ((λ x. I.val κs x ∷ []), tt))) (λ κs. (mut_Tells (named 0) κs.0 B, (I.reports κs, tt)))
         (λ κs qs bounds a ghost are.
         let κ = κs.0 in let q = qs.0 in
         let numbers = ‵ (flft κs.1.1.0 qs.1.1.0) ⊛ ‵ (flft κs.1.1.1.0 qs.1.1.1.0) ⊛ ‵ (flft κs.1.1.1.1.0 qs.1.1.1.1.0) ⊛ ‵ ftrue in

@@ -7,5 +7,5 @@ returns-clause-short g c = search rules
 pub returns-clause-flag : goal.returns-clause-flag
 returns-clause-flag g c = search rules
 
-pub returns-clause-told : goal.returns-clause-told
-returns-clause-told g c = search rules
+pub returns-clause-reported : goal.returns-clause-reported
+returns-clause-reported g c = search rules

@@ -8,7 +8,7 @@ pub returns : goal.returns
 returns g c =
     let n = g.row.N in
     let bytes = c.args.bytes.now in
-    let sizes = g.met.V.Vectors.sizes in
+    let sizes = g.met.V.LaneOps.sizes in
     let digits = c.digits_of-digits.ensures in
     let whole : take n bytes ≡ bytes = take_all n bytes (omega arith) in
     let text = stored_pair n c.digits_of-digits.result (replicate 64 0) digits.lanes (omega arith) ∙ rw whole at digits.text in

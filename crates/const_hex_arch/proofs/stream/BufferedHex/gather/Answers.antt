@@ -1,7 +1,7 @@
 use Rattle.std.proofs.Common.{rules, ap, ◌∙◌}
 use Rattle.std.specs.Prelude.{None}
 use Rattle.const_hex_arch.specs.Sinks.{output_sink, sink_name}
-use Rattle.const_hex_arch.proofs.lemmas.Streams.{Streams-from_writes, Streams-at, Handed-of}
+use Rattle.const_hex_arch.proofs.lemmas.Streams.{Streams-from_writes, Streams-at, StreamsWhole-of}
 use Rattle.const_hex_arch.proofs.stream.BufferedHex.gather.Goals as goal
 
 pub returns : goal.returns
@@ -15,4 +15,4 @@ returns g c =
     let name = r.0 ∙ ap (λ o. sink_name o) inner in
     let streams = rw start at r.1 in
     let ended = Streams-at step is_refused _ _ _ streams in
-    Handed-of step is_refused g.S.Sink.told g.met.S.Sink.tells _ _ _ _ (search (rules, ended)) (search rules)
+    StreamsWhole-of step is_refused g.S.Sink.reported g.met.S.Sink.reports _ _ _ _ (search (rules, ended)) (search rules)

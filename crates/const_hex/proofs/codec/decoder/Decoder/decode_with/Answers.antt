@@ -57,10 +57,10 @@ returns g c = record {
       let n = c.count_pairs-count.result in
       let room : length (take n c.args.output.now) ≡ n = length-take-le n c.args.output.now (omega arith) in
       let size : length c.decode_next.new.output ≡ n = c.decode_next.auto.output ∙ room in
-      let told = c.if-not-decode_next.ensures in
+      let reported = c.if-not-decode_next.ensures in
       rw (take_at c.decode_next.new.output (drop n c.args.output.now) n size)
       (goes_on _ t bs c.args.chunk.now (listed next.result.0) next.result.1.now r whole c.advance.new.self c.decode_next.new.output n
-      (next.ensures.waits r.waits) (told.digits refl) (rw room at (told.spells refl))
+      (next.ensures.waits r.waits) (reported.digits refl) (rw room at (reported.spells refl))
       c.advance.ensures.no_error c.advance.ensures.index (c.advance.ensures.waiting ∙ c.left_over.ensures));
   answer = λ t bs r.
       let next = c.next_digits-waiting in

@@ -1,0 +1,84 @@
+use Rattle.std.proofs.Common.{◌≡◌, ◌+◌, ◌-◌, ◌*◌, ◌≤◌, length, refl, arith}
+use Rattle.std.proofs.lemmas.List.{take_all}
+use borrow.Rule.Slice.PartMut.{put_mid}
+use Rattle.const_hex_arch.proofs.lemmas.Spelling.{false_is_true, none_decoded}
+use Rattle.const_hex_arch.proofs.lemmas.Steps.{IsDecoded, decoded_step, decoded_less, kept_step, refused_step, spells_rest, refused_rest}
+use Rattle.const_hex_arch.proofs.arch.loops.decode_in_steps.Given.{Over}
+use Rattle.const_hex_arch.proofs.arch.loops.decode_in_steps.Goals as goal
+use Rattle.const_hex_arch.proofs.arch.loops.decode_in_steps.Goals.{Joined-output-at-ge16, else-loop-output-test, then-loop-output-test+then-not-decode_two_steps, then-output-at-ge16+else-not-decode_step-2, else-output-at-ge16}
+
+pub loop-output-preserved : goal.loop-output-preserved
+loop-output-preserved g c =
+    decoded_step _ _ _ c.loop-output.invariant (omega arith) (omega arith) (omega arith) (omega arith) (c.if-not-decode_two_steps.ensures.spells refl)
+
+pub loop-output-2-init : goal.loop-output-2-init
+loop-output-2-init g c = elim c.loop-output-test.branch [
+  | else-loop-output-test w ↦ rw w.output-is c.loop-output.invariant
+  | then-loop-output-test+then-not-decode_two_steps w ↦
+      rw (w.output-is, kept_step c.loop-output.output _ c.loop-output.at _ (w.if-not-decode_two_steps.ensures.unchanged refl)) c.loop-output.invariant
+]
+
+pub loop-output-2-preserved : goal.loop-output-2-preserved
+loop-output-2-preserved g c =
+    decoded_step _ _ _ c.loop-output-2.invariant (omega arith) (omega arith) (omega arith) (omega arith) (c.if-not-decode_step.ensures.spells refl)
+
+pub returns-then-not-decode_step-clause-refused : goal.returns-then-not-decode_step-clause-refused
+returns-then-not-decode_step-clause-refused g c = λ _.
+    let is = c.if-not-decode_step.ensures in
+    refused_step _ _ _ _ c.loop-output-2.invariant c.requires (is.unchanged refl) (λ d. false_is_true (is.digits.1 d))
+
+pub returns-then-not-decode_step-2-clause-refused : goal.returns-then-not-decode_step-2-clause-refused
+returns-then-not-decode_step-2-clause-refused g c = λ _.
+    let is = c.if-not-decode_step-2.ensures in
+    refused_step _ _ _ _ c.loop-output-2.invariant c.requires (is.unchanged refl) (λ d. false_is_true (is.digits.1 d))
+
+-- before the remainder
+decoded : (g : Over) (c : Joined-output-at-ge16 g) → (length c.if-output-at-ge16.output ≤ c.if-output-at-ge16.at + 16)
+    × IsDecoded c.args.input.now c.args.output.now c.if-output-at-ge16.output c.if-output-at-ge16.at
+decoded g c =
+    let sizes = g.met.V.LaneOps.sizes in
+    elim c.if-output-at-ge16.branch [
+      | then-output-at-ge16+else-not-decode_step-2 w ↦ (
+        omega arith,
+        rw (w.output-is, w.at-is)
+            (decoded_step _ _ _ c.loop-output-2.invariant (omega arith) (omega arith) (omega arith) (omega arith) (w.if-not-decode_step-2.ensures.spells refl)),
+      )
+      | else-output-at-ge16 w ↦ (omega arith, rw (w.output-is, w.at-is) c.loop-output-2.invariant)
+    ]
+
+pub returns-then-at-output-clause-spells : goal.returns-then-at-output-clause-spells
+returns-then-at-output-clause-spells g c = λ _.
+    let at = c.if-output-at-ge16.at in
+    let before = decoded g (goal.at.returns-then-at-output-clause-spells g c).Joined-output-at-ge16 in
+    rw (take_all (2 * at) c.args.input.now (omega arith), take_all at c.if-output-at-ge16.output (omega arith)) at before.1.front
+
+pub returns-then-decode_step-clause-spells : goal.returns-then-decode_step-clause-spells
+returns-then-decode_step-clause-spells g c = λ _.
+    let before = decoded g (goal.at.returns-then-decode_step-clause-spells g c).Joined-output-at-ge16 in
+    let start = length c.if-output-at-ge16.output - 16 in
+    spells_rest _ (decoded_less start before.1 (omega arith)) (omega arith) (omega arith) (c.if-decode_step.ensures.spells refl)
+
+
+pub returns-else-this-ne0-clause-refused : goal.returns-else-this-ne0-clause-refused
+returns-else-this-ne0-clause-refused g c = λ _.
+    let is = c.if-decode_small.ensures in
+    rw (is.unchanged refl) (none_decoded _ _ (λ d. false_is_true (is.digits.1 d)))
+
+pub returns-else-this-ne0-2-clause-refused : goal.returns-else-this-ne0-2-clause-refused
+returns-else-this-ne0-2-clause-refused g c = λ _.
+    let before = decoded g (goal.at.returns-else-this-ne0-2-clause-refused g c).Joined-output-at-ge16 in
+    let is = c.if-decode_step.ensures in
+    refused_step _ _ _ _ before.1 c.requires (is.unchanged refl) (λ d. false_is_true (is.digits.1 d))
+
+pub returns-then-this-ne0-2 : goal.returns-then-this-ne0-2
+returns-then-this-ne0-2 g c =
+    let before = decoded g (goal.at.returns-then-this-ne0-2 g c).Joined-output-at-ge16 in
+    let new = c.if-output-at-ge16.output in
+    let start = length new - 16 in
+    let mid = put_mid start (length new - start) new c.decode_step-2.new.output in
+    let same : mid ≡ new = kept_step new _ _ _ (c.if-decode_step.ensures.unchanged refl) in
+    let kept : IsDecoded c.args.input.now c.args.output.now mid c.if-output-at-ge16.at = rw same before.1 in
+    let is = c.decode_pairs-then-this-ne0-2.ensures in record {
+      spells = λ t. spells_rest _ kept c.requires (omega arith) (is.spells t);
+      refused = λ f. refused_rest _ kept c.requires (omega arith) (is.refused f);
+    }
