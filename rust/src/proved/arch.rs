@@ -5,14 +5,14 @@ use crate::rattle::prelude::*;
 
 pub mod check_first;
 #[cfg(all(target_arch = "wasm32", target_feature = "simd128"))]
-mod drivers;
-#[cfg(all(target_arch = "wasm32", target_feature = "simd128"))]
 mod lanes;
 #[cfg(all(target_arch = "wasm32", target_feature = "simd128"))]
 pub mod lanes16;
+#[cfg(all(target_arch = "wasm32", target_feature = "simd128"))]
+mod loops;
 pub mod plain;
 #[cfg(all(target_arch = "wasm32", target_feature = "simd128"))]
-mod short;
+mod small_input;
 #[cfg(all(target_arch = "wasm32", target_feature = "simd128"))]
 mod steps;
 
@@ -52,6 +52,13 @@ pub trait Kernel {
     /// output, and the rest of the output is unchanged. If the kernel checks first, all of the
     /// output is unchanged. The input must have two bytes for each byte of the output.
     fn decode_checked(input: &[u8], output: &mut [u8]) -> bool;
+
+    /// As `decode_checked`, for a caller that has no use for the pairs before a byte that is not a
+    /// digit. A kernel may then decode fewer of them, and return false sooner.
+    #[inline(always)]
+    fn decode_all(input: &[u8], output: &mut [u8]) -> bool {
+        Self::decode_checked(input, output)
+    }
 
     /// Decodes a part of the input into the output and returns true. Returns false if some byte of
     /// this part is not a digit. The part begins after the first `start` pairs of the input, and

@@ -61,6 +61,14 @@ fn arch_decode_checked() {
 }
 
 #[test]
+fn arch_decode_all() {
+    let mut bytes = [0; 4];
+    assert!(FixedKernel::decode_all(b"6B697769", &mut bytes));
+    assert_eq!(bytes, *b"kiwi");
+    assert!(!FixedKernel::decode_all(b"6B69776g", &mut bytes));
+}
+
+#[test]
 fn arch_decode_part() {
     let mut bytes = [0; 2];
     assert!(FixedKernel::decode_part(b"6B697769", 1, &mut bytes));

@@ -45,7 +45,7 @@ pub use self::formatting::text::*;
 //  100  all crates are one module
 //    5  an allocation never fails: without memory the program ends
 //    1  an argument's copy takes no allocator
-//  112  an assertion names no runtime
+//  115  an assertion names no runtime
 //    3  an example names a kernel that each target has
 //    4  an example of hexfilter uses no allocator
 //    1  and a constant converts by a cast
@@ -55,8 +55,8 @@ pub use self::formatting::text::*;
 //   22  and panics instead of returning an error
 //    1  and the crate's decoder is cloned
 //    1  before it reads a chunk
-//   42  deleted: attribute
-//  259  deleted: contract
+//   43  deleted: attribute
+//  262  deleted: contract
 //  216  deleted: ghost item
 //    4  deleted: model
 //    1  each value may be dropped
@@ -64,7 +64,7 @@ pub use self::formatting::text::*;
 //   22  the allocator is a value
 //    1  the bytes of a slice are appended at once, and not one by one
 //    1  the kernel is chosen for the processor
-//   11  what a constant calls is constant
+//   12  what a constant calls is constant
 //   14  what allocates is there with the feature alloc
 //    3  what hexfilter uses of const_hex is a module of rattle
 //    5  what is for C is a module of const_hex

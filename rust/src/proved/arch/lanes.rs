@@ -10,9 +10,9 @@ use crate::rattle::simd::prelude::*;
 /// shuffle. Everything else in a kernel is written once, over this trait. The argument `copy` never
 /// changes a result: it selects one of two equal rows, as
 /// [`lanes16::select_row`](super::lanes16::select_row) explains.
-pub(crate) trait Vectors<const N: usize> {
+pub(crate) trait LaneOps<const N: usize> {
     /// Two digits for each lane, in order: the text of the first half, and the text of the second.
-    fn digits_of(v: Simd<u8, N>, upper: bool, copy: bool) -> [Simd<u8, N>; 2];
+    fn digits_of(v: Simd<u8, N>, upper: bool, row_copy: bool) -> [Simd<u8, N>; 2];
 
     /// The value of each lane that is a digit.
     fn values(v: Simd<u8, N>) -> Simd<u8, N>;
@@ -23,7 +23,7 @@ pub(crate) trait Vectors<const N: usize> {
     fn marks(v: Simd<u8, N>) -> Simd<u8, N>;
 
     /// One byte for each two values, the higher half first.
-    fn merge(first: Simd<u8, N>, second: Simd<u8, N>, copy: bool) -> Simd<u8, N>;
+    fn merge(first: Simd<u8, N>, second: Simd<u8, N>, row_copy: bool) -> Simd<u8, N>;
 }
 
 /// The value of each lane that is a digit, and more than 15 for every other lane.
@@ -60,7 +60,7 @@ pub(crate) fn values_within<const N: usize>(v: Simd<u8, N>, limits: Simd<u8, N>)
     (v - Simd::splat(0x30)).simd_min(limits)
 }
 
-/// The lane less 48, less its value: the marks of [`Vectors::marks`].
+/// The lane less 48, less its value: the marks of [`LaneOps::marks`].
 // `(v - 48).saturating_sub(limits)` is the same number. But then the limits of all vectors would
 // stay in registers beside the values until the marks are tested, and SSE has only 16 registers.
 #[inline(always)]
@@ -68,7 +68,7 @@ pub(crate) fn marks_beyond<const N: usize>(v: Simd<u8, N>, values: Simd<u8, N>) 
     v - Simd::splat(0x30) - values
 }
 
-/// The marks of [`Vectors::marks`], by what [`nibbles`] makes of each lane.
+/// The marks of [`LaneOps::marks`], by what [`nibbles`] makes of each lane.
 #[inline(always)]
 pub(crate) fn marks_of_nibbles<const N: usize>(v: Simd<u8, N>) -> Simd<u8, N> {
     let values = nibbles(v);
@@ -86,13 +86,13 @@ pub(crate) fn to_digits<const N: usize>(values: Simd<u8, N>, upper: bool) -> Sim
 
 /// Whether every lane is a digit.
 #[inline(always)]
-pub(crate) fn are_digits<const N: usize, V: Vectors<N>>(v: Simd<u8, N>) -> bool {
+pub(crate) fn are_digits<const N: usize, V: LaneOps<N>>(v: Simd<u8, N>) -> bool {
     are_unmarked(V::marks(v))
 }
 
 /// The marks of two vectors, joined.
 #[inline(always)]
-pub(crate) fn joint_marks<const N: usize, V: Vectors<N>>(
+pub(crate) fn joint_marks<const N: usize, V: LaneOps<N>>(
     first: Simd<u8, N>,
     second: Simd<u8, N>,
 ) -> Simd<u8, N> {
@@ -102,20 +102,20 @@ pub(crate) fn joint_marks<const N: usize, V: Vectors<N>>(
 /// Decodes two vectors of digits to one vector of bytes. If some lane is not a digit, the result is
 /// unspecified: test the marks before you use it.
 #[inline(always)]
-pub(crate) fn decode<const N: usize, V: Vectors<N>>(
+pub(crate) fn decode<const N: usize, V: LaneOps<N>>(
     first: Simd<u8, N>,
     second: Simd<u8, N>,
-    copy: bool,
+    row_copy: bool,
 ) -> Simd<u8, N> {
-    V::merge(V::values(first), V::values(second), copy)
+    V::merge(V::values(first), V::values(second), row_copy)
 }
 
 /// As [`decode`], by [`unhex`], for lanes that were tested before.
 #[inline(always)]
-pub(crate) fn decode_digits<const N: usize, V: Vectors<N>>(
+pub(crate) fn decode_digits<const N: usize, V: LaneOps<N>>(
     first: Simd<u8, N>,
     second: Simd<u8, N>,
-    copy: bool,
+    row_copy: bool,
 ) -> Simd<u8, N> {
-    V::merge(unhex(first), unhex(second), copy)
+    V::merge(unhex(first), unhex(second), row_copy)
 }

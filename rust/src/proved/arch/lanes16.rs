@@ -5,8 +5,8 @@
 //! [`decode_chunk`], [`nibbles`] and [`unhex`].
 
 use crate::rattle::prelude::*;
-use crate::proved::arch::lanes::{self, Vectors};
-use crate::proved::arch::{Kernel, drivers, short};
+use crate::proved::arch::lanes::{self, LaneOps};
+use crate::proved::arch::{Kernel, loops, small_input};
 use crate::proved::output::Output;
 use crate::rattle::simd::prelude::*;
 
@@ -43,15 +43,15 @@ type Row = [[u8; 16]; 2];
 /// The row of a case, from the first copy or the second. Both are equal, so no result depends on
 /// `copy`. The comment at [`ROWS`] says why there are two.
 #[inline(always)]
-pub(crate) fn select_row(upper: bool, copy: bool) -> &'static Row {
-    let cases = &ROWS[if copy { 1 } else { 0 }];
+pub(crate) fn select_row(upper: bool, row_copy: bool) -> &'static Row {
+    let cases = &ROWS[if row_copy { 1 } else { 0 }];
     &cases[if upper { 1 } else { 0 }]
 }
 
 /// The copy for a loop over so many bytes. Any bit that is known only at run time would do.
 // Bit 6 is the offset of the second copy, since the rows of a copy have 64 bytes.
 #[inline(always)]
-pub(crate) fn copy_for(length: usize) -> bool {
+pub(crate) fn row_copy_for(length: usize) -> bool {
     length / 64 % 2 == 1
 }
 
@@ -106,7 +106,7 @@ impl Kernel for Lanes16 {
 
     #[inline(always)]
     fn encode<O: Output>(input: &[u8], upper: bool, output: &mut O) {
-        drivers::encode_in_steps::<8, 16, Lanes16, Lanes16, O>(input, upper, output);
+        loops::encode_in_steps::<8, 16, Lanes16, Lanes16, O>(input, upper, output);
     }
 
     // Not `always`: `decode_body` calls `CheckFirst::<K>` in a branch that is never taken for this
@@ -114,26 +114,26 @@ impl Kernel for Lanes16 {
     #[inline]
     fn check(input: &[u8]) -> bool {
         if input.len() < 16 {
-            return short::check::<Lanes16>(input);
+            return small_input::check::<Lanes16>(input);
         }
-        drivers::check_in_steps::<16, Lanes16>(input)
+        loops::check_in_steps::<16, Lanes16>(input)
     }
 
     #[inline(always)]
     fn decode_checked(input: &[u8], output: &mut [u8]) -> bool {
-        drivers::decode_in_steps::<16, Lanes16, Lanes16>(input, output)
+        loops::decode_in_steps::<16, true, Lanes16, Lanes16>(input, output)
     }
 
     #[inline(always)]
     fn decode_unchecked(input: &[u8], output: &mut [u8]) {
-        drivers::decode_digits_in_steps::<16, Lanes16, Lanes16>(input, output);
+        loops::decode_digits_in_steps::<16, Lanes16, Lanes16>(input, output);
     }
 }
 
-impl Vectors<16> for Lanes16 {
+impl LaneOps<16> for Lanes16 {
     #[inline(always)]
-    fn digits_of(v: u8x16, upper: bool, copy: bool) -> [u8x16; 2] {
-        in_two(encode_lanes(v, upper, copy))
+    fn digits_of(v: u8x16, upper: bool, row_copy: bool) -> [u8x16; 2] {
+        in_two(encode_lanes(v, upper, row_copy))
     }
 
     #[inline(always)]
@@ -148,8 +148,8 @@ impl Vectors<16> for Lanes16 {
     }
 
     #[inline(always)]
-    fn merge(first: u8x16, second: u8x16, copy: bool) -> u8x16 {
-        pack(join(first, second), copy)
+    fn merge(first: u8x16, second: u8x16, row_copy: bool) -> u8x16 {
+        pack(join(first, second), row_copy)
     }
 }
 
@@ -171,8 +171,8 @@ pub(crate) fn in_two(v: u8x32) -> [u8x16; 2] {
 
 /// Two digits for each lane, in order.
 #[inline(always)]
-pub(crate) fn encode_lanes(v: u8x16, upper: bool, copy: bool) -> u8x32 {
-    let [digits, factors] = *select_row(upper, copy);
+pub(crate) fn encode_lanes(v: u8x16, upper: bool, row_copy: bool) -> u8x32 {
+    let [digits, factors] = *select_row(upper, row_copy);
     in_both_halves(digits).swizzle_dyn_within::<16>(split_lanes(v, factors))
 }
 
@@ -213,8 +213,8 @@ pub(crate) fn join(first: u8x16, second: u8x16) -> u8x32 {
 // by 4097 = 0x1001, its upper byte is 16 * high + low: 0x040B becomes 0xB40B. The shift leaves
 // 0xB4.
 #[inline(always)]
-fn pack(nibbles: u8x32, copy: bool) -> u8x16 {
+fn pack(nibbles: u8x32, row_copy: bool) -> u8x16 {
     let pairs = u16x16::from_le_bytes(nibbles);
-    let factors = u16x16::from_le_bytes(in_both_halves(select_row(false, copy)[1]));
+    let factors = u16x16::from_le_bytes(in_both_halves(select_row(false, row_copy)[1]));
     ((pairs * factors) >> u16x16::splat(8)).cast()
 }

@@ -4,14 +4,14 @@
 //! `V` has the `N` lanes of a step.
 
 use crate::rattle::prelude::*;
-use crate::proved::arch::lanes::{self, Vectors};
+use crate::proved::arch::lanes::{self, LaneOps};
 use crate::proved::output::Output;
 use crate::rattle::simd::prelude::*;
 
 /// Writes two digits for each of `H` to `2 * H` bytes, as one piece. The first `H` bytes and the last
 /// `H` share a vector.
 #[inline(always)]
-pub(crate) fn encode_ends<const H: usize, const N: usize, V: Vectors<N>, O: Output>(
+pub(crate) fn encode_ends<const H: usize, const N: usize, V: LaneOps<N>, O: Output>(
     bytes: &[u8],
     upper: bool,
     output: &mut O,
@@ -22,19 +22,19 @@ pub(crate) fn encode_ends<const H: usize, const N: usize, V: Vectors<N>, O: Outp
 
 /// Writes two digits for each byte of a step, as one piece.
 #[inline(always)]
-pub(crate) fn encode_step<const N: usize, V: Vectors<N>, O: Output>(
+pub(crate) fn encode_step<const N: usize, V: LaneOps<N>, O: Output>(
     bytes: &[u8],
     upper: bool,
-    copy: bool,
+    row_copy: bool,
     output: &mut O,
 ) {
-    output.write(&encode_to_array::<N, V>(bytes, upper, copy)[..2 * N]);
+    output.write(&encode_to_array::<N, V>(bytes, upper, row_copy)[..2 * N]);
 }
 
 /// An array that begins with the text of a step.
 #[inline(always)]
-fn encode_to_array<const N: usize, V: Vectors<N>>(bytes: &[u8], upper: bool, copy: bool) -> [u8; 64] {
-    let digits = V::digits_of(Simd::from_slice(bytes), upper, copy);
+fn encode_to_array<const N: usize, V: LaneOps<N>>(bytes: &[u8], upper: bool, row_copy: bool) -> [u8; 64] {
+    let digits = V::digits_of(Simd::from_slice(bytes), upper, row_copy);
     let mut text = [0; 64];
     let lanes = &mut text[..];
     digits[0].copy_to_slice(lanes);
@@ -56,63 +56,63 @@ pub(crate) fn load_ends<const H: usize, const N: usize>(bytes: &[u8], fill: u8) 
 
 /// Whether every byte of a step is a digit.
 #[inline(always)]
-pub(crate) fn check_step<const N: usize, V: Vectors<N>>(text: &[u8]) -> bool {
+pub(crate) fn check_step<const N: usize, V: LaneOps<N>>(text: &[u8]) -> bool {
     lanes::are_digits::<N, V>(Simd::from_slice(text))
 }
 
 /// As `check_step`, for two steps that need not follow one another, by one test.
 #[inline(always)]
-pub(crate) fn check_pair<const N: usize, V: Vectors<N>>(first: &[u8], second: &[u8]) -> bool {
+pub(crate) fn check_pair<const N: usize, V: LaneOps<N>>(first: &[u8], second: &[u8]) -> bool {
     let marks = lanes::joint_marks::<N, V>(Simd::from_slice(first), Simd::from_slice(second));
     lanes::are_unmarked(marks)
 }
 
 /// As `check_step`, for the text of two steps, by one test.
 #[inline(always)]
-pub(crate) fn check_two_steps<const N: usize, V: Vectors<N>>(text: &[u8]) -> bool {
+pub(crate) fn check_two_steps<const N: usize, V: LaneOps<N>>(text: &[u8]) -> bool {
     lanes::are_unmarked(marks_of_two_steps::<N, V>(text))
 }
 
 /// As `check_step`, for the text of four steps, by one test.
 #[inline(always)]
-pub(crate) fn check_four_steps<const N: usize, V: Vectors<N>>(text: &[u8]) -> bool {
+pub(crate) fn check_four_steps<const N: usize, V: LaneOps<N>>(text: &[u8]) -> bool {
     let (front, back) = text.split_at(2 * N);
     lanes::are_unmarked(marks_of_two_steps::<N, V>(front) | marks_of_two_steps::<N, V>(back))
 }
 
 /// Joined marks of the text of two steps. They are clear if and only if each byte is a digit.
 #[inline(always)]
-fn marks_of_two_steps<const N: usize, V: Vectors<N>>(text: &[u8]) -> Simd<u8, N> {
+fn marks_of_two_steps<const N: usize, V: LaneOps<N>>(text: &[u8]) -> Simd<u8, N> {
     lanes::joint_marks::<N, V>(Simd::from_slice(text), Simd::from_slice(&text[N..]))
 }
 
 /// Decodes the text of a step into the output and returns true. If some byte is not a digit,
 /// returns false, and the output is unchanged.
 #[inline(always)]
-pub(crate) fn decode_step<const N: usize, V: Vectors<N>>(
+pub(crate) fn decode_step<const N: usize, V: LaneOps<N>>(
     text: &[u8],
     output: &mut [u8],
-    copy: bool,
+    row_copy: bool,
 ) -> bool {
     let are_digits = check_two_steps::<N, V>(text);
     if are_digits {
-        decode_vector::<N, V>(text, copy).copy_to_slice(output);
+        decode_vector::<N, V>(text, row_copy).copy_to_slice(output);
     }
     are_digits
 }
 
 /// As `decode_step`, for the text of two steps, by one test.
 #[inline(always)]
-pub(crate) fn decode_two_steps<const N: usize, V: Vectors<N>>(
+pub(crate) fn decode_two_steps<const N: usize, V: LaneOps<N>>(
     text: &[u8],
     output: &mut [u8],
-    copy: bool,
+    row_copy: bool,
 ) -> bool {
     let are_digits = check_four_steps::<N, V>(text);
     if are_digits {
         let (text, next) = text.split_at(2 * N);
-        let first = decode_vector::<N, V>(text, copy);
-        let second = decode_vector::<N, V>(next, copy);
+        let first = decode_vector::<N, V>(text, row_copy);
+        let second = decode_vector::<N, V>(next, row_copy);
         let (front, back) = output.split_at_mut(N);
         first.copy_to_slice(front);
         second.copy_to_slice(back);
@@ -123,17 +123,17 @@ pub(crate) fn decode_two_steps<const N: usize, V: Vectors<N>>(
 /// Decodes the digits of a step.
 // The test has already computed these values for the marks. The compiler merges both computations.
 #[inline(always)]
-fn decode_vector<const N: usize, V: Vectors<N>>(text: &[u8], copy: bool) -> Simd<u8, N> {
-    lanes::decode::<N, V>(Simd::from_slice(text), Simd::from_slice(&text[N..]), copy)
+fn decode_vector<const N: usize, V: LaneOps<N>>(text: &[u8], row_copy: bool) -> Simd<u8, N> {
+    lanes::decode::<N, V>(Simd::from_slice(text), Simd::from_slice(&text[N..]), row_copy)
 }
 
 /// Decodes the digits of a step into the output.
 #[inline(always)]
-pub(crate) fn decode_digits_step<const N: usize, V: Vectors<N>>(
+pub(crate) fn decode_digits_step<const N: usize, V: LaneOps<N>>(
     text: &[u8],
     output: &mut [u8],
-    copy: bool,
+    row_copy: bool,
 ) {
     let first = Simd::from_slice(text);
-    lanes::decode_digits::<N, V>(first, Simd::from_slice(&text[N..]), copy).copy_to_slice(output);
+    lanes::decode_digits::<N, V>(first, Simd::from_slice(&text[N..]), row_copy).copy_to_slice(output);
 }

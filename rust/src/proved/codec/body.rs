@@ -50,9 +50,9 @@ pub(crate) const fn find_invalid_character(text: &[u8]) -> FromHexError {
 /// the index after the last byte.
 // A caller that has already seen an invalid character may get the latter, if another process has
 // removed it from shared memory in between. Nothing is read out of bounds then.
-#[cold]
+#[inline(always)]
 pub(crate) const fn find_first_bad(digits: &[u8]) -> (u8, usize) {
-    let mut index = 0;
+    let mut index = skip_digits(digits);
     'digits: while index < digits.len() {
         let byte = digits[index];
         if value_at(byte) == NIL {
@@ -61,6 +61,21 @@ pub(crate) const fn find_first_bad(digits: &[u8]) -> (u8, usize) {
         index += 1;
     }
     (0, digits.len())
+}
+
+/// How many digits the text begins with, counted by fours, as long as all four are digits.
+// One test of four bytes takes half the instructions of four tests. NIL has bits that no value has.
+#[inline(always)]
+const fn skip_digits(text: &[u8]) -> usize {
+    let mut rest = text;
+    'fours: while let [first, second, third, fourth, after @ ..] = rest {
+        let joined = value_at(*first) | value_at(*second) | value_at(*third) | value_at(*fourth);
+        if joined >= 16 {
+            break;
+        }
+        rest = after;
+    }
+    text.len() - rest.len()
 }
 
 /// Decodes the body into the output and returns true. Returns false if some byte is not a digit.

@@ -25,33 +25,33 @@ pub(crate) fn decode_reserved<K: Kernel>(
     let output = ReservedOutput {
         bytes: Vec::with_capacity(alloc, count)?,
     };
-    Ok(decode::<K>(digits, output))
+    Ok(decode_vector::<K>(digits, output))
 }
 
 /// Decodes digits into the vector of an output that holds nothing yet.
 // The output is passed by value: behind a `&mut` the compiler would have to assume that each store
 // of bytes may change its pointer and length.
 #[inline(always)]
-fn decode<K: Kernel>(digits: &[u8], output: ReservedOutput) -> Option<Vec<u8>> {
+fn decode_vector<K: Kernel>(digits: &[u8], output: ReservedOutput) -> Option<Vec<u8>> {
     if digits.len() < 32 {
         return decode_few::<K>(digits, output);
     }
     // The rest stands in both branches: in the first the compiler knows that it has less than 16 bytes.
     let output = if digits.len() < 64 {
-        let output = put_part::<16, K>(digits, output)?;
-        put_rest::<K>(digits, output)?
+        let output = append_part::<16, K>(digits, output)?;
+        append_rest::<K>(digits, output)?
     } else {
-        let output = put_front::<K>(digits, output)?;
-        put_rest::<K>(digits, output)?
+        let output = append_front::<K>(digits, output)?;
+        append_rest::<K>(digits, output)?
     };
     let ReservedOutput { bytes } = output;
     Some(bytes)
 }
 
-/// As `decode`, for fewer than 16 bytes. They are decoded in place, over zeros.
+/// As `decode_vector`, for fewer than 16 bytes. They are decoded in place, over zeros.
 #[inline(always)]
 fn decode_few<K: Kernel>(digits: &[u8], output: ReservedOutput) -> Option<Vec<u8>> {
-    let ReservedOutput { bytes } = put_zeros(output, digits.len() / 2);
+    let ReservedOutput { bytes } = append_zeros(output, digits.len() / 2);
     let mut bytes = bytes;
     if !decode_body::<K>(digits, &mut bytes) {
         return None;
@@ -62,7 +62,7 @@ fn decode_few<K: Kernel>(digits: &[u8], output: ReservedOutput) -> Option<Vec<u8
 /// Puts fewer than 16 zeros.
 // Not by `resize`, which would be a call.
 #[inline(always)]
-fn put_zeros(output: ReservedOutput, count: usize) -> ReservedOutput {
+fn append_zeros(output: ReservedOutput, count: usize) -> ReservedOutput {
     let mut output = output;
     if count < 2 {
         output.put(&[0]);
@@ -78,46 +78,46 @@ fn put_zeros(output: ReservedOutput, count: usize) -> ReservedOutput {
 
 /// Puts at least half of the bytes: 32 bytes, or 64 at a time while so many are left.
 #[inline(always)]
-fn put_front<K: Kernel>(digits: &[u8], output: ReservedOutput) -> Option<ReservedOutput> {
+fn append_front<K: Kernel>(digits: &[u8], output: ReservedOutput) -> Option<ReservedOutput> {
     if digits.len() < 128 {
-        return put_part::<32, K>(digits, output);
+        return append_part::<32, K>(digits, output);
     }
     let mut output = output;
     while digits.len() / 2 - output.bytes.len() >= 64 {
-        output = put_part::<64, K>(digits, output)?;
+        output = append_part::<64, K>(digits, output)?;
     }
     Some(output)
 }
 
 /// Puts the rest, of fewer than 64 bytes, by decoding the last 16, 32 or 64 bytes.
 #[inline(always)]
-fn put_rest<K: Kernel>(digits: &[u8], output: ReservedOutput) -> Option<ReservedOutput> {
+fn append_rest<K: Kernel>(digits: &[u8], output: ReservedOutput) -> Option<ReservedOutput> {
     let left = digits.len() / 2 - output.bytes.len();
     if left == 0 {
         Some(output)
     } else if left <= 16 {
-        put_last::<16, K>(digits, output)
+        append_last::<16, K>(digits, output)
     } else if left <= 32 {
-        put_last::<32, K>(digits, output)
+        append_last::<32, K>(digits, output)
     } else {
-        put_last::<64, K>(digits, output)
+        append_last::<64, K>(digits, output)
     }
 }
 
 /// Puts the last `N` bytes, some of them again.
 #[inline(always)]
-fn put_last<const N: usize, K: Kernel>(
+fn append_last<const N: usize, K: Kernel>(
     digits: &[u8],
     output: ReservedOutput,
 ) -> Option<ReservedOutput> {
     let mut output = output;
     output.bytes.truncate(digits.len() / 2 - N);
-    put_part::<N, K>(digits, output)
+    append_part::<N, K>(digits, output)
 }
 
 /// Puts the next `N` bytes.
 #[inline(always)]
-fn put_part<const N: usize, K: Kernel>(
+fn append_part<const N: usize, K: Kernel>(
     digits: &[u8],
     output: ReservedOutput,
 ) -> Option<ReservedOutput> {

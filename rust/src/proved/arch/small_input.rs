@@ -1,15 +1,15 @@
-// Made by rust/erase from crates/const_hex_arch/src/arch/short.rt. Do not edit.
+// Made by rust/erase from crates/const_hex_arch/src/arch/small_input.rt. Do not edit.
 //! Checks and decodes a short text, by its first and its last digits at once.
 
 use crate::rattle::prelude::*;
-use crate::proved::arch::lanes::Vectors;
+use crate::proved::arch::lanes::LaneOps;
 use crate::proved::arch::plain::Plain;
 use crate::proved::arch::{Kernel, steps};
 use crate::rattle::simd::prelude::*;
 
 /// Whether every byte of a text of at most 16 bytes is a digit.
 #[inline(always)]
-pub(crate) fn check<W: Vectors<16>>(text: &[u8]) -> bool {
+pub(crate) fn check<W: LaneOps<16>>(text: &[u8]) -> bool {
     if text.len() >= 8 {
         check_ends::<8, W>(text)
     } else if text.len() >= 4 {
@@ -23,38 +23,38 @@ pub(crate) fn check<W: Vectors<16>>(text: &[u8]) -> bool {
 
 /// As `check`, for `H` to `2 * H` bytes.
 #[inline(always)]
-fn check_ends<const H: usize, W: Vectors<16>>(text: &[u8]) -> bool {
+fn check_ends<const H: usize, W: LaneOps<16>>(text: &[u8]) -> bool {
     steps::check_step::<16, W>(&steps::load_ends::<H, 16>(text, b'0'))
 }
 
-/// Decodes a text to at most 16 bytes and returns true. If some character is invalid, decodes the
-/// pairs before it and returns false. A valid text takes one vector operation on its first and last
-/// characters. Only if that finds an invalid character does [`Plain`] go through the pairs, with
-/// its table.
+/// Decodes a text to at most 16 bytes, by one vector operation on its first and last characters, and
+/// returns true. If some character is invalid, returns false, and the output is unchanged.
 // Not inlined: with this body the public decoders would be too large to be inlined.
 #[inline(never)]
-pub(crate) fn decode<W: Vectors<16>>(text: &[u8], output: &mut [u8]) -> bool {
-    let is_decoded = if output.len() >= 8 {
+pub(crate) fn decode_small<W: LaneOps<16>>(text: &[u8], output: &mut [u8]) -> bool {
+    if output.len() >= 8 {
         decode_ends::<8, 16, W>(text, output)
     } else if output.len() >= 4 {
         decode_ends::<4, 8, W>(text, output)
     } else if output.len() >= 2 {
         decode_ends::<2, 4, W>(text, output)
-    } else if output.len() == 1 {
-        decode_ends::<1, 2, W>(text, output)
     } else {
-        false
-    };
-    if is_decoded {
-        return true;
+        output.is_empty() || decode_ends::<1, 2, W>(text, output)
     }
+}
+
+/// Decodes a text in which some character is invalid pair by pair, up to that one, and returns false.
+// Not inlined: with this body the public decoders would be too large to be inlined.
+#[cold]
+#[inline(never)]
+pub(crate) fn decode_pairs(text: &[u8], output: &mut [u8]) -> bool {
     Plain::decode_checked(text, output)
 }
 
 /// Decodes a text to `H` to `2 * H` bytes and returns true. If some byte is not a digit, returns
 /// false, and the output is unchanged. `D` is `2 * H`, the number of digits of `H` bytes.
 #[inline(always)]
-fn decode_ends<const H: usize, const D: usize, W: Vectors<16>>(
+fn decode_ends<const H: usize, const D: usize, W: LaneOps<16>>(
     text: &[u8],
     output: &mut [u8],
 ) -> bool {

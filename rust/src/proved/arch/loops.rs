@@ -1,4 +1,4 @@
-// Made by rust/erase from crates/const_hex_arch/src/arch/drivers.rt. Do not edit.
+// Made by rust/erase from crates/const_hex_arch/src/arch/loops.rt. Do not edit.
 //! Drivers: they take the input step by step, and then the remainder.
 //!
 //! `V` has the `N` lanes of a step, and `H` is half of `N`. `W` has the 16 lanes of what is shorter
@@ -7,8 +7,8 @@
 //! kernel.
 
 use crate::rattle::prelude::*;
-use crate::proved::arch::lanes::Vectors;
-use crate::proved::arch::{lanes16, short, steps};
+use crate::proved::arch::lanes::LaneOps;
+use crate::proved::arch::{lanes16, small_input, steps};
 use crate::proved::output::Output;
 
 /// Encodes two steps in each turn of the loop, then one more step if the input has one, and then the
@@ -17,17 +17,17 @@ use crate::proved::output::Output;
 pub(crate) fn encode_in_steps<
     const H: usize,
     const N: usize,
-    V: Vectors<N>,
-    W: Vectors<16>,
+    V: LaneOps<N>,
+    W: LaneOps<16>,
     O: Output,
 >(input: &[u8], upper: bool, output: &mut O) {
     let mut rest = input;
     while rest.len() >= 2 * N {
         let (first, after) = rest.split_at(N);
         let (second, after) = after.split_at(N);
-        let copy = lanes16::copy_for(input.len());
-        steps::encode_step::<N, V, O>(first, upper, copy, output);
-        steps::encode_step::<N, V, O>(second, upper, copy, output);
+        let row_copy = lanes16::row_copy_for(input.len());
+        steps::encode_step::<N, V, O>(first, upper, row_copy, output);
+        steps::encode_step::<N, V, O>(second, upper, row_copy, output);
         rest = after;
     }
     if rest.len() >= N {
@@ -43,7 +43,7 @@ pub(crate) fn encode_in_steps<
 /// Encodes fewer bytes than a step, as one piece.
 // Not `always`: its callers would be too large to be inlined.
 #[inline]
-fn encode_remainder<const H: usize, const N: usize, V: Vectors<N>, W: Vectors<16>, O: Output>(
+fn encode_remainder<const H: usize, const N: usize, V: LaneOps<N>, W: LaneOps<16>, O: Output>(
     bytes: &[u8],
     upper: bool,
     output: &mut O,
@@ -68,7 +68,7 @@ fn encode_remainder<const H: usize, const N: usize, V: Vectors<N>, W: Vectors<16
 /// rest: the next step, if more than one is left, and the last `N` bytes, which may overlap what
 /// was already checked.
 #[inline(always)]
-pub(crate) fn check_in_steps<const N: usize, V: Vectors<N>>(input: &[u8]) -> bool {
+pub(crate) fn check_in_steps<const N: usize, V: LaneOps<N>>(input: &[u8]) -> bool {
     let mut at = 0;
     while input.len() - at > 4 * N {
         let end = at + 4 * N;
@@ -96,21 +96,22 @@ pub(crate) fn check_in_steps<const N: usize, V: Vectors<N>>(input: &[u8]) -> boo
 /// of the output may already be decoded. Two steps share one test. If it fails, single steps take
 /// over, so that the first of the two is decoded if it is valid. A step with an invalid character
 /// writes nothing. The remainder is covered by the last 16 bytes of the output, some of which are
-/// decoded twice. If that step fails, `short::decode` decodes what is left. It also decodes every
-/// text of fewer than 16 bytes.
+/// decoded twice. A text of fewer than 16 bytes is a remainder as a whole. If the remainder has an
+/// invalid character, its pairs before that one are decoded only if `PAIRS` is true.
 #[inline(always)]
-pub(crate) fn decode_in_steps<const N: usize, V: Vectors<N>, W: Vectors<16>>(
+pub(crate) fn decode_in_steps<const N: usize, const PAIRS: bool, V: LaneOps<N>, W: LaneOps<16>>(
     input: &[u8],
     output: &mut [u8],
 ) -> bool {
     if output.len() < 16 {
-        return short::decode::<W>(input, output);
+        return small_input::decode_small::<W>(input, output)
+            || (PAIRS && small_input::decode_pairs(input, output));
     }
     let mut at = 0;
     while output.len() - at >= 2 * N {
         let end = at + 2 * N;
-        let copy = lanes16::copy_for(output.len());
-        if !steps::decode_two_steps::<N, V>(&input[2 * at..2 * end], &mut output[at..end], copy) {
+        let row_copy = lanes16::row_copy_for(output.len());
+        if !steps::decode_two_steps::<N, V>(&input[2 * at..2 * end], &mut output[at..end], row_copy) {
             break;
         }
         at = end;
@@ -133,16 +134,14 @@ pub(crate) fn decode_in_steps<const N: usize, V: Vectors<N>, W: Vectors<16>>(
         return true;
     }
     let start = output.len() - 16;
-    if steps::decode_step::<16, W>(&input[2 * start..], &mut output[start..], false) {
-        return true;
-    }
-    short::decode::<W>(&input[2 * at..], &mut output[at..])
+    steps::decode_step::<16, W>(&input[2 * start..], &mut output[start..], false)
+        || (PAIRS && small_input::decode_pairs(&input[2 * at..], &mut output[at..]))
 }
 
 /// Decodes two steps, one step or 16 bytes by one test. A part of any other size is decoded as a
 /// whole text is.
 #[inline(always)]
-pub(crate) fn decode_part<const N: usize, V: Vectors<N>, W: Vectors<16>>(
+pub(crate) fn decode_part<const N: usize, V: LaneOps<N>, W: LaneOps<16>>(
     input: &[u8],
     start: usize,
     output: &mut [u8],
@@ -150,8 +149,8 @@ pub(crate) fn decode_part<const N: usize, V: Vectors<N>, W: Vectors<16>>(
     let end = start + output.len();
     let text = &input[2 * start..2 * end];
     if output.len() == 2 * N {
-        let copy = lanes16::copy_for(input.len());
-        steps::decode_two_steps::<N, V>(text, output, copy)
+        let row_copy = lanes16::row_copy_for(input.len());
+        steps::decode_two_steps::<N, V>(text, output, row_copy)
     } else if output.len() == N {
         steps::decode_step::<N, V>(text, output, false)
     } else if output.len() == 16 {
@@ -161,32 +160,32 @@ pub(crate) fn decode_part<const N: usize, V: Vectors<N>, W: Vectors<16>>(
     }
 }
 
-/// As `decode_in_steps`.
+/// As `decode_in_steps`, without the pairs before an invalid character of the remainder.
 // Not inlined: with this body `decode_part` would be too large to be inlined.
 #[inline(never)]
-fn decode_any_part<const N: usize, V: Vectors<N>, W: Vectors<16>>(
+fn decode_any_part<const N: usize, V: LaneOps<N>, W: LaneOps<16>>(
     text: &[u8],
     output: &mut [u8],
 ) -> bool {
-    decode_in_steps::<N, V, W>(text, output)
+    decode_in_steps::<N, false, V, W>(text, output)
 }
 
 /// Decodes digits in steps, and then by the last 16 bytes, some of them again. A text of fewer than
-/// 16 bytes is left to `short::decode`.
+/// 16 bytes is left to `small_input::decode_small`.
 #[inline(always)]
-pub(crate) fn decode_digits_in_steps<const N: usize, V: Vectors<N>, W: Vectors<16>>(
+pub(crate) fn decode_digits_in_steps<const N: usize, V: LaneOps<N>, W: LaneOps<16>>(
     input: &[u8],
     output: &mut [u8],
 ) {
     if output.len() < 16 {
-        short::decode::<W>(input, output);
+        small_input::decode_small::<W>(input, output);
         return;
     }
     let mut at = 0;
     while output.len() - at >= N {
         let end = at + N;
-        let copy = lanes16::copy_for(output.len());
-        steps::decode_digits_step::<N, V>(&input[2 * at..2 * end], &mut output[at..end], copy);
+        let row_copy = lanes16::row_copy_for(output.len());
+        steps::decode_digits_step::<N, V>(&input[2 * at..2 * end], &mut output[at..end], row_copy);
         at = end;
     }
     if output.len() - at >= 16 {
