@@ -6,8 +6,7 @@ import re
 import shutil
 import unittest
 
-import library
-import objects
+from reading import library, objects
 
 # Each run of the tests has the same layout.
 objects.SEED = 0

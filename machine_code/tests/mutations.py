@@ -6,7 +6,7 @@ import re
 import subprocess
 import tempfile
 
-import library
+from reading import library
 from tests.library import MODULE, TOP, code_of
 
 ASM, RUST = TOP / "c" / "asm", TOP / "rust" / "src" / "asm"

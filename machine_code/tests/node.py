@@ -9,14 +9,14 @@ import re
 import struct
 import subprocess
 
-from exploration import RETURNED, Code, outcomes
-from memory import Image, Memory, Region
+from isa.wasm import front_end
+from isa.wasm.general import HANDLERS
+from isa.wasm.state import State
+from proof.exploration import RETURNED, Code, outcomes
+from proof.memory import Image, Memory, Region
+from proof.values import CONSTANTS
+from reading.module import SIZES, parse
 from tests.processor import EDGES, FOLDER, Program
-from values import CONSTANTS
-from wasm import front_end
-from wasm.general import HANDLERS
-from wasm.module import SIZES, parse
-from wasm.state import State
 
 SIZE = 1024
 RESULT, SCRATCH = 64, 256

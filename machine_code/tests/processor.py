@@ -12,11 +12,11 @@ import struct
 import subprocess
 import tempfile
 
-import aarch64.state
-import x86_64.state
-from linear import Unknown
-from memory import PAGE, Fault, Image, Memory, Pointer, Region, as_lane
-from values import CONSTANTS, TooWide, constants
+from isa.aarch64 import state as aarch64
+from isa.x86_64 import state as x86_64
+from proof.linear import Unknown
+from proof.memory import PAGE, Fault, Image, Memory, Pointer, Region, as_lane
+from proof.values import CONSTANTS, TooWide, constants
 
 FOLDER = pathlib.Path(__file__).parent
 # As in run.c.
@@ -154,21 +154,21 @@ class X86_64(Processor):
     NOT_FORM = r"\b([abcd]|[sd]i|[sb]p)l\b|(?<=\b[re])([abcd]x|[sd]i|[sb]p)\b|(?<=[a-z])\d+|0x[0-9a-f]+|\[.*\]"
     SOURCE, COMPILER, EMULATOR, JUMP_SIZE = "run_x86_64.S", ("cc",), (), 5
     # The carry, zero, sign and overflow.
-    FLAGS, CONDITIONS = 1 | 1 << 6 | 1 << 7 | 1 << 11, x86_64.state.CODES
+    FLAGS, CONDITIONS = 1 | 1 << 6 | 1 << 7 | 1 << 11, x86_64.CODES
 
     def known(self, bits):
         """The carry of AArch64 is set where a difference does not borrow."""
         bits = [bits >> 7 & 1, bits >> 6 & 1, ~bits & 1, bits >> 11 & 1]
-        return aarch64.state.Known(int("".join(map(str, bits)), 2))
+        return aarch64.Known(int("".join(map(str, bits)), 2))
 
 
 class AArch64(Processor):
     NOT_FORM = r"(?<=\b[xwvqdsbh])\d+|(?<=#)-?\w+|0x[0-9a-f]+"
     SOURCE, COMPILER, EMULATOR = "run_aarch64.S", ("aarch64-linux-gnu-gcc", "-static"), ("qemu-aarch64",)
-    JUMP_SIZE, FLAGS, CONDITIONS = 4, 15 << 28, aarch64.state.CODES
+    JUMP_SIZE, FLAGS, CONDITIONS = 4, 15 << 28, aarch64.CODES
 
     def known(self, bits):
-        return aarch64.state.Known(bits >> 28)
+        return aarch64.Known(bits >> 28)
 
 
 def _byte(byte):

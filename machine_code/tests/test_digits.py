@@ -4,9 +4,9 @@ import itertools
 import re
 import unittest
 
-from digits import IS_DIGIT, VALUES, decoded, digits_of
+from proof.digits import IS_DIGIT, VALUES, decoded, digits_of
+from proof.values import at_inputs, parts_of, unknown
 from tests.library import TOP
-from values import at_inputs, parts_of, unknown
 
 SPECS = TOP / "crates" / "const_hex_arch" / "specs" / "Texts.antt"
 RANGE = r"nat_le (\d+) b && nat_le b (\d+) then Some \(b - (\d+)\)"

@@ -6,9 +6,9 @@ import subprocess
 import tempfile
 import unittest
 
-from calls import CALLS
+from proof.cases import CALLS
+from proof.values import at_inputs, parts_of
 from tests.library import ARCHIVE, code_of
-from values import at_inputs, parts_of
 
 
 def library():

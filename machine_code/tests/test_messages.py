@@ -4,13 +4,13 @@ import math
 import operator
 import unittest
 
-from arithmetic import TENTH, added, logic, multiplied, product, shifted, subtracted
-from linear import GREATEST, Unknown, least_of, most_value
-from memory import Fault
-from messages import Digit, position_of, positions
+from proof.arithmetic import TENTH, added, logic, multiplied, product, shifted, subtracted
+from proof.linear import GREATEST, Unknown, least_of, most_value
+from proof.memory import Fault
+from proof.messages import Digit, position_of, positions
+from proof.values import TooWide, at_inputs, constants, parts_of
 from tests.library import add_tests
 from tests.test_soundness import assert_refused, flag
-from values import TooWide, at_inputs, constants, parts_of
 
 # A number of three digits, and one of two. Only the first is not 0.
 DIGITS = [Digit(f"digit {place}: {int(place == 0)}-9", int(place == 0), 9) for place in range(3)]

@@ -4,10 +4,10 @@ import os
 import random
 import unittest
 
-import dispatch
-from calls import function_of
-from exploration import Refused
-from library import WASM, calls_of
+from proof import dispatch
+from proof.cases import function_of
+from proof.exploration import Refused
+from reading.library import WASM, calls_of
 from tests.library import HAS_AARCH64, HAS_MODULE, add_tests, code_of
 from tests.mutations import edited, flipped
 

@@ -7,9 +7,9 @@ import tempfile
 import unittest
 from unittest import mock
 
-import objects
-from calls import CALLS
-from exploration import Refused
+from proof.cases import CALLS
+from proof.exploration import Refused
+from reading import objects
 from tests.library import AARCH64, ARCHIVE, add_tests, code_of, needs_aarch64
 from tests.mutations import assembled_object
 

@@ -6,11 +6,11 @@ import pathlib
 import unittest
 from unittest import mock
 
-from library import WASM
+from reading.library import WASM
 from tests import wrong_meanings
 from tests.library import code_of, needs_aarch64, needs_module
 from tests.node import Node
-from tests.processor import AArch64, X86_64
+from tests.processor import X86_64, AArch64
 
 STATES = 24
 HAS_AVX2 = " avx2 " in pathlib.Path("/proc/cpuinfo").read_text()

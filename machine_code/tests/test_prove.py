@@ -3,6 +3,7 @@
 import contextlib
 import io
 import pathlib
+import re
 import shutil
 import subprocess
 import sys
@@ -12,13 +13,12 @@ import unittest
 from importlib.machinery import SourceFileLoader
 from unittest import mock
 
-import library
-import sums
-from calls import function_of
-from exploration import Refused
-from reached import not_reached
+from proof.cases import function_of
+from proof.exploration import Refused
+from reading import library, sums
 from tests.library import ARCHIVE, add_tests, code_of
 from tests.mutations import FILES, assembled_object, edited, instructions
+from untrusted.reached import not_reached
 
 FUNCTION = "const_hex_check_raw_v3"
 FRONT_ENDS = ("x86_64", "aarch64", "wasm")
@@ -116,6 +116,11 @@ class TestProve(unittest.TestCase):
         used = {file for file in loaded if sums.FOLDER in file.parents and sums.FOLDER / "tests" not in file.parents}
         self.assertEqual(used - files, set())
         self.assertEqual(len({sums.sum_of_tool(front_end) for front_end in FRONT_ENDS}), len(FRONT_ENDS))
+
+    def test_who_uses_a_guess(self):
+        files = [file for room in ("proof", "reading", "isa") for file in (sums.FOLDER / room).rglob("*.py")]
+        users = [file.name for file in files if re.search("^(from|import) untrusted", file.read_text(), re.M)]
+        self.assertEqual(users, ["induction.py"])
 
     def test_sums(self):
         """With --sums nothing is accepted but the code and the tool of which the sums stand there."""

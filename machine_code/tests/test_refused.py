@@ -4,12 +4,12 @@ a meaning, or it does not have them."""
 import contextlib
 import unittest
 
-from calls import CALLS
-from exploration import Refused
-from library import code_from
+from isa.x86_64.decoding import NOPS
+from proof.cases import CALLS
+from proof.exploration import Refused
+from reading.library import code_from
 from tests.library import add_tests
 from tests.mutations import assembled_object
-from x86_64.decoding import NOPS
 
 VERSION = CALLS["version"].cases[0].name.split()[1]
 # The function that has the form: what it returns is right.

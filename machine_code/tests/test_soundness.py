@@ -3,27 +3,28 @@
 import operator
 import unittest
 from types import SimpleNamespace
+from unittest import mock
 
-import aarch64.front_end
-import x86_64.general
-import x86_64.state
-from aarch64.decoding import Address, Extension, Register
-from arithmetic import logic, subtracted
-from calls import CALLS
-from conditions import Condition, Path, are_equal
-from disassembly import Instruction
-from exploration import Fork, Refused, require_one_path, sides
-from flags import Flags
-from induction import DONE, LEFT
-from linear import GREATEST, Linear, Split, Unknown, in_terms_of, is_zero, symbol
-from memory import Fault, Image, Memory, Pointer, Region, as_lane, with_replaced
+from isa.aarch64 import front_end as aarch64
+from isa.aarch64.decoding import Address, Extension, Register
+from isa.x86_64 import front_end as x86_64
+from isa.x86_64.decoding import REGISTERS
+from proof import induction
+from proof.arithmetic import logic, subtracted
+from proof.cases import CALLS
+from proof.conditions import Condition, Path, are_equal
+from proof.exploration import Fork, Refused, require_one_path, sides
+from proof.flags import Flags
+from proof.linear import DONE, GREATEST, LEFT, Linear, Split, Unknown, in_terms_of, is_zero, symbol
+from proof.memory import Fault, Image, Memory, Pointer, Region, as_lane, with_replaced
+from proof.values import CONSTANTS, TooWide, constants, each, joined, kept, masked, tabulate, unknown, variable
+from reading.disassembly import Instruction
 from tests.library import add_tests, code_of
 from tests.mutations import edited
-from values import CONSTANTS, TooWide, apply, constants, each, joined, kept, masked, unknown, variable
-from x86_64.decoding import REGISTERS
+from untrusted.heads import heads_of
 
 SP, X0, W0 = (Register("general", name, 0, size, None) for name, size in (("sp", 8), ("x0", 8), ("x0", 4)))
-X86_64, AARCH64 = x86_64.state.State, aarch64.front_end.State
+X86_64, AARCH64 = x86_64.State, aarch64.State
 FAR, LONG, INPUT = symbol("far", GREATEST), Region("text", LEFT * 128), Region("text", LEFT * 128 + 150)
 TEXT, BYTES, STACK = Region("text", 64), Region("bytes", 64), Region("stack", 64, True, 16)
 START, BYTES_4 = Pointer("text", 0), tuple([unknown("error", at) for at in range(4)])
@@ -52,7 +53,7 @@ def flag(name, kind, first, second, *regions, of=X86_64, sets={}):
 def run(state, mnemonic, *operands):
     """The state after an instruction."""
     operands = tuple([REGISTERS.get(operand, operand) if type(operand) is str else operand for operand in operands])
-    of = x86_64.general if type(state) is X86_64 else aarch64.front_end
+    of = x86_64 if type(state) is X86_64 else aarch64
     of.HANDLERS[mnemonic](state, Instruction(0, 4, mnemonic, operands, mnemonic))
     return state
 
@@ -117,7 +118,7 @@ REFUSED = [
     ("two places that may be one", Fault, two_places_that_may_be_one),
     ("an address that a byte decides", Refused, lambda: require_one_path([SimpleNamespace(leaks=(1,))])),
     ("an access that is not aligned", Fault, lambda: load(Region("text", LEFT * 128 + 150, False, 16), 8, 16, 16)),
-    ("the greatest of three unknown bytes", TooWide, lambda: apply(max, 1, [(b,) for b in BYTES_4[:3]])),
+    ("the greatest of three unknown bytes", TooWide, lambda: tabulate(max, 1, [(b,) for b in BYTES_4[:3]])),
     ("a function of marks", TooWide, lambda: each(operator.index, MARKS)),
     ("an unaligned stack pointer", Fault, lambda: arm("ldr", X0, at(SP, 8), sp=Pointer("stack", 24)), "not aligned"),
     ("a load below a stack that was moved", Fault,
@@ -247,3 +248,24 @@ class TestLengths(unittest.TestCase):
 
 add_tests(TestLengths, lambda case, text, rest, wanted: assert_refused(
     case, Refused, lambda: case.prove(text, rest), wanted), LENGTHS)
+
+# What is guessed, how it is changed, and what the tool says although the code is right.
+GUESSES = [
+    *((f"rounds of {size} bytes", "heads_of", {"size": size}, said)
+      for size, said in ((256, "no part of"), (0, "no part of"), (64, "too many cases"))),
+    ("rounds without a visit", "heads_of", {"visits": 0}, "no part of"),
+    ("a loop at another place", "heads_of", {"at": 0}, "too many cases"),
+    ("numbers for pointers", "guessed", DONE, "that is no pointer"),
+    ("registers of another size", "guessed", (unknown("forgotten", "rax", 0),), "that is no pointer"),
+]
+
+
+class TestGuesses(unittest.TestCase):
+    def refuse(self, name, change, wanted):
+        guesses = {"heads_of": lambda *given: [head._replace(**change) for head in heads_of(*given)],
+                   "guessed": lambda loop, first: dict.fromkeys(first.registers, change)}
+        with mock.patch.object(induction, name, guesses[name]), self.assertRaisesRegex(Refused, wanted):
+            CALLS["check_raw"].prove(code_of("v3"), "const_hex_check_raw_v3", ("class", 0, 150))
+
+
+add_tests(TestGuesses, TestGuesses.refuse, GUESSES)

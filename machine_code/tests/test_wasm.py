@@ -2,20 +2,21 @@
 
 import unittest
 
-import wasm.front_end
-from exploration import Code, Fork, Refused, outcomes
-from induction import heads_of
-from library import WASM
-from linear import Unknown, symbol
-from memory import Fault, Image, Memory, Pointer, Region
+from isa.wasm import front_end
+from isa.wasm.cases import CALLS
+from isa.wasm.general import HANDLERS
+from isa.wasm.state import State
+from proof.exploration import Code, Fork, Refused, outcomes
+from proof.linear import Unknown, symbol
+from proof.memory import Fault, Image, Memory, Pointer, Region
+from proof.values import ZERO, constants, unknown, variable
+from reading.disassembly import Instruction
+from reading.library import WASM
+from reading.module import parse
 from tests.library import add_tests, code_of, needs_module
 from tests.node import assembled
 from tests.test_soundness import assert_refused
-from values import ZERO, constants, unknown, variable
-from wasm.calls import CALLS
-from wasm.general import HANDLERS
-from wasm.module import Instruction, parse
-from wasm.state import State
+from untrusted.heads import heads_of
 
 FUNCTION = """(module (memory 1 1) (global (mut i32) (i32.const 4096)) {1}
     (global i32 (i32.const 4096)) (export "__data_end" (global 1)) (export "__heap_base" (global 1))
@@ -46,8 +47,8 @@ def handle(mnemonic, operands, *values):
 
 def run(body=KNOWN, part="", arguments=(0,), text=FUNCTION, needs=None):
     """Runs a function of a module to its end."""
-    code = Code(parse(assembled(text.format(body, part)), *([needs] if needs else [])), wasm.front_end)
-    list(outcomes(code, wasm.front_end.start(code, "f", list(arguments), [])))
+    code = Code(parse(assembled(text.format(body, part)), *([needs] if needs else [])), front_end)
+    list(outcomes(code, front_end.start(code, "f", list(arguments), [])))
 
 
 # What is wrong, how it is refused, what it is, and the message.
@@ -96,7 +97,7 @@ class TestModule(unittest.TestCase):
     def test_vectors_are_used(self):
         """A loop takes 16 bytes of the input or more at once, but for the search."""
         for call in ("encode", "decoder_update"):
-            loops = heads_of(code_of(WASM), f"const_hex_{call}", CALLS[call].forms[0], CALLS[call].size).values()
+            loops = heads_of(code_of(WASM), f"const_hex_{call}", CALLS[call].forms[0], CALLS[call].size)
             self.assertTrue(all(head.is_search or head.size // head.visits >= 16 for head in loops))
 
 

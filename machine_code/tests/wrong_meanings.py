@@ -3,17 +3,17 @@ the meaning of another instruction, or that of other operands."""
 
 import operator
 
-import aarch64.front_end
-import wasm.general
-import x86_64.general
-from arithmetic import by_count, by_lanes
-from conditions import are_zero
-from memory import as_lane
-from values import ZERO
-from wasm.general import computed
-from x86_64.vector import _handler, _in_halves
+from isa.aarch64 import front_end as aarch64
+from isa.wasm import general as wasm
+from isa.wasm.general import computed
+from isa.x86_64 import general as x86_64
+from isa.x86_64.vector import _handler, _in_halves
+from proof.arithmetic import by_count, by_lanes
+from proof.conditions import are_zero
+from proof.memory import as_lane
+from proof.values import ZERO
 
-RIGHT = x86_64.general.HANDLERS | wasm.general.HANDLERS | aarch64.front_end.HANDLERS
+RIGHT = x86_64.HANDLERS | wasm.HANDLERS | aarch64.HANDLERS
 
 
 def _as(mnemonic, operands=lambda *operands: operands):

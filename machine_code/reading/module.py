@@ -1,0 +1,90 @@
+"""A module for WebAssembly, as `wasm2wat` prints it, which also validates it.
+
+Each function is a section of code, whose addresses count its instructions, far above all addresses of the
+memory. The data lie where the memory has them.
+"""
+
+import re
+import subprocess
+
+from proof.values import constants, number
+from reading.objects import ALLOCATED, Object, Section
+
+SIZES = {"i32": 4, "i64": 8, "v128": 16}
+SPACE = 1 << 32
+# What a module may have beside functions, data and globals.
+OTHERS = (")", "(module", "(type", '(export "memory" (memory 0))', "(memory (;0;) 1 1)")
+
+
+class Function(Section):
+    """A function with this head. Its content is a line for each instruction."""
+
+    def __init__(self, name, address, head, lines):
+        self.name, self.address, self.content = name, address, lines
+        self.is_code, self.is_writable, self.references = True, False, []
+        self.parameters, self.results, self.locals = (
+            [SIZES[type_] for part in re.findall(rf"\({kind}([^)]*)\)", head) for type_ in part.split()]
+            for kind in ("param", "result", "local")
+        )
+
+
+class Module(Object):
+    """`globals` are their values at the start. Number 0 is the stack pointer, below which the stack lies.
+    `mutable` has the numbers of those that may change, and `places` the addresses that it exports."""
+
+    def __init__(self, content):
+        super().__init__(None, [])
+        self.content, self.functions, self.globals, self.mutable, self.places = content, [], [], set(), {}
+
+    def function_at(self, address):
+        return next(function for function in self.functions if function.address == address)
+
+
+def parse(content, exported=""):
+    """The module with these bytes, which exports its memory by a name."""
+    command = ["wasm2wat", "--no-debug-names", "-"]
+    text = subprocess.run(command, input=content, check=True, capture_output=True).stdout.decode()
+    if exported and f'(export "{exported}" (memory 0))' not in text:
+        raise ValueError("the memory is not exported")
+    module = Module(content)
+    # Each part begins in a line with two spaces, and the instructions of a function follow.
+    for part in re.split(r"\n  (?=\()", text.rstrip().removesuffix(")")):
+        _add(module, part if part.startswith("(data") else re.sub(r" *;;.*", "", part))
+    return module
+
+
+def _add(module, part):
+    if part.startswith("(func"):
+        _add_function(module, part)
+    elif found := re.fullmatch(r'\(data \(;\d+;\) \(i32\.const (\d+)\) "((\\[0-9a-f]{2}|[^\\])*)"\)', part):
+        _add_data(module, int(found[1]), found[2])
+    elif found := re.search(r"^\(global .*\((i\d\d)\.const (-?\d+)\)\)$", part):
+        module.mutable |= {len(module.globals)} if "(mut " in part else set()
+        module.globals.append(constants(int(found[2]), SIZES[found[1]]))
+    elif found := re.fullmatch(r'\(export "(\w+)" \(func (\d+)\)\)', part):
+        module.symbols[found[1]] = module.functions[int(found[2])].address
+        module.exported.add(found[1])
+    elif found := re.fullmatch(r'\(export "(__\w+)" \(global (\d+)\)\)', part):
+        if int(found[2]) in module.mutable:
+            raise ValueError(f"{found[1]}, which the engine may change")
+        module.places[found[1]] = number(module.globals[int(found[2])])
+    elif not part.startswith(OTHERS):
+        raise ValueError(f"a part of a module that is not known here: {part[:60]}")
+
+
+def _add_function(module, part):
+    lines = re.sub(r"\(;.*?;\)", "", part.removesuffix(")")).split("\n")
+    lines = [line.strip() for line in lines]
+    heads = 1 + (len(lines) > 1 and lines[1].startswith("(local"))
+    number = len(module.functions)
+    # The end of a function returns.
+    instructions = [*lines[heads:], "return"]
+    function = Function(f"function {number}", SPACE * (number + 1), " ".join(lines[:heads]), instructions)
+    module.functions.append(function)
+    module.sections.append(function)
+
+
+def _add_data(module, place, text):
+    characters = re.findall(r"\\([0-9a-f]{2})|([^\\])", text)
+    content = bytes(int(code, 16) if code else ord(character) for code, character in characters)
+    module.sections.append(Section("data", ALLOCATED, place, 1, bytearray(content)))
