@@ -16,13 +16,13 @@ macro_rules! sums {
 #[test]
 fn the_assembly_is_unchanged() {
     for (file, found, wanted) in sums! {
-        "aarch64.s" 0x1e3d_840b_9d73_4a78
+        "aarch64.s" 0x3425_1077_0f58_c833
         "coff.s" 0x5b84_25b7_b0d1_360b
         "elf.s" 0xd057_d416_4c97_a972
         "end.s" 0x98e7_fc1e_20c1_9e86
         "mach_o.s" 0x8d5a_52d3_2515_a02d
-        "x86_64_v2.s" 0x7846_7001_e7b7_2538
-        "x86_64_v3.s" 0xdbc9_e212_412f_9c3a
+        "x86_64_v2.s" 0x026f_37d6_42fc_c65a
+        "x86_64_v3.s" 0x189d_dd77_9da7_a173
     } {
         assert_eq!(found, wanted, "{file}: {found:#x}");
     }

@@ -554,13 +554,13 @@
 	subs x8, x3, #0x10
 	mov x29, sp
 	b.cs 2f
-	bl const_hex_1_0_0_short_decode
+	bl const_hex_1_0_0_small_input_decode_small
 	ldp x29, x30, [sp], #16
 	ret
 2:
 	cmp x3, #0x40
-	adrp_label x10, const_hex_1_0_0_constant_1
-	mov x9, xzr
+	adrp_label x9, const_hex_1_0_0_constant_1
+	mov x10, xzr
 	b.cc 4f
 	and x11, x3, #0x40
 	adrp_label x12, const_hex_1_0_0_constant_2
@@ -571,7 +571,7 @@
 3:
 	movi v0.16b, #0x8f
 	movi v1.16b, #0xd0
-	ldr_label q6, x10, const_hex_1_0_0_constant_1
+	ldr_label q6, x9, const_hex_1_0_0_constant_1
 	ldp q3, q2, [x12, #-64]
 	ldp q5, q4, [x12, #-32]
 	ldp q16, q7, [x12]
@@ -636,9 +636,9 @@
 	b.ne 4f
 	ldr q16, [x11, #16]
 	sub x13, x13, #0x40
-	add x14, x2, x9
+	add x14, x2, x10
 	cmp x13, #0x3f
-	add x9, x9, #0x40
+	add x10, x10, #0x40
 	add x12, x12, #0x80
 	mul v7.8h, v16.8h, v7.8h
 	mul v6.8h, v16.8h, v6.8h
@@ -656,17 +656,17 @@
 	stp q0, q3, [x14, #32]
 	b.hi 3b
 4:
-	sub x11, x3, x9
+	sub x11, x3, x10
 	cmp x11, #0x20
 	b.cc 6f
-	add x12, x0, x9, lsl #1
+	add x12, x0, x10, lsl #1
 	add x12, x12, #0x20
 5:
 	movi v0.16b, #0x8f
 	ldp q2, q1, [x12, #-32]
 	ldp q4, q3, [x12], #64
 	movi v5.16b, #0xd0
-	ldr_label q6, x10, const_hex_1_0_0_constant_1
+	ldr_label q6, x9, const_hex_1_0_0_constant_1
 	and v7.16b, v2.16b, v0.16b
 	and v16.16b, v1.16b, v0.16b
 	and v17.16b, v4.16b, v0.16b
@@ -700,13 +700,13 @@
 	orr w13, w13, w14
 	orr w13, w13, w13, lsr #8
 	tst w13, #0xff
-	b.ne 7f
+	b.ne 8f
 	mov w13, #0x1001
 	sub x11, x11, #0x20
 	dup v4.8h, w13
-	add x13, x2, x9
+	add x13, x2, x10
 	cmp x11, #0x1f
-	add x9, x9, #0x20
+	add x10, x10, #0x20
 	mul v3.8h, v3.8h, v4.8h
 	mul v2.8h, v2.8h, v4.8h
 	mul v1.8h, v1.8h, v4.8h
@@ -717,11 +717,11 @@
 	b.hi 5b
 6:
 	cmp x11, #0x10
-	b.cc 9f
-	add x11, x0, x9, lsl #1
+	b.cc 7f
+	add x11, x0, x10, lsl #1
 	movi v0.16b, #0x8f
 	movi v4.16b, #0xd0
-	ldr_label q5, x10, const_hex_1_0_0_constant_1
+	ldr_label q5, x9, const_hex_1_0_0_constant_1
 	ldp q1, q2, [x11]
 	and v3.16b, v1.16b, v0.16b
 	and v0.16b, v2.16b, v0.16b
@@ -744,32 +744,23 @@
 	orr w11, w11, w12
 	orr w11, w11, w11, lsr #8
 	tst w11, #0xff
-	b.eq 8f
-7:
-	mov w0, wzr
-	ldp x29, x30, [sp], #16
-	ret
-8:
+	b.ne 8f
 	mov w11, #0x1001
 	dup v2.8h, w11
-	orr x11, x9, #0x10
+	orr x11, x10, #0x10
 	mul v1.8h, v1.8h, v2.8h
 	mul v0.8h, v0.8h, v2.8h
 	uzp2 v0.16b, v0.16b, v1.16b
-	str q0, [x2, x9]
-	mov x9, x11
-9:
-	subs x3, x3, x9
-	b.ne 12f
-	mov w0, #0x1
-	ldp x29, x30, [sp], #16
-	ret
-12:
-	add x11, x0, x8, lsl #1
+	str q0, [x2, x10]
+	mov x10, x11
+7:
+	cmp x10, x3
+	b.eq 12f
+	add x10, x0, x8, lsl #1
 	movi v0.16b, #0x8f
 	movi v4.16b, #0xd0
-	ldr_label q5, x10, const_hex_1_0_0_constant_1
-	ldp q1, q2, [x11]
+	ldr_label q5, x9, const_hex_1_0_0_constant_1
+	ldp q1, q2, [x10]
 	and v3.16b, v1.16b, v0.16b
 	and v0.16b, v2.16b, v0.16b
 	add v6.16b, v1.16b, v4.16b
@@ -785,34 +776,32 @@
 	and v2.16b, v2.16b, v4.16b
 	ext v3.16b, v2.16b, v2.16b, #8
 	orr v2.8b, v2.8b, v3.8b
-	fmov x10, d2
-	orr x10, x10, x10, lsr #32
-	lsr x11, x10, #16
-	orr w10, w10, w11
-	orr w10, w10, w10, lsr #8
-	tst w10, #0xff
-	b.eq 13f
-	lsl x8, x9, #1
-	add x2, x2, x9
-	sub x1, x1, x8
-	add x0, x0, x8
-	bl const_hex_1_0_0_short_decode
+	fmov x9, d2
+	orr x9, x9, x9, lsr #32
+	lsr x10, x9, #16
+	orr w9, w9, w10
+	orr w9, w9, w9, lsr #8
+	tst w9, #0xff
+	b.eq 9f
+8:
+	mov w0, wzr
 	ldp x29, x30, [sp], #16
 	ret
-13:
+9:
 	mov w9, #0x1001
-	mov w0, #0x1
 	dup v2.8h, w9
 	mul v1.8h, v1.8h, v2.8h
 	mul v0.8h, v0.8h, v2.8h
 	uzp2 v0.16b, v0.16b, v1.16b
 	str q0, [x2, x8]
+12:
+	mov w0, #0x1
 	ldp x29, x30, [sp], #16
 	ret
 	end const_hex_1_0_0_read
 
-/* const_hex_arch::arch::short::decode */
-	function const_hex_1_0_0_short_decode
+/* const_hex_arch::arch::small_input::decode_small */
+	function const_hex_1_0_0_small_input_decode_small
 	cmp x3, #0x8
 	b.cc 2f
 	movi v0.16b, #0x8f
@@ -843,17 +832,8 @@
 	orr w8, w8, w9
 	orr w8, w8, w8, lsr #8
 	tst w8, #0xff
-	b.ne 5f
-	mov w8, #0x1001
-	dup v2.8h, w8
-	add x8, x2, x3
-	mul v0.8h, v0.8h, v2.8h
-	mul v1.8h, v1.8h, v2.8h
-	shrn v0.8b, v0.8h, #8
-	shrn v1.8b, v1.8h, #8
-	str d0, [x2]
-	stur d1, [x8, #-8]
-	mov w0, #0x1
+	b.eq 4f
+	mov w0, wzr
 	ret
 2:
 	cmp x3, #0x4
@@ -881,28 +861,17 @@
 	orr w8, w8, w9
 	orr w8, w8, w8, lsr #8
 	tst w8, #0xff
-	b.ne 5f
-	mov w8, #0x1001
-	dup v1.8h, w8
-	add x8, x2, x3
-	mul v0.8h, v0.8h, v1.8h
-	ushr v1.8h, v0.8h, #8
-	shrn v0.8b, v0.8h, #8
-	dup v1.2d, v1.d[1]
-	str s0, [x2]
-	xtn v1.8b, v1.8h
-	stur s1, [x8, #-4]
-	mov w0, #0x1
+	b.eq 6f
+	mov w0, wzr
 	ret
 3:
 	cmp x3, #0x2
-	b.cc 4f
+	b.cc 5f
 	movi v0.16b, #0x30
-	mov x8, x0
 	movi v1.16b, #0x8f
 	movi v2.16b, #0xd0
-	ld1 {v0.s}[0], [x8], x1
-	sub x8, x8, #0x4
+	ld1 {v0.s}[0], [x0], x1
+	sub x8, x0, #0x4
 	ld1 {v0.s}[1], [x8]
 	adrp_label x8, const_hex_1_0_0_constant_1
 	ldr_label q3, x8, const_hex_1_0_0_constant_1
@@ -921,31 +890,28 @@
 	orr w8, w8, w9
 	orr w8, w8, w8, lsr #8
 	tst w8, #0xff
-	b.ne 5f
-	mov w8, #0x1001
-	dup v1.8h, w8
-	add x8, x2, x3
-	mul v0.8h, v0.8h, v1.8h
-	ushr v1.8h, v0.8h, #8
-	shrn v0.8b, v0.8h, #8
-	mov h2, v1.h[1]
-	mov b3, v0.b[3]
-	mov b0, v0.b[2]
-	str b1, [x2]
-	stur b2, [x2, #1]
-	stur b3, [x8, #-1]
-	stur b0, [x8, #-2]
-	mov w0, #0x1
+	b.eq 7f
+	mov w0, wzr
 	ret
 4:
-	cmp x3, #0x1
-	b.ne 9f
+	mov w8, #0x1001
+	mov w0, #0x1
+	dup v2.8h, w8
+	add x8, x2, x3
+	mul v0.8h, v0.8h, v2.8h
+	mul v1.8h, v1.8h, v2.8h
+	shrn v0.8b, v0.8h, #8
+	shrn v1.8b, v1.8h, #8
+	str d0, [x2]
+	stur d1, [x8, #-8]
+	ret
+5:
+	cbz x3, 9f
 	movi v0.16b, #0x30
-	mov x8, x0
 	movi v1.16b, #0x8f
 	movi v2.16b, #0xd0
-	ld1 {v0.h}[0], [x8], x1
-	sub x8, x8, #0x2
+	ld1 {v0.h}[0], [x0], x1
+	sub x8, x0, #0x2
 	ld1 {v0.h}[1], [x8]
 	adrp_label x8, const_hex_1_0_0_constant_1
 	ldr_label q3, x8, const_hex_1_0_0_constant_1
@@ -965,25 +931,36 @@
 	orr w8, w8, w8, lsr #8
 	tst w8, #0xff
 	b.eq 8f
-5:
-	add x8, x0, #0x1
+	mov w0, wzr
+	ret
 6:
-	ldurb w9, [x8, #-1]
-	ldrb w10, [x8], #2
-	adrp_label x11, const_hex_1_0_0_constant_3
-	add_label x11, x11, const_hex_1_0_0_constant_3
-	ldrb w9, [x11, x9]
-	ldrb w10, [x11, x10]
-	mov w11, #0xff
-	cmp w9, #0xff
-	ccmp w10, w11, #0x4, ne
-	cset w0, ne
-	b.eq 7f
-	add w9, w10, w9, lsl #4
-	subs x3, x3, #0x1
-	strb w9, [x2], #1
-	b.ne 6b
+	mov w8, #0x1001
+	mov w0, #0x1
+	dup v1.8h, w8
+	add x8, x2, x3
+	mul v0.8h, v0.8h, v1.8h
+	ushr v1.8h, v0.8h, #8
+	shrn v0.8b, v0.8h, #8
+	dup v1.2d, v1.d[1]
+	str s0, [x2]
+	xtn v1.8b, v1.8h
+	stur s1, [x8, #-4]
+	ret
 7:
+	mov w8, #0x1001
+	mov w0, #0x1
+	dup v1.8h, w8
+	add x8, x2, x3
+	mul v0.8h, v0.8h, v1.8h
+	ushr v1.8h, v0.8h, #8
+	shrn v0.8b, v0.8h, #8
+	mov h2, v1.h[1]
+	mov b3, v0.b[3]
+	mov b0, v0.b[2]
+	str b1, [x2]
+	stur b2, [x2, #1]
+	stur b3, [x8, #-1]
+	stur b0, [x8, #-2]
 	ret
 8:
 	umov w8, v0.h[1]
@@ -993,7 +970,7 @@
 9:
 	mov w0, #0x1
 	ret
-	end const_hex_1_0_0_short_decode
+	end const_hex_1_0_0_small_input_decode_small
 
 	constant const_hex_1_0_0_constant_1, 4
 	.byte 0x01, 0x0a, 0x0b, 0x0c, 0x0d, 0x0e, 0x0f, 0x08, 0x09, 0x0a, 0x00, 0x00, 0x00, 0x00, 0x00, 0x00
@@ -1011,21 +988,3 @@
 	.byte 0x00, 0x00, 0x00, 0x00, 0x00, 0x00, 0x00, 0x00, 0x00, 0x00, 0x00, 0x00, 0x00, 0x00, 0x00, 0x00
 	.byte 0x00, 0x00, 0x00, 0x00, 0x00, 0x00, 0x00, 0x00, 0x00, 0x00, 0x00, 0x00, 0x00, 0x00, 0x00, 0x00
 	.byte 0x00, 0x00, 0x00, 0x00, 0x00, 0x00, 0x00, 0x00, 0x00, 0x00, 0x00, 0x00, 0x00, 0x00, 0x00, 0x00
-
-	constant const_hex_1_0_0_constant_3, 0
-	.byte 0xff, 0xff, 0xff, 0xff, 0xff, 0xff, 0xff, 0xff, 0xff, 0xff, 0xff, 0xff, 0xff, 0xff, 0xff, 0xff
-	.byte 0xff, 0xff, 0xff, 0xff, 0xff, 0xff, 0xff, 0xff, 0xff, 0xff, 0xff, 0xff, 0xff, 0xff, 0xff, 0xff
-	.byte 0xff, 0xff, 0xff, 0xff, 0xff, 0xff, 0xff, 0xff, 0xff, 0xff, 0xff, 0xff, 0xff, 0xff, 0xff, 0xff
-	.byte 0x00, 0x01, 0x02, 0x03, 0x04, 0x05, 0x06, 0x07, 0x08, 0x09, 0xff, 0xff, 0xff, 0xff, 0xff, 0xff
-	.byte 0xff, 0x0a, 0x0b, 0x0c, 0x0d, 0x0e, 0x0f, 0xff, 0xff, 0xff, 0xff, 0xff, 0xff, 0xff, 0xff, 0xff
-	.byte 0xff, 0xff, 0xff, 0xff, 0xff, 0xff, 0xff, 0xff, 0xff, 0xff, 0xff, 0xff, 0xff, 0xff, 0xff, 0xff
-	.byte 0xff, 0x0a, 0x0b, 0x0c, 0x0d, 0x0e, 0x0f, 0xff, 0xff, 0xff, 0xff, 0xff, 0xff, 0xff, 0xff, 0xff
-	.byte 0xff, 0xff, 0xff, 0xff, 0xff, 0xff, 0xff, 0xff, 0xff, 0xff, 0xff, 0xff, 0xff, 0xff, 0xff, 0xff
-	.byte 0xff, 0xff, 0xff, 0xff, 0xff, 0xff, 0xff, 0xff, 0xff, 0xff, 0xff, 0xff, 0xff, 0xff, 0xff, 0xff
-	.byte 0xff, 0xff, 0xff, 0xff, 0xff, 0xff, 0xff, 0xff, 0xff, 0xff, 0xff, 0xff, 0xff, 0xff, 0xff, 0xff
-	.byte 0xff, 0xff, 0xff, 0xff, 0xff, 0xff, 0xff, 0xff, 0xff, 0xff, 0xff, 0xff, 0xff, 0xff, 0xff, 0xff
-	.byte 0xff, 0xff, 0xff, 0xff, 0xff, 0xff, 0xff, 0xff, 0xff, 0xff, 0xff, 0xff, 0xff, 0xff, 0xff, 0xff
-	.byte 0xff, 0xff, 0xff, 0xff, 0xff, 0xff, 0xff, 0xff, 0xff, 0xff, 0xff, 0xff, 0xff, 0xff, 0xff, 0xff
-	.byte 0xff, 0xff, 0xff, 0xff, 0xff, 0xff, 0xff, 0xff, 0xff, 0xff, 0xff, 0xff, 0xff, 0xff, 0xff, 0xff
-	.byte 0xff, 0xff, 0xff, 0xff, 0xff, 0xff, 0xff, 0xff, 0xff, 0xff, 0xff, 0xff, 0xff, 0xff, 0xff, 0xff
-	.byte 0xff, 0xff, 0xff, 0xff, 0xff, 0xff, 0xff, 0xff, 0xff, 0xff, 0xff, 0xff, 0xff, 0xff, 0xff, 0xff

@@ -471,28 +471,26 @@
 /* const_hex_rust::read */
 	hidden const_hex_1_0_0_read_v2
 	function const_hex_1_0_0_read_v2
-	push   rax
 	cmp    rcx,0x10
-	jae    4f
-2:
-	call   const_hex_1_0_0_short_decode_v2
-3:
-	pop    rcx
+	jae    2f
+	push   rax
+	call   const_hex_1_0_0_small_input_decode_small_v2
+	add    rsp,0x8
 	ret
-4:
+2:
 	cmp    rcx,0x40
-	jb     8f
+	jb     6f
 	mov    eax,ecx
 	and    eax,0x40
-	xor    r9d,r9d
+	xor    esi,esi
 	mov    r8,rcx
-	.byte 0x66, 0x66, 0x66, 0x66, 0x2e, 0xf, 0x1f, 0x84, 0x0, 0x0, 0x0, 0x0, 0x0  /* data16 data16 data16 cs nop WORD PTR [rax+rax*1+0x0] */
-5:
+	.byte 0x66, 0x66, 0x2e, 0xf, 0x1f, 0x84, 0x0, 0x0, 0x0, 0x0, 0x0  /* data16 cs nop WORD PTR [rax+rax*1+0x0] */
+3:
 	movdqa xmm1,XMMWORD PTR [rip + const_hex_1_0_0_constant_1_v2]
-	movdqu xmm5,XMMWORD PTR [rdi+r9*2]
-	movdqu xmm4,XMMWORD PTR [rdi+r9*2+0x10]
-	movdqu xmm8,XMMWORD PTR [rdi+r9*2+0x20]
-	movdqu xmm7,XMMWORD PTR [rdi+r9*2+0x30]
+	movdqu xmm5,XMMWORD PTR [rdi+rsi*2]
+	movdqu xmm4,XMMWORD PTR [rdi+rsi*2+0x10]
+	movdqu xmm8,XMMWORD PTR [rdi+rsi*2+0x20]
+	movdqu xmm7,XMMWORD PTR [rdi+rsi*2+0x30]
 	movdqa xmm0,xmm1
 	pshufb xmm0,xmm5
 	movdqa xmm3,xmm1
@@ -516,10 +514,10 @@
 	por    xmm8,xmm5
 	psubb  xmm7,xmm6
 	por    xmm7,xmm4
-	movdqu xmm12,XMMWORD PTR [rdi+r9*2+0x40]
+	movdqu xmm12,XMMWORD PTR [rdi+rsi*2+0x40]
 	movdqa xmm4,xmm1
 	pshufb xmm4,xmm12
-	movdqu xmm11,XMMWORD PTR [rdi+r9*2+0x50]
+	movdqu xmm11,XMMWORD PTR [rdi+rsi*2+0x50]
 	movdqa xmm5,xmm1
 	pshufb xmm5,xmm11
 	paddb  xmm11,xmm10
@@ -528,10 +526,10 @@
 	pminub xmm5,xmm11
 	psubb  xmm11,xmm5
 	psubb  xmm12,xmm4
-	movdqu xmm13,XMMWORD PTR [rdi+r9*2+0x60]
+	movdqu xmm13,XMMWORD PTR [rdi+rsi*2+0x60]
 	movdqa xmm9,xmm1
 	pshufb xmm9,xmm13
-	movdqu xmm14,XMMWORD PTR [rdi+r9*2+0x70]
+	movdqu xmm14,XMMWORD PTR [rdi+rsi*2+0x70]
 	pshufb xmm1,xmm14
 	paddb  xmm13,xmm10
 	paddb  xmm14,xmm10
@@ -545,9 +543,9 @@
 	por    xmm14,xmm7
 	por    xmm14,xmm13
 	ptest  xmm14,XMMWORD PTR [rip + const_hex_1_0_0_constant_3_v2]
-	jne    6f
-	lea    r10,[rip + const_hex_1_0_0_constant_4_v2]
-	movdqu xmm7,XMMWORD PTR [rax+r10*1+0x10]
+	jne    4f
+	lea    r9,[rip + const_hex_1_0_0_constant_4_v2]
+	movdqu xmm7,XMMWORD PTR [rax+r9*1+0x10]
 	pmullw xmm0,xmm7
 	pmullw xmm3,xmm7
 	pmullw xmm2,xmm7
@@ -568,26 +566,26 @@
 	psrlw  xmm5,0x8
 	psrlw  xmm4,0x8
 	packuswb xmm4,xmm5
-	movdqu XMMWORD PTR [rdx+r9*1+0x10],xmm2
-	movdqu XMMWORD PTR [rdx+r9*1],xmm0
-	movdqu XMMWORD PTR [rdx+r9*1+0x30],xmm9
-	movdqu XMMWORD PTR [rdx+r9*1+0x20],xmm4
-	add    r9,0x40
+	movdqu XMMWORD PTR [rdx+rsi*1+0x10],xmm2
+	movdqu XMMWORD PTR [rdx+rsi*1],xmm0
+	movdqu XMMWORD PTR [rdx+rsi*1+0x30],xmm9
+	movdqu XMMWORD PTR [rdx+rsi*1+0x20],xmm4
+	add    rsi,0x40
 	add    r8,0xffffffffffffffc0
 	cmp    r8,0x3f
-	ja     5b
-6:
+	ja     3b
+4:
 	mov    rax,rcx
-	sub    rax,r9
+	sub    rax,rsi
 	cmp    rax,0x20
-	jb     9f
-	.byte 0xf, 0x1f, 0x40, 0x0  /* nop    DWORD PTR [rax+0x0] */
-7:
+	jb     7f
+	.byte 0x66, 0x2e, 0xf, 0x1f, 0x84, 0x0, 0x0, 0x0, 0x0, 0x0  /* cs nop WORD PTR [rax+rax*1+0x0] */
+5:
 	movdqa xmm0,XMMWORD PTR [rip + const_hex_1_0_0_constant_1_v2]
-	movdqu xmm7,XMMWORD PTR [rdi+r9*2]
-	movdqu xmm6,XMMWORD PTR [rdi+r9*2+0x10]
-	movdqu xmm4,XMMWORD PTR [rdi+r9*2+0x20]
-	movdqu xmm5,XMMWORD PTR [rdi+r9*2+0x30]
+	movdqu xmm7,XMMWORD PTR [rdi+rsi*2]
+	movdqu xmm6,XMMWORD PTR [rdi+rsi*2+0x10]
+	movdqu xmm4,XMMWORD PTR [rdi+rsi*2+0x20]
+	movdqu xmm5,XMMWORD PTR [rdi+rsi*2+0x30]
 	movdqa xmm1,xmm0
 	pshufb xmm1,xmm7
 	movdqa xmm2,xmm0
@@ -612,7 +610,7 @@
 	por    xmm5,xmm6
 	por    xmm5,xmm4
 	ptest  xmm5,XMMWORD PTR [rip + const_hex_1_0_0_constant_3_v2]
-	jne    12f
+	jne    9f
 	movdqa xmm4,xmm2
 	psllw  xmm4,0xc
 	paddw  xmm4,xmm2
@@ -631,24 +629,24 @@
 	psrlw  xmm2,0x8
 	psrlw  xmm4,0x8
 	packuswb xmm2,xmm4
-	movdqu XMMWORD PTR [rdx+r9*1+0x10],xmm0
-	movdqu XMMWORD PTR [rdx+r9*1],xmm2
-	add    r9,0x20
+	movdqu XMMWORD PTR [rdx+rsi*1+0x10],xmm0
+	movdqu XMMWORD PTR [rdx+rsi*1],xmm2
+	add    rsi,0x20
 	add    rax,0xffffffffffffffe0
 	cmp    rax,0x1f
-	ja     7b
-	jmp    9f
-8:
-	xor    r9d,r9d
+	ja     5b
+	jmp    7f
+6:
+	xor    esi,esi
 	mov    rax,rcx
-	sub    rax,r9
+	sub    rax,rsi
 	cmp    rax,0x20
-	jae    7b
-9:
+	jae    5b
+7:
 	cmp    rax,0x10
-	jb     14f
-	movdqu xmm2,XMMWORD PTR [rdi+r9*2]
-	movdqu xmm3,XMMWORD PTR [rdi+r9*2+0x10]
+	jb     8f
+	movdqu xmm2,XMMWORD PTR [rdi+rsi*2]
+	movdqu xmm3,XMMWORD PTR [rdi+rsi*2+0x10]
 	movdqa xmm0,XMMWORD PTR [rip + const_hex_1_0_0_constant_1_v2]
 	movdqa xmm1,xmm0
 	pshufb xmm1,xmm2
@@ -662,12 +660,7 @@
 	psubb  xmm3,xmm0
 	por    xmm3,xmm2
 	ptest  xmm3,XMMWORD PTR [rip + const_hex_1_0_0_constant_3_v2]
-	je     13f
-12:
-	xor    eax,eax
-	pop    rcx
-	ret
-13:
+	jne    9f
 	movdqa xmm2,xmm1
 	psllw  xmm2,0xc
 	paddw  xmm2,xmm1
@@ -677,13 +670,12 @@
 	psrlw  xmm1,0x8
 	psrlw  xmm2,0x8
 	packuswb xmm2,xmm1
-	movdqu XMMWORD PTR [rdx+r9*1],xmm2
-	or     r9,0x10
-14:
+	movdqu XMMWORD PTR [rdx+rsi*1],xmm2
+	or     rsi,0x10
+8:
 	mov    al,0x1
-	mov    r8,rcx
-	sub    r8,r9
-	je     3b
+	cmp    rsi,rcx
+	je     13f
 	movdqu xmm2,XMMWORD PTR [rdi+rcx*2-0x20]
 	movdqu xmm3,XMMWORD PTR [rdi+rcx*2-0x10]
 	movdqa xmm0,XMMWORD PTR [rip + const_hex_1_0_0_constant_1_v2]
@@ -699,14 +691,11 @@
 	psubb  xmm3,xmm0
 	por    xmm3,xmm2
 	ptest  xmm3,XMMWORD PTR [rip + const_hex_1_0_0_constant_3_v2]
-	je     15f
-	lea    rdi,[rdi+r9*2]
-	sub    rsi,r9
-	sub    rsi,r9
-	add    rdx,r9
-	mov    rcx,r8
-	jmp    2b
-15:
+	je     12f
+9:
+	xor    eax,eax
+	ret
+12:
 	movdqa xmm2,xmm1
 	psllw  xmm2,0xc
 	paddw  xmm2,xmm1
@@ -717,12 +706,12 @@
 	psrlw  xmm2,0x8
 	packuswb xmm2,xmm1
 	movdqu XMMWORD PTR [rdx+rcx*1-0x10],xmm2
-	pop    rcx
+13:
 	ret
 	end const_hex_1_0_0_read_v2
 
-/* const_hex_arch::arch::short::decode */
-	function const_hex_1_0_0_short_decode_v2
+/* const_hex_arch::arch::small_input::decode_small */
+	function const_hex_1_0_0_small_input_decode_small_v2
 	cmp    rcx,0x8
 	jb     2f
 	movdqu xmm2,XMMWORD PTR [rdi]
@@ -740,19 +729,8 @@
 	psubb  xmm3,xmm0
 	por    xmm3,xmm2
 	ptest  xmm3,XMMWORD PTR [rip + const_hex_1_0_0_constant_3_v2]
-	jne    5f
-	movdqa xmm2,xmm1
-	psllw  xmm2,0xc
-	paddw  xmm2,xmm1
-	movdqa xmm1,xmm0
-	psllw  xmm1,0xc
-	paddw  xmm1,xmm0
-	psrlw  xmm1,0x8
-	psrlw  xmm2,0x8
-	packuswb xmm2,xmm1
-	movq   QWORD PTR [rdx],xmm2
-	pextrq QWORD PTR [rdx+rcx*1-0x8],xmm2,0x1
-	mov    al,0x1
+	je     4f
+	xor    eax,eax
 	ret
 2:
 	cmp    rcx,0x4
@@ -766,19 +744,12 @@
 	pminub xmm0,xmm1
 	psubb  xmm1,xmm0
 	ptest  xmm1,XMMWORD PTR [rip + const_hex_1_0_0_constant_3_v2]
-	jne    5f
-	movdqa xmm1,xmm0
-	psllw  xmm1,0xc
-	paddw  xmm1,xmm0
-	psrlw  xmm1,0x8
-	packuswb xmm1,xmm1
-	movd   DWORD PTR [rdx],xmm1
-	pextrd DWORD PTR [rdx+rcx*1-0x4],xmm1,0x1
-	mov    al,0x1
+	je     6f
+	xor    eax,eax
 	ret
 3:
 	cmp    rcx,0x2
-	jb     4f
+	jb     5f
 	movd   xmm1,DWORD PTR [rdi]
 	pinsrd xmm1,DWORD PTR [rdi+rsi*1-0x4],0x1
 	mov    eax,0x30303030
@@ -790,7 +761,57 @@
 	pminub xmm0,xmm1
 	psubb  xmm1,xmm0
 	ptest  xmm1,XMMWORD PTR [rip + const_hex_1_0_0_constant_3_v2]
-	jne    5f
+	je     7f
+	xor    eax,eax
+	ret
+4:
+	movdqa xmm2,xmm1
+	psllw  xmm2,0xc
+	paddw  xmm2,xmm1
+	movdqa xmm1,xmm0
+	psllw  xmm1,0xc
+	paddw  xmm1,xmm0
+	psrlw  xmm1,0x8
+	psrlw  xmm2,0x8
+	packuswb xmm2,xmm1
+	movq   QWORD PTR [rdx],xmm2
+	pextrq QWORD PTR [rdx+rcx*1-0x8],xmm2,0x1
+	mov    al,0x1
+	ret
+5:
+	mov    al,0x1
+	test   rcx,rcx
+	je     9f
+	movzx  ecx,WORD PTR [rdi]
+	movd   xmm1,ecx
+	pinsrw xmm1,WORD PTR [rdi+rsi*1-0x2],0x1
+	mov    ecx,0x3030
+	pinsrw xmm1,ecx,0x2
+	pinsrw xmm1,ecx,0x3
+	pinsrw xmm1,ecx,0x4
+	pinsrw xmm1,ecx,0x5
+	pinsrw xmm1,ecx,0x6
+	pinsrw xmm1,ecx,0x7
+	movdqa xmm0,XMMWORD PTR [rip + const_hex_1_0_0_constant_1_v2]
+	pshufb xmm0,xmm1
+	paddb  xmm1,XMMWORD PTR [rip + const_hex_1_0_0_constant_2_v2]
+	pminub xmm0,xmm1
+	psubb  xmm1,xmm0
+	ptest  xmm1,XMMWORD PTR [rip + const_hex_1_0_0_constant_3_v2]
+	je     8f
+	xor    eax,eax
+	ret
+6:
+	movdqa xmm1,xmm0
+	psllw  xmm1,0xc
+	paddw  xmm1,xmm0
+	psrlw  xmm1,0x8
+	packuswb xmm1,xmm1
+	movd   DWORD PTR [rdx],xmm1
+	pextrd DWORD PTR [rdx+rcx*1-0x4],xmm1,0x1
+	mov    al,0x1
+	ret
+7:
 	movdqa xmm1,xmm0
 	psllw  xmm1,0xc
 	paddw  xmm1,xmm0
@@ -801,51 +822,6 @@
 	pextrw WORD PTR [rdx+rcx*1-0x2],xmm1,0x1
 	mov    al,0x1
 	ret
-4:
-	mov    al,0x1
-	cmp    rcx,0x1
-	jne    7f
-	movzx  r8d,WORD PTR [rdi]
-	movd   xmm1,r8d
-	pinsrw xmm1,WORD PTR [rdi+rsi*1-0x2],0x1
-	mov    esi,0x3030
-	pinsrw xmm1,esi,0x2
-	pinsrw xmm1,esi,0x3
-	pinsrw xmm1,esi,0x4
-	pinsrw xmm1,esi,0x5
-	pinsrw xmm1,esi,0x6
-	pinsrw xmm1,esi,0x7
-	movdqa xmm0,XMMWORD PTR [rip + const_hex_1_0_0_constant_1_v2]
-	pshufb xmm0,xmm1
-	paddb  xmm1,XMMWORD PTR [rip + const_hex_1_0_0_constant_2_v2]
-	pminub xmm0,xmm1
-	psubb  xmm1,xmm0
-	ptest  xmm1,XMMWORD PTR [rip + const_hex_1_0_0_constant_3_v2]
-	je     8f
-5:
-	xor    esi,esi
-	.byte 0xf, 0x1f, 0x0  /* nop    DWORD PTR [rax] */
-6:
-	movzx  eax,BYTE PTR [rdi+rsi*2]
-	lea    r9,[rip + const_hex_1_0_0_constant_5_v2]
-	movzx  r8d,BYTE PTR [rax+r9*1]
-	movzx  eax,BYTE PTR [rdi+rsi*2+0x1]
-	movzx  r9d,BYTE PTR [rax+r9*1]
-	cmp    r8b,0xff
-	setne  r10b
-	cmp    r9b,0xff
-	setne  al
-	and    al,r10b
-	cmp    al,0x1
-	jne    7f
-	shl    r8b,0x4
-	add    r9b,r8b
-	mov    BYTE PTR [rdx+rsi*1],r9b
-	inc    rsi
-	cmp    rcx,rsi
-	jne    6b
-7:
-	ret
 8:
 	push   rbx
 	pextrw ecx,xmm0,0x1
@@ -854,8 +830,9 @@
 	add    ebx,ecx
 	mov    BYTE PTR [rdx],bh
 	pop    rbx
+9:
 	ret
-	end const_hex_1_0_0_short_decode_v2
+	end const_hex_1_0_0_small_input_decode_small_v2
 
 	constant const_hex_1_0_0_constant_1_v2, 4
 	.byte 0x01, 0x0a, 0x0b, 0x0c, 0x0d, 0x0e, 0x0f, 0x08, 0x09, 0x0a, 0x00, 0x00, 0x00, 0x00, 0x00, 0x00
@@ -879,21 +856,3 @@
 	.byte 0x00, 0x00, 0x00, 0x00, 0x00, 0x00, 0x00, 0x00, 0x00, 0x00, 0x00, 0x00, 0x00, 0x00, 0x00, 0x00
 	.byte 0x00, 0x00, 0x00, 0x00, 0x00, 0x00, 0x00, 0x00, 0x00, 0x00, 0x00, 0x00, 0x00, 0x00, 0x00, 0x00
 	.byte 0x00, 0x00, 0x00, 0x00, 0x00, 0x00, 0x00, 0x00, 0x00, 0x00, 0x00, 0x00, 0x00, 0x00, 0x00, 0x00
-
-	constant const_hex_1_0_0_constant_5_v2, 0
-	.byte 0xff, 0xff, 0xff, 0xff, 0xff, 0xff, 0xff, 0xff, 0xff, 0xff, 0xff, 0xff, 0xff, 0xff, 0xff, 0xff
-	.byte 0xff, 0xff, 0xff, 0xff, 0xff, 0xff, 0xff, 0xff, 0xff, 0xff, 0xff, 0xff, 0xff, 0xff, 0xff, 0xff
-	.byte 0xff, 0xff, 0xff, 0xff, 0xff, 0xff, 0xff, 0xff, 0xff, 0xff, 0xff, 0xff, 0xff, 0xff, 0xff, 0xff
-	.byte 0x00, 0x01, 0x02, 0x03, 0x04, 0x05, 0x06, 0x07, 0x08, 0x09, 0xff, 0xff, 0xff, 0xff, 0xff, 0xff
-	.byte 0xff, 0x0a, 0x0b, 0x0c, 0x0d, 0x0e, 0x0f, 0xff, 0xff, 0xff, 0xff, 0xff, 0xff, 0xff, 0xff, 0xff
-	.byte 0xff, 0xff, 0xff, 0xff, 0xff, 0xff, 0xff, 0xff, 0xff, 0xff, 0xff, 0xff, 0xff, 0xff, 0xff, 0xff
-	.byte 0xff, 0x0a, 0x0b, 0x0c, 0x0d, 0x0e, 0x0f, 0xff, 0xff, 0xff, 0xff, 0xff, 0xff, 0xff, 0xff, 0xff
-	.byte 0xff, 0xff, 0xff, 0xff, 0xff, 0xff, 0xff, 0xff, 0xff, 0xff, 0xff, 0xff, 0xff, 0xff, 0xff, 0xff
-	.byte 0xff, 0xff, 0xff, 0xff, 0xff, 0xff, 0xff, 0xff, 0xff, 0xff, 0xff, 0xff, 0xff, 0xff, 0xff, 0xff
-	.byte 0xff, 0xff, 0xff, 0xff, 0xff, 0xff, 0xff, 0xff, 0xff, 0xff, 0xff, 0xff, 0xff, 0xff, 0xff, 0xff
-	.byte 0xff, 0xff, 0xff, 0xff, 0xff, 0xff, 0xff, 0xff, 0xff, 0xff, 0xff, 0xff, 0xff, 0xff, 0xff, 0xff
-	.byte 0xff, 0xff, 0xff, 0xff, 0xff, 0xff, 0xff, 0xff, 0xff, 0xff, 0xff, 0xff, 0xff, 0xff, 0xff, 0xff
-	.byte 0xff, 0xff, 0xff, 0xff, 0xff, 0xff, 0xff, 0xff, 0xff, 0xff, 0xff, 0xff, 0xff, 0xff, 0xff, 0xff
-	.byte 0xff, 0xff, 0xff, 0xff, 0xff, 0xff, 0xff, 0xff, 0xff, 0xff, 0xff, 0xff, 0xff, 0xff, 0xff, 0xff
-	.byte 0xff, 0xff, 0xff, 0xff, 0xff, 0xff, 0xff, 0xff, 0xff, 0xff, 0xff, 0xff, 0xff, 0xff, 0xff, 0xff
-	.byte 0xff, 0xff, 0xff, 0xff, 0xff, 0xff, 0xff, 0xff, 0xff, 0xff, 0xff, 0xff, 0xff, 0xff, 0xff, 0xff

@@ -361,30 +361,26 @@
 /* const_hex_rust::read */
 	hidden const_hex_1_0_0_read_v3
 	function const_hex_1_0_0_read_v3
-	push   rax
 	cmp    rcx,0x10
-	jae    4f
-2:
-	vzeroupper
-	call   const_hex_1_0_0_short_decode_v3
-3:
-	pop    rcx
-	vzeroupper
+	jae    2f
+	push   rax
+	call   const_hex_1_0_0_small_input_decode_small_v3
+	add    rsp,0x8
 	ret
-4:
+2:
 	cmp    rcx,0x40
-	jb     8f
+	jb     6f
 	mov    eax,ecx
 	and    eax,0x40
-	xor    r9d,r9d
+	xor    esi,esi
 	mov    r8,rcx
-	.byte 0xf, 0x1f, 0x80, 0x0, 0x0, 0x0, 0x0  /* nop    DWORD PTR [rax+0x0] */
-5:
+	.byte 0x66, 0x66, 0x2e, 0xf, 0x1f, 0x84, 0x0, 0x0, 0x0, 0x0, 0x0  /* data16 cs nop WORD PTR [rax+rax*1+0x0] */
+3:
 	vbroadcasti128 ymm3,XMMWORD PTR [rip + const_hex_1_0_0_constant_1_v3]
-	vmovdqu ymm0,YMMWORD PTR [rdi+r9*2]
-	vmovdqu ymm1,YMMWORD PTR [rdi+r9*2+0x20]
-	vmovdqu ymm2,YMMWORD PTR [rdi+r9*2+0x40]
-	vmovdqu ymm4,YMMWORD PTR [rdi+r9*2+0x60]
+	vmovdqu ymm0,YMMWORD PTR [rdi+rsi*2]
+	vmovdqu ymm1,YMMWORD PTR [rdi+rsi*2+0x20]
+	vmovdqu ymm2,YMMWORD PTR [rdi+rsi*2+0x40]
+	vmovdqu ymm4,YMMWORD PTR [rdi+rsi*2+0x60]
 	vpshufb ymm5,ymm3,ymm0
 	vpbroadcastd ymm6,DWORD PTR [rip + const_hex_1_0_0_constant_2_v3]
 	vpaddb ymm7,ymm0,ymm6
@@ -407,9 +403,9 @@
 	vpor   ymm4,ymm5,ymm4
 	vpbroadcastq ymm5,QWORD PTR [rip + const_hex_1_0_0_constant_3_v3]
 	vptest ymm4,ymm5
-	jne    6f
-	lea    r10,[rip + const_hex_1_0_0_constant_7_v3]
-	vbroadcasti128 ymm4,XMMWORD PTR [rax+r10*1+0x10]
+	jne    4f
+	lea    r9,[rip + const_hex_1_0_0_constant_7_v3]
+	vbroadcasti128 ymm4,XMMWORD PTR [rax+r9*1+0x10]
 	vpmullw ymm0,ymm4,ymm0
 	vpmullw ymm1,ymm4,ymm1
 	vpsrlw ymm1,ymm1,0x8
@@ -422,21 +418,21 @@
 	vpsrlw ymm1,ymm1,0x8
 	vpackuswb ymm1,ymm1,ymm2
 	vpermq ymm1,ymm1,0xd8
-	vmovdqu YMMWORD PTR [rdx+r9*1],ymm0
-	vmovdqu YMMWORD PTR [rdx+r9*1+0x20],ymm1
-	add    r9,0x40
+	vmovdqu YMMWORD PTR [rdx+rsi*1],ymm0
+	vmovdqu YMMWORD PTR [rdx+rsi*1+0x20],ymm1
+	add    rsi,0x40
 	add    r8,0xffffffffffffffc0
 	cmp    r8,0x3f
-	ja     5b
-6:
+	ja     3b
+4:
 	mov    rax,rcx
-	sub    rax,r9
+	sub    rax,rsi
 	cmp    rax,0x20
-	jb     9f
-	.byte 0x66, 0x66, 0x66, 0x66, 0x66, 0x2e, 0xf, 0x1f, 0x84, 0x0, 0x0, 0x0, 0x0, 0x0  /* data16 data16 data16 data16 cs nop WORD PTR [rax+rax*1+0x0] */
-7:
-	vmovdqu ymm0,YMMWORD PTR [rdi+r9*2]
-	vmovdqu ymm1,YMMWORD PTR [rdi+r9*2+0x20]
+	jb     7f
+	.byte 0xf, 0x1f, 0x40, 0x0  /* nop    DWORD PTR [rax+0x0] */
+5:
+	vmovdqu ymm0,YMMWORD PTR [rdi+rsi*2]
+	vmovdqu ymm1,YMMWORD PTR [rdi+rsi*2+0x20]
 	vbroadcasti128 ymm2,XMMWORD PTR [rip + const_hex_1_0_0_constant_1_v3]
 	vpshufb ymm3,ymm2,ymm0
 	vpbroadcastd ymm4,DWORD PTR [rip + const_hex_1_0_0_constant_2_v3]
@@ -450,7 +446,7 @@
 	vpor   ymm2,ymm2,ymm3
 	vpbroadcastq ymm3,QWORD PTR [rip + const_hex_1_0_0_constant_3_v3]
 	vptest ymm2,ymm3
-	jne    12f
+	jne    9f
 	vpsllw ymm2,ymm0,0xc
 	vpaddw ymm0,ymm0,ymm2
 	vpsllw ymm2,ymm1,0xc
@@ -459,23 +455,23 @@
 	vpsrlw ymm0,ymm0,0x8
 	vpackuswb ymm0,ymm0,ymm1
 	vpermq ymm0,ymm0,0xd8
-	vmovdqu YMMWORD PTR [rdx+r9*1],ymm0
-	add    r9,0x20
+	vmovdqu YMMWORD PTR [rdx+rsi*1],ymm0
+	add    rsi,0x20
 	add    rax,0xffffffffffffffe0
 	cmp    rax,0x1f
-	ja     7b
-	jmp    9f
-8:
-	xor    r9d,r9d
+	ja     5b
+	jmp    7f
+6:
+	xor    esi,esi
 	mov    rax,rcx
-	sub    rax,r9
+	sub    rax,rsi
 	cmp    rax,0x20
-	jae    7b
-9:
+	jae    5b
+7:
 	cmp    rax,0x10
-	jb     14f
-	vmovdqu xmm0,XMMWORD PTR [rdi+r9*2]
-	vmovdqu xmm1,XMMWORD PTR [rdi+r9*2+0x10]
+	jb     8f
+	vmovdqu xmm0,XMMWORD PTR [rdi+rsi*2]
+	vmovdqu xmm1,XMMWORD PTR [rdi+rsi*2+0x10]
 	vmovdqa xmm2,XMMWORD PTR [rip + const_hex_1_0_0_constant_1_v3]
 	vpshufb xmm3,xmm2,xmm0
 	vpbroadcastd xmm4,DWORD PTR [rip + const_hex_1_0_0_constant_2_v3]
@@ -488,26 +484,19 @@
 	vpsubb xmm2,xmm4,xmm1
 	vpor   xmm2,xmm2,xmm3
 	vptest xmm2,XMMWORD PTR [rip + const_hex_1_0_0_constant_4_v3]
-	je     13f
-12:
-	xor    eax,eax
-	pop    rcx
-	vzeroupper
-	ret
-13:
+	jne    9f
 	vinserti128 ymm0,ymm0,xmm1,0x1
 	vpsllw ymm1,ymm0,0xc
 	vpaddw ymm0,ymm0,ymm1
 	vpsrlw ymm0,ymm0,0x8
 	vextracti128 xmm1,ymm0,0x1
 	vpackuswb xmm0,xmm0,xmm1
-	vmovdqu XMMWORD PTR [rdx+r9*1],xmm0
-	or     r9,0x10
-14:
+	vmovdqu XMMWORD PTR [rdx+rsi*1],xmm0
+	or     rsi,0x10
+8:
 	mov    al,0x1
-	mov    r8,rcx
-	sub    r8,r9
-	je     3b
+	cmp    rsi,rcx
+	je     13f
 	vmovdqu xmm0,XMMWORD PTR [rdi+rcx*2-0x20]
 	vmovdqu xmm1,XMMWORD PTR [rdi+rcx*2-0x10]
 	vmovdqa xmm2,XMMWORD PTR [rip + const_hex_1_0_0_constant_1_v3]
@@ -522,14 +511,12 @@
 	vpsubb xmm2,xmm4,xmm1
 	vpor   xmm2,xmm2,xmm3
 	vptest xmm2,XMMWORD PTR [rip + const_hex_1_0_0_constant_4_v3]
-	je     15f
-	lea    rdi,[rdi+r9*2]
-	sub    rsi,r9
-	sub    rsi,r9
-	add    rdx,r9
-	mov    rcx,r8
-	jmp    2b
-15:
+	je     12f
+9:
+	xor    eax,eax
+	vzeroupper
+	ret
+12:
 	vinserti128 ymm0,ymm0,xmm1,0x1
 	vpsllw ymm1,ymm0,0xc
 	vpaddw ymm0,ymm0,ymm1
@@ -537,13 +524,13 @@
 	vextracti128 xmm1,ymm0,0x1
 	vpackuswb xmm0,xmm0,xmm1
 	vmovdqu XMMWORD PTR [rdx+rcx*1-0x10],xmm0
-	pop    rcx
+13:
 	vzeroupper
 	ret
 	end const_hex_1_0_0_read_v3
 
-/* const_hex_arch::arch::short::decode */
-	function const_hex_1_0_0_short_decode_v3
+/* const_hex_arch::arch::small_input::decode_small */
+	function const_hex_1_0_0_small_input_decode_small_v3
 	cmp    rcx,0x8
 	jb     2f
 	vmovdqu xmm0,XMMWORD PTR [rdi]
@@ -560,16 +547,8 @@
 	vpsubb xmm2,xmm4,xmm1
 	vpor   xmm2,xmm2,xmm3
 	vptest xmm2,XMMWORD PTR [rip + const_hex_1_0_0_constant_4_v3]
-	jne    5f
-	vinserti128 ymm0,ymm0,xmm1,0x1
-	vpsllw ymm1,ymm0,0xc
-	vpaddw ymm0,ymm0,ymm1
-	vpsrlw ymm0,ymm0,0x8
-	vextracti128 xmm1,ymm0,0x1
-	vpackuswb xmm0,xmm0,xmm1
-	vmovq  QWORD PTR [rdx],xmm0
-	vpextrq QWORD PTR [rdx+rcx*1-0x8],xmm0,0x1
-	mov    al,0x1
+	je     4f
+	xor    eax,eax
 	vzeroupper
 	ret
 2:
@@ -584,17 +563,12 @@
 	vpminub xmm0,xmm2,xmm1
 	vpsubb xmm1,xmm2,xmm0
 	vptest xmm1,XMMWORD PTR [rip + const_hex_1_0_0_constant_4_v3]
-	jne    5f
-	vpsllw xmm1,xmm0,0xc
-	vpaddw xmm0,xmm0,xmm1
-	vpshufb xmm0,xmm0,XMMWORD PTR [rip + const_hex_1_0_0_constant_8_v3]
-	vmovd  DWORD PTR [rdx],xmm0
-	vpextrd DWORD PTR [rdx+rcx*1-0x4],xmm0,0x1
-	mov    al,0x1
+	je     6f
+	xor    eax,eax
 	ret
 3:
 	cmp    rcx,0x2
-	jb     4f
+	jb     5f
 	vmovd  xmm0,DWORD PTR [rdi]
 	vpinsrd xmm0,xmm0,DWORD PTR [rdi+rsi*1-0x4],0x1
 	mov    eax,0x30303030
@@ -606,7 +580,54 @@
 	vpminub xmm0,xmm2,xmm1
 	vpsubb xmm1,xmm2,xmm0
 	vptest xmm1,XMMWORD PTR [rip + const_hex_1_0_0_constant_4_v3]
-	jne    5f
+	je     7f
+	xor    eax,eax
+	vzeroupper
+	ret
+4:
+	vinserti128 ymm0,ymm0,xmm1,0x1
+	vpsllw ymm1,ymm0,0xc
+	vpaddw ymm0,ymm0,ymm1
+	vpsrlw ymm0,ymm0,0x8
+	vextracti128 xmm1,ymm0,0x1
+	vpackuswb xmm0,xmm0,xmm1
+	vmovq  QWORD PTR [rdx],xmm0
+	vpextrq QWORD PTR [rdx+rcx*1-0x8],xmm0,0x1
+	mov    al,0x1
+	vzeroupper
+	ret
+5:
+	mov    al,0x1
+	test   rcx,rcx
+	je     9f
+	movzx  ecx,WORD PTR [rdi]
+	vmovd  xmm0,ecx
+	vpinsrw xmm0,xmm0,WORD PTR [rdi+rsi*1-0x2],0x1
+	mov    ecx,0x3030
+	vpinsrw xmm0,xmm0,ecx,0x2
+	vpinsrw xmm0,xmm0,ecx,0x3
+	vpinsrw xmm0,xmm0,ecx,0x4
+	vpinsrw xmm0,xmm0,ecx,0x5
+	vpinsrw xmm0,xmm0,ecx,0x6
+	vpinsrw xmm0,xmm0,ecx,0x7
+	vmovdqa xmm1,XMMWORD PTR [rip + const_hex_1_0_0_constant_1_v3]
+	vpshufb xmm1,xmm1,xmm0
+	vpaddb xmm2,xmm0,XMMWORD PTR [rip + const_hex_1_0_0_constant_6_v3]
+	vpminub xmm0,xmm2,xmm1
+	vpsubb xmm1,xmm2,xmm0
+	vptest xmm1,XMMWORD PTR [rip + const_hex_1_0_0_constant_4_v3]
+	je     8f
+	xor    eax,eax
+	ret
+6:
+	vpsllw xmm1,xmm0,0xc
+	vpaddw xmm0,xmm0,xmm1
+	vpshufb xmm0,xmm0,XMMWORD PTR [rip + const_hex_1_0_0_constant_8_v3]
+	vmovd  DWORD PTR [rdx],xmm0
+	vpextrd DWORD PTR [rdx+rcx*1-0x4],xmm0,0x1
+	mov    al,0x1
+	ret
+7:
 	vpsllw ymm1,ymm0,0xc
 	vpaddw ymm0,ymm0,ymm1
 	vpsrlw ymm0,ymm0,0x8
@@ -617,52 +638,6 @@
 	mov    al,0x1
 	vzeroupper
 	ret
-4:
-	mov    al,0x1
-	cmp    rcx,0x1
-	jne    7f
-	movzx  r8d,WORD PTR [rdi]
-	vmovd  xmm0,r8d
-	vpinsrw xmm0,xmm0,WORD PTR [rdi+rsi*1-0x2],0x1
-	mov    esi,0x3030
-	vpinsrw xmm0,xmm0,esi,0x2
-	vpinsrw xmm0,xmm0,esi,0x3
-	vpinsrw xmm0,xmm0,esi,0x4
-	vpinsrw xmm0,xmm0,esi,0x5
-	vpinsrw xmm0,xmm0,esi,0x6
-	vpinsrw xmm0,xmm0,esi,0x7
-	vmovdqa xmm1,XMMWORD PTR [rip + const_hex_1_0_0_constant_1_v3]
-	vpshufb xmm1,xmm1,xmm0
-	vpaddb xmm2,xmm0,XMMWORD PTR [rip + const_hex_1_0_0_constant_6_v3]
-	vpminub xmm0,xmm2,xmm1
-	vpsubb xmm1,xmm2,xmm0
-	vptest xmm1,XMMWORD PTR [rip + const_hex_1_0_0_constant_4_v3]
-	je     8f
-5:
-	xor    esi,esi
-	nop
-6:
-	movzx  eax,BYTE PTR [rdi+rsi*2]
-	lea    r9,[rip + const_hex_1_0_0_constant_9_v3]
-	movzx  r8d,BYTE PTR [rax+r9*1]
-	movzx  eax,BYTE PTR [rdi+rsi*2+0x1]
-	movzx  r9d,BYTE PTR [rax+r9*1]
-	cmp    r8b,0xff
-	setne  r10b
-	cmp    r9b,0xff
-	setne  al
-	and    al,r10b
-	cmp    al,0x1
-	jne    7f
-	shl    r8b,0x4
-	add    r9b,r8b
-	mov    BYTE PTR [rdx+rsi*1],r9b
-	inc    rsi
-	cmp    rcx,rsi
-	jne    6b
-7:
-	vzeroupper
-	ret
 8:
 	push   rbx
 	vpextrw ecx,xmm0,0x1
@@ -671,8 +646,9 @@
 	add    ebx,ecx
 	mov    BYTE PTR [rdx],bh
 	pop    rbx
+9:
 	ret
-	end const_hex_1_0_0_short_decode_v3
+	end const_hex_1_0_0_small_input_decode_small_v3
 
 	constant const_hex_1_0_0_constant_1_v3, 4
 	.byte 0x01, 0x0a, 0x0b, 0x0c, 0x0d, 0x0e, 0x0f, 0x08, 0x09, 0x0a, 0x00, 0x00, 0x00, 0x00, 0x00, 0x00
@@ -709,21 +685,3 @@
 
 	constant const_hex_1_0_0_constant_8_v3, 4
 	.byte 0x01, 0x03, 0x05, 0x07, 0x09, 0x0b, 0x0d, 0x0f, 0x00, 0x00, 0x00, 0x00, 0x00, 0x00, 0x00, 0x00
-
-	constant const_hex_1_0_0_constant_9_v3, 0
-	.byte 0xff, 0xff, 0xff, 0xff, 0xff, 0xff, 0xff, 0xff, 0xff, 0xff, 0xff, 0xff, 0xff, 0xff, 0xff, 0xff
-	.byte 0xff, 0xff, 0xff, 0xff, 0xff, 0xff, 0xff, 0xff, 0xff, 0xff, 0xff, 0xff, 0xff, 0xff, 0xff, 0xff
-	.byte 0xff, 0xff, 0xff, 0xff, 0xff, 0xff, 0xff, 0xff, 0xff, 0xff, 0xff, 0xff, 0xff, 0xff, 0xff, 0xff
-	.byte 0x00, 0x01, 0x02, 0x03, 0x04, 0x05, 0x06, 0x07, 0x08, 0x09, 0xff, 0xff, 0xff, 0xff, 0xff, 0xff
-	.byte 0xff, 0x0a, 0x0b, 0x0c, 0x0d, 0x0e, 0x0f, 0xff, 0xff, 0xff, 0xff, 0xff, 0xff, 0xff, 0xff, 0xff
-	.byte 0xff, 0xff, 0xff, 0xff, 0xff, 0xff, 0xff, 0xff, 0xff, 0xff, 0xff, 0xff, 0xff, 0xff, 0xff, 0xff
-	.byte 0xff, 0x0a, 0x0b, 0x0c, 0x0d, 0x0e, 0x0f, 0xff, 0xff, 0xff, 0xff, 0xff, 0xff, 0xff, 0xff, 0xff
-	.byte 0xff, 0xff, 0xff, 0xff, 0xff, 0xff, 0xff, 0xff, 0xff, 0xff, 0xff, 0xff, 0xff, 0xff, 0xff, 0xff
-	.byte 0xff, 0xff, 0xff, 0xff, 0xff, 0xff, 0xff, 0xff, 0xff, 0xff, 0xff, 0xff, 0xff, 0xff, 0xff, 0xff
-	.byte 0xff, 0xff, 0xff, 0xff, 0xff, 0xff, 0xff, 0xff, 0xff, 0xff, 0xff, 0xff, 0xff, 0xff, 0xff, 0xff
-	.byte 0xff, 0xff, 0xff, 0xff, 0xff, 0xff, 0xff, 0xff, 0xff, 0xff, 0xff, 0xff, 0xff, 0xff, 0xff, 0xff
-	.byte 0xff, 0xff, 0xff, 0xff, 0xff, 0xff, 0xff, 0xff, 0xff, 0xff, 0xff, 0xff, 0xff, 0xff, 0xff, 0xff
-	.byte 0xff, 0xff, 0xff, 0xff, 0xff, 0xff, 0xff, 0xff, 0xff, 0xff, 0xff, 0xff, 0xff, 0xff, 0xff, 0xff
-	.byte 0xff, 0xff, 0xff, 0xff, 0xff, 0xff, 0xff, 0xff, 0xff, 0xff, 0xff, 0xff, 0xff, 0xff, 0xff, 0xff
-	.byte 0xff, 0xff, 0xff, 0xff, 0xff, 0xff, 0xff, 0xff, 0xff, 0xff, 0xff, 0xff, 0xff, 0xff, 0xff, 0xff
-	.byte 0xff, 0xff, 0xff, 0xff, 0xff, 0xff, 0xff, 0xff, 0xff, 0xff, 0xff, 0xff, 0xff, 0xff, 0xff, 0xff
