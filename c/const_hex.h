@@ -65,10 +65,10 @@
  * says, for all inputs. The contracts are in crates/const_hex_c; this header states them in prose.
  *
  * The machine code, which the folder c/asm contains as assembly, is verified too, against this header, by the
- * separate tool in machine_code: every function, on x86-64 in both builds, for every
- * length below 2^53 and positions of a decoder up to 2^62. This is a proof about libconst_hex.a; a test compares
- * the shared library's code with it. That this header agrees with the contracts of crates/const_hex_c and of
- * machine_code was reviewed.
+ * separate tool in machine_code: every function, on x86-64 in both builds, for every length and position of a
+ * decoder within limits that real inputs do not reach, which machine_code/README.md names. This is a proof about
+ * libconst_hex.a; a test compares the shared library's code with it. That this header agrees with the contracts of
+ * crates/const_hex_c and of machine_code was reviewed.
  *
  * CONSTANT TIME
  *

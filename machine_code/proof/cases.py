@@ -17,6 +17,7 @@ from proof.contracts import (
     require_number, require_value, unchanged, written_region,
 )
 from proof.exploration import named, outcomes, require, require_one_path
+from proof.functions import WITH_ERROR
 from proof.induction import prove_class, prove_length, with_nulls
 from proof.linear import lower, symbol
 from proof.memory import Pointer, Region, as_lane, as_value
@@ -303,10 +304,6 @@ CALLS = {
     "error_message": Call([], messages(Case)),
     "version": Call([], _version()),
 }
-
-
-# The functions whose error may be NULL.
-WITH_ERROR = {"decode", "decode_exact", "decoder_update", "decoder_finish", "check"}
 
 
 def function_of(code, call, build):

@@ -2,40 +2,26 @@
 
 It does not look at its arguments, so what is proved holds for any: they arrive unchanged at a build, except
 that a NULL error becomes a pointer to a local one, and the result is what the build returns. On x86-64 there
-may be two builds, and x86_64/choice.py says which one has to be called.
+may be two builds, and isa/x86_64/cpu_choice.py says which one has to be called.
 """
 
 from proof.arithmetic import anything
 from proof.exploration import RETURNED, outcomes, require
+from proof.functions import FUNCTIONS, WITH_ERROR
 from proof.memory import Pointer, as_lane
 from proof.values import constants, unknown
 
-# How many arguments a function has, and which of them is an error that may be NULL.
-FUNCTIONS = {
-    "encoded_size": (2, None),
-    "encode": (5, None),
-    "decode": (6, 5),
-    "decode_exact": (5, 4),
-    "decoder_update": (7, 6),
-    "decoder_finish": (2, 1),
-    "check": (3, 2),
-    "check_raw": (2, None),
-    "error_message": (3, None),
-    "version": (0, None),
-}
-# The flags have 4 bytes. The upper half of their register means nothing.
-FLAGS = {"encoded_size": 1, "encode": 4}
 ONLY = ""  # the name of a build that is the only one
 
 
-def _arguments(count, error, is_null):
-    given = [tuple([unknown(f"argument {at}", byte) for byte in range(8)]) for at in range(count)]
+def _arguments(names, error, is_null):
+    given = [tuple([unknown(f"argument {at}", byte) for byte in range(8)]) for at in range(len(names))]
     if error is not None:
         given[error] = constants(0, 8) if is_null else Pointer("error", 0)
     return given
 
 
-def _called(code, name, state, given, error):
+def _called(code, name, names, state, given, error):
     """Checks a call of a build, and gives which one it is."""
     front_end, callee = code.front_end, code.object.undefined[state.at]
     stem = f"const_hex_{name}" if error is None else f"const_hex_{name}_nonnull"
@@ -50,7 +36,8 @@ def _called(code, name, state, given, error):
             last = front_end.DISPATCH_STACK - 16
             require(local and top + frame <= found.offset <= last, "the local error")
         else:
-            size = 4 if FLAGS.get(name) == at else 8
+            # The flags have 4 bytes. The upper half of their register means nothing.
+            size = 4 if names[at] == "flags" else 8
             require(as_lane(found)[:size] == as_lane(wanted)[:size], f"argument {at} is another")
     return build
 
@@ -73,19 +60,20 @@ def _judge_choice(code, state, build):
 
 def prove(code, name):
     """Proves one function of the header. Gives how many states were judged."""
-    front_end, (count, error), judged = code.front_end, FUNCTIONS[name], 0
+    front_end, names, judged = code.front_end, FUNCTIONS[name].parameters.split(), 0
+    error = names.index("error") if name in WITH_ERROR else None
     for is_null in (False, True) if error is not None else (False,):
-        given = _arguments(count, error, is_null)
+        given = _arguments(names, error, is_null)
         begin = front_end.start(code, f"const_hex_{name}", given, [], front_end.DISPATCH_STACK)
         seen = set()
         for state in list(outcomes(code, begin, code.object.undefined)):
             require(state.at is not RETURNED, "it calls no build")
             require(not state.leaks, "an address depends on an unknown byte")
-            build = _called(code, name, state, given, error)
+            build = _called(code, name, names, state, given, error)
             _judge_choice(code, state, build)
             seen.add((build, bool(state.memory.written("image"))))
             local = front_end.argument(state, error) if is_null else None
-            after = _returned(code, state, count, local)
+            after = _returned(code, state, len(names), local)
             for end in outcomes(code, after, code.object.undefined, may_stay=True):
                 require(end.at is RETURNED, "two builds are called")
                 require(not end.leaks, "an address depends on an unknown byte")

@@ -207,7 +207,7 @@ class Memory:
         if type(value) is Pointer and value.offset != 0:
             region = self.regions.get(value.region)
             if region is None or not 0 <= value.offset <= region.size:
-                raise Fault(f"a pointer that is compared outside its region: {shown(value)}")
+                raise Fault(f"a pointer that is used outside its region: {shown(value)}")
 
     def at(self, name, offset):
         """The byte of a region at an offset. Another thread may have written what the object keeps."""

@@ -6,6 +6,7 @@ from collections import namedtuple
 from proof.conditions import are_equal
 from proof.contracts import INVALID_CHARACTER, INVALID_LENGTH, ODD_LENGTH, is_same, require_value
 from proof.exploration import require
+from proof.functions import FUNCTIONS
 from proof.linear import DIGIT, GREATEST, symbol
 from proof.memory import Pointer, Region, as_lane
 from proof.values import CONSTANTS, ZERO, byte_of, constants, kept, tabulate, unknown, variable
@@ -93,8 +94,9 @@ class Message:
 
 def messages(case):
     """The cases: each kind; and for an invalid character all positions."""
+    may_leak = not FUNCTIONS["error_message"].is_constant_time
     found = [*map(Message, (*TEXTS, None)), *(Message(INVALID_CHARACTER, digits) for digits in positions())]
     for it in found:
         regions = [Region("error", 16, False, 8, it.error), Region("message", SIZE, True)]
         arguments = [Pointer("error", 0), Pointer("message", 0), SIZE]
-        yield case(it.name, arguments, regions, it.judge, it.assume, may_leak=True)
+        yield case(it.name, arguments, regions, it.judge, it.assume, may_leak)

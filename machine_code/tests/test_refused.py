@@ -26,7 +26,7 @@ SOURCES = {
         .section .text.other, "ax"; other: ret""",
 }
 BELOW, NO_CODE = "an access below the stack", "a jump to what is no code"
-OUTSIDE, LEAVES = "a pointer that is compared outside its region", "the stack pointer leaves the stack"
+OUTSIDE, LEAVES = "a pointer that is used outside its region", "the stack pointer leaves the stack"
 PUSHED, PAGE = "less than 8 bytes on the stack", "arithmetic with a page"
 NO_MEANING, OTHER_FORM = "an instruction without a meaning here", "a form without a meaning here"
 REASSEMBLED, WIDE = "is not what the assembler makes of it", "vzeroupper is missing"

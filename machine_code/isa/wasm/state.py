@@ -10,7 +10,7 @@ from proof import state
 from proof.arithmetic import selected
 from proof.conditions import TRUE, are_zero, constant
 from proof.linear import Linear, in_range, is_zero, unsigned
-from proof.memory import Fault, Pointer, as_lane, is_whole, shown, with_replaced
+from proof.memory import Fault, Pointer, as_lane, is_whole, with_replaced
 from proof.values import ZERO, are_constant, constants, number
 
 GREATEST = (1 << 32) - 1
@@ -108,7 +108,7 @@ class State(state.State):
     def is_true(self, value):
         """The condition that an i32 is not zero."""
         if type(value) is Pointer:
-            self._require_inside(value)
+            self.memory.require_inside(value)
             return TRUE
         if type(value) is Linear:
             return constant(not is_zero(in_range(value, -GREATEST, GREATEST)))
@@ -117,7 +117,7 @@ class State(state.State):
     def wide(self, value):
         """An i32 as a number of 64 bits, with zeros above."""
         if type(value) is Pointer:
-            self._require_inside(value)
+            self.memory.require_inside(value)
         if type(value) is Linear:
             return in_range(unsigned(value, self.word), 0, GREATEST)
         return value if is_whole(value) else value + (ZERO,) * 4
@@ -128,18 +128,13 @@ class State(state.State):
 
     # The memory
 
-    def _require_inside(self, pointer):
-        """No address in a region, or at its end, has wrapped or is 0."""
-        if not 0 <= pointer.offset <= self.memory.regions[pointer.region].size:
-            raise Fault(f"a pointer outside its region: {shown(pointer)}")
-
     def place(self, address, offset):
         """The pointer of an access. That of a number with symbols is refused by the memory, unless they are
         unknown bits that pick one of two places."""
         if type(address) is Linear:
             return Pointer("image", address + offset)
         if type(address) is Pointer:
-            self._require_inside(address)
+            self.memory.require_inside(address)
             return Pointer(address.region, address.offset + offset)
         at = number(address) + offset
         return Pointer("stack" if at < self.memory.regions["stack"].size else "image", at)

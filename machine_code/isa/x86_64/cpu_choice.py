@@ -17,10 +17,7 @@ FEATURES = [
     (7, "rbx", 1 << 3 | 1 << 5 | 1 << 8),  # BMI1, AVX2, BMI2
     (0x80000001, "rcx", 1 << 5),  # LZCNT
 ]
-LEAVES = {
-    0: 7,
-    0x80000000: 0x80000001,
-}  # what `cpuid` of these leaves has to return at least, so that others exist
+LEAVES = {0: 7, 0x80000000: 0x80000001}  # what `cpuid` of these leaves has to return at least, so that others exist
 SAVED_REGISTERS = 6  # of `xgetbv`: the system saves the registers of SSE and AVX
 
 
@@ -36,26 +33,20 @@ def _has_all(name, bits):
 def _bound(path, leaf, pick):
     """The least or the greatest value that `cpuid` may return in eax for a leaf."""
     sets = [path.allowed(variable("cpuid", leaf, "rax", at)) for at in range(4)]
-    return sum(
-        pick(value for value in range(256) if allowed[value]) << 8 * at for at, allowed in enumerate(sets)
-    )
+    return sum(pick(value for value in range(256) if allowed[value]) << 8 * at for at, allowed in enumerate(sets))
 
 
-def has_features(path, needed, leaves):
-    """Whether the CPU has these features and the system saves its registers, as a path knows; or None."""
-    features = path.decide(_features(needed))
-    if features and all(_bound(path, leaf, min) >= least for leaf, least in leaves.items()):
+def _has_v3(path):
+    """Whether the CPU has all features and the system saves its registers, as a path knows; or None."""
+    atoms = _has_all(("xgetbv", "rax"), SAVED_REGISTERS)
+    for leaf, register, bits in FEATURES:
+        atoms += _has_all(("cpuid", leaf, register), bits)
+    features = path.decide(conjunction(atoms))
+    if features and all(_bound(path, leaf, min) >= least for leaf, least in LEAVES.items()):
         return True
-    if features is False or any(_bound(path, leaf, max) < least for leaf, least in leaves.items()):
+    if features is False or any(_bound(path, leaf, max) < least for leaf, least in LEAVES.items()):
         return False
     return None
-
-
-def _features(needed):
-    atoms = _has_all(("xgetbv", "rax"), SAVED_REGISTERS)
-    for leaf, register, bits in needed:
-        atoms += _has_all(("cpuid", leaf, register), bits)
-    return conjunction(atoms)
 
 
 def judge(code, state, build):
@@ -68,24 +59,15 @@ def judge(code, state, build):
         names_none = all(any(not read[value] for read in _reads(state.path, picked)) for value in BUILDS.values())
         require(names_none, "the CPU is asked although the byte names a build")
         require(is_same(state.path, (cell,), constants(number, 1)), "another build is stored")
-        is_v3 = has_features(state.path, FEATURES, LEAVES)
-        require(is_v3 is (build == "_v3"), "the build is not the one for this CPU")
+        require(_has_v3(state.path) is (build == "_v3"), "the build is not the one for this CPU")
     else:
-        require(was_read(state.path, picked, number), "the build is not the one that is stored")
-
-
-def was_read(path, picked, number):
-    """Whether the byte was this number when it was read."""
-    return _only(number) in _reads(path, picked)
+        was_number = kept(bytes(value == number for value in range(256)))
+        require(was_number in _reads(state.path, picked), "the build is not the one that is stored")
 
 
 def _reads(path, picked):
     """What is known of the byte each time that it was read."""
     return [known for at, known in path.sets.items() if parts_of(at)[:2] == ("image", picked)]
-
-
-def _only(value):
-    return kept(bytes(other == value for other in range(256)))
 
 
 def _picked_address(code):
