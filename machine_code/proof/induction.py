@@ -239,8 +239,9 @@ def prove_class(code, function, form, size, rest):
     begin.ghost["left"] = LEFT
     heads = {head.at: head for head in heads_of(code, function, form, size)}
     for head in heads.values():
-        is_part = head.size > 0 and size % head.size == 0 and head.visits > 0
-        require(is_part, "a loop whose rounds are no part of those of the class")
+        # The limits of symbols are for rounds of this size, and front ends have others for searches.
+        is_size = head.size == size or head.is_search and head.size > 0 and size % head.size == 0
+        require(is_size and head.visits > 0, "a loop whose rounds are not those of the class, or a part of them")
     arrivals, judged_states = collections.defaultdict(list), 0
     for state in outcomes(code, begin.copy(), heads):
         require(state.at is not RETURNED, "it returns before the first round")

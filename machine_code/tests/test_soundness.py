@@ -250,10 +250,11 @@ add_tests(TestLengths, lambda case, text, rest, wanted: assert_refused(
     case, Refused, lambda: case.prove(text, rest), wanted), LENGTHS)
 
 # What is guessed, how it is changed, and what the tool says although the code is right.
+ROUNDS = "rounds are not those of the class"
 GUESSES = [
-    *((f"rounds of {size} bytes", "heads_of", {"size": size}, said)
-      for size, said in ((256, "no part of"), (0, "no part of"), (64, "too many cases"))),
-    ("rounds without a visit", "heads_of", {"visits": 0}, "no part of"),
+    *((f"rounds of {size} bytes", "heads_of", {"size": size}, ROUNDS) for size in (256, 64, 0)),
+    *((f"a search by {size} bytes", "heads_of", {"size": size, "is_search": True}, ROUNDS) for size in (3, 0, -1)),
+    ("rounds without a visit", "heads_of", {"visits": 0}, ROUNDS),
     ("a loop at another place", "heads_of", {"at": 0}, "too many cases"),
     ("numbers for pointers", "guessed", DONE, "that is no pointer"),
     ("registers of another size", "guessed", (unknown("forgotten", "rax", 0),), "that is no pointer"),
