@@ -11,9 +11,10 @@ from reading.library import WASM, calls_of
 from tests.library import HAS_AARCH64, HAS_MODULE, add_tests, code_of
 from tests.mutations import edited, flipped
 
-# What checks digits on AArch64, and what searches; and in the module, by an
+# What checks digits on AArch64, and what searches, for a decoder too; and in the module, by an
 # instruction that no other function has, what encodes, and what searches.
 CHECK, FIND = "const_hex_lanes32kernel_check", "const_hex_body_find_invalid_character_v3"
+FAIL = "const_hex_decoder_fail_v3"
 LANES, SEARCH = "i16x8.extend_high_i8x16_u", "i32.store8 offset=5"
 ENCODE, PREFIX, DIGITS = ("encode", 0, 150), ("encode", 2, 150), ("check_raw", 0, 150)
 UPDATE, POSITION, ARM = ("decoder_update", 0, 150), ("error_message", 8), "dispatch for AArch64"
@@ -38,21 +39,22 @@ MUTATIONS = [
     ("a byte decides a jump", "v3", DIGITS, "", "cmp byte ptr [rdi],0x61; jb 1f; nop; 1:", ONE_PATH),
     ("a limit that lets g pass", "v3", DIGITS, "0x0f, 0x08", "0x0f, 0x57", NO_DIGIT, "const_hex_constant_1_v3"),
     ("what is rejected is accepted", "v3", ("check_raw", 0, 40), "sete al", "setne al", "digits are rejected"),
-    ("G is a digit in the search", "v3", ("check", 0, 150), "0x0f, 0xff", "0x0f, 0x00", NO_DIGIT,
-     "const_hex_constant_11_v3"),
-    ("the search counts in 32 bits", "v3", ("check", 0, 150), "inc rcx", "inc ecx", "add of 4 unknown bytes", FIND),
+    ("the search counts in 32 bits", "v3", ("check", 0, 150), "add rcx,0xfffffffffffffffc", "add ecx,-4",
+     "add of 4 unknown bytes", FIND),
+    ("the search takes five for four", "v3", ("check", 0, 150), "add r8,0x4", "add r8,0x5", "outside its region", FIND),
+    ("the search tests three of four", "v3", ("check", 0, 150), "or r11b,BYTE PTR [r9+r10*1]", "", NO_DIGIT, FIND),
     ("a position without the prefix", "v3", ("decode", 1, 150), "sub rdx,rax", "xor edx,edx", r"error\[8\] is not what",
      FIND),
-    ("the decoder forgets its digit", "v3", ("decoder_update", 0, 151), "mov BYTE PTR [rdi+0x8],bpl", "",
+    ("the decoder forgets its digit", "v3", ("decoder_update", 0, 151), "mov BYTE PTR [rdi+0x8],r14b", "",
      r"decoder\[8\] is not what"),
-    ("the decoder forgets an error", "v3", UPDATE, "PTR [rdi+0x9],0x2", "PTR [rdi+0x9],0x0",
-     "the decoder does not keep its error"),
-    ("a failed decoder goes on", "v3", ("decoder_update",), "cmp r11b,0x2", "cmp r11b,0x80", "too many cases"),
+    ("the decoder forgets an error", "v3", UPDATE, "PTR [rsi+0x9],0x2", "PTR [rsi+0x9],0x0",
+     "the decoder does not keep its error", FAIL),
+    ("a failed decoder goes on", "v3", ("decoder_update",), "cmp r10b,0x2", "cmp r10b,0x80", "too many cases"),
     ("a letter of a message", "v3", ("error_message",), "[rdx+0x10],0x73746967", "[rdx+0x10],0x73746966",
      r"message\[16\] is not what"),
     ("a digit of a position", "v3", POSITION, "or r10b,0x30", "or r10b,0x10", r"message\[\d+\] is not what"),
     ("a vector register is changed", "aarch64", ("check_raw", 0, 20), "", "movi v8.16b, #1", "v8 is not as before"),
-    ("a register is not restored", "aarch64", ("decode_exact", 0, 20), "ldp x20, x19, [sp, #48]", "ldr x19, [sp, #56]",
+    ("a register is not restored", "aarch64", ("decode_exact", 0, 20), "ldp x20, x19, [sp, #64]", "ldr x19, [sp, #72]",
      "x20 is not as before"),
     ("the lower bits of another constant", "aarch64", ENCODE, "add_label x13, x13, const_hex_constant_2",
      "add_label x13, x13, const_hex_constant_2+16", "the lower bits of another place than the page"),
@@ -85,9 +87,8 @@ MUTATIONS = [
      "i32.const 1; i32.const 2; local.get 0; i32.load8_u; select; local.set 5", "a `select` depends on", LANES),
     ("a constant is written", WASM, ENCODE, "", "i32.const 4192; i32.const 0; i32.store8", "write to image", LANES),
     ("one of four vectors is not tested", WASM, UPDATE, "v128.or", "local.set 23", NO_DIGIT),
-    ("the search counts in 12 bits", WASM, UPDATE, "local.get 5; i32.const 1; i32.add; local.tee 5; i32.ne",
-     "i32.const 20; i32.shl; local.get 5; i32.const 1; i32.add; local.tee 5; i32.const 20; i32.shl; i32.ne",
-     "may have wrapped", SEARCH),
+    ("the search counts in 12 bits", WASM, UPDATE, "local.tee 5; i32.const 3",
+     "local.tee 5; i32.const 20; i32.shl; i32.const 3", "may have wrapped", SEARCH),
 ]
 
 

@@ -31,7 +31,7 @@ WRONG_IN_ONE_PART = [
     ("v3", "encode", "cmp rsi,0x40", "cmp rsi,0x3f", ("length", NO_NUL, 63), "read of 16 bytes outside"),
     ("v2", "check_raw", "cmp rsi,0x20", "cmp rsi,0x1f", ("length", 0, 31), r"outside .*: text\[-1\]"),
     ("v2", "check_raw", "cmp rsi,0x10", "cmp rsi,0x11", ("length", 0, 17), "not a digit is accepted"),
-    ("v2", "decoder_update", "cmp r15,0x80", "cmp r15,0x7f", ("length", LATER, 127), "read of 16 bytes outside"),
+    ("v2", "decoder_update", "cmp r14,0x80", "cmp r14,0x7f", ("length", LATER, 127), "read of 16 bytes outside"),
     ("v3", "error_message", "cmp rax,rcx; je 4f", "", ("case", POSITION), "write of 1 bytes outside",
      "const_hex_message_write_ended_v3"),
     ("aarch64", "decode_exact", "cmp x3, #0x40", "cmp x3, #0x3f", ("length", 0, 126), "read of 32 bytes outside"),

@@ -12,7 +12,7 @@ from isa.x86_64.decoding import REGISTERS
 from proof import induction
 from proof.arithmetic import logic, subtracted
 from proof.cases import CALLS
-from proof.conditions import Condition, Path, are_equal
+from proof.conditions import Condition, Path, are_equal, are_zero
 from proof.exploration import Fork, Refused, require_one_path, sides
 from proof.flags import Flags
 from proof.linear import DONE, GREATEST, LEFT, Linear, Split, Unknown, in_terms_of, is_zero, symbol
@@ -101,6 +101,7 @@ REFUSED = [
     ("a zero that has two answers", Split, lambda: is_zero(LEFT * 128)),
     ("an order that has two answers", Split, lambda: LEFT * 128 < 128),
     ("a carry", Unknown, lambda: flag("b", "add", FAR, 1)),
+    ("a carry from below zero", Unknown, lambda: flag("b", "add", LEFT * -4 - 1, 1)),
     ("pointers that are one if left is 0", Split, lambda: flag("e", "sub", Pointer("text", LEFT * 128), START, LONG)),
     ("an order outside a region", Fault, lambda: flag("b", "sub", Pointer("text", 65), START, TEXT)),
     ("pointers into two regions", Fault, lambda: flag("e", "sub", START, Pointer("bytes", 0), TEXT, BYTES)),
@@ -120,6 +121,7 @@ REFUSED = [
     ("an access that is not aligned", Fault, lambda: load(Region("text", LEFT * 128 + 150, False, 16), 8, 16, 16)),
     ("the greatest of three unknown bytes", TooWide, lambda: tabulate(max, 1, [(b,) for b in BYTES_4[:3]])),
     ("a function of marks", TooWide, lambda: each(operator.index, MARKS)),
+    ("an order of marks that is no power of two", TooWide, lambda: flag("b", "sub", MARKS, constants(15, 1))),
     ("an unaligned stack pointer", Fault, lambda: arm("ldr", X0, at(SP, 8), sp=Pointer("stack", 24)), "not aligned"),
     ("a load below a stack that was moved", Fault,
      lambda: run(arm("ldr", X0, at(SP, 0, after=16)), "ldr", X0, at(SP, -8)), "below the stack"),
@@ -140,6 +142,7 @@ REFUSED = [
 ]
 # What is seen, and what it is, the wanted value first.
 SEEN = [
+    ("a sum below zero has no carry", lambda: (False, flag("b", "add", LEFT * -4 - 8, 1))),
     ("low bits of a number", lambda: (CONSTANTS[7], (LEFT * 256 + 7).low_bytes(1)[0])),
     ("a number in other terms",
      lambda: (LEFT * 32 + 32, in_terms_of(LEFT * 128 + 160, LEFT * 256 + 300, LEFT * 64 + 44))),
@@ -188,6 +191,12 @@ class TestSoundness(unittest.TestCase):
         self.assertIsNone(path.decide(Condition(both.atoms[:1])))
         path.assume(Condition(both.atoms[:1]))
         self.assertIs(path.decide(Condition(both.atoms[1:])), False)
+
+    def test_order_of_marks(self):
+        state, upper = state_with(), are_zero(masked(MARKS, constants(0xF0, 1))).atoms
+        for name, limit in (("b", 16), ("be", 15)):
+            state.flags = Flags("sub", MARKS, constants(limit, 1))
+            self.assertEqual(state.flag(name).atoms, upper)
 
     def test_one_path_for_each_length(self):
         """A byte that decides is seen although the lengths are split on one side alone."""
