@@ -44,6 +44,8 @@ pub fn decode_with<K: Kernel>(alloc: Global, input: &[u8]) -> Result<Vec<u8>, Fr
 }
 
 /// Decodes a text to a vector. Allocates once, for exactly these bytes; for none, not at all.
+// A function of its own, since the prover finds these clauses on each of its four paths by itself, and
+// `decode_with` derives three more from them.
 #[inline(always)]
 fn decode_owned<K: Kernel>(alloc: Global, input: &[u8]) -> Result<Vec<u8>, FromHexError>
     ensures ok { IfOk result (λ v. Reads input.now (Ok v.items)) }
@@ -171,14 +173,6 @@ pub fn decode_to_front_with<K: Kernel>(
 #[inline]
 pub fn decode_to_array<const N: usize>(input: &[u8]) -> Result<[u8; N], FromHexError>
     ensures { DecodesToArray N input.now result }
-{
-    read_array(input)
-}
-
-/// Decodes a text to N bytes.
-#[inline(always)]
-fn read_array<const N: usize>(input: &[u8]) -> Result<[u8; N], FromHexError>
-    ensures { ReadsSized input.now N result }
 {
     let mut array = [0; N];
     decode_to_slice(input, &mut array)?;

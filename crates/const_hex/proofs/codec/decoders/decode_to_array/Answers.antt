@@ -1,5 +1,9 @@
+use Rattle.std.proofs.Common.{rules}
 use Rattle.const_hex.proofs.lemmas.RoundTrip.{DecodesToArray-from_ReadsSized}
 use Rattle.const_hex.proofs.codec.decoders.decode_to_array.Goals as goal
 
+pub returns-in_err-decode_to_slice : goal.returns-in_err-decode_to_slice
+returns-in_err-decode_to_slice g c = DecodesToArray-from_ReadsSized _ _ _ (search rules)
+
 pub returns : goal.returns
-returns g c = DecodesToArray-from_ReadsSized g.row.N c.args.input.now _ c.read_array.ensures
+returns g c = DecodesToArray-from_ReadsSized _ _ _ (search rules)
