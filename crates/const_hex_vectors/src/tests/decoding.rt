@@ -1,4 +1,4 @@
-//! Calls that check or read a text, on worked examples. `const_hex_table` asks many more.
+//! Calls that check or read a text, on worked examples. `const_hex_test_vectors` asks many more.
 
 use crate::texts::{Read, invalid, make_digits};
 use crate::{Testing, Text, same, same_bytes, same_read};

@@ -1,4 +1,4 @@
-//! The program `const_hex_table`: compares `const_hex` with each line of `answers.tsv`, and prints
+//! The program `const_hex_test_vectors`: compares `const_hex` with each line of `vectors.tsv`, and prints
 //! the lines for which some function returns something else, with what it returns, and their
 //! number. The exit status is 1 if there is one.
 #![tactic(auto)]
@@ -16,9 +16,9 @@ use std::process::ExitCode;
 fn main(rt: HostRuntime) -> io::Result<ExitCode> {
     let alloc = rt.alloc();
     // Where `rt ci` runs it, and where `rt run` does.
-    let file = match File::open(&rt, "answers.tsv") {
+    let file = match File::open(&rt, "vectors.tsv") {
         Ok(file) => file,
-        Err(_) => File::open(&rt, "data/answers.tsv")?,
+        Err(_) => File::open(&rt, "data/vectors.tsv")?,
     };
     let (mut lines, mut wrong) = (0u64, 0u64);
     for line in BufReader::new(alloc, file)?.lines(alloc) {
