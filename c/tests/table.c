@@ -1,5 +1,5 @@
 /*
- * The table of test vectors of crates/const_hex_table, beside the model and beside each build of the library.
+ * The table of test vectors of crates/const_hex_test_vectors, beside the model and beside each build of the library.
  * TABLE is its file.
  */
 #include "model.h"
@@ -102,13 +102,17 @@ static bool message(const struct line *line) {
     return !result && length == line->wanted_length && memcmp(text, line->wanted, length) == 0;
 }
 
-/* What asks the functions for a line's operation. None reads JSON. */
+/* What asks the functions for a line's operation. NULL is for what this library does not have (JSON, sinks, and the
+ * functions of a kernel), and for texts that are longer than a line may be here. */
 static const struct {
     const char *operation;
     bool (*agrees)(const struct line *line);
 } OPERATIONS[] = {
     {"read", read_text},   {"read-into", read_into},   {"read-pieces", read_pieces}, {"digits", digits},
-    {"write", write_text}, {"write-into", write_text}, {"message", message},
+    {"write", write_text}, {"write-into", write_text}, {"message", message},         {"read-times", NULL},
+    {"json", NULL},        {"json-into", NULL},        {"json-message", NULL},       {"write-times", NULL},
+    {"fronts", NULL},      {"each-byte", NULL},        {"pieces", NULL},             {"calls", NULL},
+    {"write-step", NULL},  {"read-step", NULL},        {"values-of-step", NULL},
 };
 
 TEST(table) {
@@ -116,11 +120,13 @@ TEST(table) {
     FILE *file = fopen(TABLE, "r");
     size_t lines = 0;
     while (file != NULL && read_line(file, &line)) {
-        bool is_known = strcmp(line.operation, "json") == 0;
+        bool is_known = false;
         for (size_t which = 0; which < sizeof OPERATIONS / sizeof *OPERATIONS; which++) {
             if (strcmp(line.operation, OPERATIONS[which].operation) == 0) {
                 is_known = true;
-                holds(OPERATIONS[which].agrees(&line), line.operation, line.length, ++lines);
+                if (OPERATIONS[which].agrees != NULL) {
+                    holds(OPERATIONS[which].agrees(&line), line.operation, line.length, ++lines);
+                }
             }
         }
         holds(is_known, line.operation, lines, 0);

@@ -135,17 +135,13 @@ fn errors_in_options_and_vectors() {
     }
 }
 
-/// A text of any length is passed to the serializer whole, in one call.
+/// A text that is longer than those of the table is passed to the serializer whole, in one call.
 #[test]
-fn each_length() {
-    for length in (0..300).chain([2046, 2047, 2048, 2049, 5000]) {
+fn long_texts() {
+    for length in [2046, 2047, 2048, 2049, 5000] {
         let (bytes, digits) = (vec![0xAB; length], "ab".repeat(length));
         let prefixed = hexadecimal::serialize(&bytes, Serializer).unwrap();
         assert_eq!(prefixed, format!("0x{digits}"));
-        let upper = hexadecimal::serialize_upper(&bytes, Serializer).unwrap();
-        assert_eq!(upper, format!("0x{}", digits.to_uppercase()));
-        let lower = hexadecimal::no_prefix::serialize(&bytes, Serializer).unwrap();
-        assert_eq!(lower, digits);
         let upper = hexadecimal::no_prefix::serialize_upper(&bytes, Serializer).unwrap();
         assert_eq!(upper, digits.to_uppercase());
     }

@@ -46,29 +46,13 @@ fn a_full_formatter() {
 }
 
 #[test]
-fn messages() {
+fn the_longest_message() {
     let longest = FromHexError::InvalidHexCharacter {
         c: '\u{80}',
         index: usize::MAX,
     };
     let message = format!("invalid character '\\u{{80}}' at position {}", usize::MAX);
     assert_eq!(longest.to_string(), message);
-    let quote = check("0x'6").unwrap_err();
-    assert_eq!(quote.to_string(), r"invalid character '\'' at position 2");
-}
-
-/// Of each length around the parts in which bytes are encoded.
-#[test]
-fn lengths_of_collections() {
-    for length in 0..=130 {
-        let bytes: Vec<u8> = (0..length).map(|at: u8| at.wrapping_mul(73) ^ length).collect();
-        let text: String = bytes.iter().map(|byte| format!("{byte:02x}")).collect();
-        assert_eq!(bytes.encode_hex::<String>(), text);
-        assert_eq!(
-            bytes.encode_hex_upper::<Vec<char>>(),
-            text.to_uppercase().chars().collect::<Vec<_>>()
-        );
-    }
 }
 
 #[test]
@@ -116,9 +100,6 @@ mod owned {
     #[test]
     fn types_that_are_read() {
         reads! { FromHex;
-            [u8; 4] = BYTES;
-            Vec<u8> = BYTES.to_vec();
-            Box<[u8]> = BYTES.into();
             Box<[u8; 4]> = Box::new(BYTES);
             Rc<Vec<u8>> = Rc::new(BYTES.to_vec());
             Arc<[u8; 4]> = Arc::new(BYTES);
@@ -129,7 +110,6 @@ mod owned {
         reads! { signed::FromHex;
             Vec<u8> = BYTES.to_vec();
             [i8; 4] = numbers;
-            Vec<i8> = numbers.to_vec();
             Box<[i8]> = numbers.into();
             Rc<[i8; 4]> = Rc::new(numbers);
         }

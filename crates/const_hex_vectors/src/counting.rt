@@ -42,7 +42,7 @@ impl Sink for Counting {
 
     ghost is_refused = { λ s. s.refused };
 
-    ghost told = { λ s. None };
+    ghost reported = { λ s. None };
 
     fn refused(&self) -> bool {
         self.refused
@@ -57,7 +57,7 @@ impl Sink for Counting {
         Ok(())
     }
 
-    ghost tells = { λ s piece t h. refl };
+    ghost reports = { λ s piece t h. refl };
 }
 
 impl fmt::Write for Counting {

@@ -1,6 +1,6 @@
-//! The tests of the libraries through their public items, and what all crates of tests share: a row
-//! that prints the call, the expected and the actual result; texts, and what the standard library prints
-//! for them; readers, writers and sinks that count their calls and fail at one of them; the kernels.
+//! Tests of the libraries that a table of test vectors cannot state, and what all crates of tests share: a
+//! row that prints the call, the expected and the actual result; what the standard library prints for
+//! bytes; readers, writers and sinks that count their calls and fail at one of them; the kernels.
 //!
 //! Expected values come from the codec's written rules, and from what the standard library prints.
 #![tactic(auto)]

@@ -1,4 +1,4 @@
-//! The lines of the table of answers. The page beside `answers.tsv` says what each column has.
+//! The lines of the table of test vectors. The page beside `vectors.tsv` says what each column has.
 
 /// A line that asks something.
 pub struct Line {
@@ -37,7 +37,7 @@ impl Line {
 /// Asks `calls` each line of the table in a folder, if it is there. They return the names of calls and
 /// their answers, each of which has to be the line's.
 pub fn ask(folder: &str, calls: impl Fn(&Line) -> Vec<(&'static str, String)>) {
-    let path = format!("{folder}/data/answers.tsv");
+    let path = format!("{folder}/data/vectors.tsv");
     let table = match std::fs::read_to_string(&path) {
         Ok(table) => table,
         Err(_) => return eprintln!("{path} is not there, so nothing is asked"),

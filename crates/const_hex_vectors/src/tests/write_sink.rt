@@ -1,8 +1,9 @@
-//! `WriteSink`, over writers that fail, accept few bytes per call, or come back.
+//! `WriteSink`, over writers that fail and accept few bytes per call: which error it returns, which calls
+//! it makes again, and that it flushes nothing.
 
+use crate::texts::{make_bytes, print};
+use crate::{Fault, Target, Testing, same, same_bytes};
 use const_hex::{BufferedHex, Plain, Sink, WriteSink};
-use const_hex_vectors::texts::{make_bytes, print};
-use const_hex_vectors::{Fault, Target, Testing, Text, same, same_bytes};
 use std::io::{self, ErrorKind};
 
 // A text of 6002 bytes comes in pieces of 4096 and 1906. A writer that accepts 1000 per call gets
@@ -57,61 +58,4 @@ fn writes(
 
 fn kind_of(error: Option<&io::Error>) -> Option<ErrorKind> {
     Some(error?.kind())
-}
-
-// A writer that accepts one byte per call is called once per byte, and not for an empty piece.
-#[test]
-fn a_byte_a_call(rt: HostRuntime) {
-    let text = "01234".repeat(rt.alloc(), 1000).expect(&rt, "memory");
-    let mut target = Target::new(rt.alloc(), 1, Fault::Nothing);
-    let mut sink = WriteSink::new(&mut target);
-    assert!(rt; sink.write_str("").is_ok());
-    assert!(rt; !sink.refused());
-    assert!(rt; sink.write_str(&text).is_ok());
-    sink.finish().expect(&rt, "finish");
-    same!(&rt; Text(&target.taken), Text(text.as_bytes()));
-    same!(&rt; (target.writes, target.flushes), (5000, 0));
-}
-
-// After an error `write_hex` calls nothing, and returns the error again.
-#[test]
-fn writing_goes_on_after_an_error(rt: HostRuntime) {
-    let fault = Fault::Writes(2, 2, ErrorKind::Other);
-    let mut target = Target::new(rt.alloc(), 4, fault);
-    let mut sink = WriteSink::new(&mut target);
-    for _ in 0..3 {
-        assert!(rt; sink.write_hex::<false, false>(b"kiwi").is_err());
-        same!(&rt; kind_of(sink.error()), Some(ErrorKind::Other));
-    }
-    assert!(rt; sink.finish().is_err());
-    same!(&rt; (Text(&target.taken), target.writes), (Text(b"6b69"), 2));
-}
-
-#[test]
-fn no_call_flushes(rt: HostRuntime) {
-    let mut target = Target::new(rt.alloc(), 4, Fault::Nothing);
-    let mut sink = WriteSink::new(&mut target);
-    same!(&rt; sink.write_hex::<false, false>(&[0xab]), Ok(()));
-    same!(&rt; sink.write_hex::<true, false>(&[0xab]), Ok(()));
-    same!(&rt; sink.write_hex::<false, true>(&[0xab]), Ok(()));
-    same!(&rt; sink.write_hex::<true, true>(&[0xab]), Ok(()));
-    sink.finish().expect(&rt, "finish");
-    same!(&rt; Text(&target.taken), Text(b"abAB0xab0xAB"));
-    same!(&rt; target.flushes, 0);
-}
-
-#[test]
-fn a_writer_comes_back(rt: HostRuntime) {
-    let mut file = Vec::new(rt.alloc());
-    let mut sink = WriteSink::new(&mut file);
-    same!(&rt; sink.write_hex::<true, false>(&[0xab]), Ok(()));
-    let (writer, error) = sink.into_parts();
-    assert!(rt; error.is_none());
-    writer.push(b'!').expect(&rt, "memory");
-    same!(&rt; Text(&file), Text(b"AB!"));
-    let mut sink = WriteSink::new(&mut file);
-    same!(&rt; sink.write_hex::<false, true>(b"kiwi"), Ok(()));
-    assert!(rt; sink.error().is_none());
-    sink.finish().expect(&rt, "finish");
-    same!(&rt; Text(&file), Text(b"AB!0x6b697769"));
 }

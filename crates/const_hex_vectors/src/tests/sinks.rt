@@ -1,94 +1,17 @@
-//! What reaches a sink or a slice through outputs that gather, and long texts with ample memory.
+//! What reaches a sink or a slice through outputs that gather. `const_hex_test_vectors` asks for the
+//! calls that a text makes.
 
 ghost use Rattle.std.specs.Prelude.{◌<◌};
 
-use crate::tests::KernelTest;
-use const_hex::{
-    BufferedHex, BufferedOutput, Kernel, Output, PieceSink, Sink, SinkOutput, SliceOutput,
-};
-use const_hex_vectors::texts::{make_bytes, print};
-use const_hex_vectors::{KernelCase, Testing, same, same_bytes};
+use crate::{Testing, same, same_bytes};
+use const_hex::{BufferedOutput, Output, PieceSink, Sink, SinkOutput, SliceOutput};
 
 type ToSink<'a, const N: usize> = BufferedOutput<SinkOutput<'a, PieceSink>, N>;
 
 type ToSlice<'a, const N: usize> = BufferedOutput<SliceOutput<'a>, N>;
 
-// The pieces have 8 MB, and no call fails.
-#[test]
-fn pieces_of_each_size(rt: HostRuntime) {
-    let alloc = rt.alloc();
-    let text = print(
-        alloc,
-        &make_bytes(alloc, 2048).expect(&rt, "memory"),
-        false,
-        false,
-    )
-    .expect(&rt, "memory");
-    let mut sink = PieceSink::new(alloc, 0);
-    same!(&rt; text.len(), 4096);
-    for size in 1..=4096usize {
-        assert!(rt; !sink.refused());
-        let piece = text.get(..size).unwrap_or("");
-        assert!(rt; sink.write_str(piece).is_ok());
-    }
-    same!(&rt; sink.calls(), 4096);
-    same!(&rt; sink.pieces().len(), 4096);
-    for (index, piece) in sink.pieces().iter().enumerate() {
-        let want = text.get(..index + 1).unwrap_or("");
-        same_bytes!(&rt, "write_str", index; piece, want);
-    }
-}
-
-/// Bytes, and their text after a prefix.
-#[derive(Drop)]
-struct Stream<'a> {
-    data: &'a [u8],
-    text: &'a str,
-}
-
-impl KernelTest for Stream<'_> {
-    /// The pieces are the text, and each but the last has 4033 to 4096 bytes.
-    fn run<K: Kernel>(&self, rt: &impl Testing, kernel: KernelCase) {
-        let mut sink = PieceSink::new(rt.alloc(), 0);
-        let result = BufferedHex::<false, true>::new(self.data).write_with::<K, _>(&mut sink);
-        same!(rt, "write_with", kernel; result, Ok(()));
-        let mut rest = self.text;
-        for piece in sink.pieces() {
-            let least = rest.len().min(4033);
-            let is_call_piece = (least..=4096).contains(&piece.len());
-            same!(rt, "the size of a piece", (kernel, piece.len()); is_call_piece, true);
-            let (front, after) = rest.split_at_checked(piece.len()).unwrap_or((rest, ""));
-            same_bytes!(rt, "write_with", kernel; piece, front);
-            rest = after;
-        }
-        same!(rt, "what write_with left out", kernel; rest.len(), 0);
-    }
-}
-
-#[test]
-fn long_streams(rt: HostRuntime) {
-    let data = &make_bytes(rt.alloc(), 100_000).expect(&rt, "memory");
-    let text = &print(rt.alloc(), data, true, false).expect(&rt, "memory");
-    Stream { data, text }.with_each_kernel(&rt)
-}
-
-// An output that gathers four bytes passes on a piece of four at once, after what it has gathered. A
-// dropped output loses what it has gathered.
-#[test]
-fn pieces_of_just_the_size(rt: HostRuntime) {
-    let mut sink = PieceSink::new(rt.alloc(), 0);
-    for pieces in [["", "cdef"], ["ab", "cdef"], ["", "cde"]] {
-        assert!(rt; !sink.refused());
-        let mut output = ToSink::<4>::new(SinkOutput::new(&mut sink));
-        for piece in pieces {
-            put(&rt, &mut output, piece.as_bytes());
-        }
-    }
-    has_pieces(&rt, 4, &sink, &["cdef", "ab", "cdef"]);
-}
-
 /// A sink has accepted these pieces.
-pub(crate) fn has_pieces(rt: &impl Testing, row: usize, sink: &PieceSink, want: &[&str]) {
+fn has_pieces(rt: &impl Testing, row: usize, sink: &PieceSink, want: &[&str]) {
     same!(rt, "pieces", row; sink.pieces().len(), want.len());
     for (piece, want) in sink.pieces().iter().zip(want) {
         same!(rt, "pieces", row; piece.as_str(), *want);
@@ -107,10 +30,19 @@ fn put<O: Output>(rt: &impl Testing, output: &mut O, bytes: &[u8]) {
     }
 }
 
-fn put_all<O: Output>(rt: &impl Testing, output: &mut O) {
-    for piece in ["a", "bc", "defghijk", "l", ""] {
-        put(rt, output, piece.as_bytes());
+// The capacity, what is written, and what is passed on. A piece of just the capacity is passed on at
+// once. A dropped output loses what it has gathered.
+#[test]
+fn pieces_of_just_the_size(rt: HostRuntime) {
+    let mut sink = PieceSink::new(rt.alloc(), 0);
+    for pieces in [["", "cdef"], ["ab", "cdef"], ["", "cde"]] {
+        assert!(rt; !sink.refused());
+        let mut output = ToSink::<4>::new(SinkOutput::new(&mut sink));
+        for piece in pieces {
+            put(&rt, &mut output, piece.as_bytes());
+        }
     }
+    has_pieces(&rt, 4, &sink, &["cdef", "ab", "cdef"]);
 }
 
 #[test]
@@ -134,6 +66,12 @@ fn hands_on<const N: usize>(rt: &impl Testing, pieces: &[&str])
     let _ = output.finish();
     has_pieces(rt, N, &sink, pieces);
     same_bytes!(rt, "write", N; text, "abcdefghijkl");
+}
+
+fn put_all<O: Output>(rt: &impl Testing, output: &mut O) {
+    for piece in ["a", "bc", "defghijk", "l", ""] {
+        put(rt, output, piece.as_bytes());
+    }
 }
 
 #[test]
@@ -183,4 +121,19 @@ fn fills<const N: usize>(rt: &impl Testing, first: usize, second: usize)
     put(rt, &mut output, b"c");
     let _ = output.finish();
     same_bytes!(rt, "write", (N, first, second); text, want);
+}
+
+// After a sink has refused, further writes make no call.
+#[test]
+fn writes_after_an_error(rt: HostRuntime) {
+    for refuse_at in 1..3usize {
+        let mut sink = PieceSink::new(rt.alloc(), refuse_at);
+        let mut output = SinkOutput::new(&mut sink);
+        for piece in ["one", "two", "three", "four", "five"] {
+            output.write(piece.as_bytes());
+        }
+        assert!(rt; output.finish().is_err());
+        let counts = (sink.calls(), sink.pieces().len());
+        same!(&rt, "calls, pieces", refuse_at; counts, (refuse_at, refuse_at - 1));
+    }
 }

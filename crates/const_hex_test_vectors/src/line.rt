@@ -55,6 +55,17 @@ impl Line<'_> {
         self.gives(call, given, self.result);
     }
 
+    /// Whether what is read from a text that was written are the line's bytes.
+    pub(crate) fn reads_back<B>(&mut self, call: &str, given: Result<B, FromHexError>)
+    where
+        B: AsSlice<u8> + Drop,
+    {
+        match given {
+            Ok(bytes) if bytes.as_slice() == self.input => {}
+            _ => self.is(call, "other bytes", self.result),
+        }
+    }
+
     /// As `reads`, for numbers that have the bits of the bytes.
     pub(crate) fn reads_signed<B>(&mut self, call: &str, given: Result<B, FromHexError>)
     where

@@ -1,11 +1,15 @@
 //! The lines of texts that are read.
 
+use crate::kernels::{digits as digits_by, read as read_by, read_into as read_into_by};
 use crate::line::Line;
 use const_hex::serde::no_prefix;
 use const_hex::{
-    Decoder, FromHex, FromHexError, JsonError, check, check_raw, const_check, const_check_raw,
-    const_decode_to_array, decode, decode_to_array, decode_to_front, decode_to_slice, deserialize,
+    Decoder, FromHex, FromHexError, JsonError, Kernel, check, check_raw, const_check,
+    const_check_raw, const_decode_to_array, decode, decode_to_array, decode_to_front,
+    decode_to_slice, deserialize,
 };
+use const_hex_vectors::{KernelCase, by_each_kernel};
+use hash_hex::FixedBytes;
 use serde_json::Value;
 use std::alloc::{AllocError, Global};
 use std::boxed::BoxedSlice;
@@ -19,19 +23,48 @@ macro_rules! each {
     };
 }
 
+/// Calls a function for arrays of that size, if it is one of these. The array shows that its size fits.
+macro_rules! at_size {
+    ($size:expr; $call:ident($line:ident)) => {
+        match $size {
+            0 => $call($line, [0; 0]),
+            1 => $call($line, [0; 1]),
+            2 => $call($line, [0; 2]),
+            3 => $call($line, [0; 3]),
+            4 => $call($line, [0; 4]),
+            8 => $call($line, [0; 8]),
+            12 => $call($line, [0; 12]),
+            16 => $call($line, [0; 16]),
+            20 => $call($line, [0; 20]),
+            32 => $call($line, [0; 32]),
+            33 => $call($line, [0; 33]),
+            64 => $call($line, [0; 64]),
+            65 => $call($line, [0; 65]),
+            128 => $call($line, [0; 128]),
+            _ => {}
+        }
+    };
+}
+
 pub(crate) fn read(line: &mut Line<'_>) -> Result<(), AllocError> {
     let text = line.input;
     each!(line.fails: check(text).err(), const_check(text).err());
     ask_owned(line);
     ask_json_string(line)?;
     ask_front(line)?;
-    let has_prefix = text.starts_with(b"0x") || text.starts_with(b"0X");
-    let prefix = if has_prefix { 2 } else { 0 };
-    read_into(line, text.len().saturating_sub(prefix) / 2)?;
+    let size = text.len().saturating_sub(prefix_length(text)) / 2;
+    read_into(line, size)?;
+    by_each_kernel!(read_by(line, size)?);
     if line.result != "!OddLength" || check_raw(text) {
         read_pieces(line);
     }
     Ok(())
+}
+
+/// How many characters of a text are a prefix.
+pub(crate) fn prefix_length(text: &[u8]) -> usize {
+    let has_prefix = text.starts_with(b"0x") || text.starts_with(b"0X");
+    if has_prefix { 2 } else { 0 }
 }
 
 fn ask_owned(line: &mut Line<'_>) {
@@ -84,19 +117,12 @@ pub(crate) fn read_into(line: &mut Line<'_>, size: usize) -> Result<(), AllocErr
     let mut output = vec![in line.alloc; 0xEEu8; size]?;
     let done = decode_to_slice(line.input, &mut output);
     line.fills("decode_to_slice", done, output, line.result);
-    match size {
-        0 => ask_arrays(line, [0; 0]),
-        1 => ask_arrays(line, [0; 1]),
-        4 => ask_arrays(line, [0; 4]),
-        20 => ask_arrays(line, [0; 20]),
-        32 => ask_arrays(line, [0; 32]),
-        65 => ask_arrays(line, [0; 65]),
-        _ => {}
-    }
+    by_each_kernel!(read_into_by(line, size)?);
+    at_size!(size; ask_arrays(line));
     Ok(())
 }
 
-/// Asks what reads arrays. The array shows that its size fits.
+/// Asks what reads arrays.
 fn ask_arrays<const N: usize>(line: &mut Line<'_>, _array: [u8; N]) {
     let (alloc, text) = (line.alloc, line.input);
     each!(line.reads:
@@ -104,6 +130,14 @@ fn ask_arrays<const N: usize>(line: &mut Line<'_>, _array: [u8; N]) {
         const_decode_to_array::<N>(text),
         <[u8; N]>::from_hex(alloc, text),
     );
+    match <FixedBytes<N>>::from_hex(alloc, text) {
+        Ok(hash) => line.reads("FixedBytes", Ok(hash.as_bytes().as_slice())),
+        Err(error) => line.fails("FixedBytes", Some(error)),
+    }
+    match <Rc<[u8; N]>>::from_hex(alloc, text) {
+        Ok(array) => line.reads("Rc", Ok(array.as_slice())),
+        Err(error) => line.fails("Rc", Some(error)),
+    }
     each!(line.reads_signed: <[i8; N]>::from_hex(alloc, text));
 }
 
@@ -111,20 +145,24 @@ fn ask_arrays<const N: usize>(line: &mut Line<'_>, _array: [u8; N]) {
 const SIZES: [usize; 7] = [1, 2, 3, 7, 31, 64, 200];
 
 pub(crate) fn read_pieces(line: &mut Line<'_>) {
+    by_each_kernel!(read_pieces_by(line));
+}
+
+fn read_pieces_by<K: Kernel>(line: &mut Line<'_>, kernel: KernelCase) {
     for size in SIZES {
-        line.reads("Decoder", in_pieces(line.alloc, line.input, size));
+        line.reads(kernel.name, in_pieces::<K>(line.alloc, line.input, size));
     }
 }
 
 /// The bytes of a text that comes in pieces of up to 200 bytes.
-fn in_pieces(alloc: Global, text: &[u8], size: usize) -> Result<Vec<u8>, FromHexError> {
+fn in_pieces<K: Kernel>(alloc: Global, text: &[u8], size: usize) -> Result<Vec<u8>, FromHexError> {
     let mut decoder = Decoder::new();
     let mut bytes = Vec::new(alloc);
     let mut rest = text;
     for _ in 0..text.len() {
         let (piece, next) = rest.split_at(size.min(rest.len()));
         let mut output = [0; 128];
-        let count = decoder.decode(piece, &mut output)?;
+        let count = decoder.decode_with::<K>(piece, &mut output)?;
         bytes.extend_from_slice(&output[..count])?;
         rest = next;
     }
@@ -135,6 +173,7 @@ fn in_pieces(alloc: Global, text: &[u8], size: usize) -> Result<Vec<u8>, FromHex
 pub(crate) fn read_digits(line: &mut Line<'_>) {
     let text = line.input;
     each!(line.decides: check_raw(text), const_check_raw(text));
+    by_each_kernel!(digits_by(line));
 }
 
 pub(crate) fn read_message(line: &mut Line<'_>) {
@@ -155,9 +194,43 @@ pub(crate) fn read_message_into(line: &mut Line<'_>, size: usize) -> Result<(), 
 }
 
 pub(crate) fn read_json(line: &mut Line<'_>) {
-    let text = str::from_utf8(line.input).unwrap_or("");
-    match Value::from_str(line.alloc, text) {
-        Ok(value) => ask_json(line, &value),
-        Err(_) => line.is("serde_json", "no JSON", line.result),
+    match json_value(line) {
+        Some(value) => ask_json(line, &value),
+        None => line.is("serde_json", "no JSON", line.result),
+    }
+}
+
+fn json_value(line: &Line<'_>) -> Option<Value> {
+    Value::from_str(line.alloc, str::from_utf8(line.input).ok()?).ok()
+}
+
+pub(crate) fn read_json_into(line: &mut Line<'_>, size: usize) {
+    at_size!(size; ask_json_arrays(line));
+}
+
+fn ask_json_arrays<const N: usize>(line: &mut Line<'_>, _array: [u8; N]) {
+    let Some(value) = json_value(line) else {
+        return line.is("serde_json", "no JSON", line.result);
+    };
+    let alloc = line.alloc;
+    each!(line.reads_json:
+        deserialize::<[u8; N]>(alloc, &value),
+        no_prefix::deserialize::<[u8; N]>(alloc, &value),
+    );
+    match <FixedBytes<N>>::from_value(alloc, &value) {
+        Ok(hash) => line.reads("FixedBytes", Ok(hash.as_bytes().as_slice())),
+        Err(JsonError::NotText) => line.is("FixedBytes", "!NotText", line.result),
+        Err(JsonError::Hex(error)) => line.fails("FixedBytes", Some(error)),
+    }
+}
+
+pub(crate) fn read_json_message(line: &mut Line<'_>) {
+    let error = match json_value(line) {
+        Some(value) => deserialize::<Vec<u8>>(line.alloc, &value).err(),
+        None => None,
+    };
+    match error {
+        Some(error) => line.gives("deserialize", error.to_string(line.alloc), line.result),
+        None => line.is("deserialize", "no error", line.result),
     }
 }

@@ -1,13 +1,18 @@
-//! The program `const_hex_table`: compares `const_hex` with each line of `answers.tsv`, and prints
+//! The program `const_hex_test_vectors`: compares `const_hex` with each line of `vectors.tsv`, and prints
 //! the lines for which some function returns something else, with what it returns, and their
 //! number. The exit status is 1 if there is one.
 #![tactic(auto)]
 
+mod calls;
 mod decoding;
 mod encoding;
+mod kernels;
+mod lanes;
 mod line;
 
+use crate::kernels::{each_byte, fronts, pieces};
 use crate::line::{Line, read_bytes, read_cell};
+use const_hex_vectors::by_each_kernel;
 use std::alloc::{AllocError, Global};
 use std::fs::File;
 use std::io::{self, BufRead, BufReader};
@@ -16,9 +21,9 @@ use std::process::ExitCode;
 fn main(rt: HostRuntime) -> io::Result<ExitCode> {
     let alloc = rt.alloc();
     // Where `rt ci` runs it, and where `rt run` does.
-    let file = match File::open(&rt, "answers.tsv") {
+    let file = match File::open(&rt, "vectors.tsv") {
         Ok(file) => file,
-        Err(_) => File::open(&rt, "data/answers.tsv")?,
+        Err(_) => File::open(&rt, "data/vectors.tsv")?,
     };
     let (mut lines, mut wrong) = (0u64, 0u64);
     for line in BufReader::new(alloc, file)?.lines(alloc) {
@@ -41,17 +46,23 @@ fn main(rt: HostRuntime) -> io::Result<ExitCode> {
 fn compare(alloc: Global, line: &str) -> Result<String, AllocError> {
     let mut columns = line.split('\t');
     let question = columns.next().unwrap_or("");
-    let input = read_bytes(alloc, read_cell(columns.next()))?;
+    let (question, size) = match question.split_once(' ') {
+        Some((question, size)) => (question, size.parse().ok()),
+        None => (question, None),
+    };
+    let (question, size, times) = match question.split_once("-times") {
+        Some((question, _)) => (question, None, size.unwrap_or(0)),
+        None => (question, size, 1),
+    };
+    let input = read_bytes(alloc, read_cell(columns.next()))?.repeat(alloc, times)?;
+    let result = read_cell(columns.next()).repeat(alloc, times)?;
     let mut line = Line {
         alloc,
         input: &input,
-        result: read_cell(columns.next()),
+        result: &result,
         others: String::new(alloc),
     };
-    match question.split_once(' ') {
-        Some((question, size)) => ask(&mut line, question, size.parse().ok())?,
-        None => ask(&mut line, question, None)?,
-    }
+    ask(&mut line, question, size)?;
     Ok(line.others)
 }
 
@@ -66,6 +77,15 @@ fn ask(line: &mut Line<'_>, question: &str, size: Option<usize>) -> Result<(), A
         ("message", None) => decoding::read_message(line),
         ("message", Some(size)) => decoding::read_message_into(line, size)?,
         ("json", None) => decoding::read_json(line),
+        ("json-into", Some(size)) => decoding::read_json_into(line, size),
+        ("json-message", None) => decoding::read_json_message(line),
+        ("each-byte", None) => by_each_kernel!(each_byte(line)?),
+        ("fronts", None) => by_each_kernel!(fronts(line)?),
+        ("pieces", None) => by_each_kernel!(pieces(line)?),
+        ("calls", Some(count)) => calls::calls(line, count)?,
+        ("values-of-step", None) => lanes::values(line),
+        ("write-step", None) => lanes::text(line)?,
+        ("read-step", None) => lanes::bytes(line),
         _ => line.is("no such question", question, ""),
     }
     Ok(())

@@ -1,0 +1,49 @@
+//! What no clause says of printed values, and what new buffers hold.
+
+use crate::texts::invalid;
+use crate::{Testing, same, same_bytes};
+use const_hex::{Buffer, FromHexError, JsonError, SinkError};
+use hash_hex::{Address20, FixedBytes, Hash32};
+use std::fmt::Debug;
+
+/// The value prints that text by `{:?}`.
+fn shows<D: Debug>(rt: &impl Testing, value: &D, want: &str) {
+    let text = format!(in rt.alloc(); "{value:?}").expect(rt, "memory");
+    same_bytes!(rt, "{:?}", want; text, want);
+}
+
+#[test]
+fn errors(rt: HostRuntime) {
+    shows(
+        &rt,
+        &invalid(b'z', 5),
+        "InvalidHexCharacter { c: 'z', index: 5 }",
+    );
+    shows(
+        &rt,
+        &JsonError::Hex(FromHexError::OddLength),
+        "Hex(OddLength)",
+    );
+    shows(&rt, &SinkError, "SinkError");
+    same_bytes!(&rt, "{}", SinkError; SinkError.to_string(rt.alloc()).expect(&rt, "memory"), "sink refused");
+}
+
+#[test]
+fn hashes(rt: HostRuntime) {
+    let hash = "Hash32(0xabababababababababababababababababababababababababababababababab)";
+    shows(&rt, &Hash32::from([0xAB; 32]), hash);
+    shows(
+        &rt,
+        &Address20::from([0xAB; 20]),
+        "Address20(0xabababababababababababababababababababab)",
+    );
+    shows(&rt, &FixedBytes::from([1, 0xAB]), "FixedBytes(0x01ab)");
+}
+
+#[test]
+fn new_buffers(rt: HostRuntime) {
+    shows(&rt, &Buffer::<1, false, 2>::new(), "Buffer(\"\\0\\0\")");
+    same!(&rt; Buffer::<4, false, 8>::new().as_str(), "\0\0\0\0\0\0\0\0");
+    same!(&rt; Buffer::<4, true, 10>::default().as_str(), "0x\0\0\0\0\0\0\0\0");
+    same!(&rt; Buffer::<0, true, 2>::new().as_str(), "0x");
+}
