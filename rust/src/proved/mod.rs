@@ -45,7 +45,7 @@ pub use self::formatting::text::*;
 //  100  all crates are one module
 //    5  an allocation never fails: without memory the program ends
 //    1  an argument's copy takes no allocator
-//  112  an assertion names no runtime
+//  115  an assertion names no runtime
 //    3  an example names a kernel that each target has
 //    4  an example of hexfilter uses no allocator
 //    1  and a constant converts by a cast
@@ -56,7 +56,7 @@ pub use self::formatting::text::*;
 //    1  and the crate's decoder is cloned
 //    1  before it reads a chunk
 //   42  deleted: attribute
-//  259  deleted: contract
+//  260  deleted: contract
 //  216  deleted: ghost item
 //    4  deleted: model
 //    1  each value may be dropped
