@@ -1,7 +1,8 @@
 -- An input that a decoder reads in chunks.
-use Rattle.std.specs.Prelude.{◌≡◌, ◌++◌, true, ℕ, List, length}
+use Rattle.std.specs.Prelude.{◌≡◌, ◌≢◌, ◌+◌, ◌<◌, ◌≤◌, ◌++◌, ◌&&◌, true, false, ℕ, List, length}
+use Rattle.std.specs.List.{All}
 use Rattle.const_hex.specs.Decoding.{HasRead, counted}
-use Rattle.hexfilter_core.specs.Inputs.{FirstInvalid, SpellsBeginning, next_from, text_of}
+use Rattle.hexfilter_core.specs.Inputs.{FirstInvalid, SpellsBeginning, is_whitespace, next_from, text_of}
 use Rattle.hexfilter_core.specs.Places.{IsLine, leaves_out}
 use Rattle.const_hex.specs.declared.error.FromHexError.TheVariants.{InvalidHexCharacter}
 use Rattle.hexfilter_core.specs.declared.error.RunError.{RunError}
@@ -22,6 +23,21 @@ pub record HasScanned (s : Scanner) (x : List ℕ) : Type 0 where
   pub next : s.column ≡ next_from s.reading 0 x
   pub count : s.read ≡ counted (length x)
   pub line : leaves_out s.reading ≡ true → IsLine x s.line
+
+-- the next bytes u of the input add v to the text
+pub record HasAdded (s new : Scanner) (x u v : List ℕ) : Type 0 where
+  pub text : text_of s.reading (x ++ u) ≡ text_of s.reading x ++ v
+  pub scanned : HasScanned new (x ++ u)
+
+abbrev pub HasNoWhitespace : List ℕ → Type 0
+HasNoWhitespace x = All (λ b. is_whitespace b ≡ false) x
+
+-- no byte of the run is left out, and none ends a line
+abbrev pub IsKept : Scanner → List ℕ → Type 0
+IsKept s run =
+    (0 < s.reading.groups.size → s.column + length run ≤ s.reading.groups.size)
+    × All (λ b. (s.reading.ignore_whitespace && is_whitespace b) ≡ false) run
+    × (leaves_out s.reading ≡ true → All (λ b. b ≢ 10) run)
 
 -- the decoder has read the input x without an error, and has returned the bytes y
 pub record HasDecoded (d : InputDecoder) (x y : List ℕ) : Type 0 where

@@ -77,7 +77,7 @@ impl InputDecoder {
             let count = self.scanner.text(chunk, text);
             return self.decoder.decode(&text[..count], output);
         }
-        self.scanner.pass(chunk.len());
+        self.scanner.advance(chunk.len());
         self.decoder.decode(chunk, output)
     }
 

@@ -42,7 +42,7 @@ pub use self::formatting::text::*;
 //    1  Rust's errors are not copied
 //   26  a formatter has a lifetime in place of its writer's type
 //   10  a function for C takes slices, which capi makes of pointers and lengths, and is compiled there alone
-//  100  all crates are one module
+//  101  all crates are one module
 //    5  an allocation never fails: without memory the program ends
 //    1  an argument's copy takes no allocator
 //  115  an assertion names no runtime
@@ -56,7 +56,7 @@ pub use self::formatting::text::*;
 //    1  and the crate's decoder is cloned
 //    1  before it reads a chunk
 //   42  deleted: attribute
-//  260  deleted: contract
+//  261  deleted: contract
 //  216  deleted: ghost item
 //    4  deleted: model
 //    1  each value may be dropped
@@ -66,5 +66,5 @@ pub use self::formatting::text::*;
 //    1  the kernel is chosen for the processor
 //   11  what a constant calls is constant
 //   14  what allocates is there with the feature alloc
-//    3  what hexfilter uses of const_hex is a module of rattle
+//    4  what hexfilter uses of const_hex is a module of rattle
 //    5  what is for C is a module of const_hex
