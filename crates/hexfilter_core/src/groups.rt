@@ -6,6 +6,9 @@ ghost use Rattle.hexfilter_core.specs.Groups.{groups_from};
 
 use crate::mode::Groups;
 
+/// How many bytes are copied at a time.
+const BLOCK: usize = 32;
+
 /// Puts the text into the output, with a separator before each character that follows a whole group. The
 /// first group has `column` characters already. Returns how many bytes were put there, and how many
 /// characters the last group has.
@@ -80,10 +83,14 @@ pub(crate) fn copy_front(text: &[u8], count: usize, output: &mut [u8])
     ensures front { take count output.new ≡ take count text.now }
     ensures length { length output.new ≡ length output.old }
 {
-    // A copy whose length is a constant takes two instructions and no call.
-    if count <= 32 && text.len() >= 32 && output.len() >= 32 {
-        output[..32].copy_from_slice(&text[..32]);
-    } else {
+    // Copies whose length is a constant take a few instructions, and no call.
+    if text.len().min(output.len()) - count < BLOCK {
         output[..count].copy_from_slice(&text[..count]);
+        return;
+    }
+    let mut done = 0;
+    'copies: while done < count {
+        output[done..done + BLOCK].copy_from_slice(&text[done..done + BLOCK]);
+        done += BLOCK;
     }
 }

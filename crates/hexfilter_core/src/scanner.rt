@@ -11,8 +11,8 @@ use crate::mode::Reading;
 use crate::place::{Line, Place};
 use const_hex::check_raw;
 
-/// In how many bytes whitespace is looked for.
-const BLOCK: usize = 256;
+/// In how many bytes whitespace is looked for at a time.
+const LONGEST: usize = 256;
 
 /// How far an input was read.
 #[derive(Clone, Copy, Debug)]
@@ -138,6 +138,9 @@ impl Scanner {
     {
         let groups = self.reading.groups;
         let last = self.last_run;
+        if groups.size == 0 && last < chunk.len() && is_whitespace(chunk[last]) {
+            return (last, last);
+        }
         if self.reading.ignore_whitespace && is_whitespace(chunk[0]) {
             return (0, last);
         }
@@ -147,10 +150,7 @@ impl Scanner {
                 last,
             );
         }
-        if last < chunk.len() && is_whitespace(chunk[last]) {
-            return (last, last);
-        }
-        let found = find_whitespace(&chunk[..chunk.len().min(BLOCK)]);
+        let found = find_whitespace(&chunk[..chunk.len().min(LONGEST)]);
         (found, found)
     }
 }

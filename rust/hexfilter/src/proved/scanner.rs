@@ -7,8 +7,8 @@ use crate::proved::mode::Reading;
 use crate::proved::place::{Line, Place};
 use crate::rattle::codec::check_raw;
 
-/// In how many bytes whitespace is looked for.
-const BLOCK: usize = 256;
+/// In how many bytes whitespace is looked for at a time.
+const LONGEST: usize = 256;
 
 /// How far an input was read.
 #[derive(Clone, Copy, Debug)]
@@ -98,19 +98,16 @@ impl Scanner {
     fn guess_run(&self, chunk: &[u8]) -> (usize, usize) {
         let groups = self.reading.groups;
         let last = self.last_run;
+        if groups.size == 0 && last < chunk.len() && is_whitespace(chunk[last]) {
+            return (last, last);
+        }
         if self.reading.ignore_whitespace && is_whitespace(chunk[0]) {
             return (0, last);
         }
         if groups.size > 0 {
-            return (
-                groups.size.saturating_sub(self.column).min(chunk.len()),
-                last,
-            );
+            return (groups.size.saturating_sub(self.column).min(chunk.len()), last);
         }
-        if last < chunk.len() && is_whitespace(chunk[last]) {
-            return (last, last);
-        }
-        let found = find_whitespace(&chunk[..chunk.len().min(BLOCK)]);
+        let found = find_whitespace(&chunk[..chunk.len().min(LONGEST)]);
         (found, found)
     }
 }
