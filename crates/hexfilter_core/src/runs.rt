@@ -13,7 +13,7 @@ use crate::decoding::decode_stream;
 use crate::encoding::encode_stream;
 use crate::error::RunError;
 use crate::mode::Mode;
-use std::io::{self, Read, Write};
+use std::io::{Read, Write};
 
 /// Reads the input to its end, writes what the mode makes of it, and flushes. The input may have any
 /// length: it is read in chunks of 16 or 64 KiB, and nothing is allocated.
@@ -59,7 +59,7 @@ pub fn run<R: Read, W: Write>(mode: Mode, input: &mut R, output: &mut W) -> Resu
             upper,
             groups,
         } => encode_stream(prefix, upper, groups, input, output),
-        Mode::Decode(reading) => decode_stream(reading, input, output),
-        Mode::Check(reading) => decode_stream(reading, input, &mut io::sink()),
+        Mode::Decode(reading) => decode_stream(reading, false, input, output),
+        Mode::Check(reading) => decode_stream(reading, true, input, output),
     }
 }

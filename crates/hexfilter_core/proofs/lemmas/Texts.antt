@@ -1,6 +1,6 @@
 -- The text of an input, part after part.
 use borrow.Rule.Slice.PartMut.{put_mid, post_of}
-use Rattle.std.proofs.Common.{◌≡◌, ◌≢◌, ℕ, ◌+◌, ◌-◌, ◌*◌, ◌/◌, ◌<◌, ◌≤◌, ◌==◌, ◌&&◌, ◌||◌, min, if◌then◌else◌, Bool, true, false, List, [], ◌∷◌, ◌++◌, length, take, drop, get_or, refl, sym, ap, ◌∙◌, arith, append_assoc, length-append}
+use Rattle.std.proofs.Common.{◌≡◌, ◌≢◌, ℕ, ◌+◌, ◌-◌, ◌*◌, ◌/◌, ◌<◌, ◌≤◌, ◌==◌, ◌&&◌, ◌||◌, min, if◌then◌else◌, Bool, true, false, List, [], ◌∷◌, ◌++◌, length, take, drop, get_or, Option, Ok, refl, sym, ap, ◌∙◌, arith, append_assoc, length-append}
 use Rattle.std.proofs.Math.Seq.{take-add, take-append-add}
 use Rattle.std.proofs.lemmas.Bool.Decides.{nat_tests}
 use Rattle.std.proofs.lemmas.List.{append-nil, length-drop, length-take, length-take-le, take-append-drop, take-append-le, take-take, take_all, take_min, take_more}
@@ -9,14 +9,17 @@ use Rattle.std.specs.List.{All}
 use Rattle.const_hex.specs.Texts.{AllDigits, IsDigit}
 use Rattle.const_hex.proofs.lemmas.Decoding.{read_digits, read_front}
 use Rattle.const_hex.specs.Decoding.{HasRead, waiting_digit}
-use Rattle.const_hex.specs.Results.{body_of}
+use Rattle.const_hex.specs.Results.{Reads, body_of}
 use Rattle.const_hex.specs.declared.codec.decoder.Decoder.{Decoder}
+use Rattle.const_hex.specs.declared.error.FromHexError.{FromHexError}
 use Rattle.const_hex_arch.proofs.lemmas.Spelling.{Spells-length, Spells-parts}
-use Rattle.hexfilter_core.specs.Decoding.{HasAdded, HasDecoded, HasNoWhitespace, HasScanned, IsKept, reads}
-use Rattle.hexfilter_core.specs.Inputs.{SpellsBeginning, SpellsPairs, is_whitespace, kept, next, next_from, text_from, text_of}
+use Rattle.hexfilter_core.specs.Decoding.{HasAdded, HasDecoded, HasNoWhitespace, HasScanned, IsKept, mode_of}
+use Rattle.hexfilter_core.specs.Inputs.{HasError, SpellsBeginning, SpellsPairs, is_whitespace, kept, next, next_from, text_from, text_of}
+use Rattle.hexfilter_core.specs.Outcome.{FailsWith, Makes, MakesBeginning, decode_mode, written}
 use Rattle.hexfilter_core.specs.Places.{leaves_out}
 use Rattle.hexfilter_core.specs.declared.input_decoder.InputDecoder.{InputDecoder}
 use Rattle.hexfilter_core.specs.declared.mode.Reading.{Reading}
+use Rattle.hexfilter_core.specs.declared.place.Place.{Place}
 use Rattle.hexfilter_core.specs.declared.scanner.Scanner.{Scanner}
 
 pub text-append : (r : Reading) (k : ℕ) (x y : List ℕ) → text_from r k (x ++ y) ≡ text_from r k x ++ text_from r (next_from r k x) y
@@ -213,13 +216,84 @@ fewer_spelled r x y k h =
     let same : take n y ≡ take k y = ap (λ m. take m y) (length-take k y) ∙ take_min k y in
     rw (take-take (2 * n) (2 * length y) (body_of (text_of r x)) (omega arith), same) at part
 
-pub decoded : (d : InputDecoder) (x y : List ℕ) → HasDecoded d x y → SpellsBeginning (reads d) x y
-decoded d x y has = spelled d.scanner.reading d.decoder x y has.text
+-- ---- what a decoder writes
 
-pub decoded_pairs : (d : InputDecoder) (x y : List ℕ) → HasDecoded d x y → SpellsPairs (text_of (reads d) x) y
-decoded_pairs d x y has = pairs d.scanner.reading d.decoder x y has.text
+-- all that is decoded
+pub made : (c : Bool) (r : Reading) (x bytes : List ℕ) → Reads (text_of r x) (Ok bytes) → Makes (decode_mode c r) x (written c bytes)
+made true r x bytes h = ((bytes, h), refl)
+made false r x bytes h = h
 
-pub decoded_before : (d : InputDecoder) (x chunk y : List ℕ) (k : ℕ) → HasDecoded d (x ++ take k chunk) y → SpellsBeginning (reads d) (x ++ chunk) y
-decoded_before d x chunk y k has =
+pub nothing_written : (c : Bool) → [] ≡ written c []
+nothing_written true = refl
+nothing_written false = refl
+
+pub only_checked : (c : Bool) (z bytes more : List ℕ) → c ≡ true → z ≡ written c bytes → z ++ [] ≡ written c (bytes ++ more)
+only_checked true z bytes more is h = rw h refl
+only_checked false z bytes more is h = absurd (not_both false is refl)
+
+pub all_written : (c : Bool) (z bytes more : List ℕ) → c ≡ false → z ≡ written c bytes → z ++ more ≡ written c (bytes ++ more)
+all_written true z bytes more is h = absurd (not_both true refl is)
+all_written false z bytes more is h = rw h refl
+
+-- all before an error
+pub failed : (c : Bool) (r : Reading) (left : Option (List ℕ)) (x bytes : List ℕ) (e : FromHexError) (place : Option Place)
+    → HasError r left x bytes e place → FailsWith (decode_mode c r) left x (written c bytes) e place
+failed true r left x bytes e place h = ((bytes, h), refl)
+failed false r left x bytes e place h = h
+
+-- a beginning
+begun : (c : Bool) (r : Reading) (x bytes : List ℕ) → SpellsBeginning r x bytes → MakesBeginning (decode_mode c r) x (written c bytes)
+begun true r x bytes h = refl
+begun false r x bytes h = h
+
+pub fewer_made : (c : Bool) (r : Reading) (x y : List ℕ) (k : ℕ) → MakesBeginning (decode_mode c r) x y → MakesBeginning (decode_mode c r) x (take k y)
+fewer_made true r x y k none = ap (take k) none ∙ take_all k [] (omega arith)
+fewer_made false r x y k h = fewer_spelled r x y k h
+
+pub decoded : (d : InputDecoder) (x z : List ℕ) → HasDecoded d x z → MakesBeginning (mode_of d) x z
+decoded d x z has =
+    rw has.text.given (begun d.is_check d.scanner.reading x has.text.bytes (spelled d.scanner.reading d.decoder x has.text.bytes has.text.read))
+
+pub decoded_before : (d : InputDecoder) (x chunk z : List ℕ) (k : ℕ) → HasDecoded d (x ++ take k chunk) z → MakesBeginning (mode_of d) (x ++ chunk) z
+decoded_before d x chunk z k has =
     let whole : (x ++ take k chunk) ++ drop k chunk ≡ x ++ chunk = append_assoc x (take k chunk) (drop k chunk) ∙ ap (λ l. x ++ l) (take-append-drop k chunk) in
-    rw whole at (spelled_before d.scanner.reading d.decoder (x ++ take k chunk) y has.text (drop k chunk))
+    let r = d.scanner.reading in
+    let front = rw whole at (spelled_before r d.decoder (x ++ take k chunk) has.text.bytes has.text.read (drop k chunk)) in
+    rw has.text.given (begun d.is_check r (x ++ chunk) has.text.bytes front)
+
+-- ---- how much that is
+
+text_size : (r : Reading) (k : ℕ) (x : List ℕ) → length (text_from r k x) ≤ length x
+unfolding text_from
+text_size r k [] = omega arith
+text_size r k (b ∷ x) =
+    let one : length (kept r k b) ≤ 1 = grind arith in
+    let rest = text_size r (next r k b) x in omega (arith, one, rest, length-append (kept r k b) (text_from r (next r k b) x))
+
+body_size : (t u : List ℕ) → length (body_of (t ++ u)) ≤ length (body_of t) + length u
+body_size [] u = grind arith
+body_size (c ∷ []) [] = grind arith
+body_size (c ∷ []) (d ∷ u) = grind arith
+body_size (c ∷ d ∷ t) u = let size = length-append t u in grind (arith, size)
+
+sizes : (d : Decoder) (t bytes : List ℕ) → HasRead d t bytes → (2 * length bytes ≤ length (body_of t)) × (length (body_of t) ≤ 2 * length bytes + 1)
+sizes d t bytes has =
+    let twice = Spells-length has.pairs bytes has.given in
+    let whole = ap length has.whole ∙ length-append has.pairs (waiting_digit d) in
+    let few = at_most_one d in
+    (omega (arith, twice, whole), omega (arith, twice, whole, few))
+
+written_size : (c : Bool) (y z b e : List ℕ) (n : ℕ) → y ≡ written c b → y ++ z ≡ written c e → 2 * length e ≤ 2 * length b + 1 + n → 2 * length z ≤ n + 1
+written_size true y z b e n first both h = let none = ap length both in omega (arith, none, length-append y z)
+written_size false y z b e n first both h = let one = ap length first in let two = ap length both in omega (arith, one, two, length-append y z, h)
+
+-- for n more bytes of the input, at most (n + 1) / 2
+pub at_most_half : (d e : InputDecoder) (x u y z : List ℕ) → e.scanner.reading ≡ d.scanner.reading → e.is_check ≡ d.is_check
+    → HasDecoded d x y → HasDecoded e (x ++ u) (y ++ z) → 2 * length z ≤ length u + 1
+at_most_half d e x u y z same check first both =
+    let r = d.scanner.reading in
+    let before = sizes d.decoder _ _ first.text.read in
+    let after = rw (same, text-append r 0 x u) at (sizes e.decoder _ _ both.text.read).0 in
+    let more = body_size (text_of r x) (text_from r (next_from r 0 x) u) in
+    let few = text_size r (next_from r 0 x) u in
+    written_size d.is_check y z first.text.bytes both.text.bytes (length u) first.text.given (rw check at both.text.given) (omega (arith, before.1, after, more, few))

@@ -105,7 +105,10 @@ impl Scanner {
             return (0, last);
         }
         if groups.size > 0 {
-            return (groups.size.saturating_sub(self.column).min(chunk.len()), last);
+            return (
+                groups.size.saturating_sub(self.column).min(chunk.len()),
+                last,
+            );
         }
         let found = find_whitespace(&chunk[..chunk.len().min(LONGEST)]);
         (found, found)

@@ -18,22 +18,8 @@ returns-in-Encode-clause-begun g c =
     (done.0, take done.2.0 y, done.1, rw c.in-Encode.is (drop done.2.0 y, sym (take-append-drop done.2.0 y)), done.2.1))
     c.encode_stream.ensures.begun
 
-pub returns-in-Check-clause-ok : goal.returns-in-Check-clause-ok
-returns-in-Check-clause-ok g c =
-    on_ok_weaker c.decode_stream-in-Check.result (λ done.
-    (done.0, [], done.2, rw c.in-Check.is ((done.1, done.3), refl), Appends-nil (g.W.Write.contents c.args.output.now)))
-    c.decode_stream-in-Check.ensures.ok
-
 pub returns-in-Decode-clause-text : goal.returns-in-Decode-clause-text
-returns-in-Decode-clause-text g c = λ e place is.
-    let (x, y, read, fails, wrote) = c.decode_stream.ensures.text e place is in (x, y, read, rw c.in-Decode.is fails, wrote)
-
-pub returns-in-Check-clause-begun : goal.returns-in-Check-clause-begun
-returns-in-Check-clause-begun g c =
-    on_err_weaker c.decode_stream-in-Check.result (λ begun. (begun.0, [], begun.2, rw c.in-Check.is refl, Appends-nil (g.W.Write.contents c.args.output.now)))
-    c.decode_stream-in-Check.ensures.begun
+returns-in-Decode-clause-text g c = λ e place is. rw c.in-Decode.is (c.decode_stream.ensures.text e place is)
 
 pub returns-in-Check-clause-text : goal.returns-in-Check-clause-text
-returns-in-Check-clause-text g c = λ e place is.
-    let (x, z, read, fails, wrote) = c.decode_stream-in-Check.ensures.text e place is in
-    (x, [], read, rw c.in-Check.is ((z, fails), refl), Appends-nil (g.W.Write.contents c.args.output.now))
+returns-in-Check-clause-text g c = λ e place is. rw c.in-Check.is (c.decode_stream-in-Check.ensures.text e place is)

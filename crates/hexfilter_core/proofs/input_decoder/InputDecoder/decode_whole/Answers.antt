@@ -9,15 +9,16 @@ pub returns-then-leaves_out-clause-ok : goal.returns-then-leaves_out-clause-ok
 returns-then-leaves_out-clause-ok c = λ x y has.
     let kept = c.text-count.ensures in
     let text = text_of c.args.self.now.scanner.reading x in
-    if_ok_weaker c.decode.result (λ n read.
-    let more = kept.scanned x has.scanned (digits_no_whitespace text _ (read_digits _ _ _ read)) in
-    record { text = rw (kept.reading, more.text) read; scanned = more.scanned })
-    (c.decode.ensures.ok text y has.text)
+    if_ok_weaker c.decode_text.result (λ n wrote.
+    let more = kept.scanned x has.scanned (digits_no_whitespace text _ (read_digits _ _ _ wrote.read)) in
+    record { text = rw (c.decode_text.ensures.scanner, kept.reading, more.text) wrote; scanned = rw c.decode_text.ensures.scanner more.scanned })
+    (c.decode_text.ensures.ok text y has.text)
 
 pub returns-clause-ok : goal.returns-clause-ok
 returns-clause-ok c = λ x y has.
     let s = c.args.self.now.scanner in
     let none = rw c.leaves_out.ensures at c.if-leaves_out.false in
     let more = c.advance.ensures.scanned x c.args.chunk.now has.scanned refl (plain_kept s c.args.chunk.now none) in
-    if_ok_weaker c.decode-2.result (λ n read. record { text = rw (c.advance.ensures.reading, more.text) read; scanned = more.scanned })
-    (c.decode-2.ensures.ok (text_of s.reading x) y has.text)
+    if_ok_weaker c.decode_text-2.result (λ n wrote.
+    record { text = rw (c.decode_text-2.ensures.scanner, c.advance.ensures.reading, more.text) wrote; scanned = rw c.decode_text-2.ensures.scanner more.scanned })
+    (c.decode_text-2.ensures.ok (text_of s.reading x) y has.text)
