@@ -9,15 +9,15 @@ use Rattle.hexfilter_core.specs.declared.mode.Mode.{Mode}
 use Rattle.hexfilter_core.specs.declared.place.Place.{Place}
 
 -- all of the input is read, and what the mode makes of it is written
-abbrev pub DecodesAll : Mode → Option (List ℕ) → Option (List ℕ) → Option (List ℕ) → Option (List ℕ) → Type 0
-DecodesAll m had left old new = (x : List ℕ) × (y : List ℕ) × ReadsAll had left x × Makes m x y × Appends old new y
+abbrev pub RunsToEnd : Mode → Option (List ℕ) → Option (List ℕ) → Option (List ℕ) → Option (List ℕ) → Type 0
+RunsToEnd m had left old new = (x : List ℕ) × (y : List ℕ) × ReadsAll had left x × Makes m x y × Appends old new y
 
 -- the mode fails with the error e of what is read, and all before it is written
-abbrev pub DecodesUpTo : Mode → Option (List ℕ) → Option (List ℕ) → Option (List ℕ) → Option (List ℕ) → FromHexError → Option Place → Type 0
-DecodesUpTo m had left old new e place =
+abbrev pub RunsToError : Mode → Option (List ℕ) → Option (List ℕ) → Option (List ℕ) → Option (List ℕ) → FromHexError → Option Place → Type 0
+RunsToError m had left old new e place =
     (x : List ℕ) × (y : List ℕ) × Consumes had left x × FailsWith m left x y e place × Appends old new y
 
 -- a beginning of what the mode makes of what is read is written
-abbrev pub DecodesBeginning : Mode → Option (List ℕ) → Option (List ℕ) → Option (List ℕ) → Option (List ℕ) → Type 0
-DecodesBeginning m had left old new =
+abbrev pub RunsPartly : Mode → Option (List ℕ) → Option (List ℕ) → Option (List ℕ) → Option (List ℕ) → Type 0
+RunsPartly m had left old new =
     (x : List ℕ) × (y : List ℕ) × Consumes had left x × MakesBeginning m x y × Appends old new y

@@ -3,7 +3,7 @@
 ghost use Rattle.std.specs.Prelude.{◌≡◌, ◌≤◌, Err, Option, OnOk, OnErr, IfErr, length, true};
 ghost use Rattle.const_hex.specs.declared.error.FromHexError.{FromHexError};
 ghost use Rattle.hexfilter_core.specs.Errors.{IsNotInterrupted};
-ghost use Rattle.hexfilter_core.specs.Streams.{DecodesAll, DecodesUpTo, DecodesBeginning};
+ghost use Rattle.hexfilter_core.specs.Streams.{RunsToEnd, RunsToError, RunsPartly};
 ghost use Rattle.hexfilter_core.specs.Outcome.{decode_mode};
 ghost use Rattle.hexfilter_core.specs.Places.{leaves_out};
 ghost use Rattle.hexfilter_core.specs.declared.error.RunError.TheVariants.{Text};
@@ -25,12 +25,12 @@ pub(crate) fn decode_stream<R: Read, W: Write>(
     input: &mut R,
     output: &mut W,
 ) -> Result<(), RunError>
-    ensures ok { OnOk result (DecodesAll (decode_mode is_check reading) (R.remaining input.old) (R.remaining input.new)
+    ensures ok { OnOk result (RunsToEnd (decode_mode is_check reading) (R.remaining input.old) (R.remaining input.new)
         (W.contents output.old) (W.contents output.new)) }
     ensures text { (e : FromHexError) (place : Option Place) → result ≡ Err (Text e place)
-        → DecodesUpTo (decode_mode is_check reading) (R.remaining input.old) (R.remaining input.new)
+        → RunsToError (decode_mode is_check reading) (R.remaining input.old) (R.remaining input.new)
         (W.contents output.old) (W.contents output.new) e place }
-    ensures begun { OnErr result (DecodesBeginning (decode_mode is_check reading) (R.remaining input.old) (R.remaining input.new)
+    ensures begun { OnErr result (RunsPartly (decode_mode is_check reading) (R.remaining input.old) (R.remaining input.new)
         (W.contents output.old) (W.contents output.new)) }
     ensures retried { IfErr result IsNotInterrupted }
 {
@@ -49,12 +49,12 @@ fn decode_chunks<R: Read, W: Write>(
     output: &mut W,
 ) -> Result<(), RunError>
     requires { leaves_out reading ≡ true → 65536 ≤ length text.old }
-    ensures ok { OnOk result (DecodesAll (decode_mode is_check reading) (R.remaining input.old) (R.remaining input.new)
+    ensures ok { OnOk result (RunsToEnd (decode_mode is_check reading) (R.remaining input.old) (R.remaining input.new)
         (W.contents output.old) (W.contents output.new)) }
     ensures text { (e : FromHexError) (place : Option Place) → result ≡ Err (Text e place)
-        → DecodesUpTo (decode_mode is_check reading) (R.remaining input.old) (R.remaining input.new)
+        → RunsToError (decode_mode is_check reading) (R.remaining input.old) (R.remaining input.new)
         (W.contents output.old) (W.contents output.new) e place }
-    ensures begun { OnErr result (DecodesBeginning (decode_mode is_check reading) (R.remaining input.old) (R.remaining input.new)
+    ensures begun { OnErr result (RunsPartly (decode_mode is_check reading) (R.remaining input.old) (R.remaining input.new)
         (W.contents output.old) (W.contents output.new)) }
     ensures retried { IfErr result IsNotInterrupted }
 {

@@ -22,6 +22,7 @@ pub(crate) fn put_groups(
     requires column { column ≤ groups.size }
     requires room { 2 * length text.now ≤ length output.old }
     ensures within { result.0 ≤ length output.new }
+    ensures length { length output.new ≡ length output.old }
     ensures column { result.1 ≤ groups.size }
     ensures groups { (rest : List ℕ) → groups_from groups.size groups.separator column (text.now ++ rest)
         ≡ take result.0 output.new ++ groups_from groups.size groups.separator result.1 rest }

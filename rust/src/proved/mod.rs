@@ -56,8 +56,8 @@ pub use self::formatting::text::*;
 //    1  and the crate's decoder is cloned
 //    1  before it reads a chunk
 //   42  deleted: attribute
-//  262  deleted: contract
-//  219  deleted: ghost item
+//  263  deleted: contract
+//  218  deleted: ghost item
 //    4  deleted: model
 //    1  each value may be dropped
 //    5  kernels that no target uses are left out, and callers that nothing exports

@@ -1,4 +1,4 @@
-use Rattle.std.proofs.Common.{◌≡◌, ◌∙◌, ◌-◌, ◌++◌, length, take, drop, ap, arith, length-drop}
+use Rattle.std.proofs.Common.{◌∙◌, ◌-◌, ◌++◌, length, take, drop, ap, arith, length-drop}
 use Rattle.std.proofs.lemmas.List.{take_all}
 use Rattle.hexfilter_core.proofs.lemmas.GroupBreaks.{goes_on}
 use Rattle.hexfilter_core.proofs.lemmas.Texts.{take_put}

@@ -1,4 +1,4 @@
-use Rattle.std.proofs.Common.{[], ◌∷◌, ◌++◌, arith, refl}
+use Rattle.std.proofs.Common.{arith, refl}
 use Rattle.hexfilter_core.proofs.lemmas.Texts.{failed, pairs}
 use Rattle.hexfilter_core.specs.Inputs.{text_of}
 use Rattle.hexfilter_core.proofs.input_decoder.InputDecoder.decode_byte.Goals as goal
