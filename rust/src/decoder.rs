@@ -51,6 +51,22 @@ impl Decoder {
         self.0.decode(chunk.as_ref(), output)
     }
 
+    /// Reads the next chunk as [`decode`](Decoder::decode) does, but writes nothing.
+    ///
+    /// Returns [`FromHexError::InvalidHexCharacter`] as `decode` does.
+    ///
+    /// ```
+    /// let mut decoder = const_hex_proved::Decoder::new();
+    /// decoder.check("0x6b6")?;
+    /// decoder.check("9")?;
+    /// decoder.finish()?;
+    /// # Ok::<(), const_hex_proved::FromHexError>(())
+    /// ```
+    #[inline]
+    pub fn check<T: AsRef<[u8]>>(&mut self, chunk: T) -> Result<(), FromHexError> {
+        self.0.check(chunk.as_ref())
+    }
+
     /// Returns how many bytes of text were read, prefix included, or `usize::MAX` if they were more. After an invalid
     /// character, returns its position.
     #[inline]

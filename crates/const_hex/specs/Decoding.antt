@@ -1,5 +1,5 @@
 -- A text that a decoder reads in chunks.
-use Rattle.std.specs.Prelude.{◌≡◌, ℕ, ◌+◌, ◌-◌, ◌/◌, ◌^◌, ◌≤◌, ◌<◌, ◌==◌, nat_le, min, if◌then◌else◌, List, [], ◌∷◌, ◌++◌, length, Option, Some, None, Result, Ok, Err, ◌*◌, ◌≢◌, take, drop, IfOk, IfErr, IfSome}
+use Rattle.std.specs.Prelude.{◌≡◌, ℕ, ◌+◌, ◌-◌, ◌/◌, ◌^◌, ◌≤◌, ◌<◌, ◌==◌, nat_le, min, if◌then◌else◌, List, [], ◌∷◌, ◌++◌, length, Option, Some, None, Result, Ok, Err, ◌*◌, ◌≢◌, take, drop, IfOk, IfErr, IfSome, OnOk}
 use Rattle.const_hex_arch.specs.Texts.{AllDigits, Partial, Spells}
 use Rattle.const_hex.specs.Results.{body_of, NamesFirstBad}
 use Rattle.const_hex.specs.declared.codec.decoder.Decoder.{Decoder}
@@ -71,3 +71,18 @@ pub record DecodesChunk (before : Decoder) (chunk old new : List ℕ) (after : D
   -- the decoder keeps the error of an invalid character, and returns it again
   pub ended : IfErr r (λ e. e ≢ InvalidStringLength → error_of after ≡ Some e)
   pub kept_error : IfSome (error_of before) (λ e. (r ≡ Err e) × (after ≡ before) × (new ≡ old))
+
+-- as `ReadsOn`, if no space is needed
+abbrev pub ChecksOn : List ℕ → Result Unit FromHexError → Type 0
+ChecksOn t (Ok u) = AllDigits (body_of t)
+ChecksOn t (Err OddLength) = ⊥
+ChecksOn t (Err InvalidStringLength) = ⊥
+ChecksOn t (Err (InvalidHexCharacter c i)) = NamesCounted t c i
+ChecksOn t (Err NoMemory) = ⊥
+
+-- `Decoder::check`: as `DecodesChunk`, but the new bytes are not written
+pub record ChecksChunk (before : Decoder) (chunk : List ℕ) (after : Decoder) (r : Result Unit FromHexError) : Type 0 where
+  pub ok : (t bs : List ℕ) → HasRead before t bs → OnOk r ((more : List ℕ) × HasRead after (t ++ chunk) (bs ++ more))
+  pub answer : (t bs : List ℕ) → HasRead before t bs → ChecksOn (t ++ chunk) r
+  pub ended : IfErr r (λ e. error_of after ≡ Some e)
+  pub kept_error : IfSome (error_of before) (λ e. (r ≡ Err e) × (after ≡ before))

@@ -1,10 +1,11 @@
 -- What a run writes, and its errors.
-use Rattle.std.specs.Prelude.{◌≡◌, ℕ, List, [], ◌++◌, Option, Ok}
+use Rattle.std.specs.Prelude.{◌≡◌, ℕ, Bool, if◌then◌else◌, List, [], ◌++◌, Option, Ok}
 use Rattle.const_hex.specs.Results.{Checks, Reads}
 use Rattle.const_hex.specs.declared.error.FromHexError.{FromHexError}
 use Rattle.hexfilter_core.specs.Groups.{encoded}
 use Rattle.hexfilter_core.specs.Inputs.{HasError, SpellsBeginning, text_of}
 use Rattle.hexfilter_core.specs.declared.mode.Mode.{Mode}
+use Rattle.hexfilter_core.specs.declared.mode.Reading.{Reading}
 use Rattle.hexfilter_core.specs.declared.place.Place.{Place}
 use Rattle.hexfilter_core.specs.declared.mode.Mode.TheVariants.{Encode, Decode, Check}
 
@@ -25,3 +26,10 @@ abbrev pub FailsWith : Mode → Option (List ℕ) → List ℕ → List ℕ → 
 FailsWith (Encode prefix upper groups) left x y e place = ⊥
 FailsWith (Decode r) left x y e place = HasError r left x y e place
 FailsWith (Check r) left x y e place = ((z : List ℕ) × HasError r left x z e place) × (y ≡ [])
+
+-- the mode in which an input is decoded, or only checked, and what is written then of the bytes y
+abbrev pub decode_mode : Bool → Reading → Mode
+decode_mode is_check r = if is_check then Check r else Decode r
+
+abbrev pub written : Bool → List ℕ → List ℕ
+written is_check y = if is_check then [] else y

@@ -1,12 +1,13 @@
 //! From a reader's bytes to a writer's text.
 
-ghost use Rattle.std.specs.Prelude.{◌≡◌, ◌*◌, ◌≤◌, List, ℕ, length, OnOk, OnErr, IfErr, IfOk};
-ghost use Rattle.std.specs.Io.KnownBytes.{Appends, Consumes};
+ghost use Rattle.std.specs.Prelude.{◌≡◌, ◌≢◌, ◌*◌, ◌≤◌, List, ℕ, length, OnOk, OnErr, IfErr, IfOk};
+ghost use Rattle.std.specs.Io.KnownBytes.{Appends};
 ghost use Rattle.const_hex.specs.Texts.{prefix_of};
 ghost use Rattle.const_hex.specs.Writers.{WritesBeginning};
 ghost use Rattle.hexfilter_core.specs.Errors.{IsFailedCall, IsFailedWrite};
-ghost use Rattle.hexfilter_core.specs.Inputs.{ReadsAll};
-ghost use Rattle.hexfilter_core.specs.Groups.{Begins, Lays, encoded, ended};
+ghost use Rattle.hexfilter_core.specs.Groups.{Begins, Lays, ended};
+ghost use Rattle.hexfilter_core.specs.Streams.{RunsPartly, RunsToEnd};
+ghost use Rattle.hexfilter_core.specs.declared.mode.Mode.TheVariants.{Encode};
 
 use crate::error::RunError;
 use crate::groups::put_groups;
@@ -26,19 +27,37 @@ pub(crate) fn encode_stream<R: Read, W: Write>(
     input: &mut R,
     output: &mut W,
 ) -> Result<(), RunError>
-    ensures ok { OnOk result ((x : List ℕ)
-        × ReadsAll (R.remaining input.old) (R.remaining input.new) x
-        × Appends (W.contents output.old) (W.contents output.new) (encoded prefix upper groups x)) }
+    ensures ok { OnOk result (RunsToEnd (Encode prefix upper groups) (R.remaining input.old)
+        (R.remaining input.new) (W.contents output.old) (W.contents output.new)) }
     ensures err { IfErr result IsFailedCall }
-    ensures begun { OnErr result ((x : List ℕ)
-        × Consumes (R.remaining input.old) (R.remaining input.new) x
-        × WritesBeginning (W.contents output.old) (W.contents output.new)
-        (encoded prefix upper groups x)) }
+    ensures begun { OnErr result (RunsPartly (Encode prefix upper groups) (R.remaining input.old)
+        (R.remaining input.new) (W.contents output.old) (W.contents output.new)) }
+{
+    if groups.size == 0 {
+        return encode_chunks(prefix, upper, groups, input, &mut [], output);
+    }
+    encode_chunks(prefix, upper, groups, input, &mut [0; 4 * CHUNK], output)
+}
+
+/// As `encode_stream`. The last buffer is space for the text of a chunk in groups, if there are groups.
+fn encode_chunks<R: Read, W: Write>(
+    prefix: bool,
+    upper: bool,
+    groups: Groups,
+    input: &mut R,
+    grouped: &mut [u8],
+    output: &mut W,
+) -> Result<(), RunError>
+    requires { groups.size ≢ 0 → 65536 ≤ length grouped.old }
+    ensures ok { OnOk result (RunsToEnd (Encode prefix upper groups) (R.remaining input.old)
+        (R.remaining input.new) (W.contents output.old) (W.contents output.new)) }
+    ensures err { IfErr result IsFailedCall }
+    ensures begun { OnErr result (RunsPartly (Encode prefix upper groups) (R.remaining input.old)
+        (R.remaining input.new) (W.contents output.old) (W.contents output.new)) }
 {
     let mut bytes = [0; CHUNK];
     let mut digits = [0; 2 * CHUNK];
-    let mut grouped = [0; 4 * CHUNK];
-    let mut column = write_text(groups, 0, prefix_text(prefix), &mut grouped, output)?;
+    let mut column = write_text(groups, 0, prefix_text(prefix), grouped, output)?;
     'chunks: for _ in 0..u64::MAX {
         let count = read_chunk(input, &mut bytes)?;
         if count == 0 {
@@ -46,7 +65,7 @@ pub(crate) fn encode_stream<R: Read, W: Write>(
         }
         let text = &mut digits[..2 * count];
         fill_text::<FixedKernel>(&bytes[..count], false, upper, text);
-        column = write_text(groups, column, text, &mut grouped, output)?;
+        column = write_text(groups, column, text, grouped, output)?;
     }
     Err(too_many_reads())
 }
@@ -68,7 +87,7 @@ fn write_text<W: Write>(
     output: &mut W,
 ) -> Result<usize, RunError>
     requires column { column ≤ groups.size }
-    requires room { 2 * length text.now ≤ length grouped.old }
+    requires room { groups.size ≢ 0 → 2 * length text.now ≤ length grouped.old }
     ensures ok { IfOk result (λ next. (y : List ℕ)
         × Appends (W.contents output.old) (W.contents output.new) y
         × Lays groups column text.now y next) }
@@ -77,6 +96,7 @@ fn write_text<W: Write>(
     ensures begun { OnErr result ((y : List ℕ)
         × Appends (W.contents output.old) (W.contents output.new) y
         × Begins groups column text.now y) }
+    ensures length { length grouped.new ≡ length grouped.old }
 {
     if groups.size == 0 {
         write_piece(output, text)?;

@@ -1,9 +1,13 @@
 //! A text in groups.
 
 ghost use Rattle.std.specs.Prelude.{◌≡◌, ◌≢◌, ◌+◌, ◌*◌, ◌≤◌, ◌<◌, ◌++◌, List, ℕ, length, take};
+ghost use Rattle.const_hex.specs.Decoding.{listed};
 ghost use Rattle.hexfilter_core.specs.Groups.{groups_from};
 
 use crate::mode::Groups;
+
+/// How many bytes are copied at a time.
+const BLOCK: usize = 32;
 
 /// Puts the text into the output, with a separator before each character that follows a whole group. The
 /// first group has `column` characters already. Returns how many bytes were put there, and how many
@@ -18,6 +22,7 @@ pub(crate) fn put_groups(
     requires column { column ≤ groups.size }
     requires room { 2 * length text.now ≤ length output.old }
     ensures within { result.0 ≤ length output.new }
+    ensures length { length output.new ≡ length output.old }
     ensures column { result.1 ≤ groups.size }
     ensures groups { (rest : List ℕ) → groups_from groups.size groups.separator column (text.now ++ rest)
         ≡ take result.0 output.new ++ groups_from groups.size groups.separator result.1 rest }
@@ -28,7 +33,8 @@ pub(crate) fn put_groups(
     'groups: while done < text.len() {
         let (start, first) = separate(groups, column, output, end);
         let count = (groups.size - first).min(text.len() - done);
-        end = put(&text[done..done + count], output, start);
+        copy_front(&text[done..], count, &mut output[start..]);
+        end = start + count;
         done += count;
         column = first + count;
     }
@@ -49,18 +55,43 @@ fn separate(groups: Groups, column: usize, output: &mut [u8], end: usize) -> (us
     ensures length { length output.new ≡ length output.old }
 {
     if column == groups.size {
-        return (put(&[groups.separator], output, end), 0);
+        return (put(Some(groups.separator), output, end), 0);
     }
     (end, column)
 }
 
-/// Puts a piece into the output at an index, and returns the index after it.
-fn put(piece: &[u8], output: &mut [u8], start: usize) -> usize
-    requires { start + length piece.now ≤ length output.old }
-    ensures end { result ≡ start + length piece.now }
-    ensures front { take result output.new ≡ take start output.old ++ piece.now }
+/// Puts a byte, if there is one, into the output at an index, and returns the index after it.
+pub(crate) fn put(byte: Option<u8>, output: &mut [u8], end: usize) -> usize
+    requires { end < length output.old }
+    ensures within { result ≤ end + 1 }
+    ensures front { take result output.new ≡ take end output.old ++ listed byte }
+    ensures length { length output.new ≡ length output.old }
 {
-    let end = start + piece.len();
-    output[start..end].copy_from_slice(piece);
-    end
+    match byte {
+        Some(byte) => {
+            output[end] = byte;
+            end + 1
+        }
+        None => end,
+    }
+}
+
+/// Copies the first `count` bytes of a text. More of the output may change.
+#[inline(always)]
+pub(crate) fn copy_front(text: &[u8], count: usize, output: &mut [u8])
+    requires text { count ≤ length text.now }
+    requires room { count ≤ length output.old }
+    ensures front { take count output.new ≡ take count text.now }
+    ensures length { length output.new ≡ length output.old }
+{
+    // Copies whose length is a constant take a few instructions, and no call.
+    if text.len().min(output.len()) - count < BLOCK {
+        output[..count].copy_from_slice(&text[..count]);
+        return;
+    }
+    let mut done = 0;
+    'copies: while done < count {
+        output[done..done + BLOCK].copy_from_slice(&text[done..done + BLOCK]);
+        done += BLOCK;
+    }
 }

@@ -1,11 +1,9 @@
 //! A whole run over any reader and writer.
 
-ghost use Rattle.std.specs.Prelude.{◌≡◌, List, ℕ, Err, Option, OnOk, OnErr, IfErr};
-ghost use Rattle.std.specs.Io.KnownBytes.{Appends, Consumes};
+ghost use Rattle.std.specs.Prelude.{◌≡◌, Err, Option, OnOk, OnErr, IfErr};
 ghost use Rattle.const_hex.specs.declared.error.FromHexError.{FromHexError};
 ghost use Rattle.hexfilter_core.specs.Errors.{IsNotInterrupted};
-ghost use Rattle.hexfilter_core.specs.Inputs.{ReadsAll};
-ghost use Rattle.hexfilter_core.specs.Outcome.{Makes, MakesBeginning, FailsWith};
+ghost use Rattle.hexfilter_core.specs.Streams.{RunsPartly, RunsToEnd, RunsToError};
 ghost use Rattle.hexfilter_core.specs.declared.error.RunError.TheVariants.{Text};
 ghost use Rattle.hexfilter_core.specs.declared.place.Place.{Place};
 
@@ -13,7 +11,7 @@ use crate::decoding::decode_stream;
 use crate::encoding::encode_stream;
 use crate::error::RunError;
 use crate::mode::Mode;
-use std::io::{self, Read, Write};
+use std::io::{Read, Write};
 
 /// Reads the input to its end, writes what the mode makes of it, and flushes. The input may have any
 /// length: it is read in chunks of 16 or 64 KiB, and nothing is allocated.
@@ -38,19 +36,16 @@ use std::io::{self, Read, Write};
 /// ```
 pub fn run<R: Read, W: Write>(mode: Mode, input: &mut R, output: &mut W) -> Result<(), RunError>
     // The reader was read to its end, and what the mode makes of all its bytes was written.
-    ensures ok { OnOk result ((x : List ℕ) × (y : List ℕ)
-        × ReadsAll (R.remaining input.old) (R.remaining input.new) x × Makes mode x y
-        × Appends (W.contents output.old) (W.contents output.new) y) }
+    ensures ok { OnOk result (RunsToEnd mode (R.remaining input.old) (R.remaining input.new)
+        (W.contents output.old) (W.contents output.new)) }
     // `e` is the error of what was read, whatever follows, or of all that the reader had. All bytes before it
     // were written.
     ensures text { (e : FromHexError) (place : Option Place) → result ≡ Err (Text e place)
-        → (x : List ℕ) × (y : List ℕ) × Consumes (R.remaining input.old) (R.remaining input.new) x
-        × FailsWith mode (R.remaining input.new) x y e place
-        × Appends (W.contents output.old) (W.contents output.new) y }
+        → RunsToError mode (R.remaining input.old) (R.remaining input.new)
+        (W.contents output.old) (W.contents output.new) e place }
     // A beginning of what the mode makes of the bytes that were read was written.
-    ensures begun { OnErr result ((x : List ℕ) × (y : List ℕ)
-        × Consumes (R.remaining input.old) (R.remaining input.new) x × MakesBeginning mode x y
-        × Appends (W.contents output.old) (W.contents output.new) y) }
+    ensures begun { OnErr result (RunsPartly mode (R.remaining input.old) (R.remaining input.new)
+        (W.contents output.old) (W.contents output.new)) }
     ensures retried { IfErr result IsNotInterrupted }
 {
     match mode {
@@ -59,7 +54,7 @@ pub fn run<R: Read, W: Write>(mode: Mode, input: &mut R, output: &mut W) -> Resu
             upper,
             groups,
         } => encode_stream(prefix, upper, groups, input, output),
-        Mode::Decode(reading) => decode_stream(reading, input, output),
-        Mode::Check(reading) => decode_stream(reading, input, &mut io::sink()),
+        Mode::Decode(reading) => decode_stream(reading, false, input, output),
+        Mode::Check(reading) => decode_stream(reading, true, input, output),
     }
 }

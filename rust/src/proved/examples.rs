@@ -369,6 +369,15 @@ fn codec_decoder_decode_with() {
 }
 
 #[test]
+fn codec_decoder_check() {
+    let mut decoder = Decoder::new();
+    assert_eq!(decoder.check(b"0x6b6"), Ok(()));
+    let error = FromHexError::InvalidHexCharacter { c: 'z', index: 5 };
+    assert_eq!(decoder.check(b"z"), Err(error));
+    assert_eq!(decoder.finish(), Err(error));
+}
+
+#[test]
 fn codec_decoder_finish() {
     let mut decoder = Decoder::new();
     assert_eq!(decoder.decode(b"6b6", &mut [0; 2]), Ok(1));

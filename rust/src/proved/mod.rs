@@ -42,10 +42,10 @@ pub use self::formatting::text::*;
 //    1  Rust's errors are not copied
 //   26  a formatter has a lifetime in place of its writer's type
 //   10  a function for C takes slices, which capi makes of pointers and lengths, and is compiled there alone
-//  100  all crates are one module
+//  101  all crates are one module
 //    5  an allocation never fails: without memory the program ends
 //    1  an argument's copy takes no allocator
-//  115  an assertion names no runtime
+//  118  an assertion names no runtime
 //    3  an example names a kernel that each target has
 //    4  an example of hexfilter uses no allocator
 //    1  and a constant converts by a cast
@@ -56,8 +56,8 @@ pub use self::formatting::text::*;
 //    1  and the crate's decoder is cloned
 //    1  before it reads a chunk
 //   43  deleted: attribute
-//  262  deleted: contract
-//  216  deleted: ghost item
+//  265  deleted: contract
+//  218  deleted: ghost item
 //    4  deleted: model
 //    1  each value may be dropped
 //    5  kernels that no target uses are left out, and callers that nothing exports
@@ -66,5 +66,5 @@ pub use self::formatting::text::*;
 //    1  the kernel is chosen for the processor
 //   12  what a constant calls is constant
 //   14  what allocates is there with the feature alloc
-//    3  what hexfilter uses of const_hex is a module of rattle
+//    4  what hexfilter uses of const_hex is a module of rattle
 //    5  what is for C is a module of const_hex

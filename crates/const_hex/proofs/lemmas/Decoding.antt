@@ -1,15 +1,15 @@
 -- Digits that come in pieces.
 use Rattle.std.proofs.Common.{◌≡◌, ℕ, suc, ◌+◌, ◌-◌, ◌*◌, ◌/◌, ◌%◌, ◌<◌, ◌≤◌, List, [], ◌∷◌, ◌++◌, length, take, drop, get_or, slice_index, Bool, true, false, if◌then◌else◌, ◌==◌, ◌&&◌, ◌||◌, None, Ok, refl, sym, ap, ◌∙◌, arith, length-append, length-drop}
 use Rattle.std.proofs.lemmas.Grind.{common_steps}
-use Rattle.std.proofs.lemmas.List.{append_assoc, append-nil, take-append-le, take-append-drop, take_all, take_at, drop_all, drop_at}
+use Rattle.std.proofs.lemmas.List.{append_assoc, append-nil, length-take-le, take-append-le, take-append-drop, take_all, take_at, drop_all, drop_at}
 use Rattle.const_hex.proofs.lemmas.Fronts.{partial_front}
 use Rattle.const_hex.specs.Results.{IsOdd, Reads, body_of}
 use Rattle.const_hex.specs.Decoding.{HasRead, NamesCounted, counted, error_of, position_of, waiting_digit}
 use Rattle.const_hex.specs.TypeLaws.{body-parity}
 use Rattle.const_hex.specs.declared.codec.decoder.Decoder.{Decoder}
 use Rattle.const_hex_arch.specs.Texts.{IsDigit, AllDigits, FirstBad, Partial, Spells}
-use Rattle.std.proofs.lemmas.List.Elements.{All-drop}
-use Rattle.const_hex_arch.proofs.lemmas.Spelling.{FirstBad-after, Partial-after, Spells-append, Spells-digits, Spells-length, digits_append, digits_no_bad, first_bad}
+use Rattle.std.proofs.lemmas.List.Elements.{All-drop, All-take}
+use Rattle.const_hex_arch.proofs.lemmas.Spelling.{FirstBad-after, Partial-after, Spells-append, Spells-digits, Spells-length, Spells-some, digits_append, digits_no_bad, first_bad}
 
 -- ---- an invalid character, whatever follows
 
@@ -136,6 +136,16 @@ module _ (d : Decoder) (t bs piece w digits : List ℕ) (r : HasRead d t bs) (wh
         given = Spells-append r.pairs bs (take (2 * count) u) out r.given s;
         waits = rw waits (All-drop IsDigit (2 * count) u ((digits_append w digits).1 (a, b)));
       }
+
+  -- and it does so if no byte is written
+  pub goes_on_unwritten : (e : Decoder) (count : ℕ) → count ≡ length (w ++ digits) / 2 → AllDigits w → AllDigits digits
+      → error_of e ≡ None → position_of e ≡ counted (position_of d + length piece) → waiting_digit e ≡ drop (2 * count) (w ++ digits)
+      → (more : List ℕ) × HasRead e (t ++ piece) (bs ++ more)
+  goes_on_unwritten e count half a b none index waits =
+      let u = w ++ digits in
+      let even : length (take (2 * count) u) % 2 ≡ 0 = omega (arith, length-take-le (2 * count) u (omega (arith, half))) in
+      let bytes = Spells-some (take (2 * count) u) even (All-take IsDigit (2 * count) u ((digits_append w digits).1 (a, b))) in
+      (bytes.0, goes_on e bytes.0 count a b bytes.1 none index waits)
 
   -- what the piece adds
   pub added : drop (2 * length bs) (body_of (t ++ piece)) ≡ w ++ digits

@@ -3,7 +3,7 @@
 ghost use Rattle.std.specs.Prelude.{◌≡◌, ◌≢◌, ℕ, List, [], ◌∷◌, None, ◌++◌, ◌*◌, ◌+◌, ◌/◌, ◌%◌, ◌≤◌, ◌↔◌, Some, Ok, Err, true, false, length, take, drop, slice_index, IsOk, OnErr, IfSome, IsTrue};
 ghost use Rattle.const_hex_arch.specs.Texts.{AllDigits, FirstBad, IsDigit, Partial, Spells};
 ghost use Rattle.const_hex.specs.Results.{IsOdd, Reads, body_of};
-ghost use Rattle.const_hex.specs.Decoding.{HasRead, counted, error_of, listed, position_of, waiting_digit, zero_decoder, DecodesChunk};
+ghost use Rattle.const_hex.specs.Decoding.{HasRead, counted, error_of, listed, position_of, waiting_digit, zero_decoder, ChecksChunk, DecodesChunk};
 ghost use Rattle.const_hex.specs.declared.error.FromHexError.{FromHexError};
 ghost use Rattle.const_hex.specs.declared.error.FromHexError.TheVariants.{OddLength, InvalidStringLength, InvalidHexCharacter};
 
@@ -126,6 +126,34 @@ impl Decoder {
         }
         self.advance(chunk.len(), left_over(waiting, digits, count));
         Ok(count)
+    }
+
+    /// Reads the next chunk as [`decode`](Decoder::decode) does, but writes nothing.
+    ///
+    /// Returns [`FromHexError::InvalidHexCharacter`] when `decode` into an output with enough space
+    /// returns it. Does not allocate.
+    ///
+    /// ```rust
+    /// let mut decoder = Decoder::new();
+    /// assert_eq!(rt; decoder.check(b"0x6b6"), Ok(()));
+    /// let error = FromHexError::InvalidHexCharacter { c: 'z', index: 5 };
+    /// assert_eq!(rt; decoder.check(b"z"), Err(error));
+    /// assert_eq!(rt; decoder.finish(), Err(error));
+    /// ```
+    #[inline]
+    pub fn check(&mut self, chunk: &[u8]) -> Result<(), FromHexError>
+        ensures { ChecksChunk self.old chunk.now self.new result }
+    {
+        if let Some(error) = self.error() {
+            return Err(error);
+        }
+        let (waiting, digits) = self.next_digits(chunk);
+        if !FixedKernel::check(digits) {
+            return Err(self.fail(chunk.len() - digits.len(), digits));
+        }
+        let pairs = count_pairs(waiting, digits);
+        self.advance(chunk.len(), left_over(waiting, digits, pairs));
+        Ok(())
     }
 
     /// Ends the text. `Ok` if it was read whole: then the chunks together are a text that

@@ -3,13 +3,15 @@ use Rattle.std.proofs.Common.{◌≡◌, ◌≢◌, ℕ, ◌+◌, ◌≤◌, Boo
 use Rattle.std.proofs.KnownBytes.{Appends-trans}
 use Rattle.std.proofs.Math.Seq.{take-append-add, take-append_seam}
 use Rattle.std.proofs.lemmas.List.{append-nil, take-append-drop}
-use Rattle.std.specs.Io.KnownBytes.{Appends}
+use Rattle.std.specs.Io.KnownBytes.{Appends, Consumes}
 use Rattle.std.specs.Prelude.{OnErr, OnOk}
 use Rattle.const_hex.specs.Texts.{full_text, hex_text, prefix_of}
 use Rattle.const_hex.specs.Writers.{WritesBeginning}
 use Rattle.const_hex_arch.proofs.lemmas.Texts.{hex_text-append, hex_text-nil}
-use Rattle.hexfilter_core.specs.Groups.{Begins, Lays, ended, groups_from, laid_out}
+use Rattle.hexfilter_core.specs.Groups.{Begins, Lays, encoded, ended, groups_from, laid_out}
+use Rattle.hexfilter_core.specs.Streams.{RunsPartly}
 use Rattle.hexfilter_core.specs.declared.mode.Groups.{Groups}
+use Rattle.hexfilter_core.specs.declared.mode.Mode.TheVariants.{Encode}
 
 pub if_ok : {T E P : Type 0} (r : Result T E) → P → OnOk r P
 if_ok (Ok v) p = p
@@ -82,3 +84,9 @@ module _ (held mid holds : Option (List ℕ)) (g : Groups) (c : ℕ) (t y : List
   then_begins_to_end fits more =
       let e = ended g.separator d in
       (length y + more.0, rw (at_end g c t y d lays, closed g d fits, take-append-add y e more.0) (Appends-trans held mid holds y (take more.0 e) wrote more.1))
+
+-- what a run has written
+pub runs_partly : (prefix up : Bool) (g : Groups) (had left old new : Option (List ℕ)) (x : List ℕ) → Consumes had left x
+    → WritesBeginning old new (encoded prefix up g x) → RunsPartly (Encode prefix up g) had left old new
+runs_partly prefix up g had left old new x read (k, wrote) =
+    let t = encoded prefix up g x in (x, take k t, read, (drop k t, sym (take-append-drop k t)), wrote)

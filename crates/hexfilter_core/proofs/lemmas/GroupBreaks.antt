@@ -1,5 +1,5 @@
 -- Parts of groups.
-use Rattle.std.proofs.Common.{◌≡◌, ℕ, ◌+◌, ◌-◌, ◌<◌, ◌≤◌, List, [], ◌∷◌, ◌++◌, length, take, drop, sym, ap, ◌∙◌, arith, append_assoc, length-append}
+use Rattle.std.proofs.Common.{◌≡◌, ℕ, ◌+◌, ◌<◌, ◌≤◌, List, [], ◌∷◌, ◌++◌, length, take, drop, sym, ap, ◌∙◌, arith, append_assoc, length-append}
 use Rattle.std.proofs.Math.Seq.{take-add}
 use Rattle.std.proofs.lemmas.List.{length-take, length-drop}
 use Rattle.hexfilter_core.specs.Groups.{groups_from}
@@ -17,28 +17,23 @@ after_group n s [] h some = absurd (omega arith)
 after_group n s (b ∷ t) h some = grind arith
 
 -- the first `done` characters stand in groups, and then `count` more
-module _ (n s first c : ℕ) (text : List ℕ) (done count : ℕ) (laid out : List ℕ)
+module _ (n s first c : ℕ) (text : List ℕ) (done count : ℕ) (laid : List ℕ)
     (before : (rest : List ℕ) → 0 < length rest → groups_from n s first (take done text ++ rest) ≡ laid ++ groups_from n s c rest)
-    (some : 0 < count) (within : done + count ≤ length text) (put : out ≡ laid ++ take (done + count - done) (drop done text)) where
+    (some : 0 < count) (within : done + count ≤ length text) where
   piece : List ℕ
-  piece = take (done + count - done) (drop done text)
+  piece = take count (drop done text)
 
   size : length piece ≡ count
   unfolding piece
   size = simp (length-take, length-drop) (omega arith)
 
-  split : (rest : List ℕ) → take (done + count) text ++ rest ≡ take done text ++ (piece ++ rest)
+  pub goes_on : c + count ≤ n → (out : List ℕ) → out ≡ laid ++ take count (drop done text)
+      → (rest : List ℕ) → groups_from n s first (take (done + count) text ++ rest) ≡ out ++ groups_from n s (c + count) rest
   unfolding piece
-  split rest =
-      let same : done + count - done ≡ count = omega arith in
-      rw (same, take-add done count text) (append_assoc (take done text) (take count (drop done text)) rest)
-
-  is_out : (rest : List ℕ) → laid ++ (piece ++ rest) ≡ out ++ rest
-  unfolding piece
-  is_out rest = rw put (sym (append_assoc laid (take (done + count - done) (drop done text)) rest))
-
-  pub goes_on : c + count ≤ n → (rest : List ℕ) → groups_from n s first (take (done + count) text ++ rest) ≡ out ++ groups_from n s (c + count) rest
-  goes_on h rest =
+  goes_on h out put rest =
       let more : 0 < length (piece ++ rest) = omega (arith, size, length-append piece rest, some) in
-      rw (split rest) (before (piece ++ rest) more ∙ ap (λ l. laid ++ l) (within_group n s c piece rest (omega (arith, size)))
-      ∙ ap (λ k. laid ++ (piece ++ groups_from n s (c + k) rest)) size ∙ is_out (groups_from n s (c + count) rest))
+      ap (λ l. groups_from n s first (l ++ rest)) (take-add done count text)
+      ∙ ap (groups_from n s first) (append_assoc (take done text) piece rest)
+      ∙ before (piece ++ rest) more ∙ ap (λ l. laid ++ l) (within_group n s c piece rest (omega (arith, size)))
+      ∙ ap (λ k. laid ++ (piece ++ groups_from n s (c + k) rest)) size
+      ∙ sym (append_assoc laid piece (groups_from n s (c + count) rest)) ∙ ap (λ l. l ++ groups_from n s (c + count) rest) (sym put)

@@ -1,22 +1,26 @@
 -- The text of an input, part after part.
 use borrow.Rule.Slice.PartMut.{put_mid, post_of}
-use Rattle.std.proofs.Common.{◌≡◌, ◌≢◌, ℕ, ◌+◌, ◌-◌, ◌*◌, ◌/◌, ◌<◌, ◌≤◌, ◌&&◌, Bool, true, false, List, [], ◌∷◌, ◌++◌, length, take, drop, get_or, refl, sym, ap, ◌∙◌, arith, append_assoc, length-append}
+use Rattle.std.proofs.Common.{◌≡◌, ◌≢◌, ℕ, ◌+◌, ◌-◌, ◌*◌, ◌/◌, ◌<◌, ◌≤◌, ◌==◌, ◌&&◌, ◌||◌, min, if◌then◌else◌, Bool, true, false, List, [], ◌∷◌, ◌++◌, length, take, drop, get_or, Option, Ok, refl, sym, ap, ◌∙◌, arith, append_assoc, length-append}
 use Rattle.std.proofs.Math.Seq.{take-add, take-append-add}
 use Rattle.std.proofs.lemmas.Bool.Decides.{nat_tests}
-use Rattle.std.proofs.lemmas.List.{append-nil, get_or-take, length-drop, length-take, length-take-le, take-append-drop, take-append-le, take-take, take_all, take_min, take_more}
-use Rattle.std.proofs.lemmas.List.Elements.{All-from_get_or, All-head, All-tail, All-weaker}
+use Rattle.std.proofs.lemmas.List.{append-nil, length-drop, length-take, length-take-le, take-append-drop, take-append-le, take-take, take_all, take_min, take_more}
+use Rattle.std.proofs.lemmas.List.Elements.{All-cons, All-from_get_or, All-head, All-nil, All-tail, All-weaker}
 use Rattle.std.specs.List.{All}
-use Rattle.std.specs.Prelude.{nat_lt}
+use Rattle.const_hex.specs.Texts.{AllDigits, IsDigit}
 use Rattle.const_hex.proofs.lemmas.Decoding.{read_digits, read_front}
 use Rattle.const_hex.specs.Decoding.{HasRead, waiting_digit}
-use Rattle.const_hex.specs.Results.{body_of}
+use Rattle.const_hex.specs.Results.{Reads, body_of}
 use Rattle.const_hex.specs.declared.codec.decoder.Decoder.{Decoder}
+use Rattle.const_hex.specs.declared.error.FromHexError.{FromHexError}
 use Rattle.const_hex_arch.proofs.lemmas.Spelling.{Spells-length, Spells-parts}
-use Rattle.hexfilter_core.specs.Decoding.{HasDecoded, reads}
-use Rattle.hexfilter_core.specs.Inputs.{SpellsBeginning, SpellsPairs, is_whitespace, kept, next, next_from, text_from, text_of}
+use Rattle.hexfilter_core.specs.Decoding.{HasAdded, HasDecoded, HasNoWhitespace, HasScanned, IsKept, mode_of}
+use Rattle.hexfilter_core.specs.Inputs.{HasError, SpellsBeginning, SpellsPairs, is_whitespace, kept, next, next_from, text_from, text_of}
+use Rattle.hexfilter_core.specs.Outcome.{FailsWith, Makes, MakesBeginning, decode_mode, written}
 use Rattle.hexfilter_core.specs.Places.{leaves_out}
 use Rattle.hexfilter_core.specs.declared.input_decoder.InputDecoder.{InputDecoder}
 use Rattle.hexfilter_core.specs.declared.mode.Reading.{Reading}
+use Rattle.hexfilter_core.specs.declared.place.Place.{Place}
+use Rattle.hexfilter_core.specs.declared.scanner.Scanner.{Scanner}
 
 pub text-append : (r : Reading) (k : ℕ) (x y : List ℕ) → text_from r k (x ++ y) ≡ text_from r k x ++ text_from r (next_from r k x) y
 unfolding text_from next_from
@@ -41,69 +45,90 @@ next-byte r x b = next-append r 0 x (b ∷ [])
 
 -- ---- bytes of which none is left out
 
-kept_one : (r : Reading) (b : ℕ) → r.groups.size ≡ 0 → (r.ignore_whitespace && is_whitespace b) ≡ false → (kept r 0 b ≡ b ∷ []) × (next r 0 b ≡ 0)
-kept_one r b none h = grind (arith, nat_tests, none, h)
-
-all_text : (r : Reading) (x : List ℕ) → r.groups.size ≡ 0 → All (λ b. (r.ignore_whitespace && is_whitespace b) ≡ false) x
-    → (text_from r 0 x ≡ x) × (next_from r 0 x ≡ 0)
-unfolding text_from next_from
-all_text r [] none h = (refl, refl)
-all_text r (b ∷ x) none h =
-    let one = kept_one r b none (All-head (λ b. (r.ignore_whitespace && is_whitespace b) ≡ false) b x h) in
-    let rest = all_text r x none (All-tail (λ b. (r.ignore_whitespace && is_whitespace b) ≡ false) b x h) in (
-      ap (λ t. t ++ text_from r (next r 0 b) x) one.0 ∙ ap (λ k. b ∷ text_from r k x) one.1 ∙ ap (λ t. b ∷ t) rest.0,
-      ap (λ k. next_from r k x) one.1 ∙ rest.1,
-    )
-
-no_column : (r : Reading) (x : List ℕ) → r.groups.size ≡ 0 → next_from r 0 x ≡ 0
+pub next_bound : (r : Reading) (k : ℕ) (x : List ℕ) → k ≤ r.groups.size → next_from r k x ≤ r.groups.size
 unfolding next_from
-no_column r [] none = refl
-no_column r (b ∷ x) none = let rest = no_column r x none in grind (arith, none, rest)
+next_bound r k [] h = h
+next_bound r k (b ∷ x) h = next_bound r (next r k b) x (grind (arith, nat_tests, h))
 
-module _ (r : Reading) (x run : List ℕ) (none : r.groups.size ≡ 0) (all : All (λ b. (r.ignore_whitespace && is_whitespace b) ≡ false) run) where
-  pub text-run : text_of r (x ++ run) ≡ text_of r x ++ run
-  text-run = text-append r 0 x run ∙ ap (λ t. text_of r x ++ t) (rw (no_column r x none) (all_text r run none all).0)
+kept_one : (r : Reading) (k b : ℕ) → (0 < r.groups.size → k + 1 ≤ r.groups.size) → (r.ignore_whitespace && is_whitespace b) ≡ false
+    → (kept r k b ≡ b ∷ []) × (next r k b ≡ min (k + 1) r.groups.size)
+kept_one r k b fits h = grind (arith, nat_tests, fits, h)
 
-  pub next-run : next_from r 0 (x ++ run) ≡ next_from r 0 x
-  next-run = no_column r (x ++ run) none ∙ sym (no_column r x none)
+pub kept_run : (r : Reading) (k : ℕ) (run : List ℕ) → k ≤ r.groups.size → (0 < r.groups.size → k + length run ≤ r.groups.size)
+    → All (λ b. (r.ignore_whitespace && is_whitespace b) ≡ false) run → (text_from r k run ≡ run) × (next_from r k run ≡ min (k + length run) r.groups.size)
+unfolding text_from next_from
+kept_run r k [] h fits all = (refl, omega (arith, h))
+kept_run r k (b ∷ x) h fits all =
+    let one = kept_one r k b (λ some. omega (arith, fits some)) (All-head (λ b. (r.ignore_whitespace && is_whitespace b) ≡ false) b x all) in
+    let at = one.1 in
+    let rest = kept_run r (next r k b) x (omega (arith, at)) (λ some. omega (arith, at, fits some, some))
+    (All-tail (λ b. (r.ignore_whitespace && is_whitespace b) ≡ false) b x all) in
+    let goes : next_from r (next r k b) x ≡ min (next r k b + length x) r.groups.size = rest.1 in (
+      ap (λ t. t ++ text_from r (next r k b) x) one.0 ∙ ap (λ t. b ∷ t) rest.0,
+      omega (arith, goes, at, h),
+    )
 
 nothing_ignored : (ignores : Bool) (b : ℕ) → ignores ≡ false → (ignores && is_whitespace b) ≡ false
 nothing_ignored ignores b e = rw e refl
 
--- an input of which nothing is left out
-pub all_kept : (r : Reading) (x : List ℕ) → leaves_out r ≡ false → All (λ b. (r.ignore_whitespace && is_whitespace b) ≡ false) x
+all_kept : (r : Reading) (x : List ℕ) → leaves_out r ≡ false → All (λ b. (r.ignore_whitespace && is_whitespace b) ≡ false) x
 all_kept r x h =
     let none : r.ignore_whitespace ≡ false = grind (arith, nat_tests, h) in
     All-from_get_or (λ b. (r.ignore_whitespace && is_whitespace b) ≡ false) x 0 (λ i inside. nothing_ignored r.ignore_whitespace (get_or x i 0) none)
 
-pub no_groups : (r : Reading) → leaves_out r ≡ false → r.groups.size ≡ 0
+no_groups : (r : Reading) → leaves_out r ≡ false → r.groups.size ≡ 0
 no_groups r h = grind (arith, nat_tests, h)
 
+not_both : (b : Bool) → b ≡ true → b ≡ false → ⊥
+not_both b e h = cc
+
+-- an input of which nothing is left out
+pub plain_kept : (s : Scanner) (x : List ℕ) → leaves_out s.reading ≡ false → IsKept s x
+plain_kept s x h = let none = no_groups s.reading h in (λ some. omega (arith, none, some), all_kept s.reading x h, λ some. absurd (not_both _ some h))
+
 pub text_plain : (r : Reading) (x : List ℕ) → leaves_out r ≡ false → text_of r x ≡ x
-text_plain r x h = (all_text r x (no_groups r h) (all_kept r x h)).0
+text_plain r x h = let none = no_groups r h in (kept_run r 0 x (omega arith) (λ some. omega (arith, none, some)) (all_kept r x h)).0
 
--- bytes above the space
-high : (b : ℕ) → nat_lt b 33 ≡ false → is_whitespace b ≡ false
-high b h = grind (arith, nat_tests, h)
-
-kept_high : (ignores : Bool) (b : ℕ) → is_whitespace b ≡ false → (ignores && is_whitespace b) ≡ false
-kept_high true b h = h
-kept_high false b h = refl
-
-pub high_run : (x : List ℕ) (n : ℕ) → ((k : ℕ) → k < n → nat_lt (get_or x k 0) 33 ≡ false) → All (λ b. is_whitespace b ≡ false) (take n x)
-high_run x n above =
-    All-from_get_or (λ b. is_whitespace b ≡ false) (take n x) 0 (λ i h.
-    let below : i < n = omega (arith, length-take n x, h) in
-    rw (get_or-take n x i 0 below) (high (get_or x i 0) (above i below)))
-
-pub run_kept : (r : Reading) (run : List ℕ) → All (λ b. is_whitespace b ≡ false) run → All (λ b. (r.ignore_whitespace && is_whitespace b) ≡ false) run
-run_kept r run h = All-weaker (λ b. is_whitespace b ≡ false) (λ b. (r.ignore_whitespace && is_whitespace b) ≡ false) (kept_high r.ignore_whitespace) run h
+-- bytes of which none is whitespace
+not_ignored : (ignores : Bool) (b : ℕ) → is_whitespace b ≡ false → (ignores && is_whitespace b) ≡ false
+not_ignored true b h = h
+not_ignored false b h = refl
 
 not_newline : (b : ℕ) → is_whitespace b ≡ false → b ≢ 10
 not_newline b h e = grind (arith, nat_tests, h, e)
 
-pub no_newline : (run : List ℕ) → All (λ b. is_whitespace b ≡ false) run → All (λ b. b ≢ 10) run
-no_newline run h = All-weaker (λ b. is_whitespace b ≡ false) (λ b. b ≢ 10) not_newline run h
+pub run_kept : (s : Scanner) (run : List ℕ) → (0 < s.reading.groups.size → s.column + length run ≤ s.reading.groups.size) → HasNoWhitespace run → IsKept s run
+run_kept s run fits h = (
+  fits,
+  All-weaker (λ b. is_whitespace b ≡ false) (λ b. (s.reading.ignore_whitespace && is_whitespace b) ≡ false) (not_ignored s.reading.ignore_whitespace) run h,
+  λ some. All-weaker (λ b. is_whitespace b ≡ false) (λ b. b ≢ 10) not_newline run h,
+)
+
+pub no_whitespace_parts : (u v : List ℕ) → HasNoWhitespace (u ++ v) → HasNoWhitespace u × HasNoWhitespace v
+no_whitespace_parts [] v h = (All-nil (λ b. is_whitespace b ≡ false), h)
+no_whitespace_parts (b ∷ u) v h =
+    let rest = no_whitespace_parts u v (All-tail (λ b. is_whitespace b ≡ false) b (u ++ v) h) in
+    (All-cons (λ b. is_whitespace b ≡ false) b u (All-head (λ b. is_whitespace b ≡ false) b (u ++ v) h) rest.0, rest.1)
+
+-- digits after a prefix have none
+digit : (b : ℕ) → IsDigit b → is_whitespace b ≡ false
+digit b h = grind (arith, nat_tests, h)
+
+after_prefix : (test : Bool) (c d : ℕ) (t : List ℕ) → (test ≡ true → (is_whitespace c ≡ false) × (is_whitespace d ≡ false))
+    → AllDigits (if test then t else c ∷ d ∷ t) → HasNoWhitespace (c ∷ d ∷ t)
+after_prefix true c d t h a =
+    All-cons (λ b. is_whitespace b ≡ false) c (d ∷ t) (h refl).0
+    (All-cons (λ b. is_whitespace b ≡ false) d t (h refl).1 (All-weaker IsDigit (λ b. is_whitespace b ≡ false) digit t a))
+after_prefix false c d t h a = All-weaker IsDigit (λ b. is_whitespace b ≡ false) digit (c ∷ d ∷ t) a
+
+whole_no_whitespace : (t : List ℕ) → AllDigits (body_of t) → HasNoWhitespace t
+whole_no_whitespace [] a = All-nil (λ b. is_whitespace b ≡ false)
+whole_no_whitespace (c ∷ []) a = All-weaker IsDigit (λ b. is_whitespace b ≡ false) digit (c ∷ []) a
+whole_no_whitespace (c ∷ d ∷ t) a =
+    after_prefix ((c == 48) && (d == 120 || d == 88)) c d t (λ is. grind (arith, nat_tests, is)) a
+
+pub digits_no_whitespace : (t u : List ℕ) → AllDigits (body_of (t ++ u)) → HasNoWhitespace u
+digits_no_whitespace t u a = (no_whitespace_parts t u (whole_no_whitespace (t ++ u) a)).1
 
 -- ---- the parts of a chunk
 
@@ -128,21 +153,37 @@ joined x chunk done n started =
 pub joined_one : (x chunk : List ℕ) (done : ℕ) → done < length chunk → (x ++ take done chunk) ++ get_or chunk done 0 ∷ [] ≡ x ++ take (done + 1) chunk
 joined_one x chunk done inside = append_assoc x (take done chunk) (get_or chunk done 0 ∷ []) ∙ ap (λ l. x ++ l) (sym (take_more chunk done 0 inside))
 
-module _ (r : Reading) (x chunk out : List ℕ) (end done : ℕ) (started : done ≤ length chunk)
-    (so_far : text_of r (x ++ take done chunk) ≡ text_of r x ++ take end out) where
-  pub run_text : (m n : ℕ) (new : List ℕ) → end ≤ length out → n ≤ length new
-      → text_of r ((x ++ take done chunk) ++ take n (take (length chunk - done) (drop done chunk))) ≡ text_of r (x ++ take done chunk) ++ take n new
-      → text_of r (x ++ take (done + n) chunk) ≡ text_of r x ++ take (end + n) (put_mid end m out new)
-  run_text m n new within few run =
-      ap (text_of r) (sym (joined x chunk done n started)) ∙ run ∙ ap (λ l. l ++ take n new) so_far ∙ append_assoc (text_of r x) (take end out) (take n new)
-      ∙ ap (λ l. text_of r x ++ l) (sym (take_put end m n out new within few))
+-- a scanner that started as s has read `done` bytes of a chunk, and put `end` of the text, if none of these is whitespace
+module _ (s before after : Scanner) (x chunk out : List ℕ) (end done : ℕ) where
+  -- and then a run
+  pub added_run : done ≤ length chunk → (HasNoWhitespace (take end out) → HasAdded s before x (take done chunk) (take end out))
+      → (m n : ℕ) (new rest : List ℕ) → rest ≡ take (length chunk - done) (drop done chunk) → end ≤ length out → n ≤ length new → before.reading ≡ s.reading → take n new ≡ take n rest
+      → ((y : List ℕ) → HasScanned before y → HasNoWhitespace (take n rest) → HasAdded before after y (take n rest) (take n rest))
+      → HasNoWhitespace (take (end + n) (put_mid end m out new)) → HasAdded s after x (take (done + n) chunk) (take (end + n) (put_mid end m out new))
+  added_run started so_far m n new rest is within few how copied run none =
+      let put = take_put end m n out new within few in
+      let parts = no_whitespace_parts (take end out) (take n new) (rw put at none) in
+      let first = so_far parts.0 in
+      let more = run (x ++ take done chunk) first.scanned (rw copied at parts.1) in
+      let whole = rw (← is) at (joined x chunk done n started) in record {
+        text = ap (text_of s.reading) (sym whole) ∙ rw how at more.text ∙ ap (λ l. l ++ take n rest) first.text
+            ∙ append_assoc (text_of s.reading x) (take end out) (take n rest) ∙ ap (λ l. text_of s.reading x ++ l) (sym (put ∙ ap (λ l. take end out ++ l) copied));
+        scanned = rw whole at more.scanned;
+      }
 
-  pub byte_text : (new added : List ℕ) (k : ℕ) → done < length chunk → take k new ≡ take end out ++ added
-      → text_of r ((x ++ take done chunk) ++ get_or chunk done 0 ∷ []) ≡ text_of r (x ++ take done chunk) ++ added
-      → text_of r (x ++ take (done + 1) chunk) ≡ text_of r x ++ take k new
-  byte_text new added k inside put byte =
-      ap (text_of r) (sym (joined_one x chunk done inside)) ∙ byte ∙ ap (λ l. l ++ added) so_far ∙ append_assoc (text_of r x) (take end out) added
-      ∙ ap (λ l. text_of r x ++ l) (sym put)
+  -- and then a byte
+  pub added_byte : done < length chunk → (HasNoWhitespace (take end out) → HasAdded s before x (take done chunk) (take end out))
+      → (new added : List ℕ) (k : ℕ) → before.reading ≡ s.reading → take k new ≡ take end out ++ added
+      → ((y : List ℕ) → HasScanned before y → text_of before.reading (y ++ get_or chunk done 0 ∷ []) ≡ text_of before.reading y ++ added)
+      → ((y : List ℕ) → HasScanned before y → HasScanned after (y ++ get_or chunk done 0 ∷ []))
+      → HasNoWhitespace (take k new) → HasAdded s after x (take (done + 1) chunk) (take k new)
+  added_byte inside so_far new added k how put text scanned none =
+      let first = so_far (no_whitespace_parts (take end out) added (rw put at none)).0 in
+      let one = joined_one x chunk done inside in record {
+        text = ap (text_of s.reading) (sym one) ∙ rw how at (text (x ++ take done chunk) first.scanned) ∙ ap (λ l. l ++ added) first.text
+            ∙ append_assoc (text_of s.reading x) (take end out) added ∙ ap (λ l. text_of s.reading x ++ l) (sym put);
+        scanned = rw one at (scanned (x ++ take done chunk) first.scanned);
+      }
 
 -- ---- what a text decodes to
 
@@ -175,13 +216,84 @@ fewer_spelled r x y k h =
     let same : take n y ≡ take k y = ap (λ m. take m y) (length-take k y) ∙ take_min k y in
     rw (take-take (2 * n) (2 * length y) (body_of (text_of r x)) (omega arith), same) at part
 
-pub decoded : (d : InputDecoder) (x y : List ℕ) → HasDecoded d x y → SpellsBeginning (reads d) x y
-decoded d x y has = spelled d.scanner.reading d.decoder x y has.text
+-- ---- what a decoder writes
 
-pub decoded_pairs : (d : InputDecoder) (x y : List ℕ) → HasDecoded d x y → SpellsPairs (text_of (reads d) x) y
-decoded_pairs d x y has = pairs d.scanner.reading d.decoder x y has.text
+-- all that is decoded
+pub made : (c : Bool) (r : Reading) (x bytes : List ℕ) → Reads (text_of r x) (Ok bytes) → Makes (decode_mode c r) x (written c bytes)
+made true r x bytes h = ((bytes, h), refl)
+made false r x bytes h = h
 
-pub decoded_before : (d : InputDecoder) (x chunk y : List ℕ) (k : ℕ) → HasDecoded d (x ++ take k chunk) y → SpellsBeginning (reads d) (x ++ chunk) y
-decoded_before d x chunk y k has =
+pub nothing_written : (c : Bool) → [] ≡ written c []
+nothing_written true = refl
+nothing_written false = refl
+
+pub only_checked : (c : Bool) (z bytes more : List ℕ) → c ≡ true → z ≡ written c bytes → z ++ [] ≡ written c (bytes ++ more)
+only_checked true z bytes more is h = rw h refl
+only_checked false z bytes more is h = absurd (not_both false is refl)
+
+pub all_written : (c : Bool) (z bytes more : List ℕ) → c ≡ false → z ≡ written c bytes → z ++ more ≡ written c (bytes ++ more)
+all_written true z bytes more is h = absurd (not_both true refl is)
+all_written false z bytes more is h = rw h refl
+
+-- all before an error
+pub failed : (c : Bool) (r : Reading) (left : Option (List ℕ)) (x bytes : List ℕ) (e : FromHexError) (place : Option Place)
+    → HasError r left x bytes e place → FailsWith (decode_mode c r) left x (written c bytes) e place
+failed true r left x bytes e place h = ((bytes, h), refl)
+failed false r left x bytes e place h = h
+
+-- a beginning
+begun : (c : Bool) (r : Reading) (x bytes : List ℕ) → SpellsBeginning r x bytes → MakesBeginning (decode_mode c r) x (written c bytes)
+begun true r x bytes h = refl
+begun false r x bytes h = h
+
+pub fewer_made : (c : Bool) (r : Reading) (x y : List ℕ) (k : ℕ) → MakesBeginning (decode_mode c r) x y → MakesBeginning (decode_mode c r) x (take k y)
+fewer_made true r x y k none = ap (take k) none ∙ take_all k [] (omega arith)
+fewer_made false r x y k h = fewer_spelled r x y k h
+
+pub decoded : (d : InputDecoder) (x z : List ℕ) → HasDecoded d x z → MakesBeginning (mode_of d) x z
+decoded d x z has =
+    rw has.text.given (begun d.is_check d.scanner.reading x has.text.bytes (spelled d.scanner.reading d.decoder x has.text.bytes has.text.read))
+
+pub decoded_before : (d : InputDecoder) (x chunk z : List ℕ) (k : ℕ) → HasDecoded d (x ++ take k chunk) z → MakesBeginning (mode_of d) (x ++ chunk) z
+decoded_before d x chunk z k has =
     let whole : (x ++ take k chunk) ++ drop k chunk ≡ x ++ chunk = append_assoc x (take k chunk) (drop k chunk) ∙ ap (λ l. x ++ l) (take-append-drop k chunk) in
-    rw whole at (spelled_before d.scanner.reading d.decoder (x ++ take k chunk) y has.text (drop k chunk))
+    let r = d.scanner.reading in
+    let front = rw whole at (spelled_before r d.decoder (x ++ take k chunk) has.text.bytes has.text.read (drop k chunk)) in
+    rw has.text.given (begun d.is_check r (x ++ chunk) has.text.bytes front)
+
+-- ---- how much that is
+
+text_size : (r : Reading) (k : ℕ) (x : List ℕ) → length (text_from r k x) ≤ length x
+unfolding text_from
+text_size r k [] = omega arith
+text_size r k (b ∷ x) =
+    let one : length (kept r k b) ≤ 1 = grind arith in
+    let rest = text_size r (next r k b) x in omega (arith, one, rest, length-append (kept r k b) (text_from r (next r k b) x))
+
+body_size : (t u : List ℕ) → length (body_of (t ++ u)) ≤ length (body_of t) + length u
+body_size [] u = grind arith
+body_size (c ∷ []) [] = grind arith
+body_size (c ∷ []) (d ∷ u) = grind arith
+body_size (c ∷ d ∷ t) u = let size = length-append t u in grind (arith, size)
+
+sizes : (d : Decoder) (t bytes : List ℕ) → HasRead d t bytes → (2 * length bytes ≤ length (body_of t)) × (length (body_of t) ≤ 2 * length bytes + 1)
+sizes d t bytes has =
+    let twice = Spells-length has.pairs bytes has.given in
+    let whole = ap length has.whole ∙ length-append has.pairs (waiting_digit d) in
+    let few = at_most_one d in
+    (omega (arith, twice, whole), omega (arith, twice, whole, few))
+
+written_size : (c : Bool) (y z b e : List ℕ) (n : ℕ) → y ≡ written c b → y ++ z ≡ written c e → 2 * length e ≤ 2 * length b + 1 + n → 2 * length z ≤ n + 1
+written_size true y z b e n first both h = let none = ap length both in omega (arith, none, length-append y z)
+written_size false y z b e n first both h = let one = ap length first in let two = ap length both in omega (arith, one, two, length-append y z, h)
+
+-- for n more bytes of the input, at most (n + 1) / 2
+pub at_most_half : (d e : InputDecoder) (x u y z : List ℕ) → e.scanner.reading ≡ d.scanner.reading → e.is_check ≡ d.is_check
+    → HasDecoded d x y → HasDecoded e (x ++ u) (y ++ z) → 2 * length z ≤ length u + 1
+at_most_half d e x u y z same check first both =
+    let r = d.scanner.reading in
+    let before = sizes d.decoder _ _ first.text.read in
+    let after = rw (same, text-append r 0 x u) at (sizes e.decoder _ _ both.text.read).0 in
+    let more = body_size (text_of r x) (text_from r (next_from r 0 x) u) in
+    let few = text_size r (next_from r 0 x) u in
+    written_size d.is_check y z first.text.bytes both.text.bytes (length u) first.text.given (rw check at both.text.given) (omega (arith, before.1, after, more, few))

@@ -11,28 +11,30 @@ use crate::rattle::io::{Read, Write};
 /// How many bytes are read at a time.
 const CHUNK: usize = 65_536;
 
-/// Writes the bytes that all of the reader's text decodes to, and flushes.
+/// Writes the bytes that all of the reader's text decodes to, or only checks it, and flushes.
 pub(crate) fn decode_stream<R: Read, W: Write>(
     reading: Reading,
+    is_check: bool,
     input: &mut R,
     output: &mut W,
 ) -> Result<(), RunError> {
     if reading.leaves_out() {
-        return decode_chunks(reading, input, &mut [0; CHUNK], output);
+        return decode_chunks(reading, is_check, input, &mut [0; CHUNK], output);
     }
-    decode_chunks(reading, input, &mut [], output)
+    decode_chunks(reading, is_check, input, &mut [], output)
 }
 
 /// As `decode_stream`. The text is space for a chunk, if bytes may be left out.
 fn decode_chunks<R: Read, W: Write>(
     reading: Reading,
+    is_check: bool,
     input: &mut R,
     text: &mut [u8],
     output: &mut W,
 ) -> Result<(), RunError> {
     let mut chunk = [0; CHUNK];
-    let mut bytes = [0; CHUNK];
-    let mut decoder = InputDecoder::new(reading);
+    let mut bytes = [0; CHUNK / 2 + 1];
+    let mut decoder = InputDecoder::new(reading, is_check);
     'chunks: for _ in 0..u64::MAX {
         let count = read_chunk(input, &mut chunk)?;
         if count == 0 {

@@ -20,10 +20,24 @@ pub(crate) fn encode_stream<R: Read, W: Write>(
     input: &mut R,
     output: &mut W,
 ) -> Result<(), RunError> {
+    if groups.size == 0 {
+        return encode_chunks(prefix, upper, groups, input, &mut [], output);
+    }
+    encode_chunks(prefix, upper, groups, input, &mut [0; 4 * CHUNK], output)
+}
+
+/// As `encode_stream`. The last buffer is space for the text of a chunk in groups, if there are groups.
+fn encode_chunks<R: Read, W: Write>(
+    prefix: bool,
+    upper: bool,
+    groups: Groups,
+    input: &mut R,
+    grouped: &mut [u8],
+    output: &mut W,
+) -> Result<(), RunError> {
     let mut bytes = [0; CHUNK];
     let mut digits = [0; 2 * CHUNK];
-    let mut grouped = [0; 4 * CHUNK];
-    let mut column = write_text(groups, 0, prefix_text(prefix), &mut grouped, output)?;
+    let mut column = write_text(groups, 0, prefix_text(prefix), grouped, output)?;
     'chunks: for _ in 0..u64::MAX {
         let count = read_chunk(input, &mut bytes)?;
         if count == 0 {
@@ -31,7 +45,7 @@ pub(crate) fn encode_stream<R: Read, W: Write>(
         }
         let text = &mut digits[..2 * count];
         fill_text::<FixedKernel>(&bytes[..count], false, upper, text);
-        column = write_text(groups, column, text, &mut grouped, output)?;
+        column = write_text(groups, column, text, grouped, output)?;
     }
     Err(too_many_reads())
 }

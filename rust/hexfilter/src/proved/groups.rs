@@ -4,6 +4,9 @@
 use crate::rattle::prelude::*;
 use crate::proved::mode::Groups;
 
+/// How many bytes are copied at a time.
+const BLOCK: usize = 32;
+
 /// Puts the text into the output, with a separator before each character that follows a whole group. The
 /// first group has `column` characters already. Returns how many bytes were put there, and how many
 /// characters the last group has.
@@ -19,7 +22,8 @@ pub(crate) fn put_groups(
     'groups: while done < text.len() {
         let (start, first) = separate(groups, column, output, end);
         let count = (groups.size - first).min(text.len() - done);
-        end = put(&text[done..done + count], output, start);
+        copy_front(&text[done..], count, &mut output[start..]);
+        end = start + count;
         done += count;
         column = first + count;
     }
@@ -30,14 +34,33 @@ pub(crate) fn put_groups(
 /// characters the group then has.
 fn separate(groups: Groups, column: usize, output: &mut [u8], end: usize) -> (usize, usize) {
     if column == groups.size {
-        return (put(&[groups.separator], output, end), 0);
+        return (put(Some(groups.separator), output, end), 0);
     }
     (end, column)
 }
 
-/// Puts a piece into the output at an index, and returns the index after it.
-fn put(piece: &[u8], output: &mut [u8], start: usize) -> usize {
-    let end = start + piece.len();
-    output[start..end].copy_from_slice(piece);
-    end
+/// Puts a byte, if there is one, into the output at an index, and returns the index after it.
+pub(crate) fn put(byte: Option<u8>, output: &mut [u8], end: usize) -> usize {
+    match byte {
+        Some(byte) => {
+            output[end] = byte;
+            end + 1
+        }
+        None => end,
+    }
+}
+
+/// Copies the first `count` bytes of a text. More of the output may change.
+#[inline(always)]
+pub(crate) fn copy_front(text: &[u8], count: usize, output: &mut [u8]) {
+    // Copies whose length is a constant take a few instructions, and no call.
+    if text.len().min(output.len()) - count < BLOCK {
+        output[..count].copy_from_slice(&text[..count]);
+        return;
+    }
+    let mut done = 0;
+    'copies: while done < count {
+        output[done..done + BLOCK].copy_from_slice(&text[done..done + BLOCK]);
+        done += BLOCK;
+    }
 }

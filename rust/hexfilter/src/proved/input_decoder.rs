@@ -7,19 +7,21 @@ use crate::proved::mode::Reading;
 use crate::proved::scanner::Scanner;
 use crate::rattle::codec::{Decoder, FromHexError};
 
-/// Decodes an input without what is left out. Positions count in the input.
+/// Decodes an input without what is left out, or only checks it. Positions count in the input.
 #[derive(Clone, Debug)]
 pub(crate) struct InputDecoder {
     decoder: Decoder,
     scanner: Scanner,
+    is_check: bool,
 }
 
 impl InputDecoder {
     /// A decoder that has read nothing.
-    pub(crate) fn new(reading: Reading) -> InputDecoder {
+    pub(crate) fn new(reading: Reading, is_check: bool) -> InputDecoder {
         InputDecoder {
             decoder: Decoder::new(),
             scanner: Scanner::new(reading),
+            is_check,
         }
     }
 
@@ -50,10 +52,10 @@ impl InputDecoder {
     ) -> Result<usize, FromHexError> {
         if self.scanner.reading.leaves_out() {
             let count = self.scanner.text(chunk, text);
-            return self.decoder.decode(&text[..count], output);
+            return self.decode_text(&text[..count], output);
         }
-        self.scanner.pass(chunk.len());
-        self.decoder.decode(chunk, output)
+        self.scanner.advance(chunk.len());
+        self.decode_text(chunk, output)
     }
 
     /// As `decode`, byte after byte.
@@ -76,7 +78,7 @@ impl InputDecoder {
             Some(character) => character,
             None => return Ok(0),
         };
-        match self.decoder.decode(&[character], output) {
+        match self.decode_text(&[character], output) {
             Ok(count) => Ok(count),
             Err(_) => {
                 let c = char::from(byte);
@@ -84,6 +86,19 @@ impl InputDecoder {
                 Err(RunError::Text(error, place))
             }
         }
+    }
+
+    /// Decodes the next part of the text into the front of the output, or only checks it. Returns the number of
+    /// bytes there.
+    #[inline(always)]
+    fn decode_text(&mut self, text: &[u8], output: &mut [u8]) -> Result<usize, FromHexError> {
+        if self.is_check {
+            return match self.decoder.check(text) {
+                Ok(()) => Ok(0),
+                Err(error) => Err(error),
+            };
+        }
+        self.decoder.decode(text, output)
     }
 
     /// Ends the input. Returns `OddLength` if the text has an odd number of digits.

@@ -6,7 +6,7 @@ use crate::proved::decoding::decode_stream;
 use crate::proved::encoding::encode_stream;
 use crate::proved::error::RunError;
 use crate::proved::mode::Mode;
-use crate::rattle::io::{self, Read, Write};
+use crate::rattle::io::{Read, Write};
 
 /// Reads the input to its end, writes what the mode makes of it, and flushes. The input may have any
 /// length: it is read in chunks of 16 or 64 KiB, and nothing is allocated.
@@ -28,7 +28,7 @@ pub fn run<R: Read, W: Write>(mode: Mode, input: &mut R, output: &mut W) -> Resu
             upper,
             groups,
         } => encode_stream(prefix, upper, groups, input, output),
-        Mode::Decode(reading) => decode_stream(reading, input, output),
-        Mode::Check(reading) => decode_stream(reading, input, &mut io::sink()),
+        Mode::Decode(reading) => decode_stream(reading, false, input, output),
+        Mode::Check(reading) => decode_stream(reading, true, input, output),
     }
 }

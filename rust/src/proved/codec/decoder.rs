@@ -89,6 +89,24 @@ impl Decoder {
         Ok(count)
     }
 
+    /// Reads the next chunk as [`decode`](Decoder::decode) does, but writes nothing.
+    ///
+    /// Returns [`FromHexError::InvalidHexCharacter`] when `decode` into an output with enough space
+    /// returns it. Does not allocate.
+    #[inline]
+    pub fn check(&mut self, chunk: &[u8]) -> Result<(), FromHexError> {
+        if let Some(error) = self.error() {
+            return Err(error);
+        }
+        let (waiting, digits) = self.next_digits(chunk);
+        if !FixedKernel::check(digits) {
+            return Err(self.fail(chunk.len() - digits.len(), digits));
+        }
+        let pairs = count_pairs(waiting, digits);
+        self.advance(chunk.len(), left_over(waiting, digits, pairs));
+        Ok(())
+    }
+
     /// Ends the text. `Ok` if it was read whole: then the chunks together are a text that
     /// [`decode`](crate::decode) accepts.
     ///

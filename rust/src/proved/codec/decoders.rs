@@ -29,6 +29,8 @@ pub fn decode_with<K: Kernel>(alloc: Global, input: &[u8]) -> Result<Vec<u8>, Fr
 }
 
 /// Decodes a text to a vector. Allocates once, for exactly these bytes; for none, not at all.
+// A function of its own, since the prover finds these clauses on each of its four paths by itself, and
+// `decode_with` derives three more from them.
 #[inline(always)]
 #[cfg(feature = "alloc")]
 fn decode_owned<K: Kernel>(alloc: Global, input: &[u8]) -> Result<Vec<u8>, FromHexError> {
@@ -114,12 +116,6 @@ pub fn decode_to_front_with<K: Kernel>(
 /// [`FromHexError::InvalidHexCharacter`]. Does not allocate.
 #[inline]
 pub fn decode_to_array<const N: usize>(input: &[u8]) -> Result<[u8; N], FromHexError> {
-    read_array(input)
-}
-
-/// Decodes a text to N bytes.
-#[inline(always)]
-fn read_array<const N: usize>(input: &[u8]) -> Result<[u8; N], FromHexError> {
     let mut array = [0; N];
     decode_to_slice(input, &mut array)?;
     Ok(array)

@@ -1,15 +1,21 @@
-use Rattle.std.proofs.Common.{◌∙◌, arith}
+use Rattle.std.proofs.Common.{◌∙◌, ◌-◌, ◌++◌, length, take, drop, ap, arith, length-drop}
+use Rattle.std.proofs.lemmas.List.{take_all}
 use Rattle.hexfilter_core.proofs.lemmas.GroupBreaks.{goes_on}
+use Rattle.hexfilter_core.proofs.lemmas.Texts.{take_put}
 use Rattle.hexfilter_core.proofs.groups.put_groups.Goals as goal
 
 pub groups-preserved : goal.groups-preserved
 groups-preserved c =
     let laid = c.groups.invariant in
-    let parted = c.separate-start.ensures in record {
+    let parted = c.separate-start.ensures in
+    let text = c.args.text.now in
+    let done = c.groups.done in
+    let count = c.min-count.result in
+    let copied = rw (take_all (length text - done) (drop done text) (omega (arith, length-drop done text))) at c.copy_front.ensures.front in
+    let put = take_put _ _ count _ c.copy_front.new.output (omega arith) (omega arith) ∙ ap (λ l. take c.separate-start.result.0 c.separate-start.new.output ++ l) copied in record {
       within = omega arith;
       room = omega (arith, parted.within);
       column = omega (arith, parted.column);
-      groups = goes_on _ _ _ _ c.args.text.now c.groups.done c.min-count.result _ _ (λ rest some.
-          laid.groups rest ∙ parted.groups rest some) (omega arith) (omega arith)
-          c.put-end.ensures.front (omega arith);
+      groups = goes_on _ _ _ _ text done count _ (λ rest some. laid.groups rest ∙ parted.groups rest some)
+          (omega arith) (omega arith) (omega arith) _ put;
     }

@@ -1,39 +1,13 @@
-use Rattle.std.proofs.Common.{[], take, drop, refl, sym}
-use Rattle.std.proofs.KnownBytes.{Appends-nil}
-use Rattle.std.proofs.lemmas.List.{take-append-drop}
-use Rattle.std.proofs.lemmas.Result.{on_err_weaker, on_ok_weaker}
-use Rattle.hexfilter_core.specs.Groups.{encoded}
 use Rattle.hexfilter_core.proofs.runs.run.Goals as goal
 
 pub returns-in-Encode-clause-ok : goal.returns-in-Encode-clause-ok
-returns-in-Encode-clause-ok g c =
-    on_ok_weaker c.encode_stream.result (λ done.
-    (done.0, encoded c.in-Encode.prefix c.in-Encode.upper c.in-Encode.groups done.0, done.1, rw c.in-Encode.is refl, done.2))
-    c.encode_stream.ensures.ok
+returns-in-Encode-clause-ok g c = rw c.in-Encode.is c.encode_stream.ensures.ok
 
 pub returns-in-Encode-clause-begun : goal.returns-in-Encode-clause-begun
-returns-in-Encode-clause-begun g c =
-    on_err_weaker c.encode_stream.result (λ done.
-    let y = encoded c.in-Encode.prefix c.in-Encode.upper c.in-Encode.groups done.0 in
-    (done.0, take done.2.0 y, done.1, rw c.in-Encode.is (drop done.2.0 y, sym (take-append-drop done.2.0 y)), done.2.1))
-    c.encode_stream.ensures.begun
-
-pub returns-in-Check-clause-ok : goal.returns-in-Check-clause-ok
-returns-in-Check-clause-ok g c =
-    on_ok_weaker c.decode_stream-in-Check.result (λ done.
-    (done.0, [], done.2, rw c.in-Check.is ((done.1, done.3), refl), Appends-nil (g.W.Write.contents c.args.output.now)))
-    c.decode_stream-in-Check.ensures.ok
+returns-in-Encode-clause-begun g c = rw c.in-Encode.is c.encode_stream.ensures.begun
 
 pub returns-in-Decode-clause-text : goal.returns-in-Decode-clause-text
-returns-in-Decode-clause-text g c = λ e place is.
-    let (x, y, read, fails, wrote) = c.decode_stream.ensures.text e place is in (x, y, read, rw c.in-Decode.is fails, wrote)
-
-pub returns-in-Check-clause-begun : goal.returns-in-Check-clause-begun
-returns-in-Check-clause-begun g c =
-    on_err_weaker c.decode_stream-in-Check.result (λ begun. (begun.0, [], begun.2, rw c.in-Check.is refl, Appends-nil (g.W.Write.contents c.args.output.now)))
-    c.decode_stream-in-Check.ensures.begun
+returns-in-Decode-clause-text g c = λ e place is. rw c.in-Decode.is (c.decode_stream.ensures.text e place is)
 
 pub returns-in-Check-clause-text : goal.returns-in-Check-clause-text
-returns-in-Check-clause-text g c = λ e place is.
-    let (x, z, read, fails, wrote) = c.decode_stream-in-Check.ensures.text e place is in
-    (x, [], read, rw c.in-Check.is ((z, fails), refl), Appends-nil (g.W.Write.contents c.args.output.now))
+returns-in-Check-clause-text g c = λ e place is. rw c.in-Check.is (c.decode_stream-in-Check.ensures.text e place is)

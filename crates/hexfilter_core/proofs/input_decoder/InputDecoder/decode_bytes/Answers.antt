@@ -1,8 +1,8 @@
 use Rattle.std.proofs.Common.{◌≡◌, ◌∷◌, ◌++◌, ◌+◌, ◌<◌, ◌∙◌, ℕ, List, Some, Option, length, take, drop, get_or, sym, arith, append_assoc}
 use Rattle.std.proofs.lemmas.Grind.{common_steps}
-use Rattle.std.proofs.lemmas.List.{take_all}
+use Rattle.std.proofs.lemmas.List.{length-take-le, take_all}
 use Rattle.std.proofs.lemmas.Slice.{take-put_mid_below}
-use Rattle.hexfilter_core.proofs.lemmas.Texts.{decoded_before, joined_one, take_put}
+use Rattle.hexfilter_core.proofs.lemmas.Texts.{at_most_half, decoded_before, joined_one, take_put}
 use Rattle.hexfilter_core.specs.declared.error.RunError.{RunError}
 use Rattle.hexfilter_core.proofs.input_decoder.InputDecoder.decode_bytes.Goals as goal
 
@@ -17,16 +17,21 @@ returns-in-Err-clause-err c = λ e is x y has.
     let chunk = c.args.chunk.now in
     let at = c.loop-byte.byte-index in
     let i = c.loop-byte.invariant in
-    let told = c.in-Err.ensures.err (x ++ take at chunk) (y ++ take c.loop-byte.end c.loop-byte.output) (drop (at + 1) chunk) (i.decoded x y has) in
+    let out = c.loop-byte.output in
+    let read = i.decoded x y has in
+    let half = at_most_half c.args.self.now c.loop-byte.self x (take at chunk) y (take c.loop-byte.end out) i.reads i.checks has read in
+    let room : c.loop-byte.end < length out =
+    omega (arith, half, length-take-le c.loop-byte.end out (omega arith), length-take-le at chunk (omega arith), c.loop-byte.auto.output) in
+    let told = c.in-Err.ensures.err (x ++ take at chunk) (y ++ take c.loop-byte.end out) (drop (at + 1) chunk) read (omega (arith, room)) in
     rw (take-put_mid_below c.loop-byte.end _ c.loop-byte.output c.decode_byte.new.output c.loop-byte.end (omega arith) (omega (arith, c.loop-byte.auto.output)))
-    (rw (i.reads, cut_at x chunk at c.loop-byte-test.true, same_error c.in-Err.error e is) at told)
+    (rw (i.reads, i.checks, cut_at x chunk at c.loop-byte-test.true, same_error c.in-Err.error e is) at told)
 
 pub returns-in-Err-clause-begun : goal.returns-in-Err-clause-begun
 returns-in-Err-clause-begun c = λ x y has.
     let at = c.loop-byte.byte-index in
     let i = c.loop-byte.invariant in
     rw (take-put_mid_below c.loop-byte.end _ c.loop-byte.output c.decode_byte.new.output c.loop-byte.end (omega arith) (omega (arith, c.loop-byte.auto.output)))
-    (rw i.reads at (decoded_before c.loop-byte.self x c.args.chunk.now (y ++ take c.loop-byte.end c.loop-byte.output) at (i.decoded x y has)))
+    (rw (i.reads, i.checks) at (decoded_before c.loop-byte.self x c.args.chunk.now (y ++ take c.loop-byte.end c.loop-byte.output) at (i.decoded x y has)))
 
 pub loop-byte-preserved : goal.loop-byte-preserved
 loop-byte-preserved c =
@@ -37,6 +42,7 @@ loop-byte-preserved c =
     let told = c.in-Ok.ensures in record {
       within = omega (arith, told.within);
       reads = told.reads ∙ i.reads;
+      checks = told.checks ∙ i.checks;
       decoded = λ x y has.
           let out = c.loop-byte.output in
           let new = c.decode_byte.new.output in
@@ -50,7 +56,7 @@ pub returns-clause-begun : goal.returns-clause-begun
 returns-clause-begun c = λ x y has.
     let i = c.loop-byte.invariant in
     let out = y ++ take c.loop-byte.end c.loop-byte.output in
-    rw i.reads at (decoded_before c.loop-byte.self x c.args.chunk.now out c.loop-byte.byte-index (i.decoded x y has))
+    rw (i.reads, i.checks) at (decoded_before c.loop-byte.self x c.args.chunk.now out c.loop-byte.byte-index (i.decoded x y has))
 
 pub returns-clause-ok : goal.returns-clause-ok
 returns-clause-ok c = λ none x y has. rw (take_all c.loop-byte.byte-index c.args.chunk.now (omega arith)) at (c.loop-byte.invariant.decoded x y has)

@@ -2,7 +2,7 @@ use Rattle.std.proofs.Common.{◌≤◌, ℕ, List}
 use Rattle.std.specs.Io.KnownBytes.{Appends, Consumes}
 use Rattle.const_hex.specs.Texts.{full_text}
 use Rattle.hexfilter_core.specs.Groups.{Lays}
-use Rattle.hexfilter_core.proofs.encoding.encode_stream.Given as goal
+use Rattle.hexfilter_core.proofs.encoding.encode_chunks.Given as goal
 
 abbrev pub invariant-chunks : goal.invariant-chunks
 invariant-chunks g l = record {
