@@ -138,7 +138,9 @@ impl<const N: usize, const PREFIX: bool, const LEN: usize> Buffer<N, PREFIX, LEN
             (full_text PREFIX upper input.now)) }
     {
         self.text.fill(input, PREFIX, upper);
-        Lent { text: self.as_str() }
+        Lent {
+            text: self.as_str(),
+        }
     }
 
     /// As `write_text`, for an array.
