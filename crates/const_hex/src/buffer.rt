@@ -31,6 +31,12 @@ pub struct Buffer<const N: usize, const PREFIX: bool, const LEN: usize> {
     text: AsciiArray<LEN>,
 }
 
+/// The text that a buffer lends, in a struct: so its clause `after` has a generated proof.
+#[derive(Drop)]
+pub(crate) struct Lent<'a> {
+    text: &'a str,
+}
+
 /// A buffer that holds the text of the input, in lowercase.
 ///
 /// LEN must be `2 * N`, plus 2 if PREFIX is true. Does not allocate.
@@ -122,24 +128,26 @@ impl<const N: usize, const PREFIX: bool, const LEN: usize> Buffer<N, PREFIX, LEN
         self
     }
 
-    /// Writes the whole text over what the buffer holds, and lends the buffer.
+    /// Writes the whole text over what the buffer holds, and lends it.
     #[inline]
-    fn write_text(&mut self, input: &[u8], upper: bool) -> &Self
+    fn write_text(&mut self, input: &[u8], upper: bool) -> Lent<'_>
         requires fits { LEN ≡ text_length PREFIX N }
         requires size { length input.now ≡ N }
-        ensures lends { buffer_text result.now ≡ full_text PREFIX upper input.now }
+        ensures lends { result.text.now ≡ full_text PREFIX upper input.now }
         ensures* after { sem 𝓛 (EndsHolding N.row PREFIX.row LEN.row self.entry
             (full_text PREFIX upper input.now)) }
     {
         self.text.fill(input, PREFIX, upper);
-        self
+        Lent {
+            text: self.as_str(),
+        }
     }
 
     /// As `write_text`, for an array.
     #[inline]
-    fn write_array(&mut self, input: &[u8; N], upper: bool) -> &Self
+    fn write_array(&mut self, input: &[u8; N], upper: bool) -> Lent<'_>
         requires { LEN ≡ text_length PREFIX N }
-        ensures lends { buffer_text result.now ≡ full_text PREFIX upper input.now }
+        ensures lends { result.text.now ≡ full_text PREFIX upper input.now }
         ensures* after { sem 𝓛 (EndsHolding N.row PREFIX.row LEN.row self.entry
             (full_text PREFIX upper input.now)) }
     {
@@ -161,7 +169,7 @@ impl<const N: usize, const PREFIX: bool, const LEN: usize> Buffer<N, PREFIX, LEN
         ensures* after { sem 𝓛 (EndsHolding N.row PREFIX.row LEN.row self.entry
             (full_text PREFIX false input.now)) }
     {
-        self.write_array(input, false).as_str()
+        self.write_array(input, false).text
     }
 
     /// As [`format`](Self::format), in uppercase. The prefix is still `0x`.
@@ -177,7 +185,7 @@ impl<const N: usize, const PREFIX: bool, const LEN: usize> Buffer<N, PREFIX, LEN
         ensures* after { sem 𝓛 (EndsHolding N.row PREFIX.row LEN.row self.entry
             (full_text PREFIX true input.now)) }
     {
-        self.write_array(input, true).as_str()
+        self.write_array(input, true).text
     }
 
     /// As [`format`](Self::format), for a slice, which must have exactly N bytes.
@@ -194,7 +202,7 @@ impl<const N: usize, const PREFIX: bool, const LEN: usize> Buffer<N, PREFIX, LEN
         ensures* after { sem 𝓛 (EndsHolding N.row PREFIX.row LEN.row self.entry
             (full_text PREFIX false input.now)) }
     {
-        self.write_text(input, false).as_str()
+        self.write_text(input, false).text
     }
 
     /// As [`format_slice`](Self::format_slice), in uppercase. The prefix is still `0x`.
@@ -211,7 +219,7 @@ impl<const N: usize, const PREFIX: bool, const LEN: usize> Buffer<N, PREFIX, LEN
         ensures* after { sem 𝓛 (EndsHolding N.row PREFIX.row LEN.row self.entry
             (full_text PREFIX true input.now)) }
     {
-        self.write_text(input, true).as_str()
+        self.write_text(input, true).text
     }
 
     /// The contents, as text.

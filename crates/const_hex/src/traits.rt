@@ -3,10 +3,10 @@
 mod arrays;
 mod chars;
 mod faults;
+mod owned;
 mod pointers;
 mod reading;
 mod signed;
-mod owned;
 mod writing;
 
 pub use crate::traits::chars::BytesToHexChars;

@@ -17,5 +17,4 @@
 -- function F.
 pub mod EncodedStr
 pub mod Flags
-pub mod LentSlice
 pub mod LentText

@@ -1,6 +1,6 @@
 //! Encoding bytes as text.
 
-ghost use Rattle.std.specs.Prelude.{◌≡◌, ◌*◌, true, false, length, IsTrue, IsOk, IfOk, IfErr, Err, ◌↔◌, string_bytes};
+ghost use Rattle.std.specs.Prelude.{◌≡◌, ◌≢◌, ◌*◌, true, false, length, IsTrue, IsOk, IfOk, IfErr, Err, ◌↔◌, string_bytes};
 ghost use Rattle.std.specs.Borrow.{sem};
 ghost use Rattle.std.specs.Str.{IsAscii};
 ghost use Rattle.const_hex_arch.specs.Texts.{hex_text, full_text, text_length};
@@ -111,16 +111,35 @@ fn two_per_byte(bytes: usize, digits: usize) -> bool
     digits % 2 == 0 && digits == text_length(false, bytes)
 }
 
-/// Fills an output of the text's length with the text, and returns it.
+/// Fills the output with the text, if it has exactly two bytes for each byte of the input, and
+/// returns it.
 #[inline(always)]
 fn encode_into<'a>(input: &[u8], upper: bool, output: &'a mut [u8]) -> &'a mut [u8]
-    requires { length output.now ≡ 2 * length input.now }
     ensures same_slice { result.ghost_name ≡ output.entry.ghost_name }
-    ensures text { result.now ≡ hex_text upper input.now }
-    ensures ascii { IsAscii result.now }
+    ensures same_length { length result.now ≡ length output.entry.now }
+    ensures text { (length result.now ≡ 2 * length input.now) → (result.now ≡ hex_text upper input.now) }
+    ensures ascii { (length result.now ≡ 2 * length input.now) → IsAscii result.now }
+    ensures unchanged { (length result.now ≢ 2 * length input.now) → (result.now ≡ output.entry.now) }
 {
-    fill_text::<FixedKernel>(input, false, upper, output);
+    if two_per_byte(input.len(), output.len()) {
+        fill_text::<FixedKernel>(input, false, upper, output);
+    }
     output
+}
+
+/// The output as text, if it has exactly two bytes for each byte of the input.
+#[inline(always)]
+fn encoded_text<'a>(input: &[u8], output: &'a [u8]) -> Result<&'a str, FromHexError>
+    requires { (length output.now ≡ 2 * length input.now) → IsAscii output.now }
+    ensures fits { IsOk result ↔ (length output.now ≡ 2 * length input.now) }
+    ensures lends { IfOk result (λ text. text.now ≡ output.now) }
+    ensures error { IfErr result (λ e. e ≡ InvalidStringLength) }
+{
+    if two_per_byte(input.len(), output.len()) {
+        Ok(ascii_text(output))
+    } else {
+        Err(FromHexError::InvalidStringLength)
+    }
 }
 
 /// Fills the output with the text of the input, in lowercase.
@@ -219,10 +238,7 @@ pub fn encode_to_str<'a>(input: &[u8], output: &'a mut [u8]) -> Result<&'a str, 
     ensures error { IfErr result (λ e. e ≡ InvalidStringLength) }
     ensures* after { sem 𝓛 (EndsEncoded false input.now output.entry result) }
 {
-    if !two_per_byte(input.len(), output.len()) {
-        return Err(FromHexError::InvalidStringLength);
-    }
-    Ok(ascii_text(encode_into(input, false, output)))
+    encoded_text(input, encode_into(input, false, output))
 }
 
 /// As [`encode_to_str`], in uppercase. Does not allocate.
@@ -238,8 +254,5 @@ pub fn encode_to_str_upper<'a>(input: &[u8], output: &'a mut [u8]) -> Result<&'a
     ensures error { IfErr result (λ e. e ≡ InvalidStringLength) }
     ensures* after { sem 𝓛 (EndsEncoded true input.now output.entry result) }
 {
-    if !two_per_byte(input.len(), output.len()) {
-        return Err(FromHexError::InvalidStringLength);
-    }
-    Ok(ascii_text(encode_into(input, true, output)))
+    encoded_text(input, encode_into(input, true, output))
 }

@@ -68,11 +68,24 @@ fn two_per_byte(bytes: usize, digits: usize) -> bool {
     digits % 2 == 0 && digits == text_length(false, bytes)
 }
 
-/// Fills an output of the text's length with the text, and returns it.
+/// Fills the output with the text, if it has exactly two bytes for each byte of the input, and
+/// returns it.
 #[inline(always)]
 fn encode_into<'a>(input: &[u8], upper: bool, output: &'a mut [u8]) -> &'a mut [u8] {
-    fill_text::<FixedKernel>(input, false, upper, output);
+    if two_per_byte(input.len(), output.len()) {
+        fill_text::<FixedKernel>(input, false, upper, output);
+    }
     output
+}
+
+/// The output as text, if it has exactly two bytes for each byte of the input.
+#[inline(always)]
+fn encoded_text<'a>(input: &[u8], output: &'a [u8]) -> Result<&'a str, FromHexError> {
+    if two_per_byte(input.len(), output.len()) {
+        Ok(ascii_text(output))
+    } else {
+        Err(FromHexError::InvalidStringLength)
+    }
 }
 
 /// Fills the output with the text of the input, in lowercase.
@@ -127,17 +140,11 @@ pub fn encode_full_to_slice_with<K: Kernel>(
 /// [`FromHexError::InvalidStringLength`], and the output is unchanged. Does not allocate.
 #[inline]
 pub fn encode_to_str<'a>(input: &[u8], output: &'a mut [u8]) -> Result<&'a str, FromHexError> {
-    if !two_per_byte(input.len(), output.len()) {
-        return Err(FromHexError::InvalidStringLength);
-    }
-    Ok(ascii_text(encode_into(input, false, output)))
+    encoded_text(input, encode_into(input, false, output))
 }
 
 /// As [`encode_to_str`], in uppercase. Does not allocate.
 #[inline]
 pub fn encode_to_str_upper<'a>(input: &[u8], output: &'a mut [u8]) -> Result<&'a str, FromHexError> {
-    if !two_per_byte(input.len(), output.len()) {
-        return Err(FromHexError::InvalidStringLength);
-    }
-    Ok(ascii_text(encode_into(input, true, output)))
+    encoded_text(input, encode_into(input, true, output))
 }
