@@ -53,15 +53,6 @@ fn each_length() {
             assert_eq!(const_hex_proved::decode(text), Ok(bytes.clone()), "{text}");
         }
         assert!(check_raw(&text) && const_check_raw(text.as_bytes()));
-        #[cfg(feature = "alloc")]
-        {
-            use const_hex_proved::{encode, encode_prefixed, encode_upper, encode_upper_prefixed};
-            let upper = text.to_uppercase();
-            assert_eq!(encode(&bytes), text);
-            assert_eq!(encode_upper(&bytes), upper);
-            assert_eq!(encode_prefixed(&bytes), format!("0x{text}"));
-            assert_eq!(encode_upper_prefixed(&bytes), format!("0x{upper}"));
-        }
     }
 }
 
