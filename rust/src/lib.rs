@@ -48,7 +48,7 @@ mod kernel;
 #[rustfmt::skip]
 mod proved;
 #[allow(dead_code, unsafe_code, unused_imports)]
-mod rattle;
+mod std_shim;
 #[cfg(feature = "serde")]
 pub mod serde;
 pub mod strict;
@@ -85,7 +85,7 @@ use crate::proved::codec::{checks, decoders};
 use crate::{
     proved::codec::body::{find_invalid_character, strip_even},
     proved::{codec::encoders, FixedKernel},
-    rattle::alloc::Global,
+    std_shim::alloc::Global,
 };
 #[cfg(feature = "alloc")]
 use alloc::{string::String, vec::Vec};

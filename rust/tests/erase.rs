@@ -78,7 +78,7 @@ fn what_is_deleted() {
 fn what_stays() {
     let kept = "// requires { x }\nconst S: &str = \"ensures { x }\";";
     let file = "//! A file.\n\nfn f() {}";
-    let with_imports = "//! A file.\n\nuse crate::rattle::prelude::*;\n\nfn f() {}";
+    let with_imports = "//! A file.\n\nuse crate::std_shim::prelude::*;\n\nfn f() {}";
     check(&[("kept", kept, Ok(kept)), ("imports", file, Ok(with_imports))]);
 }
 
@@ -91,9 +91,9 @@ fn what_each_rule_changes() {
         ("c", "mod callers;\nmod error;", Ok("mod error;")),
         ("arch", "pub mod lanes16;\npub mod plain;", Ok("#[cfg(all(target_arch = \"wasm32\", target_feature = \"simd128\"))]\npub mod lanes16;\npub mod plain;")),
         ("c/message", "use crate::error::HexError;\nuse const_hex::Decoder;", Ok("use crate::proved::c::error::HexError;\nuse crate::proved::Decoder;")),
-        ("hexfilter/error", "use const_hex::FromHexError;", Ok("use crate::rattle::codec::FromHexError;")),
+        ("hexfilter/error", "use const_hex::FromHexError;", Ok("use crate::std_shim::codec::FromHexError;")),
         ("stream", "use crate::sink::Sink;\nuse const_hex_arch::Kernel;", Ok("use crate::proved::sink::Sink;\nuse crate::proved::Kernel;")),
-        ("sink", "use std::fmt;", Ok("use crate::rattle::fmt;")),
+        ("sink", "use std::fmt;", Ok("use crate::std_shim::fmt;")),
         ("arch", "pub type FixedKernel = Lanes32;", Ok("pub type FixedKernel = crate::kernel::Native;")),
         ("codec/encoders", "use crate::reserved::encode_reserved;", Ok("#[cfg(feature = \"alloc\")]\nuse crate::kernel::encode_reserved;")),
         ("error", "fn fmt<W: fmt::Write>(f: &mut fmt::Formatter<W>) {}\n\nfn g() {\n    fmt::<W, 8>(f);\n}", Ok("fn fmt<'w>(f: &mut fmt::Formatter<'w>) {}\n\nfn g() {\n    fmt::<8>(f);\n}")),

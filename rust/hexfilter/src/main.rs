@@ -2,14 +2,14 @@
 #![forbid(unsafe_code)]
 
 #[macro_use]
-mod rattle;
+mod std_shim;
 // The source is a library, of which this program calls a part. Its labels name loops for the proofs.
 #[cfg_attr(test, deny(unused))]
 #[allow(dead_code, unused_imports, unused_labels)]
 #[rustfmt::skip]
 mod proved;
 
-use crate::rattle::Host;
+use crate::std_shim::Host;
 use std::io::{stdin, stdout, Result};
 use std::process::ExitCode;
 

@@ -61,7 +61,7 @@ impl Kernel for Native {
 mod owned {
     use super::machine_code;
     use crate::proved::text_length;
-    use crate::rattle::alloc::{AllocError, Global, Vec};
+    use crate::std_shim::alloc::{AllocError, Global, Vec};
 
     /// Appends the text of bytes, with `0x` before it if `prefix` is true.
     #[inline]

@@ -1,7 +1,7 @@
 // Made by rust/erase from crates/const_hex_arch/src/arch.rt. Do not edit.
 //! Kernels, which encode bytes as digits and decode digits to bytes.
 
-use crate::rattle::prelude::*;
+use crate::std_shim::prelude::*;
 
 pub mod check_first;
 #[cfg(all(target_arch = "wasm32", target_feature = "simd128"))]

@@ -11,7 +11,7 @@
 //!
 //! The contracts use the terms of `const_hex`, and those defined in `specs/`.
 
-use crate::rattle::prelude::*;
+use crate::std_shim::prelude::*;
 
 mod error;
 mod flags;

@@ -1,7 +1,7 @@
 // Made by rust/erase from crates/const_hex/src/codec.rt. Do not edit.
 //! Encoding, checking and decoding.
 
-use crate::rattle::prelude::*;
+use crate::std_shim::prelude::*;
 
 pub(crate) mod body;
 pub(crate) mod checks;

@@ -1,9 +1,9 @@
 // Made by rust/erase from crates/const_hex/src/error.rt. Do not edit.
 //! Why a text cannot be decoded, or a text does not fit into an output.
 
-use crate::rattle::prelude::*;
-use crate::rattle::alloc::{AllocError, AllocFailed};
-use crate::rattle::{error, fmt};
+use crate::std_shim::prelude::*;
+use crate::std_shim::alloc::{AllocError, AllocFailed};
+use crate::std_shim::{error, fmt};
 
 /// Why a text cannot be decoded, or a text does not fit into an output.
 ///

@@ -2,7 +2,7 @@
 
 use crate::proved::*;
 use crate::proved::{examples as const_hex, sink::pieces::PieceSink};
-use crate::rattle::{alloc::Global, prelude::*, simd::prelude::*};
+use crate::std_shim::{alloc::Global, prelude::*, simd::prelude::*};
 
 #[test]
 fn arch_check_first_checkfirst() {

@@ -1,7 +1,7 @@
 // Made by rust/erase from crates/const_hex/src/formatting.rt. Do not edit.
 //! Printing bytes as text.
 
-use crate::rattle::prelude::*;
+use crate::std_shim::prelude::*;
 
 pub(crate) mod sink;
 pub mod text;

@@ -38,7 +38,7 @@ pub use self::formatting::text::*;
 
 // The places that each rule of rust/erase has changed:
 //
-//   31  Rattle's std is the module rattle
+//   31  Rattle's std is the module std_shim
 //    1  Rust's errors are not copied
 //   26  a formatter has a lifetime in place of its writer's type
 //   10  a function for C takes slices, which capi makes of pointers and lengths, and is compiled there alone
@@ -66,5 +66,5 @@ pub use self::formatting::text::*;
 //    1  the kernel is chosen for the processor
 //   12  what a constant calls is constant
 //   14  what allocates is there with the feature alloc
-//    4  what hexfilter uses of const_hex is a module of rattle
+//    4  what hexfilter uses of const_hex is a module of std_shim
 //    5  what is for C is a module of const_hex

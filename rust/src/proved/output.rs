@@ -1,7 +1,7 @@
 // Made by rust/erase from crates/const_hex_arch/src/output.rt. Do not edit.
 //! Outputs, to which text is written.
 
-use crate::rattle::prelude::*;
+use crate::std_shim::prelude::*;
 
 pub mod buffered;
 pub mod slice;

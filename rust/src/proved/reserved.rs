@@ -1,13 +1,13 @@
 // Made by rust/erase from crates/const_hex/src/reserved.rt. Do not edit.
 //! Owned text and owned bytes, in a vector with space for exactly these.
 
-use crate::rattle::prelude::*;
+use crate::std_shim::prelude::*;
 
 mod decoding;
 
 pub(crate) use crate::proved::reserved::decoding::decode_reserved;
 use crate::proved::{Kernel, Output, encode_full};
-use crate::rattle::alloc::{AllocError, Global};
+use crate::std_shim::alloc::{AllocError, Global};
 
 /// Puts each piece after what a vector holds, into its spare capacity.
 struct ReservedOutput {

@@ -1,14 +1,14 @@
 // Made by rust/erase from crates/const_hex_arch/src/sink.rt. Do not edit.
 //! Sinks, which receive text piece by piece.
 
-use crate::rattle::prelude::*;
+use crate::std_shim::prelude::*;
 
 pub mod output;
 #[cfg(feature = "alloc")]
 pub mod pieces;
 
-use crate::rattle::error::Error;
-use crate::rattle::fmt;
+use crate::std_shim::error::Error;
+use crate::std_shim::fmt;
 
 /// A sink refused a piece. All values are equal.
 #[derive(Clone, Copy, Debug, PartialEq, Eq)]

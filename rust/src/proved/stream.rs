@@ -1,7 +1,7 @@
 // Made by rust/erase from crates/const_hex_arch/src/stream.rt. Do not edit.
 //! The text of bytes, written to a sink in large pieces.
 
-use crate::rattle::prelude::*;
+use crate::std_shim::prelude::*;
 use crate::proved::arch::{FixedKernel, Kernel};
 use crate::proved::output::buffered::BufferedOutput;
 use crate::proved::sink::output::SinkOutput;

@@ -1,7 +1,7 @@
 // Made by rust/erase from crates/const_hex_arch/src/tables.rt. Do not edit.
 //! The digits of values, and the values of digits.
 
-use crate::rattle::prelude::*;
+use crate::std_shim::prelude::*;
 
 /// The digit of each value, in lowercase.
 pub const HEX_CHARS_LOWER: &[u8; 16] = b"0123456789abcdef";

@@ -1,7 +1,7 @@
 // Made by rust/erase from crates/const_hex_arch/src/text.rt. Do not edit.
 //! The whole text of bytes: its length, and how it is written.
 
-use crate::rattle::prelude::*;
+use crate::std_shim::prelude::*;
 use crate::proved::arch::Kernel;
 use crate::proved::output::Output;
 

@@ -1,12 +1,12 @@
 // Made by rust/erase from crates/hexfilter_core/src/decoding.rt. Do not edit.
 //! From a reader's text to a writer's bytes.
 
-use crate::rattle::prelude::*;
+use crate::std_shim::prelude::*;
 use crate::proved::error::RunError;
 use crate::proved::input_decoder::InputDecoder;
 use crate::proved::mode::Reading;
 use crate::proved::transfer::{flush, read_chunk, too_many_reads, write_piece};
-use crate::rattle::io::{Read, Write};
+use crate::std_shim::io::{Read, Write};
 
 /// How many bytes are read at a time.
 const CHUNK: usize = 65_536;

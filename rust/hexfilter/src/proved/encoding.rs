@@ -1,13 +1,13 @@
 // Made by rust/erase from crates/hexfilter_core/src/encoding.rt. Do not edit.
 //! From a reader's bytes to a writer's text.
 
-use crate::rattle::prelude::*;
+use crate::std_shim::prelude::*;
 use crate::proved::error::RunError;
 use crate::proved::groups::put_groups;
 use crate::proved::mode::Groups;
 use crate::proved::transfer::{flush, read_chunk, too_many_reads, write_piece};
-use crate::rattle::codec::{FixedKernel, fill_text};
-use crate::rattle::io::{Read, Write};
+use crate::std_shim::codec::{FixedKernel, fill_text};
+use crate::std_shim::io::{Read, Write};
 
 /// How many bytes are read at a time.
 const CHUNK: usize = 16_384;

@@ -1,10 +1,10 @@
 // Made by rust/erase from crates/hexfilter_core/src/error.rt. Do not edit.
 //! Why a run fails.
 
-use crate::rattle::prelude::*;
+use crate::std_shim::prelude::*;
 use crate::proved::place::Place;
-use crate::rattle::codec::FromHexError;
-use crate::rattle::io;
+use crate::std_shim::codec::FromHexError;
+use crate::std_shim::io;
 
 /// Why a run fails.
 #[derive(Debug)]

@@ -1,7 +1,7 @@
 // Made by rust/erase from the examples of the source. Do not edit.
 
 use crate::proved::*;
-use crate::rattle::codec::FromHexError;
+use crate::std_shim::codec::FromHexError;
 use std::str::FromStr;
 
 #[test]

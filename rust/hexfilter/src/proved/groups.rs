@@ -1,7 +1,7 @@
 // Made by rust/erase from crates/hexfilter_core/src/groups.rt. Do not edit.
 //! A text in groups.
 
-use crate::rattle::prelude::*;
+use crate::std_shim::prelude::*;
 use crate::proved::mode::Groups;
 
 /// How many bytes are copied at a time.

@@ -1,11 +1,11 @@
 // Made by rust/erase from crates/hexfilter_core/src/input_decoder.rt. Do not edit.
 //! A decoder for an input that comes in chunks.
 
-use crate::rattle::prelude::*;
+use crate::std_shim::prelude::*;
 use crate::proved::error::RunError;
 use crate::proved::mode::Reading;
 use crate::proved::scanner::Scanner;
-use crate::rattle::codec::{Decoder, FromHexError};
+use crate::std_shim::codec::{Decoder, FromHexError};
 
 /// Decodes an input without what is left out, or only checks it. Positions count in the input.
 #[derive(Clone, Debug)]

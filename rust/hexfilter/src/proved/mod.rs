@@ -5,7 +5,7 @@
 //! The terms of the contracts are defined in `specs/`. What a text decodes to is defined in
 //! `const_hex`.
 
-use crate::rattle::prelude::*;
+use crate::std_shim::prelude::*;
 
 mod decoding;
 mod encoding;

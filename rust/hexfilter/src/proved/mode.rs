@@ -1,7 +1,7 @@
 // Made by rust/erase from crates/hexfilter_core/src/mode.rt. Do not edit.
 //! What a run makes of its input.
 
-use crate::rattle::prelude::*;
+use crate::std_shim::prelude::*;
 
 /// What a run makes of its input.
 #[derive(Clone, Copy, PartialEq, Eq, Debug)]

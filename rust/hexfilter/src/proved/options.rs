@@ -1,7 +1,7 @@
 // Made by rust/erase from crates/hexfilter_core/src/options.rt. Do not edit.
 //! What the arguments of the program ask for.
 
-use crate::rattle::prelude::*;
+use crate::std_shim::prelude::*;
 use crate::proved::mode::{Groups, Mode, Reading};
 
 /// What the program is asked to do.

@@ -1,7 +1,7 @@
 // Made by rust/erase from crates/hexfilter_core/src/place.rt. Do not edit.
 //! Where a character stands, as editors count.
 
-use crate::rattle::prelude::*;
+use crate::std_shim::prelude::*;
 
 /// The line and the column of a character. Both count from 1, and a line ends with `\n`.
 #[derive(Clone, Copy, PartialEq, Eq, Debug)]

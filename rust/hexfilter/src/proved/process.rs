@@ -1,18 +1,18 @@
 // Made by rust/erase from crates/hexfilter_core/src/process.rt. Do not edit.
 //! The whole program, from its arguments to its exit status.
 
-use crate::rattle::prelude::*;
+use crate::std_shim::prelude::*;
 use crate::proved::error::RunError;
 use crate::proved::mode::Mode;
 use crate::proved::options::{Fault, Request, UsageError, request_of};
 use crate::proved::place::Place;
 use crate::proved::runs::run;
 use crate::proved::transfer::{flush, write_piece};
-use crate::rattle::env::{self, Env};
-use crate::rattle::fs::File;
-use crate::rattle::io::{self, Eprint, ErrorKind, Read, Write};
-use crate::rattle::process::ExitCode;
-use crate::rattle::rt::Files;
+use crate::std_shim::env::{self, Env};
+use crate::std_shim::fs::File;
+use crate::std_shim::io::{self, Eprint, ErrorKind, Read, Write};
+use crate::std_shim::process::ExitCode;
+use crate::std_shim::rt::Files;
 
 /// What `--help` prints.
 const HELP: &str = "\

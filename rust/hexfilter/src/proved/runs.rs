@@ -1,12 +1,12 @@
 // Made by rust/erase from crates/hexfilter_core/src/runs.rt. Do not edit.
 //! A whole run over any reader and writer.
 
-use crate::rattle::prelude::*;
+use crate::std_shim::prelude::*;
 use crate::proved::decoding::decode_stream;
 use crate::proved::encoding::encode_stream;
 use crate::proved::error::RunError;
 use crate::proved::mode::Mode;
-use crate::rattle::io::{Read, Write};
+use crate::std_shim::io::{Read, Write};
 
 /// Reads the input to its end, writes what the mode makes of it, and flushes. The input may have any
 /// length: it is read in chunks of 16 or 64 KiB, and nothing is allocated.

@@ -1,11 +1,11 @@
 // Made by rust/erase from crates/hexfilter_core/src/scanner.rt. Do not edit.
 //! The text of an input: the input without what is left out.
 
-use crate::rattle::prelude::*;
+use crate::std_shim::prelude::*;
 use crate::proved::groups::{copy_front, put};
 use crate::proved::mode::Reading;
 use crate::proved::place::{Line, Place};
-use crate::rattle::codec::check_raw;
+use crate::std_shim::codec::check_raw;
 
 /// In how many bytes whitespace is looked for at a time.
 const LONGEST: usize = 256;

@@ -1,9 +1,9 @@
 // Made by rust/erase from crates/hexfilter_core/src/transfer.rt. Do not edit.
 //! Reads and writes that a signal may interrupt.
 
-use crate::rattle::prelude::*;
+use crate::std_shim::prelude::*;
 use crate::proved::error::RunError;
-use crate::rattle::io::{Error, ErrorKind, Read, Write};
+use crate::std_shim::io::{Error, ErrorKind, Read, Write};
 
 /// Reads into the front of the buffer, and returns the number of bytes, which is 0 only at the end.
 /// A call that a signal interrupts is made again.

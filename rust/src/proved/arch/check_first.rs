@@ -1,10 +1,10 @@
 // Made by rust/erase from crates/const_hex_arch/src/arch/check_first.rt. Do not edit.
 //! A kernel that checks all of a text before it decodes it.
 
-use crate::rattle::prelude::*;
+use crate::std_shim::prelude::*;
 use crate::proved::arch::Kernel;
 use crate::proved::output::Output;
-use crate::rattle::marker::PhantomData;
+use crate::std_shim::marker::PhantomData;
 
 /// The kernel `K`, but it decodes a text only after it has checked all of it. So an error leaves
 /// the output unchanged.

@@ -3,8 +3,8 @@
 //! the digit of a value, and the test whether all lanes are digits. docs/DESIGN.md works through an
 //! example.
 
-use crate::rattle::prelude::*;
-use crate::rattle::simd::prelude::*;
+use crate::std_shim::prelude::*;
+use crate::std_shim::simd::prelude::*;
 
 /// The operations that depend on the number of lanes `N`, or on whether the target has a byte
 /// shuffle. Everything else in a kernel is written once, over this trait. The argument `copy` never

@@ -4,11 +4,11 @@
 //! Each of these calls has a contract for every vector: [`encode_chunk`], [`check_chunk`],
 //! [`decode_chunk`], [`nibbles`] and [`unhex`].
 
-use crate::rattle::prelude::*;
+use crate::std_shim::prelude::*;
 use crate::proved::arch::lanes::{self, LaneOps};
 use crate::proved::arch::{Kernel, loops, small_input};
 use crate::proved::output::Output;
-use crate::rattle::simd::prelude::*;
+use crate::std_shim::simd::prelude::*;
 
 /// For each low half of a byte the limit: no digit with this low half has a greater value.
 // `byte - 48` is the value of `0` to `9`, and more than the value of a letter. For a low half that

@@ -6,7 +6,7 @@
 //! same result. Compare a change with the table "Steps and remainders" in docs/DESIGN.md, for each
 //! kernel.
 
-use crate::rattle::prelude::*;
+use crate::std_shim::prelude::*;
 use crate::proved::arch::lanes::LaneOps;
 use crate::proved::arch::{lanes16, small_input, steps};
 use crate::proved::output::Output;

@@ -1,7 +1,7 @@
 // Made by rust/erase from crates/const_hex_arch/src/arch/plain.rt. Do not edit.
 //! The kernel that goes byte by byte.
 
-use crate::rattle::prelude::*;
+use crate::std_shim::prelude::*;
 use crate::proved::arch::Kernel;
 use crate::proved::output::Output;
 use crate::proved::tables::{NIL, digit_at, value_at};

@@ -1,11 +1,11 @@
 // Made by rust/erase from crates/const_hex_arch/src/arch/small_input.rt. Do not edit.
 //! Checks and decodes a short text, by its first and its last digits at once.
 
-use crate::rattle::prelude::*;
+use crate::std_shim::prelude::*;
 use crate::proved::arch::lanes::LaneOps;
 use crate::proved::arch::plain::Plain;
 use crate::proved::arch::{Kernel, steps};
-use crate::rattle::simd::prelude::*;
+use crate::std_shim::simd::prelude::*;
 
 /// Whether every byte of a text of at most 16 bytes is a digit.
 #[inline(always)]

@@ -3,10 +3,10 @@
 //!
 //! `V` has the `N` lanes of a step.
 
-use crate::rattle::prelude::*;
+use crate::std_shim::prelude::*;
 use crate::proved::arch::lanes::{self, LaneOps};
 use crate::proved::output::Output;
-use crate::rattle::simd::prelude::*;
+use crate::std_shim::simd::prelude::*;
 
 /// Writes two digits for each of `H` to `2 * H` bytes, as one piece. The first `H` bytes and the last
 /// `H` share a vector.

@@ -1,7 +1,7 @@
 // Made by rust/erase from crates/const_hex_c/src/error.rt. Do not edit.
 //! Why a text was rejected, as C has it.
 
-use crate::rattle::prelude::*;
+use crate::std_shim::prelude::*;
 use crate::proved::c::message::{LONGEST, put_character};
 use crate::proved::FromHexError;
 

@@ -1,7 +1,7 @@
 // Made by rust/erase from crates/const_hex_c/src/flags.rt. Do not edit.
 //! How a text is written: the flags that C passes.
 
-use crate::rattle::prelude::*;
+use crate::std_shim::prelude::*;
 
 /// Whether the flags are known ones: 1 asks for uppercase digits, 2 for a prefix, and 4 for no NUL.
 #[inline(always)]

@@ -1,7 +1,7 @@
 // Made by rust/erase from crates/const_hex_c/src/message.rt. Do not edit.
 //! The message of an invalid character.
 
-use crate::rattle::prelude::*;
+use crate::std_shim::prelude::*;
 use crate::proved::digit_at;
 
 /// The length of the longest message: 19 bytes, at most 6 that show the character, 14 bytes, and at

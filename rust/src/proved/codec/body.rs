@@ -2,7 +2,7 @@
 //! The body of a text, which is what follows the prefix: the rule of the prefix, the first invalid
 //! character, and decoding by a kernel.
 
-use crate::rattle::prelude::*;
+use crate::std_shim::prelude::*;
 use crate::proved::error::FromHexError;
 use crate::proved::{CheckFirst, Kernel, NIL, value_at};
 

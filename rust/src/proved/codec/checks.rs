@@ -1,7 +1,7 @@
 // Made by rust/erase from crates/const_hex/src/codec/checks.rt. Do not edit.
 //! Whether a text can be decoded.
 
-use crate::rattle::prelude::*;
+use crate::std_shim::prelude::*;
 use crate::proved::codec::body::{find_first_bad, find_invalid_character, strip_even};
 use crate::proved::error::FromHexError;
 use crate::proved::{FixedKernel, Kernel};

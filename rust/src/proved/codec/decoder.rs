@@ -1,7 +1,7 @@
 // Made by rust/erase from crates/const_hex/src/codec/decoder.rt. Do not edit.
 //! Decoding a text that arrives in chunks.
 
-use crate::rattle::prelude::*;
+use crate::std_shim::prelude::*;
 use crate::proved::codec::body::{decode_body, find_first_bad, is_prefix, strip_prefix};
 use crate::proved::error::FromHexError;
 use crate::proved::{FixedKernel, Kernel};

@@ -1,13 +1,13 @@
 // Made by rust/erase from crates/const_hex/src/codec/decoders.rt. Do not edit.
 //! Decoding a whole text.
 
-use crate::rattle::prelude::*;
+use crate::std_shim::prelude::*;
 use crate::proved::codec::body::{decode_body, find_invalid_character, strip_even};
 use crate::proved::error::FromHexError;
 #[cfg(feature = "alloc")]
 use crate::kernel::decode_reserved;
 use crate::proved::{FixedKernel, Kernel, NIL, value_at};
-use crate::rattle::alloc::Global;
+use crate::std_shim::alloc::Global;
 
 /// Decodes a text, with or without a prefix, in either case, to a vector of its bytes.
 ///

@@ -1,12 +1,12 @@
 // Made by rust/erase from crates/const_hex/src/codec/encoders.rt. Do not edit.
 //! Encoding bytes as text.
 
-use crate::rattle::prelude::*;
+use crate::std_shim::prelude::*;
 use crate::proved::error::FromHexError;
 #[cfg(feature = "alloc")]
 use crate::kernel::encode_reserved;
 use crate::proved::{FixedKernel, Kernel, ascii_text, fill_text, text_length};
-use crate::rattle::alloc::{AllocError, Global};
+use crate::std_shim::alloc::{AllocError, Global};
 
 /// The text, as a `String`.
 #[inline(always)]

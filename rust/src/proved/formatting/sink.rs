@@ -1,9 +1,9 @@
 // Made by rust/erase from crates/const_hex/src/formatting/sink.rt. Do not edit.
 //! A formatter as a sink.
 
-use crate::rattle::prelude::*;
+use crate::std_shim::prelude::*;
 use crate::proved::{Sink, SinkError};
-use crate::rattle::fmt;
+use crate::std_shim::fmt;
 
 /// Passes pieces on to a formatter, until its first error.
 pub struct FormatterSink<'f, 'w> {

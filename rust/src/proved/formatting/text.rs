@@ -1,10 +1,10 @@
 // Made by rust/erase from crates/const_hex/src/formatting/text.rt. Do not edit.
 //! The type that `display` returns.
 
-use crate::rattle::prelude::*;
+use crate::std_shim::prelude::*;
 use crate::proved::formatting::sink::FormatterSink;
 use crate::proved::BufferedHex;
-use crate::rattle::fmt;
+use crate::std_shim::fmt;
 
 /// Bytes that are printed as text: two digits for each.
 ///

@@ -1,7 +1,7 @@
 // Made by rust/erase from crates/const_hex_arch/src/output/buffered.rt. Do not edit.
 //! An output that gathers small pieces into large ones.
 
-use crate::rattle::prelude::*;
+use crate::std_shim::prelude::*;
 use crate::proved::output::Output;
 
 /// Gathers up to `N` bytes before it passes them on to an output.

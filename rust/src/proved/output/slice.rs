@@ -1,9 +1,9 @@
 // Made by rust/erase from crates/const_hex_arch/src/output/slice.rt. Do not edit.
 //! An output into a slice.
 
-use crate::rattle::prelude::*;
+use crate::std_shim::prelude::*;
 use crate::proved::output::Output;
-use crate::rattle::simd::prelude::*;
+use crate::std_shim::simd::prelude::*;
 
 /// Writes into a slice, from its start.
 ///

@@ -4,12 +4,12 @@
 //! A kernel fills slices, and no slice may cover memory that is not initialized. So it fills
 //! arrays, which stay in registers, and each array is put into the vector whole.
 
-use crate::rattle::prelude::*;
+use crate::std_shim::prelude::*;
 use crate::proved::codec::body::decode_body;
 #[cfg(feature = "alloc")]
 use crate::proved::reserved::ReservedOutput;
 use crate::proved::{Kernel, Output};
-use crate::rattle::alloc::{AllocError, Global};
+use crate::std_shim::alloc::{AllocError, Global};
 
 /// Decodes digits to a vector, or returns `None` if some byte is not a digit. Allocates once, for
 /// exactly these bytes; for none, not at all.

@@ -1,7 +1,7 @@
 // Made by rust/erase from crates/const_hex_arch/src/sink/output.rt. Do not edit.
 //! An output over a sink.
 
-use crate::rattle::prelude::*;
+use crate::std_shim::prelude::*;
 use crate::proved::output::Output;
 use crate::proved::sink::{Sink, SinkError, fail_if_refused};
 use crate::proved::text::ascii_text;

@@ -1,9 +1,9 @@
 // Made by rust/erase from crates/const_hex_arch/src/sink/pieces.rt. Do not edit.
 //! A sink that keeps its pieces.
 
-use crate::rattle::prelude::*;
+use crate::std_shim::prelude::*;
 use crate::proved::sink::{Sink, SinkError};
-use crate::rattle::alloc::{AllocError, Global};
+use crate::std_shim::alloc::{AllocError, Global};
 
 /// Keeps a copy of each piece. Refuses the call with a given number, or a piece that it cannot
 /// allocate.

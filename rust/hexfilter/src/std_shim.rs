@@ -64,7 +64,7 @@ pub mod io {
 /// Prints a line to standard error, and returns whether that succeeded.
 macro_rules! eprintln {
     ($host:expr; $($line:tt)*) => {
-        crate::rattle::io::Eprint::print_line($host, format!($($line)*))
+        crate::std_shim::io::Eprint::print_line($host, format!($($line)*))
     };
 }
 
