@@ -47,10 +47,10 @@ mod kernel;
 #[allow(dead_code, unsafe_code, unused_imports, unused_labels)]
 #[rustfmt::skip]
 mod proved;
-#[allow(dead_code, unsafe_code, unused_imports)]
-mod std_shim;
 #[cfg(feature = "serde")]
 pub mod serde;
+#[allow(dead_code, unsafe_code, unused_imports)]
+mod std_shim;
 pub mod strict;
 pub mod traits;
 

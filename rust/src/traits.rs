@@ -212,7 +212,11 @@ fn many_digits<const UPPER: bool, T: FromIterator<char>>(bytes: &[u8]) -> T {
         text
     };
     let rest = text.iter().copied();
-    parts.flat_map(text_of).chain(rest).map(|byte| character(&byte)).collect()
+    parts
+        .flat_map(text_of)
+        .chain(rest)
+        .map(|byte| character(&byte))
+        .collect()
 }
 
 /// The character that a digit is.
