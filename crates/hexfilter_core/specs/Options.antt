@@ -2,7 +2,7 @@
 use Rattle.std.specs.Prelude.{slice_index, ◌≡◌, ◌⊎◌, ◌++◌, ℕ, ◌+◌, ◌-◌, ◌*◌, ◌^◌, ◌==◌, nat_lt, min, ◌&&◌, ◌||◌, not, true, false, if◌then◌else◌, Bool, List, [], ◌∷◌, length, Option, Some, None, Result, Ok, Err, codes}
 use Rattle.std.specs.Char.{is_ascii_hexdigit}
 use Rattle.std.specs.List.{after_first, before_first, position_or_len}
-use Rattle.std.specs.Option.{is_some}
+use Rattle.std.specs.Option.{is_some, unwrap_or}
 use Rattle.std.specs.Str.{all_ascii_digits, bytes_eq}
 use Rattle.std.specs.Str.Parse.{digits_value}
 use Rattle.hexfilter_core.specs.declared.mode.Groups.{Groups}
@@ -16,11 +16,11 @@ use Rattle.hexfilter_core.specs.declared.options.Request.{Request}
 use Rattle.hexfilter_core.specs.declared.options.Request.TheVariants.{Help, Version, Run}
 use Rattle.hexfilter_core.specs.declared.options.UsageError.{UsageError}
 use Rattle.hexfilter_core.specs.declared.options.Value.{Value}
-use Rattle.hexfilter_core.specs.declared.options.Value.TheVariants.{Columns, Bytes, Separator}
+use Rattle.hexfilter_core.specs.declared.options.Value.TheVariants.{Size, Separator}
 
 -- ---- the options
 
--- what may follow the first dash of each option, and what it changes. A value follows the last three
+-- what may follow the first dash of each option, and what it sets. The last three take a value
 abbrev pub table : Options → List (List (List ℕ) × Options)
 table o =
     (codes "d" ∷ codes "-decode" ∷ [], record o { decode = true })
@@ -30,8 +30,8 @@ table o =
     ∷ (codes "i" ∷ codes "-ignore-whitespace" ∷ codes "-ignore-newlines" ∷ [], record o { ignore_whitespace = true })
     ∷ (codes "h" ∷ codes "-help" ∷ [], record o { help = true })
     ∷ (codes "V" ∷ codes "-version" ∷ [], record o { version = true })
-    ∷ (codes "w" ∷ codes "-wrap" ∷ [], record o { wrapped = true; value = Some Columns })
-    ∷ (codes "g" ∷ codes "-group" ∷ [], record o { grouped = true; value = Some Bytes })
+    ∷ (codes "w" ∷ codes "-wrap" ∷ [], record o { wrapped = true; value = Some Size })
+    ∷ (codes "g" ∷ codes "-group" ∷ [], record o { grouped = true; value = Some Size })
     ∷ (codes "s" ∷ codes "-separator" ∷ [], record o { grouped = true; value = Some Separator })
     ∷ []
 
@@ -43,79 +43,75 @@ abbrev pub find : List ℕ → List (List (List ℕ) × Options) → Result Opti
 find key [] = Err UnknownOption
 find key (row ∷ rows) = if is_one_of key row.0 then Ok row.1 else find key rows
 
-abbrev pub with_option : Options → List ℕ → Result Options Fault
-with_option o key = find key (table o)
-
--- the number that decimal digits write
+-- a value: the number that decimal digits write, or an ASCII character that is no digit
 abbrev pub number : List ℕ → Result ℕ Fault
 number v = if nat_lt 0 (length v) && all_ascii_digits v && nat_lt (digits_value 10 v) (2 ^ 64) then Ok (digits_value 10 v) else Err InvalidNumber
 
-abbrev pub then_if_ok : {A B E : Type 0} → Result A E → (A → Result B E) → Result B E
-then_if_ok (Ok a) f = f a
-then_if_ok (Err e) f = Err e
+abbrev pub and_then : {A : Type 0} → Result A Fault → (A → Result Options Fault) → Result Options Fault
+and_then (Ok a) f = f a
+and_then (Err e) f = Err e
 
--- the value of an option: a number, or an ASCII character that is no digit
-abbrev pub valued : Option Value → Options → List ℕ → Result Options Fault
-valued None o v = Err UnknownOption
-valued (Some Columns) o v = then_if_ok (number v) (λ n. Ok (record o { columns = n }))
-valued (Some Bytes) o v = then_if_ok (number v) (λ n. Ok (record o { bytes = n }))
-valued (Some Separator) o (b ∷ []) = if nat_lt b 128 && not (is_ascii_hexdigit b) then Ok (record o { separator = b }) else Err InvalidSeparator
-valued (Some Separator) o v = Err InvalidSeparator
-
-abbrev pub with_value : Options → List ℕ → Result Options Fault
-with_value o v = valued o.value (record o { value = None }) v
+abbrev pub with_value : Option Value → Options → List ℕ → Result Options Fault
+with_value None o v = Err UnknownOption
+with_value (Some Size) o v = and_then (number v) (λ n. Ok (record o { size = Some n; value = None }))
+with_value (Some Separator) o (b ∷ []) =
+    if nat_lt b 128 && not (is_ascii_hexdigit b) then Ok (record o { separator = Some b; value = None }) else Err InvalidSeparator
+with_value (Some Separator) o v = Err InvalidSeparator
 
 -- ---- the arguments
 
--- letters, up to that of an option whose value follows
+-- letters, of which one may be followed by its value
 unfoldable pub with_letters : Options → List ℕ → Result Options Fault
 with_letters o [] = Ok o
-with_letters o (c ∷ t) = then_if_ok (with_option o (c ∷ [])) (λ p. if is_some p.value && nat_lt 0 (length t) then with_value p t else with_letters p t)
-
--- what follows a dash
-abbrev pub with_text : Options → List ℕ → Result Options Fault
-with_text o t =
-    let equals : ℕ → Bool = λ b. b == 61 in
-    if bytes_eq t (codes "-") then Ok (record o { only_files = true })
-    else if not (slice_index t 0 == 45) then with_letters o t
-    else if position_or_len equals t == length t then with_option o t
-    else then_if_ok (with_option o (before_first equals t)) (λ p. with_value p (after_first equals t))
+with_letters o (c ∷ t) =
+    and_then (find (c ∷ []) (table o)) (λ p. if is_some p.value && nat_lt 0 (length t) then with_value p.value p t else with_letters p t)
 
 abbrev pub with_file : Options → ℕ → Result Options Fault
 with_file o i = if is_some o.file then Err SecondFile else Ok (record o { file = Some i })
 
+-- letters after a dash, a name after two, which may have a value after an equals sign, or else a file
 abbrev pub dashed : Options → ℕ → List ℕ → Result Options Fault
 dashed o i [] = with_file o i
 dashed o i (c ∷ []) = with_file o i
-dashed o i (c ∷ d ∷ t) = if c == 45 then with_text o (d ∷ t) else with_file o i
+dashed o i (c ∷ d ∷ t) =
+    let is_equals : ℕ → Bool = λ b. b == 61 in
+    let key : List ℕ = d ∷ t in
+    if not (c == 45) then with_file o i
+    else if not (d == 45) then with_letters o key
+    else if bytes_eq t [] then Ok (record o { only_files = true })
+    else if position_or_len is_equals key == length key then find key (table o)
+    else and_then (find (before_first is_equals key) (table o)) (λ p. with_value p.value p (after_first is_equals key))
 
 abbrev pub with_word : Options → ℕ → List ℕ → Result Options Fault
-with_word o i a = if is_some o.value then with_value o a else if o.only_files then with_file o i else dashed o i a
+with_word o i a = if is_some o.value then with_value o.value o a else if o.only_files then with_file o i else dashed o i a
 
 -- lines have no groups
 abbrev pub checked : Options → Result Options Fault
 checked o = if o.wrapped && o.grouped then Err GroupsInLines else Ok o
 
 abbrev pub with_argument : Options → ℕ → List ℕ → Result Options Fault
-with_argument o i a = then_if_ok (with_word o i a) checked
+with_argument o i a = and_then (with_word o i a) checked
 
--- the groups that are set, or else lines of n characters
-abbrev pub groups_of : Options → ℕ → Groups
-groups_of o n = if o.grouped then record { size = min (o.bytes * 2) (2 ^ 64 - 1); separator = o.separator } else record { size = n; separator = 10 }
+-- the mode that is set. Lines are written, and not read
+abbrev pub mode_of : Options → Mode
+mode_of o =
+    let groups : Groups =
+    if o.grouped then record { size = min (unwrap_or o.size 1 * 2) (2 ^ 64 - 1); separator = unwrap_or o.separator 32 }
+    else record { size = if o.check || o.decode then 0 else unwrap_or o.size 0; separator = 10 } in
+    let r : Reading = record { ignore_whitespace = o.ignore_whitespace; groups = groups } in
+    if o.check then Check r else if o.decode then Decode r else Encode o.prefix o.upper groups
 
+-- what is asked for by so many arguments
 abbrev pub request : Options → ℕ → Result Request UsageError
 request o count =
-    let r : Reading = record { ignore_whitespace = o.ignore_whitespace; groups = groups_of o 0 } in
     if is_some o.value then Err (record { fault = MissingValue; index = count - 1 })
-    else if o.help then Ok Help
-    else if o.version then Ok Version
-    else Ok (Run (if o.check then Check r else if o.decode then Decode r else Encode o.prefix o.upper (groups_of o o.columns)) o.file)
+    else if o.help then Ok Help else if o.version then Ok Version else Ok (Run (mode_of o) o.file)
 
--- the arguments from the number i on
 abbrev pub at : ℕ → Result Options Fault → (Options → Result Request UsageError) → Result Request UsageError
 at i (Ok o) f = f o
 at i (Err e) f = Err (record { fault = e; index = i })
 
+-- the arguments from the number i on
 unfoldable pub with_arguments : Options → ℕ → List (List ℕ) → Result Request UsageError
 with_arguments o i [] = request o i
 with_arguments o i (a ∷ rest) = at i (with_argument o i a) (λ p. with_arguments p (i + 1) rest)
@@ -132,15 +128,13 @@ start = record {
   version = false;
   wrapped = false;
   grouped = false;
-  columns = 0;
-  bytes = 1;
-  separator = 32;
+  size = None;
+  separator = None;
   file = None;
   value = None;
   only_files = false;
 }
 
--- what the arguments ask for
 abbrev pub request_for : List (List ℕ) → Result Request UsageError
 request_for arguments = with_arguments start 0 arguments
 
@@ -149,8 +143,12 @@ request_for arguments = with_arguments start 0 arguments
 abbrev pub flag : Bool → List ℕ → List (List ℕ)
 flag wanted name = if wanted then name ∷ [] else []
 
--- the words write the groups of a mode: lines, if they are written, by their columns, other groups by their bytes and the
--- separator, an ASCII character that is no digit
+-- those of a mode, and then the words of its groups
+abbrev pub written : Mode → List (List ℕ) → List (List ℕ)
+written (Encode prefix upper groups) words = flag prefix (codes "--prefix") ++ (flag upper (codes "--upper") ++ words)
+written (Decode r) words = codes "--decode" ∷ flag r.ignore_whitespace (codes "--ignore-whitespace") ++ words
+written (Check r) words = codes "--check" ∷ flag r.ignore_whitespace (codes "--ignore-whitespace") ++ words
+
 abbrev pub WritesLines : Groups → List (List ℕ) → Type 0
 WritesLines g words = (v : List ℕ) × (number v ≡ Ok g.size) × (g.separator ≡ 10) × (words ≡ codes "--wrap" ∷ v ∷ [])
 
@@ -160,9 +158,9 @@ WritesGroups g words =
     × ((nat_lt g.separator 128 && not (is_ascii_hexdigit g.separator)) ≡ true)
     × (words ≡ codes "--group" ∷ v ∷ codes "--separator" ∷ (g.separator ∷ []) ∷ [])
 
--- the arguments write a mode
+-- the words write the groups of a mode: lines, if they are written, by their columns, other groups by their bytes and
+-- the separator, an ASCII character that is no digit
 abbrev pub Writes : Mode → List (List ℕ) → Type 0
-Writes (Encode prefix upper groups) a =
-    (words : List (List ℕ)) × (WritesLines groups words ⊎ WritesGroups groups words) × (a ≡ flag prefix (codes "--prefix") ++ (flag upper (codes "--upper") ++ words))
-Writes (Decode r) a = (words : List (List ℕ)) × WritesGroups r.groups words × (a ≡ codes "--decode" ∷ flag r.ignore_whitespace (codes "--ignore-whitespace") ++ words)
-Writes (Check r) a = (words : List (List ℕ)) × WritesGroups r.groups words × (a ≡ codes "--check" ∷ flag r.ignore_whitespace (codes "--ignore-whitespace") ++ words)
+Writes (Encode prefix upper groups) words = WritesLines groups words ⊎ WritesGroups groups words
+Writes (Decode r) words = WritesGroups r.groups words
+Writes (Check r) words = WritesGroups r.groups words

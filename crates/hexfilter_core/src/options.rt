@@ -1,7 +1,7 @@
 //! What the arguments of the program ask for.
 
-ghost use Rattle.std.specs.Prelude.{◌≡◌, ◌<◌, None, IfOk, Ok, map, string_bytes};
-ghost use Rattle.hexfilter_core.specs.Options.{Writes, groups_of, number, request, request_for, with_argument, with_file, with_letters, with_option, with_text, with_value, with_word};
+ghost use Rattle.std.specs.Prelude.{◌≡◌, ℕ, List, None, Ok, map, string_bytes};
+ghost use Rattle.hexfilter_core.specs.Options.{Writes, find, mode_of, number, request, request_for, table, with_argument, with_file, with_letters, with_value, with_word, written};
 ghost use Rattle.hexfilter_core.specs.declared.mode.Mode.{Mode};
 ghost use Rattle.hexfilter_core.specs.declared.options.Request.TheVariants.{Run};
 
@@ -49,16 +49,15 @@ pub struct UsageError {
     pub index: usize,
 }
 
-/// What the value of an option is.
+/// What the value of an option is: a number of columns or bytes, or a separator.
 #[derive(Clone, Copy)]
 pub(crate) enum Value {
-    Columns,
-    Bytes,
+    Size,
     Separator,
 }
 
 /// What the arguments so far have set.
-#[derive(Clone, Copy)]
+#[derive(Clone, Copy, Default)]
 pub(crate) struct Options {
     decode: bool,
     check: bool,
@@ -67,36 +66,16 @@ pub(crate) struct Options {
     ignore_whitespace: bool,
     help: bool,
     version: bool,
-    /// Whether lines and groups are asked for.
     wrapped: bool,
     grouped: bool,
-    columns: usize,
-    bytes: usize,
-    separator: u8,
+    size: Option<usize>,
+    separator: Option<u8>,
     file: Option<usize>,
     /// What the next argument is the value of.
     value: Option<Value>,
-    /// Whether the other arguments are files.
+    /// Whether all other arguments are files.
     only_files: bool,
 }
-
-const START: Options = Options {
-    decode: false,
-    check: false,
-    upper: false,
-    prefix: false,
-    ignore_whitespace: false,
-    help: false,
-    version: false,
-    wrapped: false,
-    grouped: false,
-    columns: 0,
-    bytes: 1,
-    separator: b' ',
-    file: None,
-    value: None,
-    only_files: false,
-};
 
 /// What the arguments after the program's name ask for, or the first of them that is not valid.
 ///
@@ -107,16 +86,10 @@ const START: Options = Options {
 pub fn request_of(arguments: &[String]) -> Result<Request, UsageError>
     ensures grammar { result ≡ request_for (map string_bytes arguments.now) }
     // What is written as arguments is read back.
-    ensures read_back { (m : Mode) → Writes m (map string_bytes arguments.now) → result ≡ Ok (Run m None) }
+    ensures read_back { (m : Mode) (words : List (List ℕ)) → Writes m words
+        → map string_bytes arguments.now ≡ written m words → result ≡ Ok (Run m None) }
 {
-    read(arguments)
-}
-
-/// As `request_of`.
-fn read(arguments: &[String]) -> Result<Request, UsageError>
-    ensures { result ≡ request_for (map string_bytes arguments.now) }
-{
-    let mut options = START;
+    let mut options = Options::default();
     for index in 0..arguments.len() {
         match options.with_argument(index, arguments[index].as_str()) {
             Ok(more) => options = more,
@@ -127,9 +100,9 @@ fn read(arguments: &[String]) -> Result<Request, UsageError>
 }
 
 impl Options {
-    /// The table of the options: what each of them changes, by what follows the first dash.
+    /// The table of the options: what each of them sets, by what follows the first dash.
     fn with_option(mut self, key: &str) -> Result<Options, Fault>
-        ensures { result ≡ with_option self key.now }
+        ensures { result ≡ find key.now (table self) }
     {
         match key {
             "d" | "-decode" => self.decode = true,
@@ -139,23 +112,24 @@ impl Options {
             "i" | "-ignore-whitespace" | "-ignore-newlines" => self.ignore_whitespace = true,
             "h" | "-help" => self.help = true,
             "V" | "-version" => self.version = true,
-            "w" | "-wrap" => (self.wrapped, self.value) = (true, Some(Value::Columns)),
-            "g" | "-group" => (self.grouped, self.value) = (true, Some(Value::Bytes)),
+            "w" | "-wrap" => (self.wrapped, self.value) = (true, Some(Value::Size)),
+            "g" | "-group" => (self.grouped, self.value) = (true, Some(Value::Size)),
             "s" | "-separator" => (self.grouped, self.value) = (true, Some(Value::Separator)),
             _ => return Err(Fault::UnknownOption),
         }
         Ok(self)
     }
 
-    /// The options with the value of the last option, which may take none.
+    /// The options with the value of the last one, which may take none.
     fn with_value(mut self, text: &str) -> Result<Options, Fault>
-        ensures { result ≡ with_value self text.now }
+        ensures { result ≡ with_value self.value self text.now }
     {
         match (self.value, text.as_bytes()) {
             (None, _) => return Err(Fault::UnknownOption),
-            (Some(Value::Columns), _) => self.columns = number(text)?,
-            (Some(Value::Bytes), _) => self.bytes = number(text)?,
-            (_, [byte]) if byte.is_ascii() && !byte.is_ascii_hexdigit() => self.separator = *byte,
+            (Some(Value::Size), _) => self.size = Some(number(text)?),
+            (_, [byte]) if byte.is_ascii() && !byte.is_ascii_hexdigit() => self.separator = Some(
+                *byte,
+            ),
             _ => return Err(Fault::InvalidSeparator),
         }
         self.value = None;
@@ -172,8 +146,8 @@ impl Options {
         }
     }
 
-    /// As `with_argument`, which may ask for both lines and groups.
-    fn with_word(self, index: usize, argument: &str) -> Result<Options, Fault>
+    /// As `with_argument`, also if lines and groups are asked for.
+    fn with_word(mut self, index: usize, argument: &str) -> Result<Options, Fault>
         ensures { result ≡ with_word self index argument.now }
     {
         if self.value.is_some() {
@@ -184,7 +158,15 @@ impl Options {
         }
         match argument.strip_prefix("-") {
             None | Some("") => self.with_file(index),
-            Some(text) => self.with_text(text),
+            Some("-") => {
+                self.only_files = true;
+                Ok(self)
+            }
+            Some(text) if !text.starts_with('-') => self.with_letters(text),
+            Some(text) => match text.split_once('=') {
+                Some((key, value)) => self.with_option(key)?.with_value(value),
+                None => self.with_option(text),
+            },
         }
     }
 
@@ -197,23 +179,6 @@ impl Options {
         }
         self.file = Some(index);
         Ok(self)
-    }
-
-    /// The options with what follows a dash: a second one and a name, which may have a value, or letters.
-    fn with_text(mut self, text: &str) -> Result<Options, Fault>
-        ensures { result ≡ with_text self text.now }
-    {
-        if text == "-" {
-            self.only_files = true;
-            return Ok(self);
-        }
-        if !text.starts_with('-') {
-            return self.with_letters(text);
-        }
-        match text.split_once('=') {
-            Some((name, value)) => self.with_option(name)?.with_value(value),
-            None => self.with_option(text),
-        }
     }
 
     /// The options with letters. What follows the letter of an option that takes a value is this value.
@@ -240,10 +205,8 @@ impl Options {
         ensures { result ≡ request self count }
     {
         if self.value.is_some() {
-            return Err(UsageError {
-                fault: Fault::MissingValue,
-                index: count.saturating_sub(1),
-            });
+            let (fault, index) = (Fault::MissingValue, count.saturating_sub(1));
+            return Err(UsageError { fault, index });
         }
         if self.help {
             return Ok(Request::Help);
@@ -251,34 +214,35 @@ impl Options {
         if self.version {
             return Ok(Request::Version);
         }
-        let reading = Reading {
-            ignore_whitespace: self.ignore_whitespace,
-            groups: self.groups(0),
-        };
-        let mode = if self.check {
-            Mode::Check(reading)
-        } else if self.decode {
-            Mode::Decode(reading)
-        } else {
-            Mode::Encode {
-                prefix: self.prefix,
-                upper: self.upper,
-                groups: self.groups(self.columns),
-            }
-        };
-        Ok(Request::Run(mode, self.file))
+        Ok(Request::Run(self.mode(), self.file))
     }
 
-    /// The groups, or else lines of so many characters.
-    fn groups(self, columns: usize) -> Groups
-        ensures { result ≡ groups_of self columns }
+    /// The mode that is set.
+    fn mode(self) -> Mode
+        ensures { result ≡ mode_of self }
     {
-        let (size, separator) = if self.grouped {
-            (self.bytes.saturating_mul(2), self.separator)
-        } else {
-            (columns, b'\n')
+        let (size, separator) = match (self.grouped, self.check || self.decode) {
+            (true, _) => (
+                self.size.unwrap_or(1).saturating_mul(2),
+                self.separator.unwrap_or(b' '),
+            ),
+            (_, true) => (0, b'\n'),
+            _ => (self.size.unwrap_or(0), b'\n'),
         };
-        Groups { size, separator }
+        let groups = Groups { size, separator };
+        let reading = Reading {
+            ignore_whitespace: self.ignore_whitespace,
+            groups,
+        };
+        match (self.check, self.decode) {
+            (true, _) => Mode::Check(reading),
+            (_, true) => Mode::Decode(reading),
+            _ => Mode::Encode {
+                prefix: self.prefix,
+                upper: self.upper,
+                groups,
+            },
+        }
     }
 }
 
