@@ -1,5 +1,5 @@
 -- What the arguments of the program ask for.
-use Rattle.std.specs.Prelude.{slice_index, ◌≡◌, ◌⊎◌, ◌++◌, ℕ, ◌+◌, ◌-◌, ◌*◌, ◌^◌, ◌==◌, nat_lt, min, ◌&&◌, ◌||◌, not, true, false, if◌then◌else◌, Bool, List, [], ◌∷◌, length, Option, Some, None, Result, Ok, Err, codes}
+use Rattle.std.specs.Prelude.{◌≡◌, ◌⊎◌, ◌++◌, ℕ, ◌+◌, ◌-◌, ◌*◌, ◌^◌, ◌==◌, nat_lt, min, ◌&&◌, ◌||◌, not, true, false, if◌then◌else◌, Bool, List, [], ◌∷◌, length, Option, Some, None, Result, Ok, Err, codes}
 use Rattle.std.specs.Char.{is_ascii_hexdigit}
 use Rattle.std.specs.List.{after_first, before_first, position_or_len}
 use Rattle.std.specs.Option.{is_some, unwrap_or}
@@ -66,24 +66,23 @@ with_letters o [] = Ok o
 with_letters o (c ∷ t) =
     and_then (find (c ∷ []) (table o)) (λ p. if is_some p.value && nat_lt 0 (length t) then with_value p.value p t else with_letters p t)
 
-abbrev pub with_file : Options → ℕ → Result Options Fault
-with_file o i = if is_some o.file then Err SecondFile else Ok (record o { file = Some i })
-
 -- letters after a dash, a name after two, which may have a value after an equals sign, or else a file
-abbrev pub dashed : Options → ℕ → List ℕ → Result Options Fault
-dashed o i [] = with_file o i
-dashed o i (c ∷ []) = with_file o i
-dashed o i (c ∷ d ∷ t) =
+abbrev pub dashed : Options → Result Options Fault → List ℕ → Result Options Fault
+dashed o file [] = file
+dashed o file (c ∷ []) = file
+dashed o file (c ∷ d ∷ t) =
     let is_equals : ℕ → Bool = λ b. b == 61 in
     let key : List ℕ = d ∷ t in
-    if not (c == 45) then with_file o i
+    if not (c == 45) then file
     else if not (d == 45) then with_letters o key
     else if bytes_eq t [] then Ok (record o { only_files = true })
     else if position_or_len is_equals key == length key then find key (table o)
     else and_then (find (before_first is_equals key) (table o)) (λ p. with_value p.value p (after_first is_equals key))
 
 abbrev pub with_word : Options → ℕ → List ℕ → Result Options Fault
-with_word o i a = if is_some o.value then with_value o.value o a else if o.only_files then with_file o i else dashed o i a
+with_word o i a =
+    let file : Result Options Fault = if is_some o.file then Err SecondFile else Ok (record o { file = Some i }) in
+    if is_some o.value then with_value o.value o a else if o.only_files then file else dashed o file a
 
 -- lines have no groups
 abbrev pub checked : Options → Result Options Fault
@@ -92,20 +91,16 @@ checked o = if o.wrapped && o.grouped then Err GroupsInLines else Ok o
 abbrev pub with_argument : Options → ℕ → List ℕ → Result Options Fault
 with_argument o i a = and_then (with_word o i a) checked
 
--- the mode that is set. Lines are written, and not read
-abbrev pub mode_of : Options → Mode
-mode_of o =
+-- what so many arguments ask for. Lines are written, and not read
+abbrev pub request : Options → ℕ → Result Request UsageError
+request o count =
     let groups : Groups =
     if o.grouped then record { size = min (unwrap_or o.size 1 * 2) (2 ^ 64 - 1); separator = unwrap_or o.separator 32 }
     else record { size = if o.check || o.decode then 0 else unwrap_or o.size 0; separator = 10 } in
     let r : Reading = record { ignore_whitespace = o.ignore_whitespace; groups = groups } in
-    if o.check then Check r else if o.decode then Decode r else Encode o.prefix o.upper groups
-
--- what is asked for by so many arguments
-abbrev pub request : Options → ℕ → Result Request UsageError
-request o count =
+    let m : Mode = if o.check then Check r else if o.decode then Decode r else Encode o.prefix o.upper groups in
     if is_some o.value then Err (record { fault = MissingValue; index = count - 1 })
-    else if o.help then Ok Help else if o.version then Ok Version else Ok (Run (mode_of o) o.file)
+    else if o.help then Ok Help else if o.version then Ok Version else Ok (Run m o.file)
 
 abbrev pub at : ℕ → Result Options Fault → (Options → Result Request UsageError) → Result Request UsageError
 at i (Ok o) f = f o

@@ -1,7 +1,7 @@
 //! What the arguments of the program ask for.
 
 ghost use Rattle.std.specs.Prelude.{◌≡◌, ℕ, List, None, Ok, map, string_bytes};
-ghost use Rattle.hexfilter_core.specs.Options.{Writes, find, mode_of, number, request, request_for, table, with_argument, with_file, with_letters, with_value, with_word, written};
+ghost use Rattle.hexfilter_core.specs.Options.{Writes, find, number, request, request_for, table, with_argument, with_letters, with_value, with_word, written};
 ghost use Rattle.hexfilter_core.specs.declared.mode.Mode.{Mode};
 ghost use Rattle.hexfilter_core.specs.declared.options.Request.TheVariants.{Run};
 
@@ -153,27 +153,20 @@ impl Options {
         if self.value.is_some() {
             return self.with_value(argument);
         }
-        if self.only_files {
-            return self.with_file(index);
-        }
-        match argument.strip_prefix("-") {
-            None | Some("") => self.with_file(index),
-            Some("-") => {
-                self.only_files = true;
-                Ok(self)
+        if !self.only_files {
+            match argument.strip_prefix("-") {
+                None | Some("") => {}
+                Some("-") => {
+                    self.only_files = true;
+                    return Ok(self);
+                }
+                Some(text) if !text.starts_with('-') => return self.with_letters(text),
+                Some(text) => match text.split_once('=') {
+                    Some((key, value)) => return self.with_option(key)?.with_value(value),
+                    None => return self.with_option(text),
+                },
             }
-            Some(text) if !text.starts_with('-') => self.with_letters(text),
-            Some(text) => match text.split_once('=') {
-                Some((key, value)) => self.with_option(key)?.with_value(value),
-                None => self.with_option(text),
-            },
         }
-    }
-
-    /// The options with a file.
-    fn with_file(mut self, index: usize) -> Result<Options, Fault>
-        ensures { result ≡ with_file self index }
-    {
         if self.file.is_some() {
             return Err(Fault::SecondFile);
         }
@@ -214,13 +207,6 @@ impl Options {
         if self.version {
             return Ok(Request::Version);
         }
-        Ok(Request::Run(self.mode(), self.file))
-    }
-
-    /// The mode that is set.
-    fn mode(self) -> Mode
-        ensures { result ≡ mode_of self }
-    {
         let (size, separator) = match (self.grouped, self.check || self.decode) {
             (true, _) => (
                 self.size.unwrap_or(1).saturating_mul(2),
@@ -234,7 +220,7 @@ impl Options {
             ignore_whitespace: self.ignore_whitespace,
             groups,
         };
-        match (self.check, self.decode) {
+        let mode = match (self.check, self.decode) {
             (true, _) => Mode::Check(reading),
             (_, true) => Mode::Decode(reading),
             _ => Mode::Encode {
@@ -242,7 +228,8 @@ impl Options {
                 upper: self.upper,
                 groups,
             },
-        }
+        };
+        Ok(Request::Run(mode, self.file))
     }
 }
 

@@ -56,7 +56,7 @@ pub use self::formatting::text::*;
 //    1  and the crate's decoder is cloned
 //    1  before it reads a chunk
 //   42  deleted: attribute
-//  247  deleted: contract
+//  245  deleted: contract
 //  216  deleted: ghost item
 //    4  deleted: model
 //    1  each value may be dropped

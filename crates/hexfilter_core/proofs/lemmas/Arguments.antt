@@ -35,11 +35,19 @@ parsed v r h plain =
     tested (all_ascii_digits v) (length v) (digits_value 10 v) (2 ^ 64) r (parse_plain own 64 v r h (grind (arith, nat_tests)))
 
 -- the first letter, and the rest
-pub letter_read : (o : Options) (t first rest : List ℕ) (found : Result Options Fault) → 0 < length t → first ≡ take 1 t → rest ≡ drop 1 t → found ≡ find first (table o)
+letter : (o : Options) (t first rest : List ℕ) (found : Result Options Fault) → 0 < length t → first ≡ take 1 t → rest ≡ drop 1 t → found ≡ find first (table o)
     → with_letters o t ≡ and_then found (λ p. if is_some p.value && nat_lt 0 (length rest) then with_value p.value p rest else with_letters p rest)
 unfolding with_letters
-letter_read o [] first rest found h front back is = absurd (omega arith)
-letter_read o (c ∷ t) first rest found h front back is = rw (is, front, back) refl
+letter o [] first rest found h front back is = absurd (omega arith)
+letter o (c ∷ t) first rest found h front back is = rw (is, front, back) refl
+
+pub letter_read : (o p : Options) (t first rest : List ℕ) (b : Bool) → 0 < length t → first ≡ take 1 t → rest ≡ drop 1 t → Ok p ≡ find first (table o)
+    → (is_some p.value && nat_lt 0 (length rest)) ≡ b → with_letters o t ≡ (if b then with_value p.value p rest else with_letters p rest)
+letter_read o p t first rest b h front back is given =
+    letter o t first rest (Ok p) h front back is ∙ ap (λ x. if x then with_value p.value p rest else with_letters p rest) given
+
+pub letter_fails : (o : Options) (t first : List ℕ) (e : Fault) → 0 < length t → first ≡ take 1 t → Err e ≡ find first (table o) → with_letters o t ≡ Err e
+letter_fails o t first e h front is = letter o t first (drop 1 t) (Err e) h front refl is
 
 no_letter : (o : Options) (c : ℕ) → 128 ≤ c → find (c ∷ []) (table o) ≡ Err UnknownOption
 no_letter o c h = grind (arith, nat_tests)
@@ -73,7 +81,8 @@ arguments_end bytes xs i o h = let all : length (map bytes xs) ≤ i = rw (lengt
 -- ---- what is written as arguments is read back
 
 reading_read : (check ignores : Bool) (g : Groups) (words : List (List ℕ)) → WritesGroups g words
-    → let r : Reading = record { ignore_whitespace = ignores; groups = g } in let m : Mode = if check then Check r else Decode r in request_for (written m words) ≡ Ok (Run m None)
+    → let r : Reading = record { ignore_whitespace = ignores; groups = g } in let m : Mode = if check then Check r else Decode r in
+    request_for (written m words) ≡ Ok (Run m None)
 unfolding with_arguments
 reading_read true true g words (v, n, h, size, character, is) = rw (is, h, character, ← size) refl
 reading_read true false g words (v, n, h, size, character, is) = rw (is, h, character, ← size) refl

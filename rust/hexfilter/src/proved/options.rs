@@ -127,25 +127,20 @@ impl Options {
         if self.value.is_some() {
             return self.with_value(argument);
         }
-        if self.only_files {
-            return self.with_file(index);
-        }
-        match argument.strip_prefix("-") {
-            None | Some("") => self.with_file(index),
-            Some("-") => {
-                self.only_files = true;
-                Ok(self)
+        if !self.only_files {
+            match argument.strip_prefix("-") {
+                None | Some("") => {}
+                Some("-") => {
+                    self.only_files = true;
+                    return Ok(self);
+                }
+                Some(text) if !text.starts_with('-') => return self.with_letters(text),
+                Some(text) => match text.split_once('=') {
+                    Some((key, value)) => return self.with_option(key)?.with_value(value),
+                    None => return self.with_option(text),
+                },
             }
-            Some(text) if !text.starts_with('-') => self.with_letters(text),
-            Some(text) => match text.split_once('=') {
-                Some((key, value)) => self.with_option(key)?.with_value(value),
-                None => self.with_option(text),
-            },
         }
-    }
-
-    /// The options with a file.
-    fn with_file(mut self, index: usize) -> Result<Options, Fault> {
         if self.file.is_some() {
             return Err(Fault::SecondFile);
         }
@@ -182,11 +177,6 @@ impl Options {
         if self.version {
             return Ok(Request::Version);
         }
-        Ok(Request::Run(self.mode(), self.file))
-    }
-
-    /// The mode that is set.
-    fn mode(self) -> Mode {
         let (size, separator) = match (self.grouped, self.check || self.decode) {
             (true, _) => (
                 self.size.unwrap_or(1).saturating_mul(2),
@@ -200,7 +190,7 @@ impl Options {
             ignore_whitespace: self.ignore_whitespace,
             groups,
         };
-        match (self.check, self.decode) {
+        let mode = match (self.check, self.decode) {
             (true, _) => Mode::Check(reading),
             (_, true) => Mode::Decode(reading),
             _ => Mode::Encode {
@@ -208,7 +198,8 @@ impl Options {
                 upper: self.upper,
                 groups,
             },
-        }
+        };
+        Ok(Request::Run(mode, self.file))
     }
 }
 
