@@ -20,7 +20,9 @@ use Rattle.hexfilter_core.specs.declared.options.Value.TheVariants.{Size, Separa
 
 -- ---- the options
 
--- what may follow the first dash of each option, and what it sets. The last three take a value
+-- what may follow the first dash of each option, a letter or a dash and a name, and what it sets. The last three take
+-- a value: the columns of lines, the bytes of groups, or the separator of groups. --upper, --prefix and --wrap are for
+-- bytes that are encoded, --ignore-whitespace is for a text that is decoded, and each mode takes all of them
 abbrev pub table : Options → List (List (List ℕ) × Options)
 table o =
     (codes "d" ∷ codes "-decode" ∷ [], record o { decode = true })
@@ -39,6 +41,7 @@ abbrev pub is_one_of : List ℕ → List (List ℕ) → Bool
 is_one_of key [] = false
 is_one_of key (k ∷ keys) = bytes_eq key k || is_one_of key keys
 
+-- the options with the one that the key names
 abbrev pub find : List ℕ → List (List (List ℕ) × Options) → Result Options Fault
 find key [] = Err UnknownOption
 find key (row ∷ rows) = if is_one_of key row.0 then Ok row.1 else find key rows
@@ -85,11 +88,8 @@ with_word o i a =
     if is_some o.value then with_value o.value o a else if o.only_files then file else dashed o file a
 
 -- lines have no groups
-abbrev pub checked : Options → Result Options Fault
-checked o = if o.wrapped && o.grouped then Err GroupsInLines else Ok o
-
 abbrev pub with_argument : Options → ℕ → List ℕ → Result Options Fault
-with_argument o i a = and_then (with_word o i a) checked
+with_argument o i a = and_then (with_word o i a) (λ p. if p.wrapped && p.grouped then Err GroupsInLines else Ok p)
 
 -- what so many arguments ask for. Lines are written, and not read
 abbrev pub request : Options → ℕ → Result Request UsageError
@@ -144,9 +144,6 @@ written (Encode prefix upper groups) words = flag prefix (codes "--prefix") ++ (
 written (Decode r) words = codes "--decode" ∷ flag r.ignore_whitespace (codes "--ignore-whitespace") ++ words
 written (Check r) words = codes "--check" ∷ flag r.ignore_whitespace (codes "--ignore-whitespace") ++ words
 
-abbrev pub WritesLines : Groups → List (List ℕ) → Type 0
-WritesLines g words = (v : List ℕ) × (number v ≡ Ok g.size) × (g.separator ≡ 10) × (words ≡ codes "--wrap" ∷ v ∷ [])
-
 abbrev pub WritesGroups : Groups → List (List ℕ) → Type 0
 WritesGroups g words =
     (v : List ℕ) × (n : ℕ) × (number v ≡ Ok n) × (g.size ≡ min (n * 2) (2 ^ 64 - 1))
@@ -156,6 +153,7 @@ WritesGroups g words =
 -- the words write the groups of a mode: lines, if they are written, by their columns, other groups by their bytes and
 -- the separator, an ASCII character that is no digit
 abbrev pub Writes : Mode → List (List ℕ) → Type 0
-Writes (Encode prefix upper groups) words = WritesLines groups words ⊎ WritesGroups groups words
+Writes (Encode prefix upper g) words =
+    ((v : List ℕ) × (number v ≡ Ok g.size) × (g.separator ≡ 10) × (words ≡ codes "--wrap" ∷ v ∷ [])) ⊎ WritesGroups g words
 Writes (Decode r) words = WritesGroups r.groups words
 Writes (Check r) words = WritesGroups r.groups words

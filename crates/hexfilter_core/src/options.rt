@@ -83,6 +83,7 @@ pub(crate) struct Options {
 /// let arguments = [String::from_str(rt.alloc(), "--version")?];
 /// assert_eq!(rt; request_of(&arguments), Ok(Request::Version));
 /// ```
+#[tactic(auto, using(crate::proofs::lemmas::Arguments::arguments_end, crate::proofs::lemmas::Arguments::read_back))]
 pub fn request_of(arguments: &[String]) -> Result<Request, UsageError>
     ensures grammar { result ≡ request_for (map string_bytes arguments.now) }
     // What is written as arguments is read back.
@@ -100,7 +101,9 @@ pub fn request_of(arguments: &[String]) -> Result<Request, UsageError>
 }
 
 impl Options {
-    /// The table of the options: what each of them sets, by what follows the first dash.
+    /// The table of the options: what each of them sets, by what follows the first dash. A value follows the last
+    /// three. `-u`, `-p` and `-w` are for bytes that are encoded, `-i` is for a text that is decoded, and each mode
+    /// takes all of them.
     fn with_option(mut self, key: &str) -> Result<Options, Fault>
         ensures { result ≡ find key.now (table self) }
     {
@@ -175,6 +178,7 @@ impl Options {
     }
 
     /// The options with letters. What follows the letter of an option that takes a value is this value.
+    #[tactic(auto, using(crate::proofs::lemmas::Arguments::letter_unknown))]
     fn with_letters(mut self, text: &str) -> Result<Options, Fault>
         ensures { result ≡ with_letters self text.now }
     {
@@ -234,6 +238,7 @@ impl Options {
 }
 
 /// The number that decimal digits write.
+#[tactic(auto, using(crate::proofs::lemmas::Arguments::parsed))]
 fn number(text: &str) -> Result<usize, Fault>
     ensures { result ≡ number text.now }
 {

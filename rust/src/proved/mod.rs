@@ -55,7 +55,7 @@ pub use self::formatting::text::*;
 //   22  and panics instead of returning an error
 //    1  and the crate's decoder is cloned
 //    1  before it reads a chunk
-//   42  deleted: attribute
+//   45  deleted: attribute
 //  245  deleted: contract
 //  216  deleted: ghost item
 //    4  deleted: model

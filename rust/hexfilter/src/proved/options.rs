@@ -82,7 +82,9 @@ pub fn request_of(arguments: &[String]) -> Result<Request, UsageError> {
 }
 
 impl Options {
-    /// The table of the options: what each of them sets, by what follows the first dash.
+    /// The table of the options: what each of them sets, by what follows the first dash. A value follows the last
+    /// three. `-u`, `-p` and `-w` are for bytes that are encoded, `-i` is for a text that is decoded, and each mode
+    /// takes all of them.
     fn with_option(mut self, key: &str) -> Result<Options, Fault> {
         match key {
             "d" | "-decode" => self.decode = true,
@@ -149,6 +151,7 @@ impl Options {
     }
 
     /// The options with letters. What follows the letter of an option that takes a value is this value.
+    
     fn with_letters(mut self, text: &str) -> Result<Options, Fault> {
         let mut letters = text;
         while !letters.is_empty() {

@@ -1,6 +1,6 @@
-use Rattle.std.proofs.Common.{◌≡◌, Err, Ok, length, string_bytes, sym, ap, ◌∙◌, arith}
-use Rattle.hexfilter_core.proofs.lemmas.Arguments.{argument_read, arguments_end, read_back}
-use Rattle.hexfilter_core.specs.Options.{request, request_for}
+use Rattle.std.proofs.Common.{Err, Ok, string_bytes, sym, ap, ◌∙◌}
+use Rattle.hexfilter_core.proofs.lemmas.Arguments.{argument_read, read_back}
+use Rattle.hexfilter_core.specs.Options.{request_for}
 use Rattle.hexfilter_core.proofs.options.request_of.Goals as goal
 
 pub returns-in-Err : goal.returns-in-Err
@@ -15,10 +15,3 @@ loop-index-preserved c =
     sym (argument_read string_bytes c.args.arguments.now c.loop-index.index c.loop-index.options (Ok c.in-Ok.more) c.index-arguments-index.result
     c.as_str.result.now c.loop-index-test.true c.index-arguments-index.is c.as_str.ensures.value
     (sym c.in-Ok.is ∙ c.with_argument.ensures)) ∙ c.loop-index.invariant
-
-pub returns : goal.returns
-returns c =
-    let count : c.loop-index.index ≡ length c.args.arguments.now = omega arith in
-    let is = c.request.ensures ∙ ap (request c.loop-index.options) (sym count)
-    ∙ sym (arguments_end string_bytes c.args.arguments.now c.loop-index.index c.loop-index.options (omega arith)) ∙ c.loop-index.invariant in
-    record { grammar = is; read_back = λ m words writes same. is ∙ ap request_for same ∙ read_back m words writes }

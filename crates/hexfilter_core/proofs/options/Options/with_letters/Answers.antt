@@ -1,14 +1,7 @@
 use Rattle.std.proofs.Common.{◌≡◌, true, false, Err, sym, ◌∙◌, rules, arith}
 use Rattle.std.proofs.lemmas.Bool.Decides.{nat_tests}
-use Rattle.std.specs.Str.{IsCharBoundary}
-use Rattle.hexfilter_core.proofs.lemmas.Arguments.{letter_fails, letter_read, letter_unknown, letters_end}
+use Rattle.hexfilter_core.proofs.lemmas.Arguments.{letter_fails, letter_read, letters_end}
 use Rattle.hexfilter_core.proofs.options.Options.with_letters.Goals as goal
-
-pub returns-then-not-is_char_boundary : goal.returns-then-not-is_char_boundary
-returns-then-not-is_char_boundary c =
-    let inside : ¬ (IsCharBoundary c.loop-letters.letters.now 1) = λ b. grind (arith, c.is_char_boundary.ensures.test.1 b) in
-    sym (letter_unknown c.loop-letters.self c.loop-letters.letters.now c.loop-letters.invariant.0 (grind (arith, nat_tests)) inside)
-    ∙ c.loop-letters.invariant.1
 
 pub returns-in_err-self : goal.returns-in_err-self
 returns-in_err-self c =
