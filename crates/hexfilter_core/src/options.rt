@@ -1,7 +1,7 @@
 //! What the arguments of the program ask for.
 
 ghost use Rattle.std.specs.Prelude.{◌≡◌, ℕ, List, None, Ok, map, string_bytes};
-ghost use Rattle.hexfilter_core.specs.Options.{Writes, decimal, groups_of, lettered, mode_of, named, request, request_for, set, valued, with_argument, with_assignment, with_dashes, with_digit, with_digits, with_letters, with_name, with_number, with_operand, with_rest, with_value, with_word, written};
+ghost use Rattle.hexfilter_core.specs.Options.{Writes, find, number, request, request_for, table, with_argument, with_letters, with_value, with_word, written};
 ghost use Rattle.hexfilter_core.specs.declared.mode.Mode.{Mode};
 ghost use Rattle.hexfilter_core.specs.declared.options.Request.TheVariants.{Run};
 
@@ -49,34 +49,15 @@ pub struct UsageError {
     pub index: usize,
 }
 
-/// An option.
+/// What the value of an option is: a number of columns or bytes, or a separator.
 #[derive(Clone, Copy)]
-pub(crate) enum Setting {
-    Decode,
-    Check,
-    Upper,
-    Prefix,
-    IgnoreWhitespace,
-    Help,
-    Version,
-    Wrap,
-    Group,
+pub(crate) enum Value {
+    Size,
     Separator,
 }
 
-/// What the next argument may be.
-#[derive(Clone, Copy)]
-pub(crate) enum Next {
-    /// Options or a file.
-    Any,
-    /// The value of this option.
-    Value(Setting),
-    /// A file.
-    File,
-}
-
 /// What the arguments so far have set.
-#[derive(Clone, Copy)]
+#[derive(Clone, Copy, Default)]
 pub(crate) struct Options {
     decode: bool,
     check: bool,
@@ -85,32 +66,16 @@ pub(crate) struct Options {
     ignore_whitespace: bool,
     help: bool,
     version: bool,
-    /// Whether lines and groups are asked for.
     wrapped: bool,
     grouped: bool,
-    columns: usize,
-    group: usize,
-    separator: u8,
+    size: Option<usize>,
+    separator: Option<u8>,
     file: Option<usize>,
-    next: Next,
+    /// What the next argument is the value of.
+    value: Option<Value>,
+    /// Whether all other arguments are files.
+    only_files: bool,
 }
-
-const START: Options = Options {
-    decode: false,
-    check: false,
-    upper: false,
-    prefix: false,
-    ignore_whitespace: false,
-    help: false,
-    version: false,
-    wrapped: false,
-    grouped: false,
-    columns: 0,
-    group: 1,
-    separator: b' ',
-    file: None,
-    next: Next::Any,
-};
 
 /// What the arguments after the program's name ask for, or the first of them that is not valid.
 ///
@@ -118,20 +83,14 @@ const START: Options = Options {
 /// let arguments = [String::from_str(rt.alloc(), "--version")?];
 /// assert_eq!(rt; request_of(&arguments), Ok(Request::Version));
 /// ```
+#[tactic(auto, using(crate::proofs::lemmas::Arguments::arguments_end, crate::proofs::lemmas::Arguments::read_back))]
 pub fn request_of(arguments: &[String]) -> Result<Request, UsageError>
     ensures grammar { result ≡ request_for (map string_bytes arguments.now) }
     // What is written as arguments is read back.
     ensures read_back { (m : Mode) (words : List (List ℕ)) → Writes m words
         → map string_bytes arguments.now ≡ written m words → result ≡ Ok (Run m None) }
 {
-    read(arguments)
-}
-
-/// As `request_of`.
-fn read(arguments: &[String]) -> Result<Request, UsageError>
-    ensures { result ≡ request_for (map string_bytes arguments.now) }
-{
-    let mut options = START;
+    let mut options = Options::default();
     for index in 0..arguments.len() {
         match options.with_argument(index, arguments[index].as_str()) {
             Ok(more) => options = more,
@@ -141,66 +100,43 @@ fn read(arguments: &[String]) -> Result<Request, UsageError>
     options.request(arguments.len())
 }
 
-/// The option with that name.
-fn named(name: &str) -> Option<Setting>
-    ensures { result ≡ named name.now }
-{
-    match name {
-        "decode" => Some(Setting::Decode),
-        "check" => Some(Setting::Check),
-        "upper" => Some(Setting::Upper),
-        "prefix" => Some(Setting::Prefix),
-        "ignore-whitespace" | "ignore-newlines" => Some(Setting::IgnoreWhitespace),
-        "help" => Some(Setting::Help),
-        "version" => Some(Setting::Version),
-        "wrap" => Some(Setting::Wrap),
-        "group" => Some(Setting::Group),
-        "separator" => Some(Setting::Separator),
-        _ => None,
-    }
-}
-
-/// The option with that letter.
-fn lettered(letter: u8) -> Option<Setting>
-    ensures { result ≡ lettered letter }
-{
-    match letter {
-        b'd' => Some(Setting::Decode),
-        b'u' => Some(Setting::Upper),
-        b'p' => Some(Setting::Prefix),
-        b'i' => Some(Setting::IgnoreWhitespace),
-        b'h' => Some(Setting::Help),
-        b'V' => Some(Setting::Version),
-        b'w' => Some(Setting::Wrap),
-        b'g' => Some(Setting::Group),
-        b's' => Some(Setting::Separator),
-        _ => None,
-    }
-}
-
 impl Options {
-    /// The options with one more. Its value may follow.
-    fn set(mut self, setting: Setting) -> Options
-        ensures { result ≡ set self setting }
+    /// The table of the options: what each of them sets, by what follows the first dash. A value follows the last
+    /// three. `-u`, `-p` and `-w` are for bytes that are encoded, `-i` is for a text that is decoded, and each mode
+    /// takes all of them.
+    fn with_option(mut self, key: &str) -> Result<Options, Fault>
+        ensures { result ≡ find key.now (table self) }
     {
-        match setting {
-            Setting::Decode => self.decode = true,
-            Setting::Check => self.check = true,
-            Setting::Upper => self.upper = true,
-            Setting::Prefix => self.prefix = true,
-            Setting::IgnoreWhitespace => self.ignore_whitespace = true,
-            Setting::Help => self.help = true,
-            Setting::Version => self.version = true,
-            Setting::Wrap => self.wrapped = true,
-            Setting::Group | Setting::Separator => self.grouped = true,
+        match key {
+            "d" | "-decode" => self.decode = true,
+            "-check" => self.check = true,
+            "u" | "-upper" => self.upper = true,
+            "p" | "-prefix" => self.prefix = true,
+            "i" | "-ignore-whitespace" | "-ignore-newlines" => self.ignore_whitespace = true,
+            "h" | "-help" => self.help = true,
+            "V" | "-version" => self.version = true,
+            "w" | "-wrap" => (self.wrapped, self.value) = (true, Some(Value::Size)),
+            "g" | "-group" => (self.grouped, self.value) = (true, Some(Value::Size)),
+            "s" | "-separator" => (self.grouped, self.value) = (true, Some(Value::Separator)),
+            _ => return Err(Fault::UnknownOption),
         }
-        match setting {
-            Setting::Wrap | Setting::Group | Setting::Separator => {
-                self.next = Next::Value(setting);
-            }
-            _ => {}
+        Ok(self)
+    }
+
+    /// The options with the value of the last one, which may take none.
+    fn with_value(mut self, text: &str) -> Result<Options, Fault>
+        ensures { result ≡ with_value self.value self text.now }
+    {
+        match (self.value, text.as_bytes()) {
+            (None, _) => return Err(Fault::UnknownOption),
+            (Some(Value::Size), _) => self.size = Some(number(text)?),
+            (_, [byte]) if byte.is_ascii() && !byte.is_ascii_hexdigit() => self.separator = Some(
+                *byte,
+            ),
+            _ => return Err(Fault::InvalidSeparator),
         }
-        self
+        self.value = None;
+        Ok(self)
     }
 
     /// The options with an argument.
@@ -213,107 +149,27 @@ impl Options {
         }
     }
 
-    /// The options with an argument, which may ask for both lines and groups.
-    fn with_word(self, index: usize, argument: &str) -> Result<Options, Fault>
+    /// As `with_argument`, also if lines and groups are asked for.
+    fn with_word(mut self, index: usize, argument: &str) -> Result<Options, Fault>
         ensures { result ≡ with_word self index argument.now }
     {
-        match self.next {
-            Next::Any => self.with_dashes(index, argument),
-            Next::Value(setting) => self.with_value(setting, argument.as_bytes()),
-            Next::File => self.with_operand(index),
+        if self.value.is_some() {
+            return self.with_value(argument);
         }
-    }
-
-    /// The options with an argument that may begin with dashes.
-    fn with_dashes(self, index: usize, argument: &str) -> Result<Options, Fault>
-        ensures { result ≡ with_dashes self index argument.now }
-    {
-        if let Some(name) = argument.strip_prefix("--") {
-            return self.with_name(name);
-        }
-        match argument.as_bytes() {
-            [b'-', letters @ ..] if !letters.is_empty() => self.with_letters(letters),
-            _ => self.with_operand(index),
-        }
-    }
-
-    /// The options with what follows two dashes.
-    fn with_name(mut self, name: &str) -> Result<Options, Fault>
-        ensures { result ≡ with_name self name.now }
-    {
-        if name.is_empty() {
-            self.next = Next::File;
-            return Ok(self);
-        }
-        match named(name) {
-            Some(setting) => Ok(self.set(setting)),
-            None => self.with_assignment(name),
-        }
-    }
-
-    /// The options with a name, an equals sign and a value.
-    fn with_assignment(self, text: &str) -> Result<Options, Fault>
-        ensures { result ≡ with_assignment self text.now }
-    {
-        if let Some(value) = text.strip_prefix("wrap=") {
-            return self
-                .set(Setting::Wrap)
-                .with_value(Setting::Wrap, value.as_bytes());
-        }
-        if let Some(value) = text.strip_prefix("group=") {
-            return self
-                .set(Setting::Group)
-                .with_value(Setting::Group, value.as_bytes());
-        }
-        match text.strip_prefix("separator=") {
-            Some(value) => self
-                .set(Setting::Separator)
-                .with_value(Setting::Separator, value.as_bytes()),
-            None => Err(Fault::UnknownOption),
-        }
-    }
-
-    /// The options with the letters after one dash.
-    fn with_letters(mut self, letters: &[u8]) -> Result<Options, Fault>
-        ensures { result ≡ with_letters self letters.now }
-    {
-        for index in 0..letters.len() {
-            match lettered(letters[index]) {
-                Some(setting) => self = self.set(setting),
-                None => return Err(Fault::UnknownOption),
-            }
-            if let Some(setting) = self.valued() {
-                return self.with_rest(setting, &letters[index + 1..]);
+        if !self.only_files {
+            match argument.strip_prefix("-") {
+                None | Some("") => {}
+                Some("-") => {
+                    self.only_files = true;
+                    return Ok(self);
+                }
+                Some(text) if !text.starts_with('-') => return self.with_letters(text),
+                Some(text) => match text.split_once('=') {
+                    Some((key, value)) => return self.with_option(key)?.with_value(value),
+                    None => return self.with_option(text),
+                },
             }
         }
-        Ok(self)
-    }
-
-    /// The options with what follows the letter of an option that takes a value. If that is nothing, the value is
-    /// the next argument.
-    fn with_rest(self, setting: Setting, text: &[u8]) -> Result<Options, Fault>
-        ensures { result ≡ with_rest self setting text.now }
-    {
-        match text {
-            [] => Ok(self),
-            _ => self.with_value(setting, text),
-        }
-    }
-
-    /// The option whose value follows.
-    fn valued(self) -> Option<Setting>
-        ensures { result ≡ valued self.next }
-    {
-        match self.next {
-            Next::Value(setting) => Some(setting),
-            _ => None,
-        }
-    }
-
-    /// The options with a file.
-    fn with_operand(mut self, index: usize) -> Result<Options, Fault>
-        ensures { result ≡ with_operand self index }
-    {
         if self.file.is_some() {
             return Err(Fault::SecondFile);
         }
@@ -321,29 +177,22 @@ impl Options {
         Ok(self)
     }
 
-    /// The options with the value of an option.
-    fn with_value(mut self, setting: Setting, text: &[u8]) -> Result<Options, Fault>
-        ensures { result ≡ with_value self setting text.now }
+    /// The options with letters. What follows the letter of an option that takes a value is this value.
+    #[tactic(auto, using(crate::proofs::lemmas::Arguments::letter_unknown))]
+    fn with_letters(mut self, text: &str) -> Result<Options, Fault>
+        ensures { result ≡ with_letters self text.now }
     {
-        self.next = Next::Any;
-        match (setting, text) {
-            (Setting::Separator, [byte]) if byte.is_ascii() && !byte.is_ascii_hexdigit() => {
-                self.separator = *byte;
-                Ok(self)
+        let mut letters = text;
+        while !letters.is_empty() {
+            if !letters.is_char_boundary(1) {
+                return Err(Fault::UnknownOption);
             }
-            (Setting::Separator, _) => Err(Fault::InvalidSeparator),
-            _ => self.with_number(setting, text),
-        }
-    }
-
-    /// The options with a number.
-    fn with_number(mut self, setting: Setting, text: &[u8]) -> Result<Options, Fault>
-        ensures { result ≡ with_number self setting text.now }
-    {
-        match (decimal(text), setting) {
-            (Some(number), Setting::Group) => self.group = number,
-            (Some(number), _) => self.columns = number,
-            (None, _) => return Err(Fault::InvalidNumber),
+            let (letter, rest) = letters.split_at(1);
+            self = self.with_option(letter)?;
+            if self.value.is_some() && !rest.is_empty() {
+                return self.with_value(rest);
+            }
+            letters = rest;
         }
         Ok(self)
     }
@@ -352,11 +201,9 @@ impl Options {
     fn request(self, count: usize) -> Result<Request, UsageError>
         ensures { result ≡ request self count }
     {
-        if self.valued().is_some() {
-            return Err(UsageError {
-                fault: Fault::MissingValue,
-                index: count.saturating_sub(1),
-            });
+        if self.value.is_some() {
+            let (fault, index) = (Fault::MissingValue, count.saturating_sub(1));
+            return Err(UsageError { fault, index });
         }
         if self.help {
             return Ok(Request::Help);
@@ -364,76 +211,42 @@ impl Options {
         if self.version {
             return Ok(Request::Version);
         }
-        Ok(Request::Run(self.mode(), self.file))
-    }
-
-    /// The mode that is set.
-    fn mode(self) -> Mode
-        ensures { result ≡ mode_of self }
-    {
+        let (size, separator) = match (self.grouped, self.check || self.decode) {
+            (true, _) => (
+                self.size.unwrap_or(1).saturating_mul(2),
+                self.separator.unwrap_or(b' '),
+            ),
+            (_, true) => (0, b'\n'),
+            _ => (self.size.unwrap_or(0), b'\n'),
+        };
+        let groups = Groups { size, separator };
         let reading = Reading {
             ignore_whitespace: self.ignore_whitespace,
-            groups: self.groups(0),
+            groups,
         };
-        if self.check {
-            Mode::Check(reading)
-        } else if self.decode {
-            Mode::Decode(reading)
-        } else {
-            Mode::Encode {
+        let mode = match (self.check, self.decode) {
+            (true, _) => Mode::Check(reading),
+            (_, true) => Mode::Decode(reading),
+            _ => Mode::Encode {
                 prefix: self.prefix,
                 upper: self.upper,
-                groups: self.groups(self.columns),
-            }
-        }
-    }
-
-    /// The groups that are set, or else lines of so many characters.
-    fn groups(self, columns: usize) -> Groups
-        ensures { result ≡ groups_of self columns }
-    {
-        if self.grouped {
-            return Groups {
-                size: self.group.saturating_mul(2),
-                separator: self.separator,
-            };
-        }
-        Groups {
-            size: columns,
-            separator: b'\n',
-        }
+                groups,
+            },
+        };
+        Ok(Request::Run(mode, self.file))
     }
 }
 
-/// The number of decimal digits, or `None` if there are none, another character or too many.
-fn decimal(text: &[u8]) -> Option<usize>
-    ensures { result ≡ decimal text.now }
+/// The number that decimal digits write.
+#[tactic(auto, using(crate::proofs::lemmas::Arguments::parsed))]
+fn number(text: &str) -> Result<usize, Fault>
+    ensures { result ≡ number text.now }
 {
-    match text {
-        [] => None,
-        _ => with_digits(text),
+    if text.starts_with('+') {
+        return Err(Fault::InvalidNumber);
     }
-}
-
-/// As `decimal`, and 0 if there are no digits.
-fn with_digits(text: &[u8]) -> Option<usize>
-    ensures { result ≡ with_digits 0 text.now }
-{
-    let mut number = 0;
-    for digit in text {
-        number = with_digit(number, *digit)?;
-    }
-    Some(number)
-}
-
-/// The number with one more decimal digit, or `None` if it is none or the number is too large.
-fn with_digit(number: usize, digit: u8) -> Option<usize>
-    ensures { result ≡ with_digit number digit }
-{
-    match digit {
-        b'0'..=b'9' => number
-            .checked_mul(10)?
-            .checked_add(usize::from(digit - b'0')),
-        _ => None,
+    match text.parse() {
+        Ok(number) => Ok(number),
+        Err(_) => Err(Fault::InvalidNumber),
     }
 }

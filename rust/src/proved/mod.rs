@@ -55,8 +55,8 @@ pub use self::formatting::text::*;
 //   22  and panics instead of returning an error
 //    1  and the crate's decoder is cloned
 //    1  before it reads a chunk
-//   43  deleted: attribute
-//  266  deleted: contract
+//   46  deleted: attribute
+//  252  deleted: contract
 //  218  deleted: ghost item
 //    4  deleted: model
 //    1  each value may be dropped

@@ -1,33 +1,24 @@
-use Rattle.std.proofs.Common.{◌≡◌, ◌+◌, ◌-◌, None, Some, length, take, drop, sym, ap, ◌∙◌, arith}
-use Rattle.std.proofs.lemmas.List.{length-drop, take_all}
-use Rattle.hexfilter_core.proofs.lemmas.Arguments.{letters_at, next_letter, value_after}
-use Rattle.hexfilter_core.specs.Options.{goes_on, with_rest}
+use Rattle.std.proofs.Common.{◌≡◌, true, false, Err, sym, ◌∙◌, rules, arith}
+use Rattle.std.proofs.lemmas.Bool.Decides.{nat_tests}
+use Rattle.hexfilter_core.proofs.lemmas.Arguments.{letter_fails, letter_read, letters_end}
 use Rattle.hexfilter_core.proofs.options.Options.with_letters.Goals as goal
 
-pub returns-in-None : goal.returns-in-None
-unfolding goes_on
-returns-in-None c =
-    let at = letters_at c.args.letters.now c.loop-index.index c.loop-index.self None c.loop-index-test.true (sym c.in-None.is ∙ c.lettered.ensures) in
-    sym at ∙ c.loop-index.invariant
+pub returns-in_err-self : goal.returns-in_err-self
+returns-in_err-self c =
+    let same : c.from_residual.result ≡ Err c.in_err-self.field-0.0 = search (rules, c.from_residual.ensures) in
+    same ∙ sym (letter_fails c.loop-letters.self c.loop-letters.letters.now _ c.in_err-self.field-0.0 (omega arith) c.split_at.ensures.front
+    (sym c.in_err-self.was ∙ c.with_option.ensures)) ∙ c.loop-letters.invariant.1
 
-pub returns-in-Some-valued : goal.returns-in-Some-valued
-returns-in-Some-valued c =
-    let text = c.args.letters.now in
-    let i = c.loop-index.index in
-    let o = c.loop-index.self in
-    let at = letters_at text i o (Some c.in-Some.setting) c.loop-index-test.true (sym c.in-Some.is ∙ c.lettered.ensures) in
-    let rest : take (length text - (i + 1)) (drop (i + 1) text) ≡ drop (i + 1) text =
-    take_all (length text - (i + 1)) (drop (i + 1) text) (omega (arith, length-drop (i + 1) text)) in
-    let wants = sym c.in-Some-valued.is ∙ c.valued.ensures in
-    c.with_rest.ensures ∙ ap (λ t. with_rest c.set-self.result c.in-Some-valued.setting t) rest
-    ∙ sym (at ∙ value_after o c.set-self.result c.in-Some.setting c.in-Some-valued.setting (drop (i + 1) text) c.set-self.ensures wants)
-    ∙ c.loop-index.invariant
+pub returns-then-not-is_empty : goal.returns-then-not-is_empty
+returns-then-not-is_empty c = c.with_value.ensures ∙ sym (letter_read c.loop-letters.self c.in_ok-self.self c.loop-letters.letters.now _ _ true (omega arith)
+    c.split_at.ensures.front c.split_at.ensures.back (sym c.in_ok-self.was ∙ c.with_option.ensures) (grind (arith, nat_tests))) ∙ c.loop-letters.invariant.1
 
-pub loop-index-preserved : goal.loop-index-preserved
-loop-index-preserved c =
-    let text = c.args.letters.now in
-    let i = c.loop-index.index in
-    let o = c.loop-index.self in
-    let at = letters_at text i o (Some c.in-Some.setting) c.loop-index-test.true (sym c.in-Some.is ∙ c.lettered.ensures) in
-    sym (at ∙ next_letter o c.set-self.result c.in-Some.setting (drop (i + 1) text) c.set-self.ensures (sym c.in_default.is ∙ c.valued.ensures))
-    ∙ c.loop-index.invariant
+pub loop-letters-preserved : goal.loop-letters-preserved
+loop-letters-preserved c = (
+  search rules,
+  sym (letter_read c.loop-letters.self c.in_ok-self.self c.loop-letters.letters.now _ _ false (omega arith)
+      c.split_at.ensures.front c.split_at.ensures.back (sym c.in_ok-self.was ∙ c.with_option.ensures) (grind (arith, nat_tests))) ∙ c.loop-letters.invariant.1,
+)
+
+pub returns : goal.returns
+returns c = sym (letters_end c.loop-letters.self c.loop-letters.letters.now (grind (arith, nat_tests))) ∙ c.loop-letters.invariant.1

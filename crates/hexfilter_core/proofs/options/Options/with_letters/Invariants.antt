@@ -1,6 +1,11 @@
-use Rattle.std.proofs.Common.{◌≡◌, drop}
+use Rattle.std.proofs.Common.{◌≡◌, length}
+use denote.Text.{Utf8}
+use denote.Shadow.{shadow}
 use Rattle.hexfilter_core.specs.Options.{with_letters}
 use Rattle.hexfilter_core.proofs.options.Options.with_letters.Given as goal
 
-abbrev pub invariant-loop-index : goal.invariant-loop-index
-invariant-loop-index l = with_letters l.self (drop l.index l.letters) ≡ with_letters l.fn.self l.fn.letters
+abbrev pub invariant-loop-letters : goal.invariant-loop-letters
+invariant-loop-letters l = shadow (Utf8 l.letters) × (with_letters l.self l.letters ≡ with_letters l.fn.self l.fn.text)
+
+abbrev pub decreases-loop-letters : goal.decreases-loop-letters
+decreases-loop-letters l = length l.letters

@@ -1,6 +1,0 @@
-use Rattle.std.proofs.Common.{◌≡◌, drop, map, string_bytes, Ok}
-use Rattle.hexfilter_core.specs.Options.{request_for, with_arguments}
-use Rattle.hexfilter_core.proofs.options.read.Given as goal
-
-abbrev pub invariant-loop-index : goal.invariant-loop-index
-invariant-loop-index l = with_arguments (Ok l.options) l.index (drop l.index (map string_bytes l.arguments)) ≡ request_for (map string_bytes l.fn.arguments)
