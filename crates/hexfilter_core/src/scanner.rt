@@ -26,6 +26,8 @@ pub(crate) struct Scanner {
     line: Line,
     /// How many bytes came before the whitespace that was looked for last.
     last_run: usize,
+    /// Whether a guess was wrong before.
+    pub(crate) is_careful: bool,
 }
 
 impl Scanner {
@@ -40,6 +42,7 @@ impl Scanner {
             read: 0,
             line: Line::FIRST,
             last_run: 0,
+            is_careful: false,
         }
     }
 
@@ -139,7 +142,9 @@ impl Scanner {
         let groups = self.reading.groups;
         let last = self.last_run;
         if groups.size == 0 && last < chunk.len() && is_whitespace(chunk[last]) {
-            return (last, last);
+            if !self.is_careful || check_raw(&chunk[..last]) {
+                return (last, last);
+            }
         }
         if self.reading.ignore_whitespace && is_whitespace(chunk[0]) {
             return (0, last);
