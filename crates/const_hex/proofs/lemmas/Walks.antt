@@ -16,8 +16,6 @@
 -- function F.
 pub mod EncodedStr
 pub mod LentText
-
--- `true` or `false`, as code passes it
 use Rattle.std.proofs.Common.{Bool, true, false, List}
 use seplogic.Ra.Ura.{Ura}
 use mir.Syntax.{opd_true, opd_false, Opd as Operand}
@@ -27,6 +25,7 @@ use types.Logic.{Logic}
 use types.Kit.{Item}
 use types.Run.{Opd, true_lit, false_lit}
 
+-- `true` or `false`, as code passes it
 abbrev pub flag : Bool → Operand
 flag true = opd_true
 flag false = opd_false
