@@ -8,7 +8,7 @@ use base.Fml.{Lft, Share}
 use base.Fraction.{full_share}
 use base.Logic.{ent, ex_i}
 use base.Stored.{coded_list}
-use Rattle.const_hex_arch.proofs.lemmas.Walks.LaneOptions.{◌≡◌, ℕ, ◌*◌, Bool, true, false, T, List, [], ◌∷◌, length, refl, ap, ◌∙◌, Bor, MutBor, ◌↔◌, IsOk, IfOk, Ok, Err, IfErr, MatchResult, Result, proved, sep, id⊢, emp, GName, ftrue, flft, fres, Fn, Callee, local, value_local, ty_ref, ty_int, imm, mut, erased, field, deref, place, copy, addr_of, aggregate, assign, call, seq, named, w8, Val, fact, fact_i, Running, tables, Meets, ‵, raw, ◌⊛◌, some, later, ◌$◌, ◌∵◌, !, qed, done, move, drop, use0, use1, use2, split, join, pick, await, rewrite, suffices, frame, group, enter, addr, stop, fld, hop, from, no_more, and_then, returns, agg, whole, sub, alloc_all, pass_all, free_all, look_at, look_in_at, get, get_in, sets, lands_as, u8, bool, SliceRefOf, SliceRefMutOf, yes, no, Is, shows, bool_vals, bool_Makes, nothing, owned, heard, peeks, only, calls_at, Clauses, Ended, closing, lasts, Lasts, triple_of, Stays, stay_dropped, Goes-dropped, Goes-spent_slice, ends_at, framed, Model, Closed, Ura, Logic, sem, Slot, plain}
+use Rattle.const_hex_arch.proofs.lemmas.Walks.LaneOptions.{◌≡◌, ℕ, ◌*◌, Bool, true, false, List, [], ◌∷◌, length, refl, ap, ◌∙◌, Bor, MutBor, ◌↔◌, IsOk, IfOk, Ok, Err, IfErr, MatchResult, Result, proved, sep, id⊢, emp, GName, ftrue, flft, fres, Fn, Callee, local, value_local, ty_ref, ty_int, imm, mut, erased, field, deref, place, copy, addr_of, aggregate, assign, call, seq, named, w8, Val, fact, fact_i, Running, tables, Meets, ‵, raw, ◌⊛◌, some, later, ◌$◌, ◌∵◌, !, qed, done, move, drop, use0, use1, use2, split, join, pick, await, rewrite, suffices, frame, group, enter, addr, stop, fld, hop, from, no_more, and_then, returns, agg, whole, sub, alloc_all, pass_all, free_all, look_at, look_in_at, get, get_in, sets, lands_as, u8, bool, SliceRefOf, yes, no, Is, shows, bool_vals, bool_Makes, nothing, owned, heard, peeks, only, calls_at, Clauses, closing, lasts, Lasts, triple_of, Stays, stay_dropped, Goes-dropped, Goes-spent_slice, ends_at, framed, Model, Closed, Ura, Logic, sem, plain}
 use mir.Syntax.{Lifetime, return as end}
 use types.Kit.{split3, fsplit, fjoin, feq_i, updating, now}
 use borrow.Rule.Slice.Handed.{sl_Share}
@@ -23,18 +23,18 @@ use denote.Plain.{uint_row_laws}
 use denote.Ref.{as_bor}
 use denote.Signature.{named_lft}
 use denote.Slice.{slice_ty, finally, MutSlice, ShrSlice, mut_slice_vals, mut_slice_Tells, shr_slice_vals, shr_slice_Tells, shr_slice_copy}
-use denote.Text.{StrRefOf, str-field, str-laws, str-copy}
+use denote.Text.{str-field, str-laws, str-copy}
 use Rattle.std.specs.Borrow.{Array}
 use Rattle.std.specs.Io.BufRead.{Rests}
-use Rattle.std.specs.contracts.result.Result as Answer
 use Rattle.const_hex_arch.specs.Texts.{hex_text}
 use Rattle.const_hex.specs.Buffers.{EndsEncoded}
 use Rattle.const_hex.specs.contracts.error.FromHexError as refusal
 use Rattle.const_hex.specs.declared.error.FromHexError.TheVariants.{InvalidStringLength}
+use Rattle.const_hex.specs.contracts.codec.encoders.encode_to_str as e
 use Rattle.const_hex.specs.contracts.codec.encoders.encode_into as g
 use Rattle.const_hex.specs.contracts.codec.encoders.encoded_text as h
 use Rattle.const_hex.proofs.error.FromHexError.TheLaws as refusal_laws
-use Rattle.const_hex.proofs.lemmas.Walks.Flags.{flag, flag_lit}
+use Rattle.const_hex.proofs.lemmas.Walks.{flag, flag_lit}
 
 not_ok : false ≡ true → ⊥
 not_ok e = cc
@@ -45,24 +45,6 @@ ends : {A : Type 0} {m k : ℕ} {text old new : List ℕ} (r : Result (Bor (List
 ends (Ok w) fits lent filled kept = let e = filled (fits.0 refl) in (lent ∙ e, e)
 ends (Err e) fits lent filled kept = (tt, kept (λ k. absurd (not_ok (fits.1 k))))
 
--- the parameters and the result
-abbrev input : Slot 2
-input = SliceRefOf (0 ∷ []) tt (plain (λ κs. u8)) (λ κs. tt)
-
-abbrev output : Slot 2
-output = SliceRefMutOf (1 ∷ []) tt (plain (λ κs. u8)) (λ κs. tt)
-
-abbrev pub Lends : Ended
-Lends = record {
-  signature = record {
-    lifetimes = 2;
-    outlives = [];
-    params = input ∷ output ∷ [];
-    result = plain (λ κs. Answer.the_row ((StrRefOf {n = 2} (1 ∷ []) tt).row κs) refusal.the_row);
-  };
-  kept = (yes, (no, tt));
-}
-
 abbrev code_of : Bool → Fn
 code_of up = record {
   lifetimes = 2;
@@ -70,7 +52,7 @@ code_of up = record {
   ty_params = [];
   givens = 0;
   params = 2;
-  locals = local (layout ((Lends.signature.result).row ([], ([], tt)))) value_local
+  locals = local (layout (e.signature.result.row ([], ([], tt)))) value_local
       ∷ local (slice_ty (ty_ref (named 0) imm (ty_int w8))) value_local
       ∷ local (slice_ty (ty_ref (named 1) mut (ty_int w8))) value_local
       ∷ local (slice_ty (ty_ref erased mut (ty_int w8))) value_local
@@ -111,13 +93,13 @@ module _ {M : Type 1} (𝓤 : Ura M) (𝓛 : Logic 𝓤) (𝓜 : Model 𝓤 𝓛
       move ! (1 ∷ []) $ use1 𝓛 (‵ (fres s.ghost_name ((coded_list u8.coded).code s.now))) (finally-res 𝓛 u8 s.ghost_name s.now) $
       move ! (1 ∷ 0 ∷ 2 ∷ []) $ done !
 
-  abbrev lends : Bool → Clauses 𝓤 Lends
+  abbrev lends : Bool → Clauses 𝓤 e.ended
   lends up κs a = record {
     ghost = Unit {0};
     requires = λ ghost. emp 𝓤;
-    ensures = λ ghost r e. sep 𝓤 (fact 𝓤 (IsOk r ↔ (length a.1.0.now ≡ 2 * length a.0.now)))
+    ensures = λ ghost r at. sep 𝓤 (fact 𝓤 (IsOk r ↔ (length a.1.0.now ≡ 2 * length a.0.now)))
         (sep 𝓤 (fact 𝓤 (IfOk r (λ text. text.now ≡ hex_text up a.0.now)))
-        (sep 𝓤 (fact 𝓤 (IfErr r (λ e. e ≡ InvalidStringLength)))
+        (sep 𝓤 (fact 𝓤 (IfErr r (λ x. x ≡ InvalidStringLength)))
         (sem 𝓛 (EndsEncoded up a.0.now a.1.0 r))));
   }
 
@@ -125,20 +107,20 @@ module _ {M : Type 1} (𝓤 : Ura M) (𝓛 : Logic 𝓤) (𝓜 : Model 𝓤 𝓛
       → Closed 𝓤 𝓛.H (tables 𝓤 𝓛.H 𝓜 𝓡 𝓡.env).C (tables 𝓤 𝓛.H 𝓜 𝓡 𝓡.env).Λ self (code_of up)
       → Meets 𝓛 g.signature (𝓡.run (𝓡.env g.Key.name)) (g.spec 𝓛 𝓜.mem 𝓡.returns)
       → Meets 𝓛 h.signature (𝓡.run (𝓡.env h.Key.name)) (h.spec 𝓛 𝓜.mem 𝓡.returns)
-      → Meets 𝓛 Lends.signature (𝓡.run (𝓡.env self)) (closing 𝓛 Lends (lends up))
+      → Meets 𝓛 e.signature (𝓡.run (𝓡.env self)) (closing 𝓛 e.ended (lends up))
   text_or_error up self unfolded fills_met hands_met =
       let c = lends up in
       let 𝓣 = tables 𝓤 𝓛.H 𝓜 𝓡 𝓡.env in
-      let hs : Stays Lends.signature.params Lends.kept = (stay_dropped _ yes, (stay_dropped _ no, tt)) in
-      proved 𝓛 Lends hs c 𝓜 𝓡 (Goes-dropped 𝓛 2 input yes (λ κs x w. refl), (Goes-spent_slice 𝓛 2 (1 ∷ []) tt (plain (λ κs. u8)), tt))
+      let hs : Stays e.signature.params e.ended.kept = (stay_dropped _ yes, (stay_dropped _ no, tt)) in
+      proved 𝓛 e.ended hs c 𝓜 𝓡 (Goes-dropped 𝓛 2 (SliceRefOf (0 ∷ []) tt (plain (λ κs. u8)) (λ κs. tt)) yes (λ κs x w. refl), (Goes-spent_slice 𝓛 2 (1 ∷ []) tt (plain (λ κs. u8)), tt))
       self (code_of up) unfolded
       (λ κs. (shr_slice_vals, (mut_slice_vals, tt))) (λ κs. (shr_slice_Tells (named 0) κs.0 u8, (mut_slice_Tells (named 1) κs.1.0 u8, tt)))
       (λ κs qs bounds a ghost are.
       let κ = κs.1.0 in let q = qs.1.0 in let loan = named_lft 2 1 tt κs in
       let x = a.0 in let o = a.1.0 in let m : ℕ = 2 * length x.now in
-      let In = (input.row κs).own_val x (shr_slice_vals x) in
-      let Out = output.row κs in let Bytes = ShrSlice (named 1) κ u8 in
-      let Returned = Lends.signature.result.row κs in
+      let In = (ShrSlice (named 0) κs.0 u8).own_val x (shr_slice_vals x) in
+      let Out = MutSlice (named 1) κ u8 in let Bytes = ShrSlice (named 1) κ u8 in
+      let Returned = e.signature.result.row κs in
       let tokens = ‵ (flft κs.0 qs.0) ⊛ ‵ (flft κ q) ⊛ ‵ ftrue in
       let G = triple_of 𝓛 g.signature (g.spec 𝓛 𝓜.mem 𝓡.returns) in
       let H = triple_of 𝓛 h.signature (h.spec 𝓛 𝓜.mem 𝓡.returns) in
@@ -185,7 +167,7 @@ module _ {M : Type 1} (𝓤 : Ura M) (𝓛 : Logic 𝓤) (𝓜 : Model 𝓤 𝓛
       (and_then ! (get ! refl) (and_then ! (get ! refl) (no_more !))) (λ v'.
       use1 𝓛 (later (some (λ (r : Returned.Denot). (tokens ⊛ ‵ (Returned.own_val r (v' ∷ []))) ⊛
       some (λ (ws' : Lasts h.ended κs zh.0.3). ‵ (lasts h.ended κs zh.0.3 ws') ⊛
-      (raw (fact 𝓤 (IsOk r ↔ (length s.now ≡ m))) ⊛ raw (fact 𝓤 (IfOk r (λ w. w.now ≡ s.now))) ⊛ raw (fact 𝓤 (IfErr r (λ e. e ≡ InvalidStringLength)))))))) (id⊢ 𝓤 _) $
+      (raw (fact 𝓤 (IsOk r ↔ (length s.now ≡ m))) ⊛ raw (fact 𝓤 (IfOk r (λ w. w.now ≡ s.now))) ⊛ raw (fact 𝓤 (IfErr r (λ x. x ≡ InvalidStringLength)))))))) (id⊢ 𝓤 _) $
       await ! tt $ pick ! (λ r. split ! $ split ! $ move ! (2 ∷ []) $ pick ! (λ ws'. split ! $ drop ! $ split ! $ heard ! _ (λ fits. split ! $ heard ! _ (λ lent. heard ! _ (λ error.
       -- [the tokens; the result; how the slice ends; the locals]
       move ! (1 ∷ []) $ peeks ! Returned (Is Returned) (shows 𝓛 Returned) r (v' ∷ []) (λ is'.
@@ -193,11 +175,11 @@ module _ {M : Type 1} (𝓤 : Ura M) (𝓛 : Logic 𝓤) (𝓜 : Model 𝓤 𝓛
       let typed = (((result_laws (str-field loan).row refusal.the_row text_laws refusal_laws.the_row_laws).lawful 𝓛).typed r _ is').0 in
       lands_as ! refl refl typed $
       returns ! (look_at ! 0 refl) $ free_all ! refl $
-      suffices ! _ (ends_at 𝓛 Lends hs c ((κs, qs, bounds, a, (shr_slice_vals x, (mut_slice_vals o, tt))), tt) v' r (tt, (tt, tt)) (tt, (tt, tt))) $
+      suffices ! _ (ends_at 𝓛 e.ended hs c ((κs, qs, bounds, a, (shr_slice_vals x, (mut_slice_vals o, tt))), tt) v' r (tt, (tt, tt)) (tt, (tt, tt))) $
       let ended = ends r fits lent filled kept in
       move ! (2 ∷ []) $ use1 𝓛 (‵ (EndsEncoded up x.now o r)) (Rests-of o (λ new. MatchResult r (λ _. new ≡ hex_text up x.now) (λ _. new ≡ o.now)) s.now ended.1) $
       -- [what follows the loan; the result; the tokens]
       move ! (1 ∷ 0 ∷ []) $ nothing ! $ nothing ! $ join ! $ nothing ! $ join ! $ move ! (3 ∷ 0 ∷ 1 ∷ []) $ group ! 3 $ frame ! $
       use0 𝓛 (raw (fact 𝓤 (IsOk r ↔ (length o.now ≡ m)))) (fact_i 𝓤 (IsOk r ↔ (length o.now ≡ m)) (emp 𝓤) (subst (λ k. IsOk r ↔ (k ≡ m)) long fits)) $ frame ! $
       use0 𝓛 (raw (fact 𝓤 (IfOk r (λ w. w.now ≡ hex_text up x.now)))) (fact_i 𝓤 (IfOk r (λ w. w.now ≡ hex_text up x.now)) (emp 𝓤) ended.0) $ frame ! $
-      use0 𝓛 (raw (fact 𝓤 (IfErr r (λ e. e ≡ InvalidStringLength)))) (fact_i 𝓤 (IfErr r (λ e. e ≡ InvalidStringLength)) (emp 𝓤) error) $ frame ! $ done !))))))))))))))))))
+      use0 𝓛 (raw (fact 𝓤 (IfErr r (λ x. x ≡ InvalidStringLength)))) (fact_i 𝓤 (IfErr r (λ x. x ≡ InvalidStringLength)) (emp 𝓤) error) $ frame ! $ done !))))))))))))))))))

@@ -1,6 +1,6 @@
 -- A function that fills a buffer by one call, and lends the text that this call lends in a struct.
 -- One walk serves every such function, whatever the two promise.
-use Rattle.const_hex_arch.proofs.lemmas.Walks.LaneOptions.{ℕ, length, Bool, [], ◌∷◌, refl, ap, T, proved, sep, id⊢, ftrue, Ty, Fn, Callee, Args, local, value_local, ty_ref, ty_int, imm, mut, erased, field, deref, place, copy, rv_opd, addr_of, assign, call, seq, a_number, named, w8, Val, vptr, WT, has_ty, Running, tables, Model, Closed, Ura, Logic, sem, ‵, raw, ◌⊛◌, some, later, ◌$◌, ◌∵◌, !, qed, done, move, drop, use1, use2, split, join, pick, await, suffices, enter, of_opd, addr, fld, stop, no_more, and_then, returns, alloc_all, pass_all, free_all, look_at, get, get_in, sub, whole, through, sets, lands_as, u8, bool, RefOf, SliceRefOf, RefMutOf, yes, no, left, Is, Tells, shows, bool_vals, bool_Makes, Slot, plain, nothing, owned, peeks, only, calls_at, Clauses, Ended, closing, lasts, Lasts, Meets, triple_of, RattleType, framed, ends_at}
+use Rattle.const_hex_arch.proofs.lemmas.Walks.LaneOptions.{ℕ, length, Bool, List, [], ◌∷◌, refl, ap, T, proved, id⊢, ftrue, Ty, Fn, Callee, Args, local, value_local, ty_ref, ty_int, imm, mut, erased, field, deref, place, copy, rv_opd, addr_of, assign, call, seq, a_number, named, w8, Val, vptr, WT, has_ty, Running, tables, Model, Closed, Ura, Logic, ‵, raw, ◌⊛◌, some, later, ◌$◌, ◌∵◌, !, qed, done, move, drop, use1, use2, split, join, pick, await, suffices, enter, of_opd, addr, fld, stop, no_more, and_then, returns, alloc_all, pass_all, free_all, look_at, get, get_in, sub, whole, through, sets, lands_as, u8, bool, RefOf, SliceRefOf, RefMutOf, yes, no, left, Is, Tells, shows, bool_vals, bool_Makes, Slot, plain, nothing, owned, peeks, only, calls_at, Clauses, Ended, closing, lasts, Lasts, Meets, triple_of, RattleType, framed, ends_at}
 use mir.Syntax.{return as end}
 use types.Kit.{fsplit, fjoin}
 use contract.Lifetimes.{Lfts}
@@ -15,13 +15,14 @@ use denote.Struct.Declared.{shape}
 use denote.Struct.Laws.{owed, spells, tells, tellss}
 use denote.Text.{StrRefOf, str-laws}
 use denote.Triple.Clauses.{at_exit}
+use denote.Triple.End.{Kepts}
 use denote.Triple.Entry.{alive}
-use denote.Triple.Walked.{Stay, Stays, Goes, walk_of}
+use denote.Triple.Walked.{Stay, Stays, Goes}
 use Rattle.const_hex.specs.declared.buffer.Lent.{Lent}
 use Rattle.const_hex.specs.contracts.buffer.Buffer.{the_row}
 use Rattle.const_hex.specs.contracts.buffer.Lent as lent
 use Rattle.const_hex.proofs.buffer.Lent.TheLaws as lent_laws
-use Rattle.const_hex.proofs.lemmas.Walks.Flags.{flag, flag_lit}
+use Rattle.const_hex.proofs.lemmas.Walks.{flag, flag_lit}
 
 -- what is left of a parameter is what the contract says of it
 abbrev stays : {n : ℕ} (s : Slot n) (k : Kept) → Stay s k
@@ -29,6 +30,9 @@ stays s k = record { fit = λ κs x f. Unit {0}; has = λ κs x f vs. left ((s.r
 
 goes : {M : Type 1} {𝓤 : Ura M} (𝓛 : Logic 𝓤) {n : ℕ} (s : Slot n) (k : Kept) → Goes 𝓛 n s k (stays s k)
 goes 𝓛 s k κs x f vs ok = 𝓛.laws.⇛_intro _
+
+abbrev pub ended_of : (params : List (Slot 5)) → Kepts params → Slot 5 → Ended
+ended_of params kept result = record { signature = record { lifetimes = 5; outlives = []; params = params; result = result }; kept = kept }
 
 -- the parameter for the bytes: its type, and its machine value
 pub record Input : Type 2 where
@@ -75,21 +79,10 @@ module _ (n p len : ℕ) where
   module _ (I : Input) (up : Bool) where
     -- what is called, and what calls it
     abbrev pub Fills : Ended
-    Fills = record {
-      signature = record {
-        lifetimes = 5;
-        outlives = [];
-        params = lender ∷ I.slot ∷ plain (λ κs. bool) ∷ [];
-        result = plain (λ κs. lent.the_row (named_lft 5 0 tt κs));
-      };
-      kept = (no, (yes, (yes, tt)));
-    }
+    Fills = ended_of (lender ∷ I.slot ∷ plain (λ κs. bool) ∷ []) (no, (yes, (yes, tt))) (plain (λ κs. lent.the_row (named_lft 5 0 tt κs)))
 
     abbrev pub Lends : Ended
-    Lends = record {
-      signature = record { lifetimes = 5; outlives = []; params = lender ∷ I.slot ∷ []; result = StrRefOf (0 ∷ []) tt };
-      kept = (no, (yes, tt));
-    }
+    Lends = ended_of (lender ∷ I.slot ∷ []) (no, (yes, tt)) (StrRefOf (0 ∷ []) tt)
 
     abbrev code_of : Callee → Fn
     code_of fills = record {
