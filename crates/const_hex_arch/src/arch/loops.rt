@@ -130,7 +130,11 @@ pub(crate) fn decode_in_steps<const N: usize, const PAIRS: bool, V: LaneOps<N>, 
     while output.len() - at >= 2 * N {
         let end = at + 2 * N;
         let row_copy = lanes16::row_copy_for(output.len());
-        if !steps::decode_two_steps::<N, V>(&input[2 * at..2 * end], &mut output[at..end], row_copy) {
+        if !steps::decode_two_steps::<N, V>(
+            &input[2 * at..2 * end],
+            &mut output[at..end],
+            row_copy,
+        ) {
             break;
         }
         at = end;

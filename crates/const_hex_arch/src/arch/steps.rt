@@ -48,7 +48,11 @@ pub(crate) fn encode_step<const N: usize, V: LaneOps<N>, O: Output>(
 
 /// An array that begins with the text of a step.
 #[inline(always)]
-fn encode_to_array<const N: usize, V: LaneOps<N>>(bytes: &[u8], upper: bool, row_copy: bool) -> [u8; 64]
+fn encode_to_array<const N: usize, V: LaneOps<N>>(
+    bytes: &[u8],
+    upper: bool,
+    row_copy: bool,
+) -> [u8; 64]
     requires { length bytes.now ≡ N }
     ensures text { take (2 * N) result ≡ hex_text upper bytes.now }
     ensures ascii { IsAscii (take (2 * N) result) }
@@ -187,7 +191,11 @@ fn decode_vector<const N: usize, V: LaneOps<N>>(text: &[u8], row_copy: bool) -> 
     requires digits { AllDigits text.now }
     ensures { Spells text.now result }
 {
-    lanes::decode::<N, V>(Simd::from_slice(text), Simd::from_slice(&text[N..]), row_copy)
+    lanes::decode::<N, V>(
+        Simd::from_slice(text),
+        Simd::from_slice(&text[N..]),
+        row_copy,
+    )
 }
 
 /// Decodes the digits of a step into the output.
@@ -204,5 +212,7 @@ pub(crate) fn decode_digits_step<const N: usize, V: LaneOps<N>>(
     ensures { Spells text.now output.new }
 {
     let first = Simd::from_slice(text);
-    lanes::decode_digits::<N, V>(first, Simd::from_slice(&text[N..]), row_copy).copy_to_slice(output);
+    lanes::decode_digits::<N, V>(first, Simd::from_slice(&text[N..]), row_copy).copy_to_slice(
+        output,
+    );
 }

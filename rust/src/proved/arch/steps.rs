@@ -33,7 +33,11 @@ pub(crate) fn encode_step<const N: usize, V: LaneOps<N>, O: Output>(
 
 /// An array that begins with the text of a step.
 #[inline(always)]
-fn encode_to_array<const N: usize, V: LaneOps<N>>(bytes: &[u8], upper: bool, row_copy: bool) -> [u8; 64] {
+fn encode_to_array<const N: usize, V: LaneOps<N>>(
+    bytes: &[u8],
+    upper: bool,
+    row_copy: bool,
+) -> [u8; 64] {
     let digits = V::digits_of(Simd::from_slice(bytes), upper, row_copy);
     let mut text = [0; 64];
     let lanes = &mut text[..];
@@ -124,7 +128,11 @@ pub(crate) fn decode_two_steps<const N: usize, V: LaneOps<N>>(
 // The test has already computed these values for the marks. The compiler merges both computations.
 #[inline(always)]
 fn decode_vector<const N: usize, V: LaneOps<N>>(text: &[u8], row_copy: bool) -> Simd<u8, N> {
-    lanes::decode::<N, V>(Simd::from_slice(text), Simd::from_slice(&text[N..]), row_copy)
+    lanes::decode::<N, V>(
+        Simd::from_slice(text),
+        Simd::from_slice(&text[N..]),
+        row_copy,
+    )
 }
 
 /// Decodes the digits of a step into the output.
@@ -135,5 +143,7 @@ pub(crate) fn decode_digits_step<const N: usize, V: LaneOps<N>>(
     row_copy: bool,
 ) {
     let first = Simd::from_slice(text);
-    lanes::decode_digits::<N, V>(first, Simd::from_slice(&text[N..]), row_copy).copy_to_slice(output);
+    lanes::decode_digits::<N, V>(first, Simd::from_slice(&text[N..]), row_copy).copy_to_slice(
+        output,
+    );
 }

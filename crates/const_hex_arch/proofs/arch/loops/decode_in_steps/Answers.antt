@@ -58,7 +58,6 @@ returns-then-decode_step-clause-spells g c = λ _.
     let start = length c.if-output-at-ge16.output - 16 in
     spells_rest _ (decoded_less start before.1 (omega arith)) (omega arith) (omega arith) (c.if-decode_step.ensures.spells refl)
 
-
 pub returns-else-this-ne0-clause-refused : goal.returns-else-this-ne0-clause-refused
 returns-else-this-ne0-clause-refused g c = λ _.
     let is = c.if-decode_small.ensures in
