@@ -38,9 +38,6 @@ pub record HasAdded (s new : Scanner) (x u v : List ℕ) : Type 0 where
   pub text : text_of s.reading (x ++ u) ≡ text_of s.reading x ++ v
   pub scanned : HasScanned new (x ++ u)
 
-abbrev pub HasNoWhitespace : List ℕ → Type 0
-HasNoWhitespace x = All (λ b. is_whitespace b ≡ false) x
-
 -- no byte of the run is left out, and none ends a line
 abbrev pub IsKept : Scanner → List ℕ → Type 0
 IsKept s run =

@@ -78,7 +78,7 @@ pub(crate) fn put(byte: Option<u8>, output: &mut [u8], end: usize) -> usize
 
 /// Copies the first `count` bytes of a text. More of the output may change.
 #[inline(always)]
-pub(crate) fn copy_front(text: &[u8], count: usize, output: &mut [u8])
+fn copy_front(text: &[u8], count: usize, output: &mut [u8])
     requires text { count ≤ length text.now }
     requires room { count ≤ length output.old }
     ensures front { take count output.new ≡ take count text.now }

@@ -61,10 +61,7 @@ impl InputDecoder {
                 *self = whole;
                 (count, None)
             }
-            Err(_) => {
-                self.scanner.is_careful = true;
-                self.decode_bytes(chunk, output)
-            }
+            Err(_) => self.decode_bytes(chunk, output),
         }
     }
 

@@ -1,18 +1,19 @@
 //! The text of an input: the input without what is left out.
 
-ghost use Rattle.std.specs.Prelude.{◌≡◌, ◌+◌, ◌≤◌, ◌<◌, ◌++◌, ◌∷◌, [], List, ℕ, length, take, false};
+ghost use Rattle.std.specs.Prelude.{◌≡◌, ◌+◌, ◌≤◌, ◌<◌, ◌++◌, ◌∷◌, [], List, ℕ, length, take, not, nat_lt};
+ghost use Rattle.std.specs.List.{prefix_len};
 ghost use Rattle.const_hex.specs.Decoding.{counted, listed};
-ghost use Rattle.hexfilter_core.specs.Decoding.{HasAdded, HasNoWhitespace, HasScanned, IsKept, reading};
+ghost use Rattle.hexfilter_core.specs.Decoding.{HasAdded, HasScanned, IsKept, reading};
 ghost use Rattle.hexfilter_core.specs.Inputs.{is_whitespace, kept, next, text_of};
 ghost use Rattle.hexfilter_core.specs.Places.{StandsAfter};
 
-use crate::groups::{copy_front, put};
+use crate::groups::put;
 use crate::mode::Reading;
 use crate::place::{Line, Place};
-use const_hex::check_raw;
+use std::simd::prelude::*;
 
-/// In how many bytes whitespace is looked for at a time.
-const LONGEST: usize = 256;
+/// How many bytes are looked at together.
+const LANES: usize = 32;
 
 /// How far an input was read.
 #[derive(Clone, Copy, Debug)]
@@ -24,10 +25,6 @@ pub(crate) struct Scanner {
     read: usize,
     /// If bytes may be left out: the line after these bytes.
     line: Line,
-    /// How many bytes came before the whitespace that was looked for last.
-    last_run: usize,
-    /// Whether a guess was wrong before.
-    pub(crate) is_careful: bool,
 }
 
 impl Scanner {
@@ -41,8 +38,6 @@ impl Scanner {
             column: 0,
             read: 0,
             line: Line::FIRST,
-            last_run: 0,
-            is_careful: false,
         }
     }
 
@@ -86,11 +81,10 @@ impl Scanner {
     }
 
     /// Reads a chunk. Puts what it adds to the text into the front of the output, and returns how long that is.
-    /// If whitespace was put there, it may be another text: where bytes are left out is guessed.
     pub(crate) fn text(&mut self, chunk: &[u8], output: &mut [u8]) -> usize
         requires { length chunk.now ≤ length output.old }
         ensures within { result ≤ length chunk.now }
-        ensures scanned { (x : List ℕ) → HasScanned self.old x → HasNoWhitespace (take result output.new)
+        ensures scanned { (x : List ℕ) → HasScanned self.old x
             → HasAdded self.old self.new x chunk.now (take result output.new) }
         ensures length { length output.new ≡ length output.old }
         ensures reading { reading self.new ≡ reading self.old }
@@ -100,79 +94,54 @@ impl Scanner {
         let mut end = 0;
         'runs: while done < chunk.len() {
             let count = scanner.run(&chunk[done..], &mut output[end..]);
-            done += count;
-            end += count;
-            if done < chunk.len() {
-                end = put(scanner.next(chunk[done]), output, end);
-                done += 1;
+            // A block that is all text is a branch of its own, which the processor predicts.
+            if count == LANES {
+                done += LANES;
+                end += LANES;
+            } else {
+                done += count;
+                end += count;
+                if done < chunk.len() {
+                    end = put(scanner.next(chunk[done]), output, end);
+                    done += 1;
+                }
             }
         }
         *self = scanner;
         end
     }
 
-    /// Copies bytes of which none is left out, unless one is whitespace. Returns how many.
+    /// Copies bytes before the next that is left out or is below 33, or fewer. Returns how many.
     #[inline(always)]
     fn run(&mut self, chunk: &[u8], output: &mut [u8]) -> usize
-        requires some { 0 < length chunk.now }
-        requires room { length chunk.now ≤ length output.old }
+        requires { length chunk.now ≤ length output.old }
         ensures within { result ≤ length chunk.now }
-        ensures copied { take result output.new ≡ take result chunk.now }
-        ensures scanned { (x : List ℕ) → HasScanned self.old x → HasNoWhitespace (take result chunk.now)
-            → HasAdded self.old self.new x (take result chunk.now) (take result chunk.now) }
+        ensures scanned { (x : List ℕ) → HasScanned self.old x
+            → HasAdded self.old self.new x (take result chunk.now) (take result output.new) }
         ensures length { length output.new ≡ length output.old }
         ensures reading { reading self.new ≡ reading self.old }
     {
-        let (count, next) = self.guess_run(chunk);
-        copy_front(chunk, count, output);
-        self.last_run = next;
+        if chunk.len() < LANES {
+            return 0;
+        }
+        let block = u8x32::from_slice(chunk);
+        block.copy_to_slice(output);
+        let count = count_digits(block).min(self.rest());
         self.advance(count);
         count
     }
 
-    /// How many bytes come before the next that is left out: the rest of a group, or else as many as the last
-    /// time, if whitespace follows them. Returns also what to guess the next time.
+    /// How many characters the group still takes or, if there are no groups, as many as are looked at together.
     #[inline(always)]
-    fn guess_run(&self, chunk: &[u8]) -> (usize, usize)
-        requires { 0 < length chunk.now }
-        ensures within { result.0 ≤ length chunk.now }
-        ensures group { 0 < self.now.reading.groups.size → self.now.column ≤ self.now.reading.groups.size
-            → self.now.column + result.0 ≤ self.now.reading.groups.size }
+    fn rest(&self) -> usize
+        ensures { 0 < self.now.reading.groups.size → self.now.column ≤ self.now.reading.groups.size
+            → self.now.column + result ≡ self.now.reading.groups.size }
     {
-        let groups = self.reading.groups;
-        let last = self.last_run;
-        if groups.size == 0 && last < chunk.len() && is_whitespace(chunk[last]) {
-            if !self.is_careful || check_raw(&chunk[..last]) {
-                return (last, last);
-            }
+        if self.reading.groups.size == 0 {
+            return LANES;
         }
-        if self.reading.ignore_whitespace && is_whitespace(chunk[0]) {
-            return (0, last);
-        }
-        if groups.size > 0 {
-            return (
-                groups.size.saturating_sub(self.column).min(chunk.len()),
-                last,
-            );
-        }
-        let found = find_whitespace(&chunk[..chunk.len().min(LONGEST)]);
-        (found, found)
+        self.reading.groups.size.saturating_sub(self.column)
     }
-}
-
-/// The index of the first whitespace, or the length.
-fn find_whitespace(block: &[u8]) -> usize
-    ensures { result ≤ length block.now }
-{
-    if check_raw(block) {
-        return block.len();
-    }
-    for index in 0..block.len() {
-        if is_whitespace(block[index]) {
-            return index;
-        }
-    }
-    block.len()
 }
 
 /// What a byte adds to the text, and how many characters then came since the last separator.
@@ -190,6 +159,17 @@ fn step(reading: Reading, column: usize, byte: u8) -> (Option<u8>, usize)
     }
     let next = column.saturating_add(1).min(groups.size);
     (Some(if is_whole { 0 } else { byte }), next)
+}
+
+/// How many lanes come before the first with a space or a control character.
+fn count_digits(block: u8x32) -> usize
+    ensures { result ≡ prefix_len (λ b. not (nat_lt b 33)) block }
+{
+    let others = block.simd_lt(u8x32::splat(33)).to_bitmask();
+    if others == 0 {
+        return LANES;
+    }
+    others.trailing_zeros() as usize
 }
 
 /// Whether the byte is whitespace.

@@ -69,7 +69,7 @@ macro_rules! eprintln {
 }
 
 pub mod codec {
-    pub use const_hex_proved::{check_raw, Decoder, FromHexError};
+    pub use const_hex_proved::{Decoder, FromHexError};
 
     /// Stands for a kernel. The crate chooses its own.
     pub struct FixedKernel;
@@ -83,5 +83,101 @@ pub mod codec {
             false => const_hex_proved::encode_to_slice(input, output),
         };
         filled.expect("the output has two digits for each byte");
+    }
+}
+
+pub mod simd {
+    pub mod prelude {
+        pub use super::u8x32;
+    }
+
+    /// The highest bit of each byte.
+    const HIGH: u64 = 0x8080_8080_8080_8080;
+
+    /// 32 bytes, the first as the lowest of the first word.
+    #[allow(non_camel_case_types)]
+    #[derive(Clone, Copy)]
+    pub struct u8x32([u64; 4]);
+
+    /// Whether something holds of each of 32 lanes, as the highest bit of its byte.
+    pub struct Mask([u64; 4]);
+
+    impl u8x32 {
+        /// Returns the first 32 bytes. It is proved of the caller that there are so many.
+        #[inline(always)]
+        pub fn from_slice(slice: &[u8]) -> u8x32 {
+            let mut words = [0; 4];
+            for (word, bytes) in words.iter_mut().zip(slice[..32].chunks_exact(8)) {
+                *word = u64::from_le_bytes(bytes.try_into().expect("8 bytes"));
+            }
+            u8x32(words)
+        }
+
+        /// Writes the bytes to the front of a slice. It is proved of the caller that it has space for them.
+        #[inline(always)]
+        pub fn copy_to_slice(self, slice: &mut [u8]) {
+            for (bytes, word) in slice[..32].chunks_exact_mut(8).zip(self.0) {
+                bytes.copy_from_slice(&word.to_le_bytes());
+            }
+        }
+
+        #[inline(always)]
+        pub fn splat(value: u8) -> u8x32 {
+            u8x32([u64::from_ne_bytes([value; 8]); 4])
+        }
+
+        #[inline(always)]
+        pub fn simd_lt(self, other: u8x32) -> Mask {
+            let mut less = [0; 4];
+            for (word, (x, y)) in less.iter_mut().zip(self.0.iter().zip(other.0)) {
+                // The highest bit of a byte of the difference is set unless its lower bits in x are less.
+                let lower = !(x | HIGH).wrapping_sub(y & !HIGH);
+                *word = (!x & y | !(x ^ y) & lower) & HIGH;
+            }
+            Mask(less)
+        }
+    }
+
+    impl Mask {
+        /// Returns a bit for each lane, the lowest for the first.
+        #[inline(always)]
+        pub fn to_bitmask(self) -> u64 {
+            if self.0.iter().fold(0, |all, word| all | word) == 0 {
+                return 0;
+            }
+            // Bit 7 of byte i is moved to bit i of the highest byte.
+            let bits = |word: u64| (word >> 7).wrapping_mul(0x0102_0408_1020_4080) >> 56;
+            let [first, second, third, fourth] = self.0;
+            if first | second == 0 {
+                return bits(third) << 16 | bits(fourth) << 24;
+            }
+            bits(first) | bits(second) << 8 | bits(third) << 16 | bits(fourth) << 24
+        }
+    }
+}
+
+#[cfg(test)]
+mod tests {
+    use super::simd::u8x32;
+
+    /// Each pair of bytes, in each lane.
+    #[test]
+    fn lesser_lanes() {
+        for x in 0..=255 {
+            for y in 0..=255 {
+                let every = u8x32::splat(x).simd_lt(u8x32::splat(y)).to_bitmask();
+                assert_eq!(every, if x < y { 0xffff_ffff } else { 0 });
+            }
+            for lane in 0..32 {
+                let mut bytes = [255; 33];
+                bytes[lane] = x;
+                let block = u8x32::from_slice(&bytes);
+                let lesser = block.simd_lt(u8x32::splat(255)).to_bitmask();
+                assert_eq!(lesser, u64::from(x < 255) << lane);
+                let mut copied = [0; 33];
+                block.copy_to_slice(&mut copied);
+                assert_eq!((&copied[..32], copied[32]), (&bytes[..32], 0));
+            }
+        }
     }
 }

@@ -57,7 +57,7 @@ pub use self::formatting::text::*;
 //    1  before it reads a chunk
 //   46  deleted: attribute
 //  252  deleted: contract
-//  218  deleted: ghost item
+//  219  deleted: ghost item
 //    4  deleted: model
 //    1  each value may be dropped
 //    5  kernels that no target uses are left out, and callers that nothing exports
@@ -66,5 +66,5 @@ pub use self::formatting::text::*;
 //    1  the kernel is chosen for the processor
 //   12  what a constant calls is constant
 //   14  what allocates is there with the feature alloc
-//    4  what hexfilter uses of const_hex is a module of std_shim
+//    3  what hexfilter uses of const_hex is a module of std_shim
 //    5  what is for C is a module of const_hex

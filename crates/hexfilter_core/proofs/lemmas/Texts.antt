@@ -1,19 +1,19 @@
 -- The text of an input, part after part.
 use borrow.Rule.Slice.PartMut.{put_mid, post_of}
-use Rattle.std.proofs.Common.{◌≡◌, ◌≢◌, ℕ, ◌+◌, ◌-◌, ◌*◌, ◌/◌, ◌<◌, ◌≤◌, ◌==◌, ◌&&◌, ◌||◌, min, if◌then◌else◌, Bool, true, false, List, [], ◌∷◌, ◌++◌, length, take, drop, get_or, Option, Ok, refl, sym, ap, ◌∙◌, arith, append_assoc, length-append}
+use Rattle.std.proofs.Common.{◌≡◌, ◌≢◌, ℕ, ◌+◌, ◌-◌, ◌*◌, ◌/◌, ◌<◌, ◌≤◌, ◌&&◌, min, Bool, true, false, List, [], ◌∷◌, ◌++◌, length, take, drop, get_or, Option, Ok, refl, sym, ap, ◌∙◌, arith, append_assoc, length-append}
 use Rattle.std.proofs.Math.Seq.{take-add, take-append-add}
 use Rattle.std.proofs.lemmas.Bool.Decides.{nat_tests}
-use Rattle.std.proofs.lemmas.List.{append-nil, length-drop, length-take, length-take-le, take-append-drop, take-append-le, take-take, take_all, take_min, take_more}
-use Rattle.std.proofs.lemmas.List.Elements.{All-cons, All-from_get_or, All-head, All-nil, All-tail, All-weaker}
+use Rattle.std.proofs.lemmas.List.{append-nil, get_or-take, length-drop, length-take, length-take-le, take-append-drop, take-append-le, take-take, take_all, take_min, take_more}
+use Rattle.std.proofs.lemmas.List.Elements.{All-from_get_or, All-head, All-tail, All-weaker}
 use Rattle.std.specs.List.{All}
-use Rattle.const_hex.specs.Texts.{AllDigits, IsDigit}
+use Rattle.std.specs.Prelude.{nat_lt}
 use Rattle.const_hex.proofs.lemmas.Decoding.{read_digits, read_front}
 use Rattle.const_hex.specs.Decoding.{HasRead, waiting_digit}
 use Rattle.const_hex.specs.Results.{Reads, body_of}
 use Rattle.const_hex.specs.declared.codec.decoder.Decoder.{Decoder}
 use Rattle.const_hex.specs.declared.error.FromHexError.{FromHexError}
 use Rattle.const_hex_arch.proofs.lemmas.Spelling.{Spells-length, Spells-parts}
-use Rattle.hexfilter_core.specs.Decoding.{HasAdded, HasDecoded, HasNoWhitespace, HasScanned, IsKept, mode_of}
+use Rattle.hexfilter_core.specs.Decoding.{HasAdded, HasDecoded, HasScanned, IsKept, mode_of}
 use Rattle.hexfilter_core.specs.Inputs.{HasError, SpellsBeginning, SpellsPairs, is_whitespace, kept, next, next_from, text_from, text_of}
 use Rattle.hexfilter_core.specs.Outcome.{FailsWith, Makes, MakesBeginning, decode_mode, written}
 use Rattle.hexfilter_core.specs.Places.{leaves_out}
@@ -89,46 +89,22 @@ plain_kept s x h = let none = no_groups s.reading h in (λ some. omega (arith, n
 pub text_plain : (r : Reading) (x : List ℕ) → leaves_out r ≡ false → text_of r x ≡ x
 text_plain r x h = let none = no_groups r h in (kept_run r 0 x (omega arith) (λ some. omega (arith, none, some)) (all_kept r x h)).0
 
--- bytes of which none is whitespace
-not_ignored : (ignores : Bool) (b : ℕ) → is_whitespace b ≡ false → (ignores && is_whitespace b) ≡ false
-not_ignored true b h = h
-not_ignored false b h = refl
+-- bytes above the space
+high : (ignores : Bool) (b : ℕ) → nat_lt b 33 ≡ false → ((ignores && is_whitespace b) ≡ false) × (b ≢ 10)
+high true b h = (grind (arith, nat_tests, h), λ e. grind (arith, nat_tests, h, e))
+high false b h = (refl, λ e. grind (arith, nat_tests, h, e))
 
-not_newline : (b : ℕ) → is_whitespace b ≡ false → b ≢ 10
-not_newline b h e = grind (arith, nat_tests, h, e)
-
-pub run_kept : (s : Scanner) (run : List ℕ) → (0 < s.reading.groups.size → s.column + length run ≤ s.reading.groups.size) → HasNoWhitespace run → IsKept s run
-run_kept s run fits h = (
-  fits,
-  All-weaker (λ b. is_whitespace b ≡ false) (λ b. (s.reading.ignore_whitespace && is_whitespace b) ≡ false) (not_ignored s.reading.ignore_whitespace) run h,
-  λ some. All-weaker (λ b. is_whitespace b ≡ false) (λ b. b ≢ 10) not_newline run h,
-)
-
-pub no_whitespace_parts : (u v : List ℕ) → HasNoWhitespace (u ++ v) → HasNoWhitespace u × HasNoWhitespace v
-no_whitespace_parts [] v h = (All-nil (λ b. is_whitespace b ≡ false), h)
-no_whitespace_parts (b ∷ u) v h =
-    let rest = no_whitespace_parts u v (All-tail (λ b. is_whitespace b ≡ false) b (u ++ v) h) in
-    (All-cons (λ b. is_whitespace b ≡ false) b u (All-head (λ b. is_whitespace b ≡ false) b (u ++ v) h) rest.0, rest.1)
-
--- digits after a prefix have none
-digit : (b : ℕ) → IsDigit b → is_whitespace b ≡ false
-digit b h = grind (arith, nat_tests, h)
-
-after_prefix : (test : Bool) (c d : ℕ) (t : List ℕ) → (test ≡ true → (is_whitespace c ≡ false) × (is_whitespace d ≡ false))
-    → AllDigits (if test then t else c ∷ d ∷ t) → HasNoWhitespace (c ∷ d ∷ t)
-after_prefix true c d t h a =
-    All-cons (λ b. is_whitespace b ≡ false) c (d ∷ t) (h refl).0
-    (All-cons (λ b. is_whitespace b ≡ false) d t (h refl).1 (All-weaker IsDigit (λ b. is_whitespace b ≡ false) digit t a))
-after_prefix false c d t h a = All-weaker IsDigit (λ b. is_whitespace b ≡ false) digit (c ∷ d ∷ t) a
-
-whole_no_whitespace : (t : List ℕ) → AllDigits (body_of t) → HasNoWhitespace t
-whole_no_whitespace [] a = All-nil (λ b. is_whitespace b ≡ false)
-whole_no_whitespace (c ∷ []) a = All-weaker IsDigit (λ b. is_whitespace b ≡ false) digit (c ∷ []) a
-whole_no_whitespace (c ∷ d ∷ t) a =
-    after_prefix ((c == 48) && (d == 120 || d == 88)) c d t (λ is. grind (arith, nat_tests, is)) a
-
-pub digits_no_whitespace : (t u : List ℕ) → AllDigits (body_of (t ++ u)) → HasNoWhitespace u
-digits_no_whitespace t u a = (no_whitespace_parts t u (whole_no_whitespace (t ++ u) a)).1
+pub high_kept : (s : Scanner) (x : List ℕ) (n : ℕ) → ((k : ℕ) → k < n → nat_lt (get_or x k 0) 33 ≡ false)
+    → (0 < s.reading.groups.size → s.column + length (take n x) ≤ s.reading.groups.size) → IsKept s (take n x)
+high_kept s x n above fits =
+    let ignores = s.reading.ignore_whitespace in
+    let run = All-from_get_or (λ b. nat_lt b 33 ≡ false) (take n x) 0 (λ i h.
+    let below : i < n = omega (arith, length-take n x, h) in
+    rw (get_or-take n x i 0 below) (above i below)) in (
+      fits,
+      All-weaker (λ b. nat_lt b 33 ≡ false) (λ b. (ignores && is_whitespace b) ≡ false) (λ b h. (high ignores b h).0) (take n x) run,
+      λ some. All-weaker (λ b. nat_lt b 33 ≡ false) (λ b. b ≢ 10) (λ b h. (high ignores b h).1) (take n x) run,
+    )
 
 -- ---- the parts of a chunk
 
@@ -153,37 +129,33 @@ joined x chunk done n started =
 pub joined_one : (x chunk : List ℕ) (done : ℕ) → done < length chunk → (x ++ take done chunk) ++ get_or chunk done 0 ∷ [] ≡ x ++ take (done + 1) chunk
 joined_one x chunk done inside = append_assoc x (take done chunk) (get_or chunk done 0 ∷ []) ∙ ap (λ l. x ++ l) (sym (take_more chunk done 0 inside))
 
--- a scanner that started as s has read `done` bytes of a chunk, and put `end` of the text, if none of these is whitespace
-module _ (s before after : Scanner) (x chunk out : List ℕ) (end done : ℕ) where
-  -- and then a run
-  pub added_run : done ≤ length chunk → (HasNoWhitespace (take end out) → HasAdded s before x (take done chunk) (take end out))
-      → (m n : ℕ) (new rest : List ℕ) → rest ≡ take (length chunk - done) (drop done chunk) → end ≤ length out → n ≤ length new → before.reading ≡ s.reading → take n new ≡ take n rest
-      → ((y : List ℕ) → HasScanned before y → HasNoWhitespace (take n rest) → HasAdded before after y (take n rest) (take n rest))
-      → HasNoWhitespace (take (end + n) (put_mid end m out new)) → HasAdded s after x (take (done + n) chunk) (take (end + n) (put_mid end m out new))
-  added_run started so_far m n new rest is within few how copied run none =
-      let put = take_put end m n out new within few in
-      let parts = no_whitespace_parts (take end out) (take n new) (rw put at none) in
-      let first = so_far parts.0 in
-      let more = run (x ++ take done chunk) first.scanned (rw copied at parts.1) in
-      let whole = rw (← is) at (joined x chunk done n started) in record {
-        text = ap (text_of s.reading) (sym whole) ∙ rw how at more.text ∙ ap (λ l. l ++ take n rest) first.text
-            ∙ append_assoc (text_of s.reading x) (take end out) (take n rest) ∙ ap (λ l. text_of s.reading x ++ l) (sym (put ∙ ap (λ l. take end out ++ l) copied));
-        scanned = rw whole at more.scanned;
-      }
+-- a scanner that started as s has read `done` bytes of a chunk, and put `end` of the text
+module _ (s before after : Scanner) (x chunk out : List ℕ) (end done : ℕ) (how : before.reading ≡ s.reading)
+    (so_far : HasAdded s before x (take done chunk) (take end out)) where
+  -- and then a part, which adds the text v
+  added : (u v part text : List ℕ) → (x ++ take done chunk) ++ u ≡ x ++ part → text ≡ take end out ++ v
+      → HasAdded before after (x ++ take done chunk) u v → HasAdded s after x part text
+  added u v part text whole put more = record {
+    text = ap (text_of s.reading) (sym whole) ∙ rw how at more.text ∙ ap (λ l. l ++ v) so_far.text
+        ∙ append_assoc (text_of s.reading x) (take end out) v ∙ ap (λ l. text_of s.reading x ++ l) (sym put);
+    scanned = rw whole at more.scanned;
+  }
 
-  -- and then a byte
-  pub added_byte : done < length chunk → (HasNoWhitespace (take end out) → HasAdded s before x (take done chunk) (take end out))
-      → (new added : List ℕ) (k : ℕ) → before.reading ≡ s.reading → take k new ≡ take end out ++ added
-      → ((y : List ℕ) → HasScanned before y → text_of before.reading (y ++ get_or chunk done 0 ∷ []) ≡ text_of before.reading y ++ added)
+  -- a run
+  pub added_run : (m n : ℕ) (new : List ℕ) → done ≤ length chunk → end ≤ length out → n ≤ length new
+      → ((y : List ℕ) → HasScanned before y → HasAdded before after y (take n (take (length chunk - done) (drop done chunk))) (take n new))
+      → HasAdded s after x (take (done + n) chunk) (take (end + n) (put_mid end m out new))
+  added_run m n new started within few run =
+      added _ _ _ _ (joined x chunk done n started) (take_put end m n out new within few) (run (x ++ take done chunk) so_far.scanned)
+
+  -- a byte
+  pub added_byte : (new v : List ℕ) (k : ℕ) → done < length chunk → take k new ≡ take end out ++ v
+      → ((y : List ℕ) → HasScanned before y → text_of before.reading (y ++ get_or chunk done 0 ∷ []) ≡ text_of before.reading y ++ v)
       → ((y : List ℕ) → HasScanned before y → HasScanned after (y ++ get_or chunk done 0 ∷ []))
-      → HasNoWhitespace (take k new) → HasAdded s after x (take (done + 1) chunk) (take k new)
-  added_byte inside so_far new added k how put text scanned none =
-      let first = so_far (no_whitespace_parts (take end out) added (rw put at none)).0 in
-      let one = joined_one x chunk done inside in record {
-        text = ap (text_of s.reading) (sym one) ∙ rw how at (text (x ++ take done chunk) first.scanned) ∙ ap (λ l. l ++ added) first.text
-            ∙ append_assoc (text_of s.reading x) (take end out) added ∙ ap (λ l. text_of s.reading x ++ l) (sym put);
-        scanned = rw one at (scanned (x ++ take done chunk) first.scanned);
-      }
+      → HasAdded s after x (take (done + 1) chunk) (take k new)
+  added_byte new v k inside put text scanned =
+      let y = x ++ take done chunk in
+      added _ v _ _ (joined_one x chunk done inside) put (record { text = text y so_far.scanned; scanned = scanned y so_far.scanned })
 
 -- ---- what a text decodes to
 

@@ -52,7 +52,7 @@ pub(crate) fn put(byte: Option<u8>, output: &mut [u8], end: usize) -> usize {
 
 /// Copies the first `count` bytes of a text. More of the output may change.
 #[inline(always)]
-pub(crate) fn copy_front(text: &[u8], count: usize, output: &mut [u8]) {
+fn copy_front(text: &[u8], count: usize, output: &mut [u8]) {
     // Copies whose length is a constant take a few instructions, and no call.
     if text.len().min(output.len()) - count < BLOCK {
         output[..count].copy_from_slice(&text[..count]);

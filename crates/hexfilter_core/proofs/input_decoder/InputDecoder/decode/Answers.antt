@@ -6,18 +6,3 @@ returns-in-Ok-clause-ok c = λ none x y has. c.in-Ok.ensures.ok x y has
 
 pub returns-in-Ok-clause-begun : goal.returns-in-Ok-clause-begun
 returns-in-Ok-clause-begun c = λ x y has. rw (c.in-Ok.ensures.reads, c.in-Ok.ensures.checks) at (decoded c.decode_whole.new.self _ _ (c.in-Ok.ensures.ok x y has))
-
-pub returns-in-Err-clause-ok : goal.returns-in-Err-clause-ok
-returns-in-Err-clause-ok c = λ none x y has.
-    let same = has.scanned in
-    c.decode_bytes.ensures.ok none x y (record { text = has.text; scanned = record { next = same.next; count = same.count; line = same.line } })
-
-pub returns-in-Err-clause-err : goal.returns-in-Err-clause-err
-returns-in-Err-clause-err c = λ e is x y has.
-    let same = has.scanned in
-    c.decode_bytes.ensures.err e is x y (record { text = has.text; scanned = record { next = same.next; count = same.count; line = same.line } })
-
-pub returns-in-Err-clause-begun : goal.returns-in-Err-clause-begun
-returns-in-Err-clause-begun c = λ x y has.
-    let same = has.scanned in
-    c.decode_bytes.ensures.begun x y (record { text = has.text; scanned = record { next = same.next; count = same.count; line = same.line } })

@@ -1,18 +1,16 @@
 use Rattle.std.proofs.Common.{refl}
-use Rattle.const_hex.proofs.lemmas.Decoding.{read_digits}
 use Rattle.hexfilter_core.proofs.lemmas.Errors.{if_ok_weaker}
-use Rattle.hexfilter_core.proofs.lemmas.Texts.{digits_no_whitespace, plain_kept}
+use Rattle.hexfilter_core.proofs.lemmas.Texts.{plain_kept}
 use Rattle.hexfilter_core.specs.Inputs.{text_of}
 use Rattle.hexfilter_core.proofs.input_decoder.InputDecoder.decode_whole.Goals as goal
 
 pub returns-then-leaves_out-clause-ok : goal.returns-then-leaves_out-clause-ok
 returns-then-leaves_out-clause-ok c = λ x y has.
     let kept = c.text-count.ensures in
-    let text = text_of c.args.self.now.scanner.reading x in
+    let more = kept.scanned x has.scanned in
     if_ok_weaker c.decode_text.result (λ n wrote.
-    let more = kept.scanned x has.scanned (digits_no_whitespace text _ (read_digits _ _ _ wrote.read)) in
     record { text = rw (c.decode_text.ensures.scanner, kept.reading, more.text) wrote; scanned = rw c.decode_text.ensures.scanner more.scanned })
-    (c.decode_text.ensures.ok text y has.text)
+    (c.decode_text.ensures.ok (text_of c.args.self.now.scanner.reading x) y has.text)
 
 pub returns-clause-ok : goal.returns-clause-ok
 returns-clause-ok c = λ x y has.

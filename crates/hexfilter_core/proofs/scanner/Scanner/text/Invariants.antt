@@ -1,5 +1,5 @@
 use Rattle.std.proofs.Common.{◌≡◌, ◌-◌, ◌≤◌, List, ℕ, length, take}
-use Rattle.hexfilter_core.specs.Decoding.{HasAdded, HasNoWhitespace, HasScanned, reading}
+use Rattle.hexfilter_core.specs.Decoding.{HasAdded, HasScanned, reading}
 use Rattle.hexfilter_core.proofs.scanner.Scanner.text.Given as goal
 
 abbrev pub invariant-runs : goal.invariant-runs
@@ -7,7 +7,7 @@ invariant-runs l = record {
   within : l.done ≤ length l.chunk;
   fewer : l.end ≤ l.done;
   how : reading l.scanner ≡ reading l.fn.self;
-  so_far : (x : List ℕ) → HasScanned l.fn.self x → HasNoWhitespace (take l.end l.output)
+  so_far : (x : List ℕ) → HasScanned l.fn.self x
       → HasAdded l.fn.self l.scanner x (take l.done l.chunk) (take l.end l.output);
 }
 
