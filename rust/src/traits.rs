@@ -177,16 +177,14 @@ to_hex! {
     fn encode_hex_upper_with_prefix() -> String = crate::encode_upper_prefixed;
 }
 
-/// Collects the digits of bytes.
-// Up to three bytes take fewer instructions by the table of `Plain` than by vectors.
+/// Collects the digits of bytes. Up to three take fewer instructions by the table of `Plain` than by vectors.
+// A string that sees here that a digit is ASCII need not find out how many bytes it has.
 #[inline]
 fn digits<const UPPER: bool, T: FromIterator<char>>(bytes: &[u8]) -> T {
-    if bytes.len() < 4 {
-        few_digits::<Plain, 8, UPPER, T>(bytes)
-    } else if bytes.len() < 32 {
-        few_digits::<FixedKernel, 64, UPPER, T>(bytes)
-    } else {
-        many_digits::<UPPER, T>(bytes)
+    match bytes.len() {
+        0..=3 => few_digits::<Plain, 8, UPPER, T>(bytes),
+        4..=31 => few_digits::<FixedKernel, 64, UPPER, T>(bytes),
+        _ => many_digits::<UPPER, T>(bytes),
     }
 }
 
@@ -195,33 +193,20 @@ fn few_digits<K: Kernel, const N: usize, const UPPER: bool, T: FromIterator<char
     let mut text = [0; N];
     let text = &mut text[..2 * bytes.len()];
     K::fill(bytes, UPPER, text);
-    text.iter().map(character).collect()
+    text.iter().map(|digit| char::from(digit & 0x7F)).collect()
 }
 
 /// Collects the digits of bytes, which are encoded 32 bytes at a time.
 // A slice and arrays say how many digits they have, so that a collection allocates once.
 fn many_digits<const UPPER: bool, T: FromIterator<char>>(bytes: &[u8]) -> T {
-    let parts = bytes.chunks_exact(32);
-    let rest = parts.remainder();
-    let mut text = [0; 64];
-    let text = &mut text[..2 * rest.len()];
-    FixedKernel::fill(rest, UPPER, text);
     let text_of = |part: &[u8]| {
         let mut text = [0; 64];
         FixedKernel::fill(part, UPPER, &mut text);
         text
     };
-    let rest = text.iter().copied();
-    parts
-        .flat_map(text_of)
-        .chain(rest)
-        .map(|byte| character(&byte))
-        .collect()
-}
-
-/// The character that a digit is.
-// A string that sees here that a digit is ASCII need not find out how many bytes it has.
-#[inline]
-fn character(digit: &u8) -> char {
-    char::from(digit & 0x7F)
+    let (parts, mut rest) = (bytes.chunks_exact(32), [0; 64]);
+    let rest = &mut rest[..2 * parts.remainder().len()];
+    FixedKernel::fill(parts.remainder(), UPPER, rest);
+    let text = parts.flat_map(text_of).chain(rest.iter().copied());
+    text.map(|digit| char::from(digit & 0x7F)).collect()
 }
