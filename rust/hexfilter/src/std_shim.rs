@@ -148,9 +148,6 @@ pub mod simd {
             // Bit 7 of byte i is moved to bit i of the highest byte.
             let bits = |word: u64| (word >> 7).wrapping_mul(0x0102_0408_1020_4080) >> 56;
             let [first, second, third, fourth] = self.0;
-            if first | second == 0 {
-                return bits(third) << 16 | bits(fourth) << 24;
-            }
             bits(first) | bits(second) << 8 | bits(third) << 16 | bits(fourth) << 24
         }
     }
