@@ -54,7 +54,8 @@ impl Decoder {
     /// Reads the next chunk, and returns an invalid character, as [`decode`](Decoder::decode) does, but writes nothing.
     ///
     /// ```
-    /// let mut decoder = const_hex_proved::Decoder::new();
+    /// # use const_hex_proved::Decoder;
+    /// let mut decoder = Decoder::new();
     /// assert!(decoder.check("0x6b6").is_ok() && decoder.check("z").is_err());
     /// ```
     #[inline]

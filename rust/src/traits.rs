@@ -190,8 +190,7 @@ fn digits<const UPPER: bool, T: FromIterator<char>>(bytes: &[u8]) -> T {
 
 /// Collects the digits of at most `N / 2` bytes.
 fn few_digits<K: Kernel, const N: usize, const UPPER: bool, T: FromIterator<char>>(bytes: &[u8]) -> T {
-    let mut text = [0; N];
-    let text = &mut text[..2 * bytes.len()];
+    let text = &mut [0; N][..2 * bytes.len()];
     K::fill(bytes, UPPER, text);
     text.iter().map(|digit| char::from(digit & 0x7F)).collect()
 }
