@@ -1936,79 +1936,63 @@
 
 /* const_hex::codec::body::find_invalid_character */
 	function const_hex_body_find_invalid_character
-	subs x8, x2, #0x2
-	adrp_label x9, const_hex_constant_16
-	add_label x9, x9, const_hex_constant_16
-	b.cs 2f
-	mov x8, x2
-	mov x10, x2
-	b 7f
-2:
-	ldrh w10, [x1]
-	mov w11, #0x7830
-	orr w10, w10, #0x2000
-	cmp w10, w11
-	b.ne 4f
-	add x1, x1, #0x2
-	cmp x8, #0x4
+	subs x10, x2, #0x4
+	adrp_label x8, const_hex_constant_16
+	add_label x8, x8, const_hex_constant_16
 	b.cs 5f
+	mov x9, xzr
+2:
+	cmp x9, x2
+	b.cs 4f
 3:
-	mov x10, x8
-	b 7f
+	ldrb w10, [x1, x9]
+	ldrb w11, [x8, x10]
+	cmp w11, #0xff
+	b.eq 8f
+	add x9, x9, #0x1
+	cmp x2, x9
+	b.ne 3b
 4:
-	mov x8, x2
-	cmp x2, #0x4
-	b.cc 3b
+	mov w10, wzr
+	mov w8, #0x2
+	str x2, [x0, #8]
+	stp w8, w10, [x0]
+	ret
 5:
-	mov x11, x1
-	mov x10, x8
+	ldrh w9, [x1]
+	mov w11, #0x7830
+	orr w9, w9, #0x2000
+	cmp w9, w11
+	mov x9, x2
+	b.ne 6f
+	sub x9, x2, #0x2
 6:
+	sub x9, x2, x9
+	cmp x9, x10
+	b.hi 2b
+7:
+	add x11, x1, x9
 	ldrb w12, [x11]
 	ldrb w13, [x11, #1]
 	ldrb w14, [x11, #2]
-	ldrb w15, [x11, #3]
-	ldrb w12, [x9, x12]
-	ldrb w13, [x9, x13]
-	ldrb w14, [x9, x14]
-	ldrb w15, [x9, x15]
+	ldrb w11, [x11, #3]
+	ldrb w12, [x8, x12]
+	ldrb w13, [x8, x13]
+	ldrb w14, [x8, x14]
+	ldrb w11, [x8, x11]
 	orr w12, w13, w12
-	orr w13, w14, w15
-	orr w12, w12, w13
-	cmp w12, #0xf
-	b.hi 7f
-	sub x10, x10, #0x4
-	add x11, x11, #0x4
-	cmp x10, #0x3
-	b.hi 6b
-7:
-	sub x11, x8, x10
-	cmp x11, x8
-	b.cs 9f
-	neg x11, x10
-	add x12, x1, x8
+	orr w11, w14, w11
+	orr w11, w12, w11
+	cmp w11, #0xf
+	b.hi 2b
+	add x9, x9, #0x4
+	cmp x9, x10
+	b.ls 7b
+	b 2b
 8:
-	ldrb w10, [x12, x11]
-	ldrb w13, [x9, x10]
-	cmp w13, #0xff
-	b.eq 12f
-	adds x11, x11, #0x1
-	b.cc 8b
-9:
-	mov w10, wzr
-	mov x9, x8
-	sub x8, x2, x8
-	mov w11, #0x2
-	add x8, x8, x9
-	stp w11, w10, [x0]
-	str x8, [x0, #8]
-	ret
-12:
-	add x9, x8, x11
-	sub x8, x2, x8
-	mov w11, #0x2
-	add x8, x8, x9
-	stp w11, w10, [x0]
-	str x8, [x0, #8]
+	mov w8, #0x2
+	str x9, [x0, #8]
+	stp w8, w10, [x0]
 	ret
 	end const_hex_body_find_invalid_character
 
@@ -2343,62 +2327,60 @@
 
 /* const_hex::codec::decoder::Decoder::fail */
 	function const_hex_decoder_fail
-	cmp x4, #0x4
-	adrp_label x8, const_hex_constant_16
-	add_label x8, x8, const_hex_constant_16
-	mov x9, x4
+	subs x9, x4, #0x4
+	mov x8, xzr
+	csel x10, xzr, x9, cc
+	adrp_label x9, const_hex_constant_16
+	add_label x9, x9, const_hex_constant_16
 	b.cc 3f
-	mov x10, x3
-	mov x9, x4
+	mov x8, xzr
 2:
-	ldrb w11, [x10]
-	ldrb w12, [x10, #1]
-	ldrb w13, [x10, #2]
-	ldrb w14, [x10, #3]
-	ldrb w11, [x8, x11]
-	ldrb w12, [x8, x12]
-	ldrb w13, [x8, x13]
-	ldrb w14, [x8, x14]
+	add x11, x3, x8
+	ldrb w12, [x11]
+	ldrb w13, [x11, #1]
+	ldrb w14, [x11, #2]
+	ldrb w11, [x11, #3]
+	ldrb w12, [x9, x12]
+	ldrb w13, [x9, x13]
+	ldrb w14, [x9, x14]
+	ldrb w11, [x9, x11]
+	orr w12, w13, w12
+	orr w11, w14, w11
 	orr w11, w12, w11
-	orr w12, w13, w14
-	orr w11, w11, w12
 	cmp w11, #0xf
 	b.hi 3f
-	sub x9, x9, #0x4
-	add x10, x10, #0x4
-	cmp x9, #0x3
-	b.hi 2b
+	add x8, x8, #0x4
+	cmp x8, x10
+	b.ls 2b
 3:
-	sub x10, x4, x9
-	cmp x10, x4
+	cmp x8, x4
 	b.cs 5f
-	neg x10, x9
-	add x11, x3, x4
 4:
-	ldrb w9, [x11, x10]
-	ldrb w12, [x8, x9]
-	cmp w12, #0xff
+	ldrb w10, [x3, x8]
+	ldrb w11, [x9, x10]
+	cmp w11, #0xff
 	b.eq 6f
-	adds x10, x10, #0x1
-	b.cc 4b
+	add x8, x8, #0x1
+	cmp x4, x8
+	b.ne 4b
 5:
-	mov w9, wzr
+	mov w10, wzr
 	b 7f
 6:
-	add x4, x4, x10
+	mov x4, x8
 7:
 	ldr x8, [x1]
-	mov w10, #0x2
-	strb w9, [x1, #8]
+	mov w9, #0x2
+	strb w10, [x1, #8]
 	stur wzr, [x1, #10]
 	adds x8, x2, x8
 	strh wzr, [x1, #14]
 	csinv x8, x8, xzr, cc
-	strb w10, [x1, #9]
+	strb w9, [x1, #9]
 	adds x8, x4, x8
 	csinv x8, x8, xzr, cc
 	str x8, [x1]
-	stp w10, w9, [x0]
+	stp w9, w10, [x0]
 	str x8, [x0, #8]
 	ret
 	end const_hex_decoder_fail

@@ -2063,73 +2063,64 @@
 
 /* const_hex::codec::body::find_invalid_character */
 	function const_hex_body_find_invalid_character_v3
-	cmp    rdx,0x2
-	jae    2f
-	mov    rax,rdx
-	mov    rcx,rdx
-	jmp    7f
+	push   rbx
+	xor    eax,eax
+	cmp    rdx,0x4
+	jae    4f
+	xor    ecx,ecx
 2:
-	movzx  eax,WORD PTR [rsi]
-	or     eax,0x2000
-	cmp    eax,0x7830
-	jne    4f
-	lea    rax,[rdx-0x2]
-	add    rsi,0x2
-	cmp    rax,0x4
-	jae    5f
+	cmp    rcx,rdx
+	jae    9f
+	.byte 0x66, 0x66, 0x66, 0x2e, 0xf, 0x1f, 0x84, 0x0, 0x0, 0x0, 0x0, 0x0  /* data16 data16 cs nop WORD PTR [rax+rax*1+0x0] */
 3:
-	mov    rcx,rax
-	jmp    7f
+	movzx  eax,BYTE PTR [rsi+rcx*1]
+	lea    r8,[rip + const_hex_constant_21_v3]
+	cmp    BYTE PTR [rax+r8*1],0xff
+	je     7f
+	inc    rcx
+	cmp    rdx,rcx
+	jne    3b
+	xor    eax,eax
+	jmp    8f
 4:
-	mov    rax,rdx
-	cmp    rax,0x4
-	jb     3b
+	movzx  ecx,WORD PTR [rsi]
+	or     ecx,0x2000
+	mov    r8,rdx
+	cmp    ecx,0x7830
+	jne    5f
+	lea    r8,[rdx-0x2]
 5:
-	mov    r8,rsi
-	mov    rcx,rax
-	nop
+	mov    rcx,rdx
+	sub    rcx,r8
+	lea    r8,[rdx-0x4]
+	cmp    rcx,r8
+	ja     2b
+	.byte 0xf, 0x1f, 0x80, 0x0, 0x0, 0x0, 0x0  /* nop    DWORD PTR [rax+0x0] */
 6:
-	movzx  r9d,BYTE PTR [r8]
+	movzx  r9d,BYTE PTR [rsi+rcx*1]
 	lea    r10,[rip + const_hex_constant_21_v3]
-	movzx  r11d,BYTE PTR [r8+0x1]
+	movzx  r11d,BYTE PTR [rsi+rcx*1+0x1]
 	movzx  r11d,BYTE PTR [r11+r10*1]
+	movzx  ebx,BYTE PTR [rsi+rcx*1+0x2]
 	or     r11b,BYTE PTR [r9+r10*1]
-	movzx  r9d,BYTE PTR [r8+0x2]
-	or     r11b,BYTE PTR [r9+r10*1]
-	movzx  r9d,BYTE PTR [r8+0x3]
+	or     r11b,BYTE PTR [rbx+r10*1]
+	movzx  r9d,BYTE PTR [rsi+rcx*1+0x3]
 	or     r11b,BYTE PTR [r9+r10*1]
 	cmp    r11b,0xf
-	ja     7f
-	add    rcx,0xfffffffffffffffc
-	add    r8,0x4
-	cmp    rcx,0x3
-	ja     6b
+	ja     2b
+	add    rcx,0x4
+	cmp    rcx,r8
+	jbe    6b
+	jmp    2b
 7:
-	mov    r8,rax
-	sub    r8,rcx
-	xor    r9d,r9d
-	mov    r10,rax
-	cmp    r8,rax
-	jae    12f
+	mov    rdx,rcx
 8:
-	movzx  r9d,BYTE PTR [rsi+r8*1]
-	lea    r10,[rip + const_hex_constant_21_v3]
-	cmp    BYTE PTR [r9+r10*1],0xff
-	je     9f
-	inc    r8
-	dec    rcx
-	jne    8b
-	xor    r9d,r9d
-	mov    r8,rax
+	movzx  eax,al
 9:
-	movzx  r9d,r9b
-	mov    r10,r8
-12:
-	sub    rdx,rax
-	add    rdx,r10
 	mov    DWORD PTR [rdi],0x2
-	mov    DWORD PTR [rdi+0x4],r9d
+	mov    DWORD PTR [rdi+0x4],eax
 	mov    QWORD PTR [rdi+0x8],rdx
+	pop    rbx
 	ret
 	end const_hex_body_find_invalid_character_v3
 
@@ -2404,47 +2395,47 @@
 
 /* const_hex::codec::decoder::Decoder::fail */
 	function const_hex_decoder_fail_v3
+	push   r14
 	push   rbx
-	mov    rax,r8
-	cmp    r8,0x4
+	xor    eax,eax
+	mov    r9,r8
+	sub    r9,0x4
+	cmovb  r9,rax
 	jb     3f
-	mov    r9,rcx
-	mov    rax,r8
+	xor    eax,eax
+	.byte 0x66, 0x66, 0x66, 0x2e, 0xf, 0x1f, 0x84, 0x0, 0x0, 0x0, 0x0, 0x0  /* data16 data16 cs nop WORD PTR [rax+rax*1+0x0] */
 2:
-	movzx  r10d,BYTE PTR [r9]
+	movzx  r10d,BYTE PTR [rcx+rax*1]
 	lea    r11,[rip + const_hex_constant_21_v3]
-	movzx  ebx,BYTE PTR [r9+0x1]
+	movzx  ebx,BYTE PTR [rcx+rax*1+0x1]
 	movzx  ebx,BYTE PTR [rbx+r11*1]
+	movzx  r14d,BYTE PTR [rcx+rax*1+0x2]
 	or     bl,BYTE PTR [r10+r11*1]
-	movzx  r10d,BYTE PTR [r9+0x2]
-	or     bl,BYTE PTR [r10+r11*1]
-	movzx  r10d,BYTE PTR [r9+0x3]
+	or     bl,BYTE PTR [r14+r11*1]
+	movzx  r10d,BYTE PTR [rcx+rax*1+0x3]
 	or     bl,BYTE PTR [r10+r11*1]
 	cmp    bl,0xf
 	ja     3f
-	add    rax,0xfffffffffffffffc
-	add    r9,0x4
-	cmp    rax,0x3
-	ja     2b
+	add    rax,0x4
+	cmp    rax,r9
+	jbe    2b
 3:
-	mov    r10,r8
-	sub    r10,rax
-	cmp    r10,r8
+	cmp    rax,r8
 	jae    5f
-	.byte 0xf, 0x1f, 0x80, 0x0, 0x0, 0x0, 0x0  /* nop    DWORD PTR [rax+0x0] */
+	.byte 0x66, 0x66, 0x66, 0x66, 0x66, 0x66, 0x2e, 0xf, 0x1f, 0x84, 0x0, 0x0, 0x0, 0x0, 0x0  /* data16 data16 data16 data16 data16 cs nop WORD PTR [rax+rax*1+0x0] */
 4:
-	movzx  r9d,BYTE PTR [rcx+r10*1]
-	lea    r11,[rip + const_hex_constant_21_v3]
-	cmp    BYTE PTR [r9+r11*1],0xff
+	movzx  r9d,BYTE PTR [rcx+rax*1]
+	lea    r10,[rip + const_hex_constant_21_v3]
+	cmp    BYTE PTR [r9+r10*1],0xff
 	je     6f
-	inc    r10
-	dec    rax
+	inc    rax
+	cmp    r8,rax
 	jne    4b
 5:
 	xor    r9d,r9d
 	jmp    7f
 6:
-	mov    r8,r10
+	mov    r8,rax
 7:
 	add    rdx,QWORD PTR [rsi]
 	mov    rax,0xffffffffffffffff
@@ -2461,6 +2452,7 @@
 	mov    DWORD PTR [rdi+0x4],eax
 	mov    QWORD PTR [rdi+0x8],rdx
 	pop    rbx
+	pop    r14
 	ret
 	end const_hex_decoder_fail_v3
 

@@ -7,5 +7,6 @@ pub mod Printing
 pub mod Reading
 pub mod Reserving
 pub mod RoundTrip
+pub mod Searching
 pub mod Walks
 pub mod WriteSinks

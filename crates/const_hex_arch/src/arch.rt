@@ -115,6 +115,7 @@ pub trait Kernel {
         requires { length input.now ≡ 2 * length output.old }
         ensures spells { IsTrue result → Spells input.now output.new }
         ensures refused { result ≡ false → Partial output.old input.now output.new }
+        ensures unchanged { result ≡ false → USE_CHECK_FN ≡ true → output.new ≡ output.old }
     {
         Self::decode_checked(input, output)
     }

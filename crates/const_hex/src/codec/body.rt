@@ -1,7 +1,7 @@
 //! The body of a text, which is what follows the prefix: the rule of the prefix, the first invalid
 //! character, and decoding by a kernel.
 
-ghost use Rattle.std.specs.Prelude.{◌≡◌, ◌*◌, ◌%◌, ◌≤◌, ◌==◌, ◌&&◌, ◌||◌, ◌↔◌, true, false, length, take, slice_index, Err, IfErr, IfOk, IsTrue};
+ghost use Rattle.std.specs.Prelude.{◌≡◌, ◌-◌, ◌*◌, ◌%◌, ◌≤◌, ◌==◌, ◌&&◌, ◌||◌, ◌↔◌, true, false, length, take, drop, slice_index, Err, IfErr, IfOk, IsTrue};
 ghost use Rattle.const_hex_arch.specs.Texts.{AllDigits, FirstBad, Spells, Partial};
 ghost use Rattle.const_hex.specs.Results.{IsEven, IsOdd, Reads, body_of};
 ghost use Rattle.const_hex.specs.declared.error.FromHexError.TheVariants.{OddLength};
@@ -49,58 +49,69 @@ pub(crate) fn is_prefix(first: u8, second: u8) -> bool
 
 /// The error that names the first byte after the prefix that is not a digit, and its position in the
 /// whole text. The text must have such a byte, and an even length.
+// A text of two characters, of which one is invalid, has no prefix.
 #[cold]
 pub(crate) fn find_invalid_character(text: &[u8]) -> FromHexError
     requires even { IsEven (length text.now) }
     requires bad { AllDigits (body_of text.now) → ⊥ }
     ensures { Reads text.now (Err result) }
 {
-    let body = strip_prefix(text);
-    let (byte, index) = find_first_bad(body);
+    let start = if text.len() < 4 {
+        0
+    } else {
+        text.len() - strip_prefix(text).len()
+    };
+    let (byte, index) = find_first_bad(text, start);
     FromHexError::InvalidHexCharacter {
         c: char::from(byte),
-        index: text.len() - body.len() + index,
+        index,
     }
 }
 
-/// The first byte that is not a digit, and its index. If every byte is a digit, a NUL character and
-/// the index after the last byte.
+/// The first byte from the start that is not a digit, and its index in the text. If there is none, a
+/// NUL character and the index after the last byte.
 // A caller that has already seen an invalid character may get the latter, if another process has
 // removed it from shared memory in between. Nothing is read out of bounds then.
 #[inline(always)]
-pub(crate) fn find_first_bad(digits: &[u8]) -> (u8, usize)
-    ensures bad { (AllDigits digits.now → ⊥) → FirstBad digits.now result.1 }
-    ensures byte { result.0 ≡ slice_index digits.now result.1 }
-    ensures within { result.1 ≤ length digits.now }
-    ensures all { (result.1 ≡ length digits.now) ↔ AllDigits digits.now }
+pub(crate) fn find_first_bad(text: &[u8], start: usize) -> (u8, usize)
+    requires start { start ≤ length text.now }
+    ensures bad { (AllDigits (drop start text.now) → ⊥) → FirstBad (drop start text.now) (result.1 - start) }
+    ensures byte { result.0 ≡ slice_index text.now result.1 }
+    ensures within { (start ≤ result.1) × (result.1 ≤ length text.now) }
+    ensures all { (result.1 ≡ length text.now) ↔ AllDigits (drop start text.now) }
 {
-    let mut index = skip_digits(digits);
-    'digits: while index < digits.len() {
-        let byte = digits[index];
+    let mut index = skip_digits(text, start);
+    'digits: while index < text.len() {
+        let byte = text[index];
         if value_at(byte) == NIL {
             return (byte, index);
         }
         index += 1;
     }
-    (0, digits.len())
+    (0, text.len())
 }
 
-/// How many digits the text begins with, counted by fours, as long as all four are digits.
+/// Goes on from the start by four bytes as long as all four are digits, and returns the index there.
 // One test of four bytes takes half the instructions of four tests. NIL has bits that no value has.
+// With the last index at which four bytes are left, LLVM needs no test of an index in Rust either.
 #[inline(always)]
-fn skip_digits(text: &[u8]) -> usize
-    ensures digits { AllDigits (take result text.now) }
-    ensures within { result ≤ length text.now }
+fn skip_digits(text: &[u8], start: usize) -> usize
+    requires start { start ≤ length text.now }
+    ensures digits { AllDigits (take (result - start) (drop start text.now)) }
+    ensures within { (start ≤ result) × (result ≤ length text.now) }
 {
-    let mut rest = text;
-    'fours: while let [first, second, third, fourth, after @ ..] = rest {
-        let joined = value_at(*first) | value_at(*second) | value_at(*third) | value_at(*fourth);
-        if joined >= 16 {
-            break;
+    let mut index = start;
+    if let Some(last) = text.len().checked_sub(4) {
+        'fours: while index <= last {
+            let first_two = value_at(text[index]) | value_at(text[index + 1]);
+            let last_two = value_at(text[index + 2]) | value_at(text[index + 3]);
+            if first_two | last_two >= 16 {
+                break;
+            }
+            index += 4;
         }
-        rest = after;
     }
-    text.len() - rest.len()
+    index
 }
 
 /// Decodes the body into the output and returns true. Returns false if some byte is not a digit.

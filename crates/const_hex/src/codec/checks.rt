@@ -89,6 +89,6 @@ pub fn check_raw(input: &[u8]) -> bool
 pub fn const_check_raw(input: &[u8]) -> bool
     ensures { IsTrue result ↔ AllDigits input.now }
 {
-    let (_, index) = find_first_bad(input);
+    let (_, index) = find_first_bad(input, 0);
     index == input.len()
 }

@@ -271,7 +271,7 @@ impl Decoder {
         ensures ended { error_of self.new ≡ Some result }
         ensures length { result ≢ InvalidStringLength }
     {
-        let (byte, index) = find_first_bad(digits);
+        let (byte, index) = find_first_bad(digits, 0);
         let index = self.index.saturating_add(skipped).saturating_add(index);
         *self = Decoder {
             index,

@@ -52,6 +52,6 @@ pub fn check_raw(input: &[u8]) -> bool {
 /// `check_raw`.
 #[inline]
 pub const fn const_check_raw(input: &[u8]) -> bool {
-    let (_, index) = find_first_bad(input);
+    let (_, index) = find_first_bad(input, 0);
     index == input.len()
 }

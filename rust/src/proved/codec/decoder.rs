@@ -181,7 +181,7 @@ impl Decoder {
     /// read.
     #[cold]
     fn fail(&mut self, skipped: usize, digits: &[u8]) -> FromHexError {
-        let (byte, index) = find_first_bad(digits);
+        let (byte, index) = find_first_bad(digits, 0);
         let index = self.index.saturating_add(skipped).saturating_add(index);
         *self = Decoder {
             index,

@@ -1,45 +1,36 @@
-use Rattle.std.proofs.Common.{◌≡◌, ◌-◌, ◌+◌, ◌<◌, ◌≤◌, ◌∙◌, ℕ, List, length, take, drop, get_or, bit_or, refl, sym, ap, arith, drop-drop, length-drop}
-use Rattle.std.proofs.lemmas.List.{take_rest}
-use Rattle.std.proofs.lemmas.List.Elements.{All-nil}
+use Rattle.std.proofs.Common.{◌≡◌, ◌-◌, ◌+◌, ◌<◌, ◌≤◌, ℕ, List, length, take, drop, get_or, bit_or, refl, arith}
 use Rattle.std.proofs.lemmas.Nat.{le_or_l, le_or_r}
-use Rattle.const_hex_arch.specs.Texts.{IsDigit, AllDigits, value_or_nil, hex_value}
-use Rattle.const_hex_arch.proofs.lemmas.Spelling.{digits_more}
-use Rattle.const_hex_arch.proofs.lemmas.Steps.{digits_step}
+use Rattle.const_hex_arch.specs.Texts.{AllDigits, value_or_nil, hex_value}
+use Rattle.const_hex.proofs.lemmas.Searching.{digit_on}
 use Rattle.const_hex.proofs.codec.body.skip_digits.Goals as goal
 
--- four bytes more, which are the first of the rest
-next : (u rest after : List ℕ) → after ≡ take (length rest - 4) (drop 4 rest) → 4 ≤ length rest → length rest ≤ length u
-    → drop (length u - length rest) u ≡ rest → AllDigits (take (length u - length rest) u) → AllDigits (take 4 rest)
-    → (length after ≤ length u) × (drop (length u - length after) u ≡ after) × AllDigits (take (length u - length after) u)
-next u rest after is h within e done four =
-    let i = length u - length rest in
-    let all : after ≡ drop 4 rest = is ∙ take_rest rest 4 in
-    let long : length after ≡ length rest - 4 = rw all (length-drop 4 rest) in
-    let end : length u - length after ≡ i + 4 = omega (arith, long) in
-    (omega (arith, long), rw end (sym (drop-drop 4 i u) ∙ ap (drop 4) e ∙ sym all), rw end (digits_step u i 4 (i + 4) refl done (rw e four)))
+-- four bytes more whose values, or NIL, have no bits but those of numbers below 16
+module _ (u : List ℕ) (start i j : ℕ) (below : j < 16) (after : start ≤ i) (long : i + 4 ≤ length u) where
+  digit : (k next v : ℕ) → i ≤ k → k < i + 4 → next ≡ k + 1 → v ≡ value_or_nil (hex_value (get_or u k 0)) → v ≤ j
+      → AllDigits (take (k - start) (drop start u)) → AllDigits (take (next - start) (drop start u))
+  digit k next v l h is e small done = digit_on u start k next (omega (arith, after, l)) (omega (arith, h, long)) is (rw (← e) (omega arith)) done
 
--- four bytes whose values, or NIL, have no bits but those of numbers below 16
-module _ (u : List ℕ) (long : 4 ≤ length u) (j : ℕ) (below : j < 16) where
-  digit : (i v : ℕ) → i < 4 → v ≡ value_or_nil (hex_value (get_or u i 0)) → v ≤ j → AllDigits (take i u) → AllDigits (take (i + 1) u)
-  digit i v h e l d = digits_more u i d (omega arith) (rw (← e) (omega arith))
-
-  four_digits : (a b c d : ℕ) → bit_or (bit_or (bit_or a b) c) d ≡ j
-      → a ≡ value_or_nil (hex_value (get_or u 0 0)) → b ≡ value_or_nil (hex_value (get_or u 1 0))
-      → c ≡ value_or_nil (hex_value (get_or u 2 0)) → d ≡ value_or_nil (hex_value (get_or u 3 0)) → AllDigits (take 4 u)
-  four_digits a b c d is p q r s =
-      let two = bit_or a b in
-      let three = bit_or two c in
-      let of_three : three ≤ j = rw (← is) (le_or_l three d) in
-      let of_two : two ≤ three = le_or_l two c in
-      digit 3 d (omega arith) s (rw (← is) (le_or_r three d))
-      (digit 2 c (omega arith) r (omega (arith, le_or_r two c))
-      (digit 1 b (omega arith) q (omega (arith, le_or_r a b))
-      (digit 0 a (omega arith) p (omega (arith, le_or_l a b)) (All-nil IsDigit))))
+  four_digits : (a b c d : ℕ) → bit_or (bit_or a b) (bit_or c d) ≡ j
+      → a ≡ value_or_nil (hex_value (get_or u i 0)) → b ≡ value_or_nil (hex_value (get_or u (i + 1) 0))
+      → c ≡ value_or_nil (hex_value (get_or u (i + 2) 0)) → d ≡ value_or_nil (hex_value (get_or u (i + 3) 0))
+      → AllDigits (take (i - start) (drop start u)) → AllDigits (take (i + 4 - start) (drop start u))
+  four_digits a b c d is p q r s done =
+      let first = bit_or a b in
+      let last = bit_or c d in
+      let of_first : first ≤ j = rw (← is) (le_or_l first last) in
+      let of_last : last ≤ j = rw (← is) (le_or_r first last) in
+      digit (i + 3) (i + 4) d (omega arith) (omega arith) (omega arith) s (omega (arith, le_or_r c d))
+      (digit (i + 2) (i + 3) c (omega arith) (omega arith) (omega arith) r (omega (arith, le_or_l c d))
+      (digit (i + 1) (i + 2) b (omega arith) (omega arith) (omega arith) q (omega (arith, le_or_r a b))
+      (digit i (i + 1) a (omega arith) (omega arith) refl p (omega (arith, le_or_l a b)) done)))
 
 pub fours-preserved : goal.fours-preserved
 fours-preserved c =
-    let rest = c.fours.rest.now in
-    let long = c.in-len4-up.len_at_least in
-    let four = four_digits rest long _ c.if-joined-ge16.false _ _ _ _ refl c.value_at.ensures
-    c.value_at-in-len4-up.ensures c.value_at-in-len4-up-2.ensures c.value_at-in-len4-up-3.ensures in
-    next c.args.text.now rest _ refl long c.fours.invariant.0 c.fours.invariant.1 c.fours.invariant.2 four
+    let (done, after, _) = c.fours.invariant in
+    let long : c.fours.index + 4 ≤ length c.args.text.now = omega arith in (
+      four_digits c.args.text.now c.args.start c.fours.index _ c.if-first_two-last_two-ge16.false after long _ _ _ _ refl
+          c.value_at.ensures c.value_at-in-fours.ensures c.value_at-in-fours-2.ensures c.value_at-in-fours-3.ensures
+          done,
+      omega (arith, after),
+      long,
+    )
