@@ -86,8 +86,8 @@ MUTATIONS = [
      "i32.const 1; i32.const 2; local.get 0; i32.load8_u; select; local.set 5", "a `select` depends on", LANES),
     ("a constant is written", WASM, ENCODE, "", "i32.const 4192; i32.const 0; i32.store8", "write to image", LANES),
     ("one of four vectors is not tested", WASM, UPDATE, "v128.or", "local.set 23", NO_DIGIT),
-    ("the search counts in 12 bits", WASM, UPDATE, "local.tee 5; i32.const 3",
-     "local.tee 5; i32.const 20; i32.shl; i32.const 3", "may have wrapped", SEARCH),
+    ("the search counts in 12 bits", WASM, UPDATE, "i32.const 4; i32.add; local.tee 6",
+     "i32.const 4; i32.add; i32.const 20; i32.shl; i32.const 20; i32.shr_u; local.tee 6", "may have wrapped", SEARCH),
 ]
 
 
