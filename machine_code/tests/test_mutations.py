@@ -39,7 +39,7 @@ MUTATIONS = [
     ("a byte decides a jump", "v3", DIGITS, "", "cmp byte ptr [rdi],0x61; jb 1f; nop; 1:", ONE_PATH),
     ("a limit that lets g pass", "v3", DIGITS, "0x0f, 0x08", "0x0f, 0x57", NO_DIGIT, "const_hex_constant_1_v3"),
     ("what is rejected is accepted", "v3", ("check_raw", 0, 40), "sete al", "setne al", "digits are rejected"),
-    ("the search counts in 32 bits", "v3", ("check", 0, 150), "add rcx,0x4", "add ecx,4", "add of 4 unknown bytes", FIND),
+    ("the search counts in 32 bits", "v3", ("check", 0, 150), "add rcx,0x4", "add ecx,4", "of 4 unknown bytes", FIND),
     ("the search takes five for four", "v3", ("check", 0, 150), "add rcx,0x4", "add rcx,0x5", "too many cases", FIND),
     ("the search tests three of four", "v3", ("check", 0, 150), "or r11b,BYTE PTR [rbx+r10*1]", "", NO_DIGIT, FIND),
     ("a position without the prefix", "v3", ("decode", 1, 150), "mov QWORD PTR [rdi+0x8],rdx",
