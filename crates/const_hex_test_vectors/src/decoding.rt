@@ -1,12 +1,11 @@
 //! The lines of texts that are read.
 
 use crate::kernels::{digits as digits_by, read as read_by, read_into as read_into_by};
-use crate::line::Line;
+use crate::line::{Line, unsigned};
 use const_hex::serde::no_prefix;
 use const_hex::{
-    Decoder, FromHex, FromHexError, JsonError, Kernel, check, check_raw, const_check,
-    const_check_raw, const_decode_to_array, decode, decode_to_array, decode_to_front,
-    decode_to_slice, deserialize,
+    Decoder, FromHex, FromHexError, Kernel, check, check_raw, const_check, const_check_raw,
+    const_decode_to_array, decode, decode_to_array, decode_to_front, decode_to_slice, deserialize,
 };
 use const_hex_vectors::{KernelCase, by_each_kernel};
 use hash_hex::FixedBytes;
@@ -73,10 +72,8 @@ fn ask_owned(line: &mut Line<'_>) {
         decode(alloc, text),
         <Vec<u8>>::from_hex(alloc, text),
         <BoxedSlice<u8>>::from_hex(alloc, text),
-    );
-    each!(line.reads_signed:
-        <Vec<i8>>::from_hex(alloc, text),
-        <BoxedSlice<i8>>::from_hex(alloc, text),
+        unsigned(alloc, <Vec<i8>>::from_hex(alloc, text)),
+        unsigned(alloc, <BoxedSlice<i8>>::from_hex(alloc, text)),
     );
     match <Box<Rc<Vec<u8>>>>::from_hex(alloc, text) {
         Ok(bytes) => line.reads("from_hex", Ok(bytes.as_slice())),
@@ -109,14 +106,14 @@ fn ask_front(line: &mut Line<'_>) -> Result<(), AllocError> {
     if let Ok(count) = done {
         output.truncate(count);
     }
-    line.fills("decode_to_front", done, output, line.result);
+    line.fills("decode_to_front", done, &output, line.result);
     Ok(())
 }
 
 pub(crate) fn read_into(line: &mut Line<'_>, size: usize) -> Result<(), AllocError> {
     let mut output = vec![in line.alloc; 0xEEu8; size]?;
     let done = decode_to_slice(line.input, &mut output);
-    line.fills("decode_to_slice", done, output, line.result);
+    line.fills("decode_to_slice", done, &output, line.result);
     by_each_kernel!(read_into_by(line, size)?);
     at_size!(size; ask_arrays(line));
     Ok(())
@@ -129,16 +126,13 @@ fn ask_arrays<const N: usize>(line: &mut Line<'_>, _array: [u8; N]) {
         decode_to_array::<N>(text),
         const_decode_to_array::<N>(text),
         <[u8; N]>::from_hex(alloc, text),
+        unsigned(alloc, <[i8; N]>::from_hex(alloc, text)),
+        array_of(<FixedBytes<N>>::from_hex(alloc, text)),
     );
-    match <FixedBytes<N>>::from_hex(alloc, text) {
-        Ok(hash) => line.reads("FixedBytes", Ok(hash.as_bytes().as_slice())),
-        Err(error) => line.fails("FixedBytes", Some(error)),
-    }
-    match <Rc<[u8; N]>>::from_hex(alloc, text) {
-        Ok(array) => line.reads("Rc", Ok(array.as_slice())),
-        Err(error) => line.fails("Rc", Some(error)),
-    }
-    each!(line.reads_signed: <[i8; N]>::from_hex(alloc, text));
+}
+
+fn array_of<const N: usize, E>(hash: Result<FixedBytes<N>, E>) -> Result<[u8; N], E> {
+    Ok(*hash?.as_bytes())
 }
 
 /// The sizes into which a text is cut.
@@ -176,20 +170,20 @@ pub(crate) fn read_digits(line: &mut Line<'_>) {
     by_each_kernel!(digits_by(line));
 }
 
-pub(crate) fn read_message(line: &mut Line<'_>) {
+/// Asks for the message of a text's error, or of that for an output of so many bytes.
+pub(crate) fn read_message(line: &mut Line<'_>, size: usize) -> Result<(), AllocError> {
     let (alloc, text) = (line.alloc, line.input);
+    if size > 0 {
+        let mut output = vec![in alloc; 0xEEu8; size]?;
+        each!(line.says: decode_to_slice(text, &mut output).err());
+        return Ok(());
+    }
     each!(line.says:
         decode(alloc, text).err(),
         check(text).err(),
         const_check(text).err(),
         <Vec<i8>>::from_hex(alloc, text).err(),
     );
-}
-
-pub(crate) fn read_message_into(line: &mut Line<'_>, size: usize) -> Result<(), AllocError> {
-    let mut output = vec![in line.alloc; 0xEEu8; size]?;
-    let error = decode_to_slice(line.input, &mut output).err();
-    line.says("decode_to_slice", error);
     Ok(())
 }
 
@@ -216,12 +210,8 @@ fn ask_json_arrays<const N: usize>(line: &mut Line<'_>, _array: [u8; N]) {
     each!(line.reads_json:
         deserialize::<[u8; N]>(alloc, &value),
         no_prefix::deserialize::<[u8; N]>(alloc, &value),
+        array_of(<FixedBytes<N>>::from_value(alloc, &value)),
     );
-    match <FixedBytes<N>>::from_value(alloc, &value) {
-        Ok(hash) => line.reads("FixedBytes", Ok(hash.as_bytes().as_slice())),
-        Err(JsonError::NotText) => line.is("FixedBytes", "!NotText", line.result),
-        Err(JsonError::Hex(error)) => line.fails("FixedBytes", Some(error)),
-    }
 }
 
 pub(crate) fn read_json_message(line: &mut Line<'_>) {

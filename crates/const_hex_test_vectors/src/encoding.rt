@@ -16,6 +16,7 @@ use const_hex_vectors::{InHex, by_each_kernel};
 use hash_hex::FixedBytes;
 use serde_json::Value;
 use std::alloc::{AllocError, Global};
+use std::fmt::Display;
 
 /// A text in lowercase, in uppercase, and both after `0x`.
 pub(crate) type Texts<'a> = [&'a str; 4];
@@ -28,23 +29,63 @@ macro_rules! each {
 }
 
 pub(crate) fn write(line: &mut Line<'_>) -> Result<(), AllocError> {
-    write_into(line, line.result.len())?;
+    write_as(line, line.result.len(), true)
+}
+
+pub(crate) fn write_into(line: &mut Line<'_>, size: usize) -> Result<(), AllocError> {
+    write_as(line, size, false)
+}
+
+/// Asks for the line's result in each form. An error has one form.
+fn write_as(line: &mut Line<'_>, size: usize, is_whole: bool) -> Result<(), AllocError> {
     let (alloc, lower) = (line.alloc, line.result);
-    let upper = lower.to_ascii_uppercase(alloc)?;
-    let full = ["0x", lower].concat(alloc)?;
-    let full_upper = ["0x", upper.as_str()].concat(alloc)?;
-    let texts = [lower, &upper, &full, &full_upper];
-    ask_functions(line, texts);
-    ask_traits(line, texts, &line.input.to_vec(alloc)?);
-    if let Ok(string) = str::from_utf8(line.input) {
-        ask_traits(line, texts, &string.to_string(alloc)?);
+    let upper = match lower.starts_with('!') {
+        true => lower.to_string(alloc)?,
+        false => lower.to_ascii_uppercase(alloc)?,
+    };
+    let (full, full_upper) = (after_prefix(alloc, lower)?, after_prefix(alloc, &upper)?);
+    ask_texts(line, size, is_whole, [lower, &upper, &full, &full_upper])
+}
+
+fn after_prefix(alloc: Global, text: &str) -> Cell {
+    let prefix = if text.starts_with('!') { "" } else { "0x" };
+    [prefix, text].concat(alloc)
+}
+
+fn ask_texts(
+    line: &mut Line<'_>,
+    size: usize,
+    is_whole: bool,
+    texts: Texts<'_>,
+) -> Result<(), AllocError> {
+    ask_outputs(line, size, texts)?;
+    if is_whole {
+        ask_whole(line, texts)
+    } else {
+        Ok(())
     }
+}
+
+fn ask_whole(line: &mut Line<'_>, texts: Texts<'_>) -> Result<(), AllocError> {
+    let [lower, upper, full, full_upper] = texts;
+    ask_functions(line, texts);
+    ask_owned(line, texts)?;
     by_each_kernel!(write_by(line, texts)?);
+    ask_printed(line, &display(line.input), lower, full);
+    ask_printed(line, &InHex::<true>(line.input), upper, full_upper);
     ask_form::<false, false>(line, lower);
-    ask_form::<true, false>(line, &upper);
-    ask_form::<false, true>(line, &full);
-    ask_form::<true, true>(line, &full_upper);
+    ask_form::<true, false>(line, upper);
+    ask_form::<false, true>(line, full);
+    ask_form::<true, true>(line, full_upper);
     ask_sizes(line, texts);
+    Ok(())
+}
+
+fn ask_owned(line: &mut Line<'_>, texts: Texts<'_>) -> Result<(), AllocError> {
+    ask_traits(line, texts, &line.input.to_vec(line.alloc)?);
+    if let Ok(string) = str::from_utf8(line.input) {
+        ask_traits(line, texts, &string.to_string(line.alloc)?);
+    }
     Ok(())
 }
 
@@ -59,6 +100,8 @@ fn ask_functions(line: &mut Line<'_>, [lower, upper, full, full_upper]: Texts<'_
         text_of(alloc, serialize_upper(alloc, bytes)) => full_upper,
         text_of(alloc, no_prefix::serialize(alloc, bytes)) => lower,
         text_of(alloc, no_prefix::serialize_upper(alloc, bytes)) => upper,
+        BytesToHexChars::<false>::new(bytes).collect(alloc) => lower,
+        BytesToHexChars::<true>::new(bytes).collect(alloc) => upper,
     );
 }
 
@@ -86,63 +129,29 @@ fn ask_traits<T: ToHex + ToHexExt>(
     );
 }
 
+/// Asks what is printed, alone and after `0x`. A width, a fill and an alignment change nothing, and a `#` as
+/// the fill is no prefix.
+fn ask_printed<D: Display>(line: &mut Line<'_>, value: &D, text: &str, full: &str) {
+    let alloc = line.alloc;
+    each!(line.gives:
+        format!(in alloc; "{value}") => text,
+        format!(in alloc; "{value:#}") => full,
+        format!(in alloc; "{value:*^999}") => text,
+        format!(in alloc; "{value:#<999}") => text,
+        format!(in alloc; "{value:#0999}") => full,
+        format!(in alloc; "{value:*>#999}") => full,
+    );
+}
+
 /// Asks the calls that have these type parameters, and reads the text back.
 fn ask_form<const UPPER: bool, const PREFIX: bool>(line: &mut Line<'_>, text: &str) {
     let (alloc, bytes) = (line.alloc, line.input);
-    each!(line.gives:
-        print::<UPPER, PREFIX>(alloc, bytes) => text,
-        print_wide::<UPPER, PREFIX>(alloc, bytes) => text,
-        characters::<UPPER>(alloc, bytes, if PREFIX { "0x" } else { "" }) => text,
-        stream::<UPPER, PREFIX>(alloc, bytes) => text,
-        serialize_to_sink::<UPPER, PREFIX>(alloc, bytes) => text,
-    );
+    let (mut stream, mut json) = (Vec::new(alloc), Vec::new(alloc));
+    let _ = BufferedHex::<UPPER, PREFIX>::new(bytes).write_to(&mut WriteSink::new(&mut stream));
+    let _ = serialize_inner::<UPPER, PREFIX, _>(bytes, &mut WriteSink::new(&mut json));
+    line.gives("write_to", show(alloc, &stream), text);
+    line.gives("serialize_inner", show(alloc, &json), text);
     line.reads_back("decode", decode(alloc, text.as_bytes()));
-}
-
-fn print<const UPPER: bool, const PREFIX: bool>(alloc: Global, bytes: &[u8]) -> Cell {
-    match (UPPER, PREFIX) {
-        (false, false) => format!(in alloc; "{}", display(bytes)),
-        (true, false) => format!(in alloc; "{}", InHex::<true>(bytes)),
-        (false, true) => format!(in alloc; "{:#}", display(bytes)),
-        (true, true) => format!(in alloc; "{:#}", InHex::<true>(bytes)),
-    }
-}
-
-/// The same with a width, a fill and an alignment, which change nothing. A `#` as the fill is no prefix.
-fn print_wide<const UPPER: bool, const PREFIX: bool>(alloc: Global, bytes: &[u8]) -> Cell {
-    match (UPPER, PREFIX) {
-        (false, false) => format!(in alloc; "{:*^999}", display(bytes)),
-        (true, false) => format!(in alloc; "{:#<999}", InHex::<true>(bytes)),
-        (false, true) => format!(in alloc; "{:#0999}", display(bytes)),
-        (true, true) => format!(in alloc; "{:*>#999}", InHex::<true>(bytes)),
-    }
-}
-
-/// The characters of an iterator, which ends for good.
-fn characters<const UPPER: bool>(alloc: Global, bytes: &[u8], prefix: &str) -> Cell {
-    let mut chars = BytesToHexChars::<UPPER>::new(bytes);
-    let mut text = prefix.to_string(alloc)?;
-    for _ in 0..bytes.len().saturating_mul(2) {
-        text.push(chars.next().unwrap_or('?'))?;
-    }
-    if chars.next().is_some() || chars.next().is_some() {
-        text.push('?')?;
-    }
-    Ok(text)
-}
-
-fn stream<const UPPER: bool, const PREFIX: bool>(alloc: Global, bytes: &[u8]) -> Cell {
-    let mut text = Vec::new(alloc);
-    let mut sink = WriteSink::new(&mut text);
-    let _ = BufferedHex::<UPPER, PREFIX>::new(bytes).write_to(&mut sink);
-    show(alloc, &text)
-}
-
-fn serialize_to_sink<const UPPER: bool, const PREFIX: bool>(alloc: Global, bytes: &[u8]) -> Cell {
-    let mut text = Vec::new(alloc);
-    let mut sink = WriteSink::new(&mut text);
-    let _ = serialize_inner::<UPPER, PREFIX, _>(bytes, &mut sink);
-    show(alloc, &text)
 }
 
 /// Asks what is of a fixed size, if it is asked for that number of bytes.
@@ -187,13 +196,14 @@ fn ask_size<const N: usize, const DIGITS: usize, const FULL: usize>(
     );
     ask_buffer(line, digits, bytes, lower, upper);
     ask_buffer(line, with_prefix, bytes, full, full_upper);
-    for text in [lower, full_upper] {
-        line.reads_back("decode_to_array", decode_to_array::<N>(text.as_bytes()));
-        line.reads_back(
-            "const_decode_to_array",
-            const_decode_to_array::<N>(text.as_bytes()),
-        );
-    }
+    read_array_back(line, *bytes, lower.as_bytes());
+    read_array_back(line, *bytes, full_upper.as_bytes());
+}
+
+/// Reads the text of an array, which shows that its size fits.
+fn read_array_back<const N: usize>(line: &mut Line<'_>, _bytes: [u8; N], text: &[u8]) {
+    line.reads_back("decode_to_array", decode_to_array::<N>(text));
+    line.reads_back("const_decode_to_array", const_decode_to_array::<N>(text));
 }
 
 /// Asks a new buffer, each time over the text of the other case.
@@ -235,51 +245,42 @@ fn ask_formatted<const N: usize, const PREFIX: bool, const LEN: usize>(
     if let Ok(copy) = buffer.clone() {
         line.is("clone", copy.as_str(), text);
     }
-    if Buffer::<N, PREFIX, LEN>::LEN != text.len() {
-        line.is("LEN", "another length", text);
-    }
+    line.holds("LEN", Buffer::<N, PREFIX, LEN>::LEN == text.len());
 }
 
 fn shown(alloc: Global, bytes: Result<Vec<u8>, AllocError>) -> Cell {
     show(alloc, &bytes?)
 }
 
-pub(crate) fn write_into(line: &mut Line<'_>, size: usize) -> Result<(), AllocError> {
-    let (alloc, bytes, lower) = (line.alloc, line.input, line.result);
-    let upper = match lower.starts_with('!') {
-        true => lower.to_string(alloc)?,
-        false => lower.to_ascii_uppercase(alloc)?,
-    };
-    let mut output = vec![in alloc; 0xEEu8; size]?;
-    let done = encode_to_slice(bytes, &mut output);
-    line.fills("encode_to_slice", done, output, lower);
-    let mut output = vec![in alloc; 0xEEu8; size]?;
-    let done = encode_to_slice_upper(bytes, &mut output);
-    line.fills("encode_to_slice_upper", done, output, &upper);
-    let mut output = vec![in alloc; 0xEEu8; size]?;
-    line.lends("encode_to_str", encode_to_str(bytes, &mut output), lower);
-    let text = encode_to_str_upper(bytes, &mut output);
-    line.lends("encode_to_str_upper", text, &upper);
-    fill_full(line, size, "", false, lower)?;
-    fill_full(line, size, "", true, &upper)?;
-    fill_full(line, size, "0x", false, lower)?;
-    fill_full(line, size, "0x", true, &upper)
-}
-
-/// Asks what writes a prefix into an output that has as much more space.
-fn fill_full(
+fn ask_outputs(
     line: &mut Line<'_>,
     size: usize,
-    prefix: &str,
-    upper: bool,
-    text: &str,
+    [lower, upper, full, full_upper]: Texts<'_>,
 ) -> Result<(), AllocError> {
-    let want = match text.starts_with('!') {
-        true => text.to_string(line.alloc)?,
-        false => [prefix, text].concat(line.alloc)?,
-    };
-    let mut output = vec![in line.alloc; 0xEEu8; size.saturating_add(prefix.len())]?;
-    let done = encode_full_to_slice(line.input, !prefix.is_empty(), upper, &mut output);
-    line.fills("encode_full_to_slice", done, output, &want);
+    let bytes = line.input;
+    let mut output = vec![in line.alloc; 0xEEu8; size]?;
+    let done = encode_to_slice(bytes, &mut output);
+    line.fills("encode_to_slice", done, &output, lower);
+    let done = encode_to_slice_upper(bytes, &mut output);
+    line.fills("encode_to_slice_upper", done, &output, upper);
+    let text = encode_to_str(bytes, &mut output);
+    line.lends("encode_to_str", text, lower);
+    let text = encode_to_str_upper(bytes, &mut output);
+    line.lends("encode_to_str_upper", text, upper);
+    ask_full(line, size, false, [lower, upper])?;
+    ask_full(line, size.saturating_add(2), true, [full, full_upper])
+}
+
+fn ask_full(
+    line: &mut Line<'_>,
+    size: usize,
+    prefix: bool,
+    [lower, upper]: [&str; 2],
+) -> Result<(), AllocError> {
+    let mut output = vec![in line.alloc; 0xEEu8; size]?;
+    let done = encode_full_to_slice(line.input, prefix, false, &mut output);
+    line.fills("encode_full_to_slice", done, &output, lower);
+    let done = encode_full_to_slice(line.input, prefix, true, &mut output);
+    line.fills("encode_full_to_slice", done, &output, upper);
     Ok(())
 }

@@ -12,14 +12,16 @@ macro_rules! values {
         let bytes = $vector::from_array(*$bytes);
         let values = $lanes::nibbles(bytes).to_array();
         $line.gives("nibbles", show($line.alloc, &values), $line.result);
-        let is_valid = values.iter().all(|value| *value < 16);
-        if $lanes::check_chunk(bytes) {
+        let is_valid = $lanes::check_chunk(bytes);
+        $line.holds("check_chunk", is_valid == are_values(&values));
+        if is_valid {
             $line.gives("unhex", show($line.alloc, &$lanes::unhex(bytes).to_array()), $line.result);
         }
-        if $lanes::check_chunk(bytes) != is_valid {
-            $line.is("check_chunk", "another answer", $line.result);
-        }
     }};
+}
+
+fn are_values(bytes: &[u8]) -> bool {
+    bytes.iter().all(|byte| *byte < 16)
 }
 
 /// Asks for the values of the first 16 or 32 bytes of a line.
@@ -31,25 +33,30 @@ pub(crate) fn values(line: &mut Line<'_>) {
     }
 }
 
-/// Asks for the text of these bytes, in that case.
+/// Asks for the text of these bytes in both cases.
 macro_rules! text {
-    ($line:ident, $bytes:ident, $lanes:ident, $vector:ident, $upper:literal, $want:expr) => {{
-        let [first, second] = $lanes::encode_chunk::<$upper>($vector::from_array(*$bytes));
-        let mut text = first.to_array().to_vec($line.alloc)?;
-        text.extend_from_slice(&second.to_array())?;
-        $line.gives("encode_chunk", show($line.alloc, &text), $want);
+    ($line:ident, $bytes:ident, $upper:ident, $lanes:ident, $vector:ident) => {{
+        let bytes = $vector::from_array(*$bytes);
+        let [first, second] = $lanes::encode_chunk::<false>(bytes);
+        halves($line, &first.to_array(), &second.to_array(), $line.result);
+        let [first, second] = $lanes::encode_chunk::<true>(bytes);
+        halves($line, &first.to_array(), &second.to_array(), &$upper);
     }};
+}
+
+fn halves(line: &mut Line<'_>, first: &[u8], second: &[u8], want: &str) {
+    let (front, back) = want.split_at_checked(first.len()).unwrap_or((want, ""));
+    line.gives("encode_chunk", show(line.alloc, first), front);
+    line.gives("encode_chunk", show(line.alloc, second), back);
 }
 
 /// Asks for the text of the first 16 or 32 bytes of a line.
 pub(crate) fn text(line: &mut Line<'_>) -> Result<(), AllocError> {
     let upper = line.result.to_ascii_uppercase(line.alloc)?;
     if let Some(bytes) = line.input.first_chunk::<32>() {
-        text!(line, bytes, lanes32, u8x32, false, line.result);
-        text!(line, bytes, lanes32, u8x32, true, &upper);
+        text!(line, bytes, upper, lanes32, u8x32);
     } else if let Some(bytes) = line.input.first_chunk::<16>() {
-        text!(line, bytes, lanes16, u8x16, false, line.result);
-        text!(line, bytes, lanes16, u8x16, true, &upper);
+        text!(line, bytes, upper, lanes16, u8x16);
     }
     Ok(())
 }

@@ -26,11 +26,24 @@ impl Line<'_> {
         }
     }
 
+    /// Notes a call, unless what it returns is right.
+    pub(crate) fn holds(&mut self, call: &str, is_right: bool) {
+        self.is(call, if is_right { "" } else { "something else" }, "");
+    }
+
     /// As `is`, for a result that needs memory.
     pub(crate) fn gives(&mut self, call: &str, given: Cell, want: &str) {
         match given {
             Ok(text) => self.is(call, &text, want),
             Err(AllocError) => self.is(call, "out of memory", want),
+        }
+    }
+
+    /// As `gives`, if what is wanted needs memory too.
+    pub(crate) fn agrees(&mut self, call: &str, given: Cell, want: Cell) {
+        match want {
+            Ok(want) => self.gives(call, given, &want),
+            Err(AllocError) => self.is(call, "out of memory", ""),
         }
     }
 
@@ -60,22 +73,11 @@ impl Line<'_> {
     where
         B: AsSlice<u8> + Drop,
     {
-        match given {
-            Ok(bytes) if bytes.as_slice() == self.input => {}
-            _ => self.is(call, "other bytes", self.result),
-        }
-    }
-
-    /// As `reads`, for numbers that have the bits of the bytes.
-    pub(crate) fn reads_signed<B>(&mut self, call: &str, given: Result<B, FromHexError>)
-    where
-        B: AsSlice<i8> + Drop,
-    {
-        let given = match given {
-            Ok(numbers) => show_signed(self.alloc, numbers.as_slice()),
-            Err(error) => name(self.alloc, error),
+        let is_same = match given {
+            Ok(bytes) => bytes.as_slice() == self.input,
+            Err(_) => false,
         };
-        self.gives(call, given, self.result);
+        self.holds(call, is_same);
     }
 
     /// As `reads`, for a JSON value.
@@ -108,12 +110,12 @@ impl Line<'_> {
         &mut self,
         call: &str,
         done: Result<T, FromHexError>,
-        output: Vec<u8>,
+        output: &[u8],
         want: &str,
     ) {
         let given = match done {
-            Ok(_) => show(self.alloc, &output),
-            Err(error) => left(self.alloc, error, &output),
+            Ok(_) => show(self.alloc, output),
+            Err(error) => left(self.alloc, error, output),
         };
         self.gives(call, given, want);
     }
@@ -150,12 +152,19 @@ pub(crate) fn show(alloc: Global, bytes: &[u8]) -> Cell {
     Ok(text)
 }
 
-fn show_signed(alloc: Global, numbers: &[i8]) -> Cell {
-    let mut bytes = Vec::new(alloc);
-    for number in numbers {
+/// The bytes that have the bits of numbers.
+pub(crate) fn unsigned<B>(
+    alloc: Global,
+    numbers: Result<B, FromHexError>,
+) -> Result<Vec<u8>, FromHexError>
+where
+    B: AsSlice<i8> + Drop,
+{
+    let (numbers, mut bytes) = (numbers?, Vec::new(alloc));
+    for number in numbers.as_slice() {
         bytes.push(number.cast_unsigned())?;
     }
-    show(alloc, &bytes)
+    Ok(bytes)
 }
 
 /// The name of an error, with the number and the position of an invalid character.

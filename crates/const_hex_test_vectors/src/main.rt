@@ -10,29 +10,24 @@ mod kernels;
 mod lanes;
 mod line;
 
-use crate::kernels::{each_byte, fronts, pieces};
 use crate::line::{Line, read_bytes, read_cell};
-use const_hex_vectors::by_each_kernel;
 use std::alloc::{AllocError, Global};
-use std::fs::File;
-use std::io::{self, BufRead, BufReader};
 use std::process::ExitCode;
+use std::{fs, io};
 
 fn main(rt: HostRuntime) -> io::Result<ExitCode> {
-    let alloc = rt.alloc();
     // Where `rt ci` runs it, and where `rt run` does.
-    let file = match File::open(&rt, "vectors.tsv") {
-        Ok(file) => file,
-        Err(_) => File::open(&rt, "data/vectors.tsv")?,
+    let table = match fs::read_to_string(&rt, "vectors.tsv") {
+        Ok(table) => table,
+        Err(_) => fs::read_to_string(&rt, "data/vectors.tsv")?,
     };
     let (mut lines, mut wrong) = (0u64, 0u64);
-    for line in BufReader::new(alloc, file)?.lines(alloc) {
-        let line = line?;
+    for line in table.lines() {
         if line.is_empty() || line.starts_with('#') {
             continue;
         }
         lines = lines.saturating_add(1);
-        let others = compare(alloc, &line)?;
+        let others = compare(rt.alloc(), line)?;
         if !others.is_empty() {
             wrong = wrong.saturating_add(1);
             println!(rt; "{line}{others}")?;
@@ -45,16 +40,9 @@ fn main(rt: HostRuntime) -> io::Result<ExitCode> {
 /// The calls that return something else than a line says, and what they return.
 fn compare(alloc: Global, line: &str) -> Result<String, AllocError> {
     let mut columns = line.split('\t');
-    let question = columns.next().unwrap_or("");
-    let (question, size) = match question.split_once(' ') {
-        Some((question, size)) => (question, size.parse().ok()),
-        None => (question, None),
-    };
-    let (question, size, times) = match question.split_once("-times") {
-        Some((question, _)) => (question, None, size.unwrap_or(0)),
-        None => (question, size, 1),
-    };
-    let input = read_bytes(alloc, read_cell(columns.next()))?.repeat(alloc, times)?;
+    let (question, number, times) = read_question(columns.next().unwrap_or(""));
+    let input = read_bytes(alloc, read_cell(columns.next()))?;
+    let input = input.repeat(alloc, times)?;
     let result = read_cell(columns.next()).repeat(alloc, times)?;
     let mut line = Line {
         alloc,
@@ -62,31 +50,39 @@ fn compare(alloc: Global, line: &str) -> Result<String, AllocError> {
         result: &result,
         others: String::new(alloc),
     };
-    ask(&mut line, question, size)?;
+    ask(&mut line, question, number)?;
     Ok(line.others)
 }
 
-fn ask(line: &mut Line<'_>, question: &str, size: Option<usize>) -> Result<(), AllocError> {
-    match (question, size) {
-        ("write", None) => encoding::write(line)?,
-        ("write-into", Some(size)) => encoding::write_into(line, size)?,
-        ("read", None) => decoding::read(line)?,
-        ("read-into", Some(size)) => decoding::read_into(line, size)?,
-        ("read-pieces", None) => decoding::read_pieces(line),
-        ("digits", None) => decoding::read_digits(line),
-        ("message", None) => decoding::read_message(line),
-        ("message", Some(size)) => decoding::read_message_into(line, size)?,
-        ("json", None) => decoding::read_json(line),
-        ("json-into", Some(size)) => decoding::read_json_into(line, size),
-        ("json-message", None) => decoding::read_json_message(line),
-        ("each-byte", None) => by_each_kernel!(each_byte(line)?),
-        ("fronts", None) => by_each_kernel!(fronts(line)?),
-        ("pieces", None) => by_each_kernel!(pieces(line)?),
-        ("calls", Some(count)) => calls::calls(line, count)?,
-        ("values-of-step", None) => lanes::values(line),
-        ("write-step", None) => lanes::text(line)?,
-        ("read-step", None) => lanes::bytes(line),
-        _ => line.is("no such question", question, ""),
+/// A question without its number, the number, and how many times both columns stand for.
+fn read_question(column: &str) -> (&str, usize, usize) {
+    let (question, number) = column.split_once(' ').unwrap_or((column, ""));
+    let number = number.parse().unwrap_or(0);
+    match question.split_once("-times") {
+        Some((question, _)) => (question, 0, number),
+        None => (question, number, 1),
     }
-    Ok(())
+}
+
+fn ask(line: &mut Line<'_>, question: &str, number: usize) -> Result<(), AllocError> {
+    match question {
+        "write" => encoding::write(line),
+        "write-into" => encoding::write_into(line, number),
+        "read" => decoding::read(line),
+        "read-into" => decoding::read_into(line, number),
+        "read-pieces" => Ok(decoding::read_pieces(line)),
+        "digits" => Ok(decoding::read_digits(line)),
+        "message" => decoding::read_message(line, number),
+        "json" => Ok(decoding::read_json(line)),
+        "json-into" => Ok(decoding::read_json_into(line, number)),
+        "json-message" => Ok(decoding::read_json_message(line)),
+        "each-byte" => Ok(kernels::each_byte(line)),
+        "fronts" => kernels::fronts(line),
+        "pieces" => calls::pieces(line),
+        "calls" => calls::calls(line, number),
+        "values-of-step" => Ok(lanes::values(line)),
+        "write-step" => lanes::text(line),
+        "read-step" => Ok(lanes::bytes(line)),
+        _ => Ok(line.is("no such question", question, "")),
+    }
 }

@@ -11,6 +11,4 @@ pub mod readers;
 pub mod sinks;
 pub mod store;
 pub mod streams;
-#[cfg(test)]
-mod tests;
 pub mod writers;

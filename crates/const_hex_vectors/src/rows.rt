@@ -6,101 +6,43 @@ use std::process::Abort;
 use std::{ascii, fmt};
 
 /// Ends the test if a call did not return what is wanted. Prints the call, its row and both results.
-/// With no call and no row, it prints the expression that has the result.
+/// With no call and no row, it prints the expression that has the result. A crate of tests has the function
+/// `tests::compare`, which does this: a function of a library must not end the process.
 #[macro_export]
 macro_rules! same {
     ($rt:expr; $result:expr, $want:expr) => {
-        $crate::compare((), $result, $want).expect($rt, stringify!($result))
+        crate::tests::compare($rt, stringify!($result), (), $result, $want)
     };
     ($rt:expr, $call:expr, $row:expr; $result:expr, $want:expr) => {
-        $crate::compare($row, $result, $want).expect($rt, $call)
+        crate::tests::compare($rt, $call, $row, $result, $want)
     };
 }
 
 /// As `same`, for what lends bytes, from a little before the first byte that differs.
 #[macro_export]
 macro_rules! same_bytes {
-    ($rt:expr, $call:expr, $row:expr; $bytes:expr, $want:expr) => {
-        $crate::compare_bytes(
-            $row,
+    ($rt:expr, $call:expr, $row:expr; $bytes:expr, $want:expr) => {{
+        let [bytes, want] = $crate::differing_parts(
             std::convert::AsSlice::as_slice(&$bytes),
             std::convert::AsSlice::as_slice(&$want),
-        )
-        .expect($rt, $call)
-    };
+        );
+        crate::tests::compare($rt, $call, $row, bytes, want)
+    }};
 }
 
 /// As `same_bytes`, for what may be an error.
 #[macro_export]
 macro_rules! same_read {
-    ($rt:expr, $call:expr, $row:expr; $read:expr, $want:expr) => {
-        $crate::compare_read($row, $read, $want).expect($rt, $call)
-    };
+    ($rt:expr, $call:expr, $row:expr; $read:expr, $want:expr) => {{
+        let [read, want] = $crate::read_parts($read, $want);
+        crate::tests::compare($rt, $call, $row, read, want)
+    }};
 }
 
 /// What a test is given: it can end the process, and allocate.
 pub trait Testing: Abort + AllocGlobal {}
 
 impl<R: Abort + AllocGlobal> Testing for R {}
-
-/// A row whose call did not return what is wanted.
-#[derive(Drop)]
-pub struct Difference<R, A> {
-    row: R,
-    found: A,
-    want: A,
-}
-
-impl<R: Debug, A: Debug> Debug for Difference<R, A> {
-    fn fmt<W: fmt::Write>(&self, f: &mut fmt::Formatter<W>) -> fmt::Result {
-        let Difference { row, found, want } = self;
-        write!(f, "at {row:?}: {found:?}, but wanted {want:?}")
-    }
-}
-
-/// What `same` compares.
-pub fn compare<R, A>(row: R, found: A, want: A) -> Result<(), Difference<R, A>>
-where
-    R: Drop,
-    A: PartialEq + Drop,
-{
-    if found == want {
-        return Ok(());
-    }
-    Err(Difference { row, found, want })
-}
-
-/// What `same_bytes` compares.
-pub fn compare_bytes<R: Drop>(
-    row: R,
-    bytes: &[u8],
-    want: &[u8],
-) -> Result<(), Difference<R, Part>> {
-    let [bytes, want] = differing_parts(bytes, want);
-    compare(row, bytes, want)
-}
-
-/// What `same_read` compares.
-pub fn compare_read<R, B, E>(
-    row: R,
-    read: Result<B, E>,
-    want: Result<&[u8], E>,
-) -> Result<(), Difference<R, Result<Part, E>>>
-where
-    R: Drop,
-    B: AsSlice<u8> + Drop,
-    E: PartialEq + Drop,
-{
-    match (read, want) {
-        (Ok(bytes), Ok(want)) => {
-            let [bytes, want] = differing_parts(bytes.as_slice(), want);
-            compare(row, Ok(bytes), Ok(want))
-        }
-        (Ok(bytes), Err(error)) => compare(row, Ok(Part::new(bytes.as_slice(), 0)), Err(error)),
-        (Err(error), Ok(want)) => compare(row, Err(error), Ok(Part::new(want, 0))),
-        (Err(error), Err(want)) => compare(row, Err(error), Err(want)),
-    }
-}
 
 /// Bytes that print as a text: at most the first 64, and how many there are if there are more.
 #[derive(Clone, Copy, PartialEq, Eq)]
@@ -162,4 +104,21 @@ pub fn differing_parts(bytes: &[u8], want: &[u8]) -> [Part; 2] {
     let index = differs.unwrap_or(bytes.len().min(want.len()));
     let start = index.saturating_sub(8);
     [Part::new(bytes, start), Part::new(want, start)]
+}
+
+/// As `differing_parts`, or the beginning of what is read or wanted in place of an error.
+pub fn read_parts<B, E>(read: Result<B, E>, want: Result<&[u8], E>) -> [Result<Part, E>; 2]
+where
+    B: AsSlice<u8> + Drop,
+    E: Drop,
+{
+    match (read, want) {
+        (Ok(bytes), Ok(want)) => {
+            let [bytes, want] = differing_parts(bytes.as_slice(), want);
+            [Ok(bytes), Ok(want)]
+        }
+        (Ok(bytes), Err(error)) => [Ok(Part::new(bytes.as_slice(), 0)), Err(error)],
+        (Err(error), Ok(want)) => [Err(error), Ok(Part::new(want, 0))],
+        (Err(error), Err(want)) => [Err(error), Err(want)],
+    }
 }

@@ -5,8 +5,21 @@ mod arguments;
 mod devices;
 
 use const_hex::FromHexError;
+use const_hex_vectors::Testing;
 use hexfilter_core::{Groups, Mode, Place, Reading, RunError};
+use std::fmt::Debug;
 use std::io::ErrorKind;
+
+/// What `same` calls.
+fn compare<R, A>(rt: &impl Testing, call: &str, row: R, found: A, want: A)
+where
+    R: Debug + Drop,
+    A: PartialEq + Debug + Drop,
+{
+    if found != want {
+        panic!(rt; "{call}: at {row:?}: {found:?}, but wanted {want:?}");
+    }
+}
 
 fn groups(size: usize, separator: u8) -> Groups {
     Groups { size, separator }

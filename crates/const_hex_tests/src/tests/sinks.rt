@@ -3,8 +3,8 @@
 
 ghost use Rattle.std.specs.Prelude.{◌<◌};
 
-use crate::{Testing, same, same_bytes};
 use const_hex::{BufferedOutput, Output, PieceSink, Sink, SinkOutput, SliceOutput};
+use const_hex_vectors::{Testing, same, same_bytes};
 
 type ToSink<'a, const N: usize> = BufferedOutput<SinkOutput<'a, PieceSink>, N>;
 

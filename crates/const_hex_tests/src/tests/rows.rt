@@ -1,12 +1,6 @@
-//! The tests, beginning with what a row that fails prints. `const_hex_test_vectors` has all that a line
-//! of its table can ask.
+//! What a row that fails prints.
 
-mod printed;
-mod sinks;
-mod tables;
-mod write_sink;
-
-use crate::{same, same_bytes, same_read};
+use const_hex_vectors::{same, same_bytes, same_read};
 use std::alloc::AllocError;
 
 #[test]

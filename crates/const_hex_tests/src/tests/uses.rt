@@ -1,17 +1,17 @@
-//! One call of each function. Its contract says the rest.
+//! One call of each function of `const_hex_uses`, whose contract says the rest.
 
-use crate::constants::{transfer, wrapped_ether};
-use crate::files::{write_line, write_text};
-use crate::json_rpc::{code_of, code_request, reason};
-use crate::own_kernel::{decoded, encoded, write_pieces};
-use crate::readers::{
+use const_hex::{FromHex, FromHexError, JsonError, PieceSink, SliceOutput};
+use const_hex_uses::constants::{transfer, wrapped_ether};
+use const_hex_uses::files::{write_line, write_text};
+use const_hex_uses::json_rpc::{code_of, code_request, reason};
+use const_hex_uses::own_kernel::{decoded, encoded, write_pieces};
+use const_hex_uses::readers::{
     is_same_account, read_both, read_salt, read_shared, replace_key, replace_whole_key,
 };
-use crate::sinks::{packets, refused_key, send_json};
-use crate::store::{find, put};
-use crate::streams::decode_typed;
-use crate::writers::{address_text, array_text, fill_field, joined_text};
-use const_hex::{FromHex, FromHexError, JsonError, PieceSink, SliceOutput};
+use const_hex_uses::sinks::{packets, refused_key, send_json};
+use const_hex_uses::store::{find, put};
+use const_hex_uses::streams::decode_typed;
+use const_hex_uses::writers::{address_text, array_text, fill_field, joined_text};
 use const_hex_vectors::texts::invalid;
 use const_hex_vectors::{Testing, Text, same, same_bytes, same_read};
 use serde_json::json;
@@ -28,16 +28,20 @@ fn texts(rt: HostRuntime) {
     gives(&rt, "array_text", array_text(alloc, b"kiwi"), "0x6b697769");
     let text = joined_text(alloc, b"ki", b"wi");
     gives(&rt, "joined_text", text, "6b697769");
-    gives(&rt, "encoded", encoded(alloc, b"kiwi"), "6b697769");
-    let bytes = decoded(alloc, b"0x6B697769");
-    same_read!(&rt, "decoded", "0x6B697769"; bytes, Ok(b"kiwi"));
-    let mut text = [0; 8];
-    write_pieces(b"kiwi", &mut SliceOutput::new(&mut text));
-    same_bytes!(&rt, "write_pieces", "kiwi"; text, "6b697769");
     let mut field = [b'.'; 4];
     same!(&rt; fill_field(&mut field, b"ki"), Ok(()));
     same!(&rt; fill_field(&mut field, b"kiwi"), Err(FromHexError::InvalidStringLength));
     same_bytes!(&rt, "fill_field", "ki"; field, "6b69");
+}
+
+#[test]
+fn own_kernel(rt: HostRuntime) {
+    gives(&rt, "encoded", encoded(rt.alloc(), b"kiwi"), "6b697769");
+    let bytes = decoded(rt.alloc(), b"0x6B697769");
+    same_read!(&rt, "decoded", "0x6B697769"; bytes, Ok(b"kiwi"));
+    let mut text = [0; 8];
+    write_pieces(b"kiwi", &mut SliceOutput::new(&mut text));
+    same_bytes!(&rt, "write_pieces", "kiwi"; text, "6b697769");
 }
 
 /// A call made this text.
@@ -68,6 +72,10 @@ fn two_texts(rt: HostRuntime) {
     agree::<[u8; 2]>(&rt, "[u8; 2]");
     agree::<[i8; 2]>(&rt, "[i8; 2]");
     agree::<Box<[u8; 2]>>(&rt, "Box<[u8; 2]>");
+}
+
+#[test]
+fn shared_lists_and_accounts(rt: HostRuntime) {
     let (one, two) = read_both::<Rc<Vec<u8>>>(rt.alloc(), LOWER, b"ff81").expect(&rt, "two lists");
     assert!(rt; *one != *two);
     let shared = read_shared(rt.alloc(), UPPER).expect(&rt, "a list");
@@ -79,7 +87,7 @@ fn two_texts(rt: HostRuntime) {
 }
 
 #[test]
-fn keys_salts_and_typed_texts(rt: HostRuntime) {
+fn keys(rt: HostRuntime) {
     let mut key = [0xEE; 32];
     same!(&rt; replace_key(&mut key, b"6b6"), Err(FromHexError::OddLength));
     same_bytes!(&rt, "the key", "6b6"; key, [0xEE; 32]);
@@ -87,6 +95,10 @@ fn keys_salts_and_typed_texts(rt: HostRuntime) {
     same_bytes!(&rt, "the key", "64 letters"; key, [0xAA; 32]);
     same!(&rt; replace_whole_key(&mut key, &[b'z'; 64]), Err(invalid(b'z', 0)));
     same_bytes!(&rt, "the key", "64 letters z"; key, [0xAA; 32]);
+}
+
+#[test]
+fn salts_and_typed_texts(rt: HostRuntime) {
     let mut salt = [0; 64];
     same!(&rt; read_salt(b"0x6b69", &mut salt), Ok(2));
     same!(&rt; read_salt(&[b'a'; 131], &mut salt), Err(FromHexError::OddLength));
@@ -111,11 +123,15 @@ fn stored_numbers(rt: HostRuntime) {
 }
 
 #[test]
-fn files_and_sinks(rt: HostRuntime) {
+fn files(rt: HostRuntime) {
     let mut file = Vec::new(rt.alloc());
     assert!(rt; write_line(b"", &mut file).is_ok());
     assert!(rt; write_text(b"kiwi", &mut file).is_ok());
     same_bytes!(&rt, "write_line, write_text", "kiwi"; file, "0x\n0x6b697769");
+}
+
+#[test]
+fn sinks(rt: HostRuntime) {
     let mut sink = PieceSink::new(rt.alloc(), 0);
     send_json(b"kiwi", &mut sink).expect(&rt, "send_json");
     same!(&rt, "send_json", "kiwi"; sink.pieces().len(), 1);
@@ -140,11 +156,15 @@ fn constants(rt: HostRuntime) {
 }
 
 #[test]
-fn requests_and_responses(rt: HostRuntime) {
+fn requests(rt: HostRuntime) {
     let request = code_request(rt.alloc(), &[0xab; 20]).expect(&rt, "memory");
     let text = "{\"id\":1,\"jsonrpc\":\"2.0\",\"method\":\"eth_getCode\",\
         \"params\":[\"0xabababababababababababababababababababab\",\"latest\"]}";
     gives(&rt, "code_request", request.to_string(rt.alloc()), text);
+}
+
+#[test]
+fn responses(rt: HostRuntime) {
     let response = json!(in rt.alloc(); {"id": 1, "result": "0x6001"}).expect(&rt, "memory");
     let code = code_of(rt.alloc(), &response).expect(&rt, "code_of");
     same_bytes!(&rt, "code_of", "0x6001"; code, b"\x60\x01");

@@ -1,9 +1,9 @@
 //! `WriteSink`, over writers that fail and accept few bytes per call: which error it returns, which calls
 //! it makes again, and that it flushes nothing.
 
-use crate::texts::{make_bytes, print};
-use crate::{Fault, Target, Testing, same, same_bytes};
 use const_hex::{BufferedHex, Plain, Sink, WriteSink};
+use const_hex_vectors::texts::{make_bytes, print};
+use const_hex_vectors::{Fault, Target, Testing, same, same_bytes};
 use std::io::{self, ErrorKind};
 
 // A text of 6002 bytes comes in pieces of 4096 and 1906. A writer that accepts 1000 per call gets
@@ -47,8 +47,8 @@ fn writes(
     let mut target = Target::new(rt.alloc(), 1000, fault);
     let mut sink = WriteSink::new(&mut target);
     let result = BufferedHex::<false, true>::new(bytes).write_with::<Plain, _>(&mut sink);
-    same!(rt, "write_with", fault; result.is_err(), kind.is_some());
-    same!(rt, "refused", fault; sink.refused(), kind.is_some());
+    let has_failed = (result.is_err(), sink.refused());
+    same!(rt, "write_with, refused", fault; has_failed, (kind.is_some(), kind.is_some()));
     same!(rt, "error", fault; kind_of(sink.error()), kind);
     same!(rt, "finish", fault; kind_of(sink.finish().as_ref().err()), kind);
     same!(rt, "writes and flushes", fault; (target.writes, target.flushes), (calls, 0));

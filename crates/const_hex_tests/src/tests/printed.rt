@@ -1,8 +1,8 @@
 //! What no clause says of printed values, and what new buffers hold.
 
-use crate::texts::invalid;
-use crate::{Testing, same, same_bytes};
 use const_hex::{Buffer, FromHexError, JsonError, SinkError};
+use const_hex_vectors::texts::invalid;
+use const_hex_vectors::{Testing, same, same_bytes};
 use hash_hex::{Address20, FixedBytes, Hash32};
 use std::fmt::Debug;
 
