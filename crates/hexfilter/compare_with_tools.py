@@ -120,10 +120,14 @@ class Filter:
             (["-pw4"], b"kiwi", 0, b"0x6b\n6977\n69\n", b""),
             (["-d", "-"], b"0x6b697769", 0, b"kiwi", b""),
             (["--check"], b"6b69", 0, b"", b""),
-            (["-us:"], b"kiwi", 0, b"6B:69:77:69", b""),
-            (["-dg2"], b"6b69 7769", 0, b"kiwi", b""),
+            (["-us:", "-"], b"kiwi", 0, b"6B:69:77:69", b""),
+            (["--group=1", "--separator", ":", "--upper"], b"kiwi", 0, b"6B:69:77:69", b""),
+            (["-puw76", "--wrap=7"], b"kiwi", 0, b"0x6B697\n769\n", b""),
+            (["-dw76"], b"6b69", 0, b"ki", b""),
+            (["-g2", "--decode"], b"6b69 7769", 0, b"kiwi", b""),
+            (["--check", "-d"], b"6b69", 0, b"", b""),
             (["-ds:"], b"6b:6977", 1, b"ki", named("invalid character '7' at position 5 (line 1, column 6)")),
-            (["--version"], b"", 0, b"hexfilter 1.0.0\n", b""),
+            (["--version", "file"], b"", 0, b"hexfilter 1.0.0\n", b""),
             (["--check"], b"6b697z", 1, b"", named("invalid character 'z' at position 5")),
             (["--check"], b"6b69\n", 1, b"", named("invalid character '\\n' at position 4")),
             (["--check", "-i"], b"6b\r\n\xff", 1, b"",
@@ -152,17 +156,25 @@ class Filter:
              named("invalid character '!' at position 150000 (line 30001, column 1)")),
             (["-di"], b"6b69\n6b 697769\n7 7\n" * 9_000, 0, b"kikiwiw" * 9_000, b""),
             (["-ds:"], b":".join([b"6b"] * 50_000 + [b"6"]), 1, b"k" * 50_000, named("odd number of digits")),
-            (["-dx"], b"kiwi", 2, b"", usage("unknown option '-dx'")),
-            (["-p", "--wrap"], b"kiwi", 2, b"", usage("missing value after '--wrap'")),
-            (["-w", "7o"], b"kiwi", 2, b"", usage("invalid number '7o'")),
-            (["--separator=a"], b"kiwi", 2, b"", usage("invalid separator '--separator=a'")),
-            (["-w4", "-g2"], b"kiwi", 2, b"", usage("--wrap beside --group or --separator: '-g2'")),
-            (["one", "two"], b"kiwi", 2, b"", usage("second file 'two'")),
             (["\udcff"], b"kiwi", 2, b"", b"hexfilter: cannot read the arguments: invalid data\n"),
         ]
         for row in rows:
             self.ends(*row)
-        self.assertEqual(subprocess.run([self.program, "--help"], capture_output=True).returncode, 0)
+        self.assertEqual(subprocess.run([self.program, "-dVh"], capture_output=True).returncode, 0)
+        # The argument with that index is not valid.
+        faults = [
+            ("unknown option", 0, "-x|--decod|-D|-dx|---|--help=|--wrapx=1"),
+            ("unknown option", 1, "-d -x|-w7 -z --y|- --z"),
+            ("missing value after", 1, "-d -w|one --wrap|-p -dg|-d --separator"),
+            ("invalid number", 0, "-wd|--wrap=|--wrap=1x|--group=18446744073709551616"),
+            ("invalid number", 1, "-w x|-w -1|--wrap +1|-g --"),
+            ("invalid separator", 0, "-sa|-s0|--separator=|--separator=F|-s::|--separator=ÿ"),
+            ("--wrap beside --group or --separator:", 1, "-w60 -g2|-s: -dw60|-g2 --wrap=0"),
+            ("second file", 1, "one two|- -|one two -x"),
+        ]
+        for fault, index, rows in faults:
+            for arguments in map(str.split, rows.split("|")):
+                self.ends(arguments, b"", 2, b"", usage(f"{fault} '{arguments[index]}'"))
 
     def test_files(self):
         with tempfile.TemporaryDirectory() as folder:

@@ -11,18 +11,6 @@ status_of (Text e place) = 1
 status_of (Read e) = 3
 status_of (Write e) = 3
 
--- a read failed, and no signal interrupted it
-abbrev pub IsFailedRead : RunError → Type 0
-IsFailedRead (Text e place) = ⊥
-IsFailedRead (Read e) = error_kind e ≢ Interrupted
-IsFailedRead (Write e) = ⊥
-
--- a write or a flush failed, and no signal interrupted it
-abbrev pub IsFailedWrite : RunError → Type 0
-IsFailedWrite (Text e place) = ⊥
-IsFailedWrite (Read e) = ⊥
-IsFailedWrite (Write e) = error_kind e ≢ Interrupted
-
 -- no call failed because a signal interrupted it
 abbrev pub IsNotInterrupted : RunError → Type 0
 IsNotInterrupted (Text e place) = Unit {0}

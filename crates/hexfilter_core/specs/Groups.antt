@@ -18,12 +18,12 @@ abbrev pub laid_out : Groups → ℕ → List ℕ → List ℕ
 laid_out g c t = if g.size == 0 then t else groups_from g.size g.separator c t
 
 -- y is what is written for the text t, whatever follows, and the last group then has d characters
-abbrev pub Lays : Groups → ℕ → List ℕ → List ℕ → ℕ → Type 0
-Lays g c t y d = (rest : List ℕ) → laid_out g c (t ++ rest) ≡ y ++ laid_out g d rest
+abbrev pub BreaksInto : Groups → ℕ → List ℕ → List ℕ → ℕ → Type 0
+BreaksInto g c t y d = (rest : List ℕ) → laid_out g c (t ++ rest) ≡ y ++ laid_out g d rest
 
 -- y is a beginning of what is written for the text t, whatever follows
-abbrev pub Begins : Groups → ℕ → List ℕ → List ℕ → Type 0
-Begins g c t y = (rest : List ℕ) → (left : List ℕ) × (laid_out g c (t ++ rest) ≡ y ++ left)
+abbrev pub BreaksIntoStart : Groups → ℕ → List ℕ → List ℕ → Type 0
+BreaksIntoStart g c t y = (rest : List ℕ) → (left : List ℕ) × (laid_out g c (t ++ rest) ≡ y ++ left)
 
 -- the text of the bytes, after `0x` if a prefix is wanted, in groups
 abbrev pub encoded : Bool → Bool → Groups → List ℕ → List ℕ

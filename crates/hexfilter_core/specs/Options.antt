@@ -1,7 +1,7 @@
 -- What the arguments of the program ask for.
 use Rattle.std.specs.Prelude.{◌≡◌, ◌⊎◌, ◌++◌, ℕ, ◌+◌, ◌-◌, ◌*◌, ◌^◌, ◌==◌, nat_lt, min, ◌&&◌, ◌||◌, not, true, false, if◌then◌else◌, Bool, List, [], ◌∷◌, length, Option, Some, None, Result, Ok, Err, codes}
 use Rattle.std.specs.Char.{is_ascii_hexdigit}
-use Rattle.std.specs.List.{after_first, before_first, position_or_len}
+use Rattle.std.specs.List.{after_first, before_first, list_any, position_or_len}
 use Rattle.std.specs.Option.{is_some, unwrap_or}
 use Rattle.std.specs.Str.{all_ascii_digits, bytes_eq}
 use Rattle.std.specs.Str.Parse.{digits_value}
@@ -37,14 +37,10 @@ table o =
     ∷ (codes "s" ∷ codes "-separator" ∷ [], record o { grouped = true; value = Some Separator })
     ∷ []
 
-abbrev pub is_one_of : List ℕ → List (List ℕ) → Bool
-is_one_of key [] = false
-is_one_of key (k ∷ keys) = bytes_eq key k || is_one_of key keys
-
 -- the options with the one that the key names
 abbrev pub find : List ℕ → List (List (List ℕ) × Options) → Result Options Fault
 find key [] = Err UnknownOption
-find key (row ∷ rows) = if is_one_of key row.0 then Ok row.1 else find key rows
+find key (row ∷ rows) = if list_any (λ k. bytes_eq key k) row.0 then Ok row.1 else find key rows
 
 -- a value: the number that decimal digits write, or an ASCII character that is no digit
 abbrev pub number : List ℕ → Result ℕ Fault

@@ -4,8 +4,8 @@ use Rattle.const_hex.specs.Results.{Checks, Reads}
 use Rattle.const_hex.specs.declared.error.FromHexError.{FromHexError}
 use Rattle.hexfilter_core.specs.Groups.{encoded}
 use Rattle.hexfilter_core.specs.Inputs.{HasError, SpellsBeginning, text_of}
+use Rattle.hexfilter_core.specs.declared.mode.DecodeMode.{DecodeMode}
 use Rattle.hexfilter_core.specs.declared.mode.Mode.{Mode}
-use Rattle.hexfilter_core.specs.declared.mode.Reading.{Reading}
 use Rattle.hexfilter_core.specs.declared.place.Place.{Place}
 use Rattle.hexfilter_core.specs.declared.mode.Mode.TheVariants.{Encode, Decode, Check}
 
@@ -28,8 +28,8 @@ FailsWith (Decode r) left x y e place = HasError r left x y e place
 FailsWith (Check r) left x y e place = ((z : List ℕ) × HasError r left x z e place) × (y ≡ [])
 
 -- the mode in which an input is decoded, or only checked, and what is written then of the bytes y
-abbrev pub decode_mode : Bool → Reading → Mode
-decode_mode is_check r = if is_check then Check r else Decode r
+abbrev pub mode_of : DecodeMode → Mode
+mode_of m = if m.is_check then Check m.reading else Decode m.reading
 
 abbrev pub written : Bool → List ℕ → List ℕ
 written is_check y = if is_check then [] else y

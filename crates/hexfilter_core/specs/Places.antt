@@ -4,22 +4,23 @@ use Rattle.hexfilter_core.specs.declared.mode.Reading.{Reading}
 use Rattle.hexfilter_core.specs.declared.place.Line.{Line}
 use Rattle.hexfilter_core.specs.declared.place.Place.{Place}
 
--- the line and the column after more of an input
-unfoldable pub line_after : ℕ → List ℕ → ℕ
-line_after n [] = n
-line_after n (b ∷ t) = line_after (if b == 10 then n + 1 else n) t
+-- the place after more of an input
+unfoldable pub place_after : Place → List ℕ → Place
+place_after p [] = p
+place_after p (b ∷ t) =
+    place_after (record { line = if b == 10 then p.line + 1 else p.line; column = if b == 10 then 1 else p.column + 1 }) t
 
-unfoldable pub column_after : ℕ → List ℕ → ℕ
-column_after n [] = n
-column_after n (b ∷ t) = column_after (if b == 10 then 1 else n + 1) t
+-- the place after the input x
+abbrev pub after : List ℕ → Place
+after x = place_after (record { line = 1; column = 1 }) x
 
 -- the place is that of the character after x, if its position can be counted
 abbrev pub IsPlace : List ℕ → Place → Type 0
-IsPlace x p = length x < 2 ^ 64 - 1 → (p.line ≡ line_after 1 x) × (p.column ≡ column_after 1 x)
+IsPlace x p = length x < 2 ^ 64 - 1 → (p.line ≡ (after x).line) × (p.column ≡ (after x).column)
 
 -- the line is that of the character after x, if its position can be counted
 abbrev pub IsLine : List ℕ → Line → Type 0
-IsLine x l = length x < 2 ^ 64 - 1 → (l.number ≡ line_after 1 x) × (l.start + column_after 1 x ≡ length x + 1)
+IsLine x l = length x < 2 ^ 64 - 1 → (l.number ≡ (after x).line) × (l.start + (after x).column ≡ length x + 1)
 
 -- whether bytes may be left out
 abbrev pub leaves_out : Reading → Bool

@@ -1,19 +1,16 @@
 //! What a program that runs this library can rely on. Nothing exports these functions.
 
-ghost use Rattle.std.specs.Prelude.{◌≡◌, ◌≢◌, ◌*◌, ◌/◌, ◌++◌, ◌∷◌, [], List, ℕ, Ok, Err, Option, OnOk, length, take};
-ghost use Rattle.std.specs.IoError.{error_kind};
-ghost use Rattle.std.specs.declared.io.ErrorKind.TheVariants.{Interrupted};
+ghost use Rattle.std.specs.Prelude.{◌≡◌, ◌*◌, ◌/◌, ◌++◌, ◌∷◌, [], List, ℕ, Ok, Err, Option, OnOk, length, take};
 ghost use Rattle.const_hex.specs.Decoding.{counted};
 ghost use Rattle.const_hex.specs.Results.{IsOdd, Reads, body_of};
 ghost use Rattle.const_hex.specs.Texts.{AllDigits, Spells};
 ghost use Rattle.const_hex.specs.declared.error.FromHexError.TheVariants.{InvalidHexCharacter, OddLength};
-ghost use Rattle.hexfilter_core.specs.declared.error.RunError.TheVariants.{Read, Text, Write};
+ghost use Rattle.hexfilter_core.specs.declared.error.RunError.TheVariants.{Text};
 ghost use Rattle.hexfilter_core.specs.declared.place.Place.{Place};
 
 use crate::error::RunError;
 use crate::mode::{Groups, Mode, Reading};
 use crate::runs::run;
-use std::io;
 
 const DECODE: Mode = Mode::Decode(Reading {
     ignore_whitespace: false,
@@ -35,12 +32,4 @@ fn append_decoded(text: &[u8], output: &mut Vec<u8>) -> Result<(), RunError>
 {
     let mut input = text;
     run(DECODE, &mut input, output)
-}
-
-/// Copies the bytes that a text decodes to.
-fn decode<R: io::Read, W: io::Write>(input: &mut R, output: &mut W) -> Result<(), RunError>
-    ensures read { (e : _) → result ≡ Err (Read e) → error_kind e ≢ Interrupted }
-    ensures written { (e : _) → result ≡ Err (Write e) → error_kind e ≢ Interrupted }
-{
-    run(DECODE, input, output)
 }

@@ -1,17 +1,13 @@
 //! From a reader's text to a writer's bytes.
 
-ghost use Rattle.std.specs.Prelude.{◌≡◌, ◌≤◌, Err, Option, OnOk, OnErr, IfErr, length, true};
-ghost use Rattle.const_hex.specs.declared.error.FromHexError.{FromHexError};
-ghost use Rattle.hexfilter_core.specs.Errors.{IsNotInterrupted};
-ghost use Rattle.hexfilter_core.specs.Streams.{RunsToEnd, RunsToError, RunsPartly};
-ghost use Rattle.hexfilter_core.specs.Outcome.{decode_mode};
+ghost use Rattle.std.specs.Prelude.{◌≡◌, ◌≤◌, OnOk, OnErr, IfErr, length, true};
+ghost use Rattle.hexfilter_core.specs.Streams.{RunsPartly, RunsToEnd, StopsWith};
+ghost use Rattle.hexfilter_core.specs.Outcome.{mode_of};
 ghost use Rattle.hexfilter_core.specs.Places.{leaves_out};
-ghost use Rattle.hexfilter_core.specs.declared.error.RunError.TheVariants.{Text};
-ghost use Rattle.hexfilter_core.specs.declared.place.Place.{Place};
 
 use crate::error::RunError;
 use crate::input_decoder::InputDecoder;
-use crate::mode::Reading;
+use crate::mode::{DecodeMode, Reading};
 use crate::transfer::{flush, read_chunk, too_many_reads, write_piece};
 use std::io::{Read, Write};
 
@@ -25,49 +21,45 @@ pub(crate) fn decode_stream<R: Read, W: Write>(
     input: &mut R,
     output: &mut W,
 ) -> Result<(), RunError>
-    ensures ok { OnOk result (RunsToEnd (decode_mode is_check reading) (R.remaining input.old) (R.remaining input.new)
-        (W.contents output.old) (W.contents output.new)) }
-    ensures text { (e : FromHexError) (place : Option Place) → result ≡ Err (Text e place)
-        → RunsToError (decode_mode is_check reading) (R.remaining input.old) (R.remaining input.new)
-        (W.contents output.old) (W.contents output.new) e place }
-    ensures begun { OnErr result (RunsPartly (decode_mode is_check reading) (R.remaining input.old) (R.remaining input.new)
-        (W.contents output.old) (W.contents output.new)) }
-    ensures retried { IfErr result IsNotInterrupted }
+    ensures ok { OnOk result (RunsToEnd (mode_of (record { reading = reading; is_check = is_check }))
+        (R.remaining input.old) (R.remaining input.new) (W.contents output.old) (W.contents output.new)) }
+    ensures err { IfErr result (StopsWith (mode_of (record { reading = reading; is_check = is_check }))
+        (R.remaining input.old) (R.remaining input.new) (W.contents output.old) (W.contents output.new)) }
+    ensures begun { OnErr result (RunsPartly (mode_of (record { reading = reading; is_check = is_check }))
+        (R.remaining input.old) (R.remaining input.new) (W.contents output.old) (W.contents output.new)) }
 {
+    let mode = DecodeMode { reading, is_check };
     if reading.leaves_out() {
-        return decode_chunks(reading, is_check, input, &mut [0; CHUNK], output);
+        return decode_chunks(mode, input, &mut [0; CHUNK], output);
     }
-    decode_chunks(reading, is_check, input, &mut [], output)
+    decode_chunks(mode, input, &mut [], output)
 }
 
 /// As `decode_stream`. The text is space for a chunk, if bytes may be left out.
 fn decode_chunks<R: Read, W: Write>(
-    reading: Reading,
-    is_check: bool,
+    mode: DecodeMode,
     input: &mut R,
     text: &mut [u8],
     output: &mut W,
 ) -> Result<(), RunError>
-    requires { leaves_out reading ≡ true → 65536 ≤ length text.old }
-    ensures ok { OnOk result (RunsToEnd (decode_mode is_check reading) (R.remaining input.old) (R.remaining input.new)
+    requires { leaves_out mode.reading ≡ true → 65536 ≤ length text.old }
+    ensures ok { OnOk result (RunsToEnd (mode_of mode) (R.remaining input.old) (R.remaining input.new)
         (W.contents output.old) (W.contents output.new)) }
-    ensures text { (e : FromHexError) (place : Option Place) → result ≡ Err (Text e place)
-        → RunsToError (decode_mode is_check reading) (R.remaining input.old) (R.remaining input.new)
-        (W.contents output.old) (W.contents output.new) e place }
-    ensures begun { OnErr result (RunsPartly (decode_mode is_check reading) (R.remaining input.old) (R.remaining input.new)
+    ensures err { IfErr result (StopsWith (mode_of mode) (R.remaining input.old) (R.remaining input.new)
         (W.contents output.old) (W.contents output.new)) }
-    ensures retried { IfErr result IsNotInterrupted }
+    ensures begun { OnErr result (RunsPartly (mode_of mode) (R.remaining input.old) (R.remaining input.new)
+        (W.contents output.old) (W.contents output.new)) }
 {
     let mut chunk = [0; CHUNK];
-    let mut bytes = [0; CHUNK / 2 + 1];
-    let mut decoder = InputDecoder::new(reading, is_check);
+    let mut bytes = [0; CHUNK];
+    let mut decoder = InputDecoder::new();
     'chunks: for _ in 0..u64::MAX {
         let count = read_chunk(input, &mut chunk)?;
         if count == 0 {
             decoder.finish()?;
             return flush(output);
         }
-        let (end, error) = decoder.decode(&chunk[..count], text, &mut bytes);
+        let (end, error) = decoder.decode(mode, &chunk[..count], text, &mut bytes);
         write_piece(output, &bytes[..end])?;
         if let Some(error) = error {
             return Err(error);

@@ -4,8 +4,8 @@ ghost use Rattle.std.specs.Prelude.{◌≡◌, ◌≢◌, ◌*◌, ◌≤◌, Li
 ghost use Rattle.std.specs.Io.KnownBytes.{Appends};
 ghost use Rattle.const_hex.specs.Texts.{prefix_of};
 ghost use Rattle.const_hex.specs.Writers.{WritesBeginning};
-ghost use Rattle.hexfilter_core.specs.Errors.{IsFailedCall, IsFailedWrite};
-ghost use Rattle.hexfilter_core.specs.Groups.{Begins, Lays, ended};
+ghost use Rattle.hexfilter_core.specs.Errors.{IsFailedCall};
+ghost use Rattle.hexfilter_core.specs.Groups.{BreaksIntoStart, BreaksInto, ended};
 ghost use Rattle.hexfilter_core.specs.Streams.{RunsPartly, RunsToEnd};
 ghost use Rattle.hexfilter_core.specs.declared.mode.Mode.TheVariants.{Encode};
 
@@ -90,12 +90,12 @@ fn write_text<W: Write>(
     requires room { groups.size ≢ 0 → 2 * length text.now ≤ length grouped.old }
     ensures ok { IfOk result (λ next. (y : List ℕ)
         × Appends (W.contents output.old) (W.contents output.new) y
-        × Lays groups column text.now y next) }
+        × BreaksInto groups column text.now y next) }
     ensures column { IfOk result (λ next. next ≤ groups.size) }
-    ensures err { IfErr result IsFailedWrite }
+    ensures err { IfErr result IsFailedCall }
     ensures begun { OnErr result ((y : List ℕ)
         × Appends (W.contents output.old) (W.contents output.new) y
-        × Begins groups column text.now y) }
+        × BreaksIntoStart groups column text.now y) }
     ensures length { length grouped.new ≡ length grouped.old }
 {
     if groups.size == 0 {
@@ -111,7 +111,7 @@ fn write_text<W: Write>(
 fn write_last<W: Write>(groups: Groups, column: usize, output: &mut W) -> Result<(), RunError>
     ensures ok { OnOk result
         (Appends (W.contents output.old) (W.contents output.new) (ended groups.separator column)) }
-    ensures err { IfErr result IsFailedWrite }
+    ensures err { IfErr result IsFailedCall }
     ensures begun { OnErr result
         (WritesBeginning (W.contents output.old) (W.contents output.new) (ended groups.separator column)) }
 {

@@ -12,6 +12,7 @@ const BLOCK: usize = 32;
 /// Puts the text into the output, with a separator before each character that follows a whole group. The
 /// first group has `column` characters already. Returns how many bytes were put there, and how many
 /// characters the last group has.
+#[inline(never)]
 pub(crate) fn put_groups(
     groups: Groups,
     column: usize,

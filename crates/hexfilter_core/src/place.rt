@@ -43,6 +43,7 @@ impl Line {
     }
 
     /// The place of the byte after the first `read`.
+    #[tactic(auto, using(crate::proofs::lemmas::PlacesOfCharacters::place_in_line))]
     pub(crate) fn place(self, read: usize) -> Place
         ensures { (x : List ℕ) → IsLine x self → read ≡ counted (length x) → IsPlace x result }
     {

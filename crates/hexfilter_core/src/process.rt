@@ -1,6 +1,6 @@
 //! The whole program, from its arguments to its exit status.
 
-ghost use Rattle.std.specs.Prelude.{◌≡◌, ◌≢◌, ◌≤◌, ◌⊎◌, List, ℕ, Option};
+ghost use Rattle.std.specs.Prelude.{◌≡◌, ◌≢◌, ◌≤◌, ◌⊎◌, List, ℕ, Option, IfErr, IfOk, OnOk};
 ghost use Rattle.std.specs.Io.KnownBytes.{Appends, Consumes};
 ghost use Rattle.std.specs.Process.{exit_status};
 ghost use Rattle.const_hex.specs.declared.error.FromHexError.{FromHexError};
@@ -93,11 +93,13 @@ pub fn program<R: Read, W: Write>(
         }
     };
     match request_of(&arguments) {
-        Ok(Request::Help) => print(rt, HELP, output),
-        Ok(Request::Version) => print(rt, VERSION, output),
+        Ok(Request::Help) => end(rt, "", print(HELP, output)),
+        Ok(Request::Version) => end(rt, "", print(VERSION, output)),
         Ok(Request::Run(mode, None)) => run_standard_input(rt, mode, input, output),
         Ok(Request::Run(mode, Some(index))) => match arguments.get(index) {
-            Some(name) if name.as_str() != "-" => run_file(rt, mode, name.as_str(), output),
+            Some(name) if name.as_str() != "-" => {
+                end(rt, name.as_str(), run_file(rt, mode, name.as_str(), output))
+            }
             _ => run_standard_input(rt, mode, input, output),
         },
         Err(error) => misused(rt, &arguments, error),
@@ -147,54 +149,42 @@ fn run_standard_input<R: Read, W: Write>(
     ensures used { exit_status result ≢ 2 }
     ensures statuses { exit_status result ≤ 3 }
 {
-    match run(mode, input, output) {
-        Ok(()) => ExitCode::SUCCESS,
-        Err(error) => failed(rt, "standard input", error),
-    }
+    end(rt, "standard input", run(mode, input, output))
 }
 
 /// Runs on the file with that name.
 fn run_file<W: Write>(
-    rt: &(impl Files + Eprint),
+    rt: &impl Files,
     mode: Mode,
     name: &str,
     output: &mut W,
-) -> ExitCode
-    ensures done { exit_status result ≡ 0 → (y : List ℕ)
-        × Appends (W.contents output.old) (W.contents output.new) y }
-    ensures used { exit_status result ≢ 2 }
-    ensures statuses { exit_status result ≤ 3 }
+) -> Result<(), RunError>
+    ensures { OnOk result ((y : List ℕ) × Appends (W.contents output.old) (W.contents output.new) y) }
 {
-    let mut file = match File::open(rt, name) {
-        Ok(file) => file,
-        Err(error) => return failed(rt, name, RunError::Read(error)),
-    };
-    match run(mode, &mut file, output) {
-        Ok(()) => ExitCode::SUCCESS,
-        Err(error) => failed(rt, name, error),
+    match File::open(rt, name) {
+        Ok(mut file) => run(mode, &mut file, output),
+        Err(error) => Err(RunError::Read(error)),
     }
 }
 
 /// Writes a text, and flushes.
-fn print<W: Write>(rt: &impl Eprint, text: &str, output: &mut W) -> ExitCode
-    ensures done { exit_status result ≡ 0 → (y : List ℕ)
-        × Appends (W.contents output.old) (W.contents output.new) y }
-    ensures used { exit_status result ≢ 2 }
-    ensures statuses { exit_status result ≤ 3 }
+fn print<W: Write>(text: &str, output: &mut W) -> Result<(), RunError>
+    ensures { OnOk result ((y : List ℕ) × Appends (W.contents output.old) (W.contents output.new) y) }
 {
-    if let Err(error) = write_piece(output, text.as_bytes()) {
-        return failed(rt, "", error);
-    }
-    match flush(output) {
-        Ok(()) => ExitCode::SUCCESS,
-        Err(error) => failed(rt, "", error),
-    }
+    write_piece(output, text.as_bytes())?;
+    flush(output)
 }
 
-/// Prints the error of an input, unless the reader of standard output is gone. Returns its status.
-fn failed(rt: &impl Eprint, name: &str, error: RunError) -> ExitCode
-    ensures { exit_status result ≡ status_of error }
+/// Ends a run on an input with that name. Prints its error, unless the reader of standard output is gone, and
+/// returns the exit status.
+fn end(rt: &impl Eprint, name: &str, outcome: Result<(), RunError>) -> ExitCode
+    ensures ok { IfOk outcome (λ done. exit_status result ≡ 0) }
+    ensures err { IfErr outcome (λ e. exit_status result ≡ status_of e) }
 {
+    let error = match outcome {
+        Ok(()) => return ExitCode::SUCCESS,
+        Err(error) => error,
+    };
     // Nothing is left to be done if standard error fails.
     let _ = match error {
         RunError::Text(error, None) => eprintln!(rt; "hexfilter: {name}: {error}"),

@@ -139,16 +139,28 @@ pub mod simd {
     }
 
     impl Mask {
-        /// Returns a bit for each lane, the lowest for the first.
+        /// Returns a bit for each lane, the lowest for the first. It is made only as far as the calls below need it.
         #[inline(always)]
-        pub fn to_bitmask(self) -> u64 {
-            if self.0.iter().fold(0, |all, word| all | word) == 0 {
-                return 0;
+        pub fn to_bitmask(self) -> Mask {
+            self
+        }
+
+        /// Returns the number of lanes before the first of which it holds, or 32.
+        #[inline(always)]
+        pub fn trailing_zeros(self) -> u32 {
+            let [first, second, third, fourth] = self.0.map(u128::from);
+            match (first | second << 64, third | fourth << 64) {
+                (0, high) => 16 + high.trailing_zeros() / 8,
+                (low, _) => low.trailing_zeros() / 8,
             }
-            // Bit 7 of byte i is moved to bit i of the highest byte.
-            let bits = |word: u64| (word >> 7).wrapping_mul(0x0102_0408_1020_4080) >> 56;
-            let [first, second, third, fourth] = self.0;
-            bits(first) | bits(second) << 8 | bits(third) << 16 | bits(fourth) << 24
+        }
+    }
+
+    impl PartialEq<u64> for Mask {
+        /// Whether it holds of no lane. The other is 0.
+        #[inline(always)]
+        fn eq(&self, zero: &u64) -> bool {
+            self.0.iter().fold(0, |all, word| all | word) == *zero
         }
     }
 }
@@ -163,14 +175,16 @@ mod tests {
         for x in 0..=255 {
             for y in 0..=255 {
                 let every = u8x32::splat(x).simd_lt(u8x32::splat(y)).to_bitmask();
-                assert_eq!(every, if x < y { 0xffff_ffff } else { 0 });
+                assert_eq!(every == 0, x >= y);
+                assert_eq!(every.trailing_zeros(), if x < y { 0 } else { 32 });
             }
             for lane in 0..32 {
                 let mut bytes = [255; 33];
-                bytes[lane] = x;
+                bytes[lane..].fill(x);
                 let block = u8x32::from_slice(&bytes);
                 let lesser = block.simd_lt(u8x32::splat(255)).to_bitmask();
-                assert_eq!(lesser, u64::from(x < 255) << lane);
+                let first = if x < 255 { lane as u32 } else { 32 };
+                assert_eq!(lesser.trailing_zeros(), first);
                 let mut copied = [0; 33];
                 block.copy_to_slice(&mut copied);
                 assert_eq!((&copied[..32], copied[32]), (&bytes[..32], 0));

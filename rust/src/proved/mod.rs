@@ -55,9 +55,9 @@ pub use self::formatting::text::*;
 //   22  and panics instead of returning an error
 //    1  and the crate's decoder is cloned
 //    1  before it reads a chunk
-//   46  deleted: attribute
-//  252  deleted: contract
-//  219  deleted: ghost item
+//   47  deleted: attribute
+//  248  deleted: contract
+//  216  deleted: ghost item
 //    4  deleted: model
 //    1  each value may be dropped
 //    5  kernels that no target uses are left out, and callers that nothing exports

@@ -1,9 +1,9 @@
 -- The text of an input, part after part.
 use borrow.Rule.Slice.PartMut.{put_mid, post_of}
-use Rattle.std.proofs.Common.{◌≡◌, ◌≢◌, ℕ, ◌+◌, ◌-◌, ◌*◌, ◌/◌, ◌<◌, ◌≤◌, ◌&&◌, min, Bool, true, false, List, [], ◌∷◌, ◌++◌, length, take, drop, get_or, Option, Ok, refl, sym, ap, ◌∙◌, arith, append_assoc, length-append}
+use Rattle.std.proofs.Common.{◌≡◌, ◌≢◌, ℕ, ◌+◌, ◌-◌, ◌*◌, ◌/◌, ◌<◌, ◌≤◌, ◌&&◌, min, if◌then◌else◌, Bool, true, false, List, [], ◌∷◌, ◌++◌, length, take, drop, get_or, Option, Ok, refl, sym, ap, ◌∙◌, arith, append_assoc, length-append}
 use Rattle.std.proofs.Math.Seq.{take-add, take-append-add}
 use Rattle.std.proofs.lemmas.Bool.Decides.{nat_tests}
-use Rattle.std.proofs.lemmas.List.{append-nil, get_or-take, length-drop, length-take, length-take-le, take-append-drop, take-append-le, take-take, take_all, take_min, take_more}
+use Rattle.std.proofs.lemmas.List.{append-nil, length-drop, length-take, length-take-le, take-append-drop, take-append-le, take-take, take_all, take_min, take_more}
 use Rattle.std.proofs.lemmas.List.Elements.{All-from_get_or, All-head, All-tail, All-weaker}
 use Rattle.std.specs.List.{All}
 use Rattle.std.specs.Prelude.{nat_lt}
@@ -13,11 +13,15 @@ use Rattle.const_hex.specs.Results.{Reads, body_of}
 use Rattle.const_hex.specs.declared.codec.decoder.Decoder.{Decoder}
 use Rattle.const_hex.specs.declared.error.FromHexError.{FromHexError}
 use Rattle.const_hex_arch.proofs.lemmas.Spelling.{Spells-length, Spells-parts}
-use Rattle.hexfilter_core.specs.Decoding.{HasAdded, HasDecoded, HasScanned, IsKept, mode_of}
+use Rattle.hexfilter_core.specs.Decoding.{HasAdded, HasDecoded, HasScanned}
 use Rattle.hexfilter_core.specs.Inputs.{HasError, SpellsBeginning, SpellsPairs, is_whitespace, kept, next, next_from, text_from, text_of}
-use Rattle.hexfilter_core.specs.Outcome.{FailsWith, Makes, MakesBeginning, decode_mode, written}
+use Rattle.hexfilter_core.specs.Outcome.{FailsWith, Makes, MakesBeginning, mode_of, written}
 use Rattle.hexfilter_core.specs.Places.{leaves_out}
 use Rattle.hexfilter_core.specs.declared.input_decoder.InputDecoder.{InputDecoder}
+use Rattle.hexfilter_core.proofs.lemmas.PlacesOfCharacters.{line_after_run}
+use Rattle.hexfilter_core.specs.declared.mode.DecodeMode.{DecodeMode}
+use Rattle.hexfilter_core.specs.declared.mode.Mode.{Mode}
+use Rattle.hexfilter_core.specs.declared.mode.Mode.TheVariants.{Check, Decode}
 use Rattle.hexfilter_core.specs.declared.mode.Reading.{Reading}
 use Rattle.hexfilter_core.specs.declared.place.Place.{Place}
 use Rattle.hexfilter_core.specs.declared.scanner.Scanner.{Scanner}
@@ -68,13 +72,10 @@ kept_run r k (b ∷ x) h fits all =
       omega (arith, goes, at, h),
     )
 
-nothing_ignored : (ignores : Bool) (b : ℕ) → ignores ≡ false → (ignores && is_whitespace b) ≡ false
-nothing_ignored ignores b e = rw e refl
-
 all_kept : (r : Reading) (x : List ℕ) → leaves_out r ≡ false → All (λ b. (r.ignore_whitespace && is_whitespace b) ≡ false) x
 all_kept r x h =
     let none : r.ignore_whitespace ≡ false = grind (arith, nat_tests, h) in
-    All-from_get_or (λ b. (r.ignore_whitespace && is_whitespace b) ≡ false) x 0 (λ i inside. nothing_ignored r.ignore_whitespace (get_or x i 0) none)
+    All-from_get_or (λ b. (r.ignore_whitespace && is_whitespace b) ≡ false) x 0 (λ i inside. rw none refl)
 
 no_groups : (r : Reading) → leaves_out r ≡ false → r.groups.size ≡ 0
 no_groups r h = grind (arith, nat_tests, h)
@@ -83,28 +84,36 @@ not_both : (b : Bool) → b ≡ true → b ≡ false → ⊥
 not_both b e h = cc
 
 -- an input of which nothing is left out
-pub plain_kept : (s : Scanner) (x : List ℕ) → leaves_out s.reading ≡ false → IsKept s x
-plain_kept s x h = let none = no_groups s.reading h in (λ some. omega (arith, none, some), all_kept s.reading x h, λ some. absurd (not_both _ some h))
-
 pub text_plain : (r : Reading) (x : List ℕ) → leaves_out r ≡ false → text_of r x ≡ x
 text_plain r x h = let none = no_groups r h in (kept_run r 0 x (omega arith) (λ some. omega (arith, none, some)) (all_kept r x h)).0
+
+pub plain_added : (r : Reading) (s : Scanner) (x u : List ℕ) → leaves_out r ≡ false → HasScanned r s x → HasAdded r s x u u
+plain_added r s x u h is = record {
+  text = text_plain r (x ++ u) h ∙ ap (λ l. l ++ u) (sym (text_plain r x h));
+  scanned = record {
+    next = omega (arith, is.next, no_groups r h, next_bound r 0 x (omega arith), next_bound r 0 (x ++ u) (omega arith));
+    line = λ some. absurd (not_both _ some h);
+  };
+}
 
 -- bytes above the space
 high : (ignores : Bool) (b : ℕ) → nat_lt b 33 ≡ false → ((ignores && is_whitespace b) ≡ false) × (b ≢ 10)
 high true b h = (grind (arith, nat_tests, h), λ e. grind (arith, nat_tests, h, e))
 high false b h = (refl, λ e. grind (arith, nat_tests, h, e))
 
-pub high_kept : (s : Scanner) (x : List ℕ) (n : ℕ) → ((k : ℕ) → k < n → nat_lt (get_or x k 0) 33 ≡ false)
-    → (0 < s.reading.groups.size → s.column + length (take n x) ≤ s.reading.groups.size) → IsKept s (take n x)
-high_kept s x n above fits =
-    let ignores = s.reading.ignore_whitespace in
-    let run = All-from_get_or (λ b. nat_lt b 33 ≡ false) (take n x) 0 (λ i h.
-    let below : i < n = omega (arith, length-take n x, h) in
-    rw (get_or-take n x i 0 below) (above i below)) in (
-      fits,
-      All-weaker (λ b. nat_lt b 33 ≡ false) (λ b. (ignores && is_whitespace b) ≡ false) (λ b h. (high ignores b h).0) (take n x) run,
-      λ some. All-weaker (λ b. nat_lt b 33 ≡ false) (λ b. b ≢ 10) (λ b h. (high ignores b h).1) (take n x) run,
-    )
+pub high_added : (r : Reading) (s : Scanner) (column : ℕ) (x u : List ℕ) → HasScanned r s x → All (λ b. nat_lt b 33 ≡ false) u
+    → (0 < r.groups.size → s.column + length u ≤ r.groups.size) → column ≡ min (s.column + length u) r.groups.size
+    → HasAdded r (record { column = column; line = s.line }) x u u
+high_added r s column x u is above fits at =
+    let all = All-weaker (λ b. nat_lt b 33 ≡ false) (λ b. (r.ignore_whitespace && is_whitespace b) ≡ false) (λ b h. (high r.ignore_whitespace b h).0) u above in
+    let none = All-weaker (λ b. nat_lt b 33 ≡ false) (λ b. b ≢ 10) (λ b h. (high r.ignore_whitespace b h).1) u above in
+    let kept = kept_run r s.column u (omega (arith, is.next, next_bound r 0 x (omega arith))) fits all in record {
+      text = text-append r 0 x u ∙ ap (λ t. text_of r x ++ t) (rw is.next at kept.0);
+      scanned = record {
+        next = at ∙ sym (next-append r 0 x u ∙ ap (λ k. next_from r k u) (sym is.next) ∙ kept.1);
+        line = λ some. line_after_run x u s.line (is.line some) none;
+      };
+    }
 
 -- ---- the parts of a chunk
 
@@ -129,33 +138,29 @@ joined x chunk done n started =
 pub joined_one : (x chunk : List ℕ) (done : ℕ) → done < length chunk → (x ++ take done chunk) ++ get_or chunk done 0 ∷ [] ≡ x ++ take (done + 1) chunk
 joined_one x chunk done inside = append_assoc x (take done chunk) (get_or chunk done 0 ∷ []) ∙ ap (λ l. x ++ l) (sym (take_more chunk done 0 inside))
 
--- a scanner that started as s has read `done` bytes of a chunk, and put `end` of the text
-module _ (s before after : Scanner) (x chunk out : List ℕ) (end done : ℕ) (how : before.reading ≡ s.reading)
-    (so_far : HasAdded s before x (take done chunk) (take end out)) where
+-- `done` bytes of a chunk are read, and `end` bytes of the text put into the output
+module _ (r : Reading) (before after : Scanner) (x chunk out : List ℕ) (end done : ℕ)
+    (so_far : HasAdded r before x (take done chunk) (take end out)) where
   -- and then a part, which adds the text v
   added : (u v part text : List ℕ) → (x ++ take done chunk) ++ u ≡ x ++ part → text ≡ take end out ++ v
-      → HasAdded before after (x ++ take done chunk) u v → HasAdded s after x part text
+      → HasAdded r after (x ++ take done chunk) u v → HasAdded r after x part text
   added u v part text whole put more = record {
-    text = ap (text_of s.reading) (sym whole) ∙ rw how at more.text ∙ ap (λ l. l ++ v) so_far.text
-        ∙ append_assoc (text_of s.reading x) (take end out) v ∙ ap (λ l. text_of s.reading x ++ l) (sym put);
+    text = ap (text_of r) (sym whole) ∙ more.text ∙ ap (λ l. l ++ v) so_far.text
+        ∙ append_assoc (text_of r x) (take end out) v ∙ ap (λ l. text_of r x ++ l) (sym put);
     scanned = rw whole at more.scanned;
   }
 
   -- a run
   pub added_run : (m n : ℕ) (new : List ℕ) → done ≤ length chunk → end ≤ length out → n ≤ length new
-      → ((y : List ℕ) → HasScanned before y → HasAdded before after y (take n (take (length chunk - done) (drop done chunk))) (take n new))
-      → HasAdded s after x (take (done + n) chunk) (take (end + n) (put_mid end m out new))
+      → ((y : List ℕ) → HasScanned r before y → HasAdded r after y (take n (take (length chunk - done) (drop done chunk))) (take n new))
+      → HasAdded r after x (take (done + n) chunk) (take (end + n) (put_mid end m out new))
   added_run m n new started within few run =
       added _ _ _ _ (joined x chunk done n started) (take_put end m n out new within few) (run (x ++ take done chunk) so_far.scanned)
 
   -- a byte
   pub added_byte : (new v : List ℕ) (k : ℕ) → done < length chunk → take k new ≡ take end out ++ v
-      → ((y : List ℕ) → HasScanned before y → text_of before.reading (y ++ get_or chunk done 0 ∷ []) ≡ text_of before.reading y ++ v)
-      → ((y : List ℕ) → HasScanned before y → HasScanned after (y ++ get_or chunk done 0 ∷ []))
-      → HasAdded s after x (take (done + 1) chunk) (take k new)
-  added_byte new v k inside put text scanned =
-      let y = x ++ take done chunk in
-      added _ v _ _ (joined_one x chunk done inside) put (record { text = text y so_far.scanned; scanned = scanned y so_far.scanned })
+      → HasAdded r after (x ++ take done chunk) (get_or chunk done 0 ∷ []) v → HasAdded r after x (take (done + 1) chunk) (take k new)
+  added_byte new v k inside put next = added _ v _ _ (joined_one x chunk done inside) put next
 
 -- ---- what a text decodes to
 
@@ -190,82 +195,40 @@ fewer_spelled r x y k h =
 
 -- ---- what a decoder writes
 
+-- what holds of a mode and of what it writes, if it holds of both modes
+by_mode : (P : Mode → List ℕ → Type 0) (c : Bool) (r : Reading) (bytes : List ℕ)
+    → P (Check r) [] → P (Decode r) bytes → P (if c then Check r else Decode r) (written c bytes)
+by_mode P true r bytes check decode = check
+by_mode P false r bytes check decode = decode
+
 -- all that is decoded
-pub made : (c : Bool) (r : Reading) (x bytes : List ℕ) → Reads (text_of r x) (Ok bytes) → Makes (decode_mode c r) x (written c bytes)
-made true r x bytes h = ((bytes, h), refl)
-made false r x bytes h = h
-
-pub nothing_written : (c : Bool) → [] ≡ written c []
-nothing_written true = refl
-nothing_written false = refl
-
-pub only_checked : (c : Bool) (z bytes more : List ℕ) → c ≡ true → z ≡ written c bytes → z ++ [] ≡ written c (bytes ++ more)
-only_checked true z bytes more is h = rw h refl
-only_checked false z bytes more is h = absurd (not_both false is refl)
-
-pub all_written : (c : Bool) (z bytes more : List ℕ) → c ≡ false → z ≡ written c bytes → z ++ more ≡ written c (bytes ++ more)
-all_written true z bytes more is h = absurd (not_both true refl is)
-all_written false z bytes more is h = rw h refl
+pub made : (m : DecodeMode) (x bytes : List ℕ) → Reads (text_of m.reading x) (Ok bytes) → Makes (mode_of m) x (written m.is_check bytes)
+made m x bytes h = by_mode (λ m y. Makes m x y) m.is_check m.reading bytes ((bytes, h), refl) h
 
 -- all before an error
-pub failed : (c : Bool) (r : Reading) (left : Option (List ℕ)) (x bytes : List ℕ) (e : FromHexError) (place : Option Place)
-    → HasError r left x bytes e place → FailsWith (decode_mode c r) left x (written c bytes) e place
-failed true r left x bytes e place h = ((bytes, h), refl)
-failed false r left x bytes e place h = h
+pub failed : (m : DecodeMode) (left : Option (List ℕ)) (x bytes : List ℕ) (e : FromHexError) (place : Option Place)
+    → HasError m.reading left x bytes e place → FailsWith (mode_of m) left x (written m.is_check bytes) e place
+failed m left x bytes e place h = by_mode (λ m y. FailsWith m left x y e place) m.is_check m.reading bytes ((bytes, h), refl) h
 
--- a beginning
-begun : (c : Bool) (r : Reading) (x bytes : List ℕ) → SpellsBeginning r x bytes → MakesBeginning (decode_mode c r) x (written c bytes)
-begun true r x bytes h = refl
-begun false r x bytes h = h
+fewer : (c : Bool) (r : Reading) (x y : List ℕ) (k : ℕ) → let m : Mode = if c then Check r else Decode r in MakesBeginning m x y → MakesBeginning m x (take k y)
+fewer true r x y k none = ap (take k) none ∙ take_all k [] (omega arith)
+fewer false r x y k h = fewer_spelled r x y k h
 
-pub fewer_made : (c : Bool) (r : Reading) (x y : List ℕ) (k : ℕ) → MakesBeginning (decode_mode c r) x y → MakesBeginning (decode_mode c r) x (take k y)
-fewer_made true r x y k none = ap (take k) none ∙ take_all k [] (omega arith)
-fewer_made false r x y k h = fewer_spelled r x y k h
+pub fewer_made : (m : DecodeMode) (x y : List ℕ) (k : ℕ) → MakesBeginning (mode_of m) x y → MakesBeginning (mode_of m) x (take k y)
+fewer_made m x y k h = fewer m.is_check m.reading x y k h
 
-pub decoded : (d : InputDecoder) (x z : List ℕ) → HasDecoded d x z → MakesBeginning (mode_of d) x z
-decoded d x z has =
-    rw has.text.given (begun d.is_check d.scanner.reading x has.text.bytes (spelled d.scanner.reading d.decoder x has.text.bytes has.text.read))
+-- a beginning, whatever follows
+module _ (m : DecodeMode) (d : InputDecoder) (x z : List ℕ) (has : HasDecoded m d x z) where
+  decoded_then : (more : List ℕ) → MakesBeginning (mode_of m) (x ++ more) z
+  decoded_then more =
+      rw has.text.given (by_mode (λ m y. MakesBeginning m (x ++ more) y) m.is_check m.reading has.text.bytes refl
+      (spelled_before m.reading d.decoder x has.text.bytes has.text.read more))
 
-pub decoded_before : (d : InputDecoder) (x chunk z : List ℕ) (k : ℕ) → HasDecoded d (x ++ take k chunk) z → MakesBeginning (mode_of d) (x ++ chunk) z
-decoded_before d x chunk z k has =
+  pub decoded : MakesBeginning (mode_of m) x z
+  decoded = rw append-nil at (decoded_then [])
+
+pub decoded_before : (m : DecodeMode) (d : InputDecoder) (x chunk z : List ℕ) (k : ℕ)
+    → HasDecoded m d (x ++ take k chunk) z → MakesBeginning (mode_of m) (x ++ chunk) z
+decoded_before m d x chunk z k has =
     let whole : (x ++ take k chunk) ++ drop k chunk ≡ x ++ chunk = append_assoc x (take k chunk) (drop k chunk) ∙ ap (λ l. x ++ l) (take-append-drop k chunk) in
-    let r = d.scanner.reading in
-    let front = rw whole at (spelled_before r d.decoder (x ++ take k chunk) has.text.bytes has.text.read (drop k chunk)) in
-    rw has.text.given (begun d.is_check r (x ++ chunk) has.text.bytes front)
-
--- ---- how much that is
-
-text_size : (r : Reading) (k : ℕ) (x : List ℕ) → length (text_from r k x) ≤ length x
-unfolding text_from
-text_size r k [] = omega arith
-text_size r k (b ∷ x) =
-    let one : length (kept r k b) ≤ 1 = grind arith in
-    let rest = text_size r (next r k b) x in omega (arith, one, rest, length-append (kept r k b) (text_from r (next r k b) x))
-
-body_size : (t u : List ℕ) → length (body_of (t ++ u)) ≤ length (body_of t) + length u
-body_size [] u = grind arith
-body_size (c ∷ []) [] = grind arith
-body_size (c ∷ []) (d ∷ u) = grind arith
-body_size (c ∷ d ∷ t) u = let size = length-append t u in grind (arith, size)
-
-sizes : (d : Decoder) (t bytes : List ℕ) → HasRead d t bytes → (2 * length bytes ≤ length (body_of t)) × (length (body_of t) ≤ 2 * length bytes + 1)
-sizes d t bytes has =
-    let twice = Spells-length has.pairs bytes has.given in
-    let whole = ap length has.whole ∙ length-append has.pairs (waiting_digit d) in
-    let few = at_most_one d in
-    (omega (arith, twice, whole), omega (arith, twice, whole, few))
-
-written_size : (c : Bool) (y z b e : List ℕ) (n : ℕ) → y ≡ written c b → y ++ z ≡ written c e → 2 * length e ≤ 2 * length b + 1 + n → 2 * length z ≤ n + 1
-written_size true y z b e n first both h = let none = ap length both in omega (arith, none, length-append y z)
-written_size false y z b e n first both h = let one = ap length first in let two = ap length both in omega (arith, one, two, length-append y z, h)
-
--- for n more bytes of the input, at most (n + 1) / 2
-pub at_most_half : (d e : InputDecoder) (x u y z : List ℕ) → e.scanner.reading ≡ d.scanner.reading → e.is_check ≡ d.is_check
-    → HasDecoded d x y → HasDecoded e (x ++ u) (y ++ z) → 2 * length z ≤ length u + 1
-at_most_half d e x u y z same check first both =
-    let r = d.scanner.reading in
-    let before = sizes d.decoder _ _ first.text.read in
-    let after = rw (same, text-append r 0 x u) at (sizes e.decoder _ _ both.text.read).0 in
-    let more = body_size (text_of r x) (text_from r (next_from r 0 x) u) in
-    let few = text_size r (next_from r 0 x) u in
-    written_size d.is_check y z first.text.bytes both.text.bytes (length u) first.text.given (rw check at both.text.given) (omega (arith, before.1, after, more, few))
+    rw whole at (decoded_then m d (x ++ take k chunk) z has (drop k chunk))

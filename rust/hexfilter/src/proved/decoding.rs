@@ -4,7 +4,7 @@
 use crate::std_shim::prelude::*;
 use crate::proved::error::RunError;
 use crate::proved::input_decoder::InputDecoder;
-use crate::proved::mode::Reading;
+use crate::proved::mode::{DecodeMode, Reading};
 use crate::proved::transfer::{flush, read_chunk, too_many_reads, write_piece};
 use crate::std_shim::io::{Read, Write};
 
@@ -18,30 +18,30 @@ pub(crate) fn decode_stream<R: Read, W: Write>(
     input: &mut R,
     output: &mut W,
 ) -> Result<(), RunError> {
+    let mode = DecodeMode { reading, is_check };
     if reading.leaves_out() {
-        return decode_chunks(reading, is_check, input, &mut [0; CHUNK], output);
+        return decode_chunks(mode, input, &mut [0; CHUNK], output);
     }
-    decode_chunks(reading, is_check, input, &mut [], output)
+    decode_chunks(mode, input, &mut [], output)
 }
 
 /// As `decode_stream`. The text is space for a chunk, if bytes may be left out.
 fn decode_chunks<R: Read, W: Write>(
-    reading: Reading,
-    is_check: bool,
+    mode: DecodeMode,
     input: &mut R,
     text: &mut [u8],
     output: &mut W,
 ) -> Result<(), RunError> {
     let mut chunk = [0; CHUNK];
-    let mut bytes = [0; CHUNK / 2 + 1];
-    let mut decoder = InputDecoder::new(reading, is_check);
+    let mut bytes = [0; CHUNK];
+    let mut decoder = InputDecoder::new();
     'chunks: for _ in 0..u64::MAX {
         let count = read_chunk(input, &mut chunk)?;
         if count == 0 {
             decoder.finish()?;
             return flush(output);
         }
-        let (end, error) = decoder.decode(&chunk[..count], text, &mut bytes);
+        let (end, error) = decoder.decode(mode, &chunk[..count], text, &mut bytes);
         write_piece(output, &bytes[..end])?;
         if let Some(error) = error {
             return Err(error);

@@ -3,7 +3,7 @@
 
 use crate::std_shim::prelude::*;
 use crate::proved::error::RunError;
-use crate::proved::mode::Reading;
+use crate::proved::mode::DecodeMode;
 use crate::proved::scanner::Scanner;
 use crate::std_shim::codec::{Decoder, FromHexError};
 
@@ -12,16 +12,17 @@ use crate::std_shim::codec::{Decoder, FromHexError};
 pub(crate) struct InputDecoder {
     decoder: Decoder,
     scanner: Scanner,
-    is_check: bool,
+    /// How many bytes were read, or `usize::MAX` for more.
+    read: usize,
 }
 
 impl InputDecoder {
     /// A decoder that has read nothing.
-    pub(crate) fn new(reading: Reading, is_check: bool) -> InputDecoder {
+    pub(crate) fn new() -> InputDecoder {
         InputDecoder {
             decoder: Decoder::new(),
-            scanner: Scanner::new(reading),
-            is_check,
+            scanner: Scanner::START,
+            read: 0,
         }
     }
 
@@ -29,41 +30,20 @@ impl InputDecoder {
     /// before the error, if there is one. The text is space for the chunk, if bytes may be left out.
     pub(crate) fn decode(
         &mut self,
+        mode: DecodeMode,
         chunk: &[u8],
         text: &mut [u8],
         output: &mut [u8],
     ) -> (usize, Option<RunError>) {
         let mut whole = self.clone();
-        match whole.decode_whole(chunk, text, output) {
-            Ok(count) => {
-                *self = whole;
-                (count, None)
-            }
-            Err(_) => self.decode_bytes(chunk, output),
+        if let Ok(count) = whole.decode_whole(mode, chunk, text, output) {
+            *self = whole;
+            return (count, None);
         }
-    }
-
-    /// As `decode`, if the chunk has no error. After an error, this decoder cannot go on.
-    fn decode_whole(
-        &mut self,
-        chunk: &[u8],
-        text: &mut [u8],
-        output: &mut [u8],
-    ) -> Result<usize, FromHexError> {
-        if self.scanner.reading.leaves_out() {
-            let count = self.scanner.text(chunk, text);
-            return self.decode_text(&text[..count], output);
-        }
-        self.scanner.advance(chunk.len());
-        self.decode_text(chunk, output)
-    }
-
-    /// As `decode`, byte after byte.
-    #[cold]
-    fn decode_bytes(&mut self, chunk: &[u8], output: &mut [u8]) -> (usize, Option<RunError>) {
+        // A chunk with an error is decoded byte after byte.
         let mut end = 0;
         for byte in chunk {
-            match self.decode_byte(*byte, &mut output[end..]) {
+            match self.decode_byte(mode, *byte, &mut output[end..]) {
                 Ok(count) => end += count,
                 Err(error) => return (end, Some(error)),
             }
@@ -71,34 +51,44 @@ impl InputDecoder {
         (end, None)
     }
 
+    /// As `decode`, if the chunk has no error. After an error, this decoder cannot go on.
+    fn decode_whole(
+        &mut self,
+        mode: DecodeMode,
+        chunk: &[u8],
+        text: &mut [u8],
+        output: &mut [u8],
+    ) -> Result<usize, FromHexError> {
+        let read = self.read;
+        self.read = read.saturating_add(chunk.len());
+        if mode.reading.leaves_out() {
+            let count = self.scanner.text(mode.reading, read, chunk, text);
+            return decode_text(&mut self.decoder, mode.is_check, &text[..count], output);
+        }
+        decode_text(&mut self.decoder, mode.is_check, chunk, output)
+    }
+
     /// Decodes a byte into the front of the output, and returns the number of bytes there.
-    fn decode_byte(&mut self, byte: u8, output: &mut [u8]) -> Result<usize, RunError> {
-        let (index, place) = self.scanner.position();
-        let character = match self.scanner.next(byte) {
+    fn decode_byte(
+        &mut self,
+        mode: DecodeMode,
+        byte: u8,
+        output: &mut [u8],
+    ) -> Result<usize, RunError> {
+        let (index, scanner) = (self.read, self.scanner);
+        self.read = index.saturating_add(1);
+        let character = match self.scanner.next(mode.reading, byte, self.read) {
             Some(character) => character,
             None => return Ok(0),
         };
-        match self.decode_text(&[character], output) {
+        match decode_text(&mut self.decoder, mode.is_check, &[character], output) {
             Ok(count) => Ok(count),
             Err(_) => {
                 let c = char::from(byte);
                 let error = FromHexError::InvalidHexCharacter { c, index };
-                Err(RunError::Text(error, place))
+                Err(RunError::Text(error, scanner.place(mode.reading, index)))
             }
         }
-    }
-
-    /// Decodes the next part of the text into the front of the output, or only checks it. Returns the number of
-    /// bytes there.
-    #[inline(always)]
-    fn decode_text(&mut self, text: &[u8], output: &mut [u8]) -> Result<usize, FromHexError> {
-        if self.is_check {
-            return match self.decoder.check(text) {
-                Ok(()) => Ok(0),
-                Err(error) => Err(error),
-            };
-        }
-        self.decoder.decode(text, output)
     }
 
     /// Ends the input. Returns `OddLength` if the text has an odd number of digits.
@@ -108,4 +98,22 @@ impl InputDecoder {
             Err(error) => Err(RunError::Text(error, None)),
         }
     }
+}
+
+/// Decodes the next part of a text into the front of the output, or only checks it. Returns the number of
+/// bytes there.
+#[inline(always)]
+fn decode_text(
+    decoder: &mut Decoder,
+    is_check: bool,
+    text: &[u8],
+    output: &mut [u8],
+) -> Result<usize, FromHexError> {
+    if is_check {
+        return match decoder.check(text) {
+            Ok(()) => Ok(0),
+            Err(error) => Err(error),
+        };
+    }
+    decoder.decode(text, output)
 }

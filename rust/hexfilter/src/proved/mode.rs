@@ -46,3 +46,11 @@ impl Reading {
         self.ignore_whitespace || self.groups.size > 0
     }
 }
+
+/// How an input is decoded.
+#[derive(Clone, Copy)]
+pub(crate) struct DecodeMode {
+    pub(crate) reading: Reading,
+    /// Whether the input is only checked.
+    pub(crate) is_check: bool,
+}

@@ -63,11 +63,13 @@ pub fn program<R: Read, W: Write>(
         }
     };
     match request_of(&arguments) {
-        Ok(Request::Help) => print(rt, HELP, output),
-        Ok(Request::Version) => print(rt, VERSION, output),
+        Ok(Request::Help) => end(rt, "", print(HELP, output)),
+        Ok(Request::Version) => end(rt, "", print(VERSION, output)),
         Ok(Request::Run(mode, None)) => run_standard_input(rt, mode, input, output),
         Ok(Request::Run(mode, Some(index))) => match arguments.get(index) {
-            Some(name) if name.as_str() != "-" => run_file(rt, mode, name.as_str(), output),
+            Some(name) if name.as_str() != "-" => {
+                end(rt, name.as_str(), run_file(rt, mode, name.as_str(), output))
+            }
             _ => run_standard_input(rt, mode, input, output),
         },
         Err(error) => misused(rt, &arguments, error),
@@ -105,42 +107,35 @@ fn run_standard_input<R: Read, W: Write>(
     input: &mut R,
     output: &mut W,
 ) -> ExitCode {
-    match run(mode, input, output) {
-        Ok(()) => ExitCode::SUCCESS,
-        Err(error) => failed(rt, "standard input", error),
-    }
+    end(rt, "standard input", run(mode, input, output))
 }
 
 /// Runs on the file with that name.
 fn run_file<W: Write>(
-    rt: &(impl Files + Eprint),
+    rt: &impl Files,
     mode: Mode,
     name: &str,
     output: &mut W,
-) -> ExitCode {
-    let mut file = match File::open(rt, name) {
-        Ok(file) => file,
-        Err(error) => return failed(rt, name, RunError::Read(error)),
-    };
-    match run(mode, &mut file, output) {
-        Ok(()) => ExitCode::SUCCESS,
-        Err(error) => failed(rt, name, error),
+) -> Result<(), RunError> {
+    match File::open(rt, name) {
+        Ok(mut file) => run(mode, &mut file, output),
+        Err(error) => Err(RunError::Read(error)),
     }
 }
 
 /// Writes a text, and flushes.
-fn print<W: Write>(rt: &impl Eprint, text: &str, output: &mut W) -> ExitCode {
-    if let Err(error) = write_piece(output, text.as_bytes()) {
-        return failed(rt, "", error);
-    }
-    match flush(output) {
-        Ok(()) => ExitCode::SUCCESS,
-        Err(error) => failed(rt, "", error),
-    }
+fn print<W: Write>(text: &str, output: &mut W) -> Result<(), RunError> {
+    write_piece(output, text.as_bytes())?;
+    flush(output)
 }
 
-/// Prints the error of an input, unless the reader of standard output is gone. Returns its status.
-fn failed(rt: &impl Eprint, name: &str, error: RunError) -> ExitCode {
+/// Ends a run on an input with that name. Prints its error, unless the reader of standard output is gone, and
+/// returns the exit status.
+fn end(rt: &impl Eprint, name: &str, outcome: Result<(), RunError>) -> ExitCode {
+    let error = match outcome {
+        Ok(()) => return ExitCode::SUCCESS,
+        Err(error) => error,
+    };
     // Nothing is left to be done if standard error fails.
     let _ = match &error {
         RunError::Text(error, None) => eprintln!(rt; "hexfilter: {name}: {error}"),

@@ -13,60 +13,49 @@ const LANES: usize = 32;
 /// How far an input was read.
 #[derive(Clone, Copy, Debug)]
 pub(crate) struct Scanner {
-    pub(crate) reading: Reading,
     /// How many characters came since the last separator, if there are groups.
     column: usize,
-    /// How many bytes were read, or `usize::MAX` for more.
-    read: usize,
     /// If bytes may be left out: the line after these bytes.
     line: Line,
 }
 
 impl Scanner {
     /// A scanner that has read nothing.
-    pub(crate) fn new(how: Reading) -> Scanner {
-        Scanner {
-            reading: how,
-            column: 0,
-            read: 0,
-            line: Line::FIRST,
+    pub(crate) const START: Scanner = Scanner {
+        column: 0,
+        line: Line::FIRST,
+    };
+
+    /// The place of the next byte, after `read` bytes.
+    pub(crate) fn place(self, reading: Reading, read: usize) -> Option<Place> {
+        if reading.leaves_out() {
+            return Some(self.line.place(read));
         }
+        None
     }
 
-    /// How many bytes were read, and the place of the next.
-    pub(crate) fn position(&self) -> (usize, Option<Place>) {
-        if self.reading.leaves_out() {
-            return (self.read, Some(self.line.place(self.read)));
-        }
-        (self.read, None)
-    }
-
-    /// Reads bytes of which none is left out.
-    #[inline(always)]
-    pub(crate) fn advance(&mut self, count: usize) {
-        self.column = self
-            .column
-            .saturating_add(count)
-            .min(self.reading.groups.size);
-        self.read = self.read.saturating_add(count);
-    }
-
-    /// Reads a byte. Returns what it adds to the text.
-    pub(crate) fn next(&mut self, byte: u8) -> Option<u8> {
-        let (added, column) = step(self.reading, self.column, byte);
+    /// Reads a byte, the last of `read`. Returns what it adds to the text.
+    pub(crate) fn next(&mut self, reading: Reading, byte: u8, read: usize) -> Option<u8> {
+        let (added, column) = step(reading, self.column, byte);
         self.column = column;
-        self.read = self.read.saturating_add(1);
-        self.line = self.line.after(byte, self.read);
+        self.line = self.line.after(byte, read);
         added
     }
 
-    /// Reads a chunk. Puts what it adds to the text into the front of the output, and returns how long that is.
-    pub(crate) fn text(&mut self, chunk: &[u8], output: &mut [u8]) -> usize {
+    /// Reads a chunk after `read` bytes. Puts what it adds to the text into the front of the output, and returns
+    /// how long that is.
+    pub(crate) fn text(
+        &mut self,
+        reading: Reading,
+        read: usize,
+        chunk: &[u8],
+        output: &mut [u8],
+    ) -> usize {
         let mut scanner = *self;
         let mut done = 0;
         let mut end = 0;
         'runs: while done < chunk.len() {
-            let count = scanner.run(&chunk[done..], &mut output[end..]);
+            let count = scanner.run(reading, &chunk[done..], &mut output[end..]);
             // A block that is all text is a branch of its own, which the processor predicts.
             if count == LANES {
                 done += LANES;
@@ -75,8 +64,10 @@ impl Scanner {
                 done += count;
                 end += count;
                 if done < chunk.len() {
-                    end = put(scanner.next(chunk[done]), output, end);
+                    let byte = chunk[done];
                     done += 1;
+                    let added = scanner.next(reading, byte, read.saturating_add(done));
+                    end = put(added, output, end);
                 }
             }
         }
@@ -86,24 +77,19 @@ impl Scanner {
 
     /// Copies bytes before the next that is left out or is below 33, or fewer. Returns how many.
     #[inline(always)]
-    fn run(&mut self, chunk: &[u8], output: &mut [u8]) -> usize {
+    fn run(&mut self, reading: Reading, chunk: &[u8], output: &mut [u8]) -> usize {
         if chunk.len() < LANES {
             return 0;
         }
         let block = u8x32::from_slice(chunk);
         block.copy_to_slice(output);
-        let count = count_digits(block).min(self.rest());
-        self.advance(count);
-        count
-    }
-
-    /// How many characters the group still takes or, if there are no groups, as many as are looked at together.
-    #[inline(always)]
-    fn rest(&self) -> usize {
-        if self.reading.groups.size == 0 {
-            return LANES;
+        let count = count_digits(block);
+        if reading.groups.size == 0 {
+            return count;
         }
-        self.reading.groups.size.saturating_sub(self.column)
+        let count = count.min(reading.groups.size.saturating_sub(self.column));
+        self.column = self.column.saturating_add(count);
+        count
     }
 }
 
@@ -116,6 +102,9 @@ fn step(reading: Reading, column: usize, byte: u8) -> (Option<u8>, usize) {
     }
     if reading.ignore_whitespace && is_whitespace(byte) {
         return (None, column);
+    }
+    if groups.size == 0 {
+        return (Some(byte), 0);
     }
     let next = column.saturating_add(1).min(groups.size);
     (Some(if is_whole { 0 } else { byte }), next)

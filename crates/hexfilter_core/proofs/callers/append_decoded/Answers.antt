@@ -29,14 +29,7 @@ pub returns-clause-invalid : goal.returns-clause-invalid
 returns-clause-invalid c = λ b i place is.
     let (x, y, read, fails, wrote) = c.run.ensures.text (InvalidHexCharacter b i) place is in
     let pairs = rw (text_plain plain fails.front refl) at fails.bytes in
-    let left = c.run.new.input.now in (
-      fails.front,
-      fails.rest ++ left,
-      y,
-      read ∙ ap (λ l. l ++ left) fails.cut ∙ append_assoc fails.front (b ∷ fails.rest) left,
-      fails.position,
-      pairs.0,
-      rw (text_plain plain (fails.front ++ b ∷ []) refl) at fails.invalid,
-      pairs.1,
-      wrote,
-    )
+    let left = c.run.new.input.now in
+    let cut = read ∙ ap (λ l. l ++ left) fails.cut ∙ append_assoc fails.front (b ∷ fails.rest) left in
+    let no_digit = rw (text_plain plain (fails.front ++ b ∷ []) refl) at fails.invalid in
+    (fails.front, _, y, cut, fails.position, pairs.0, no_digit, pairs.1, wrote)

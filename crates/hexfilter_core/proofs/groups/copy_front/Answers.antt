@@ -1,4 +1,4 @@
-use Rattle.std.proofs.Common.{◌≡◌, ◌∙◌, ◌+◌, ◌-◌, ◌≤◌, ◌++◌, take, drop, sym, ap, arith}
+use Rattle.std.proofs.Common.{◌≡◌, ◌∙◌, ◌+◌, ◌-◌, ◌++◌, take, drop, sym, ap, arith}
 use Rattle.std.proofs.Math.Seq.{take-add}
 use Rattle.std.proofs.lemmas.List.{take-take}
 use Rattle.hexfilter_core.proofs.lemmas.Texts.{take_put}
@@ -11,12 +11,7 @@ copies-preserved c =
     let out = c.copies.output in
     let new = c.copy_from_slice-in-copies.new.self in
     let same : done + 32 - done ≡ 32 = omega arith in
-    let copied : take 32 new ≡ take 32 (drop done text) = rw (c.copy_from_slice-in-copies.ensures.after, same) (take-take 32 32 (drop done text) (omega arith)) in
+    let copied : take 32 new ≡ take 32 (drop done text) =
+    rw (c.copy_from_slice-in-copies.ensures.after, same) (take-take 32 32 (drop done text) (omega arith)) in
     take_put done _ 32 out new (omega arith) (omega arith)
     ∙ ap (λ l. l ++ take 32 new) c.copies.invariant ∙ ap (λ l. take done text ++ l) copied ∙ sym (take-add done 32 text)
-
-pub returns-clause-front : goal.returns-clause-front
-returns-clause-front c =
-    let count = c.args.count in
-    let few : c.args.count ≤ c.copies.done = omega arith in
-    sym (take-take count c.copies.done c.copies.output few) ∙ ap (take count) c.copies.invariant ∙ take-take count c.copies.done c.args.text.now few

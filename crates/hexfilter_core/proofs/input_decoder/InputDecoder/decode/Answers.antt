@@ -1,8 +1,60 @@
-use Rattle.hexfilter_core.proofs.lemmas.Texts.{decoded}
+use Rattle.std.proofs.Common.{◌≡◌, ◌∷◌, ◌++◌, ◌+◌, ◌<◌, ℕ, List, Some, Option, length, take, drop, get_or, sym, arith, append_assoc}
+use Rattle.std.proofs.lemmas.Grind.{common_steps}
+use Rattle.std.proofs.lemmas.List.{take_all}
+use Rattle.std.proofs.lemmas.Slice.{take-put_mid_below}
+use Rattle.hexfilter_core.proofs.lemmas.Texts.{decoded, decoded_before, joined_one, take_put}
+use Rattle.hexfilter_core.specs.declared.error.RunError.{RunError}
 use Rattle.hexfilter_core.proofs.input_decoder.InputDecoder.decode.Goals as goal
 
-pub returns-in-Ok-clause-ok : goal.returns-in-Ok-clause-ok
-returns-in-Ok-clause-ok c = λ none x y has. c.in-Ok.ensures.ok x y has
+cut_at : (x u : List ℕ) (k : ℕ) → k < length u → (x ++ take k u) ++ get_or u k 0 ∷ drop (k + 1) u ≡ x ++ u
+cut_at x u k h = grind (arith, common_steps)
+
+same_error : (e f : RunError) → ◌≡◌ {A = Option RunError} (Some e) (Some f) → e ≡ f
+same_error e f is = cc
 
 pub returns-in-Ok-clause-begun : goal.returns-in-Ok-clause-begun
-returns-in-Ok-clause-begun c = λ x y has. rw (c.in-Ok.ensures.reads, c.in-Ok.ensures.checks) at (decoded c.decode_whole.new.self _ _ (c.in-Ok.ensures.ok x y has))
+returns-in-Ok-clause-begun c = λ x y has. decoded _ _ _ _ (c.in-Ok.ensures.ok x y has)
+
+pub returns-in-Err-clause-err : goal.returns-in-Err-clause-err
+returns-in-Err-clause-err c = λ e is x y has.
+    let chunk = c.args.chunk.now in
+    let at = c.loop-byte.byte-index in
+    let i = c.loop-byte.invariant in
+    let out = c.loop-byte.output in
+    let read = i.decoded x y has in
+    let told = c.in-Err.ensures.err (x ++ take at chunk) (y ++ take c.loop-byte.end out) (drop (at + 1) chunk) read (omega (arith, c.loop-byte.auto.output)) in
+    rw (take-put_mid_below c.loop-byte.end _ c.loop-byte.output c.decode_byte.new.output c.loop-byte.end (omega arith) (omega (arith, c.loop-byte.auto.output)))
+    (rw (cut_at x chunk at c.loop-byte-test.true, same_error c.in-Err.error e is) at told)
+
+pub returns-in-Err-clause-begun : goal.returns-in-Err-clause-begun
+returns-in-Err-clause-begun c = λ x y has.
+    let at = c.loop-byte.byte-index in
+    let i = c.loop-byte.invariant in
+    rw (take-put_mid_below c.loop-byte.end _ c.loop-byte.output c.decode_byte.new.output c.loop-byte.end (omega arith) (omega (arith, c.loop-byte.auto.output)))
+    (decoded_before c.args.mode c.loop-byte.self x c.args.chunk.now (y ++ take c.loop-byte.end c.loop-byte.output) at (i.decoded x y has))
+
+pub loop-byte-preserved : goal.loop-byte-preserved
+loop-byte-preserved c =
+    let chunk = c.args.chunk.now in
+    let at = c.loop-byte.byte-index in
+    let end = c.loop-byte.end in
+    let i = c.loop-byte.invariant in
+    let told = c.in-Ok-decode_byte.ensures in record {
+      fewer = omega (arith, told.most);
+      decoded = λ x y has.
+          let out = c.loop-byte.output in
+          let new = c.decode_byte.new.output in
+          let room = c.loop-byte.auto.output in
+          let put = take_put end _ c.in-Ok-decode_byte.count out new (omega (arith, room)) (omega (arith, told.length, told.within, room)) in
+          rw (joined_one x chunk at c.loop-byte-test.true, append_assoc y (take end out) (take c.in-Ok-decode_byte.count new), sym put) at
+          (told.ok (x ++ take at chunk) (y ++ take end out) (i.decoded x y has));
+    }
+
+pub returns-clause-begun : goal.returns-clause-begun
+returns-clause-begun c = λ x y has.
+    let i = c.loop-byte.invariant in
+    let out = y ++ take c.loop-byte.end c.loop-byte.output in
+    decoded_before c.args.mode c.loop-byte.self x c.args.chunk.now out c.loop-byte.byte-index (i.decoded x y has)
+
+pub returns-clause-ok : goal.returns-clause-ok
+returns-clause-ok c = λ none x y has. rw (take_all c.loop-byte.byte-index c.args.chunk.now (omega arith)) at (c.loop-byte.invariant.decoded x y has)

@@ -1,10 +1,12 @@
-use Rattle.hexfilter_core.proofs.lemmas.Texts.{nothing_written}
-use Rattle.hexfilter_core.specs.Inputs.{text_from}
+use Rattle.std.proofs.Common.{arith, refl}
+use Rattle.hexfilter_core.specs.Inputs.{next_from, text_from}
+use Rattle.hexfilter_core.specs.Places.{place_after}
 use Rattle.hexfilter_core.proofs.input_decoder.InputDecoder.new.Goals as goal
 
-pub returns-clause-starts : goal.returns-clause-starts
-unfolding text_from
-returns-clause-starts c = record {
-  text = record { bytes = _; read = c.new.ensures.starts; given = nothing_written c.args.is_check };
-  scanned = c.new-2.ensures.starts;
+pub returns : goal.returns
+unfolding text_from next_from place_after
+returns c = λ m. record {
+  text = record { bytes = _; read = c.new.ensures.starts; given = grind arith };
+  scanned = record { next = refl; line = λ some short. (refl, refl) };
+  count = refl;
 }

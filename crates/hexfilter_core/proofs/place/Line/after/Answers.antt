@@ -1,12 +1,9 @@
+use Rattle.std.proofs.Common.{arith}
 use Rattle.hexfilter_core.proofs.lemmas.PlacesOfCharacters.{line_after_byte, line_after_newline}
-use Rattle.std.proofs.Common.{[], ◌∷◌, ◌++◌, sym, subst}
-use Rattle.hexfilter_core.specs.Places.{IsLine}
 use Rattle.hexfilter_core.proofs.place.Line.after.Goals as goal
 
 pub returns-then-byte-eq10 : goal.returns-then-byte-eq10
-returns-then-byte-eq10 c = λ x is read.
-    subst (λ b. IsLine (x ++ b ∷ []) (record { number = c.saturating_add.result; start = c.args.read })) (sym c.if-byte-eq10.true)
-    (line_after_newline x c.args.self c.saturating_add.result c.args.read is c.saturating_add.ensures read)
+returns-then-byte-eq10 c = grind (arith, line_after_newline)
 
 pub returns : goal.returns
 returns c = λ x is read. line_after_byte x c.args.byte c.args.self is c.if-byte-eq10.false
