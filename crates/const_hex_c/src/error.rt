@@ -5,7 +5,7 @@ ghost use Rattle.const_hex.specs.Messages.{message_text};
 ghost use Rattle.const_hex.specs.declared.error.FromHexError.TheVariants.{InvalidHexCharacter};
 ghost use Rattle.const_hex_c.specs.Errors.{struct_of};
 
-use crate::message::{LONGEST, put_character};
+use crate::message::{LONGEST, prepend_character};
 use const_hex::FromHexError;
 
 /// The kind of a text with an odd number of bytes.
@@ -54,7 +54,7 @@ impl HexError {
     {
         match u8::try_from(self.byte) {
             Ok(byte) if self.kind == INVALID_CHARACTER => {
-                let start = put_character(byte, self.index, space);
+                let start = prepend_character(byte, self.index, space);
                 &space[start..]
             }
             _ => &space[LONGEST..],

@@ -2,7 +2,7 @@
 //! Why a text was rejected, as C has it.
 
 use crate::std_shim::prelude::*;
-use crate::proved::c::message::{LONGEST, put_character};
+use crate::proved::c::message::{LONGEST, prepend_character};
 use crate::proved::FromHexError;
 
 /// The kind of a text with an odd number of bytes.
@@ -45,7 +45,7 @@ impl HexError {
     pub(crate) fn character_message<'a>(&self, space: &'a mut [u8; LONGEST]) -> &'a [u8] {
         match u8::try_from(self.byte) {
             Ok(byte) if self.kind == INVALID_CHARACTER => {
-                let start = put_character(byte, self.index, space);
+                let start = prepend_character(byte, self.index, space);
                 &space[start..]
             }
             _ => &space[LONGEST..],

@@ -10,7 +10,7 @@ pub(crate) const LONGEST: usize = 59;
 
 /// Puts the text before what starts at `start`, and returns where it starts.
 #[inline(always)]
-fn put(text: &[u8], start: usize, space: &mut [u8; LONGEST]) -> usize {
+fn prepend(text: &[u8], start: usize, space: &mut [u8; LONGEST]) -> usize {
     let from = start - text.len();
     space[from..start].copy_from_slice(text);
     from
@@ -18,7 +18,7 @@ fn put(text: &[u8], start: usize, space: &mut [u8; LONGEST]) -> usize {
 
 /// Puts the decimal digits of the number at the end, and returns where they start.
 #[inline(always)]
-fn put_decimal(number: usize, space: &mut [u8; LONGEST]) -> usize {
+fn prepend_decimal(number: usize, space: &mut [u8; LONGEST]) -> usize {
     let mut start = LONGEST;
     let mut left = number;
     'digits: while left >= 10 {
@@ -33,34 +33,34 @@ fn put_decimal(number: usize, space: &mut [u8; LONGEST]) -> usize {
 
 /// Puts what shows the character before what starts at `start`, and returns where it starts.
 #[inline(always)]
-fn put_shown(byte: u8, start: usize, space: &mut [u8; LONGEST]) -> usize {
+fn prepend_shown(byte: u8, start: usize, space: &mut [u8; LONGEST]) -> usize {
     match byte {
-        0 => put(b"\\0", start, space),
-        b'\t' => put(b"\\t", start, space),
-        b'\n' => put(b"\\n", start, space),
-        b'\r' => put(b"\\r", start, space),
-        b'\'' | b'\\' => put(&[b'\\', byte], start, space),
+        0 => prepend(b"\\0", start, space),
+        b'\t' => prepend(b"\\t", start, space),
+        b'\n' => prepend(b"\\n", start, space),
+        b'\r' => prepend(b"\\r", start, space),
+        b'\'' | b'\\' => prepend(&[b'\\', byte], start, space),
         0..=31 | 127..=160 | 173 => {
-            let start = put(&[digit_at(false, byte % 16), b'}'], start, space);
+            let start = prepend(&[digit_at(false, byte % 16), b'}'], start, space);
             let start = if byte < 16 {
                 start
             } else {
-                put(&[digit_at(false, byte / 16)], start, space)
+                prepend(&[digit_at(false, byte / 16)], start, space)
             };
-            put(b"\\u{", start, space)
+            prepend(b"\\u{", start, space)
         }
-        32..=126 => put(&[byte], start, space),
-        _ => put(&[0xc0 + byte / 64, 0x80 + byte % 64], start, space),
+        32..=126 => prepend(&[byte], start, space),
+        _ => prepend(&[0xc0 + byte / 64, 0x80 + byte % 64], start, space),
     }
 }
 
 /// Puts the message of an invalid character at the end, and returns where it starts.
 #[inline(always)]
-pub(crate) fn put_character(byte: u8, index: usize, space: &mut [u8; LONGEST]) -> usize {
-    let start = put_decimal(index, space);
-    let start = put(b"' at position ", start, space);
-    let start = put_shown(byte, start, space);
-    put(b"invalid character '", start, space)
+pub(crate) fn prepend_character(byte: u8, index: usize, space: &mut [u8; LONGEST]) -> usize {
+    let start = prepend_decimal(index, space);
+    let start = prepend(b"' at position ", start, space);
+    let start = prepend_shown(byte, start, space);
+    prepend(b"invalid character '", start, space)
 }
 
 /// Does the same as [`write_ended`]. A text whose length the compiler knows is copied at once.

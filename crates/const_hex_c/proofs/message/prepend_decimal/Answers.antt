@@ -1,7 +1,7 @@
 use Rattle.std.proofs.Common.{◌≡◌, ◌+◌, ◌-◌, ◌/◌, ◌%◌, [], ◌∷◌, length, decimal, refl, ap, ◌∙◌, arith, append-nil, append_assoc, length-append}
 use Rattle.std.proofs.lemmas.Fmt.{decimal_digit, decimal_nonempty, decimal_step, length-decimal-le}
 use Rattle.std.proofs.lemmas.List.{drop-set, drop_all, length-set}
-use Rattle.const_hex_c.proofs.message.put_decimal.Goals as goal
+use Rattle.const_hex_c.proofs.message.prepend_decimal.Goals as goal
 
 pub digits-init : goal.digits-init
 digits-init c = record {

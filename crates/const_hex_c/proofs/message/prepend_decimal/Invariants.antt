@@ -1,5 +1,5 @@
 use Rattle.std.proofs.Common.{◌≡◌, ◌+◌, ◌≤◌, ◌++◌, length, drop, decimal}
-use Rattle.const_hex_c.proofs.message.put_decimal.Given as goal
+use Rattle.const_hex_c.proofs.message.prepend_decimal.Given as goal
 
 abbrev pub invariant-digits : goal.invariant-digits
 invariant-digits l = record {
