@@ -261,10 +261,13 @@ fn ask_outputs(
     let mut output = vec![in line.alloc; 0xEEu8; size]?;
     let done = encode_to_slice(bytes, &mut output);
     line.fills("encode_to_slice", done, &output, lower);
+    output.fill(0xEE);
     let done = encode_to_slice_upper(bytes, &mut output);
     line.fills("encode_to_slice_upper", done, &output, upper);
+    output.fill(0xEE);
     let text = encode_to_str(bytes, &mut output);
     line.lends("encode_to_str", text, lower);
+    output.fill(0xEE);
     let text = encode_to_str_upper(bytes, &mut output);
     line.lends("encode_to_str_upper", text, upper);
     ask_full(line, size, false, [lower, upper])?;
@@ -280,6 +283,7 @@ fn ask_full(
     let mut output = vec![in line.alloc; 0xEEu8; size]?;
     let done = encode_full_to_slice(line.input, prefix, false, &mut output);
     line.fills("encode_full_to_slice", done, &output, lower);
+    output.fill(0xEE);
     let done = encode_full_to_slice(line.input, prefix, true, &mut output);
     line.fills("encode_full_to_slice", done, &output, upper);
     Ok(())

@@ -139,7 +139,8 @@ pub mod simd {
     }
 
     impl Mask {
-        /// Returns a bit for each lane, the lowest for the first. It is made only as far as the calls below need it.
+        /// Returns what stands for a number with a bit for each lane, the lowest for the first. The verified source
+        /// asks that number only whether it is 0, and where its lowest bit is, so it is never made.
         #[inline(always)]
         pub fn to_bitmask(self) -> Mask {
             self
