@@ -14,6 +14,10 @@ place_after p (b ∷ t) =
 abbrev pub after : List ℕ → Place
 after x = place_after (record { line = 1; column = 1 }) x
 
+-- n is the length k, if that can be counted
+abbrev pub IsCount : ℕ → ℕ → Type 0
+IsCount n k = k < 2 ^ 64 - 1 → n ≡ k
+
 -- the place is that of the character after x, if its position can be counted
 abbrev pub IsPlace : List ℕ → Place → Type 0
 IsPlace x p = length x < 2 ^ 64 - 1 → (p.line ≡ (after x).line) × (p.column ≡ (after x).column)

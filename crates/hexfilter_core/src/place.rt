@@ -2,7 +2,7 @@
 
 ghost use Rattle.std.specs.Prelude.{◌≡◌, ◌+◌, ◌++◌, ◌∷◌, [], List, ℕ, length};
 ghost use Rattle.const_hex.specs.Decoding.{counted};
-ghost use Rattle.hexfilter_core.specs.Places.{IsPlace, IsLine};
+ghost use Rattle.hexfilter_core.specs.Places.{IsCount, IsLine, IsPlace};
 
 /// The line and the column of a character. Both count from 1, and a line ends with `\n`.
 #[derive(Clone, Copy, PartialEq, Eq, Debug)]
@@ -29,13 +29,13 @@ impl Line {
         start: 0,
     };
 
-    /// The line after one more byte, of `read`.
+    /// The line after one more byte, the last of `read`, if so many can be counted.
     pub(crate) fn after(self, byte: u8, read: usize) -> Line
-        ensures { (x : List ℕ) → IsLine x self → read ≡ counted (length x + 1) → IsLine (x ++ byte ∷ []) result }
+        ensures { (x : List ℕ) → IsLine x self → IsCount read (length x + 1) → IsLine (x ++ byte ∷ []) result }
     {
         if byte == b'\n' {
             return Line {
-                number: self.number.saturating_add(1),
+                number: self.number.wrapping_add(1),
                 start: read,
             };
         }

@@ -56,7 +56,7 @@ pub use self::formatting::text::*;
 //    1  and the crate's decoder is cloned
 //    1  before it reads a chunk
 //   47  deleted: attribute
-//  248  deleted: contract
+//  251  deleted: contract
 //  216  deleted: ghost item
 //    4  deleted: model
 //    1  each value may be dropped

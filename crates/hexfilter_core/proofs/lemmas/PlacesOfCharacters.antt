@@ -1,10 +1,10 @@
 -- The places after parts of an input.
-use Rattle.std.proofs.Common.{◌≡◌, ◌≢◌, ℕ, ◌+◌, ◌-◌, ◌≤◌, ◌==◌, if◌then◌else◌, List, [], ◌∷◌, ◌++◌, length, refl, sym, ◌∙◌, arith, length-append}
+use Rattle.std.proofs.Common.{◌≡◌, ◌≢◌, ℕ, ◌+◌, ◌-◌, ◌%◌, ◌^◌, ◌≤◌, ◌==◌, if◌then◌else◌, List, [], ◌∷◌, ◌++◌, length, refl, sym, ◌∙◌, arith, length-append}
 use Rattle.std.proofs.lemmas.Bool.Decides.{nat_tests}
 use Rattle.std.proofs.lemmas.List.Elements.{All-cons, All-head, All-nil, All-tail}
 use Rattle.std.specs.List.{All}
 use Rattle.const_hex.specs.Decoding.{counted}
-use Rattle.hexfilter_core.specs.Places.{IsLine, IsPlace, after, place_after}
+use Rattle.hexfilter_core.specs.Places.{IsCount, IsLine, IsPlace, after, place_after}
 use Rattle.hexfilter_core.specs.declared.place.Line.{Line}
 use Rattle.hexfilter_core.specs.declared.place.Place.{Place}
 
@@ -41,7 +41,7 @@ pub line_after_byte : (x : List ℕ) (b : ℕ) (l : Line) → IsLine x l → b �
 line_after_byte x b l is other = line_after_run x (b ∷ []) l is (All-cons (λ b. b ≢ 10) b [] other (All-nil (λ b. b ≢ 10)))
 
 -- a newline
-pub line_after_newline : (x : List ℕ) (l : Line) (number start : ℕ) → IsLine x l → number ≡ counted (l.number + 1) → start ≡ counted (length x + 1)
+pub line_after_newline : (x : List ℕ) (l : Line) (number start : ℕ) → IsLine x l → number ≡ (l.number + 1) % 2 ^ 64 → IsCount start (length x + 1)
     → IsLine (x ++ 10 ∷ []) (record { number = number; start = start })
 unfolding place_after
 line_after_newline x l number start is e read = λ short.

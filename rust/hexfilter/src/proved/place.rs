@@ -28,11 +28,11 @@ impl Line {
         start: 0,
     };
 
-    /// The line after one more byte, of `read`.
+    /// The line after one more byte, the last of `read`, if so many can be counted.
     pub(crate) fn after(self, byte: u8, read: usize) -> Line {
         if byte == b'\n' {
             return Line {
-                number: self.number.saturating_add(1),
+                number: self.number.wrapping_add(1),
                 start: read,
             };
         }

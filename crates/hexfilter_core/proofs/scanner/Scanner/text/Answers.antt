@@ -4,16 +4,16 @@ use Rattle.const_hex.specs.Decoding.{listed}
 use Rattle.hexfilter_core.proofs.lemmas.Texts.{added_byte, added_run, rest-size}
 use Rattle.hexfilter_core.proofs.scanner.Scanner.text.Goals as goal
 
-pub runs-preserved-then-count-eq-LANES : goal.runs-preserved-then-count-eq-LANES
-runs-preserved-then-count-eq-LANES c =
+pub runs-preserved-then-count : goal.runs-preserved-then-count
+runs-preserved-then-count c =
     let i = c.runs.invariant in
-    let ran = rw c.if-count-eq-LANES.true at c.run-count.ensures in
+    let ran = c.run-count.ensures in
     let size = rest-size c.args.chunk.now c.runs.done in
     let room = c.runs.auto.output in record {
       within = omega (arith, ran.within, size);
       fewer = omega arith;
       so_far = λ x is at.
-          added_run _ _ _ x _ _ c.runs.end c.runs.done (i.so_far x is at) _ 32 _ i.within (omega (arith, room))
+          added_run _ _ _ x _ _ c.runs.end c.runs.done (i.so_far x is at) _ c.run-count.result _ i.within (omega (arith, room))
           (omega (arith, ran.length, ran.within, size, room)) ran.added;
     }
 
@@ -47,5 +47,5 @@ runs-preserved-then-done-chunk c =
           (omega (arith, ran.length, ran.within, size, room)) ran.added in
           added_byte _ _ _ x chunk _ (c.runs.end + n) (done + n) run _ (listed c.next-added.result) c.put-end.result inside c.put-end.ensures.front
           (c.next-added.ensures _ run.scanned
-          (omega (arith, at, c.saturating_add.ensures, length-append x (take (done + n) chunk), length-take (done + n) chunk)));
+          (λ short. omega (arith, short, at, length-append x (take (done + n) chunk), length-take (done + n) chunk)));
     }
