@@ -14,7 +14,7 @@ place_after p (b ∷ t) =
 abbrev pub after : List ℕ → Place
 after x = place_after (record { line = 1; column = 1 }) x
 
--- n is the length k, if that can be counted
+-- n is the length k, if that is below the greatest `usize`
 abbrev pub IsCount : ℕ → ℕ → Type 0
 IsCount n k = k < 2 ^ 64 - 1 → n ≡ k
 

@@ -29,7 +29,7 @@ impl Line {
         start: 0,
     };
 
-    /// The line after one more byte, the last of `read`, if so many can be counted.
+    /// The line after one more byte, the last of `read`, which may be any number if there are more than `usize` counts.
     pub(crate) fn after(self, byte: u8, read: usize) -> Line
         ensures { (x : List ℕ) → IsLine x self → IsCount read (length x + 1) → IsLine (x ++ byte ∷ []) result }
     {

@@ -41,7 +41,8 @@ impl Scanner {
         None
     }
 
-    /// Reads a byte, the last of `read`, if so many can be counted. Returns what it adds to the text.
+    /// Reads a byte, the last of `read`, which may be any number if there are more than `usize` counts. Returns what
+    /// it adds to the text.
     pub(crate) fn next(&mut self, reading: Reading, byte: u8, read: usize) -> Option<u8>
         ensures { (x : List ℕ) → HasScanned reading self.old x → IsCount read (length x + 1)
             → HasAdded reading self.new x (byte ∷ []) (listed result) }
@@ -110,8 +111,8 @@ impl Scanner {
     }
 }
 
-/// Copies bytes of the first two blocks, if there are two, before one that is below 33. Returns how many. The guess
-/// is how many that may be.
+/// Copies bytes before the first that is below 33, at most two blocks. Returns how many. The guess is how many are
+/// likely, and changes only the speed.
 #[inline(always)]
 fn copy_run(guess: usize, chunk: &[u8], output: &mut [u8]) -> usize
     requires { length chunk.now ≤ length output.old }
@@ -120,8 +121,9 @@ fn copy_run(guess: usize, chunk: &[u8], output: &mut [u8]) -> usize
     ensures copied { take result output.new ≡ take result chunk.now }
     ensures length { length output.new ≡ length output.old }
 {
+    // The output is never shorter. That it is tested, too, saves two tests below.
     if chunk.len() < 2 * LANES || output.len() < 2 * LANES {
-        return 0;
+        return copy_block(chunk, output);
     }
     let count = copy_block(chunk, output);
     if count < LANES {
@@ -131,8 +133,10 @@ fn copy_run(guess: usize, chunk: &[u8], output: &mut [u8]) -> usize
     start + copy_block(&chunk[start..], &mut output[start..])
 }
 
-/// Where the second block starts: if the guess may be right, so that it ends there.
-// All of it is then copied, and the processor goes on without a count: lines of 60 characters take a tenth less time.
+/// Where the second block starts: such that it ends at the guess, if a byte below 33 stands there, and otherwise
+/// after the first.
+// At a right guess the whole block is copied, and the processor goes on before it has counted: lines of 60 characters
+// take a tenth less time.
 #[inline(always)]
 fn second_block(guess: usize, chunk: &[u8]) -> usize
     requires { 64 ≤ length chunk.now }

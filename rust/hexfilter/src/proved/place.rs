@@ -28,7 +28,7 @@ impl Line {
         start: 0,
     };
 
-    /// The line after one more byte, the last of `read`, if so many can be counted.
+    /// The line after one more byte, the last of `read`, which may be any number if there are more than `usize` counts.
     pub(crate) fn after(self, byte: u8, read: usize) -> Line {
         if byte == b'\n' {
             return Line {
