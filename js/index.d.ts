@@ -79,7 +79,10 @@ export function isHex(text: Text): boolean;
 /** Clears what earlier calls left in the module's memory: at most the last 48 KiB of inputs and outputs. */
 export function wipe(): void;
 
-/** `encode` and `decode` under the names of `@noble/hashes`, whose `hexToBytes` rejects `0x`. */
+/**
+ * `encode` and `decode` under the names of `@noble/hashes`, whose `hexToBytes` rejects `0x`. In viem, `hexToBytes` and
+ * `isHex` are about text that begins with `0x`, and accept an odd number of digits.
+ */
 export { encode as bytesToHex, decode as hexToBytes };
 
 /** The error for text that cannot be decoded. */

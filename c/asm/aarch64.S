@@ -1321,310 +1321,354 @@
 	csel x8, x9, xzr, eq
 	cmp x2, #0x0
 	csel x9, x9, xzr, eq
-	add x9, x2, x9
+	add x11, x2, x9
 	tbnz x1, #63, 2f
 	lsl x10, x1, #1
-	and w11, w4, #0x2
-	adds x10, x10, w11, uxtw
+	and w12, w4, #0x2
+	adds x9, x10, w12, uxtw
 	b.cc 4f
 2:
 	mov w0, wzr
 	cbz x3, 3f
 	tbnz w4, #2, 3f
 	mov w0, wzr
-	strb wzr, [x9]
+	strb wzr, [x11]
 3:
 	ret
 4:
 	cmp w4, #0x3
 	b.hi 5f
-	cmp x10, x3
+	cmp x9, x3
 	b.cs 2b
-	strb wzr, [x9, x10]
+	strb wzr, [x11, x9]
 	b 6f
 5:
 	cmp w4, #0x7
 	b.hi 2b
-	cmp x10, x3
+	cmp x9, x3
 	b.hi 2b
 6:
-	add x10, x0, x8
-	cbnz w11, 8f
-	mov x8, x9
-	cmp x1, #0x40
-	b.cs 9f
+	add x9, x0, x8
+	cbnz w12, 12f
+	mov x8, x11
+	cmp x1, #0x3f
+	b.ls 13f
 7:
-	mov x9, xzr
-	subs x11, x1, #0x20
-	b.cs 13f
-	b 14f
+	tst w4, #0x1
+	mov w10, #0x20
+	and x11, x1, #0x40
+	adrp_label x12, const_hex_constant_2
+	add_label x12, x12, const_hex_constant_2
+	csel x10, xzr, x10, eq
+	add x11, x12, x11
+	mov x12, x1
+	add x10, x11, x10
+	mov x11, x9
+	ldp q0, q1, [x10]
+	mov x10, x8
 8:
+	ldp q2, q3, [x11]
+	sub x12, x12, #0x40
+	cmp x12, #0x3f
+	uxtl2 v4.8h, v2.16b
+	uxtl v2.8h, v2.8b
+	uxtl2 v5.8h, v3.16b
+	uxtl v3.8h, v3.8b
+	mul v4.8h, v1.8h, v4.8h
+	mul v2.8h, v1.8h, v2.8h
+	mul v5.8h, v1.8h, v5.8h
+	mul v3.8h, v1.8h, v3.8h
+	ushr v4.8h, v4.8h, #4
+	ushr v2.8h, v2.8h, #4
+	ushr v5.8h, v5.8h, #4
+	ushr v3.8h, v3.8h, #4
+	tbl v4.16b, {v0.16b}, v4.16b
+	tbl v2.16b, {v0.16b}, v2.16b
+	tbl v5.16b, {v0.16b}, v5.16b
+	tbl v3.16b, {v0.16b}, v3.16b
+	stp q2, q4, [x10]
+	stp q3, q5, [x10, #32]
+	ldp q2, q3, [x11, #32]
+	add x11, x11, #0x40
+	uxtl2 v4.8h, v2.16b
+	uxtl v2.8h, v2.8b
+	uxtl2 v5.8h, v3.16b
+	uxtl v3.8h, v3.8b
+	mul v4.8h, v1.8h, v4.8h
+	mul v2.8h, v1.8h, v2.8h
+	mul v5.8h, v1.8h, v5.8h
+	mul v3.8h, v1.8h, v3.8h
+	ushr v4.8h, v4.8h, #4
+	ushr v2.8h, v2.8h, #4
+	ushr v5.8h, v5.8h, #4
+	ushr v3.8h, v3.8h, #4
+	tbl v4.16b, {v0.16b}, v4.16b
+	tbl v2.16b, {v0.16b}, v2.16b
+	tbl v5.16b, {v0.16b}, v5.16b
+	tbl v3.16b, {v0.16b}, v3.16b
+	stp q2, q4, [x10, #64]
+	stp q3, q5, [x10, #96]
+	add x10, x10, #0x80
+	b.hi 8b
+	cbz x12, 15f
+	cmp x12, #0x21
+	b.cc 9f
+	ldp q2, q3, [x11]
+	uxtl2 v4.8h, v2.16b
+	uxtl v2.8h, v2.8b
+	uxtl2 v5.8h, v3.16b
+	uxtl v3.8h, v3.8b
+	mul v4.8h, v1.8h, v4.8h
+	mul v2.8h, v1.8h, v2.8h
+	mul v5.8h, v1.8h, v5.8h
+	mul v3.8h, v1.8h, v3.8h
+	ushr v4.8h, v4.8h, #4
+	ushr v2.8h, v2.8h, #4
+	ushr v5.8h, v5.8h, #4
+	ushr v3.8h, v3.8h, #4
+	tbl v4.16b, {v0.16b}, v4.16b
+	tbl v2.16b, {v0.16b}, v2.16b
+	tbl v5.16b, {v0.16b}, v5.16b
+	tbl v3.16b, {v0.16b}, v3.16b
+	stp q2, q4, [x10]
+	stp q3, q5, [x10, #32]
+9:
+	sub x10, x1, #0x20
+	add x9, x9, x10
+	add x8, x8, x10, lsl #1
+	ldp q2, q3, [x9]
+	uxtl2 v4.8h, v2.16b
+	uxtl v2.8h, v2.8b
+	uxtl2 v5.8h, v3.16b
+	uxtl v3.8h, v3.8b
+	mul v4.8h, v1.8h, v4.8h
+	mul v2.8h, v1.8h, v2.8h
+	mul v5.8h, v1.8h, v5.8h
+	mul v1.8h, v1.8h, v3.8h
+	ushr v3.8h, v4.8h, #4
+	ushr v2.8h, v2.8h, #4
+	ushr v4.8h, v5.8h, #4
+	ushr v1.8h, v1.8h, #4
+	tbl v3.16b, {v0.16b}, v3.16b
+	tbl v2.16b, {v0.16b}, v2.16b
+	tbl v4.16b, {v0.16b}, v4.16b
+	tbl v0.16b, {v0.16b}, v1.16b
+	mov w0, #0x1
+	stp q2, q3, [x8]
+	stp q0, q4, [x8, #32]
+	ret
+12:
 	adrp_label x8, const_hex_constant_3
 	add_label x8, x8, const_hex_constant_3
-	mov w11, #0x7830
-	sub x8, x9, x8
-	strh w11, [x9]
+	mov w12, #0x7830
+	sub x8, x11, x8
+	strh w12, [x11]
 	cmp x8, #0x1
-	add x8, x9, #0x2
-	cmp x1, #0x40
-	b.cc 7b
-9:
-	tst w4, #0x1
-	mov w11, #0x20
-	and x12, x1, #0x40
-	adrp_label x13, const_hex_constant_2
-	add_label x13, x13, const_hex_constant_2
-	csel x11, xzr, x11, eq
-	add x12, x13, x12
-	mov x9, xzr
-	add x11, x12, x11
-	ldp q0, q1, [x11]
-	add x11, x8, #0x40
-12:
-	ldp q2, q3, [x10]
-	sub x1, x1, #0x40
-	add x12, x10, #0x40
+	add x8, x11, #0x2
 	cmp x1, #0x3f
-	sub x9, x9, #0x80
-	uxtl2 v4.8h, v2.16b
-	uxtl v2.8h, v2.8b
-	uxtl2 v5.8h, v3.16b
-	uxtl v3.8h, v3.8b
-	mul v4.8h, v1.8h, v4.8h
-	mul v2.8h, v1.8h, v2.8h
-	mul v5.8h, v1.8h, v5.8h
-	mul v3.8h, v1.8h, v3.8h
-	ushr v4.8h, v4.8h, #4
-	ushr v2.8h, v2.8h, #4
-	ushr v5.8h, v5.8h, #4
-	ushr v3.8h, v3.8h, #4
-	tbl v4.16b, {v0.16b}, v4.16b
-	tbl v2.16b, {v0.16b}, v2.16b
-	tbl v5.16b, {v0.16b}, v5.16b
-	tbl v3.16b, {v0.16b}, v3.16b
-	stp q2, q4, [x11, #-64]
-	stp q3, q5, [x11, #-32]
-	ldp q2, q3, [x10, #32]
-	mov x10, x12
-	uxtl2 v4.8h, v2.16b
-	uxtl v2.8h, v2.8b
-	uxtl2 v5.8h, v3.16b
-	uxtl v3.8h, v3.8b
-	mul v4.8h, v1.8h, v4.8h
-	mul v2.8h, v1.8h, v2.8h
-	mul v5.8h, v1.8h, v5.8h
-	mul v3.8h, v1.8h, v3.8h
-	ushr v4.8h, v4.8h, #4
-	ushr v2.8h, v2.8h, #4
-	ushr v5.8h, v5.8h, #4
-	ushr v3.8h, v3.8h, #4
-	tbl v4.16b, {v0.16b}, v4.16b
-	tbl v2.16b, {v0.16b}, v2.16b
-	tbl v5.16b, {v0.16b}, v5.16b
-	tbl v3.16b, {v0.16b}, v3.16b
-	stp q2, q4, [x11]
-	stp q3, q5, [x11, #32]
-	add x11, x11, #0x80
-	b.hi 12b
-	neg x9, x9
-	mov x10, x12
-	subs x11, x1, #0x20
-	b.cc 14f
+	b.hi 7b
 13:
-	ldp q0, q1, [x10], #32
+	cmp x1, #0x20
+	b.cc 14f
+	ldp q0, q1, [x9]
 	tst w4, #0x1
-	mov w12, #0x20
-	adrp_label x13, const_hex_constant_2
-	add_label x13, x13, const_hex_constant_2
-	csel x12, xzr, x12, eq
-	mov x1, x11
-	add x12, x13, x12
-	uxtl2 v2.8h, v0.16b
-	uxtl v0.8h, v0.8b
-	uxtl2 v4.8h, v1.16b
-	uxtl v1.8h, v1.8b
-	ldr q3, [x12, #16]
-	mul v2.8h, v3.8h, v2.8h
-	mul v0.8h, v3.8h, v0.8h
-	mul v4.8h, v3.8h, v4.8h
-	mul v1.8h, v3.8h, v1.8h
-	ldr q3, [x12]
-	add x12, x8, x9
-	add x9, x9, #0x40
-	ushr v2.8h, v2.8h, #4
-	ushr v0.8h, v0.8h, #4
-	ushr v4.8h, v4.8h, #4
-	ushr v1.8h, v1.8h, #4
-	tbl v2.16b, {v3.16b}, v2.16b
-	tbl v0.16b, {v3.16b}, v0.16b
-	tbl v4.16b, {v3.16b}, v4.16b
-	tbl v1.16b, {v3.16b}, v1.16b
-	stp q0, q2, [x12]
-	stp q1, q4, [x12, #32]
-14:
-	cbz x1, 15f
-	cmp x1, #0x1
-	b.ne 16f
-	movi v0.2d, #0x0
-	ldrb w10, [x10]
-	tst w4, #0x1
+	mov w10, #0x20
 	adrp_label x11, const_hex_constant_2
 	add_label x11, x11, const_hex_constant_2
-	add x8, x8, x9
-	mov w0, #0x1
-	mov v0.b[0], w10
-	mov v0.b[1], w10
-	mov w10, #0x20
 	csel x10, xzr, x10, eq
 	add x10, x11, x10
-	ldr q1, [x10, #16]
-	uxtl v0.8h, v0.8b
-	mul v0.8h, v1.8h, v0.8h
+	uxtl2 v2.8h, v0.16b
+	uxtl v3.8h, v0.8b
+	uxtl2 v4.8h, v1.16b
+	uxtl v1.8h, v1.8b
+	ldr q0, [x10, #16]
+	mul v2.8h, v0.8h, v2.8h
+	mul v3.8h, v0.8h, v3.8h
+	mul v4.8h, v0.8h, v4.8h
+	mul v5.8h, v0.8h, v1.8h
 	ldr q1, [x10]
+	subs x10, x1, #0x20
+	ushr v2.8h, v2.8h, #4
+	ushr v3.8h, v3.8h, #4
+	ushr v4.8h, v4.8h, #4
+	ushr v5.8h, v5.8h, #4
+	tbl v2.16b, {v1.16b}, v2.16b
+	tbl v3.16b, {v1.16b}, v3.16b
+	tbl v4.16b, {v1.16b}, v4.16b
+	tbl v5.16b, {v1.16b}, v5.16b
+	stp q3, q2, [x8]
+	stp q5, q4, [x8, #32]
+	b.eq 15f
+	add x9, x9, x10
+	add x8, x8, x10, lsl #1
+	ldp q2, q3, [x9]
+	uxtl2 v4.8h, v2.16b
+	uxtl v2.8h, v2.8b
+	uxtl2 v5.8h, v3.16b
+	uxtl v3.8h, v3.8b
+	mul v4.8h, v0.8h, v4.8h
+	mul v2.8h, v0.8h, v2.8h
+	mul v5.8h, v0.8h, v5.8h
+	mul v0.8h, v0.8h, v3.8h
+	ushr v3.8h, v4.8h, #4
+	ushr v2.8h, v2.8h, #4
+	ushr v4.8h, v5.8h, #4
 	ushr v0.8h, v0.8h, #4
+	tbl v3.16b, {v1.16b}, v3.16b
+	tbl v2.16b, {v1.16b}, v2.16b
+	tbl v4.16b, {v1.16b}, v4.16b
 	tbl v0.16b, {v1.16b}, v0.16b
-	mov b1, v0.b[3]
-	mov b0, v0.b[2]
-	stur b1, [x8, #1]
-	str b0, [x8]
+	mov w0, #0x1
+	stp q2, q3, [x8]
+	stp q0, q4, [x8, #32]
 	ret
+14:
+	cmp x1, #0x10
+	b.cc 16f
+	ldr q0, [x9]
+	tst w4, #0x1
+	mov w10, #0x20
+	adrp_label x11, const_hex_constant_2
+	add_label x11, x11, const_hex_constant_2
+	csel x10, xzr, x10, eq
+	add x10, x11, x10
+	uxtl v2.8h, v0.8b
+	uxtl2 v0.8h, v0.16b
+	ldr q1, [x10, #16]
+	mul v2.8h, v1.8h, v2.8h
+	mul v3.8h, v1.8h, v0.8h
+	ldr q0, [x10]
+	subs x10, x1, #0x10
+	ushr v2.8h, v2.8h, #4
+	ushr v3.8h, v3.8h, #4
+	tbl v2.16b, {v0.16b}, v2.16b
+	tbl v3.16b, {v0.16b}, v3.16b
+	stp q2, q3, [x8]
+	b.ne 17f
 15:
 	mov w0, #0x1
 	ret
 16:
-	cmp x1, #0x11
-	b.cc 17f
-	ldr q0, [x10]
-	add x10, x10, x1
+	cmp x1, #0x1
+	b.ne 18f
+	movi v0.16b, #0x0
+	ldrb w9, [x9]
 	tst w4, #0x1
-	mov w11, #0x20
-	ldur q1, [x10, #-16]
-	adrp_label x12, const_hex_constant_2
-	add_label x12, x12, const_hex_constant_2
-	csel x11, xzr, x11, eq
-	uxtl2 v2.8h, v0.16b
-	add x10, x12, x11
-	uxtl v0.8h, v0.8b
-	uxtl2 v4.8h, v1.16b
-	uxtl v1.8h, v1.8b
-	ldr q3, [x10, #16]
-	add x8, x8, x9
-	add x9, x8, x1, lsl #1
+	adrp_label x10, const_hex_constant_2
+	add_label x10, x10, const_hex_constant_2
 	mov w0, #0x1
-	mul v2.8h, v3.8h, v2.8h
-	mul v0.8h, v3.8h, v0.8h
-	mul v4.8h, v3.8h, v4.8h
-	mul v1.8h, v3.8h, v1.8h
-	ldr q3, [x10]
-	ushr v2.8h, v2.8h, #4
+	mov v0.b[0], w9
+	mov v0.b[1], w9
+	mov w9, #0x20
+	csel x9, xzr, x9, eq
+	add x9, x10, x9
+	ldr q1, [x9, #16]
+	uxtl v0.8h, v0.8b
+	mul v0.8h, v1.8h, v0.8h
+	ldr q1, [x9]
 	ushr v0.8h, v0.8h, #4
-	ushr v4.8h, v4.8h, #4
-	ushr v1.8h, v1.8h, #4
-	tbl v2.16b, {v3.16b}, v2.16b
-	tbl v0.16b, {v3.16b}, v0.16b
-	tbl v4.16b, {v3.16b}, v4.16b
-	tbl v1.16b, {v3.16b}, v1.16b
-	stp q0, q2, [x8]
-	stp q1, q4, [x9, #-32]
+	tbl v0.16b, {v1.16b}, v0.16b
+	mov b1, v0.b[3]
+	st1 {v0.b}[2], [x8]
+	stur b1, [x8, #1]
 	ret
 17:
-	cmp x1, #0x10
-	b.ne 18f
-	ldr q0, [x10]
-	tst w4, #0x1
-	mov w10, #0x20
-	adrp_label x11, const_hex_constant_2
-	add_label x11, x11, const_hex_constant_2
-	csel x10, xzr, x10, eq
-	add x10, x11, x10
-	uxtl2 v1.8h, v0.16b
-	uxtl v0.8h, v0.8b
-	ldr q2, [x10, #16]
-	add x8, x8, x9
+	ldr q2, [x9, x10]
+	add x8, x8, x10, lsl #1
 	mov w0, #0x1
-	mul v1.8h, v2.8h, v1.8h
-	mul v0.8h, v2.8h, v0.8h
-	ldr q2, [x10]
+	uxtl v3.8h, v2.8b
+	uxtl2 v2.8h, v2.16b
+	mul v3.8h, v1.8h, v3.8h
+	mul v1.8h, v1.8h, v2.8h
+	ushr v2.8h, v3.8h, #4
 	ushr v1.8h, v1.8h, #4
-	ushr v0.8h, v0.8h, #4
-	tbl v1.16b, {v2.16b}, v1.16b
-	tbl v0.16b, {v2.16b}, v0.16b
-	stp q0, q1, [x8]
+	tbl v2.16b, {v0.16b}, v2.16b
+	tbl v0.16b, {v0.16b}, v1.16b
+	stp q2, q0, [x8]
 	ret
 18:
 	cmp x1, #0x8
 	b.cc 19f
-	add x11, x10, x1
+	add x11, x9, x1
 	tst w4, #0x1
 	mov w12, #0x20
-	ldr d0, [x10]
+	ldr d0, [x9]
 	ldur d1, [x11, #-8]
-	csel x10, xzr, x12, eq
+	csel x9, xzr, x12, eq
 	adrp_label x11, const_hex_constant_2
 	add_label x11, x11, const_hex_constant_2
-	add x8, x8, x9
-	add x10, x11, x10
+	mov w0, #0x1
+	add x9, x11, x9
 	uxtl v0.8h, v0.8b
 	uxtl v1.8h, v1.8b
-	ldr q2, [x10, #16]
-	add x9, x8, x1, lsl #1
-	mov w0, #0x1
+	ldr q2, [x9, #16]
 	mul v0.8h, v2.8h, v0.8h
 	mul v1.8h, v2.8h, v1.8h
-	ldr q2, [x10]
+	ldr q2, [x9]
 	ushr v0.8h, v0.8h, #4
 	ushr v1.8h, v1.8h, #4
 	tbl v0.16b, {v2.16b}, v0.16b
 	tbl v1.16b, {v2.16b}, v1.16b
 	str q0, [x8]
-	stur q1, [x9, #-16]
+	add x8, x8, x10
+	stur q1, [x8, #-16]
 	ret
 19:
-	tst w4, #0x1
-	mov w11, #0x20
-	adrp_label x12, const_hex_constant_2
-	add_label x12, x12, const_hex_constant_2
-	csel x11, xzr, x11, eq
 	cmp x1, #0x4
-	add x11, x12, x11
-	add x12, x10, x1
-	ldp q0, q1, [x11]
-	add x11, x8, x1, lsl #1
 	b.cc 20f
-	ldr s2, [x10]
-	sub x10, x12, #0x4
+	add x11, x9, x1
+	ldr s0, [x9]
+	tst w4, #0x1
+	sub x9, x11, #0x4
+	adrp_label x11, const_hex_constant_2
+	add_label x11, x11, const_hex_constant_2
+	ld1 {v0.s}[1], [x9]
+	mov w9, #0x20
 	mov w0, #0x1
-	ld1 {v2.s}[1], [x10]
-	uxtl v2.8h, v2.8b
-	mul v1.8h, v1.8h, v2.8h
-	ushr v1.8h, v1.8h, #4
-	tbl v0.16b, {v0.16b}, v1.16b
-	str d0, [x8, x9]
-	add x8, x11, x9
+	csel x9, xzr, x9, eq
+	add x9, x11, x9
+	uxtl v0.8h, v0.8b
+	ldr q1, [x9, #16]
+	mul v0.8h, v1.8h, v0.8h
+	ldr q1, [x9]
+	ushr v0.8h, v0.8h, #4
+	tbl v0.16b, {v1.16b}, v0.16b
 	ext v1.16b, v0.16b, v0.16b, #8
+	str d0, [x8]
+	add x8, x8, x10
 	stur d1, [x8, #-8]
 	ret
 20:
-	ldr h2, [x10]
-	sub x10, x12, #0x2
+	cbz x1, 15b
+	add x11, x9, x1
+	ldr h0, [x9]
+	tst w4, #0x1
+	sub x9, x11, #0x2
+	adrp_label x11, const_hex_constant_2
+	add_label x11, x11, const_hex_constant_2
+	ld1 {v0.h}[1], [x9]
+	mov w9, #0x20
 	mov w0, #0x1
-	ld1 {v2.h}[1], [x10]
-	uxtl v2.8h, v2.8b
-	mul v1.8h, v1.8h, v2.8h
-	ushr v1.8h, v1.8h, #4
-	tbl v0.16b, {v0.16b}, v1.16b
-	umov w10, v0.b[4]
-	umov w12, v0.b[5]
-	fmov s1, w10
-	umov w10, v0.b[6]
-	mov v1.h[1], w12
-	umov w12, v0.b[7]
+	csel x9, xzr, x9, eq
+	add x9, x11, x9
+	uxtl v0.8h, v0.8b
+	ldr q1, [x9, #16]
+	mul v0.8h, v1.8h, v0.8h
+	ldr q1, [x9]
+	ushr v0.8h, v0.8h, #4
+	tbl v0.16b, {v1.16b}, v0.16b
+	umov w9, v0.b[4]
+	umov w11, v0.b[5]
+	fmov s1, w9
+	umov w9, v0.b[6]
+	mov v1.h[1], w11
+	umov w11, v0.b[7]
 	zip1 v0.16b, v0.16b, v0.16b
-	mov v1.h[2], w10
+	mov v1.h[2], w9
 	xtn v0.8b, v0.8h
-	str s0, [x8, x9]
-	add x8, x11, x9
-	mov v1.h[3], w12
+	mov v1.h[3], w11
+	str s0, [x8]
+	add x8, x8, x10
 	xtn v1.8b, v1.8h
 	stur s1, [x8, #-4]
 	ret
@@ -1686,7 +1730,7 @@
 	b const_hex_message_write_ended
 4:
 	sub sp, sp, #0x50
-	movi v0.2d, #0x0
+	movi v0.16b, #0x0
 	ldr w9, [x0, #4]
 	mov w10, #0x100
 	stp x29, x30, [sp, #64]
@@ -2704,12 +2748,12 @@
 	add_label x11, x11, const_hex_constant_16
 	ldrb w9, [x11, x9]
 	ldrb w10, [x11, x10]
-	mov w11, #0xff
-	cmp w9, #0xff
-	ccmp w10, w11, #0x4, ne
-	cset w0, ne
-	b.eq 3f
-	add w9, w10, w9, lsl #4
+	orr w11, w10, w9
+	cmp w11, #0x10
+	cset w0, cc
+	cmp w11, #0xf
+	b.hi 3f
+	orr w9, w10, w9, lsl #4
 	subs x2, x2, #0x1
 	strb w9, [x1], #1
 	b.ne 2b

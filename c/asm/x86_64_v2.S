@@ -1888,15 +1888,107 @@
 	mov    al,r10b
 	shl    eax,0xc
 	test   edx,edx
-	jne    9f
+	jne    12f
 	mov    rcx,r9
 	add    rdi,rax
-	cmp    rsi,0x40
-	jae    12f
+	cmp    rsi,0x3f
+	jbe    13f
 8:
-	xor    edx,edx
-	jmp    14f
+	and    r8d,0x1
+	mov    eax,esi
+	and    eax,0x40
+	shl    r8d,0x5
+	lea    rdx,[rip + const_hex_constant_5_v2]
+	add    rdx,rax
+	movdqu xmm0,XMMWORD PTR [r8+rdx*1]
+	movdqu xmm1,XMMWORD PTR [r8+rdx*1+0x10]
+	xor    r8d,r8d
+	mov    rdx,rsi
+	.byte 0x66, 0xf, 0x1f, 0x44, 0x0, 0x0  /* nop    WORD PTR [rax+rax*1+0x0] */
 9:
+	pmovzxbw xmm2,QWORD PTR [rdi+r8*1+0x8]
+	pmovzxbw xmm3,QWORD PTR [rdi+r8*1]
+	pmullw xmm3,xmm1
+	pmullw xmm2,xmm1
+	psrlw  xmm2,0x4
+	psrlw  xmm3,0x4
+	movdqa xmm4,xmm0
+	pshufb xmm4,xmm3
+	movdqa xmm3,xmm0
+	pshufb xmm3,xmm2
+	pmovzxbw xmm2,QWORD PTR [rdi+r8*1+0x18]
+	pmovzxbw xmm5,QWORD PTR [rdi+r8*1+0x10]
+	pmullw xmm5,xmm1
+	pmullw xmm2,xmm1
+	psrlw  xmm2,0x4
+	psrlw  xmm5,0x4
+	movdqa xmm6,xmm0
+	pshufb xmm6,xmm5
+	movdqa xmm5,xmm0
+	pshufb xmm5,xmm2
+	movdqu XMMWORD PTR [rcx+r8*2+0x10],xmm3
+	movdqu XMMWORD PTR [rcx+r8*2],xmm4
+	movdqu XMMWORD PTR [rcx+r8*2+0x30],xmm5
+	movdqu XMMWORD PTR [rcx+r8*2+0x20],xmm6
+	pmovzxbw xmm2,QWORD PTR [rdi+r8*1+0x28]
+	pmovzxbw xmm3,QWORD PTR [rdi+r8*1+0x20]
+	pmullw xmm3,xmm1
+	pmullw xmm2,xmm1
+	psrlw  xmm2,0x4
+	psrlw  xmm3,0x4
+	movdqa xmm4,xmm0
+	pshufb xmm4,xmm3
+	movdqa xmm3,xmm0
+	pmovzxbw xmm5,QWORD PTR [rdi+r8*1+0x38]
+	pmovzxbw xmm6,QWORD PTR [rdi+r8*1+0x30]
+	pshufb xmm3,xmm2
+	pmullw xmm6,xmm1
+	pmullw xmm5,xmm1
+	psrlw  xmm5,0x4
+	psrlw  xmm6,0x4
+	movdqa xmm2,xmm0
+	pshufb xmm2,xmm6
+	movdqa xmm6,xmm0
+	pshufb xmm6,xmm5
+	movdqu XMMWORD PTR [rcx+r8*2+0x50],xmm3
+	movdqu XMMWORD PTR [rcx+r8*2+0x40],xmm4
+	movdqu XMMWORD PTR [rcx+r8*2+0x70],xmm6
+	movdqu XMMWORD PTR [rcx+r8*2+0x60],xmm2
+	add    r8,0x40
+	add    rdx,0xffffffffffffffc0
+	cmp    rdx,0x3f
+	ja     9b
+	mov    al,0x1
+	cmp    r8,rsi
+	je     4b
+	cmp    rdx,0x21
+	jb     14f
+	pmovzxbw xmm2,QWORD PTR [rdi+r8*1+0x8]
+	pmovzxbw xmm3,QWORD PTR [rdi+r8*1]
+	pmullw xmm3,xmm1
+	pmullw xmm2,xmm1
+	psrlw  xmm2,0x4
+	psrlw  xmm3,0x4
+	movdqa xmm4,xmm0
+	pshufb xmm4,xmm3
+	movdqa xmm3,xmm0
+	pshufb xmm3,xmm2
+	pmovzxbw xmm2,QWORD PTR [rdi+r8*1+0x18]
+	pmovzxbw xmm5,QWORD PTR [rdi+r8*1+0x10]
+	pmullw xmm5,xmm1
+	pmullw xmm2,xmm1
+	psrlw  xmm2,0x4
+	psrlw  xmm5,0x4
+	movdqa xmm6,xmm0
+	pshufb xmm6,xmm5
+	movdqa xmm5,xmm0
+	pshufb xmm5,xmm2
+	movdqu XMMWORD PTR [rcx+r8*2+0x10],xmm3
+	movdqu XMMWORD PTR [rcx+r8*2],xmm4
+	movdqu XMMWORD PTR [rcx+r8*2+0x30],xmm5
+	movdqu XMMWORD PTR [rcx+r8*2+0x20],xmm6
+	jmp    14f
+12:
 	lea    rcx,[r9+0x2]
 	lea    rdx,[rip + const_hex_constant_9_v2]
 	mov    r10,r9
@@ -1904,23 +1996,18 @@
 	cmp    r10,0x1
 	mov    WORD PTR [r9],0x7830
 	add    rdi,rax
-	cmp    rsi,0x40
-	jb     8b
-12:
-	mov    eax,r8d
-	and    eax,0x1
-	mov    edx,esi
-	and    edx,0x40
-	shl    eax,0x5
-	lea    r9,[rip + const_hex_constant_5_v2]
-	add    r9,rdx
-	movdqu xmm0,XMMWORD PTR [rax+r9*1]
-	movdqu xmm1,XMMWORD PTR [rax+r9*1+0x10]
-	xor    edx,edx
-	.byte 0x66, 0xf, 0x1f, 0x44, 0x0, 0x0  /* nop    WORD PTR [rax+rax*1+0x0] */
+	cmp    rsi,0x3f
+	ja     8b
 13:
+	cmp    rsi,0x20
+	jb     15f
+	and    r8d,0x1
 	pmovzxbw xmm2,QWORD PTR [rdi+0x8]
 	pmovzxbw xmm3,QWORD PTR [rdi]
+	shl    r8d,0x5
+	lea    rax,[rip + const_hex_constant_5_v2]
+	movdqu xmm0,XMMWORD PTR [r8+rax*1]
+	movdqu xmm1,XMMWORD PTR [r8+rax*1+0x10]
 	pmullw xmm3,xmm1
 	pmullw xmm2,xmm1
 	psrlw  xmm2,0x4
@@ -1939,157 +2026,101 @@
 	pshufb xmm6,xmm5
 	movdqa xmm5,xmm0
 	pshufb xmm5,xmm2
-	movdqu XMMWORD PTR [rcx+rdx*1+0x10],xmm3
-	movdqu XMMWORD PTR [rcx+rdx*1],xmm4
-	movdqu XMMWORD PTR [rcx+rdx*1+0x30],xmm5
-	movdqu XMMWORD PTR [rcx+rdx*1+0x20],xmm6
-	pmovzxbw xmm2,QWORD PTR [rdi+0x28]
-	pmovzxbw xmm3,QWORD PTR [rdi+0x20]
-	pmovzxbw xmm4,QWORD PTR [rdi+0x38]
-	pmovzxbw xmm5,QWORD PTR [rdi+0x30]
-	add    rdi,0x40
-	add    rsi,0xffffffffffffffc0
+	movdqu XMMWORD PTR [rcx+0x10],xmm3
+	movdqu XMMWORD PTR [rcx],xmm4
+	movdqu XMMWORD PTR [rcx+0x30],xmm5
+	movdqu XMMWORD PTR [rcx+0x20],xmm6
+	mov    al,0x1
+	cmp    rsi,0x20
+	je     4b
+14:
+	pmovzxbw xmm2,QWORD PTR [rdi+rsi*1-0x18]
+	pmovzxbw xmm3,QWORD PTR [rdi+rsi*1-0x20]
 	pmullw xmm3,xmm1
 	pmullw xmm2,xmm1
 	psrlw  xmm2,0x4
 	psrlw  xmm3,0x4
-	movdqa xmm6,xmm0
-	pshufb xmm6,xmm3
-	movdqa xmm3,xmm0
-	pshufb xmm3,xmm2
-	pmullw xmm5,xmm1
-	pmullw xmm4,xmm1
-	psrlw  xmm4,0x4
-	psrlw  xmm5,0x4
-	movdqa xmm2,xmm0
-	pshufb xmm2,xmm5
-	movdqa xmm5,xmm0
-	pshufb xmm5,xmm4
-	movdqu XMMWORD PTR [rcx+rdx*1+0x50],xmm3
-	movdqu XMMWORD PTR [rcx+rdx*1+0x40],xmm6
-	movdqu XMMWORD PTR [rcx+rdx*1+0x70],xmm5
-	movdqu XMMWORD PTR [rcx+rdx*1+0x60],xmm2
-	add    rdx,0x80
-	cmp    rsi,0x3f
-	ja     13b
-14:
-	cmp    rsi,0x20
-	jb     15f
-	mov    eax,r8d
-	and    eax,0x1
-	pmovzxbw xmm1,QWORD PTR [rdi+0x8]
-	pmovzxbw xmm2,QWORD PTR [rdi]
-	shl    eax,0x5
-	lea    r9,[rip + const_hex_constant_5_v2]
-	movdqu xmm0,XMMWORD PTR [rax+r9*1]
-	movdqu xmm3,XMMWORD PTR [rax+r9*1+0x10]
-	pmullw xmm2,xmm3
-	pmullw xmm1,xmm3
-	psrlw  xmm1,0x4
-	psrlw  xmm2,0x4
 	movdqa xmm4,xmm0
-	pshufb xmm4,xmm2
-	movdqa xmm2,xmm0
-	pshufb xmm2,xmm1
-	pmovzxbw xmm1,QWORD PTR [rdi+0x18]
-	pmovzxbw xmm5,QWORD PTR [rdi+0x10]
-	add    rdi,0x20
-	add    rsi,0xffffffffffffffe0
-	pmullw xmm5,xmm3
-	pmullw xmm1,xmm3
-	psrlw  xmm1,0x4
-	psrlw  xmm5,0x4
+	pshufb xmm4,xmm3
 	movdqa xmm3,xmm0
-	pshufb xmm3,xmm5
-	pshufb xmm0,xmm1
-	movdqu XMMWORD PTR [rcx+rdx*1+0x10],xmm2
-	movdqu XMMWORD PTR [rcx+rdx*1],xmm4
-	movdqu XMMWORD PTR [rcx+rdx*1+0x30],xmm0
-	movdqu XMMWORD PTR [rcx+rdx*1+0x20],xmm3
-	add    rdx,0x40
+	pmovzxbw xmm5,QWORD PTR [rdi+rsi*1-0x8]
+	pmovzxbw xmm6,QWORD PTR [rdi+rsi*1-0x10]
+	pshufb xmm3,xmm2
+	pmullw xmm6,xmm1
+	pmullw xmm5,xmm1
+	psrlw  xmm5,0x4
+	psrlw  xmm6,0x4
+	movdqa xmm1,xmm0
+	pshufb xmm1,xmm6
+	pshufb xmm0,xmm5
+	movdqu XMMWORD PTR [rcx+rsi*2-0x30],xmm3
+	movdqu XMMWORD PTR [rcx+rsi*2-0x40],xmm4
+	movdqu XMMWORD PTR [rcx+rsi*2-0x10],xmm0
+	movdqu XMMWORD PTR [rcx+rsi*2-0x20],xmm1
+	pop    rbx
+	ret
 15:
-	mov    al,0x1
-	test   rsi,rsi
-	je     4b
-	cmp    rsi,0x1
-	jne    16f
+	cmp    rsi,0x10
+	jb     16f
 	and    r8d,0x1
-	movzx  esi,BYTE PTR [rdi]
+	pmovzxbw xmm2,QWORD PTR [rdi+0x8]
+	pmovzxbw xmm3,QWORD PTR [rdi]
 	shl    r8d,0x5
-	lea    rdi,[rip + const_hex_constant_5_v2]
-	movdqu xmm0,XMMWORD PTR [r8+rdi*1]
-	movdqu xmm1,XMMWORD PTR [r8+rdi*1+0x10]
-	movd   xmm2,esi
-	pinsrb xmm2,esi,0x2
+	lea    rax,[rip + const_hex_constant_5_v2]
+	movdqu xmm0,XMMWORD PTR [r8+rax*1]
+	movdqu xmm1,XMMWORD PTR [r8+rax*1+0x10]
+	pmullw xmm3,xmm1
 	pmullw xmm2,xmm1
 	psrlw  xmm2,0x4
+	psrlw  xmm3,0x4
+	movdqa xmm4,xmm0
+	pshufb xmm4,xmm3
+	movdqa xmm3,xmm0
+	pshufb xmm3,xmm2
+	movdqu XMMWORD PTR [rcx],xmm4
+	movdqu XMMWORD PTR [rcx+0x10],xmm3
+	mov    al,0x1
+	cmp    rsi,0x10
+	je     4b
+	pmovzxbw xmm2,QWORD PTR [rdi+rsi*1-0x8]
+	pmovzxbw xmm3,QWORD PTR [rdi+rsi*1-0x10]
+	pmullw xmm3,xmm1
+	pmullw xmm2,xmm1
+	psrlw  xmm2,0x4
+	psrlw  xmm3,0x4
+	movdqa xmm1,xmm0
+	pshufb xmm1,xmm3
 	pshufb xmm0,xmm2
-	pextrw WORD PTR [rcx+rdx*1],xmm0,0x1
+	movdqu XMMWORD PTR [rcx+rsi*2-0x20],xmm1
+	movdqu XMMWORD PTR [rcx+rsi*2-0x10],xmm0
 	pop    rbx
 	ret
 16:
-	cmp    rsi,0x11
-	jb     17f
+	cmp    rsi,0x1
+	jne    17f
 	and    r8d,0x1
-	pmovzxbw xmm0,QWORD PTR [rdi+0x8]
-	pmovzxbw xmm1,QWORD PTR [rdi]
-	pmovzxbw xmm2,QWORD PTR [rdi+rsi*1-0x8]
-	pmovzxbw xmm3,QWORD PTR [rdi+rsi*1-0x10]
+	movzx  eax,BYTE PTR [rdi]
 	shl    r8d,0x5
-	lea    rdi,[rip + const_hex_constant_5_v2]
-	movdqu xmm4,XMMWORD PTR [r8+rdi*1]
-	movdqu xmm5,XMMWORD PTR [r8+rdi*1+0x10]
-	pmullw xmm1,xmm5
-	pmullw xmm0,xmm5
-	psrlw  xmm0,0x4
+	lea    rdx,[rip + const_hex_constant_5_v2]
+	movdqu xmm0,XMMWORD PTR [r8+rdx*1]
+	movd   xmm1,eax
+	pinsrb xmm1,eax,0x2
+	movdqu xmm2,XMMWORD PTR [r8+rdx*1+0x10]
+	pmullw xmm1,xmm2
 	psrlw  xmm1,0x4
-	movdqa xmm6,xmm4
-	pshufb xmm6,xmm1
-	movdqa xmm1,xmm4
-	pshufb xmm1,xmm0
-	pmullw xmm3,xmm5
-	pmullw xmm2,xmm5
-	psrlw  xmm2,0x4
-	psrlw  xmm3,0x4
-	movdqa xmm0,xmm4
-	pshufb xmm0,xmm3
-	pshufb xmm4,xmm2
-	lea    rdi,[rcx+rdx*1]
-	movdqu XMMWORD PTR [rcx+rdx*1+0x10],xmm1
-	movdqu XMMWORD PTR [rcx+rdx*1],xmm6
-	movdqu XMMWORD PTR [rdi+rsi*2-0x10],xmm4
-	movdqu XMMWORD PTR [rdi+rsi*2-0x20],xmm0
+	pshufb xmm0,xmm1
+	pextrw WORD PTR [rcx],xmm0,0x1
+	mov    al,0x1
 	pop    rbx
 	ret
 17:
-	cmp    rsi,0x10
-	jne    18f
-	pmovzxbw xmm0,QWORD PTR [rdi+0x8]
-	and    r8d,0x1
-	pmovzxbw xmm1,QWORD PTR [rdi]
-	shl    r8d,0x5
-	lea    rsi,[rip + const_hex_constant_5_v2]
-	movdqu xmm2,XMMWORD PTR [r8+rsi*1]
-	movdqu xmm3,XMMWORD PTR [r8+rsi*1+0x10]
-	pmullw xmm1,xmm3
-	pmullw xmm0,xmm3
-	psrlw  xmm0,0x4
-	psrlw  xmm1,0x4
-	movdqa xmm3,xmm2
-	pshufb xmm3,xmm1
-	pshufb xmm2,xmm0
-	movdqu XMMWORD PTR [rcx+rdx*1+0x10],xmm2
-	movdqu XMMWORD PTR [rcx+rdx*1],xmm3
-	pop    rbx
-	ret
-18:
-	and    r8d,0x1
-	shl    r8d,0x5
-	lea    r9,[rip + const_hex_constant_5_v2]
 	cmp    rsi,0x8
-	jb     19f
-	movdqu xmm0,XMMWORD PTR [r8+r9*1]
-	movdqu xmm1,XMMWORD PTR [r8+r9*1+0x10]
+	jb     18f
+	and    r8d,0x1
+	shl    r8d,0x5
+	lea    rax,[rip + const_hex_constant_5_v2]
+	movdqu xmm0,XMMWORD PTR [r8+rax*1]
+	movdqu xmm1,XMMWORD PTR [r8+rax*1+0x10]
 	pmovzxbw xmm2,QWORD PTR [rdi+rsi*1-0x8]
 	pmovzxbw xmm3,QWORD PTR [rdi]
 	pmullw xmm2,xmm1
@@ -2099,37 +2130,48 @@
 	movdqa xmm1,xmm0
 	pshufb xmm1,xmm3
 	pshufb xmm0,xmm2
-	lea    rdi,[rcx+rdx*1]
-	movdqu XMMWORD PTR [rcx+rdx*1],xmm1
-	movdqu XMMWORD PTR [rdi+rsi*2-0x10],xmm0
+	movdqu XMMWORD PTR [rcx],xmm1
+	movdqu XMMWORD PTR [rcx+rsi*2-0x10],xmm0
+	mov    al,0x1
+	pop    rbx
+	ret
+18:
+	cmp    rsi,0x4
+	jb     19f
+	and    r8d,0x1
+	movd   xmm0,DWORD PTR [rdi]
+	pinsrd xmm0,DWORD PTR [rdi+rsi*1-0x4],0x1
+	shl    r8d,0x5
+	lea    rax,[rip + const_hex_constant_5_v2]
+	movdqu xmm1,XMMWORD PTR [r8+rax*1]
+	movdqu xmm2,XMMWORD PTR [r8+rax*1+0x10]
+	pmovzxbw xmm0,xmm0
+	pmullw xmm0,xmm2
+	psrlw  xmm0,0x4
+	pshufb xmm1,xmm0
+	movq   QWORD PTR [rcx],xmm1
+	pextrq QWORD PTR [rcx+rsi*2-0x8],xmm1,0x1
+	mov    al,0x1
 	pop    rbx
 	ret
 19:
-	movdqu xmm0,XMMWORD PTR [r8+r9*1]
-	movdqu xmm1,XMMWORD PTR [r8+r9*1+0x10]
-	lea    r8,[rcx+rsi*2]
-	cmp    rsi,0x4
-	jb     20f
-	movd   xmm2,DWORD PTR [rdi]
-	pinsrd xmm2,DWORD PTR [rdi+rsi*1-0x4],0x1
-	pmovzxbw xmm2,xmm2
-	pmullw xmm1,xmm2
-	psrlw  xmm1,0x4
-	pshufb xmm0,xmm1
-	movq   QWORD PTR [rcx+rdx*1],xmm0
-	pextrq QWORD PTR [r8+rdx*1-0x8],xmm0,0x1
-	pop    rbx
-	ret
-20:
-	movzx  r9d,WORD PTR [rdi]
-	movd   xmm2,r9d
-	pinsrw xmm2,WORD PTR [rdi+rsi*1-0x2],0x1
-	pmovzxbw xmm2,xmm2
-	pmullw xmm1,xmm2
-	psrlw  xmm1,0x4
-	pshufb xmm0,xmm1
-	movd   DWORD PTR [rcx+rdx*1],xmm0
-	pextrd DWORD PTR [r8+rdx*1-0x4],xmm0,0x1
+	mov    al,0x1
+	test   rsi,rsi
+	je     4b
+	and    r8d,0x1
+	movzx  edx,WORD PTR [rdi]
+	movd   xmm0,edx
+	pinsrw xmm0,WORD PTR [rdi+rsi*1-0x2],0x1
+	shl    r8d,0x5
+	lea    rdx,[rip + const_hex_constant_5_v2]
+	movdqu xmm1,XMMWORD PTR [r8+rdx*1]
+	movdqu xmm2,XMMWORD PTR [r8+rdx*1+0x10]
+	pmovzxbw xmm0,xmm0
+	pmullw xmm0,xmm2
+	psrlw  xmm0,0x4
+	pshufb xmm1,xmm0
+	movd   DWORD PTR [rcx],xmm1
+	pextrd DWORD PTR [rcx+rsi*2-0x4],xmm1,0x1
 	pop    rbx
 	ret
 	end SYMBOL(const_hex_encode_v2)
@@ -2948,15 +2990,13 @@
 	movzx  r8d,BYTE PTR [rax+r9*1]
 	movzx  eax,BYTE PTR [rdi+rcx*2+0x1]
 	movzx  r9d,BYTE PTR [rax+r9*1]
-	cmp    r8b,0xff
-	setne  r10b
-	cmp    r9b,0xff
-	setne  al
-	and    al,r10b
-	cmp    al,0x1
-	jne    3f
+	mov    eax,r9d
+	or     al,r8b
+	cmp    al,0x10
+	setb   al
+	jae    3f
 	shl    r8b,0x4
-	add    r9b,r8b
+	or     r9b,r8b
 	mov    BYTE PTR [rsi+rcx*1],r9b
 	inc    rcx
 	cmp    rdx,rcx

@@ -1563,15 +1563,65 @@
 	mov    al,r10b
 	shl    eax,0xc
 	test   edx,edx
-	jne    9f
+	jne    12f
 	mov    rcx,r9
 	add    rdi,rax
-	cmp    rsi,0x40
-	jae    12f
+	cmp    rsi,0x3f
+	jbe    13f
 8:
-	xor    edx,edx
-	jmp    14f
+	and    r8d,0x1
+	mov    eax,esi
+	and    eax,0x40
+	shl    r8d,0x5
+	lea    rdx,[rip + const_hex_constant_8_v3]
+	add    rdx,rax
+	vbroadcasti128 ymm0,XMMWORD PTR [r8+rdx*1]
+	vbroadcasti128 ymm1,XMMWORD PTR [r8+rdx*1+0x10]
+	xor    r8d,r8d
+	mov    rdx,rsi
+	.byte 0xf, 0x1f, 0x0  /* nop    DWORD PTR [rax] */
 9:
+	vpmovzxbw ymm2,XMMWORD PTR [rdi+r8*1]
+	vpmullw ymm2,ymm1,ymm2
+	vpsrlw ymm2,ymm2,0x4
+	vpshufb ymm2,ymm0,ymm2
+	vpmovzxbw ymm3,XMMWORD PTR [rdi+r8*1+0x10]
+	vpmullw ymm3,ymm1,ymm3
+	vpsrlw ymm3,ymm3,0x4
+	vpshufb ymm3,ymm0,ymm3
+	vmovdqu YMMWORD PTR [rcx+r8*2],ymm2
+	vmovdqu YMMWORD PTR [rcx+r8*2+0x20],ymm3
+	vpmovzxbw ymm2,XMMWORD PTR [rdi+r8*1+0x20]
+	vpmullw ymm2,ymm1,ymm2
+	vpsrlw ymm2,ymm2,0x4
+	vpmovzxbw ymm3,XMMWORD PTR [rdi+r8*1+0x30]
+	vpshufb ymm2,ymm0,ymm2
+	vpmullw ymm3,ymm1,ymm3
+	vpsrlw ymm3,ymm3,0x4
+	vpshufb ymm3,ymm0,ymm3
+	vmovdqu YMMWORD PTR [rcx+r8*2+0x40],ymm2
+	vmovdqu YMMWORD PTR [rcx+r8*2+0x60],ymm3
+	add    r8,0x40
+	add    rdx,0xffffffffffffffc0
+	cmp    rdx,0x3f
+	ja     9b
+	mov    al,0x1
+	cmp    r8,rsi
+	je     4b
+	cmp    rdx,0x21
+	jb     14f
+	vpmovzxbw ymm2,XMMWORD PTR [rdi+r8*1]
+	vpmullw ymm2,ymm1,ymm2
+	vpsrlw ymm2,ymm2,0x4
+	vpmovzxbw ymm3,XMMWORD PTR [rdi+r8*1+0x10]
+	vpshufb ymm2,ymm0,ymm2
+	vpmullw ymm3,ymm1,ymm3
+	vpsrlw ymm3,ymm3,0x4
+	vpshufb ymm3,ymm0,ymm3
+	vmovdqu YMMWORD PTR [rcx+r8*2],ymm2
+	vmovdqu YMMWORD PTR [rcx+r8*2+0x20],ymm3
+	jmp    14f
+12:
 	lea    rcx,[r9+0x2]
 	lea    rdx,[rip + const_hex_constant_12_v3]
 	mov    r10,r9
@@ -1579,22 +1629,17 @@
 	cmp    r10,0x1
 	mov    WORD PTR [r9],0x7830
 	add    rdi,rax
-	cmp    rsi,0x40
-	jb     8b
-12:
-	mov    eax,r8d
-	and    eax,0x1
-	mov    edx,esi
-	and    edx,0x40
-	shl    eax,0x5
-	lea    r9,[rip + const_hex_constant_8_v3]
-	add    r9,rdx
-	vbroadcasti128 ymm0,XMMWORD PTR [rax+r9*1]
-	vbroadcasti128 ymm1,XMMWORD PTR [rax+r9*1+0x10]
-	xor    edx,edx
-	.byte 0xf, 0x1f, 0x0  /* nop    DWORD PTR [rax] */
+	cmp    rsi,0x3f
+	ja     8b
 13:
+	cmp    rsi,0x20
+	jb     15f
+	and    r8d,0x1
 	vpmovzxbw ymm2,XMMWORD PTR [rdi]
+	shl    r8d,0x5
+	lea    rax,[rip + const_hex_constant_8_v3]
+	vbroadcasti128 ymm0,XMMWORD PTR [r8+rax*1]
+	vbroadcasti128 ymm1,XMMWORD PTR [r8+rax*1+0x10]
 	vpmullw ymm2,ymm1,ymm2
 	vpsrlw ymm2,ymm2,0x4
 	vpshufb ymm2,ymm0,ymm2
@@ -1602,156 +1647,125 @@
 	vpmullw ymm3,ymm1,ymm3
 	vpsrlw ymm3,ymm3,0x4
 	vpshufb ymm3,ymm0,ymm3
-	vmovdqu YMMWORD PTR [rcx+rdx*1],ymm2
-	vmovdqu YMMWORD PTR [rcx+rdx*1+0x20],ymm3
-	vpmovzxbw ymm2,XMMWORD PTR [rdi+0x20]
-	vpmovzxbw ymm3,XMMWORD PTR [rdi+0x30]
-	add    rdi,0x40
-	add    rsi,0xffffffffffffffc0
+	vmovdqu YMMWORD PTR [rcx],ymm2
+	vmovdqu YMMWORD PTR [rcx+0x20],ymm3
+	mov    al,0x1
+	cmp    rsi,0x20
+	je     4b
+14:
+	vpmovzxbw ymm2,XMMWORD PTR [rdi+rsi*1-0x20]
+	vpmullw ymm2,ymm1,ymm2
+	vpsrlw ymm2,ymm2,0x4
+	vpmovzxbw ymm3,XMMWORD PTR [rdi+rsi*1-0x10]
+	vpshufb ymm2,ymm0,ymm2
+	vpmullw ymm1,ymm1,ymm3
+	vpsrlw ymm1,ymm1,0x4
+	vpshufb ymm0,ymm0,ymm1
+	vmovdqu YMMWORD PTR [rcx+rsi*2-0x40],ymm2
+	vmovdqu YMMWORD PTR [rcx+rsi*2-0x20],ymm0
+	pop    rbx
+	vzeroupper
+	ret
+15:
+	cmp    rsi,0x10
+	jb     16f
+	vpmovzxbw ymm2,XMMWORD PTR [rdi]
+	and    r8d,0x1
+	shl    r8d,0x5
+	lea    rax,[rip + const_hex_constant_8_v3]
+	vbroadcasti128 ymm0,XMMWORD PTR [r8+rax*1]
+	vbroadcasti128 ymm1,XMMWORD PTR [r8+rax*1+0x10]
 	vpmullw ymm2,ymm1,ymm2
 	vpsrlw ymm2,ymm2,0x4
 	vpshufb ymm2,ymm0,ymm2
-	vpmullw ymm3,ymm1,ymm3
-	vpsrlw ymm3,ymm3,0x4
-	vpshufb ymm3,ymm0,ymm3
-	vmovdqu YMMWORD PTR [rcx+rdx*1+0x40],ymm2
-	vmovdqu YMMWORD PTR [rcx+rdx*1+0x60],ymm3
-	add    rdx,0x80
-	cmp    rsi,0x3f
-	ja     13b
-14:
-	cmp    rsi,0x20
-	jb     15f
-	mov    eax,r8d
-	vpmovzxbw ymm0,XMMWORD PTR [rdi]
-	and    eax,0x1
-	vpmovzxbw ymm1,XMMWORD PTR [rdi+0x10]
-	add    rdi,0x20
-	add    rsi,0xffffffffffffffe0
-	shl    eax,0x5
-	lea    r9,[rip + const_hex_constant_8_v3]
-	vbroadcasti128 ymm2,XMMWORD PTR [rax+r9*1]
-	vbroadcasti128 ymm3,XMMWORD PTR [rax+r9*1+0x10]
-	vpmullw ymm0,ymm3,ymm0
-	vpsrlw ymm0,ymm0,0x4
-	vpshufb ymm0,ymm2,ymm0
-	vpmullw ymm1,ymm3,ymm1
-	vpsrlw ymm1,ymm1,0x4
-	vmovdqu YMMWORD PTR [rcx+rdx*1],ymm0
-	vpshufb ymm0,ymm2,ymm1
-	vmovdqu YMMWORD PTR [rcx+rdx*1+0x20],ymm0
-	add    rdx,0x40
-15:
+	vmovdqu YMMWORD PTR [rcx],ymm2
 	mov    al,0x1
-	test   rsi,rsi
+	cmp    rsi,0x10
 	je     4b
-	cmp    rsi,0x1
-	jne    16f
-	movzx  esi,BYTE PTR [rdi]
-	vmovd  xmm0,esi
-	vpinsrb xmm0,xmm0,esi,0x1
-	and    r8d,0x1
-	shl    r8d,0x5
-	lea    rsi,[rip + const_hex_constant_8_v3]
-	vmovdqu xmm1,XMMWORD PTR [r8+rsi*1]
-	vpmovzxbw xmm0,xmm0
-	vpmullw xmm0,xmm0,XMMWORD PTR [r8+rsi*1+0x10]
-	vpsrlw xmm0,xmm0,0x4
-	vpshufb xmm0,xmm1,xmm0
-	vpextrw WORD PTR [rcx+rdx*1],xmm0,0x1
+	vpmovzxbw ymm2,XMMWORD PTR [rdi+rsi*1-0x10]
+	vpmullw ymm1,ymm1,ymm2
+	vpsrlw ymm1,ymm1,0x4
+	vpshufb ymm0,ymm0,ymm1
+	vmovdqu YMMWORD PTR [rcx+rsi*2-0x20],ymm0
 	pop    rbx
 	vzeroupper
 	ret
 16:
-	cmp    rsi,0x11
-	jb     17f
-	vpmovzxbw ymm0,XMMWORD PTR [rdi]
-	vpmovzxbw ymm1,XMMWORD PTR [rdi+rsi*1-0x10]
+	cmp    rsi,0x1
+	jne    17f
 	and    r8d,0x1
+	movzx  eax,BYTE PTR [rdi]
+	vmovd  xmm0,eax
+	vpinsrb xmm0,xmm0,eax,0x1
 	shl    r8d,0x5
-	lea    rdi,[rip + const_hex_constant_8_v3]
-	vbroadcasti128 ymm2,XMMWORD PTR [r8+rdi*1]
-	vbroadcasti128 ymm3,XMMWORD PTR [r8+rdi*1+0x10]
-	vpmullw ymm0,ymm3,ymm0
-	vpsrlw ymm0,ymm0,0x4
-	vpshufb ymm0,ymm2,ymm0
-	vpmullw ymm1,ymm3,ymm1
-	vpsrlw ymm1,ymm1,0x4
-	vpshufb ymm1,ymm2,ymm1
-	lea    rdi,[rcx+rdx*1]
-	vmovdqu YMMWORD PTR [rcx+rdx*1],ymm0
-	vmovdqu YMMWORD PTR [rdi+rsi*2-0x20],ymm1
+	lea    rax,[rip + const_hex_constant_8_v3]
+	vmovdqu xmm1,XMMWORD PTR [r8+rax*1]
+	vpmovzxbw xmm0,xmm0
+	vpmullw xmm0,xmm0,XMMWORD PTR [r8+rax*1+0x10]
+	vpsrlw xmm0,xmm0,0x4
+	vpshufb xmm0,xmm1,xmm0
+	vpextrw WORD PTR [rcx],xmm0,0x1
+	mov    al,0x1
 	pop    rbx
-	vzeroupper
 	ret
 17:
-	and    r8d,0x1
-	cmp    rsi,0x10
-	jne    18f
-	vpmovzxbw ymm0,XMMWORD PTR [rdi]
-	shl    r8d,0x5
-	lea    rsi,[rip + const_hex_constant_8_v3]
-	vbroadcasti128 ymm1,XMMWORD PTR [r8+rsi*1]
-	vbroadcasti128 ymm2,XMMWORD PTR [r8+rsi*1+0x10]
-	vpmullw ymm0,ymm2,ymm0
-	vpsrlw ymm0,ymm0,0x4
-	vpshufb ymm0,ymm1,ymm0
-	vmovdqu YMMWORD PTR [rcx+rdx*1],ymm0
-	pop    rbx
-	vzeroupper
-	ret
-18:
 	cmp    rsi,0x8
-	jb     19f
+	jb     18f
+	and    r8d,0x1
 	vmovq  xmm0,QWORD PTR [rdi+rsi*1-0x8]
 	vmovq  xmm1,QWORD PTR [rdi]
 	vpunpcklqdq xmm0,xmm1,xmm0
 	shl    r8d,0x5
-	lea    rdi,[rip + const_hex_constant_8_v3]
-	vbroadcasti128 ymm1,XMMWORD PTR [r8+rdi*1]
+	lea    rax,[rip + const_hex_constant_8_v3]
+	vbroadcasti128 ymm1,XMMWORD PTR [r8+rax*1]
 	vpmovzxbw ymm0,xmm0
-	vbroadcasti128 ymm2,XMMWORD PTR [r8+rdi*1+0x10]
+	vbroadcasti128 ymm2,XMMWORD PTR [r8+rax*1+0x10]
 	vpmullw ymm0,ymm2,ymm0
 	vpsrlw ymm0,ymm0,0x4
 	vpshufb ymm0,ymm1,ymm0
-	lea    rdi,[rcx+rdx*1]
-	vmovdqu XMMWORD PTR [rcx+rdx*1],xmm0
-	vextracti128 XMMWORD PTR [rdi+rsi*2-0x10],ymm0,0x1
+	vmovdqu XMMWORD PTR [rcx],xmm0
+	vextracti128 XMMWORD PTR [rcx+rsi*2-0x10],ymm0,0x1
+	mov    al,0x1
 	pop    rbx
 	vzeroupper
+	ret
+18:
+	cmp    rsi,0x4
+	jb     19f
+	and    r8d,0x1
+	vmovd  xmm0,DWORD PTR [rdi+rsi*1-0x4]
+	vmovd  xmm1,DWORD PTR [rdi]
+	vpunpckldq xmm0,xmm1,xmm0
+	shl    r8d,0x5
+	lea    rax,[rip + const_hex_constant_8_v3]
+	vmovdqu xmm1,XMMWORD PTR [r8+rax*1]
+	vpmovzxbw xmm0,xmm0
+	vpmullw xmm0,xmm0,XMMWORD PTR [r8+rax*1+0x10]
+	vpsrlw xmm0,xmm0,0x4
+	vpshufb xmm0,xmm1,xmm0
+	vmovq  QWORD PTR [rcx],xmm0
+	vpextrq QWORD PTR [rcx+rsi*2-0x8],xmm0,0x1
+	mov    al,0x1
+	pop    rbx
 	ret
 19:
+	mov    al,0x1
+	test   rsi,rsi
+	je     4b
+	and    r8d,0x1
+	movzx  edx,WORD PTR [rdi]
+	vmovd  xmm0,edx
+	vpinsrw xmm0,xmm0,WORD PTR [rdi+rsi*1-0x2],0x1
 	shl    r8d,0x5
-	lea    r9,[rip + const_hex_constant_8_v3]
-	vbroadcasti128 ymm0,XMMWORD PTR [r8+r9*1]
-	vbroadcasti128 ymm1,XMMWORD PTR [r8+r9*1+0x10]
-	lea    r8,[rcx+rsi*2]
-	cmp    rsi,0x4
-	jb     20f
-	vmovd  xmm2,DWORD PTR [rdi+rsi*1-0x4]
-	vmovd  xmm3,DWORD PTR [rdi]
-	vpunpckldq xmm2,xmm3,xmm2
-	vpmovzxbw xmm2,xmm2
-	vpmullw xmm1,xmm1,xmm2
-	vpsrlw xmm1,xmm1,0x4
-	vpshufb xmm0,xmm0,xmm1
-	vmovq  QWORD PTR [rcx+rdx*1],xmm0
-	vpextrq QWORD PTR [r8+rdx*1-0x8],xmm0,0x1
+	lea    rdx,[rip + const_hex_constant_8_v3]
+	vmovdqu xmm1,XMMWORD PTR [r8+rdx*1]
+	vpmovzxbw xmm0,xmm0
+	vpmullw xmm0,xmm0,XMMWORD PTR [r8+rdx*1+0x10]
+	vpsrlw xmm0,xmm0,0x4
+	vpshufb xmm0,xmm1,xmm0
+	vmovd  DWORD PTR [rcx],xmm0
+	vpextrd DWORD PTR [rcx+rsi*2-0x4],xmm0,0x1
 	pop    rbx
-	vzeroupper
-	ret
-20:
-	movzx  r9d,WORD PTR [rdi]
-	vmovd  xmm2,r9d
-	vpinsrw xmm2,xmm2,WORD PTR [rdi+rsi*1-0x2],0x1
-	vpmovzxbw xmm2,xmm2
-	vpmullw xmm1,xmm1,xmm2
-	vpsrlw xmm1,xmm1,0x4
-	vpshufb xmm0,xmm0,xmm1
-	vmovd  DWORD PTR [rcx+rdx*1],xmm0
-	vpextrd DWORD PTR [r8+rdx*1-0x4],xmm0,0x1
-	pop    rbx
-	vzeroupper
 	ret
 	end SYMBOL(const_hex_encode_v3)
 
@@ -2496,15 +2510,13 @@
 	movzx  r8d,BYTE PTR [rax+r9*1]
 	movzx  eax,BYTE PTR [rdi+rcx*2+0x1]
 	movzx  r9d,BYTE PTR [rax+r9*1]
-	cmp    r8b,0xff
-	setne  r10b
-	cmp    r9b,0xff
-	setne  al
-	and    al,r10b
-	cmp    al,0x1
-	jne    3f
+	mov    eax,r9d
+	or     al,r8b
+	cmp    al,0x10
+	setb   al
+	jae    3f
 	shl    r8b,0x4
-	add    r9b,r8b
+	or     r9b,r8b
 	mov    BYTE PTR [rsi+rcx*1],r9b
 	inc    rcx
 	cmp    rdx,rcx

@@ -4,7 +4,8 @@ set(folder ${CPACK_TEMPORARY_DIRECTORY})
 set(archive ${CPACK_PACKAGE_DIRECTORY}/${CPACK_PACKAGE_FILE_NAME}.tar.gz)
 execute_process(COMMAND ${CMAKE_CURRENT_LIST_DIR}/../../machine_code/prove --sums ${CPACK_CONST_HEX_ARCHIVE}
   COMMAND_ERROR_IS_FATAL ANY)
-execute_process(COMMAND find . -type f ! -name SHA256SUMS -printf "%P\\0" COMMAND sort -z COMMAND xargs -0 sha256sum --
+execute_process(COMMAND find . -type f ! -name SHA256SUMS -printf "%P\\0"
+  COMMAND ${CMAKE_COMMAND} -E env LC_ALL=C sort -z COMMAND xargs -0 sha256sum --
   WORKING_DIRECTORY ${folder} OUTPUT_FILE SHA256SUMS COMMAND_ERROR_IS_FATAL ANY)
 execute_process(COMMAND tar c --format=ustar --sort=name "--mtime=2000-01-01 00:00Z" --owner=0 --group=0 --numeric-owner
   --mode=u=rwX,go=rX ${CPACK_PACKAGE_FILE_NAME} COMMAND gzip -9n

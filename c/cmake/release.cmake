@@ -14,17 +14,46 @@ set(CPACK_PACKAGE_CHECKSUM SHA256)
 set(CPACK_INSTALL_CMAKE_PROJECTS ${PROJECT_BINARY_DIR} const_hex ALL / ${PROJECT_BINARY_DIR} const_hex archive /)
 set(CPACK_CONST_HEX_ARCHIVE ${PROJECT_BINARY_DIR}/libconst_hex.a)
 set(CPACK_VERBATIM_VARIABLES ON)
-# `cpack -G DEB` makes a Debian package of what is installed, with the licences. It is for a build with the prefix /usr.
-install(FILES ../LICENSE-APACHE ../LICENSE-MIT ../NOTICE DESTINATION share/doc/libconst-hex-dev COMPONENT debian
-  EXCLUDE_FROM_ALL)
+# `cpack -G DEB` makes a Debian package of what is installed, with its copyright and changelog as Debian wants them. It is
+# for a build with the prefix /usr.
 set(CPACK_PROJECT_CONFIG_FILE ${PROJECT_SOURCE_DIR}/cmake/debian.cmake)
 set(CPACK_DEBIAN_PACKAGE_NAME libconst-hex-dev)
 # PUBLISHER: write the address here to which users of the package write.
 set(CPACK_DEBIAN_PACKAGE_MAINTAINER "the maintainers of const_hex <maintainers@const-hex.invalid>")
 set(CPACK_DEBIAN_PACKAGE_ARCHITECTURE amd64)
+# The installation fails on a processor without SSE4.2.
+set(CPACK_DEBIAN_PACKAGE_DEPENDS sse4.2-support)
 if(CMAKE_SYSTEM_PROCESSOR MATCHES "aarch64|arm64")
   set(CPACK_DEBIAN_PACKAGE_ARCHITECTURE arm64)
+  set(CPACK_DEBIAN_PACKAGE_DEPENDS "")
 endif()
 set(CPACK_DEBIAN_PACKAGE_SECTION libdevel)
 set(CPACK_DEBIAN_FILE_NAME DEB-DEFAULT)
+file(READ ../LICENSE-MIT text)
+string(REGEX REPLACE ".*Copyright .c. ([^\n]*).*" "\\1" copyright "${text}")
+string(REPLACE "\n\n" "\n.\n" text "${text}")
+string(REGEX REPLACE "\n([^\n])" "\n \\1" text "${text}")
+file(WRITE ${PROJECT_BINARY_DIR}/copyright "Format: https://www.debian.org/doc/packaging-manuals/copyright-format/1.0/
+
+Files: *
+Copyright: ${copyright}
+License: Expat or Apache-2.0
+
+License: Expat
+ ${text}
+License: Apache-2.0
+ The text of this licence is in /usr/share/common-licenses/Apache-2.0.
+")
+file(READ ../CHANGELOG.md text)
+string(REGEX MATCH "\n## ${PROJECT_VERSION}\n\n([^#]*)" text "${text}")
+string(REGEX REPLACE "(^|\n)- " "\\1  * " text "${CMAKE_MATCH_1}")
+string(TIMESTAMP date "%a, %d %b %Y %H:%M:%S +0000" UTC)
+file(WRITE ${PROJECT_BINARY_DIR}/changelog "libconst-hex-dev (${PROJECT_VERSION}) unstable; urgency=medium
+
+${text}
+ -- ${CPACK_DEBIAN_PACKAGE_MAINTAINER}  ${date}
+")
+execute_process(COMMAND gzip -9nf changelog WORKING_DIRECTORY ${PROJECT_BINARY_DIR})
+install(FILES ${PROJECT_BINARY_DIR}/copyright ${PROJECT_BINARY_DIR}/changelog.gz ../NOTICE
+  DESTINATION share/doc/libconst-hex-dev COMPONENT debian EXCLUDE_FROM_ALL)
 include(CPack)

@@ -20,7 +20,7 @@ ${PAGES}\n")
 set(LIST "find . ! -type d -printf '%m %y %P\\n' | LC_ALL=C sort -k 3")
 test(installed.files ${WITH} COMMAND sh -c "cd '${INSTALLED}' && ${LIST} | diff '${HERE}/installed.txt' -")
 test(installed.names_no_folder ${WITH} COMMAND sh -c
-  "! grep -rlF -e '${PROJECT_SOURCE_DIR}' -e '${PROJECT_BINARY_DIR}' -e '${INSTALLED}' '${INSTALLED}'")
+  "grep -rlF -e '${PROJECT_SOURCE_DIR}' -e '${PROJECT_BINARY_DIR}' -e '${INSTALLED}' '${INSTALLED}'; test $? -eq 1")
 foreach(function const_hex ${FUNCTIONS})
   test(installed.page_of_${function} NEEDS man ${WITH} FAIL_REGULAR_EXPRESSION warning PASS_REGULAR_EXPRESSION
     "${function}[ (,_]" COMMAND env LC_ALL=C.UTF-8 man --warnings -M ${INSTALLED}/share/man 3 ${function})
@@ -38,7 +38,7 @@ function(made_by how line)
 endfunction()
 # By a compiler's line, in which `rest` says where the library is.
 function(compiled how compiler language rest)
-  set(flags "-Wall -Wextra -Werror -O2 -x ${language} '${EXAMPLES}/unhex.c' -x none -o unhex")
+  set(flags "${TARGET} -Wall -Wextra -Werror -O2 -x ${language} '${EXAMPLES}/unhex.c' -x none -o unhex")
   made_by(installed.${how} "eval \"'${compiler}' ${flags} ${rest}\"" ${compiler} ${ARGN})
 endfunction()
 set(FOUND "$(pkg-config --cflags --libs const_hex)")
@@ -90,8 +90,8 @@ endforeach()
 if(NOT CONST_HEX_CARGO)
   list(JOIN TEST_UNHEX "' '" run)
   test(one_line NEEDS python3 COMMAND sh -ec "rm -rf one_line && mkdir one_line && cd one_line
-    '${CMAKE_C_COMPILER}' -c '${PROJECT_SOURCE_DIR}'/asm/*.S && ar rcs libconst_hex.a *.o
-    '${CMAKE_C_COMPILER}' '-I${PROJECT_SOURCE_DIR}' '${EXAMPLES}/unhex.c' libconst_hex.a -o unhex
+    '${CMAKE_C_COMPILER}' ${TARGET} -c '${PROJECT_SOURCE_DIR}'/asm/*.S && ar rcs libconst_hex.a *.o
+    '${CMAKE_C_COMPILER}' ${TARGET} '-I${PROJECT_SOURCE_DIR}' '${EXAMPLES}/unhex.c' libconst_hex.a -o unhex
     '${run}' ./unhex")
 endif()
 
@@ -109,9 +109,10 @@ test(archive.is_the_same_again ${WITH} COMMAND sh -c
 test(archive.sums ${WITH} COMMAND sh -c "cd '${ARCHIVE}' && sha256sum --quiet -c SHA256SUMS && LC_ALL=C &&
   sed 's/.*  //' SHA256SUMS | sort > '${HERE}/summed' &&
   find . -type f ! -name SHA256SUMS -printf '%P\\n' | sort | diff '${HERE}/summed' -")
-test(archive.has_licences_and_no_build_output ${WITH} COMMAND sh -c "cd '${ARCHIVE}' && ! grep '@' README.md &&
-  test -s LICENSE-APACHE && test -s LICENSE-MIT && test -s NOTICE &&
-  ! find . -name build -o -name out -o -name 'CMakeCache*' | grep .")
+test(archive.has_licences_and_no_build_output ${WITH} COMMAND sh -ec "cd '${ARCHIVE}'
+  test -s LICENSE-APACHE && test -s LICENSE-MIT && test -s NOTICE
+  test \"$(grep -c '@' README.md)\" = 0
+  test \"$(find . -name build -o -name out -o -name 'CMakeCache*')\" = ''")
 configured(archive.cmake ${ARCHIVE})
 if(NOT CMAKE_CROSSCOMPILING)
   # The line for cc of its README, and that for c++.

@@ -26,22 +26,38 @@ if(NOT CONST_HEX_CARGO)
     PASS_REGULAR_EXPRESSION const_hex_decode FAIL_REGULAR_EXPRESSION GLIBC_)
   # What a program can write is the byte in which the dispatcher keeps what the CPU has answered.
   test(library.variables COMMAND sh -c "'${CMAKE_NM}' '$<TARGET_FILE:const_hex_static>' > variables &&
-    grep -q ' T const_hex_decode$' variables && ! grep -i ' [bcdgs] ' variables | grep -v ' b choice$'")
-  # The shared library has the same code.
-  test(library.shared_code NEEDS python3 COMMAND python3 -E ${SOURCE}/same_code.py
-    ${CMAKE_OBJDUMP} $<TARGET_FILE:const_hex_static> ${SHARED})
+    grep -q ' T const_hex_decode$' variables || exit
+    grep -i ' [bcdgs] ' variables | grep -v ' b choice$'; test $? -eq 1")
+  # Both libraries, and a program with one of them, have the code that was proved.
+  set(PROVED python3 -EB ${PROJECT_SOURCE_DIR}/../machine_code/prove --sums)
+  test(library.static_code NEEDS python3 COMMAND ${PROVED} $<TARGET_FILE:const_hex_static>)
+  test(library.shared_code NEEDS python3 COMMAND ${PROVED} ${SHARED})
+  test(library.linked_code NEEDS python3 COMMAND ${PROVED} $<TARGET_FILE:linked_static>)
   # So has what clang makes of the files, for ELF and for Mach-O.
   set(files dispatch x86_64_v2 x86_64_v3)
   if(NOT processors MATCHES "x86_64|amd64")
     set(files dispatch aarch64)
   endif()
+  # Each build works on whole vectors. A loop over bytes would return the same.
+  foreach(row "x86_64_v2=pshufb.*xmm=check_nonnull check_raw" "x86_64_v3=vpshufb.*ymm=check_nonnull check_raw"
+      "aarch64=[.]16b=lanes32kernel_check")
+    string(REGEX MATCH "^(.*)=(.*)=(.*)" row "${row}")
+    set(file ${CMAKE_MATCH_1})
+    if(file IN_LIST files)
+      test(library.vectors_in_${file} COMMAND sh -ec
+        "ar p '$<TARGET_FILE:const_hex_static>' ${file}.S.o > ${file}.o
+         '${CMAKE_OBJDUMP}' -d --no-show-raw-insn ${file}.o > ${file}.code
+         for name in encode decode_nonnull decode_exact_nonnull decoder_update_nonnull ${CMAKE_MATCH_3}; do
+           sed -n \"/<const_hex_$name\\(_v[23]\\)\\{0,1\\}>:/,/^$/p\" ${file}.code | grep -q '${CMAKE_MATCH_2}'
+         done")
+    endif()
+  endforeach()
   foreach(format linux-gnu unknown-freebsd apple-macos)
     foreach(file ${files})
       set(name code_for_${format}.${file})
-      test(library.${name} NEEDS python3 clang llvm-objdump COMMAND sh -ec
-        "'${CMAKE_C_COMPILER}' -c '${PROJECT_SOURCE_DIR}/asm/${file}.S' -o ${name}-cc.o
-         clang --target=${CMAKE_SYSTEM_PROCESSOR}-${format} -c '${PROJECT_SOURCE_DIR}/asm/${file}.S' -o ${name}.o
-         python3 -E '${SOURCE}/same_code.py' llvm-objdump ${name}-cc.o ${name}.o")
+      test(library.${name} NEEDS python3 clang COMMAND sh -ec
+        "clang --target=${CMAKE_SYSTEM_PROCESSOR}-${format} -c '${PROJECT_SOURCE_DIR}/asm/${file}.S' -o ${name}.o
+         python3 -EB '${PROJECT_SOURCE_DIR}/../machine_code/prove' --sums ${name}.o")
     endforeach()
   endforeach()
 endif()

@@ -83,9 +83,17 @@ static bool write_text(const struct line *line) {
     const unsigned char *bytes = (const unsigned char *)line->input;
     size_t length = model_text(bytes, line->length, CONST_HEX_NO_NUL, text);
     judge_bytes(bytes, line->length, 0);
-    return line->is_sized && line->size != length
-               ? strcmp(line->wanted_cell, "!InvalidStringLength") == 0
-               : length == line->wanted_length && memcmp(text, line->wanted, length) == 0;
+    return length == line->wanted_length && memcmp(text, line->wanted, length) == 0;
+}
+
+/* Where the table wants an error for an output that is too large, this library uses only its front. */
+static bool write_into(const struct line *line) {
+    struct buffer text = marked(areas.text, line->size, 0);
+    bool fits = build->encode(line->input, line->length, text.bytes, line->size, CONST_HEX_NO_NUL);
+    if (strcmp(line->wanted_cell, "!InvalidStringLength") == 0) {
+        return fits == (line->size > 2 * line->length);
+    }
+    return fits && line->size == line->wanted_length && memcmp(text.bytes, line->wanted, line->size) == 0;
 }
 
 static bool digits(const struct line *line) {
@@ -109,7 +117,7 @@ static const struct {
     bool (*agrees)(const struct line *line);
 } OPERATIONS[] = {
     {"read", read_text},   {"read-into", read_into},   {"read-pieces", read_pieces}, {"digits", digits},
-    {"write", write_text}, {"write-into", write_text}, {"message", message},         {"read-times", NULL},
+    {"write", write_text}, {"write-into", write_into}, {"message", message},         {"read-times", NULL},
     {"json", NULL},        {"json-into", NULL},        {"json-message", NULL},       {"write-times", NULL},
     {"fronts", NULL},      {"each-byte", NULL},        {"pieces", NULL},             {"calls", NULL},
     {"write-step", NULL},  {"read-step", NULL},        {"values-of-step", NULL},

@@ -5,11 +5,13 @@ if(NOT CONST_HEX_CARGO)
   set(newer "v[a-z0-9]+|lzcnt|movbe|andn|bextr|bls(i|r|msk)|bzhi|mulx|pdep|pext|rorx|sarx|shlx|shrx")
   test(library.build_for_x86_64_v2_is_for_older_CPUs COMMAND sh -c
     "ar p '$<TARGET_FILE:const_hex_static>' x86_64_v2.S.o > code.o && '${CMAKE_OBJDUMP}' -d --no-show-raw-insn code.o > code &&
-    grep -q '<const_hex_decode' code && ! grep -E '[[:space:]](${newer})[wlq]?[[:space:]]' code")
+    grep -q '<const_hex_decode' code || exit
+    grep -E '[[:space:]](${newer})[wlq]?[[:space:]]' code; test $? -eq 1")
 endif()
-# An instruction that an older CPU lacks ends the program.
-tests_of(older.check check 32 qemu-x86_64 -cpu Westmere)
-tests_of(older.table table 32 qemu-x86_64 -cpu Westmere)
+# An instruction that an older CPU lacks ends the program. There, the shared library runs its other build.
+foreach(program check table shared_check shared_table shared_concurrent)
+  tests_of(older.${program} ${program} 32 qemu-x86_64 -cpu Westmere)
+endforeach()
 
 find_path(VALGRIND_HEADERS valgrind/memcheck.h)
 if(VALGRIND_HEADERS)

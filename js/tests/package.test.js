@@ -15,9 +15,11 @@ after(() => rmSync(folder, { recursive: true, force: true, maxRetries: 5 }));
 
 const run = (cwd, tool, ...options) => execFileSync(tool, options, { cwd, encoding: 'utf8', stdio: 'pipe' });
 const without = (tool) => (spawnSync(tool, ['--version']).error ? `${tool} is not installed` : false);
-const [, example] = /```js\n(.*?)```/s.exec(readFileSync(join(root, 'README.md'), 'utf8'));
-// The example has what it prints in comments: `console.log(a);  // b` prints b.
-const printed = Array.from(example.matchAll(/console\.log.*\); +\/\/ (.*\n)/g), ([, line]) => line).join('');
+const page = readFileSync(join(root, 'README.md'), 'utf8');
+const [example, ...others] = Array.from(page.matchAll(/```js\n(.*?)```/gs), ([, lines]) => lines);
+// An example has what it prints in comments: `console.log(a);  // b` prints b.
+const printedBy = (lines) => Array.from(lines.matchAll(/console\.log.*\); +\/\/ (.*\n)/g), ([, line]) => line).join('');
+const printed = printedBy(example);
 
 test('npm packs and installs the package, and the example runs', { skip: without('npm') }, () => {
     const packed = run(root, 'npm', 'pack', '--json', '--ignore-scripts', '--pack-destination', folder);
@@ -31,9 +33,14 @@ test('npm packs and installs the package, and the example runs', { skip: without
         writeFileSync(join(folder, name), program);
         assert.equal(run(folder, process.execPath, name), printed, name);
     }
+    assert.equal(others.length, 1);
+    for (const other of others) {
+        writeFileSync(join(folder, 'other.mjs'), other);
+        assert.equal(run(folder, process.execPath, 'other.mjs'), printedBy(other));
+    }
 });
 
-test('esbuild bundles the package, in at most 16 KiB', { skip: without('esbuild') }, () => {
+test('esbuild bundles the package, in at most 17 KiB', { skip: without('esbuild') }, () => {
     const input = join(folder, 'bundled.mjs');
     writeFileSync(input, example.replace('const-hex-proved', join(root, 'dist/const_hex.js')));
     for (const format of ['esm', 'cjs', 'iife']) {
@@ -41,7 +48,7 @@ test('esbuild bundles the package, in at most 16 KiB', { skip: without('esbuild'
         run(root, 'esbuild', '--bundle', `--format=${format}`, `--outfile=${output}`, input);
         assert.equal(run(folder, process.execPath, output), printed, format);
     }
-    assert(run(root, 'esbuild', '--minify', 'dist/const_hex.js').length <= 16 * 1024);
+    assert(run(root, 'esbuild', '--minify', 'dist/const_hex.js').length <= 17 * 1024);
 });
 
 test('tsc accepts the types', { skip: without('tsc') || without('npm') }, () => {
@@ -78,7 +85,6 @@ for (const [browser, ...options] of [
     ['chromium', '--headless', '--no-sandbox', '--disable-gpu', '--user-data-dir=FOLDER'],
     ['firefox-esr', '--headless', '--no-remote', '--profile', 'FOLDER'],
 ]) {
-    if (browser !== 'chromium' && without(browser)) continue; // Others are tried if they are there.
     test(`the cases in ${browser}`, { skip: without(browser) }, async () => {
         const profile = mkdtempSync(join(folder, browser));
         const server = createServer().listen(0, '127.0.0.1');

@@ -3,7 +3,7 @@
 import itertools
 import operator
 
-from proof.linear import GREATEST, GREATEST_SIGNED, Linear, Split, in_range, linear, unknown_bit, unsigned
+from proof.linear import GREATEST, GREATEST_SIGNED, Linear, Split, has_digits_alone, in_range, linear, unknown_bit, unsigned
 from proof.memory import PAGE, Fault, Pointer, as_lane, as_value, is_whole
 from proof.values import (
     CONSTANTS, ZERO, Byte, TooWide, WholeByte, are_constant, constants, each, joined, masked, number, parts_of,
@@ -67,6 +67,8 @@ def subtracted(first, second):
     if type(first) is Pointer and type(second) is Pointer:
         if PAGE in (first.region, second.region):
             raise Fault("arithmetic with a page")
+        if first.region == second.region == "image":
+            raise Fault("a difference of places in the object")
         if first.region != second.region:
             is_known = type(first.offset) is type(second.offset) is int
             return anything("difference", *first, *second) if is_known else anything("number", next(_count))
@@ -105,7 +107,7 @@ def _as_digit(lane):
     """A lane that is one digit, as a function of it; another one as it is."""
     found = _number_of(lane)
     terms = found.terms if type(found) is Linear and 0 <= found.least <= found.most < 10 else ()
-    if [factor for _, factor in terms] != [1]:
+    if [factor for _, factor in terms] != [1] or not has_digits_alone(found):
         return lane
     return tabulate(operator.add, len(lane), [(unknown("digit", terms[0][0]),)], (found.constant,))
 
@@ -120,7 +122,7 @@ def product(first, second):
     if type(first) is not Linear:
         first, second = second, first
     if type(first) is Linear:
-        if as_unsigned(second) != TENTH:
+        if as_unsigned(second) != TENTH or not has_digits_alone(first):
             raise Fault("a product of a number with symbols")
         return anything("number", next(_count)), anything("tenth", in_range(first, 0, GREATEST))
     both = tabulate(operator.mul, 16, [first, second])

@@ -97,7 +97,7 @@ def named(code, what, address):
     """What is refused here is refused with the name of an instruction."""
     try:
         yield
-    except Refused as refused:
+    except (Refused, Fault, TooWide, Unknown) as refused:
         raise Refused(f"{refused}, {what} {code.shown(address)}")
 
 

@@ -49,7 +49,9 @@ class Flags:
         """The condition that one of e, b, be, s, l, le, o stands for. The path may fork for it."""
         kinds = {type(self.first), type(self.second), type(self.result)}
         if self.kind == "test":
-            return {"e": self.first, "b": self.second}[code]
+            if code not in ("e", "b"):
+                raise Fault(f"flag {code} of test")
+            return self.first if code == "e" else self.second
         if code == "b" and self.kind == "inc" and self.before:
             return self.before.condition(code, state)
         if self.kind == "logic" and code in ("b", "o"):
@@ -81,6 +83,8 @@ class Flags:
             except TooWide:
                 if self.kind == "sub" and code in ("b", "be") and are_constant(self.second):
                     limit = number(self.second) + (code == "be")
+                    if limit == 0:
+                        return FALSE
                     if limit & (limit - 1) == 0:
                         # Below a power of two: the bits from it on are zero.
                         return are_zero(masked(self.first, constants(-limit, len(self.first))))

@@ -166,7 +166,9 @@ class Loop:
             if ours.get(at) is not unknown("forgotten", "stack", at) and ours.get(at) != theirs.get(at):
                 yield at
         for name, region in wanted.memory.regions.items():
-            require(region.size == state.memory.regions[name].size, f"the size of {name} at the head")
+            other = state.memory.regions[name]
+            require(region.size == other.size, f"the size of {name} at the head")
+            require(region.content == other.content, f"what {name} holds at the head")
         for name in ("length", "bad", "ended"):
             require(wanted.ghost.get(name) == state.ghost.get(name), f"{name} at the head")
 

@@ -184,6 +184,11 @@ def most_value(number):
     return number.most if type(number) is Linear else number
 
 
+def has_digits_alone(number):
+    """Whether the number may be part of a byte's name, which a split does not change."""
+    return all(name.startswith(DIGIT) for name, _ in number.terms)
+
+
 def _is_positive(number):
     if least_of(number) > 0:
         return True

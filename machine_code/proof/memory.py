@@ -9,7 +9,7 @@ import copy
 import itertools
 from collections import namedtuple
 
-from proof.linear import Linear, Unknown, constant_of, is_surely_below, linear, most_of, replaced, terms_of
+from proof.linear import Linear, Unknown, constant_of, is_surely_below, linear, most_of, most_value, replaced, terms_of
 from proof.values import CONSTANTS, WholeByte, constants, unknown
 
 _count = itertools.count(1)
@@ -254,10 +254,13 @@ class Memory:
 
     def change_below(self, name, offset, keeps=False):
         """What is below an offset may be anything, since something else has run, such as a function or a signal's
-        handler. With `keeps` that is so of what was not written."""
+        handler; and so may what is not surely at the offset or above. With `keeps` that is so of what was not
+        written."""
         region, cells = self.regions[name], self._written.setdefault(name, {})
-        self.with_region(name, changed_below=max(offset, region.changed_below), calls=next(_count))
-        self.forget(name, [at for at in cells if at < offset and not keeps])
+        gone = [at for at in cells if not keeps and not is_surely_below(offset, at + 1)]
+        end = max(offset, region.changed_below, *(most_value(at) + 1 for at in gone), 0)
+        self.with_region(name, changed_below=end, calls=next(_count))
+        self.forget(name, gone)
 
     def forget(self, name, offsets):
         """Takes out what was written there. The bytes may not be used any more, which the caller has to see

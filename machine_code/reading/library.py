@@ -5,16 +5,16 @@ import functools
 import importlib
 import pathlib
 import re
-import subprocess
 
 from isa.wasm import cases as of_module, front_end
 from proof import kernels
 from proof.cases import CALLS
 from proof.exploration import Code
-from reading import module, objects
+from reading import archive as archives, expected, linked, module, objects
+from reading.expected import DISPATCH
 
 PROCESSORS = {62: "x86_64", 183: "aarch64"}  # by their number in ELF
-DISPATCH, WASM = "dispatch", "wasm"
+WASM = "wasm"
 # The builds by the names of the files in c/asm. CMake keeps the end of a name, and compilers replace it. Those of the
 # Rust crate are in rust/src/asm.
 BUILDS = {"x86_64_v2": "v2", "x86_64_v3": "v3", "aarch64": "aarch64", "dispatch": DISPATCH}
@@ -22,19 +22,41 @@ BUILDS |= {f"rust_{name}": f"rust_{build}" for name, build in BUILDS.items() if 
 MEMBER = re.compile(r"(.*?)(\.S)?\.o")
 
 
+def _named(name, check, *given):
+    try:
+        return check(*given)
+    except ValueError as error:
+        raise ValueError(f"{name} has what does not belong there: {error}")
+
+
 @functools.lru_cache
 def _members(archive):
-    """The names of the builds, and of their objects. A file for another processor has become an empty object."""
-    listed = subprocess.run(["ar", "t", archive], check=True, capture_output=True, text=True).stdout.split()
-    found = {BUILDS.get(MEMBER.sub(r"\1", name)): name for name in listed}
-    if None in found or len(found) < len(listed):
-        raise ValueError(f"{archive} has other objects: {listed}")
-    return {build: name for build, name in found.items() if objects.read(objects.member(archive, name)).exported}
+    """The bytes of the builds. A file for another processor has become an empty object."""
+    members, index = archives.read(pathlib.Path(archive).read_bytes())
+    names = [BUILDS.get(MEMBER.sub(r"\1", name), name) for name, _ in members]
+    read = [_named(name, objects.read, content) for name, content in members]
+    machines = {obj.machine for obj in read}
+    needed = next((builds for builds in expected.BUILDS.get(max(machines, default=0), ()) if builds & {*names}), None)
+    if len(machines) != 1 or needed is None or len(names) > len({*names}) or not needed <= {*names} <= {*BUILDS.values()}:
+        raise ValueError(f"the members are {sorted(name for name, _ in members)}")
+    for (name, _), build, obj in zip(members, names, read):
+        _named(name, expected.check, obj, build, build not in needed)
+    defined = [(name, at) for at, obj in enumerate(read) for name, symbol in obj.seen if symbol.section]
+    if sorted(index or defined) != sorted(defined):
+        raise ValueError("the index of the archive names other members than those that have the symbols")
+    return {build: content for build, (_, content) in zip(names, members) if build in needed}
 
 
-def _is_module(archive):
-    with open(archive, "rb") as file:
-        return file.read(4) == b"\0asm"
+def _is_module(file):
+    return pathlib.Path(file).read_bytes().startswith(b"\0asm")
+
+
+def is_built(file):
+    """Whether a file is the module, or an archive that has the builds as objects, and not one of Rust."""
+    data = pathlib.Path(file).read_bytes()
+    if not archives.is_archive(data):
+        return _is_module(file)
+    return linked.METADATA not in (name for name, _ in archives.read(data)[0])
 
 
 def builds_of(archive):
@@ -60,6 +82,8 @@ def code_from(content, build):
 
 def code_of(archive, build):
     """The code of a build in an archive, or that of a module."""
-    is_module = build == WASM
-    content = pathlib.Path(archive).read_bytes() if is_module else objects.member(archive, _members(archive)[build])
-    return code_from(content, build)
+    if build != WASM:
+        return code_from(_members(archive)[build], build)
+    code = code_from(pathlib.Path(archive).read_bytes(), build)
+    expected.check_module(code.object)
+    return code

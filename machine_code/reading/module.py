@@ -43,7 +43,10 @@ class Module(Object):
 def parse(content, exported=""):
     """The module with these bytes, which exports its memory by a name."""
     command = ["wasm2wat", "--no-debug-names", "-"]
-    text = subprocess.run(command, input=content, check=True, capture_output=True).stdout.decode()
+    made = subprocess.run(command, input=content, capture_output=True)
+    if made.returncode:
+        raise ValueError(f"no module: {made.stderr.decode().strip()}")
+    text = made.stdout.decode()
     if exported and f'(export "{exported}" (memory 0))' not in text:
         raise ValueError("the memory is not exported")
     module = Module(content)

@@ -11,11 +11,10 @@ import functools
 import random
 import re
 import struct
-import subprocess
 from collections import namedtuple
 
 FIRST = 0x10000
-GAP = 0x1000
+GAP, LEAST_GAP = 0x1000, 64
 SEED = random.getrandbits(64)
 # As ELF has them: the header of a section, flags of sections, and their types.
 Header = namedtuple("Header", "name type flags address offset size link info alignment entry_size")
@@ -25,46 +24,72 @@ SYMBOLS, ADDENDS, EMPTY = 2, 4, 8
 REFUSED, STARTED, STARTED_NAMES = (9, 0x40000014), (14, 15, 16), r"\.[cd]tors.*|\.(init|fini).*"
 # Flags and names of sections that the linker may merge with those of other objects, or take from them.
 SHARED, SHARED_NAMES = MERGED | GROUP, r"\.gnu\.linkonce.*"
+# What others see of an object: a symbol that is not local, by words, with the section in which it lies, or None if the
+# object does not define it. One that lies elsewhere than at the start of its section has a place there, too.
+Symbol = namedtuple("Symbol", "kind binding visibility section place", defaults=[0])
+KINDS = {0: "no kind", 1: "object", 2: "function", 3: "section", 4: "file", 5: "common", 6: "thread", 10: "indirect"}
+BINDINGS = {0: "local", 1: "global", 2: "weak", 10: "unique"}
+VISIBILITIES = "default", "internal", "hidden", "protected"
 # A symbol has a place of its own if it is local or global, and has no type, or that of data, code or a section.
 GLOBAL, SECTION = 1, 3
 
 
-def _relative(word, place, target):
-    return target - place
+class Field(namedtuple("Field", "name mask bits target")):
+    """What a linker writes into a word of 32 bits, whose bits a mask has: `bits` gives them for a place of the word and
+    a target, and `target` what the word says of the target: all of it, its page, or where it lies in its page."""
+
+    __slots__ = ()
+
+    def set(self, word, place, target):
+        return word & ~self.mask | self.bits(place, target) & self.mask
+
+    @property
+    def is_in_page(self):
+        return self.name.startswith("place")
 
 
-def _branch(word, place, target):
-    return word & ~0x3FFFFFF | target - place >> 2 & 0x3FFFFFF
+def _signed(value, size):
+    value &= (1 << size) - 1
+    return value - (1 << size) if value >> size - 1 else value
 
 
-def _page(word, place, target):
-    """The distance of two pages of 4 KiB, in two parts."""
+def _page_bits(place, target):
     pages = (target >> 12) - (place >> 12)
-    return word & ~0x60FFFFE0 | (pages & 3) << 29 | (pages >> 2 & 0x7FFFF) << 5
+    return (pages & 3) << 29 | (pages >> 2 & 0x7FFFF) << 5
 
 
-def _place_in_page(size):
+def _page_of(word, place):
+    return (place >> 12) + _signed(word >> 29 & 3 | word >> 3 & 0x1FFFFC, 21) << 12
+
+
+RELATIVE = Field("relative", 0xFFFFFFFF, lambda place, target: target - place,
+                 lambda word, place: place + _signed(word, 32))
+BRANCH = Field("branch", 0x3FFFFFF, lambda place, target: target - place >> 2,
+               lambda word, place: place + 4 * _signed(word, 26))
+PAGE = Field("page", 0x60FFFFE0, _page_bits, _page_of)
+
+
+def place_in_page(size):
     """Of an access of so many bytes, or of an ADD if it is 1."""
 
-    def change(word, place, target):
+    def bits(place, target):
         if target % size:
             raise ValueError(f"a place that is no multiple of {size} in an instruction")
-        return word & ~0x3FFC00 | target % 4096 // size << 10
+        return target % 4096 // size << 10
 
-    return change
+    return Field(f"place in page by {size}", 0x3FFC00, bits, lambda word, place: (word >> 10 & 0xFFF) * size)
 
 
-# By the number of a processor in ELF and the kind: the new word of 32 bits, from the old one, its place, and
-# what it refers to.
+# By the number of a processor in ELF and the kind. Two kinds may stand for one field.
 RELOCATIONS = {
-    62: {2: _relative, 4: _relative},  # R_X86_64_PC32, R_X86_64_PLT32
+    62: {2: RELATIVE, 4: RELATIVE},  # R_X86_64_PC32, R_X86_64_PLT32
     183: {
-        275: _page,  # R_AARCH64_ADR_PREL_PG_HI21
-        277: _place_in_page(1),  # R_AARCH64_ADD_ABS_LO12_NC
-        282: _branch,  # R_AARCH64_JUMP26
-        283: _branch,  # R_AARCH64_CALL26
-        286: _place_in_page(8),  # R_AARCH64_LDST64_ABS_LO12_NC
-        299: _place_in_page(16),  # R_AARCH64_LDST128_ABS_LO12_NC
+        275: PAGE,  # R_AARCH64_ADR_PREL_PG_HI21
+        277: place_in_page(1),  # R_AARCH64_ADD_ABS_LO12_NC
+        282: BRANCH,  # R_AARCH64_JUMP26
+        283: BRANCH,  # R_AARCH64_CALL26
+        286: place_in_page(8),  # R_AARCH64_LDST64_ABS_LO12_NC
+        299: place_in_page(16),  # R_AARCH64_LDST128_ABS_LO12_NC
     },
 }
 
@@ -100,12 +125,23 @@ class Object:
     def __init__(self, machine, sections):
         self.machine, self.sections, self.left_out = machine, sections, []
         self.symbols, self.exported, self.undefined = {}, set(), {}
+        # For `expected.py`: by names, what others see; and the names and headers of the sections.
+        self.seen, self.headers = [], []
 
-    def add_symbols(self, table, names, placed, end):
+    def add_symbols(self, table, names, placed, end, first):
         """Adds the symbols of a table, and yields where each lies. Those that the object does not have lie after its
-        end."""
-        for name, kind, _, index, value, _ in struct.iter_unpack("<IBBHQQ", table):
+        end. Local ones stand before the first of the others."""
+        for at, (name, kind, other, index, value, _) in enumerate(struct.iter_unpack("<IBBHQQ", table)):
             name, binding, kind = _text(names, name), kind >> 4, kind & 15
+            if (at < first) != (binding == 0):
+                raise ValueError(f"the symbol {name!r} stands among those of another binding")
+            if binding and name in self.symbols:
+                raise ValueError(f"two symbols of one name: {name!r}")
+            if binding or kind not in KINDS or KINDS[kind] in ("thread", "indirect"):
+                where = self.headers[index][0] if index < len(self.headers) else f"section {index:#x}"
+                symbol = Symbol(KINDS.get(kind, kind), BINDINGS.get(binding, binding), VISIBILITIES[other & 3],
+                                where if index else None, value)
+                self.seen.append((name, symbol))
             section = placed.get(index) if binding <= GLOBAL and kind <= SECTION else None
             if section and value <= len(section.content):
                 # Names such as $x only say what lies there.
@@ -151,15 +187,24 @@ class Object:
         return f"{starts.get(start, section.name)}+{address - start:#x}"
 
 
-def member(archive, name):
-    """The bytes of one object of an archive."""
-    return subprocess.run(["ar", "p", archive, name], check=True, capture_output=True).stdout
+def whole(read):
+    """A reader of bytes, which refuses those that end too early, or say that something lies where nothing is."""
+
+    @functools.wraps(read)
+    def wrapped(*given):
+        try:
+            return read(*given)
+        except (struct.error, IndexError, KeyError, UnicodeDecodeError, OverflowError, MemoryError) as error:
+            raise ValueError(f"a file that is cut or damaged: {error}")
+
+    return wrapped
 
 
+@whole
 def read(data):
     """The object with these bytes."""
     machine = struct.unpack_from("<H", data, 18)[0]
-    if data[:6] != b"\x7fELF\x02\x01" or machine not in RELOCATIONS:
+    if data[:6] != b"\x7fELF\x02\x01" or machine not in RELOCATIONS or struct.unpack_from("<H", data, 16)[0] != 1:
         raise ValueError("not an ELF object for a processor that is known here")
     start, size, count, names = struct.unpack_from("<Q", data, 40)[0], *struct.unpack_from("<HHH", data, 58)
     headers = [Header(*struct.unpack_from("<IIQQQQIIQQ", data, start + at * size)) for at in range(count)]
@@ -173,12 +218,20 @@ def read(data):
             raise ValueError(f"a section that is not known here: {name}")
     placed, end = _sections(named, contents)
     obj = Object(machine, list(placed.values()))
+    obj.headers = named
     places = [place for at, header in enumerate(headers) if header.type == SYMBOLS
-              for place in obj.add_symbols(contents[at], contents[header.link], placed, end)]
+              for place in obj.add_symbols(contents[at], contents[header.link], placed, end, header.info)]
+    tables = [header.info for header in headers if header.type == ADDENDS]
     for header, content in zip(headers, contents):
         if header.type == ADDENDS and header.info in placed:
+            if tables.count(header.info) > 1 or headers[header.link].type != SYMBOLS:
+                raise ValueError("two tables of relocations for a section, or one of other symbols")
             for offset, info, addend in struct.iter_unpack("<QQq", content):
                 _relocate(machine, placed[header.info], offset, info & 0xFFFFFFFF, places[info >> 32], addend)
+    for section in obj.sections:
+        places = sorted(offset for offset, *_ in section.references)
+        if any(after - before < 4 for before, after in zip(places, places[1:])):
+            raise ValueError(f"two references at one place in {section.name}")
     obj.leave_out()
     return obj
 
@@ -188,8 +241,9 @@ def _sections(named, contents):
     placed, end, drawn = {}, FIRST, random.Random(SEED)
     for at, (name, header) in drawn.sample(list(enumerate(named)), len(named)):
         if header.flags & ALLOCATED and header.size:
-            end += drawn.randrange(GAP, 8 * GAP)
-            end += -end % max(header.alignment, 64)
+            # As likely a small gap as a large one; an access beyond a section by less is seen in any case.
+            end += drawn.randrange(LEAST_GAP, LEAST_GAP << drawn.randrange(1, 11))
+            end += -end % max(header.alignment, 1)
             placed[at] = Section(name, header.flags, end, max(header.alignment, 1), bytearray(contents[at]))
             end = placed[at].end
     return placed, end
@@ -201,11 +255,10 @@ def _text(strings, at):
 
 def _relocate(machine, section, offset, kind, symbol, addend):
     """Applies a relocation."""
-    change = RELOCATIONS[machine].get(kind)
-    if change is None:
+    field = RELOCATIONS[machine].get(kind)
+    if field is None:
         section.unknown = f"a relocation of the unknown kind {kind}"
         return
     section.references.append((offset, kind, symbol, addend))
     [old] = struct.unpack_from("<I", section.content, offset)
-    word = change(old, section.address + offset, symbol + addend)
-    struct.pack_into("<I", section.content, offset, word & 0xFFFFFFFF)
+    struct.pack_into("<I", section.content, offset, field.set(old, section.address + offset, symbol + addend))

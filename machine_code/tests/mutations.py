@@ -43,8 +43,10 @@ def _text_of_module():
 def edited(build, call, old, new, function=None):
     """The code of a build after an edit, and the address of the edit: in the function of a call, or in another one, a
     constant or a macro, `new` stands in the place of the first `old`, or at the start if that is empty. Lines end in
-    `; `."""
-    old, new = old.replace("; ", "\n"), new.replace("; ", "\n")
+    `; `. After ` | ` others follow in both, of which each stands behind the one before; the address is the first one's.
+    """
+    old, *more_old = old.replace("; ", "\n").split(" | ")
+    new, *more_new = new.replace("; ", "\n").split(" | ")
     if build == library.WASM:
         return _edited_module(function or f"const_hex_{call}", old, new)
     text, machine = _source(build), FILES[build][1]
@@ -55,7 +57,11 @@ def edited(build, call, old, new, function=None):
     line = text.rindex("\n", 0, at) + 1
     # A macro is used more than once.
     mark = f".ifndef changed\nchanged:\n.endif\n{text[line:at]}"
-    text = text[:line] + mark + new + ("" if old else "\n") + text[at + len(old) :]
+    before, text = text[:line] + mark + new + ("" if old else "\n"), text[at + len(old) :]
+    for old, new in zip(more_old, more_new):
+        between, text = text.split(old, 1)
+        before += between + new
+    text = before + text
     code = library.code_from(assembled_object(machine, text), build.split()[0])
     return code, code.object.symbols["changed"]
 

@@ -141,7 +141,7 @@ class Processor(Program):
         other.flags = self.known(flags)
         try:
             return state.path.decide(state.flag(name)) != other.path.decide(other.flag(name))
-        except (Fault, KeyError, AttributeError, TooWide, Unknown):
+        except (Fault, TooWide, Unknown):
             # The tool does not know this condition here.
             return False
 

@@ -9,8 +9,8 @@ from unittest import mock
 
 from proof.cases import CALLS
 from proof.exploration import Refused
-from reading import objects
-from tests.library import AARCH64, ARCHIVE, add_tests, code_of, needs_aarch64
+from reading import archive, expected, library, objects
+from tests.library import AARCH64, ARCHIVE, add_tests, needs_aarch64
 from tests.mutations import assembled_object
 
 
@@ -39,21 +39,24 @@ def with_headers(text, offset, kind, change):
 
 
 class TestObjects(unittest.TestCase):
-    def assert_linked(self, build, archive, name, tools):
-        data = objects.member(archive, name)
+    def assert_linked(self, build, file, name, tools):
+        data = archive.member(file, name)
         obj = objects.read(data)
         self.assertTrue(any(section.references for section in obj.sections))
         for section, content in zip(obj.sections, linked(data, obj, tools)):
             self.assertEqual(bytes(section.content), content, section.name)
 
     def test_layout(self):
-        """Each run has another one."""
-        data, distances = objects.member(ARCHIVE, "x86_64_v3.S.o"), set()
+        """Each run has another one, with small gaps and with large ones."""
+        data, distances, gaps = archive.member(ARCHIVE, "x86_64_v3.S.o"), set(), set()
         for seed in range(4):
             with mock.patch.object(objects, "SEED", seed):
-                symbols = objects.read(data).symbols
-            distances.add(symbols["const_hex_check_raw_v3"] - symbols["const_hex_encode_v3"])
+                obj = objects.read(data)
+            distances.add(obj.symbols["const_hex_check_raw_v3"] - obj.symbols["const_hex_encode_v3"])
+            sections = sorted(obj.sections, key=lambda section: section.address)
+            gaps |= {after.address - before.end for before, after in zip(sections, sections[1:])}
         self.assertEqual(len(distances), 4)
+        self.assertTrue(objects.LEAST_GAP <= min(gaps) < 0x100 and max(gaps) > 0x1000, gaps)
 
     def test_section_without_an_alignment(self):
         """The linker may place it anywhere."""
@@ -90,7 +93,10 @@ class TestObjects(unittest.TestCase):
         """What has one is named where it is used."""
         with mock.patch.dict(objects.RELOCATIONS[183]):
             del objects.RELOCATIONS[183][299]
-            code = code_of("aarch64")
+            data = archive.member(AARCH64, "aarch64.S.o")
+            code = library.code_from(data, "aarch64")
+            with self.assertRaisesRegex(ValueError, "'.text.const_hex_.*', which has a relocation of the unknown kind"):
+                expected.check(code.object, "aarch64", False)
         with self.assertRaisesRegex(Refused, r"check\S*, which has a relocation of the unknown kind 299"):
             CALLS["check_raw"].prove(code, "const_hex_check_raw", ("length", 0, 20))
 

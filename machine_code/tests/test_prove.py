@@ -15,9 +15,9 @@ from unittest import mock
 
 from proof.cases import function_of
 from proof.exploration import Refused
-from reading import library, sums
-from tests.library import ARCHIVE, add_tests, code_of
-from tests.mutations import FILES, assembled_object, edited, instructions
+from reading import library, objects, sums
+from tests.library import AARCH64, ARCHIVE, add_tests, code_of
+from tests.mutations import ASM, FILES, assembled_object, edited, instructions
 from untrusted.reached import not_reached
 
 FUNCTION = "const_hex_check_raw_v3"
@@ -28,14 +28,14 @@ NO_NUL, LATER, POSITION = 4, 4, 8
 # What one part shows that is not for all lengths: the build, the call, the lines before and after, the part, what the
 # tool says, and the function if it is not that of the call.
 WRONG_IN_ONE_PART = [
-    ("v3", "encode", "cmp rsi,0x40", "cmp rsi,0x3f", ("length", NO_NUL, 63), "read of 16 bytes outside"),
+    ("v3", "encode", "cmp rsi,0x3f", "cmp rsi,0x3e", ("length", NO_NUL, 63), "read of 16 bytes outside"),
     ("v2", "check_raw", "cmp rsi,0x20", "cmp rsi,0x1f", ("length", 0, 31), r"outside .*: text\[-1\]"),
     ("v2", "check_raw", "cmp rsi,0x10", "cmp rsi,0x11", ("length", 0, 17), "not a digit is accepted"),
     ("v2", "decoder_update", "cmp r14,0x80", "cmp r14,0x7f", ("length", LATER, 127), "read of 16 bytes outside"),
     ("v3", "error_message", "cmp rax,rcx; je 4f", "", ("case", POSITION), "write of 1 bytes outside",
      "const_hex_message_write_ended_v3"),
     ("aarch64", "decode_exact", "cmp x3, #0x40", "cmp x3, #0x3f", ("length", 0, 126), "read of 32 bytes outside"),
-    ("aarch64", "encode", "cmp x1, #0x11", "cmp x1, #0x12", ("length", NO_NUL, 17), "is written before 16"),
+    ("aarch64", "encode", "cmp x1, #0x10", "cmp x1, #0x12", ("length", NO_NUL, 17), "is written before 16"),
     (library.WASM, "encode", "local.get 1; i32.const 7; i32.gt_u", "local.get 1; i32.const 6; i32.gt_u",
      ("length", 0, 7), "the module traps", "i16x8.extend_high_i8x16_u"),
 ]
@@ -52,17 +52,19 @@ class TestProve(unittest.TestCase):
         self.addCleanup(folder.cleanup)
         self.folder, self.script = pathlib.Path(folder.name), types.ModuleType("prove")
         SourceFileLoader("prove", str(sums.FOLDER / "prove")).exec_module(self.script)
-        patch = mock.patch.object(sums, "FILE", self.folder / "proved.txt")
-        patch.start()
-        self.addCleanup(patch.stop)
+        for patch in (mock.patch.object(sums, "FILE", self.folder / "proved.txt"),
+                      mock.patch.dict(sys.modules, {"prove": self.script})):
+            patch.start()
+            self.addCleanup(patch.stop)
 
     def accepts(self, code, call, build="v3"):
-        """What `prove --sums` says, where this is the code of the build."""
+        """What `prove --sums` says, where this is the code of the build. Its last line is no proof's."""
         argv = ["prove", str(ARCHIVE), "--build", build, "--call", call, "--jobs", "1", "--sums"]
         with mock.patch.object(self.script, "code_of", lambda *_: code), mock.patch.object(sys, "argv", argv):
             with contextlib.redirect_stdout(io.StringIO()) as output:
                 is_accepted = not self.script.main()
         self.assertEqual("NOT RECORDED" in output.getvalue(), not is_accepted)
+        self.assertRegex(output.getvalue(), r"\n[01] recorded, [01] not recorded; nothing was proved in this run\n$")
         return is_accepted
 
     def test_code_that_is_not_reached(self):
@@ -81,14 +83,6 @@ class TestProve(unittest.TestCase):
         code.object.exported.add("const_hex_encode")
         with self.assertRaisesRegex(Refused, "const_hex_encode is exported as"):
             function_of(code, "encode", "v3")
-
-    def test_archive_with_another_object(self):
-        archive, other = self.folder / "libconst_hex.a", self.folder / "other.o"
-        shutil.copy(ARCHIVE, archive)
-        other.write_bytes(assembled_object(62, ".globl memcpy; memcpy: ret"))
-        subprocess.run(["ar", "q", archive, other], check=True)
-        with self.assertRaisesRegex(ValueError, "has other objects"):
-            library.builds_of(archive)
 
     def test_one_byte_of_what_rust_includes(self):
         """The sum of `fill` is recorded of the files that the Rust crate includes."""
@@ -109,6 +103,24 @@ class TestProve(unittest.TestCase):
         self.assertNotEqual(sums.sum_of(obj, FUNCTION), before)
         constants.is_writable, constants.bytes = False, bytes([constants.bytes[0] ^ 1]) + constants.bytes[1:]
         self.assertNotEqual(sums.sum_of(obj, FUNCTION), before)
+
+    def test_sums_of_clang(self):
+        """Another assembler has other kinds and another order of relocations, and may have a file's own numbers in the
+        fields."""
+        for build, name, processor in (("v3", "x86_64_v3", "x86_64"), ("dispatch", "dispatch", "x86_64"),
+                                       ("aarch64", "aarch64", "aarch64")):
+            if not shutil.which("clang") or build == "aarch64" and not pathlib.Path(AARCH64).exists():
+                self.skipTest("clang or the archive for AArch64 is missing")
+            file = self.folder / "object.o"
+            command = ["clang", f"--target={processor}-linux-gnu", "-c", ASM / f"{name}.S", "-o", file]
+            subprocess.run(command, check=True)
+            ours, theirs = code_of(build).object, objects.read(file.read_bytes())
+            for section in theirs.sections:
+                section.references.reverse()
+                for offset, *_ in section.references if section.is_code and build != "aarch64" else ():
+                    section.bytes = section.bytes[:offset] + b"\1" + section.bytes[offset + 1 :]
+            for function in sorted(ours.exported):
+                self.assertEqual(sums.sum_of(theirs, function), sums.sum_of(ours, function), function)
 
     def test_files_of_the_tool(self):
         files = {file for front_end in FRONT_ENDS for file in sums.files_of_tool(front_end)}
@@ -133,12 +145,35 @@ class TestProve(unittest.TestCase):
         sums.write({("check_raw", "v3"): (of_code, of_tool[::-1])})
         self.assertFalse(self.accepts(code, "check_raw"))
 
+    def test_what_is_kept(self):
+        """Another code that this tool has proved is kept, and what another tool has proved is not."""
+        first, second, other = ("code-1", "tool"), ("code-2", "tool"), ("code-2", "another-tool")
+        for row in first, other, second, first:
+            sums.write({("check", "v3"): row, ("unreached", "v3"): (row[0][-1],)})
+        self.assertEqual(sums.recorded(), {("check", "v3"): [first, second], ("unreached", "v3"): [("1",)]})
+        sums.write({("check", "v3"): other, ("read", "v3"): first})
+        self.assertEqual(sums.recorded()["check", "v3"], [other])
+
+    def test_last_lines(self):
+        """Those of a proof say what was proved in this run, and a file that is refused ends in one of them."""
+        for argv, wanted in (
+            (["--build", "v3", "--call", "version"], "1 passed, 0 failed; every length was proved in this run"),
+            (["--build", "v3", "--call", "version", "--sums"],
+             "1 recorded, 0 not recorded; nothing was proved in this"),
+            (["/dev/null"], "0 passed, 1 failed"), (["/dev/null", "--sums"], "0 recorded, 1 not recorded; nothing"),
+        ):
+            argv = ["prove", *([str(ARCHIVE)] if argv[0] != "/dev/null" else []), *argv, "--jobs", "1"]
+            sums.write({("version", "v3"): sums_of(code_of("v3"), "const_hex_version_v3")})
+            with mock.patch.object(sys, "argv", argv), contextlib.redirect_stdout(io.StringIO()) as output:
+                self.assertEqual(self.script.main(), "/dev/null" in argv)
+            self.assertTrue(output.getvalue().splitlines()[-1].startswith(wanted), output.getvalue())
+
     def refuse(self, build, call, old, new, part, wanted, function=None):
         """The sum of wrong code was written. The part that shows what is wrong is run without --all."""
         code, _ = edited(build, call, old, new, function)
         sums.write({(call, build): sums_of(code, function_of(code, call, build))})
         with mock.patch.object(self.script, "code_of", lambda *_: code):
-            row = self.script.Row(ARCHIVE, call, build, types.SimpleNamespace(sums=False, all=False))
+            row = self.script.Row(ARCHIVE, call, build, types.SimpleNamespace(all=False))
             self.assertTrue(row.is_recorded and row.is_proved)
             [task] = [task for task in row.tasks() if task[3] == part]
             _, fault, states, _, seconds = self.script.prove(task)
@@ -153,7 +188,7 @@ class TestProve(unittest.TestCase):
         for is_all, is_recorded in ((False, False), (False, True), (True, True)):
             if is_recorded:
                 sums.write({("check_raw", "v3"): sums_of(code_of("v3"), FUNCTION)})
-            options = types.SimpleNamespace(sums=False, all=is_all)
+            options = types.SimpleNamespace(all=is_all)
             rows.append(self.script.Row(ARCHIVE, "check_raw", "v3", options).parts)
         self.assertEqual(rows, [every, [part for part in every if part[0] == "length"], every])
 

@@ -149,6 +149,7 @@ SEEN = [
     ("two symbols in terms of one", lambda: (None, in_terms_of(LEFT * 128 + DONE, (LEFT + DONE) * 128, LEFT * 128))),
     ("terms that do not fit", lambda: (None, in_terms_of(LEFT, LEFT * 128, LEFT * 64 + 1))),
     ("another region is not near", lambda: (False, flag("b", "sub", APART, 12, Region("text", 16)))),
+    ("an order of marks below 0", lambda: (False, flag("b", "sub", MARKS, constants(0, 1)))),
     ("a number that a split replaces in a lane",
      lambda: (constants(256, 8)[:4], with_replaced(as_lane(LEFT * 128)[:4], "left", 2))),
     ("less by the highest byte",
@@ -175,6 +176,15 @@ class TestSoundness(unittest.TestCase):
         memory = Memory([STACK])
         memory.store(Pointer("stack", 0), LEFT * 128)
         self.assertEqual(memory.replaced("left", LEFT + 1).load(Pointer("stack", 0), 8), LEFT * 128 + 128)
+
+    def test_what_may_lie_below_the_stack(self):
+        """A byte whose place is not known is forgotten wherever it may lie, and not taken for what was there before."""
+        memory = Memory([Region("stack", 128, True, 16)])
+        memory.store(Pointer("stack", bit() + 8), constants(0, 1))
+        memory.change_below("stack", 64)
+        self.assertEqual(memory.written("stack"), {})
+        self.assertNotEqual(memory.load(Pointer("stack", 72), 1), (unknown("stack", 72),))
+        self.assertEqual(memory.load(Pointer("stack", 73), 1), (unknown("stack", 73),))
 
     def test_what_another_thread_may_write(self):
         """What the object has stored may be another byte when it is read."""
@@ -249,7 +259,7 @@ class TestLengths(unittest.TestCase):
 
     def test_byte_that_is_kept(self):
         """A round writes a byte of the object in the place of one of its stores."""
-        store = "vmovdqu YMMWORD PTR [rcx+rdx*1+0x60],ymm3"
+        store = "vmovdqu YMMWORD PTR [rcx+r8*2+0x60],ymm3"
         code, _ = edited("v3", "encode", store, "mov [rip + kept], al; .lcomm kept, 1")
         with self.assertRaisesRegex(Refused, "something is kept between calls, in the loop at"):
             CALLS["encode"].prove(code, "const_hex_encode_v3", ("class", 0, 150))

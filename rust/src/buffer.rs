@@ -253,7 +253,4 @@ traits! {
     AsRef<str>: fn as_ref(&self) -> &str {
         self.as_str()
     }
-    AsRef<[u8]>: fn as_ref(&self) -> &[u8] {
-        self.as_bytes()
-    }
 }

@@ -38,7 +38,8 @@ mod decoder;
 mod display;
 #[cfg(feature = "std")]
 mod io;
-#[allow(unsafe_code)]
+// Rust before 1.86 knows no cygwin.
+#[allow(unknown_lints, unexpected_cfgs, unsafe_code, clippy::extra_unused_type_parameters)]
 mod kernel;
 // The source is a library, of which this crate calls and exports a part. Its labels name loops for the proofs.
 // Anything else that is unused may show that the eraser has deleted code. It is an error in the tests alone, so that
@@ -176,12 +177,7 @@ encoders! {
 #[cfg(feature = "alloc")]
 #[inline(always)]
 fn owned(data: &[u8], prefix: bool, upper: bool) -> String {
-    let text = match (prefix, upper) {
-        (false, false) => encoders::encode_with::<FixedKernel, false>(Global, data),
-        (false, true) => encoders::encode_with::<FixedKernel, true>(Global, data),
-        (true, false) => encoders::encode_prefixed(Global, data),
-        (true, true) => encoders::encode_upper_prefixed(Global, data),
-    };
+    let text = encoders::encode_owned::<FixedKernel>(Global, data, prefix, upper);
     text.unwrap_or_else(|error| error.never()).0
 }
 

@@ -16,13 +16,13 @@ macro_rules! sums {
 #[test]
 fn the_assembly_is_unchanged() {
     for (file, found, wanted) in sums! {
-        "aarch64.s" 0x3425_1077_0f58_c833
+        "aarch64.s" 0xf3c2_7dc1_11c7_a5d8
         "coff.s" 0x5b84_25b7_b0d1_360b
         "elf.s" 0xd057_d416_4c97_a972
         "end.s" 0x98e7_fc1e_20c1_9e86
         "mach_o.s" 0x8d5a_52d3_2515_a02d
-        "x86_64_v2.s" 0x026f_37d6_42fc_c65a
-        "x86_64_v3.s" 0x189d_dd77_9da7_a173
+        "x86_64_v2.s" 0xe0b9_a966_c195_7abd
+        "x86_64_v3.s" 0xb3e6_802f_62fe_a7cd
     } {
         assert_eq!(found, wanted, "{file}: {found:#x}");
     }
@@ -45,11 +45,14 @@ fn names_have_the_version() {
         include_str!("../src/asm/x86_64_v2.s"),
         include_str!("../src/asm/x86_64_v3.s"),
     ];
-    for line in assembly.iter().flat_map(|text| text.lines()) {
-        for directive in ["\tfunction ", "\tconstant "] {
-            if let Some(name) = line.strip_prefix(directive) {
-                assert!(name.starts_with(prefix), "{line}");
+    for text in assembly {
+        let mut names = 0;
+        for line in text.lines() {
+            if line.starts_with("\tfunction ") || line.starts_with("\tconstant ") {
+                assert!(line[10..].starts_with(prefix), "{line}");
+                names += 1;
             }
         }
+        assert!(names > 3, "{names} names");
     }
 }

@@ -23,7 +23,8 @@ fn views() {
     let lengths = [Buffer::<4>::LEN, Buffer::<4, true>::LEN, Buffer::<0, true>::LEN];
     assert_eq!(lengths, [8, 10, 2]);
     buffer.format_upper(&BYTES);
-    assert_eq!(AsRef::<str>::as_ref(&buffer), "007F80FF");
+    // The one `as_ref`, as in const-hex, so that its type can be inferred.
+    assert_eq!(buffer.as_ref(), "007F80FF");
     assert_eq!(buffer.as_bytes(), b"007F80FF");
     assert_eq!(buffer.as_byte_array(), b"007F80FF");
     assert_eq!(buffer.as_ptr(), buffer.as_bytes().as_ptr());
@@ -42,7 +43,7 @@ fn views() {
 fn standard_traits() {
     let mut buffer = Buffer::<2, true>::new().const_format(&[0xAB, 0xCD]);
     let (lower, text) = (buffer, "0xabcd");
-    assert_eq!(AsRef::<[u8]>::as_ref(&buffer), text.as_bytes());
+    assert_eq!(buffer.as_bytes(), text.as_bytes());
     assert_eq!(format!("{buffer}|{buffer:>8}|{buffer:-<7}"), "0xabcd|  0xabcd|0xabcd-");
     assert_eq!(buffer, lower);
     // Each character counts, that of the prefix too.

@@ -3,21 +3,21 @@
 #![cfg(not(target_family = "wasm"))]
 
 use std::fs;
+use std::io::{stderr, Write};
 use std::path::Path;
 use std::process::{Command, Output};
 use std::thread;
 
 const FOLDER: &str = env!("CARGO_MANIFEST_DIR");
 
-/// Runs the program, if Python and the source are there.
+/// Runs the program. Only a crate that was unpacked from its archive has no source beside it.
 fn erase(argument: &Path) -> Option<Output> {
-    if !Path::new(FOLDER).join("../crates").exists() {
-        eprintln!("skipped: the proved source is not there");
+    if Path::new(FOLDER).join("Cargo.toml.orig").exists() {
         return None;
     }
     let program = format!("{FOLDER}/erase");
     let output = Command::new("python3").arg(program).arg(argument).output();
-    output.map_err(|error| eprintln!("skipped: python3: {error}")).ok()
+    Some(output.expect("python3"))
 }
 
 /// This compares the numbers of places that each rule has changed, too.
@@ -26,6 +26,12 @@ fn the_generated_source() {
     if let Some(output) = erase(Path::new("--check")) {
         let differing = String::from_utf8_lossy(&output.stdout);
         assert!(output.status.success(), "{differing}");
+    } else {
+        // `eprintln` would not be shown.
+        let _ = writeln!(
+            stderr(),
+            "erase is skipped, since this crate was unpacked from its archive"
+        );
     }
 }
 
@@ -67,6 +73,7 @@ fn what_is_deleted() {
         ("ghost_use", "struct S;\n\nghost use A.{b, c};\n\nfn f() {}", Ok("struct S;\n\nfn f() {}")),
         ("ghost_field", "struct S {\n    x: u8,\n    ghost small: { x < 9 },\n}", Ok("struct S {\n    x: u8,\n}")),
         ("attribute", "#[tactic(auto, using(a::b))]\n#[inline]\nfn f() {}", Ok("#[inline]\nfn f() {}")),
+        ("attribute", "impl S {\n    #[inline]\n    #[tactic(auto)]\n    fn f() {}\n}", Ok("impl S {\n    #[inline]\n    fn f() {}\n}")),
         ("derive", "#[derive(Clone, Copy, Drop)]\nstruct S;", Ok("#[derive(Clone, Copy)]\nstruct S;")),
         ("model", "struct S;\nuse std::marker::Model;\n\nimpl Model for S {\n    ghost view = { x };\n}", Ok("struct S;")),
         // Comments that a rule would make false.
@@ -95,13 +102,14 @@ fn what_each_rule_changes() {
         ("stream", "use crate::sink::Sink;\nuse const_hex_arch::Kernel;", Ok("use crate::proved::sink::Sink;\nuse crate::proved::Kernel;")),
         ("sink", "use std::fmt;", Ok("use crate::std_shim::fmt;")),
         ("arch", "pub type FixedKernel = Lanes32;", Ok("pub type FixedKernel = crate::kernel::Native;")),
-        ("codec/encoders", "use crate::reserved::encode_reserved;", Ok("#[cfg(feature = \"alloc\")]\nuse crate::kernel::encode_reserved;")),
+        ("codec/encoders", "use crate::owned::encode_to_vec;", Ok("#[cfg(feature = \"alloc\")]\nuse crate::kernel::encode_to_vec;")),
         ("error", "fn fmt<W: fmt::Write>(f: &mut fmt::Formatter<W>) {}\n\nfn g() {\n    fmt::<W, 8>(f);\n}", Ok("fn fmt<'w>(f: &mut fmt::Formatter<'w>) {}\n\nfn g() {\n    fmt::<8>(f);\n}")),
         ("sink", "struct S<T: Drop>(T);", Ok("struct S<T>(T);")),
         ("error", "enum FromHexError {\n    OddLength,\n    NoMemory,\n}", Ok("enum FromHexError {\n    OddLength,\n}")),
-        ("c/error", "match kind {\n    4 => Some(FromHexError::NoMemory),\n    _ => None,\n}", Ok("match kind {\n    _ => None,\n}")),
+        ("c/error", "match error {\n    FromHexError::NoMemory => (NO_MEMORY, 0),\n    _ => (0, 0),\n}", Ok("match error {\n    _ => (0, 0),\n}")),
+        ("error", "fn from(_error: E) -> FromHexError {\n    FromHexError::NoMemory\n}", Ok("fn from(_error: E) -> FromHexError {\n        _error.never()\n}")),
         ("c", "#[unsafe(no_mangle)]\npub extern \"C\" fn f(bytes: &[u8]) {}", Ok("#[cfg_attr(not(target_arch = \"wasm32\"), inline)]\npub fn f(bytes: &[u8]) {}")),
-        ("reserved", "for byte in bytes {\n    self.bytes.push_reserved(*byte);\n}", Ok("self.bytes.extend_from_slice(bytes);")),
+        ("owned", "let text = vec![in alloc; 0u8; n]?;", Ok("let text = Vec::zeros(alloc, n)?;")),
         ("hexfilter/process", "fn f(rt: &R) {\n    env::args(rt)?.skip(1).collect(rt.alloc())?;\n}", Ok("fn f(rt: &R) {\n    env::args(rt)?.skip(1).collect();\n}")),
         ("hexfilter/error", "#[derive(Clone, Copy, Debug)]\nenum E {}", Ok("#[derive(Debug)]\nenum E {}")),
         ("hexfilter/process", "fn f(error: E) {\n    match error {}\n}", Ok("fn f(error: E) {\n    match &error {}\n}")),
@@ -136,6 +144,17 @@ fn what_is_not_understood() {
         ("unknown", "fn f() -> &[u8] {\n    br#\"\"ghost;\"#\n}", Err("the form br#\"")),
         ("unknown", "fn f(r#ghost: u8) {}", Err("the form r#")),
         ("unknown", "fn f() {\n    g(c\"{\");\n}", Err("the form c\"")),
+        // A line of a text that would be taken for a comment: what follows the text would not be looked at.
+        ("unknown", "const A: &str = \"a\n    // b\"; drop(c);\nfn f() {}", Err("the form \"a\n    //")),
+        ("unknown", "const A: &[u8] = b\"a\n/// NoMemory\n// b\n\";", Err("the form b\"a\n//")),
+        ("unknown", "const A: &str = \"a\n\n\nb\n// c\n\";", Err("the form \"a\n\n\nb\n//")),
+        ("unknown", "const A: &str = \"a\n\n\nb\";", Err("a rule does not fit: \"a\n\nb\"")),
+        // Names that rules change, or whose implementations are deleted.
+        ("unknown", "mod const_hex {}", Err("the form mod const_hex")),
+        ("unknown", "use a::{b as const_hex_arch};", Err("the form as const_hex_arch")),
+        ("unknown", "enum std {}", Err("the form enum std")),
+        ("unknown", "struct S;\n\nuse a::{b as Model};\n\nimpl Model for S {}", Err("the form as Model")),
+        ("unknown", "trait Model: Clone {\n    fn f(&self);\n}\n\nimpl Model for u8 {\n    fn f(&self) {}\n}", Err("the form trait Model")),
         // What is deleted by words and brackets is not what is deleted by lines.
         ("unknown", "fn f() {\n    ghost\n    if x {\n        g();\n    }\n}", Err("by brackets '}' is left, by lines 'ifx{g();}}'")),
         ("unknown", "fn f()\n    ensures { a }\n        { if x { g(); } }", Err("by brackets '{ifx{g();}}' is left, by lines ''")),
@@ -167,7 +186,7 @@ fn what_is_an_error() {
         ("unknown", "fn f<K: Kernel>() {\n    K::is_fast::<8>();\n}", Err("the call K::is_fast")),
         ("unknown", "fn f(x: u8) {\n    drop(x);\n}", Err("the call drop")),
         ("unknown", "fn f() {\n    println!(\"x\");\n}", Err("the call println!")),
-        ("unknown", "fn f() {\n    let x = vec![1];\n}", Err("the call vec!")),
+        ("unknown", "fn f() {\n    let x = dbg!(1);\n}", Err("the call dbg!")),
         // A call after a range, with a type in brackets, after a quotation mark, and of a function as a value.
         ("unknown", "fn f(x: u8) {\n    for _ in 0..drop(x) {}\n}", Err("the call drop")),
         ("unknown", "fn f(x: u8) {\n    x.rotate_left::<(u8, u8)>(1);\n}", Err("the call .rotate_left")),
@@ -175,11 +194,17 @@ fn what_is_an_error() {
         ("unknown", "fn f(x: u8) {\n    let g = u8::is_ascii_hexdigit;\n}", Err("a function as a value: u8::is_ascii_hexdigit")),
         ("unknown", "fn f(x: u8) {\n    (x)(1);\n}", Err("a function as a value: )(")),
         // What Rattle and Rust read in different ways.
-        ("unknown", "fn f() {\n    for x in 250u8.. {}\n}", Err("a range without an end: .. {")),
+        ("unknown", "fn f() {\n    for x in 250u8.. {}\n}", Err("a range without an end: 8.. {")),
+        ("unknown", "fn f() {\n    let x = (250u8..);\n}", Err("a range without an end: 8..)")),
+        ("unknown", "fn f() {\n    for x in [250u8..] {}\n}", Err("a range without an end: [250u8..]")),
         ("unknown", "fn f() {\n    S { a: 1, ..v[9] };\n}", Err("the other fields of a struct: { a: 1, ..v[9] }")),
         ("unknown", "fn f(x: u64) -> usize {\n    x as usize\n}", Err("a cast: as u")),
+        ("unknown", "fn f(x: u64) -> usize {\n    x as (usize)\n}", Err("a cast: as (")),
+        ("unknown", "fn f() {\n    <T>::drop(1);\n}", Err("a type in brackets before a name: <T>::drop")),
         ("c/other", "#[unsafe(no_mangle)]\npub extern \"C\" fn f(x: u8) requires { x < 9 } {\n}", Err("a condition of a function that is exported")),
         ("error", "fn f(x: E) {\n    match x {\n        E::Odd | E::NoMemory => 1,\n    }\n}", Err("a rule does not fit: NoMemory")),
+        ("error", "const ALL: [E; 2] = [\n    E::Odd,\n    NoMemory,\n];", Err("a rule does not fit: NoMemory")),
+        ("c/error", "match kind {\n    4 => Some(FromHexError::NoMemory),\n    _ => None,\n}", Err("a rule does not fit: NoMemory")),
         ("error", "fn f() -> &str {\n    \"expected W, not <W>\"\n}", Err("a rule does not fit: \"expected 'w, not <'w>\"")),
     ]);
 }

@@ -9,11 +9,11 @@ use std::process::Command;
 
 const FOLDER: &str = env!("CARGO_MANIFEST_DIR");
 
-/// The packages of this workspace, as cargo reads their manifests.
-fn packages() -> BTreeMap<String, Value> {
+/// The packages of the workspace in that folder, as cargo reads their manifests.
+fn packages(folder: &str) -> BTreeMap<String, Value> {
     let output = Command::new(env!("CARGO"))
         .args(["metadata", "--no-deps", "--offline", "--format-version", "1"])
-        .current_dir(FOLDER)
+        .current_dir(Path::new(FOLDER).join(folder))
         .output()
         .unwrap();
     let metadata: Value = serde_json::from_slice(&output.stdout).unwrap();
@@ -37,7 +37,8 @@ fn dependencies(package: &Value) -> Vec<(&str, bool)> {
 
 #[test]
 fn manifests() {
-    let packages = packages();
+    let mut packages = packages("");
+    packages.extend(self::packages("hexfilter"));
     let ours = &packages["const-hex-proved"];
     assert_eq!(dependencies(ours), [("serde", false)]);
     assert_eq!(ours["version"], "1.0.0");

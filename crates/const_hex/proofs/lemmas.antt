@@ -5,7 +5,6 @@ pub mod Lowering
 pub mod Messages
 pub mod Printing
 pub mod Reading
-pub mod Reserving
 pub mod RoundTrip
 pub mod Searching
 pub mod Walks

@@ -5,7 +5,6 @@ use Rattle.const_hex.specs.declared.buffer.Buffer.{Buffer}
 use Rattle.std.specs.Borrow.{Fml, MutBor, RattleType, Array, u8}
 use Rattle.std.specs.Io.BufRead.{Rests}
 use Rattle.const_hex.specs.contracts.buffer.Buffer.{the_row}
-use Rattle.const_hex.specs.declared.reserved.ReservedOutput.{ReservedOutput}
 
 -- ---- what a buffer holds
 
@@ -31,21 +30,3 @@ abbrev pub EndsEncoded : {A E : Type 0} → Bool → List ℕ → MutBor (List �
 EndsEncoded up bytes slice result =
     Rests (Array u8 0) slice
     (λ new. MatchResult result (λ _. new ≡ hex_text up bytes) (λ _. new ≡ slice.now))
-
--- ---- writes to a vector that has space, and decoding into one
-
--- the capacity that is left
-abbrev pub spare_room : ReservedOutput → ℕ
-spare_room o = vec_capacity o.bytes - vec_len o.bytes
-
--- the piece follows what the vector held, and the capacity is unchanged
-pub record ReservedStep (s : ReservedOutput) (piece : List ℕ) (t : ReservedOutput) : Type 0 where
-  pub room : vec_capacity t.bytes ≡ vec_capacity s.bytes
-  pub count : vec_len t.bytes ≡ vec_len s.bytes + length piece
-  pub text : t.bytes.items ≡ s.bytes.items ++ piece
-
--- the vector holds the bytes that the first digits decode to, and has space for the rest
-pub record HoldsFront (digits : List ℕ) (o : ReservedOutput) : Type 0 where
-  pub front : Spells (take (2 * vec_len o.bytes) digits) o.bytes.items
-  pub within : 2 * vec_len o.bytes ≤ length digits
-  pub fits : length digits ≤ 2 * vec_capacity o.bytes

@@ -9,7 +9,7 @@ mod buffer;
 mod codec;
 mod error;
 mod formatting;
-mod reserved;
+mod owned;
 pub mod serde;
 pub mod traits;
 mod write_sink;

@@ -5,7 +5,6 @@ pub mod LaneMarks
 pub mod LaneText
 pub mod LaneValues
 pub mod Runs
-pub mod SliceRuns
 pub mod Spelling
 pub mod Steps
 pub mod Streams

@@ -1,6 +1,7 @@
 //! Kernels, which encode bytes as digits and decode digits to bytes.
 
 ghost use Rattle.std.specs.Prelude.{◌≡◌, Bool, ◌+◌, ◌*◌, ◌<◌, ◌≤◌, ◌↔◌, IsTrue, true, false, length, take, drop};
+ghost use Rattle.std.specs.Str.{IsAscii};
 ghost use Rattle.const_hex_arch.specs.Outputs.{HasRoom, Writes};
 ghost use Rattle.const_hex_arch.specs.Texts.{hex_text, AllDigits, Spells, Partial};
 
@@ -16,7 +17,6 @@ mod steps;
 
 use crate::arch::lanes32::Lanes32;
 use crate::output::Output;
-use crate::output::slice::SliceOutput;
 
 /// The kernel of every call that does not name one. It is named here and nowhere else.
 ///
@@ -46,17 +46,9 @@ pub trait Kernel {
     /// their output unchanged.
     const USE_CHECK_FN: bool;
 
-    /// Writes two digits for each byte, in order, in pieces of 1 to 64 bytes. The output must have
-    /// space for them.
-    ///
-    /// ```rust
-    /// let mut text = [0; 8];
-    /// FixedKernel::encode(b"kiwi", false, &mut SliceOutput::new(&mut text));
-    /// assert_eq!(rt; text, *b"6b697769");
-    /// ```
-    fn encode<O: Output>(input: &[u8], upper: bool, output: &mut O)
-        requires { HasRoom (O.room output.old) (2 * length input.now) }
-        ensures { Writes O.step output.old (hex_text upper input.now) output.new };
+    /// How many bytes of text one piece of [`encode`](Kernel::encode) has: a divisor of 64. With
+    /// another number, the pieces of each 64 bytes end with a shorter one.
+    const PIECE: usize;
 
     /// Fills the output with two digits for each byte, in order. The output must have exactly the
     /// length of that text.
@@ -66,14 +58,33 @@ pub trait Kernel {
     /// FixedKernel::fill(b"kiwi", false, &mut text);
     /// assert_eq!(rt; text, *b"6b697769");
     /// ```
-    // A call that is not inlined gets its slices in registers, and `encode` its output in memory.
-    #[inline(always)]
     fn fill(input: &[u8], upper: bool, output: &mut [u8])
         requires { length output.old ≡ 2 * length input.now }
-        ensures { output.new ≡ hex_text upper input.now }
+        ensures { output.new ≡ hex_text upper input.now };
+
+    /// Writes two digits for each byte, in order, in pieces of [`PIECE`](Kernel::PIECE) bytes, of
+    /// which the last may be shorter. No piece is longer than 64 bytes. The output must have space
+    /// for the text.
+    ///
+    /// ```rust
+    /// let mut text = [0; 8];
+    /// FixedKernel::encode(b"kiwi", false, &mut SliceOutput::new(&mut text));
+    /// assert_eq!(rt; text, *b"6b697769");
+    /// ```
+    #[inline]
+    fn encode<O: Output>(input: &[u8], upper: bool, output: &mut O)
+        requires { HasRoom (O.room output.old) (2 * length input.now) }
+        ensures { Writes O.step output.old (hex_text upper input.now) output.new }
     {
-        let mut written = SliceOutput::new(output);
-        Self::encode::<SliceOutput>(input, upper, &mut written);
+        let mut rest = input;
+        while rest.len() > 0 {
+            let (bytes, after) = rest.split_at(rest.len().min(32));
+            let mut text = [0; 64];
+            let digits = &mut text[..2 * bytes.len()];
+            Self::fill(bytes, upper, digits);
+            write_in_pieces(digits, Self::PIECE, output);
+            rest = after;
+        }
     }
 
     /// Whether every byte is a digit.
@@ -120,29 +131,6 @@ pub trait Kernel {
         Self::decode_checked(input, output)
     }
 
-    /// Decodes a part of the input into the output and returns true. Returns false if some byte of
-    /// this part is not a digit. The part begins after the first `start` pairs of the input, and
-    /// has two bytes for each byte of the output.
-    ///
-    /// This is for a caller that puts each part into an array. A kernel may have shorter code for
-    /// arrays of 16, 32 and 64 bytes.
-    ///
-    /// ```rust
-    /// let mut bytes = [0; 2];
-    /// assert!(rt; FixedKernel::decode_part(b"6B697769", 1, &mut bytes));
-    /// assert_eq!(rt; bytes, *b"iw");
-    /// ```
-    #[inline(always)]
-    fn decode_part(input: &[u8], start: usize, output: &mut [u8]) -> bool
-        requires { 2 * (start + length output.old) ≤ length input.now }
-        ensures spells { IsTrue result
-            → Spells (take (2 * length output.old) (drop (2 * start) input.now)) output.new }
-        ensures refused { result ≡ false → AllDigits input.now → ⊥ }
-    {
-        let end = start + output.len();
-        Self::decode_checked(&input[2 * start..2 * end], output)
-    }
-
     /// Decodes the input into the output. The input must have two bytes for each byte of the
     /// output, and only digits.
     ///
@@ -155,4 +143,21 @@ pub trait Kernel {
         requires size { length input.now ≡ 2 * length output.old }
         requires digits { AllDigits input.now }
         ensures { Spells input.now output.new };
+}
+
+/// Writes a text of at most 64 bytes in pieces of the given size, or of 1 byte if that is 0. The last
+/// piece may be shorter.
+#[inline(always)]
+fn write_in_pieces<O: Output>(text: &[u8], size: usize, output: &mut O)
+    requires most { length text.now ≤ 64 }
+    requires ascii { IsAscii text.now }
+    requires room { HasRoom (O.room output.old) (length text.now) }
+    ensures { Writes O.step output.old text.now output.new }
+{
+    let mut rest = text;
+    while rest.len() > 0 {
+        let (piece, after) = rest.split_at(rest.len().min(size.max(1)));
+        output.write(piece);
+        rest = after;
+    }
 }

@@ -63,46 +63,7 @@ pub trait Output {
         self.write(&[byte])
     }
 
-    /// Writes a piece of `count` bytes, at most 64, that begins with `first` and ends with `last`.
-    /// Both have the same length, and together they cover the piece. Where they overlap, the bytes
-    /// of `last` are written.
-    ///
-    /// ```rust
-    /// let mut text = [b'.'; 4];
-    /// SliceOutput::new(&mut text).write_ends(b"ab", b"bc", 3);
-    /// assert_eq!(rt; text, *b"abc.");
-    /// ```
-    #[inline(always)]
-    fn write_ends(&mut self, first: &[u8], last: &[u8], count: usize)
-        requires first_ascii { IsAscii first.now }
-        requires last_ascii { IsAscii last.now }
-        requires same_size { length first.now ≡ length last.now }
-        requires least { length last.now ≤ count }
-        requires most { count ≤ 2 * length last.now }
-        requires bound { count ≤ 64 }
-        requires fits { HasRoom (room self.old) count }
-        ensures { step self.old (take (count - length last.now) first.now ++ last.now) self.new }
-    {
-        self.write(&join_ends(first, last, count)[..count])
-    }
-
     /// A write takes its length from the remaining space.
     ghost shrinks: { (s : Self) (piece : List ℕ) (t : Self) → step s piece t
         → room t ≡ less_room (room s) (length piece) };
-}
-
-/// An array that begins with the piece that has these ends.
-#[inline(always)]
-#[tactic(auto, using(std::proofs::lemmas::Slice::overwrites, std::proofs::lemmas::Grind::common_steps))]
-fn join_ends(first: &[u8], last: &[u8], count: usize) -> [u8; 64]
-    requires same_size { length first.now ≡ length last.now }
-    requires least { length last.now ≤ count }
-    requires most { count ≤ 2 * length last.now }
-    requires bound { count ≤ 64 }
-    ensures { take count result ≡ take (count - length last.now) first.now ++ last.now }
-{
-    let mut piece = [0; 64];
-    piece[..first.len()].copy_from_slice(first);
-    piece[count - last.len()..count].copy_from_slice(last);
-    piece
 }

@@ -1,9 +1,9 @@
 //! The program `const_hex_memory`: makes each call of the libraries, and judges what it returns.
 //!
 //! A call has to return what it returns with ample memory, or, if it may allocate, its error for that.
-//! The program prints each call that does not, and at last how many were out of memory. `memory/run`,
-//! at the top of the repository, runs it with requests for memory refused. The program itself
-//! allocates only its [`inputs`], before any call. The calls that do not allocate come first.
+//! The program prints each call that does not, and at last how many were out of memory. `run`, in this
+//! crate's folder, runs it with requests for memory refused. The program itself allocates only its
+//! [`inputs`], before any call. The calls that do not allocate come first.
 #![tactic(auto)]
 
 mod allocating;

@@ -87,7 +87,7 @@ fn decode_odd(rt: &impl Print, alloc: Global) {
     returns!(rt;
         decode(alloc, ODD).err() => error, <Box<Rc<Vec<u8>>>>::from_hex(alloc, ODD).err() => error,
         <Vec<u8>>::from_hex(alloc, ODD).err() => error, <Vec<i8>>::from_hex(alloc, ODD).err() => error,
-        <BoxedSlice<u8>>::from_hex(alloc, ODD).err() => error,
+        <BoxedSlice<u8>>::from_hex(alloc, ODD).err() => error, <Rc<[u8; 1]>>::from_hex(alloc, b"0x0").err() => error,
         <BoxedSlice<i8>>::from_hex(alloc, ODD).err() => error,
     );
 }
@@ -120,7 +120,7 @@ fn by_kernel<K: Kernel>(rt: &impl Print, alloc: Global, _kernel: KernelCase) {
     K::encode(&BYTES, false, &mut SliceOutput::new(&mut text));
     returns!(rt;
         text => DIGITS, K::check(&wrong) => false, K::decode_checked(&wrong, &mut bytes) => false,
-        K::decode_checked(&DIGITS, &mut bytes) => true, K::decode_part(&DIGITS, 0, &mut bytes) => true,
+        K::decode_checked(&DIGITS, &mut bytes) => true, bytes => BYTES,
         decode_with::<K>(alloc, ODD).err() => Some(OddLength), check_with::<K>(&wrong) => Err(G_AT_100),
         decode_to_slice_with::<K>(&DIGITS, &mut bytes) => Ok(()),
         decode_to_slice_with::<K>(&wrong, &mut bytes) => Err(G_AT_100),
@@ -132,11 +132,15 @@ fn by_kernel<K: Kernel>(rt: &impl Print, alloc: Global, _kernel: KernelCase) {
         Decoder::new().decode_with::<K>(&wrong, &mut bytes) => Err(G_AT_100),
     );
     K::fill(&BYTES, true, &mut text);
+    bytes = [0; 57];
     if K::check(&text) {
         K::decode_unchecked(&text, &mut bytes);
     }
     let (hex, mut sink) = (BufferedHex::<false, true>::new(&DATA), Counting::new(0));
-    returns!(rt; bytes => BYTES, hex.write_with::<K, Counting>(&mut sink) => Ok(()),);
+    returns!(rt;
+        bytes => BYTES, hex.write_with::<K, Counting>(&mut sink) => Ok(()),
+        (sink.calls, sink.bytes) => (3, 8196),
+    );
 }
 
 /// The calls of a module of lanes.
@@ -168,14 +172,14 @@ fn write_all(rt: &impl Print, alloc: Global) {
     let mut output = BufferedOutput::<SliceOutput<'_>, 4>::new(SliceOutput::new(&mut text));
     output.write(b"abc");
     output.write_byte(b'd');
-    output.write_ends(b"efg", b"fgh", 4);
+    output.write(b"efgh");
     returns!(rt; output.remaining() => Some(4), output.finish().remaining() => Some(4),);
     let mut sink = Counting::new(2);
     let mut output = SinkOutput::new(&mut sink);
     output.write(b"one");
     output.write_byte(b'2');
     output.write(b"three");
-    returns!(rt; output.remaining() => None, output.finish() => Err(SinkError),);
+    returns!(rt; output.remaining() => None, output.finish() => Err(SinkError), sink.calls => 2,);
     let mut sink = PieceSink::new(alloc, 1);
     returns!(rt; sink.write_str("piece") => Err(SinkError), sink.calls() => 1,);
     write_sinks(rt);

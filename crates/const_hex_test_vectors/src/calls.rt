@@ -2,9 +2,9 @@
 
 use crate::kernels::column;
 use crate::line::{Cell, Line};
-use const_hex::{BufferedHex, Kernel, PieceSink, SinkError, SinkOutput, serialize_inner};
+use const_hex::{BufferedHex, Kernel, SinkError, SinkOutput, serialize_inner};
 use const_hex_vectors::texts::{make_bytes, print};
-use const_hex_vectors::{KernelCase, by_each_kernel};
+use const_hex_vectors::{KernelCase, Noting, by_each_kernel};
 use std::alloc::{AllocError, Global};
 use std::fmt::Write;
 
@@ -38,7 +38,7 @@ fn each_call<K: Kernel, const UPPER: bool, const PREFIX: bool>(
 ) {
     let sizes = column(line, kernel.column);
     for refuse_at in 0..sizes.split(' ').count().saturating_add(2) {
-        let mut sink = PieceSink::new(line.alloc, refuse_at);
+        let mut sink = Noting::new(line.alloc, refuse_at);
         let done = BufferedHex::<UPPER, PREFIX>::new(bytes).write_with::<K, _>(&mut sink);
         let want = cut(line.alloc, text, sizes, refuse_at);
         line.agrees(kernel.name, noted(line.alloc, done, &sink), want);
@@ -54,11 +54,11 @@ fn by_fixed<const UPPER: bool, const PREFIX: bool>(
     refuse_at: usize,
 ) {
     let (alloc, sizes) = (line.alloc, column(line, 2));
-    let mut sink = PieceSink::new(alloc, refuse_at);
+    let mut sink = Noting::new(alloc, refuse_at);
     let done = BufferedHex::<UPPER, PREFIX>::new(bytes).write_to(&mut sink);
     let want = cut(alloc, text, sizes, refuse_at);
     line.agrees("write_to", noted(alloc, done, &sink), want);
-    let mut sink = PieceSink::new(alloc, refuse_at);
+    let mut sink = Noting::new(alloc, refuse_at);
     let done = serialize_inner::<UPPER, PREFIX, _>(bytes, &mut sink);
     let sizes = if sizes == "none" { "0" } else { sizes };
     let want = cut(alloc, text, sizes, refuse_at);
@@ -73,29 +73,26 @@ pub(crate) fn pieces(line: &mut Line<'_>) -> Result<(), AllocError> {
 }
 
 fn pieces_by<K: Kernel>(line: &mut Line<'_>, text: &str, kernel: KernelCase) {
-    let mut sink = PieceSink::new(line.alloc, 0);
+    let mut sink = Noting::new(line.alloc, 0);
     K::encode(line.input, false, &mut SinkOutput::new(&mut sink));
     let want = cut(line.alloc, text, column(line, kernel.column), 0);
     line.agrees(kernel.name, noted(line.alloc, Ok(()), &sink), want);
 }
 
-/// The pieces that a sink accepted, with a `|` after each, and a `!` if it then failed.
-fn noted(alloc: Global, done: Result<(), SinkError>, sink: &PieceSink) -> Cell {
+/// The pieces that a sink was given, with a `|` after each, and a `!` if it refused one.
+fn noted(alloc: Global, done: Result<(), SinkError>, sink: &Noting) -> Cell {
     let mut text = String::new(alloc);
-    for piece in sink.pieces() {
+    for piece in &sink.pieces {
         write!(text, "{piece}|")?;
     }
     if done.is_err() {
         text.push('!')?;
     }
-    let accepted = sink.calls().saturating_sub(done.is_err() as usize);
-    if sink.no_memory() | (accepted != sink.pieces().len()) {
-        text.push('?')?;
-    }
     Ok(text)
 }
 
-/// The same of pieces of a text of these sizes, or of `none`. That with the number `refuse_at` fails.
+/// The same of pieces of a text of these sizes, or of `none`. That with the number `refuse_at` is refused, and
+/// is the last.
 fn cut(alloc: Global, text: &str, sizes: &str, refuse_at: usize) -> Cell {
     let (mut pieces, mut start, mut call) = (String::new(alloc), 0usize, 0usize);
     for size in sizes.split(' ') {
@@ -103,14 +100,14 @@ fn cut(alloc: Global, text: &str, sizes: &str, refuse_at: usize) -> Cell {
         let Ok(size) = size.parse::<usize>() else {
             break;
         };
-        if call == refuse_at {
-            pieces.push('!')?;
-            break;
-        }
         let end = start.saturating_add(size);
         pieces.push_str(text.get(start..end).unwrap_or("?"))?;
         pieces.push('|')?;
         start = end;
+        if call == refuse_at {
+            pieces.push('!')?;
+            break;
+        }
     }
     Ok(pieces)
 }

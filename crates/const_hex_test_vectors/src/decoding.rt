@@ -1,26 +1,14 @@
-//! The lines of texts that are read.
+//! The lines of texts that are read. The contracts show that the other decoders read the same.
 
 use crate::kernels::{digits as digits_by, read as read_by, read_into as read_into_by};
 use crate::line::{Line, unsigned};
-use const_hex::serde::no_prefix;
 use const_hex::{
-    Decoder, FromHex, FromHexError, Kernel, check, check_raw, const_check, const_check_raw,
-    const_decode_to_array, decode, decode_to_array, decode_to_front, decode_to_slice, deserialize,
+    Decoder, FromHex, FromHexError, Kernel, check, check_raw, decode, decode_to_array,
+    decode_to_front, decode_to_slice, deserialize,
 };
 use const_hex_vectors::{KernelCase, by_each_kernel};
-use hash_hex::FixedBytes;
 use serde_json::Value;
 use std::alloc::{AllocError, Global};
-use std::boxed::BoxedSlice;
-use std::convert::AsSlice;
-use std::rc::Rc;
-
-/// Asks a line by that method whether these calls give its result.
-macro_rules! each {
-    ($line:ident.$method:ident: $($call:expr),+ $(,)?) => {
-        $($line.$method(stringify!($call), $call);)+
-    };
-}
 
 /// Calls a function for arrays of that size, if it is one of these. The array shows that its size fits.
 macro_rules! at_size {
@@ -46,9 +34,10 @@ macro_rules! at_size {
 }
 
 pub(crate) fn read(line: &mut Line<'_>) -> Result<(), AllocError> {
-    let text = line.input;
-    each!(line.fails: check(text).err(), const_check(text).err());
-    ask_owned(line);
+    let (alloc, text) = (line.alloc, line.input);
+    line.fails("check", check(text).err());
+    line.reads("decode", decode(alloc, text));
+    line.reads("Vec<i8>", unsigned(alloc, <Vec<i8>>::from_hex(alloc, text)));
     ask_json_string(line)?;
     ask_front(line)?;
     let size = text.len().saturating_sub(prefix_length(text)) / 2;
@@ -66,37 +55,13 @@ pub(crate) fn prefix_length(text: &[u8]) -> usize {
     if has_prefix { 2 } else { 0 }
 }
 
-fn ask_owned(line: &mut Line<'_>) {
-    let (alloc, text) = (line.alloc, line.input);
-    each!(line.reads:
-        decode(alloc, text),
-        <Vec<u8>>::from_hex(alloc, text),
-        <BoxedSlice<u8>>::from_hex(alloc, text),
-        unsigned(alloc, <Vec<i8>>::from_hex(alloc, text)),
-        unsigned(alloc, <BoxedSlice<i8>>::from_hex(alloc, text)),
-    );
-    match <Box<Rc<Vec<u8>>>>::from_hex(alloc, text) {
-        Ok(bytes) => line.reads("from_hex", Ok(bytes.as_slice())),
-        Err(error) => line.fails("from_hex", Some(error)),
-    }
-}
-
 /// Asks what reads JSON strings, if the text is UTF-8.
 fn ask_json_string(line: &mut Line<'_>) -> Result<(), AllocError> {
     if let Ok(text) = str::from_utf8(line.input) {
         let value = Value::String(text.to_string(line.alloc)?);
-        ask_json(line, &value);
+        line.reads_json("deserialize", deserialize::<Vec<u8>>(line.alloc, &value));
     }
     Ok(())
-}
-
-fn ask_json(line: &mut Line<'_>, value: &Value) {
-    let alloc = line.alloc;
-    each!(line.reads_json:
-        deserialize::<Vec<u8>>(alloc, value),
-        deserialize::<BoxedSlice<u8>>(alloc, value),
-        no_prefix::deserialize::<Vec<u8>>(alloc, value),
-    );
 }
 
 /// Asks for the front of an output that has more space.
@@ -119,20 +84,9 @@ pub(crate) fn read_into(line: &mut Line<'_>, size: usize) -> Result<(), AllocErr
     Ok(())
 }
 
-/// Asks what reads arrays.
+/// Asks what reads an array.
 fn ask_arrays<const N: usize>(line: &mut Line<'_>, _array: [u8; N]) {
-    let (alloc, text) = (line.alloc, line.input);
-    each!(line.reads:
-        decode_to_array::<N>(text),
-        const_decode_to_array::<N>(text),
-        <[u8; N]>::from_hex(alloc, text),
-        unsigned(alloc, <[i8; N]>::from_hex(alloc, text)),
-        array_of(<FixedBytes<N>>::from_hex(alloc, text)),
-    );
-}
-
-fn array_of<const N: usize, E>(hash: Result<FixedBytes<N>, E>) -> Result<[u8; N], E> {
-    Ok(*hash?.as_bytes())
+    line.reads("decode_to_array", decode_to_array::<N>(line.input));
 }
 
 /// The sizes into which a text is cut.
@@ -165,31 +119,26 @@ fn in_pieces<K: Kernel>(alloc: Global, text: &[u8], size: usize) -> Result<Vec<u
 }
 
 pub(crate) fn read_digits(line: &mut Line<'_>) {
-    let text = line.input;
-    each!(line.decides: check_raw(text), const_check_raw(text));
+    line.decides("check_raw", check_raw(line.input));
     by_each_kernel!(digits_by(line));
 }
 
 /// Asks for the message of a text's error, or of that for an output of so many bytes.
 pub(crate) fn read_message(line: &mut Line<'_>, size: usize) -> Result<(), AllocError> {
     let (alloc, text) = (line.alloc, line.input);
-    if size > 0 {
+    let error = if size > 0 {
         let mut output = vec![in alloc; 0xEEu8; size]?;
-        each!(line.says: decode_to_slice(text, &mut output).err());
-        return Ok(());
-    }
-    each!(line.says:
-        decode(alloc, text).err(),
-        check(text).err(),
-        const_check(text).err(),
-        <Vec<i8>>::from_hex(alloc, text).err(),
-    );
+        decode_to_slice(text, &mut output).err()
+    } else {
+        check(text).err()
+    };
+    line.says("message", error);
     Ok(())
 }
 
 pub(crate) fn read_json(line: &mut Line<'_>) {
     match json_value(line) {
-        Some(value) => ask_json(line, &value),
+        Some(value) => line.reads_json("deserialize", deserialize::<Vec<u8>>(line.alloc, &value)),
         None => line.is("serde_json", "no JSON", line.result),
     }
 }
@@ -199,19 +148,14 @@ fn json_value(line: &Line<'_>) -> Option<Value> {
 }
 
 pub(crate) fn read_json_into(line: &mut Line<'_>, size: usize) {
-    at_size!(size; ask_json_arrays(line));
+    at_size!(size; ask_json_array(line));
 }
 
-fn ask_json_arrays<const N: usize>(line: &mut Line<'_>, _array: [u8; N]) {
-    let Some(value) = json_value(line) else {
-        return line.is("serde_json", "no JSON", line.result);
-    };
-    let alloc = line.alloc;
-    each!(line.reads_json:
-        deserialize::<[u8; N]>(alloc, &value),
-        no_prefix::deserialize::<[u8; N]>(alloc, &value),
-        array_of(<FixedBytes<N>>::from_value(alloc, &value)),
-    );
+fn ask_json_array<const N: usize>(line: &mut Line<'_>, _array: [u8; N]) {
+    match json_value(line) {
+        Some(value) => line.reads_json("deserialize", deserialize::<[u8; N]>(line.alloc, &value)),
+        None => line.is("serde_json", "no JSON", line.result),
+    }
 }
 
 pub(crate) fn read_json_message(line: &mut Line<'_>) {

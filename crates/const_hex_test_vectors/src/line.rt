@@ -119,14 +119,6 @@ impl Line<'_> {
         };
         self.gives(call, given, want);
     }
-
-    /// Whether a text that is lent, or an error, is wanted.
-    pub(crate) fn lends(&mut self, call: &str, lent: Result<&str, FromHexError>, want: &str) {
-        match lent {
-            Ok(text) => self.is(call, text, want),
-            Err(error) => self.gives(call, name(self.alloc, error), want),
-        }
-    }
 }
 
 /// The text of a column. An empty one is `""`.

@@ -28,11 +28,13 @@ impl Kernel for BySize {
 
     const USE_CHECK_FN: bool = false;
 
-    fn encode<O: Output>(input: &[u8], upper: bool, output: &mut O) {
+    const PIECE: usize = 64;
+
+    fn fill(input: &[u8], upper: bool, output: &mut [u8]) {
         if input.len() < 16 {
-            Plain::encode(input, upper, output);
+            Plain::fill(input, upper, output);
         } else {
-            Lanes32::encode(input, upper, output);
+            Lanes32::fill(input, upper, output);
         }
     }
 

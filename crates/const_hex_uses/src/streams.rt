@@ -3,6 +3,7 @@
 ghost use Rattle.std.specs.Prelude.{ℕ, ◌≡◌, ◌≢◌, ◌/◌, ◌<◌, ◌↔◌, length, take, IfOk, IfErr, Ok, Err};
 ghost use Rattle.const_hex.specs.Results.{IsOdd, Reads, NamesFirstBad, body_of};
 ghost use Rattle.const_hex.specs.Texts.{AllDigits};
+ghost use Rattle.const_hex.specs.declared.error.FromHexError.{FromHexError};
 ghost use Rattle.const_hex.specs.declared.error.FromHexError.TheVariants.{InvalidStringLength, InvalidHexCharacter, OddLength};
 
 use const_hex::{Decoder, FromHexError};
@@ -34,4 +35,68 @@ pub fn decode_typed(text: &[u8], output: &mut [u8]) -> Result<usize, FromHexErro
         },
         Err(error) => Err(error),
     }
+}
+
+/// Checks a text in two chunks. An error that the first has stays that of the text.
+///
+/// ```rust
+/// let error = Err(FromHexError::InvalidHexCharacter { c: 'z', index: 1 });
+/// assert_eq!(rt; check_chunks(b"6z", b"69"), (error, error, error));
+/// ```
+pub fn check_chunks(
+    first: &[u8],
+    second: &[u8],
+) -> (
+    Result<(), FromHexError>,
+    Result<(), FromHexError>,
+    Result<(), FromHexError>,
+)
+    ensures { (e : FromHexError) → result.0 ≡ Err e → (result.1 ≡ Err e) × (result.2 ≡ Err e) }
+{
+    let mut decoder = Decoder::new();
+    let (begun, ended) = (decoder.check(first), decoder.check(second));
+    (begun, ended, decoder.finish())
+}
+
+/// Decodes a text in two chunks. After an error for a character in the first, nothing more is written.
+///
+/// ```rust
+/// let mut rest = [0; 1];
+/// let error = Err(FromHexError::InvalidHexCharacter { c: 'z', index: 1 });
+/// assert_eq!(rt; decode_chunks(b"6z", b"69", &mut [0], &mut rest), (error, error));
+/// assert_eq!(rt; rest, [0]);
+/// ```
+pub fn decode_chunks(
+    first: &[u8],
+    second: &[u8],
+    front: &mut [u8],
+    rest: &mut [u8],
+) -> (Result<usize, FromHexError>, Result<usize, FromHexError>)
+    ensures { (e : FromHexError) → result.0 ≡ Err e → e ≢ InvalidStringLength
+        → (result.1 ≡ Err e) × (rest.new ≡ rest.old) }
+{
+    let mut decoder = Decoder::new();
+    let begun = decoder.decode(first, front);
+    (begun, decoder.decode(second, rest))
+}
+
+/// Decodes a text into the first of two outputs that has space for it. The other is not written.
+///
+/// ```rust
+/// let (mut small, mut large) = ([7; 1], [7; 2]);
+/// let space = Err(FromHexError::InvalidStringLength);
+/// assert_eq!(rt; decode_where_it_fits(b"6b69", &mut small, &mut large), (space, Ok(2)));
+/// assert_eq!(rt; (small, large), ([7], *b"ki"));
+/// ```
+pub fn decode_where_it_fits(
+    text: &[u8],
+    small: &mut [u8],
+    large: &mut [u8],
+) -> (Result<usize, FromHexError>, Result<usize, FromHexError>)
+    ensures { result.0 ≡ Err InvalidStringLength → (small.new ≡ small.old)
+        × IfOk result.1 (λ n. AllDigits (body_of text.now) × (n ≡ length (body_of text.now) / 2)) }
+{
+    let mut decoder = Decoder::new();
+    let first = decoder.decode(text, small);
+    (first, decoder.decode(text, large))
 }

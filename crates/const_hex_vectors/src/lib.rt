@@ -1,6 +1,6 @@
 //! What all crates of tests share: a row that prints the call, the expected and the actual result; what the
-//! standard library prints for bytes; readers, writers and sinks that count their calls and fail at one of
-//! them; the kernels.
+//! standard library prints for bytes; readers, writers and sinks that count or note their calls and fail at
+//! one of them; the kernels.
 #![tactic(auto)]
 
 pub mod chunks;
@@ -8,6 +8,7 @@ mod counting;
 mod devices;
 mod formatted;
 mod kernels;
+mod noting;
 mod rows;
 pub mod texts;
 
@@ -15,4 +16,5 @@ pub use crate::counting::Counting;
 pub use crate::devices::{Endless, Fault, Source, Target};
 pub use crate::formatted::InHex;
 pub use crate::kernels::{KernelCase, all_done};
+pub use crate::noting::Noting;
 pub use crate::rows::{Part, Testing, Text, differing_parts, read_parts};

@@ -8,6 +8,7 @@
 //! checksum is not checked. A quantity such as `0x1` has an odd length, and is an error.
 #![tactic(auto)]
 
+mod callers;
 mod fixed;
 mod sizes;
 

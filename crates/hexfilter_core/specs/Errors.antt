@@ -17,8 +17,14 @@ IsNotInterrupted (Text e place) = Unit {0}
 IsNotInterrupted (Read e) = error_kind e ≢ Interrupted
 IsNotInterrupted (Write e) = error_kind e ≢ Interrupted
 
--- a read, a write or a flush failed, and no signal interrupted it
-abbrev pub IsFailedCall : RunError → Type 0
-IsFailedCall (Text e place) = ⊥
-IsFailedCall (Read e) = error_kind e ≢ Interrupted
-IsFailedCall (Write e) = error_kind e ≢ Interrupted
+-- a read failed, and no signal interrupted it
+abbrev pub IsFailedRead : RunError → Type 0
+IsFailedRead (Text e place) = ⊥
+IsFailedRead (Read e) = error_kind e ≢ Interrupted
+IsFailedRead (Write e) = ⊥
+
+-- a write or a flush failed, and no signal interrupted it
+abbrev pub IsFailedWrite : RunError → Type 0
+IsFailedWrite (Text e place) = ⊥
+IsFailedWrite (Read e) = ⊥
+IsFailedWrite (Write e) = error_kind e ≢ Interrupted

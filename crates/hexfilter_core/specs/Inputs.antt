@@ -1,5 +1,5 @@
 -- An input that is read as a text.
-use Rattle.std.specs.Prelude.{◌≡◌, ℕ, ◌+◌, ◌*◌, ◌/◌, ◌==◌, nat_le, nat_lt, min, ◌&&◌, ◌||◌, Bool, if◌then◌else◌, List, [], ◌∷◌, ◌++◌, length, take, Option}
+use Rattle.std.specs.Prelude.{◌≡◌, ℕ, ◌+◌, ◌*◌, ◌/◌, ◌==◌, nat_le, nat_lt, ◌<◌, min, ◌&&◌, ◌||◌, Bool, if◌then◌else◌, List, [], ◌∷◌, ◌++◌, length, take, Option, None}
 use Rattle.std.specs.Io.KnownBytes.{Consumes, IsAtEnd}
 use Rattle.const_hex.specs.Results.{IsOdd, body_of}
 use Rattle.const_hex.specs.Decoding.{counted}
@@ -14,6 +14,10 @@ use Rattle.hexfilter_core.specs.declared.place.Place.{Place}
 -- x is all that the reader had
 abbrev pub ReadsAll : Option (List ℕ) → Option (List ℕ) → List ℕ → Type 0
 ReadsAll had left x = Consumes had left x × IsAtEnd left
+
+-- how many bytes are read at a time, at most
+abbrev pub chunk_size : ℕ
+chunk_size = 16384
 
 -- space, tab, line feed, vertical tab, form feed or carriage return
 abbrev pub is_whitespace : ℕ → Bool
@@ -63,12 +67,13 @@ abbrev pub SpellsBeginning : Reading → List ℕ → List ℕ → Type 0
 SpellsBeginning r x y = Spells (take (2 * length y) (body_of (text_of r x))) y
 
 -- c is the first invalid character of x, whatever follows: up to it the text has digits alone, which decode to y,
--- and with it no more. i and the place say where it stands in x: i is its position, or the greatest `usize` for
--- a position beyond it
+-- and with it no more; after it, less than a chunk was read. i and the place say where it stands in x: i is its
+-- position, or the greatest `usize` for a position beyond it
 pub record FirstInvalid (r : Reading) (x y : List ℕ) (c i : ℕ) (place : Option Place) : Type 0 where
   pub front : List ℕ
   pub rest : List ℕ
   pub cut : x ≡ front ++ c ∷ rest
+  pub soon : length rest < chunk_size
   pub bytes : SpellsPairs (text_of r front) y
   pub invalid : AllDigits (body_of (text_of r (front ++ c ∷ []))) → ⊥
   pub position : i ≡ counted (length front)
@@ -77,7 +82,7 @@ pub record FirstInvalid (r : Reading) (x y : List ℕ) (c i : ℕ) (place : Opti
 -- the error of an input of which x was read, before which the text decodes to y: an odd number of digits, at the
 -- end, or the first invalid character
 abbrev pub HasError : Reading → Option (List ℕ) → List ℕ → List ℕ → FromHexError → Option Place → Type 0
-HasError r left x y OddLength place = IsAtEnd left × IsOdd (length (text_of r x)) × SpellsPairs (text_of r x) y
+HasError r left x y OddLength place = (place ≡ None) × IsAtEnd left × IsOdd (length (text_of r x)) × SpellsPairs (text_of r x) y
 HasError r left x y InvalidStringLength place = ⊥
 HasError r left x y (InvalidHexCharacter c i) place = FirstInvalid r x y c i place
 HasError r left x y NoMemory place = ⊥

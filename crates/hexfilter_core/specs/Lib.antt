@@ -1,8 +1,9 @@
-pub mod Decoding
 pub mod Errors
 pub mod Groups
 pub mod Inputs
 pub mod Options
 pub mod Outcome
 pub mod Places
+pub mod Programs
+pub mod Stages
 pub mod Streams

@@ -8,7 +8,7 @@ use Rattle.std.specs.Str.Parse.{digits_value}
 use Rattle.hexfilter_core.specs.declared.mode.Groups.{Groups}
 use Rattle.hexfilter_core.specs.declared.mode.Mode.{Mode}
 use Rattle.hexfilter_core.specs.declared.mode.Reading.{Reading}
-use Rattle.hexfilter_core.specs.declared.mode.Mode.TheVariants.{Encode, Decode, Check}
+use Rattle.hexfilter_core.specs.declared.mode.Mode.TheVariants.{Encode, Decode}
 use Rattle.hexfilter_core.specs.declared.options.Fault.{Fault}
 use Rattle.hexfilter_core.specs.declared.options.Fault.TheVariants.{UnknownOption, MissingValue, InvalidNumber, InvalidSeparator, GroupsInLines, SecondFile}
 use Rattle.hexfilter_core.specs.declared.options.Options.{Options}
@@ -42,9 +42,12 @@ abbrev pub find : List ℕ → List (List (List ℕ) × Options) → Result Opti
 find key [] = Err UnknownOption
 find key (row ∷ rows) = if list_any (λ k. bytes_eq key k) row.0 then Ok row.1 else find key rows
 
--- a value: the number that decimal digits write, or an ASCII character that is no digit
+-- a value: the number that decimal digits write, or an ASCII character that is neither a digit nor a newline
 abbrev pub number : List ℕ → Result ℕ Fault
 number v = if nat_lt 0 (length v) && all_ascii_digits v && nat_lt (digits_value 10 v) (2 ^ 64) then Ok (digits_value 10 v) else Err InvalidNumber
+
+unfoldable pub is_separator : ℕ → Bool
+is_separator b = nat_lt b 128 && not (b == 10) && not (is_ascii_hexdigit b)
 
 abbrev pub and_then : {A : Type 0} → Result A Fault → (A → Result Options Fault) → Result Options Fault
 and_then (Ok a) f = f a
@@ -54,7 +57,7 @@ abbrev pub with_value : Option Value → Options → List ℕ → Result Options
 with_value None o v = Err UnknownOption
 with_value (Some Size) o v = and_then (number v) (λ n. Ok (record o { size = Some n; value = None }))
 with_value (Some Separator) o (b ∷ []) =
-    if nat_lt b 128 && not (is_ascii_hexdigit b) then Ok (record o { separator = Some b; value = None }) else Err InvalidSeparator
+    if is_separator b then Ok (record o { separator = Some b; value = None }) else Err InvalidSeparator
 with_value (Some Separator) o v = Err InvalidSeparator
 
 -- ---- the arguments
@@ -93,8 +96,8 @@ request o count =
     let groups : Groups =
     if o.grouped then record { size = min (unwrap_or o.size 1 * 2) (2 ^ 64 - 1); separator = unwrap_or o.separator 32 }
     else record { size = if o.check || o.decode then 0 else unwrap_or o.size 0; separator = 10 } in
-    let r : Reading = record { ignore_whitespace = o.ignore_whitespace; groups = groups } in
-    let m : Mode = if o.check then Check r else if o.decode then Decode r else Encode o.prefix o.upper groups in
+    let r : Reading = record { is_check = o.check; ignore_whitespace = o.ignore_whitespace; groups = groups } in
+    let m : Mode = if o.check || o.decode then Decode r else Encode o.prefix o.upper groups in
     if is_some o.value then Err (record { fault = MissingValue; index = count - 1 })
     else if o.help then Ok Help else if o.version then Ok Version else Ok (Run m o.file)
 
@@ -137,19 +140,17 @@ flag wanted name = if wanted then name ∷ [] else []
 -- those of a mode, and then the words of its groups
 abbrev pub written : Mode → List (List ℕ) → List (List ℕ)
 written (Encode prefix upper groups) words = flag prefix (codes "--prefix") ++ (flag upper (codes "--upper") ++ words)
-written (Decode r) words = codes "--decode" ∷ flag r.ignore_whitespace (codes "--ignore-whitespace") ++ words
-written (Check r) words = codes "--check" ∷ flag r.ignore_whitespace (codes "--ignore-whitespace") ++ words
+written (Decode r) words = (if r.is_check then codes "--check" else codes "--decode") ∷ flag r.ignore_whitespace (codes "--ignore-whitespace") ++ words
 
 abbrev pub WritesGroups : Groups → List (List ℕ) → Type 0
 WritesGroups g words =
     (v : List ℕ) × (n : ℕ) × (number v ≡ Ok n) × (g.size ≡ min (n * 2) (2 ^ 64 - 1))
-    × ((nat_lt g.separator 128 && not (is_ascii_hexdigit g.separator)) ≡ true)
+    × (is_separator g.separator ≡ true)
     × (words ≡ codes "--group" ∷ v ∷ codes "--separator" ∷ (g.separator ∷ []) ∷ [])
 
 -- the words write the groups of a mode: lines, if they are written, by their columns, other groups by their bytes and
--- the separator, an ASCII character that is no digit
+-- the separator
 abbrev pub Writes : Mode → List (List ℕ) → Type 0
 Writes (Encode prefix upper g) words =
     ((v : List ℕ) × (number v ≡ Ok g.size) × (g.separator ≡ 10) × (words ≡ codes "--wrap" ∷ v ∷ [])) ⊎ WritesGroups g words
 Writes (Decode r) words = WritesGroups r.groups words
-Writes (Check r) words = WritesGroups r.groups words

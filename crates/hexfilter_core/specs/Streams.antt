@@ -1,14 +1,10 @@
 -- What a run does to a reader and a writer. What the reader has left goes from `had` to `left`, and what the writer
 -- holds from `old` to `new`.
-use Rattle.std.specs.Prelude.{◌≢◌, ℕ, List, Option}
+use Rattle.std.specs.Prelude.{ℕ, List, Option}
 use Rattle.std.specs.Io.KnownBytes.{Appends, Consumes}
-use Rattle.std.specs.IoError.{error_kind}
-use Rattle.std.specs.declared.io.ErrorKind.TheVariants.{Interrupted}
 use Rattle.const_hex.specs.declared.error.FromHexError.{FromHexError}
 use Rattle.hexfilter_core.specs.Inputs.{ReadsAll}
 use Rattle.hexfilter_core.specs.Outcome.{FailsWith, Makes, MakesBeginning}
-use Rattle.hexfilter_core.specs.declared.error.RunError.{RunError}
-use Rattle.hexfilter_core.specs.declared.error.RunError.TheVariants.{Text, Read, Write}
 use Rattle.hexfilter_core.specs.declared.mode.Mode.{Mode}
 use Rattle.hexfilter_core.specs.declared.place.Place.{Place}
 
@@ -25,9 +21,3 @@ RunsToError m had left old new e place =
 abbrev pub RunsPartly : Mode → Option (List ℕ) → Option (List ℕ) → Option (List ℕ) → Option (List ℕ) → Type 0
 RunsPartly m had left old new =
     (x : List ℕ) × (y : List ℕ) × Consumes had left x × MakesBeginning m x y × Appends old new y
-
--- the run stops with an error: with that of the text, or with one of a call that no signal interrupted
-abbrev pub StopsWith : Mode → Option (List ℕ) → Option (List ℕ) → Option (List ℕ) → Option (List ℕ) → RunError → Type 0
-StopsWith m had left old new (Text e place) = RunsToError m had left old new e place
-StopsWith m had left old new (Read e) = error_kind e ≢ Interrupted
-StopsWith m had left old new (Write e) = error_kind e ≢ Interrupted

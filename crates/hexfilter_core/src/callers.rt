@@ -1,35 +1,215 @@
-//! What a program that runs this library can rely on. Nothing exports these functions.
+//! What a program that runs this library can rely on, in words of std and of `const_hex`. Nothing exports these
+//! functions.
 
-ghost use Rattle.std.specs.Prelude.{◌≡◌, ◌*◌, ◌/◌, ◌++◌, ◌∷◌, [], List, ℕ, Ok, Err, Option, OnOk, length, take};
+ghost use Rattle.std.specs.Prelude.{◌≡◌, ◌≢◌, ◌⊎◌, ◌*◌, ◌+◌, ◌-◌, ◌/◌, ◌^◌, ◌<◌, ◌==◌, ◌++◌, ◌∷◌, [], All, count_by, List, ℕ, None, Ok, Err, Option, Some, OnErr, OnOk, false, length, map, min, string_bytes, codes, take};
+ghost use Rattle.std.specs.Io.KnownBytes.{Appends, Consumes, IsAtEnd, Keeps};
+ghost use Rattle.std.specs.IoError.{error_kind};
+ghost use Rattle.std.specs.Process.{exit_status};
+ghost use Rattle.std.specs.declared.io.Error.{Error};
+ghost use Rattle.std.specs.declared.io.ErrorKind.TheVariants.{Interrupted};
 ghost use Rattle.const_hex.specs.Decoding.{counted};
 ghost use Rattle.const_hex.specs.Results.{IsOdd, Reads, body_of};
-ghost use Rattle.const_hex.specs.Texts.{AllDigits, Spells};
-ghost use Rattle.const_hex.specs.declared.error.FromHexError.TheVariants.{InvalidHexCharacter, OddLength};
-ghost use Rattle.hexfilter_core.specs.declared.error.RunError.TheVariants.{Text};
+ghost use Rattle.const_hex.specs.Texts.{AllDigits, Spells, full_text};
+ghost use Rattle.const_hex.specs.declared.error.FromHexError.{FromHexError};
+ghost use Rattle.const_hex.specs.declared.error.FromHexError.TheVariants.{InvalidHexCharacter, InvalidStringLength, NoMemory, OddLength};
+ghost use Rattle.hexfilter_core.specs.Groups.{mirror};
+ghost use Rattle.hexfilter_core.specs.Options.{number};
+ghost use Rattle.hexfilter_core.specs.declared.mode.Mode.TheVariants.{Decode};
+ghost use Rattle.hexfilter_core.specs.declared.options.Request.TheVariants.{Run};
+ghost use Rattle.hexfilter_core.specs.declared.error.RunError.TheVariants.{Read, Text, Write};
 ghost use Rattle.hexfilter_core.specs.declared.place.Place.{Place};
 
 use crate::error::RunError;
 use crate::mode::{Groups, Mode, Reading};
+use crate::options::{Request, UsageError, request_of};
+use crate::process::{Output, program};
 use crate::runs::run;
+use std::io::{Eprint, Read, Write};
+use std::process::ExitCode;
+use std::rt::Files;
 
-const DECODE: Mode = Mode::Decode(Reading {
-    ignore_whitespace: false,
-    groups: Groups {
-        size: 0,
-        separator: b' ',
-    },
-});
+const PLAIN: Groups = Groups {
+    size: 0,
+    separator: b' ',
+};
 
-/// Appends the bytes that a text decodes to.
-fn append_decoded(text: &[u8], output: &mut Vec<u8>) -> Result<(), RunError>
-    ensures ok { OnOk result ((y : List ℕ) × Reads text.now (Ok y) × (output.new.items ≡ output.old.items ++ y)) }
-    ensures odd { (place : Option Place) → result ≡ Err (Text OddLength place) → IsOdd (length text.now) }
-    // Up to the invalid character there are digits alone, and all whole pairs of them were decoded.
+/// Writes the bytes that a text decodes to.
+fn decode<R: Read, W: Write>(input: &mut R, output: &mut W) -> Result<(), RunError>
+    ensures ok { OnOk result ((x : List ℕ) × (y : List ℕ) × Consumes (R.remaining input.old) (R.remaining input.new) x
+        × IsAtEnd (R.remaining input.new) × Reads x (Ok y) × Appends (W.contents output.old) (W.contents output.new) y) }
+    ensures odd { (place : Option Place) → result ≡ Err (Text OddLength place) → (place ≡ None)
+        × ((x : List ℕ) × (y : List ℕ) × Consumes (R.remaining input.old) (R.remaining input.new) x
+        × IsAtEnd (R.remaining input.new) × IsOdd (length x) × AllDigits (body_of x)
+        × Spells (take (2 * (length (body_of x) / 2)) (body_of x)) y
+        × Appends (W.contents output.old) (W.contents output.new) y) }
+    // Up to the invalid character there are digits alone, and all whole pairs of them were decoded. After it, less than
+    // 16 KiB were read.
     ensures invalid { (c i : ℕ) (place : Option Place) → result ≡ Err (Text (InvalidHexCharacter c i) place)
-        → (x : List ℕ) × (rest : List ℕ) × (y : List ℕ) × (text.now ≡ x ++ c ∷ rest) × (i ≡ counted (length x))
-        × AllDigits (body_of x) × (AllDigits (body_of (x ++ c ∷ [])) → ⊥)
-        × Spells (take (2 * (length (body_of x) / 2)) (body_of x)) y × (output.new.items ≡ output.old.items ++ y) }
+        → (place ≡ None) × ((x : List ℕ) × (rest : List ℕ) × (y : List ℕ)
+        × Consumes (R.remaining input.old) (R.remaining input.new) (x ++ c ∷ rest) × (length rest < 16384)
+        × (i ≡ counted (length x)) × AllDigits (body_of x) × (AllDigits (body_of (x ++ c ∷ [])) → ⊥)
+        × Spells (take (2 * (length (body_of x) / 2)) (body_of x)) y
+        × Appends (W.contents output.old) (W.contents output.new) y) }
+    ensures others { (e : FromHexError) (place : Option Place) → result ≡ Err (Text e place)
+        → (e ≢ InvalidStringLength) × (e ≢ NoMemory) }
+    ensures begun { OnErr result ((x : List ℕ) × (y : List ℕ) × Consumes (R.remaining input.old) (R.remaining input.new) x
+        × Spells (take (2 * length y) (body_of x)) y × Appends (W.contents output.old) (W.contents output.new) y) }
+    ensures retried { (e : Error) → (result ≡ Err (Read e)) ⊎ (result ≡ Err (Write e)) → error_kind e ≢ Interrupted }
 {
-    let mut input = text;
-    run(DECODE, &mut input, output)
+    let reading = Reading {
+        is_check: false,
+        ignore_whitespace: false,
+        groups: PLAIN,
+    };
+    run(Mode::Decode(reading), input, output)
+}
+
+/// Only checks a text.
+fn check<R: Read, W: Write>(input: &mut R, output: &mut W) -> Result<(), RunError>
+    ensures ok { OnOk result ((x : List ℕ) × (y : List ℕ) × Consumes (R.remaining input.old) (R.remaining input.new) x
+        × IsAtEnd (R.remaining input.new) × Reads x (Ok y)) }
+    ensures odd { (place : Option Place) → result ≡ Err (Text OddLength place) → (place ≡ None)
+        × ((x : List ℕ) × Consumes (R.remaining input.old) (R.remaining input.new) x
+        × IsAtEnd (R.remaining input.new) × IsOdd (length x)) }
+    ensures invalid { (c i : ℕ) (place : Option Place) → result ≡ Err (Text (InvalidHexCharacter c i) place)
+        → (place ≡ None) × ((x : List ℕ) × (rest : List ℕ)
+        × Consumes (R.remaining input.old) (R.remaining input.new) (x ++ c ∷ rest)
+        × (i ≡ counted (length x)) × AllDigits (body_of x) × (AllDigits (body_of (x ++ c ∷ [])) → ⊥)) }
+    ensures nothing { Keeps (W.contents output.old) (W.contents output.new) }
+{
+    let reading = Reading {
+        is_check: true,
+        ignore_whitespace: false,
+        groups: PLAIN,
+    };
+    run(Mode::Decode(reading), input, output)
+}
+
+/// Writes the bytes that lines decode to. An error names the line and the column of the character.
+fn decode_lines<R: Read, W: Write>(input: &mut R, output: &mut W) -> Result<(), RunError>
+    ensures { (c i : ℕ) (place : Option Place) → result ≡ Err (Text (InvalidHexCharacter c i) place)
+        → (p : Place) × (lines : List ℕ) × (line : List ℕ) × (rest : List ℕ) × (place ≡ Some p)
+        × Consumes (R.remaining input.old) (R.remaining input.new) ((lines ++ line) ++ c ∷ rest)
+        × (i ≡ counted (length (lines ++ line))) × (length (lines ++ line) < 2 ^ 64 - 1
+        → (p.line ≡ 1 + count_by (λ b. b == 10) (lines ++ line)) × (p.column ≡ 1 + length line)
+        × All (λ b. b ≢ 10) line × ((lines ≡ []) ⊎ ((l : List ℕ) × (lines ≡ l ++ 10 ∷ [])))) }
+{
+    let reading = Reading {
+        is_check: false,
+        ignore_whitespace: true,
+        groups: PLAIN,
+    };
+    run(Mode::Decode(reading), input, output)
+}
+
+/// Writes the text of bytes.
+fn encode<R: Read, W: Write>(
+    prefix: bool,
+    upper: bool,
+    input: &mut R,
+    output: &mut W,
+) -> Result<(), RunError>
+    ensures ok { OnOk result ((x : List ℕ) × Consumes (R.remaining input.old) (R.remaining input.new) x
+        × IsAtEnd (R.remaining input.new)
+        × Appends (W.contents output.old) (W.contents output.new) (full_text prefix upper x)) }
+    ensures never_text { (e : FromHexError) (place : Option Place) → result ≢ Err (Text e place) }
+    ensures begun { OnErr result ((x : List ℕ) × (y : List ℕ) × (left : List ℕ)
+        × Consumes (R.remaining input.old) (R.remaining input.new) x × (full_text prefix upper x ≡ y ++ left)
+        × Appends (W.contents output.old) (W.contents output.new) y) }
+{
+    let mode = Mode::Encode {
+        prefix,
+        upper,
+        groups: PLAIN,
+    };
+    run(mode, input, output)
+}
+
+/// Encodes bytes, and decodes the text, which is empty before. These are the bytes again.
+fn encode_and_decode<W: Write>(
+    prefix: bool,
+    upper: bool,
+    groups: Groups,
+    bytes: &[u8],
+    text: &mut Vec<u8>,
+    output: &mut W,
+) -> Result<(), RunError>
+    requires { text.old.items ≡ [] }
+    ensures ok { OnOk result (Appends (W.contents output.old) (W.contents output.new) bytes.now) }
+    ensures never_text { (e : FromHexError) (place : Option Place) → result ≢ Err (Text e place) }
+{
+    let mode = Mode::Encode {
+        prefix,
+        upper,
+        groups,
+    };
+    let mut input = bytes;
+    run(mode, &mut input, text)?;
+    let mut input = text.as_slice();
+    run(Mode::Decode(mirror(groups)), &mut input, output)
+}
+
+/// How a text in these groups is read: lines without their ends.
+fn mirror(groups: Groups) -> Reading
+    ensures { result ≡ mirror groups }
+{
+    let is_in_lines = groups.separator == b'\n';
+    Reading {
+        is_check: false,
+        ignore_whitespace: is_in_lines && groups.size > 0,
+        groups: if is_in_lines { PLAIN } else { groups },
+    }
+}
+
+/// Runs the program with `--decode` alone.
+fn decode_standard_input<R: Read, W: Write>(
+    rt: &(impl Files + Eprint),
+    host: &impl Output,
+    arguments: &[String],
+    input: &mut R,
+    output: &mut W,
+) -> ExitCode
+    requires { map string_bytes arguments.now ≡ codes "--decode" ∷ [] }
+    ensures done { exit_status result ≡ 0 → (x : List ℕ) × (y : List ℕ)
+        × Consumes (R.remaining input.old) (R.remaining input.new) x × IsAtEnd (R.remaining input.new) × Reads x (Ok y)
+        × Appends (W.contents output.old) (W.contents output.new) y }
+    ensures invalid { exit_status result ≡ 1 → (x : List ℕ)
+        × Consumes (R.remaining input.old) (R.remaining input.new) x × ((y : List ℕ) → Reads x (Ok y) → ⊥) }
+    ensures failed { exit_status result ≡ 3 → (x : List ℕ) × (y : List ℕ)
+        × Consumes (R.remaining input.old) (R.remaining input.new) x
+        × Spells (take (2 * length y) (body_of x)) y × Appends (W.contents output.old) (W.contents output.new) y }
+    ensures statuses { (exit_status result ≡ 0) ⊎ (exit_status result ≡ 1) ⊎ (exit_status result ≡ 3) }
+{
+    program(rt, host, arguments, input, output)
+}
+
+/// Runs the program with `--version` alone.
+fn print_version<R: Read, W: Write>(
+    rt: &(impl Files + Eprint),
+    host: &impl Output,
+    arguments: &[String],
+    input: &mut R,
+    output: &mut W,
+) -> ExitCode
+    requires { map string_bytes arguments.now ≡ codes "--version" ∷ [] }
+    ensures done { exit_status result ≡ 0
+        → Appends (W.contents output.old) (W.contents output.new) (codes "hexfilter 1.0.0" ++ 10 ∷ []) }
+    ensures failed { exit_status result ≡ 3 → (n : ℕ)
+        × Appends (W.contents output.old) (W.contents output.new) (take n (codes "hexfilter 1.0.0" ++ 10 ∷ [])) }
+    ensures statuses { (exit_status result ≡ 0) ⊎ (exit_status result ≡ 3) }
+{
+    program(rt, host, arguments, input, output)
+}
+
+/// What arguments ask for that decode groups with colons.
+fn colons_are_read(arguments: &[String]) -> Result<Request, UsageError>
+    ensures { (v : List ℕ) (n : ℕ) → number v ≡ Ok n
+        → map string_bytes arguments.now ≡ codes "--decode" ∷ codes "--group" ∷ v ∷ codes "--separator" ∷ codes ":" ∷ []
+        → result ≡ Ok (Run (Decode (record {
+          is_check = false;
+          ignore_whitespace = false;
+          groups = record { size = min (n * 2) (2 ^ 64 - 1); separator = 58 };
+        })) None) }
+{
+    request_of(arguments)
 }

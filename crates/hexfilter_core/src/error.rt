@@ -12,7 +12,7 @@ use std::io;
 /// ```rust
 /// let mut output = Vec::new(rt.alloc());
 /// let groups = Groups { size: 0, separator: b' ' };
-/// let mode = Mode::Decode(Reading { ignore_whitespace: false, groups });
+/// let mode = Mode::Decode(Reading { is_check: false, ignore_whitespace: false, groups });
 /// let error = run(mode, &mut b"6b6".as_slice(), &mut output).unwrap_err();
 /// assert_eq!(rt; error.status(), 1);
 /// ```

@@ -22,7 +22,7 @@ pub(crate) fn put_groups(
     requires size { groups.size ≢ 0 }
     requires column { column ≤ groups.size }
     requires room { 2 * length text.now ≤ length output.old }
-    ensures within { result.0 ≤ length output.new }
+    ensures within { result.0 ≤ 2 * length text.now }
     ensures length { length output.new ≡ length output.old }
     ensures column { result.1 ≤ groups.size }
     ensures groups { (rest : List ℕ) → groups_from groups.size groups.separator column (text.now ++ rest)

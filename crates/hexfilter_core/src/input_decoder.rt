@@ -1,19 +1,18 @@
 //! A decoder for an input that comes in chunks.
 
-ghost use Rattle.std.specs.Prelude.{◌≡◌, ◌*◌, ◌+◌, ◌/◌, ◌≤◌, ◌<◌, ◌++◌, ◌∷◌, [], ℕ, List, Option, None, Some, length, take, true, IfOk, IfErr, OnOk, OnErr};
+ghost use Rattle.std.specs.Prelude.{◌≡◌, ◌*◌, ◌+◌, ◌/◌, ◌≤◌, ◌<◌, ◌++◌, ◌∷◌, [], ℕ, List, Option, None, Some, length, take, IfOk, IfErr, IfSome, OnErr};
 ghost use Rattle.std.specs.Io.KnownBytes.{IsAtEnd};
 ghost use Rattle.const_hex.specs.Results.{body_of};
 ghost use Rattle.const_hex.specs.Texts.{AllDigits};
-ghost use Rattle.const_hex.specs.declared.error.FromHexError.TheVariants.{OddLength};
-ghost use Rattle.hexfilter_core.specs.Decoding.{WritesStart, Fails, GoesOn, HasDecoded, HasWritten, IsInvalid};
-ghost use Rattle.hexfilter_core.specs.Outcome.{FailsWith, Makes, mode_of};
-ghost use Rattle.hexfilter_core.specs.Places.{leaves_out};
+ghost use Rattle.hexfilter_core.specs.Inputs.{chunk_size};
+ghost use Rattle.hexfilter_core.specs.Outcome.{IsErrorOf, Makes, MakesBeginning};
+ghost use Rattle.hexfilter_core.specs.Stages.{HasDecoded, HasWritten};
 ghost use Rattle.hexfilter_core.specs.declared.error.RunError.{RunError};
-ghost use Rattle.hexfilter_core.specs.declared.error.RunError.TheVariants.{Text};
-ghost use Rattle.hexfilter_core.specs.declared.mode.DecodeMode.{DecodeMode};
+ghost use Rattle.hexfilter_core.specs.declared.mode.Mode.TheVariants.{Decode};
+ghost use Rattle.hexfilter_core.specs.declared.mode.Reading.{Reading};
 
 use crate::error::RunError;
-use crate::mode::DecodeMode;
+use crate::mode::Reading;
 use crate::scanner::Scanner;
 use const_hex::{Decoder, FromHexError};
 
@@ -29,7 +28,7 @@ pub(crate) struct InputDecoder {
 impl InputDecoder {
     /// A decoder that has read nothing.
     pub(crate) fn new() -> InputDecoder
-        ensures { (m : DecodeMode) → HasDecoded m result [] [] }
+        ensures { (r : Reading) → HasDecoded r result [] [] }
     {
         InputDecoder {
             decoder: Decoder::new(),
@@ -38,31 +37,42 @@ impl InputDecoder {
         }
     }
 
-    /// Decodes the next chunk into the front of the output. Returns the number of bytes there, which are all
-    /// before the error, if there is one. The text is space for the chunk, if bytes may be left out.
+    /// Decodes the next chunk into the front of the output, or ends the input, if the chunk is empty. Returns the number
+    /// of bytes there, which are all before the error, if there is one. The text is space for the chunk.
     pub(crate) fn decode(
         &mut self,
-        mode: DecodeMode,
+        reading: Reading,
         chunk: &[u8],
         text: &mut [u8],
         output: &mut [u8],
     ) -> (usize, Option<RunError>)
-        requires text { leaves_out mode.reading ≡ true → length chunk.now ≤ length text.old }
+        requires chunk { length chunk.now ≤ chunk_size }
+        requires text { length chunk.now ≤ length text.old }
         requires room { length chunk.now ≤ length output.old }
-        ensures ok { result.1 ≡ None → GoesOn mode self.old self.new chunk.now (take result.0 output.new) }
-        ensures err { (e : RunError) → result.1 ≡ Some e → Fails mode self.old chunk.now (take result.0 output.new) e }
-        ensures begun { WritesStart mode self.old chunk.now (take result.0 output.new) }
+        ensures more { result.1 ≡ None → 0 < length chunk.now → (x y : List ℕ) → HasDecoded reading self.old x y
+            → HasDecoded reading self.new (x ++ chunk.now) (y ++ take result.0 output.new) }
+        ensures end { result.1 ≡ None → length chunk.now ≡ 0 → (x y : List ℕ) → HasDecoded reading self.old x y
+            → Makes (Decode reading) x (y ++ take result.0 output.new) }
+        ensures err { (e : RunError) → result.1 ≡ Some e → (x y : List ℕ) → HasDecoded reading self.old x y
+            → (left : Option (List ℕ)) → (length chunk.now ≡ 0 → IsAtEnd left)
+            → IsErrorOf (Decode reading) left (x ++ chunk.now) (y ++ take result.0 output.new) e }
+        ensures begun { (x y : List ℕ) → HasDecoded reading self.old x y
+            → MakesBeginning (Decode reading) (x ++ chunk.now) (y ++ take result.0 output.new) }
         ensures within { result.0 ≤ length output.new }
+        ensures lengths { (length text.new ≡ length text.old) × (length output.new ≡ length output.old) }
     {
         let mut whole = *self;
-        if let Ok(count) = whole.decode_whole(mode, chunk, text, output) {
+        if chunk.is_empty() {
+            return (0, whole.finish());
+        }
+        if let Ok(count) = whole.decode_whole(reading, chunk, text, output) {
             *self = whole;
             return (count, None);
         }
         // A chunk with an error is decoded byte after byte.
         let mut end = 0;
         for byte in chunk {
-            match self.decode_byte(mode, *byte, &mut output[end..]) {
+            match self.decode_byte(reading, *byte, &mut output[end..]) {
                 Ok(count) => end += count,
                 Err(error) => return (end, Some(error)),
             }
@@ -73,66 +83,67 @@ impl InputDecoder {
     /// As `decode`, if the chunk has no error. After an error, this decoder cannot go on.
     fn decode_whole(
         &mut self,
-        mode: DecodeMode,
+        reading: Reading,
         chunk: &[u8],
         text: &mut [u8],
         output: &mut [u8],
     ) -> Result<usize, FromHexError>
-        requires { leaves_out mode.reading ≡ true → length chunk.now ≤ length text.old }
-        ensures ok { (x y : List ℕ) → HasDecoded mode self.old x y
-            → IfOk result (λ n. HasDecoded mode self.new (x ++ chunk.now) (y ++ take n output.new)) }
+        requires { length chunk.now ≤ length text.old }
+        ensures ok { (x y : List ℕ) → HasDecoded reading self.old x y
+            → IfOk result (λ n. HasDecoded reading self.new (x ++ chunk.now) (y ++ take n output.new)) }
         ensures within { IfOk result (λ n. n ≤ length output.old) }
-        ensures length { length output.new ≡ length output.old }
+        ensures lengths { (length text.new ≡ length text.old) × (length output.new ≡ length output.old) }
     {
         let read = self.read;
         self.read = read.saturating_add(chunk.len());
-        if mode.reading.leaves_out() {
-            let count = self.scanner.text(mode.reading, read, chunk, text);
-            return decode_text(&mut self.decoder, mode.is_check, &text[..count], output);
+        if reading.leaves_out() {
+            let count = self.scanner.text(reading, read, chunk, text);
+            return decode_text(&mut self.decoder, reading, &text[..count], output);
         }
-        decode_text(&mut self.decoder, mode.is_check, chunk, output)
+        decode_text(&mut self.decoder, reading, chunk, output)
     }
 
     /// Decodes a byte into the front of the output, and returns the number of bytes there.
     fn decode_byte(
         &mut self,
-        mode: DecodeMode,
+        reading: Reading,
         byte: u8,
         output: &mut [u8],
     ) -> Result<usize, RunError>
-        ensures ok { (x y : List ℕ) → HasDecoded mode self.old x y
-            → IfOk result (λ n. HasDecoded mode self.new (x ++ byte ∷ []) (y ++ take n output.new)) }
-        ensures err { (x y rest : List ℕ) → HasDecoded mode self.old x y → 1 ≤ length output.old
-            → IfErr result (IsInvalid (mode_of mode) (x ++ byte ∷ rest) y) }
+        ensures ok { (x y : List ℕ) → HasDecoded reading self.old x y
+            → IfOk result (λ n. HasDecoded reading self.new (x ++ byte ∷ []) (y ++ take n output.new)) }
+        ensures err { (x y rest : List ℕ) (left : Option (List ℕ)) → HasDecoded reading self.old x y
+            → 1 ≤ length output.old → length rest < chunk_size
+            → IfErr result (IsErrorOf (Decode reading) left (x ++ byte ∷ rest) y) }
         ensures within { IfOk result (λ n. n ≤ length output.old) }
         ensures most { IfOk result (λ n. n ≤ 1) }
         ensures length { length output.new ≡ length output.old }
     {
         let (index, scanner) = (self.read, self.scanner);
         self.read = index.saturating_add(1);
-        let character = match self.scanner.next(mode.reading, byte, self.read) {
+        let character = match self.scanner.next(reading, byte, self.read) {
             Some(character) => character,
             None => return Ok(0),
         };
-        match decode_text(&mut self.decoder, mode.is_check, &[character], output) {
+        match decode_text(&mut self.decoder, reading, &[character], output) {
             Ok(count) => Ok(count),
             Err(_) => {
                 let c = char::from(byte);
                 let error = FromHexError::InvalidHexCharacter { c, index };
-                Err(RunError::Text(error, scanner.place(mode.reading, index)))
+                Err(RunError::Text(error, scanner.place(reading, index)))
             }
         }
     }
 
     /// Ends the input. Returns `OddLength` if the text has an odd number of digits.
-    pub(crate) fn finish(self) -> Result<(), RunError>
-        ensures ok { (m : DecodeMode) (x y : List ℕ) → HasDecoded m self x y → OnOk result (Makes (mode_of m) x y) }
-        ensures err { (m : DecodeMode) (x y : List ℕ) → HasDecoded m self x y → IfErr result (λ e. (e ≡ Text OddLength None)
-            × ((left : Option (List ℕ)) → IsAtEnd left → FailsWith (mode_of m) left x y OddLength None)) }
+    fn finish(self) -> Option<RunError>
+        ensures ok { (r : Reading) (x y : List ℕ) → HasDecoded r self x y → result ≡ None → Makes (Decode r) x y }
+        ensures err { (r : Reading) (x y : List ℕ) (left : Option (List ℕ)) → HasDecoded r self x y → IsAtEnd left
+            → IfSome result (IsErrorOf (Decode r) left x y) }
     {
         match self.decoder.finish() {
-            Ok(()) => Ok(()),
-            Err(error) => Err(RunError::Text(error, None)),
+            Ok(()) => None,
+            Err(error) => Some(RunError::Text(error, None)),
         }
     }
 }
@@ -142,19 +153,19 @@ impl InputDecoder {
 #[inline(always)]
 fn decode_text(
     decoder: &mut Decoder,
-    is_check: bool,
+    reading: Reading,
     text: &[u8],
     output: &mut [u8],
 ) -> Result<usize, FromHexError>
-    ensures ok { (t z : List ℕ) → HasWritten is_check decoder.old t z
-        → IfOk result (λ n. HasWritten is_check decoder.new (t ++ text.now) (z ++ take n output.new)) }
-    ensures err { (t z : List ℕ) → HasWritten is_check decoder.old t z → (length text.now + 1) / 2 ≤ length output.old
+    ensures ok { (t z : List ℕ) → HasWritten reading decoder.old t z
+        → IfOk result (λ n. HasWritten reading decoder.new (t ++ text.now) (z ++ take n output.new)) }
+    ensures err { (t z : List ℕ) → HasWritten reading decoder.old t z → (length text.now + 1) / 2 ≤ length output.old
         → OnErr result (AllDigits (body_of (t ++ text.now)) → ⊥) }
     ensures within { IfOk result (λ n. n ≤ length output.old) }
     ensures most { IfOk result (λ n. n ≤ (length text.now + 1) / 2) }
     ensures length { length output.new ≡ length output.old }
 {
-    if is_check {
+    if reading.is_check {
         return match decoder.check(text) {
             Ok(()) => Ok(0),
             Err(error) => Err(error),

@@ -6,8 +6,7 @@
 #![tactic(auto)]
 
 mod callers;
-mod decoding;
-mod encoding;
+mod encoder;
 mod error;
 mod groups;
 mod input_decoder;
@@ -17,11 +16,12 @@ mod place;
 mod process;
 mod runs;
 mod scanner;
+mod stage;
 mod transfer;
 
 pub use crate::error::RunError;
 pub use crate::mode::{Groups, Mode, Reading};
 pub use crate::options::{Fault, Request, UsageError, request_of};
 pub use crate::place::Place;
-pub use crate::process::program;
+pub use crate::process::{Output, program};
 pub use crate::runs::run;

@@ -1,7 +1,7 @@
 //! What the arguments of the program ask for.
 
 ghost use Rattle.std.specs.Prelude.{◌≡◌, ℕ, List, None, Ok, map, string_bytes};
-ghost use Rattle.hexfilter_core.specs.Options.{Writes, find, number, request, request_for, table, with_argument, with_letters, with_value, with_word, written};
+ghost use Rattle.hexfilter_core.specs.Options.{Writes, find, is_separator, number, request, request_for, table, with_argument, with_letters, with_value, with_word, written};
 ghost use Rattle.hexfilter_core.specs.declared.mode.Mode.{Mode};
 ghost use Rattle.hexfilter_core.specs.declared.options.Request.TheVariants.{Run};
 
@@ -32,7 +32,7 @@ pub enum Fault {
     MissingValue,
     /// It has or is a value that is no number of at most `usize::MAX`.
     InvalidNumber,
-    /// It has or is a separator that is no ASCII character, or a digit.
+    /// It has or is a separator that is no ASCII character, a digit, or a newline.
     InvalidSeparator,
     /// It asks for groups beside lines, or for lines beside groups.
     GroupsInLines,
@@ -130,9 +130,7 @@ impl Options {
         match (self.value, text.as_bytes()) {
             (None, _) => return Err(Fault::UnknownOption),
             (Some(Value::Size), _) => self.size = Some(number(text)?),
-            (_, [byte]) if byte.is_ascii() && !byte.is_ascii_hexdigit() => self.separator = Some(
-                *byte,
-            ),
+            (_, [byte]) if is_separator(*byte) => self.separator = Some(*byte),
             _ => return Err(Fault::InvalidSeparator),
         }
         self.value = None;
@@ -220,21 +218,29 @@ impl Options {
             _ => (self.size.unwrap_or(0), b'\n'),
         };
         let groups = Groups { size, separator };
-        let reading = Reading {
-            ignore_whitespace: self.ignore_whitespace,
-            groups,
-        };
-        let mode = match (self.check, self.decode) {
-            (true, _) => Mode::Check(reading),
-            (_, true) => Mode::Decode(reading),
-            _ => Mode::Encode {
+        let mode = if self.check || self.decode {
+            Mode::Decode(Reading {
+                is_check: self.check,
+                ignore_whitespace: self.ignore_whitespace,
+                groups,
+            })
+        } else {
+            Mode::Encode {
                 prefix: self.prefix,
                 upper: self.upper,
                 groups,
-            },
+            }
         };
         Ok(Request::Run(mode, self.file))
     }
+}
+
+/// Whether the byte may separate groups. A newline separates lines.
+#[tactic(auto, unfolding(crate::specs::Options::is_separator))]
+fn is_separator(byte: u8) -> bool
+    ensures { result ≡ is_separator byte }
+{
+    byte.is_ascii() && byte != b'\n' && !byte.is_ascii_hexdigit()
 }
 
 /// The number that decimal digits write.

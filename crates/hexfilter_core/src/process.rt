@@ -1,14 +1,15 @@
 //! The whole program, from its arguments to its exit status.
 
-ghost use Rattle.std.specs.Prelude.{◌≡◌, ◌≢◌, ◌≤◌, ◌⊎◌, List, ℕ, Option, IfErr, IfOk, OnOk};
-ghost use Rattle.std.specs.Io.KnownBytes.{Appends, Consumes};
+ghost use Rattle.std.specs.Prelude.{◌≡◌, ◌++◌, ◌∷◌, [], List, ℕ, None, Some, Option, IsSome, MatchOption, Ok, Err, IfErr, IfOk, OnErr, OnOk, codes, map, string_bytes};
+ghost use Rattle.std.specs.Io.KnownBytes.{Appends};
 ghost use Rattle.std.specs.Process.{exit_status};
-ghost use Rattle.const_hex.specs.declared.error.FromHexError.{FromHexError};
+ghost use Rattle.const_hex.specs.Writers.{WritesBeginning};
 ghost use Rattle.hexfilter_core.specs.Errors.{status_of};
-ghost use Rattle.hexfilter_core.specs.Inputs.{ReadsAll};
-ghost use Rattle.hexfilter_core.specs.Outcome.{FailsWith, Makes};
+ghost use Rattle.hexfilter_core.specs.Options.{request_for};
+ghost use Rattle.hexfilter_core.specs.Programs.{Ends, Prints, file_name};
 ghost use Rattle.hexfilter_core.specs.declared.mode.Mode.{Mode};
-ghost use Rattle.hexfilter_core.specs.declared.place.Place.{Place};
+ghost use Rattle.hexfilter_core.specs.declared.options.Request.TheVariants.{Help, Run, Version};
+ghost use Rattle.hexfilter_core.specs.declared.options.UsageError.{UsageError};
 
 use crate::error::RunError;
 use crate::mode::Mode;
@@ -16,9 +17,8 @@ use crate::options::{Fault, Request, UsageError, request_of};
 use crate::place::Place;
 use crate::runs::run;
 use crate::transfer::{flush, write_piece};
-use std::env::{self, Env};
 use std::fs::File;
-use std::io::{self, Eprint, ErrorKind, Read, Write};
+use std::io::{Eprint, Error, ErrorKind, Read, Write};
 use std::process::ExitCode;
 use std::rt::Files;
 
@@ -54,55 +54,68 @@ Examples:
 /// What `--version` prints.
 const VERSION: &str = "hexfilter 1.0.0\n";
 
-/// Does what the arguments ask for, with `input` and `output` as standard input and output. Returns the
-/// exit status: 0 if that succeeds, 1 if the text cannot be decoded, 2 if the arguments are not valid or not
-/// UTF-8, and 3 if a read or a write fails. An error is one line on standard error, but none if the reader
-/// of standard output is gone.
+/// What a host knows of its standard output.
+pub trait Output {
+    /// Whether standard output goes to the file with that name or, without a name, to the file that is standard input,
+    /// and this file has bytes.
+    fn is_output(&self, name: Option<&str>) -> bool;
+}
+
+/// Does what the arguments after the program's name ask for, with `input` and `output` as standard input and output.
+/// Returns the exit status: 0 if that succeeds, 1 if the text cannot be decoded, 2 if the arguments are not valid, and 3
+/// if a read or a write fails, or if the input is the file that standard output goes to. An error is one line on standard
+/// error, but none if the reader of standard output is gone.
 ///
 /// ```rust
 /// fn main(rt: HostRuntime) -> ExitCode {
-///     program(&rt, &mut rt.reader(), &mut io::writer(&rt))
+///     program(&rt, &host, &arguments, &mut rt.reader(), &mut io::writer(&rt))
 /// }
 /// ```
 pub fn program<R: Read, W: Write>(
-    rt: &(impl Env + Files + Eprint + AllocGlobal),
+    rt: &(impl Files + Eprint),
+    host: &impl Output,
+    arguments: &[String],
     input: &mut R,
     output: &mut W,
 ) -> ExitCode
-    // Standard input was not asked for, or what a mode makes of all of it was written.
-    ensures done { exit_status result ≡ 0 → (y : List ℕ)
-        × Appends (W.contents output.old) (W.contents output.new) y
-        × ((input.new ≡ input.old) ⊎ ((m : Mode) × (x : List ℕ)
-        × ReadsAll (R.remaining input.old) (R.remaining input.new) x × Makes m x y)) }
-    // Standard input was not asked for, or a mode fails with an error of its text, and all before it was written.
-    ensures invalid { exit_status result ≡ 1
-        → (input.new ≡ input.old) ⊎ ((m : Mode) × (x : List ℕ) × (y : List ℕ) × (e : FromHexError)
-        × (place : Option Place) × Consumes (R.remaining input.old) (R.remaining input.new) x
-        × FailsWith m (R.remaining input.new) x y e place
-        × Appends (W.contents output.old) (W.contents output.new) y) }
+    // A run on standard input ends as the status says.
+    ensures input { (m : Mode) (file : Option ℕ) → request_for (map string_bytes arguments.now) ≡ Ok (Run m file)
+        → file_name (map string_bytes arguments.now) file ≡ None
+        → Ends m (exit_status result) (R.remaining input.old) (R.remaining input.new)
+        (W.contents output.old) (W.contents output.new) }
+    // So does a run on a file, of whose bytes nothing is known. Standard input is not read.
+    ensures file { (m : Mode) (file : Option ℕ) → request_for (map string_bytes arguments.now) ≡ Ok (Run m file)
+        → IsSome (file_name (map string_bytes arguments.now) file)
+        → (input.new ≡ input.old)
+        × Ends m (exit_status result) None None (W.contents output.old) (W.contents output.new) }
+    ensures help { request_for (map string_bytes arguments.now) ≡ Ok Help → (input.new ≡ input.old)
+        × ((text : List ℕ) × Prints text (exit_status result) (W.contents output.old) (W.contents output.new)) }
+    ensures version { request_for (map string_bytes arguments.now) ≡ Ok Version → (input.new ≡ input.old)
+        × Prints (codes "hexfilter 1.0.0" ++ 10 ∷ []) (exit_status result)
+        (W.contents output.old) (W.contents output.new) }
     // Nothing was read or written.
-    ensures misused { exit_status result ≡ 2
-        → (input.new ≡ input.old) × (output.new ≡ output.old) }
-    ensures statuses { exit_status result ≤ 3 }
+    ensures misused { (e : UsageError) → request_for (map string_bytes arguments.now) ≡ Err e
+        → (exit_status result ≡ 2) × (input.new ≡ input.old) × (output.new ≡ output.old) }
 {
-    let arguments = match arguments(rt) {
-        Ok(arguments) => arguments,
-        Err(error) => {
-            let _ = eprintln!(rt; "hexfilter: cannot read the arguments: {error}");
-            return ExitCode::from(2);
-        }
-    };
-    match request_of(&arguments) {
-        Ok(Request::Help) => end(rt, "", print(HELP, output)),
-        Ok(Request::Version) => end(rt, "", print(VERSION, output)),
-        Ok(Request::Run(mode, None)) => run_standard_input(rt, mode, input, output),
-        Ok(Request::Run(mode, Some(index))) => match arguments.get(index) {
-            Some(name) if name.as_str() != "-" => {
-                end(rt, name.as_str(), run_file(rt, mode, name.as_str(), output))
-            }
-            _ => run_standard_input(rt, mode, input, output),
+    match request_of(arguments) {
+        Ok(Request::Help) => end(rt, None, print(HELP, output)),
+        Ok(Request::Version) => end(rt, None, print(VERSION, output)),
+        Ok(Request::Run(mode, file)) => match file_name(arguments, file) {
+            Some(name) => run_file(rt, host, mode, name, output),
+            None => run_standard_input(rt, host, mode, input, output),
         },
-        Err(error) => misused(rt, &arguments, error),
+        Err(error) => misused(rt, arguments, error),
+    }
+}
+
+/// The name of the file that the argument with that index names, unless that is standard input.
+fn file_name(arguments: &[String], index: Option<usize>) -> Option<&str>
+    ensures { MatchOption result (file_name (map string_bytes arguments.now) index ≡ None)
+        (λ name. file_name (map string_bytes arguments.now) index ≡ Some name.now) }
+{
+    match arguments.get(index?) {
+        Some(name) if name.as_str() != "-" => Some(name.as_str()),
+        _ => None,
     }
 }
 
@@ -123,61 +136,67 @@ fn misused(rt: &impl Eprint, arguments: &[String], error: UsageError) -> ExitCod
         Fault::SecondFile => "second file",
     };
     // Nothing is left to be done if standard error fails.
-    let _ = eprintln!(rt; "hexfilter: {reason} '{argument}'; try --help");
+    let _ = eprintln!(rt; "hexfilter: {reason} {argument:?}; try --help");
     ExitCode::from(2)
-}
-
-/// The arguments after the program's name.
-fn arguments(rt: &(impl Env + AllocGlobal)) -> io::Result<Vec<String>> {
-    Ok(env::args(rt)?.skip(1).collect(rt.alloc())?)
 }
 
 /// Runs on standard input.
 fn run_standard_input<R: Read, W: Write>(
     rt: &impl Eprint,
+    host: &impl Output,
     mode: Mode,
     input: &mut R,
     output: &mut W,
 ) -> ExitCode
-    ensures done { exit_status result ≡ 0 → (x : List ℕ) × (y : List ℕ)
-        × ReadsAll (R.remaining input.old) (R.remaining input.new) x × Makes mode x y
-        × Appends (W.contents output.old) (W.contents output.new) y }
-    ensures invalid { exit_status result ≡ 1 → (x : List ℕ) × (y : List ℕ) × (e : FromHexError)
-        × (place : Option Place) × Consumes (R.remaining input.old) (R.remaining input.new) x
-        × FailsWith mode (R.remaining input.new) x y e place
-        × Appends (W.contents output.old) (W.contents output.new) y }
-    ensures used { exit_status result ≢ 2 }
-    ensures statuses { exit_status result ≤ 3 }
+    ensures { Ends mode (exit_status result) (R.remaining input.old) (R.remaining input.new)
+        (W.contents output.old) (W.contents output.new) }
 {
-    end(rt, "standard input", run(mode, input, output))
+    if host.is_output(None) {
+        return end(rt, None, Err(same_file()));
+    }
+    end(rt, None, run(mode, input, output))
 }
 
 /// Runs on the file with that name.
 fn run_file<W: Write>(
-    rt: &impl Files,
+    rt: &(impl Files + Eprint),
+    host: &impl Output,
     mode: Mode,
     name: &str,
     output: &mut W,
-) -> Result<(), RunError>
-    ensures { OnOk result ((y : List ℕ) × Appends (W.contents output.old) (W.contents output.new) y) }
+) -> ExitCode
+    ensures { Ends mode (exit_status result) None None (W.contents output.old) (W.contents output.new) }
 {
-    match File::open(rt, name) {
-        Ok(mut file) => run(mode, &mut file, output),
-        Err(error) => Err(RunError::Read(error)),
+    if host.is_output(Some(name)) {
+        return end(rt, Some(name), Err(same_file()));
     }
+    match File::open(rt, name) {
+        Ok(mut file) => end(rt, Some(name), run(mode, &mut file, output)),
+        Err(error) => end(rt, Some(name), Err(RunError::Read(error))),
+    }
+}
+
+/// The error of an input that would grow while it is read.
+fn same_file() -> RunError
+    ensures { status_of result ≡ 3 }
+{
+    RunError::Read(Error::new(ErrorKind::InvalidInput, "input file is output file"))
 }
 
 /// Writes a text, and flushes.
 fn print<W: Write>(text: &str, output: &mut W) -> Result<(), RunError>
-    ensures { OnOk result ((y : List ℕ) × Appends (W.contents output.old) (W.contents output.new) y) }
+    ensures ok { OnOk result (Appends (W.contents output.old) (W.contents output.new) text.now) }
+    ensures err { IfErr result (λ e. status_of e ≡ 3) }
+    ensures begun { OnErr result
+        (WritesBeginning (W.contents output.old) (W.contents output.new) text.now) }
 {
     write_piece(output, text.as_bytes())?;
     flush(output)
 }
 
-/// Ends a run on an input with that name. Prints its error, unless the reader of standard output is gone, and
-/// returns the exit status.
-fn end(rt: &impl Eprint, name: &str, outcome: Result<(), RunError>) -> ExitCode
+/// Ends a run on the file with that name, or on standard input. Prints its error, unless the reader of standard output
+/// is gone, and returns the exit status.
+fn end(rt: &impl Eprint, name: Option<&str>, outcome: Result<(), RunError>) -> ExitCode
     ensures ok { IfOk outcome (λ done. exit_status result ≡ 0) }
     ensures err { IfErr outcome (λ e. exit_status result ≡ status_of e) }
 {
@@ -185,15 +204,23 @@ fn end(rt: &impl Eprint, name: &str, outcome: Result<(), RunError>) -> ExitCode
         Ok(()) => return ExitCode::SUCCESS,
         Err(error) => error,
     };
+    let status = error.status();
     // Nothing is left to be done if standard error fails.
-    let _ = match error {
-        RunError::Text(error, None) => eprintln!(rt; "hexfilter: {name}: {error}"),
-        RunError::Text(error, Some(Place { line, column })) => {
-            eprintln!(rt; "hexfilter: {name}: {error} (line {line}, column {column})")
+    let _ = match (name, error) {
+        (None, RunError::Text(error, None)) => {
+            eprintln!(rt; "hexfilter: standard input: {error}")
         }
-        RunError::Read(error) => eprintln!(rt; "hexfilter: {name}: {error}"),
-        RunError::Write(error) if error.kind() == ErrorKind::BrokenPipe => Ok(()),
-        RunError::Write(error) => eprintln!(rt; "hexfilter: standard output: {error}"),
+        (None, RunError::Text(error, Some(Place { line, column }))) => {
+            eprintln!(rt; "hexfilter: standard input: {error} (line {line}, column {column})")
+        }
+        (None, RunError::Read(error)) => eprintln!(rt; "hexfilter: standard input: {error}"),
+        (Some(name), RunError::Text(error, None)) => eprintln!(rt; "hexfilter: {name:?}: {error}"),
+        (Some(name), RunError::Text(error, Some(Place { line, column }))) => {
+            eprintln!(rt; "hexfilter: {name:?}: {error} (line {line}, column {column})")
+        }
+        (Some(name), RunError::Read(error)) => eprintln!(rt; "hexfilter: {name:?}: {error}"),
+        (_, RunError::Write(error)) if error.kind() == ErrorKind::BrokenPipe => Ok(()),
+        (_, RunError::Write(error)) => eprintln!(rt; "hexfilter: standard output: {error}"),
     };
-    ExitCode::from(error.status())
+    ExitCode::from(status)
 }

@@ -7,19 +7,19 @@ ghost use Rattle.hexfilter_core.specs.Streams.{RunsPartly, RunsToEnd, RunsToErro
 ghost use Rattle.hexfilter_core.specs.declared.error.RunError.TheVariants.{Text};
 ghost use Rattle.hexfilter_core.specs.declared.place.Place.{Place};
 
-use crate::decoding::decode_stream;
-use crate::encoding::encode_stream;
 use crate::error::RunError;
 use crate::mode::Mode;
+use crate::stage::{CHUNK, Stage};
+use crate::transfer::{flush, read_chunk, too_many_reads, write_piece};
 use std::io::{Read, Write};
 
 /// Reads the input to its end, writes what the mode makes of it, and flushes. The input may have any
-/// length: it is read in chunks of 16 or 64 KiB, and nothing is allocated.
+/// length: it is read in chunks of 16 KiB, and nothing is allocated.
 ///
 /// Returns
 ///
 /// - [`RunError::Text`], if the text cannot be decoded: with `InvalidHexCharacter` for its first
-///   invalid character, at once, and with `OddLength` at the end. The position counts in the input,
+///   invalid character, before another chunk is read, and with `OddLength` at the end. The position counts in the input,
 ///   whitespace included, from 0; `usize::MAX` stands for a position beyond it;
 /// - [`RunError::Read`], if a read fails;
 /// - [`RunError::Write`], if a write or the flush fails, or a write takes no bytes.
@@ -30,7 +30,7 @@ use std::io::{Read, Write};
 /// ```rust
 /// let mut output = Vec::new(rt.alloc());
 /// let groups = Groups { size: 0, separator: b' ' };
-/// let mode = Mode::Decode(Reading { ignore_whitespace: true, groups });
+/// let mode = Mode::Decode(Reading { is_check: false, ignore_whitespace: true, groups });
 /// run(mode, &mut b"6b69\n7769\n".as_slice(), &mut output)?;
 /// assert_eq!(rt; output.as_slice(), b"kiwi".as_slice());
 /// ```
@@ -48,13 +48,20 @@ pub fn run<R: Read, W: Write>(mode: Mode, input: &mut R, output: &mut W) -> Resu
         (W.contents output.old) (W.contents output.new)) }
     ensures retried { IfErr result IsNotInterrupted }
 {
-    match mode {
-        Mode::Encode {
-            prefix,
-            upper,
-            groups,
-        } => encode_stream(prefix, upper, groups, input, output),
-        Mode::Decode(reading) => decode_stream(reading, false, input, output),
-        Mode::Check(reading) => decode_stream(reading, true, input, output),
+    let mut chunk = [0; CHUNK];
+    let mut text = [0; 2 * CHUNK + 2];
+    let mut made = [0; 4 * CHUNK + 5];
+    let mut stage = Stage::new(mode);
+    'chunks: for _ in 0..u64::MAX {
+        let count = read_chunk(input, &mut chunk)?;
+        let (end, error) = stage.next(mode, &chunk[..count], &mut text, &mut made);
+        write_piece(output, &made[..end])?;
+        if let Some(error) = error {
+            return Err(error);
+        }
+        if count == 0 {
+            return flush(output);
+        }
     }
+    Err(too_many_reads())
 }

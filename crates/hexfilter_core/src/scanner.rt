@@ -3,7 +3,7 @@
 ghost use Rattle.std.specs.Prelude.{◌≡◌, ◌+◌, ◌≤◌, ◌<◌, ◌++◌, ◌∷◌, [], List, ℕ, false, length, min, take, not, nat_lt};
 ghost use Rattle.std.specs.List.{All, prefix_len};
 ghost use Rattle.const_hex.specs.Decoding.{counted, listed};
-ghost use Rattle.hexfilter_core.specs.Decoding.{HasAdded, HasScanned};
+ghost use Rattle.hexfilter_core.specs.Stages.{HasAdded, HasScanned};
 ghost use Rattle.hexfilter_core.specs.Inputs.{is_whitespace, kept, next};
 ghost use Rattle.hexfilter_core.specs.Places.{IsCount, StandsAfter};
 

@@ -3,7 +3,7 @@
 ghost use Rattle.std.specs.Prelude.{◌≡◌, ◌≢◌, ◌<◌, ◌≤◌, length, take, OnOk, OnErr, IfErr, IfOk};
 ghost use Rattle.std.specs.Io.KnownBytes.{Appends, Consumes, IsAtEnd, Keeps};
 ghost use Rattle.const_hex.specs.Writers.{WritesBeginning};
-ghost use Rattle.hexfilter_core.specs.Errors.{IsFailedCall};
+ghost use Rattle.hexfilter_core.specs.Errors.{IsFailedRead, IsFailedWrite};
 
 use crate::error::RunError;
 use std::io::{Error, ErrorKind, Read, Write};
@@ -16,7 +16,7 @@ pub(crate) fn read_chunk<R: Read>(input: &mut R, buffer: &mut [u8]) -> Result<us
         (λ n. Consumes (R.remaining input.old) (R.remaining input.new) (take n buffer.new)) }
     ensures end { IfOk result
         (λ n. n ≡ 0 → 0 < length buffer.old → IsAtEnd (R.remaining input.new)) }
-    ensures err { IfErr result IsFailedCall }
+    ensures err { IfErr result IsFailedRead }
     ensures nothing_read { OnErr result (Keeps (R.remaining input.old) (R.remaining input.new)) }
 {
     'reads: for _ in 0..u64::MAX {
@@ -35,7 +35,7 @@ pub(crate) fn read_chunk<R: Read>(input: &mut R, buffer: &mut [u8]) -> Result<us
 /// The error of a reader that does not end within 2^64 reads.
 #[cold]
 pub(crate) fn too_many_reads() -> RunError
-    ensures { IsFailedCall result }
+    ensures { IsFailedRead result }
 {
     RunError::Read(Error::new(ErrorKind::TimedOut, "too many reads"))
 }
@@ -45,7 +45,7 @@ pub(crate) fn too_many_reads() -> RunError
 #[tactic(auto, using(const_hex::proofs::lemmas::WriteSinks::writes))]
 pub(crate) fn write_piece<W: Write>(output: &mut W, piece: &[u8]) -> Result<(), RunError>
     ensures ok { OnOk result (Appends (W.contents output.old) (W.contents output.new) piece.now) }
-    ensures err { IfErr result IsFailedCall }
+    ensures err { IfErr result IsFailedWrite }
     ensures begun { OnErr result
         (WritesBeginning (W.contents output.old) (W.contents output.new) piece.now) }
 {
@@ -70,7 +70,7 @@ pub(crate) fn write_piece<W: Write>(output: &mut W, piece: &[u8]) -> Result<(), 
 /// Flushes. A call that a signal interrupts is made again.
 pub(crate) fn flush<W: Write>(output: &mut W) -> Result<(), RunError>
     ensures bytes { Keeps (W.contents output.old) (W.contents output.new) }
-    ensures err { IfErr result IsFailedCall }
+    ensures err { IfErr result IsFailedWrite }
 {
     'flushes: for _ in 0..u64::MAX {
         match output.flush() {
@@ -89,7 +89,7 @@ pub(crate) fn flush<W: Write>(output: &mut W) -> Result<(), RunError>
 #[cold]
 fn write_error(kind: ErrorKind, message: &str) -> RunError
     requires { kind ≢ ErrorKind.Interrupted }
-    ensures { IsFailedCall result }
+    ensures { IsFailedWrite result }
 {
     RunError::Write(Error::new(kind, message))
 }

@@ -234,7 +234,7 @@ HANDLERS |= {name: _of_general(handler) for name, handler in HANDLERS.items()}
 
 # The mnemonics, and how many bytes are of each register, if not all.
 LOADS = {"ldr": None, "ldur": None, "ldp": None, "ld1": None, "ldrb": 1, "ldurb": 1, "ldrh": 2}
-STORES = {"str": None, "stur": None, "stp": None, "strb": 1, "sturb": 1, "strh": 2, "sturh": 2}
+STORES = {"str": None, "stur": None, "stp": None, "st1": None, "strb": 1, "sturb": 1, "strh": 2, "sturh": 2}
 
 
 def _base_of(state, address, registers):

@@ -2,25 +2,64 @@
 #![forbid(unsafe_code)]
 
 #[macro_use]
+// What stands for Rattle's library has its forms.
+#[allow(clippy::extra_unused_type_parameters, clippy::wrong_self_convention)]
 mod std_shim;
 // The source is a library, of which this program calls a part. Its labels name loops for the proofs.
 #[cfg_attr(test, deny(unused))]
-#[allow(dead_code, unused_imports, unused_labels)]
+#[allow(dead_code, unused_imports, unused_labels, clippy::all)]
 #[rustfmt::skip]
 mod proved;
 
 use crate::std_shim::Host;
+use std::env;
+use std::ffi::OsString;
 use std::io::{stdin, stdout, Result};
 use std::process::ExitCode;
 
 fn main() -> ExitCode {
+    let arguments = env::args_os().skip(1).map(OsString::into_string);
+    let arguments: Vec<String> = match arguments.collect::<std::result::Result<_, _>>() {
+        Ok(arguments) => arguments,
+        Err(argument) => {
+            let argument = argument.to_string_lossy();
+            let _ = eprintln!(&Host; "hexfilter: not UTF-8 {argument:?}; try --help");
+            return ExitCode::from(2);
+        }
+    };
     let streams = direct(stdin()).and_then(|input| Ok((input, direct(stdout())?)));
     match streams {
-        Ok((mut input, mut output)) => proved::program(&Host, &mut input, &mut output),
+        Ok((mut input, mut output)) => {
+            proved::program(&Host, &Host, &arguments, &mut input, &mut output)
+        }
         Err(error) => {
             let _ = eprintln!(&Host; "hexfilter: standard streams: {error}");
             ExitCode::from(3)
         }
+    }
+}
+
+impl proved::Output for Host {
+    #[cfg(unix)]
+    fn is_output(&self, name: Option<&str>) -> bool {
+        use std::os::unix::fs::MetadataExt;
+        let input = match name {
+            Some(name) => std::fs::metadata(name),
+            None => direct(stdin()).and_then(|input| input.metadata()),
+        };
+        match (input, direct(stdout()).and_then(|output| output.metadata())) {
+            (Ok(input), Ok(output)) => {
+                let is_same = (input.dev(), input.ino()) == (output.dev(), output.ino());
+                is_same && input.is_file() && input.len() > 0
+            }
+            _ => false,
+        }
+    }
+
+    /// Rust's standard library cannot tell.
+    #[cfg(not(unix))]
+    fn is_output(&self, _: Option<&str>) -> bool {
+        false
     }
 }
 

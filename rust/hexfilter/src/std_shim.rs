@@ -5,37 +5,15 @@ pub use std::process;
 /// The host, on which the program runs.
 pub struct Host;
 
-impl env::Env for Host {}
 impl io::Eprint for Host {}
-impl rt::AllocGlobal for Host {}
 impl rt::Files for Host {}
 
 /// What each proved file names without a path.
-pub mod prelude {
-    pub use super::rt::AllocGlobal;
-}
+pub mod prelude {}
 
 /// What a host may have.
 pub mod rt {
-    pub trait AllocGlobal {}
     pub trait Files {}
-}
-
-pub mod env {
-    use std::ffi::OsString;
-    use std::io::{ErrorKind, Result};
-    use std::vec::IntoIter;
-
-    pub trait Env {}
-
-    /// Returns the arguments, of which the first is the program's name, or an error unless all are UTF-8.
-    pub fn args(_: &impl Env) -> Result<IntoIter<String>> {
-        let arguments = std::env::args_os().map(OsString::into_string);
-        match arguments.collect::<std::result::Result<Vec<_>, _>>() {
-            Ok(arguments) => Ok(arguments.into_iter()),
-            Err(_) => Err(ErrorKind::InvalidData.into()),
-        }
-    }
 }
 
 pub mod fs {
@@ -74,13 +52,14 @@ pub mod codec {
     /// Stands for a kernel. The crate chooses its own.
     pub struct FixedKernel;
 
-    /// Fills the output with two digits for each byte. It is proved of the caller that the output has this length.
-    /// The caller asks for no prefix.
+    /// Fills the output with the text of the input, after `0x` if a prefix is wanted. It is proved of the caller that
+    /// the output has this length.
     pub fn fill_text<K>(input: &[u8], prefix: bool, upper: bool, output: &mut [u8]) {
-        assert!(!prefix);
+        let (front, digits) = output.split_at_mut(if prefix { 2 } else { 0 });
+        front.copy_from_slice(&b"0x"[..front.len()]);
         let filled = match upper {
-            true => const_hex_proved::encode_to_slice_upper(input, output),
-            false => const_hex_proved::encode_to_slice(input, output),
+            true => const_hex_proved::encode_to_slice_upper(input, digits),
+            false => const_hex_proved::encode_to_slice(input, digits),
         };
         filled.expect("the output has two digits for each byte");
     }

@@ -47,9 +47,9 @@ fn binary_streams() {
 
 #[test]
 fn files() {
-    let path = temp_dir().join("hexfilter ÿ 猕猴桃");
+    let path = temp_dir().join(format!("hexfilter {} ÿ 猕猴桃", std::process::id()));
     let name = path.to_str().unwrap();
-    let missing = format!("hexfilter: {name}: {}\n", File::open(name).unwrap_err());
+    let missing = format!("hexfilter: {name:?}: {}\n", File::open(name).unwrap_err());
     assert_eq!(run(&mut hexfilter(&[name]), b""), (Some(3), vec![], missing));
     fs::write(&path, BYTES).unwrap();
     let encoded = run(&mut hexfilter(&[name]), b"");
@@ -96,7 +96,7 @@ fn an_argument_that_is_no_text() {
     let argument = std::os::windows::ffi::OsStringExt::from_wide(&[0xd800]);
     let argument: std::ffi::OsString = argument;
     let end = run(hexfilter(&[]).arg(argument), b"");
-    let error = "hexfilter: cannot read the arguments: invalid data\n";
+    let error = "hexfilter: not UTF-8 \"\u{fffd}\"; try --help\n";
     assert_eq!(end, (Some(2), vec![], error.to_string()));
 }
 

@@ -243,20 +243,57 @@
 /* const_hex_rust::fill */
 	hidden const_hex_1_0_0_fill_v2
 	function const_hex_1_0_0_fill_v2
-	cmp    rsi,0x40
-	jb     5f
-	mov    eax,esi
-	and    eax,0x40
-	movzx  r8d,cl
-	shl    r8d,0x5
-	lea    r9,[rip + const_hex_1_0_0_constant_4_v2]
-	add    r9,rax
-	movdqu xmm0,XMMWORD PTR [r8+r9*1]
-	movdqu xmm1,XMMWORD PTR [r8+r9*1+0x10]
-	xor    eax,eax
-2:
+	cmp    rsi,0x3f
+	ja     3f
+	cmp    rsi,0x20
+	jb     6f
 	pmovzxbw xmm2,QWORD PTR [rdi+0x8]
 	pmovzxbw xmm3,QWORD PTR [rdi]
+	movzx  eax,cl
+	shl    eax,0x5
+	lea    rcx,[rip + const_hex_1_0_0_constant_4_v2]
+	movdqu xmm0,XMMWORD PTR [rax+rcx*1]
+	movdqu xmm1,XMMWORD PTR [rax+rcx*1+0x10]
+	pmullw xmm3,xmm1
+	pmullw xmm2,xmm1
+	psrlw  xmm2,0x4
+	psrlw  xmm3,0x4
+	movdqa xmm4,xmm0
+	pshufb xmm4,xmm3
+	movdqa xmm3,xmm0
+	pmovzxbw xmm5,QWORD PTR [rdi+0x18]
+	pshufb xmm3,xmm2
+	pmovzxbw xmm2,QWORD PTR [rdi+0x10]
+	pmullw xmm2,xmm1
+	pmullw xmm5,xmm1
+	psrlw  xmm5,0x4
+	psrlw  xmm2,0x4
+	movdqa xmm6,xmm0
+	pshufb xmm6,xmm2
+	movdqa xmm2,xmm0
+	pshufb xmm2,xmm5
+	movdqu XMMWORD PTR [rdx+0x10],xmm3
+	movdqu XMMWORD PTR [rdx],xmm4
+	movdqu XMMWORD PTR [rdx+0x30],xmm2
+	movdqu XMMWORD PTR [rdx+0x20],xmm6
+	cmp    rsi,0x20
+	jne    5f
+2:
+	ret
+3:
+	mov    eax,esi
+	and    eax,0x40
+	movzx  ecx,cl
+	shl    ecx,0x5
+	lea    r8,[rip + const_hex_1_0_0_constant_4_v2]
+	add    r8,rax
+	movdqu xmm0,XMMWORD PTR [rcx+r8*1]
+	movdqu xmm1,XMMWORD PTR [rcx+r8*1+0x10]
+	xor    ecx,ecx
+	mov    rax,rsi
+4:
+	pmovzxbw xmm2,QWORD PTR [rdi+rcx*1+0x8]
+	pmovzxbw xmm3,QWORD PTR [rdi+rcx*1]
 	pmullw xmm3,xmm1
 	pmullw xmm2,xmm1
 	psrlw  xmm2,0x4
@@ -265,8 +302,8 @@
 	pshufb xmm4,xmm3
 	movdqa xmm3,xmm0
 	pshufb xmm3,xmm2
-	pmovzxbw xmm2,QWORD PTR [rdi+0x18]
-	pmovzxbw xmm5,QWORD PTR [rdi+0x10]
+	pmovzxbw xmm2,QWORD PTR [rdi+rcx*1+0x18]
+	pmovzxbw xmm5,QWORD PTR [rdi+rcx*1+0x10]
 	pmullw xmm5,xmm1
 	pmullw xmm2,xmm1
 	psrlw  xmm2,0x4
@@ -275,196 +312,195 @@
 	pshufb xmm6,xmm5
 	movdqa xmm5,xmm0
 	pshufb xmm5,xmm2
-	movdqu XMMWORD PTR [rdx+rax*1+0x10],xmm3
-	movdqu XMMWORD PTR [rdx+rax*1],xmm4
-	movdqu XMMWORD PTR [rdx+rax*1+0x30],xmm5
-	movdqu XMMWORD PTR [rdx+rax*1+0x20],xmm6
-	pmovzxbw xmm2,QWORD PTR [rdi+0x28]
-	pmovzxbw xmm3,QWORD PTR [rdi+0x20]
-	pmovzxbw xmm4,QWORD PTR [rdi+0x38]
-	pmovzxbw xmm5,QWORD PTR [rdi+0x30]
-	add    rdi,0x40
-	add    rsi,0xffffffffffffffc0
+	movdqu XMMWORD PTR [rdx+rcx*2+0x10],xmm3
+	movdqu XMMWORD PTR [rdx+rcx*2],xmm4
+	movdqu XMMWORD PTR [rdx+rcx*2+0x30],xmm5
+	movdqu XMMWORD PTR [rdx+rcx*2+0x20],xmm6
+	pmovzxbw xmm2,QWORD PTR [rdi+rcx*1+0x28]
+	pmovzxbw xmm3,QWORD PTR [rdi+rcx*1+0x20]
 	pmullw xmm3,xmm1
 	pmullw xmm2,xmm1
 	psrlw  xmm2,0x4
 	psrlw  xmm3,0x4
+	movdqa xmm4,xmm0
+	pshufb xmm4,xmm3
+	movdqa xmm3,xmm0
+	pmovzxbw xmm5,QWORD PTR [rdi+rcx*1+0x38]
+	pmovzxbw xmm6,QWORD PTR [rdi+rcx*1+0x30]
+	pshufb xmm3,xmm2
+	pmullw xmm6,xmm1
+	pmullw xmm5,xmm1
+	psrlw  xmm5,0x4
+	psrlw  xmm6,0x4
+	movdqa xmm2,xmm0
+	pshufb xmm2,xmm6
 	movdqa xmm6,xmm0
-	pshufb xmm6,xmm3
+	pshufb xmm6,xmm5
+	movdqu XMMWORD PTR [rdx+rcx*2+0x50],xmm3
+	movdqu XMMWORD PTR [rdx+rcx*2+0x40],xmm4
+	movdqu XMMWORD PTR [rdx+rcx*2+0x70],xmm6
+	movdqu XMMWORD PTR [rdx+rcx*2+0x60],xmm2
+	add    rcx,0x40
+	add    rax,0xffffffffffffffc0
+	cmp    rax,0x3f
+	ja     4b
+	cmp    rcx,rsi
+	je     2b
+	cmp    rax,0x21
+	jb     5f
+	pmovzxbw xmm2,QWORD PTR [rdi+rcx*1+0x8]
+	pmovzxbw xmm3,QWORD PTR [rdi+rcx*1]
+	pmullw xmm3,xmm1
+	pmullw xmm2,xmm1
+	psrlw  xmm2,0x4
+	psrlw  xmm3,0x4
+	movdqa xmm4,xmm0
+	pshufb xmm4,xmm3
 	movdqa xmm3,xmm0
 	pshufb xmm3,xmm2
+	pmovzxbw xmm2,QWORD PTR [rdi+rcx*1+0x18]
+	pmovzxbw xmm5,QWORD PTR [rdi+rcx*1+0x10]
 	pmullw xmm5,xmm1
-	pmullw xmm4,xmm1
-	psrlw  xmm4,0x4
-	psrlw  xmm5,0x4
-	movdqa xmm2,xmm0
-	pshufb xmm2,xmm5
-	movdqa xmm5,xmm0
-	pshufb xmm5,xmm4
-	movdqu XMMWORD PTR [rdx+rax*1+0x50],xmm3
-	movdqu XMMWORD PTR [rdx+rax*1+0x40],xmm6
-	movdqu XMMWORD PTR [rdx+rax*1+0x70],xmm5
-	movdqu XMMWORD PTR [rdx+rax*1+0x60],xmm2
-	add    rax,0x80
-	cmp    rsi,0x3f
-	ja     2b
-	cmp    rsi,0x20
-	jb     4f
-3:
-	pmovzxbw xmm1,QWORD PTR [rdi+0x8]
-	pmovzxbw xmm2,QWORD PTR [rdi]
-	movzx  r8d,cl
-	shl    r8d,0x5
-	lea    r9,[rip + const_hex_1_0_0_constant_4_v2]
-	movdqu xmm0,XMMWORD PTR [r8+r9*1]
-	movdqu xmm3,XMMWORD PTR [r8+r9*1+0x10]
-	pmullw xmm2,xmm3
-	pmullw xmm1,xmm3
-	psrlw  xmm1,0x4
-	psrlw  xmm2,0x4
-	movdqa xmm4,xmm0
-	pshufb xmm4,xmm2
-	movdqa xmm2,xmm0
-	pshufb xmm2,xmm1
-	pmovzxbw xmm1,QWORD PTR [rdi+0x18]
-	pmovzxbw xmm5,QWORD PTR [rdi+0x10]
-	add    rdi,0x20
-	add    rsi,0xffffffffffffffe0
-	pmullw xmm5,xmm3
-	pmullw xmm1,xmm3
-	psrlw  xmm1,0x4
-	psrlw  xmm5,0x4
-	movdqa xmm3,xmm0
-	pshufb xmm3,xmm5
-	pshufb xmm0,xmm1
-	movdqu XMMWORD PTR [rdx+rax*1+0x10],xmm2
-	movdqu XMMWORD PTR [rdx+rax*1],xmm4
-	movdqu XMMWORD PTR [rdx+rax*1+0x30],xmm0
-	movdqu XMMWORD PTR [rdx+rax*1+0x20],xmm3
-	add    rax,0x40
-4:
-	test   rsi,rsi
-	je     13f
-	cmp    rsi,0x1
-	jne    6f
-	movzx  esi,BYTE PTR [rdi]
-	movzx  ecx,cl
-	shl    ecx,0x5
-	lea    rdi,[rip + const_hex_1_0_0_constant_4_v2]
-	movdqu xmm0,XMMWORD PTR [rcx+rdi*1]
-	movdqu xmm1,XMMWORD PTR [rcx+rdi*1+0x10]
-	movd   xmm2,esi
-	pinsrb xmm2,esi,0x2
 	pmullw xmm2,xmm1
 	psrlw  xmm2,0x4
-	pshufb xmm0,xmm2
-	pextrw WORD PTR [rdx+rax*1],xmm0,0x1
-	ret
+	psrlw  xmm5,0x4
+	movdqa xmm6,xmm0
+	pshufb xmm6,xmm5
+	movdqa xmm5,xmm0
+	pshufb xmm5,xmm2
+	movdqu XMMWORD PTR [rdx+rcx*2+0x10],xmm3
+	movdqu XMMWORD PTR [rdx+rcx*2],xmm4
+	movdqu XMMWORD PTR [rdx+rcx*2+0x30],xmm5
+	movdqu XMMWORD PTR [rdx+rcx*2+0x20],xmm6
 5:
-	xor    eax,eax
-	cmp    rsi,0x20
-	jae    3b
-	jmp    4b
-6:
-	cmp    rsi,0x11
-	jb     7f
-	pmovzxbw xmm0,QWORD PTR [rdi+0x8]
-	pmovzxbw xmm1,QWORD PTR [rdi]
-	pmovzxbw xmm2,QWORD PTR [rdi+rsi*1-0x8]
-	pmovzxbw xmm3,QWORD PTR [rdi+rsi*1-0x10]
-	movzx  ecx,cl
-	shl    ecx,0x5
-	lea    rdi,[rip + const_hex_1_0_0_constant_4_v2]
-	movdqu xmm4,XMMWORD PTR [rcx+rdi*1]
-	movdqu xmm5,XMMWORD PTR [rcx+rdi*1+0x10]
-	pmullw xmm1,xmm5
-	pmullw xmm0,xmm5
-	psrlw  xmm0,0x4
-	psrlw  xmm1,0x4
-	movdqa xmm6,xmm4
-	pshufb xmm6,xmm1
-	movdqa xmm1,xmm4
-	pshufb xmm1,xmm0
-	pmullw xmm3,xmm5
-	pmullw xmm2,xmm5
+	pmovzxbw xmm2,QWORD PTR [rdi+rsi*1-0x18]
+	pmovzxbw xmm3,QWORD PTR [rdi+rsi*1-0x20]
+	pmullw xmm3,xmm1
+	pmullw xmm2,xmm1
 	psrlw  xmm2,0x4
 	psrlw  xmm3,0x4
-	movdqa xmm0,xmm4
-	pshufb xmm0,xmm3
-	pshufb xmm4,xmm2
-	lea    rcx,[rdx+rax*1]
-	movdqu XMMWORD PTR [rdx+rax*1+0x10],xmm1
-	movdqu XMMWORD PTR [rdx+rax*1],xmm6
-	movdqu XMMWORD PTR [rcx+rsi*2-0x10],xmm4
-	movdqu XMMWORD PTR [rcx+rsi*2-0x20],xmm0
+	movdqa xmm4,xmm0
+	pshufb xmm4,xmm3
+	movdqa xmm3,xmm0
+	pmovzxbw xmm5,QWORD PTR [rdi+rsi*1-0x8]
+	pmovzxbw xmm6,QWORD PTR [rdi+rsi*1-0x10]
+	pshufb xmm3,xmm2
+	pmullw xmm6,xmm1
+	pmullw xmm5,xmm1
+	psrlw  xmm5,0x4
+	psrlw  xmm6,0x4
+	movdqa xmm1,xmm0
+	pshufb xmm1,xmm6
+	pshufb xmm0,xmm5
+	movdqu XMMWORD PTR [rdx+rsi*2-0x30],xmm3
+	movdqu XMMWORD PTR [rdx+rsi*2-0x40],xmm4
+	movdqu XMMWORD PTR [rdx+rsi*2-0x10],xmm0
+	movdqu XMMWORD PTR [rdx+rsi*2-0x20],xmm1
 	ret
-7:
+6:
 	cmp    rsi,0x10
-	jne    8f
-	pmovzxbw xmm0,QWORD PTR [rdi+0x8]
-	pmovzxbw xmm1,QWORD PTR [rdi]
-	movzx  ecx,cl
-	shl    ecx,0x5
-	lea    rsi,[rip + const_hex_1_0_0_constant_4_v2]
-	movdqu xmm2,XMMWORD PTR [rcx+rsi*1]
-	movdqu xmm3,XMMWORD PTR [rcx+rsi*1+0x10]
-	pmullw xmm1,xmm3
-	pmullw xmm0,xmm3
-	psrlw  xmm0,0x4
-	psrlw  xmm1,0x4
-	movdqa xmm3,xmm2
-	pshufb xmm3,xmm1
-	pshufb xmm2,xmm0
-	movdqu XMMWORD PTR [rdx+rax*1+0x10],xmm2
-	movdqu XMMWORD PTR [rdx+rax*1],xmm3
-	ret
-8:
-	movzx  ecx,cl
-	shl    ecx,0x5
-	lea    r8,[rip + const_hex_1_0_0_constant_4_v2]
-	cmp    rsi,0x8
-	jb     9f
-	movdqu xmm0,XMMWORD PTR [rcx+r8*1]
-	movdqu xmm1,XMMWORD PTR [rcx+r8*1+0x10]
-	pmovzxbw xmm2,QWORD PTR [rdi+rsi*1-0x8]
+	jb     7f
+	pmovzxbw xmm2,QWORD PTR [rdi+0x8]
 	pmovzxbw xmm3,QWORD PTR [rdi]
-	pmullw xmm2,xmm1
+	movzx  eax,cl
+	shl    eax,0x5
+	lea    rcx,[rip + const_hex_1_0_0_constant_4_v2]
+	movdqu xmm0,XMMWORD PTR [rax+rcx*1]
+	movdqu xmm1,XMMWORD PTR [rax+rcx*1+0x10]
 	pmullw xmm3,xmm1
+	pmullw xmm2,xmm1
+	psrlw  xmm2,0x4
+	psrlw  xmm3,0x4
+	movdqa xmm4,xmm0
+	pshufb xmm4,xmm3
+	movdqa xmm3,xmm0
+	pshufb xmm3,xmm2
+	movdqu XMMWORD PTR [rdx],xmm4
+	movdqu XMMWORD PTR [rdx+0x10],xmm3
+	cmp    rsi,0x10
+	je     2b
+	pmovzxbw xmm2,QWORD PTR [rdi+rsi*1-0x8]
+	pmovzxbw xmm3,QWORD PTR [rdi+rsi*1-0x10]
+	pmullw xmm3,xmm1
+	pmullw xmm2,xmm1
 	psrlw  xmm2,0x4
 	psrlw  xmm3,0x4
 	movdqa xmm1,xmm0
 	pshufb xmm1,xmm3
 	pshufb xmm0,xmm2
-	lea    rcx,[rdx+rax*1]
-	movdqu XMMWORD PTR [rdx+rax*1],xmm1
-	movdqu XMMWORD PTR [rcx+rsi*2-0x10],xmm0
+	movdqu XMMWORD PTR [rdx+rsi*2-0x20],xmm1
+	movdqu XMMWORD PTR [rdx+rsi*2-0x10],xmm0
+	ret
+7:
+	cmp    rsi,0x1
+	jne    8f
+	movzx  eax,BYTE PTR [rdi]
+	movzx  ecx,cl
+	shl    ecx,0x5
+	lea    rsi,[rip + const_hex_1_0_0_constant_4_v2]
+	movdqu xmm0,XMMWORD PTR [rcx+rsi*1]
+	movdqu xmm1,XMMWORD PTR [rcx+rsi*1+0x10]
+	movd   xmm2,eax
+	pinsrb xmm2,eax,0x2
+	pmullw xmm2,xmm1
+	psrlw  xmm2,0x4
+	pshufb xmm0,xmm2
+	pextrw WORD PTR [rdx],xmm0,0x1
+	ret
+8:
+	cmp    rsi,0x8
+	jb     9f
+	movzx  eax,cl
+	shl    eax,0x5
+	lea    rcx,[rip + const_hex_1_0_0_constant_4_v2]
+	movdqu xmm0,XMMWORD PTR [rax+rcx*1]
+	pmovzxbw xmm1,QWORD PTR [rdi+rsi*1-0x8]
+	movdqu xmm2,XMMWORD PTR [rax+rcx*1+0x10]
+	pmovzxbw xmm3,QWORD PTR [rdi]
+	pmullw xmm1,xmm2
+	pmullw xmm3,xmm2
+	psrlw  xmm1,0x4
+	psrlw  xmm3,0x4
+	movdqa xmm2,xmm0
+	pshufb xmm2,xmm3
+	pshufb xmm0,xmm1
+	movdqu XMMWORD PTR [rdx],xmm2
+	movdqu XMMWORD PTR [rdx+rsi*2-0x10],xmm0
 	ret
 9:
-	movdqu xmm0,XMMWORD PTR [rcx+r8*1]
-	movdqu xmm1,XMMWORD PTR [rcx+r8*1+0x10]
-	lea    rcx,[rdx+rsi*2]
 	cmp    rsi,0x4
 	jb     12f
-	movd   xmm2,DWORD PTR [rdi]
-	pinsrd xmm2,DWORD PTR [rdi+rsi*1-0x4],0x1
-	pmovzxbw xmm2,xmm2
-	pmullw xmm1,xmm2
-	psrlw  xmm1,0x4
-	pshufb xmm0,xmm1
-	movq   QWORD PTR [rdx+rax*1],xmm0
-	pextrq QWORD PTR [rcx+rax*1-0x8],xmm0,0x1
+	movd   xmm0,DWORD PTR [rdi]
+	pinsrd xmm0,DWORD PTR [rdi+rsi*1-0x4],0x1
+	movzx  eax,cl
+	shl    eax,0x5
+	lea    rcx,[rip + const_hex_1_0_0_constant_4_v2]
+	movdqu xmm1,XMMWORD PTR [rax+rcx*1]
+	movdqu xmm2,XMMWORD PTR [rax+rcx*1+0x10]
+	pmovzxbw xmm0,xmm0
+	pmullw xmm0,xmm2
+	psrlw  xmm0,0x4
+	pshufb xmm1,xmm0
+	movq   QWORD PTR [rdx],xmm1
+	pextrq QWORD PTR [rdx+rsi*2-0x8],xmm1,0x1
 	ret
 12:
-	movzx  r8d,WORD PTR [rdi]
-	movd   xmm2,r8d
-	pinsrw xmm2,WORD PTR [rdi+rsi*1-0x2],0x1
-	pmovzxbw xmm2,xmm2
-	pmullw xmm1,xmm2
-	psrlw  xmm1,0x4
-	pshufb xmm0,xmm1
-	movd   DWORD PTR [rdx+rax*1],xmm0
-	pextrd DWORD PTR [rcx+rax*1-0x4],xmm0,0x1
-13:
+	test   rsi,rsi
+	je     2b
+	movzx  eax,WORD PTR [rdi]
+	movd   xmm0,eax
+	pinsrw xmm0,WORD PTR [rdi+rsi*1-0x2],0x1
+	movzx  eax,cl
+	shl    eax,0x5
+	lea    rcx,[rip + const_hex_1_0_0_constant_4_v2]
+	movdqu xmm1,XMMWORD PTR [rax+rcx*1]
+	movdqu xmm2,XMMWORD PTR [rax+rcx*1+0x10]
+	pmovzxbw xmm0,xmm0
+	pmullw xmm0,xmm2
+	psrlw  xmm0,0x4
+	pshufb xmm1,xmm0
+	movd   DWORD PTR [rdx],xmm1
+	pextrd DWORD PTR [rdx+rsi*2-0x4],xmm1,0x1
 	ret
 	end const_hex_1_0_0_fill_v2
 

@@ -185,123 +185,131 @@
 /* const_hex_rust::fill */
 	hidden const_hex_1_0_0_fill_v3
 	function const_hex_1_0_0_fill_v3
-	cmp    rsi,0x40
-	jb     5f
-	mov    eax,esi
-	and    eax,0x40
-	movzx  r8d,cl
-	shl    r8d,0x5
-	lea    r9,[rip + const_hex_1_0_0_constant_7_v3]
-	add    r9,rax
-	vbroadcasti128 ymm0,XMMWORD PTR [r8+r9*1]
-	vbroadcasti128 ymm1,XMMWORD PTR [r8+r9*1+0x10]
-	xor    eax,eax
-2:
+	cmp    rsi,0x3f
+	ja     3f
+	cmp    rsi,0x20
+	jb     6f
 	vpmovzxbw ymm2,XMMWORD PTR [rdi]
+	movzx  eax,cl
+	shl    eax,0x5
+	lea    rcx,[rip + const_hex_1_0_0_constant_7_v3]
+	vbroadcasti128 ymm0,XMMWORD PTR [rax+rcx*1]
+	vbroadcasti128 ymm1,XMMWORD PTR [rax+rcx*1+0x10]
 	vpmullw ymm2,ymm1,ymm2
 	vpsrlw ymm2,ymm2,0x4
 	vpshufb ymm2,ymm0,ymm2
 	vpmovzxbw ymm3,XMMWORD PTR [rdi+0x10]
 	vpmullw ymm3,ymm1,ymm3
 	vpsrlw ymm3,ymm3,0x4
-	vpshufb ymm3,ymm0,ymm3
-	vmovdqu YMMWORD PTR [rdx+rax*1],ymm2
-	vmovdqu YMMWORD PTR [rdx+rax*1+0x20],ymm3
-	vpmovzxbw ymm2,XMMWORD PTR [rdi+0x20]
-	vpmovzxbw ymm3,XMMWORD PTR [rdi+0x30]
-	add    rdi,0x40
-	add    rsi,0xffffffffffffffc0
+	vmovdqu YMMWORD PTR [rdx],ymm2
+	vpshufb ymm2,ymm0,ymm3
+	vmovdqu YMMWORD PTR [rdx+0x20],ymm2
+	cmp    rsi,0x20
+	jne    5f
+2:
+	vzeroupper
+	ret
+3:
+	mov    eax,esi
+	and    eax,0x40
+	movzx  ecx,cl
+	shl    ecx,0x5
+	lea    r8,[rip + const_hex_1_0_0_constant_7_v3]
+	add    r8,rax
+	vbroadcasti128 ymm0,XMMWORD PTR [rcx+r8*1]
+	vbroadcasti128 ymm1,XMMWORD PTR [rcx+r8*1+0x10]
+	xor    ecx,ecx
+	mov    rax,rsi
+	nop
+4:
+	vpmovzxbw ymm2,XMMWORD PTR [rdi+rcx*1]
 	vpmullw ymm2,ymm1,ymm2
 	vpsrlw ymm2,ymm2,0x4
+	vpshufb ymm2,ymm0,ymm2
+	vpmovzxbw ymm3,XMMWORD PTR [rdi+rcx*1+0x10]
+	vpmullw ymm3,ymm1,ymm3
+	vpsrlw ymm3,ymm3,0x4
+	vpshufb ymm3,ymm0,ymm3
+	vmovdqu YMMWORD PTR [rdx+rcx*2],ymm2
+	vmovdqu YMMWORD PTR [rdx+rcx*2+0x20],ymm3
+	vpmovzxbw ymm2,XMMWORD PTR [rdi+rcx*1+0x20]
+	vpmullw ymm2,ymm1,ymm2
+	vpsrlw ymm2,ymm2,0x4
+	vpmovzxbw ymm3,XMMWORD PTR [rdi+rcx*1+0x30]
 	vpshufb ymm2,ymm0,ymm2
 	vpmullw ymm3,ymm1,ymm3
 	vpsrlw ymm3,ymm3,0x4
 	vpshufb ymm3,ymm0,ymm3
-	vmovdqu YMMWORD PTR [rdx+rax*1+0x40],ymm2
-	vmovdqu YMMWORD PTR [rdx+rax*1+0x60],ymm3
-	add    rax,0x80
-	cmp    rsi,0x3f
-	ja     2b
-	cmp    rsi,0x20
-	jb     4f
-3:
-	vpmovzxbw ymm0,XMMWORD PTR [rdi]
-	vpmovzxbw ymm1,XMMWORD PTR [rdi+0x10]
-	add    rdi,0x20
-	add    rsi,0xffffffffffffffe0
-	movzx  r8d,cl
-	shl    r8d,0x5
-	lea    r9,[rip + const_hex_1_0_0_constant_7_v3]
-	vbroadcasti128 ymm2,XMMWORD PTR [r8+r9*1]
-	vbroadcasti128 ymm3,XMMWORD PTR [r8+r9*1+0x10]
-	vpmullw ymm0,ymm3,ymm0
-	vpsrlw ymm0,ymm0,0x4
-	vpshufb ymm0,ymm2,ymm0
-	vpmullw ymm1,ymm3,ymm1
+	vmovdqu YMMWORD PTR [rdx+rcx*2+0x40],ymm2
+	vmovdqu YMMWORD PTR [rdx+rcx*2+0x60],ymm3
+	add    rcx,0x40
+	add    rax,0xffffffffffffffc0
+	cmp    rax,0x3f
+	ja     4b
+	cmp    rcx,rsi
+	je     2b
+	cmp    rax,0x21
+	jb     5f
+	vpmovzxbw ymm2,XMMWORD PTR [rdi+rcx*1]
+	vpmullw ymm2,ymm1,ymm2
+	vpsrlw ymm2,ymm2,0x4
+	vpmovzxbw ymm3,XMMWORD PTR [rdi+rcx*1+0x10]
+	vpshufb ymm2,ymm0,ymm2
+	vpmullw ymm3,ymm1,ymm3
+	vpsrlw ymm3,ymm3,0x4
+	vpshufb ymm3,ymm0,ymm3
+	vmovdqu YMMWORD PTR [rdx+rcx*2],ymm2
+	vmovdqu YMMWORD PTR [rdx+rcx*2+0x20],ymm3
+5:
+	vpmovzxbw ymm2,XMMWORD PTR [rdi+rsi*1-0x20]
+	vpmullw ymm2,ymm1,ymm2
+	vpsrlw ymm2,ymm2,0x4
+	vpmovzxbw ymm3,XMMWORD PTR [rdi+rsi*1-0x10]
+	vpshufb ymm2,ymm0,ymm2
+	vpmullw ymm1,ymm1,ymm3
 	vpsrlw ymm1,ymm1,0x4
-	vmovdqu YMMWORD PTR [rdx+rax*1],ymm0
-	vpshufb ymm0,ymm2,ymm1
-	vmovdqu YMMWORD PTR [rdx+rax*1+0x20],ymm0
-	add    rax,0x40
-4:
-	test   rsi,rsi
-	je     13f
-	cmp    rsi,0x1
-	jne    6f
-	movzx  esi,BYTE PTR [rdi]
-	vmovd  xmm0,esi
-	vpinsrb xmm0,xmm0,esi,0x1
-	movzx  ecx,cl
-	shl    ecx,0x5
-	lea    rsi,[rip + const_hex_1_0_0_constant_7_v3]
-	vmovdqu xmm1,XMMWORD PTR [rcx+rsi*1]
-	vpmovzxbw xmm0,xmm0
-	vpmullw xmm0,xmm0,XMMWORD PTR [rcx+rsi*1+0x10]
-	vpsrlw xmm0,xmm0,0x4
-	vpshufb xmm0,xmm1,xmm0
-	vpextrw WORD PTR [rdx+rax*1],xmm0,0x1
+	vpshufb ymm0,ymm0,ymm1
+	vmovdqu YMMWORD PTR [rdx+rsi*2-0x40],ymm2
+	vmovdqu YMMWORD PTR [rdx+rsi*2-0x20],ymm0
 	vzeroupper
 	ret
-5:
-	xor    eax,eax
-	cmp    rsi,0x20
-	jae    3b
-	jmp    4b
 6:
-	cmp    rsi,0x11
+	cmp    rsi,0x10
 	jb     7f
-	vpmovzxbw ymm0,XMMWORD PTR [rdi]
-	vpmovzxbw ymm1,XMMWORD PTR [rdi+rsi*1-0x10]
-	movzx  ecx,cl
-	shl    ecx,0x5
-	lea    rdi,[rip + const_hex_1_0_0_constant_7_v3]
-	vbroadcasti128 ymm2,XMMWORD PTR [rcx+rdi*1]
-	vbroadcasti128 ymm3,XMMWORD PTR [rcx+rdi*1+0x10]
-	vpmullw ymm0,ymm3,ymm0
-	vpsrlw ymm0,ymm0,0x4
-	vpshufb ymm0,ymm2,ymm0
-	vpmullw ymm1,ymm3,ymm1
+	vpmovzxbw ymm2,XMMWORD PTR [rdi]
+	movzx  eax,cl
+	shl    eax,0x5
+	lea    rcx,[rip + const_hex_1_0_0_constant_7_v3]
+	vbroadcasti128 ymm0,XMMWORD PTR [rax+rcx*1]
+	vbroadcasti128 ymm1,XMMWORD PTR [rax+rcx*1+0x10]
+	vpmullw ymm2,ymm1,ymm2
+	vpsrlw ymm2,ymm2,0x4
+	vpshufb ymm2,ymm0,ymm2
+	vmovdqu YMMWORD PTR [rdx],ymm2
+	cmp    rsi,0x10
+	je     2b
+	vpmovzxbw ymm2,XMMWORD PTR [rdi+rsi*1-0x10]
+	vpmullw ymm1,ymm1,ymm2
 	vpsrlw ymm1,ymm1,0x4
-	vpshufb ymm1,ymm2,ymm1
-	lea    rcx,[rdx+rax*1]
-	vmovdqu YMMWORD PTR [rdx+rax*1],ymm0
-	vmovdqu YMMWORD PTR [rcx+rsi*2-0x20],ymm1
+	vpshufb ymm0,ymm0,ymm1
+	vmovdqu YMMWORD PTR [rdx+rsi*2-0x20],ymm0
 	vzeroupper
 	ret
 7:
-	cmp    rsi,0x10
+	cmp    rsi,0x1
 	jne    8f
-	vpmovzxbw ymm0,XMMWORD PTR [rdi]
-	movzx  ecx,cl
-	shl    ecx,0x5
-	lea    rsi,[rip + const_hex_1_0_0_constant_7_v3]
-	vbroadcasti128 ymm1,XMMWORD PTR [rcx+rsi*1]
-	vbroadcasti128 ymm2,XMMWORD PTR [rcx+rsi*1+0x10]
-	vpmullw ymm0,ymm2,ymm0
-	vpsrlw ymm0,ymm0,0x4
-	vpshufb ymm0,ymm1,ymm0
-	vmovdqu YMMWORD PTR [rdx+rax*1],ymm0
-	vzeroupper
+	movzx  eax,BYTE PTR [rdi]
+	vmovd  xmm0,eax
+	vpinsrb xmm0,xmm0,eax,0x1
+	movzx  eax,cl
+	shl    eax,0x5
+	lea    rcx,[rip + const_hex_1_0_0_constant_7_v3]
+	vmovdqu xmm1,XMMWORD PTR [rax+rcx*1]
+	vpmovzxbw xmm0,xmm0
+	vpmullw xmm0,xmm0,XMMWORD PTR [rax+rcx*1+0x10]
+	vpsrlw xmm0,xmm0,0x4
+	vpshufb xmm0,xmm1,xmm0
+	vpextrw WORD PTR [rdx],xmm0,0x1
 	ret
 8:
 	cmp    rsi,0x8
@@ -309,52 +317,52 @@
 	vmovq  xmm0,QWORD PTR [rdi+rsi*1-0x8]
 	vmovq  xmm1,QWORD PTR [rdi]
 	vpunpcklqdq xmm0,xmm1,xmm0
-	movzx  ecx,cl
-	shl    ecx,0x5
-	lea    rdi,[rip + const_hex_1_0_0_constant_7_v3]
-	vbroadcasti128 ymm1,XMMWORD PTR [rcx+rdi*1]
+	movzx  eax,cl
+	shl    eax,0x5
+	lea    rcx,[rip + const_hex_1_0_0_constant_7_v3]
+	vbroadcasti128 ymm1,XMMWORD PTR [rax+rcx*1]
 	vpmovzxbw ymm0,xmm0
-	vbroadcasti128 ymm2,XMMWORD PTR [rcx+rdi*1+0x10]
+	vbroadcasti128 ymm2,XMMWORD PTR [rax+rcx*1+0x10]
 	vpmullw ymm0,ymm2,ymm0
 	vpsrlw ymm0,ymm0,0x4
 	vpshufb ymm0,ymm1,ymm0
-	lea    rcx,[rdx+rax*1]
-	vmovdqu XMMWORD PTR [rdx+rax*1],xmm0
-	vextracti128 XMMWORD PTR [rcx+rsi*2-0x10],ymm0,0x1
+	vmovdqu XMMWORD PTR [rdx],xmm0
+	vextracti128 XMMWORD PTR [rdx+rsi*2-0x10],ymm0,0x1
 	vzeroupper
 	ret
 9:
-	movzx  ecx,cl
-	shl    ecx,0x5
-	lea    r8,[rip + const_hex_1_0_0_constant_7_v3]
-	vbroadcasti128 ymm0,XMMWORD PTR [rcx+r8*1]
-	vbroadcasti128 ymm1,XMMWORD PTR [rcx+r8*1+0x10]
-	lea    rcx,[rdx+rsi*2]
 	cmp    rsi,0x4
 	jb     12f
-	vmovd  xmm2,DWORD PTR [rdi+rsi*1-0x4]
-	vmovd  xmm3,DWORD PTR [rdi]
-	vpunpckldq xmm2,xmm3,xmm2
-	vpmovzxbw xmm2,xmm2
-	vpmullw xmm1,xmm1,xmm2
-	vpsrlw xmm1,xmm1,0x4
-	vpshufb xmm0,xmm0,xmm1
-	vmovq  QWORD PTR [rdx+rax*1],xmm0
-	vpextrq QWORD PTR [rcx+rax*1-0x8],xmm0,0x1
-	vzeroupper
+	vmovd  xmm0,DWORD PTR [rdi+rsi*1-0x4]
+	vmovd  xmm1,DWORD PTR [rdi]
+	vpunpckldq xmm0,xmm1,xmm0
+	movzx  eax,cl
+	shl    eax,0x5
+	lea    rcx,[rip + const_hex_1_0_0_constant_7_v3]
+	vmovdqu xmm1,XMMWORD PTR [rax+rcx*1]
+	vpmovzxbw xmm0,xmm0
+	vpmullw xmm0,xmm0,XMMWORD PTR [rax+rcx*1+0x10]
+	vpsrlw xmm0,xmm0,0x4
+	vpshufb xmm0,xmm1,xmm0
+	vmovq  QWORD PTR [rdx],xmm0
+	vpextrq QWORD PTR [rdx+rsi*2-0x8],xmm0,0x1
 	ret
 12:
-	movzx  r8d,WORD PTR [rdi]
-	vmovd  xmm2,r8d
-	vpinsrw xmm2,xmm2,WORD PTR [rdi+rsi*1-0x2],0x1
-	vpmovzxbw xmm2,xmm2
-	vpmullw xmm1,xmm1,xmm2
-	vpsrlw xmm1,xmm1,0x4
-	vpshufb xmm0,xmm0,xmm1
-	vmovd  DWORD PTR [rdx+rax*1],xmm0
-	vpextrd DWORD PTR [rcx+rax*1-0x4],xmm0,0x1
-13:
-	vzeroupper
+	test   rsi,rsi
+	je     2b
+	movzx  eax,WORD PTR [rdi]
+	vmovd  xmm0,eax
+	vpinsrw xmm0,xmm0,WORD PTR [rdi+rsi*1-0x2],0x1
+	movzx  eax,cl
+	shl    eax,0x5
+	lea    rcx,[rip + const_hex_1_0_0_constant_7_v3]
+	vmovdqu xmm1,XMMWORD PTR [rax+rcx*1]
+	vpmovzxbw xmm0,xmm0
+	vpmullw xmm0,xmm0,XMMWORD PTR [rax+rcx*1+0x10]
+	vpsrlw xmm0,xmm0,0x4
+	vpshufb xmm0,xmm1,xmm0
+	vmovd  DWORD PTR [rdx],xmm0
+	vpextrd DWORD PTR [rdx+rsi*2-0x4],xmm0,0x1
 	ret
 	end const_hex_1_0_0_fill_v3
 

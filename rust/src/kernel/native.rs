@@ -13,13 +13,16 @@ pub struct Native;
 impl Kernel for Native {
     const USE_CHECK_FN: bool = false;
 
+    const PIECE: usize = 64;
+
+    // A call of the machine code for each piece would take longer.
     fn encode<O: Output>(input: &[u8], upper: bool, output: &mut O) {
         let mut text = [0; 1024];
         for bytes in input.chunks(512) {
             let text = &mut text[..2 * bytes.len()];
             Self::fill(bytes, upper, text);
             // Pieces of a known length are faster to write.
-            let mut pieces = text.chunks_exact(64);
+            let mut pieces = text.chunks_exact(Self::PIECE);
             pieces.by_ref().for_each(|piece| output.write(piece));
             if !pieces.remainder().is_empty() {
                 output.write(pieces.remainder());
@@ -99,9 +102,9 @@ mod owned {
         }
     }
 
-    /// What the function of the proved module `reserved` returns.
+    /// Returns what the function of the proved module `owned` returns. `K`, which the caller names, is [`Native`].
     #[inline]
-    pub fn encode_reserved<K>(
+    pub fn encode_to_vec<K>(
         _: Global,
         input: &[u8],
         prefix: bool,
@@ -112,10 +115,10 @@ mod owned {
         Ok(Vec(text))
     }
 
-    /// What the function of the proved module `reserved` returns.
+    /// Returns what the function of the proved module `owned` returns. `K`, which the caller names, is [`Native`].
     #[inline]
-    pub fn decode_reserved<K>(_: Global, digits: &[u8]) -> Result<Option<Vec<u8>>, AllocError> {
+    pub fn decode_to_vec<K>(_: Global, digits: &[u8]) -> Result<Option<Vec<u8>>, AllocError> {
         let mut bytes = alloc::vec::Vec::with_capacity(digits.len() / 2);
-        Ok(decode_append(digits, &mut bytes).then(|| Vec(bytes)))
+        Ok(decode_append(digits, &mut bytes).then_some(Vec(bytes)))
     }
 }

@@ -1,7 +1,7 @@
 //! The kernel of the proved source, and the vectors that it fills.
 
 #[cfg(feature = "alloc")]
-pub(crate) use crate::proved::reserved::{decode_reserved, encode_reserved};
+pub(crate) use crate::proved::owned::{decode_to_vec, encode_to_vec};
 #[cfg(feature = "alloc")]
 use crate::proved::{codec::body::decode_body, fill_text, text_length};
 #[cfg(feature = "alloc")]

@@ -17,7 +17,6 @@ mod small_input;
 mod steps;
 
 use crate::proved::output::Output;
-use crate::proved::output::slice::SliceOutput;
 
 /// The kernel of every call that does not name one. It is named here and nowhere else.
 pub type FixedKernel = crate::kernel::Native;
@@ -31,17 +30,28 @@ pub trait Kernel {
     /// their output unchanged.
     const USE_CHECK_FN: bool;
 
-    /// Writes two digits for each byte, in order, in pieces of 1 to 64 bytes. The output must have
-    /// space for them.
-    fn encode<O: Output>(input: &[u8], upper: bool, output: &mut O);
+    /// How many bytes of text one piece of [`encode`](Kernel::encode) has: a divisor of 64. With
+    /// another number, the pieces of each 64 bytes end with a shorter one.
+    const PIECE: usize;
 
     /// Fills the output with two digits for each byte, in order. The output must have exactly the
     /// length of that text.
-    // A call that is not inlined gets its slices in registers, and `encode` its output in memory.
-    #[inline(always)]
-    fn fill(input: &[u8], upper: bool, output: &mut [u8]) {
-        let mut written = SliceOutput::new(output);
-        Self::encode::<SliceOutput>(input, upper, &mut written);
+    fn fill(input: &[u8], upper: bool, output: &mut [u8]);
+
+    /// Writes two digits for each byte, in order, in pieces of [`PIECE`](Kernel::PIECE) bytes, of
+    /// which the last may be shorter. No piece is longer than 64 bytes. The output must have space
+    /// for the text.
+    #[inline]
+    fn encode<O: Output>(input: &[u8], upper: bool, output: &mut O) {
+        let mut rest = input;
+        while rest.len() > 0 {
+            let (bytes, after) = rest.split_at(rest.len().min(32));
+            let mut text = [0; 64];
+            let digits = &mut text[..2 * bytes.len()];
+            Self::fill(bytes, upper, digits);
+            write_in_pieces(digits, Self::PIECE, output);
+            rest = after;
+        }
     }
 
     /// Whether every byte is a digit.
@@ -60,19 +70,19 @@ pub trait Kernel {
         Self::decode_checked(input, output)
     }
 
-    /// Decodes a part of the input into the output and returns true. Returns false if some byte of
-    /// this part is not a digit. The part begins after the first `start` pairs of the input, and
-    /// has two bytes for each byte of the output.
-    ///
-    /// This is for a caller that puts each part into an array. A kernel may have shorter code for
-    /// arrays of 16, 32 and 64 bytes.
-    #[inline(always)]
-    fn decode_part(input: &[u8], start: usize, output: &mut [u8]) -> bool {
-        let end = start + output.len();
-        Self::decode_checked(&input[2 * start..2 * end], output)
-    }
-
     /// Decodes the input into the output. The input must have two bytes for each byte of the
     /// output, and only digits.
     fn decode_unchecked(input: &[u8], output: &mut [u8]);
+}
+
+/// Writes a text of at most 64 bytes in pieces of the given size, or of 1 byte if that is 0. The last
+/// piece may be shorter.
+#[inline(always)]
+fn write_in_pieces<O: Output>(text: &[u8], size: usize, output: &mut O) {
+    let mut rest = text;
+    while rest.len() > 0 {
+        let (piece, after) = rest.split_at(rest.len().min(size.max(1)));
+        output.write(piece);
+        rest = after;
+    }
 }

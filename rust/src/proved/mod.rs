@@ -1,5 +1,6 @@
 //! The proved source without its contracts and proofs.
 // Made by rust/erase. Do not edit.
+#![allow(clippy::all)]
 
 pub(crate) mod arch;
 pub(crate) mod output;
@@ -11,7 +12,7 @@ pub(crate) mod codec;
 pub(crate) mod error;
 pub(crate) mod formatting;
 #[cfg(feature = "alloc")]
-pub(crate) mod reserved;
+pub(crate) mod owned;
 pub(crate) mod c;
 #[cfg(all(test, feature = "std"))]
 mod examples;
@@ -38,33 +39,33 @@ pub use self::formatting::text::*;
 
 // The places that each rule of rust/erase has changed:
 //
-//   31  Rattle's std is the module std_shim
+//   26  Rattle's std is the module std_shim
 //    1  Rust's errors are not copied
 //   26  a formatter has a lifetime in place of its writer's type
 //   10  a function for C takes slices, which capi makes of pointers and lengths, and is compiled there alone
-//  101  all crates are one module
+//    2  a vector of zeros is made by a call
+//   90  all crates are one module
 //    5  an allocation never fails: without memory the program ends
-//    1  an argument's copy takes no allocator
-//  118  an assertion names no runtime
+//    0  an argument's copy takes no allocator
+//  115  an assertion names no runtime
 //    3  an example names a kernel that each target has
 //    4  an example of hexfilter uses no allocator
 //    1  and a constant converts by a cast
-//    2  and an error is borrowed
+//    1  and an error is borrowed
 //    5  and kernels over vectors are there for WebAssembly alone
 //    2  and makes the vectors that are returned
 //   22  and panics instead of returning an error
 //    1  and the crate's decoder is cloned
 //    1  before it reads a chunk
-//   47  deleted: attribute
-//  251  deleted: contract
-//  216  deleted: ghost item
+//   46  deleted: attribute
+//  241  deleted: contract
+//  206  deleted: ghost item
 //    4  deleted: model
 //    1  each value may be dropped
 //    5  kernels that no target uses are left out, and callers that nothing exports
 //   22  the allocator is a value
-//    1  the bytes of a slice are appended at once, and not one by one
 //    1  the kernel is chosen for the processor
 //   12  what a constant calls is constant
-//   14  what allocates is there with the feature alloc
+//   15  what allocates is there with the feature alloc
 //    3  what hexfilter uses of const_hex is a module of std_shim
 //    5  what is for C is a module of const_hex

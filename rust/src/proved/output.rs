@@ -22,21 +22,4 @@ pub trait Output {
     fn write_byte(&mut self, byte: u8) {
         self.write(&[byte])
     }
-
-    /// Writes a piece of `count` bytes, at most 64, that begins with `first` and ends with `last`.
-    /// Both have the same length, and together they cover the piece. Where they overlap, the bytes
-    /// of `last` are written.
-    #[inline(always)]
-    fn write_ends(&mut self, first: &[u8], last: &[u8], count: usize) {
-        self.write(&join_ends(first, last, count)[..count])
-    }
-}
-
-/// An array that begins with the piece that has these ends.
-#[inline(always)]
-fn join_ends(first: &[u8], last: &[u8], count: usize) -> [u8; 64] {
-    let mut piece = [0; 64];
-    piece[..first.len()].copy_from_slice(first);
-    piece[count - last.len()..count].copy_from_slice(last);
-    piece
 }

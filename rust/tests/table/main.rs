@@ -1,5 +1,4 @@
-//! The table of test vectors, asked of each function that can answer a line. A copy of this package alone
-//! does not have the table, and then nothing is asked.
+//! The table of test vectors, asked of each function that can answer a line.
 #![cfg(feature = "std")]
 
 use const_hex_proved as codec;

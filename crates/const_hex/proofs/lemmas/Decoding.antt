@@ -170,24 +170,6 @@ module _ (d : Decoder) (t bs piece w digits : List ℕ) (r : HasRead d t bs) (wh
         omega (arith, e, before, size, parts, bound),
       )
 
--- ---- a text with an invalid character, whatever follows
-
-body-longer : (t u : List ℕ) (p : ℕ) → FirstBad (body_of t) p → body_of (t ++ u) ≡ body_of t ++ u
-body-longer [] u p f = absurd (let inside = f.within in omega arith)
-body-longer (c ∷ []) [] p f = refl
-body-longer (c ∷ []) (d ∷ u) p f = grind (arith, f.within, f.here)
-body-longer (c ∷ d ∷ t) u p f = longer ((c == 48) && (d == 120 || d == 88)) t (c ∷ d ∷ t) u
-
-pub NamesCounted-longer : (t u : List ℕ) (c index : ℕ) → NamesCounted t c index → NamesCounted (t ++ u) c index
-NamesCounted-longer t u c i (n, (p, f, is, index), counts) =
-    let body = body-longer t u p f in
-    let inside = f.within in
-    let bound = body-shorter t in
-    let sizes : length (t ++ u) - length (body_of t ++ u) ≡ length t - length (body_of t) =
-    omega (arith, length-append t u, length-append (body_of t) u) in
-    let same : slice_index (body_of t) p ≡ slice_index (body_of t ++ u) p = within_front (body_of t) u p inside in
-    (n, (p, rw body (FirstBad-longer (body_of t) u p f), rw body (is ∙ same), rw (body, sizes) index), counts)
-
 -- ---- what was read is decoded
 
 pub read_digits : (d : Decoder) (t bs : List ℕ) → HasRead d t bs → AllDigits (body_of t)

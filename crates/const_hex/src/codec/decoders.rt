@@ -7,7 +7,7 @@ ghost use Rattle.const_hex.specs.declared.error.FromHexError.TheVariants.{OddLen
 
 use crate::codec::body::{decode_body, find_invalid_character, strip_even};
 use crate::error::FromHexError;
-use crate::reserved::decode_reserved;
+use crate::owned::decode_to_vec;
 use const_hex_arch::{FixedKernel, Kernel, NIL, value_at};
 use std::alloc::Global;
 
@@ -52,7 +52,7 @@ fn decode_owned<K: Kernel>(alloc: Global, input: &[u8]) -> Result<Vec<u8>, FromH
     ensures err { IfErr result (λ e. e ≢ NoMemory → Reads input.now (Err e)) }
     ensures odd { (result ≡ Err OddLength) ↔ IsOdd (length input.now) }
 {
-    match decode_reserved::<K>(alloc, strip_even(input)?)? {
+    match decode_to_vec::<K>(alloc, strip_even(input)?)? {
         Some(bytes) => Ok(bytes),
         None => Err(find_invalid_character(input)),
     }

@@ -9,13 +9,13 @@ ghost use Rattle.const_hex.specs.Results.{Encodes, EncodesToSlice};
 ghost use Rattle.const_hex.specs.declared.error.FromHexError.TheVariants.{InvalidStringLength};
 
 use crate::error::FromHexError;
-use crate::reserved::encode_reserved;
+use crate::owned::encode_to_vec;
 use const_hex_arch::{FixedKernel, Kernel, ascii_text, fill_text, text_length};
 use std::alloc::{AllocError, Global};
 
 /// The text, as a `String`.
 #[inline(always)]
-fn encode_owned<K: Kernel>(
+pub(crate) fn encode_owned<K: Kernel>(
     alloc: Global,
     input: &[u8],
     prefix: bool,
@@ -23,7 +23,7 @@ fn encode_owned<K: Kernel>(
 ) -> Result<String, AllocError>
     ensures { IfOk result (λ s. string_bytes s ≡ full_text prefix upper input.now) }
 {
-    let text = encode_reserved::<K>(alloc, input, prefix, upper)?;
+    let text = encode_to_vec::<K>(alloc, input, prefix, upper)?;
     // SAFETY: the text is ASCII.
     Ok(unsafe { String::from_utf8_unchecked(text) })
 }
@@ -36,10 +36,11 @@ fn encode_owned<K: Kernel>(
 /// let text = const_hex::encode(rt.alloc(), b"Hello world!")?;
 /// assert_eq!(rt; text.as_str(), "48656c6c6f20776f726c6421");
 /// ```
+#[tactic(auto, using(const_hex_arch::proofs::lemmas::Texts::texts))]
 pub fn encode(alloc: Global, input: &[u8]) -> Result<String, AllocError>
     ensures { Encodes false input.now result }
 {
-    encode_with::<FixedKernel, false>(alloc, input)
+    encode_owned::<FixedKernel>(alloc, input, false, false)
 }
 
 /// As [`encode`], in uppercase.
@@ -50,10 +51,11 @@ pub fn encode(alloc: Global, input: &[u8]) -> Result<String, AllocError>
 /// let text = const_hex::encode_upper(rt.alloc(), b"kiwi")?;
 /// assert_eq!(rt; text.as_str(), "6B697769");
 /// ```
+#[tactic(auto, using(const_hex_arch::proofs::lemmas::Texts::texts))]
 pub fn encode_upper(alloc: Global, input: &[u8]) -> Result<String, AllocError>
     ensures { Encodes true input.now result }
 {
-    encode_with::<FixedKernel, true>(alloc, input)
+    encode_owned::<FixedKernel>(alloc, input, false, true)
 }
 
 /// `0x`, and then the text of [`encode`].

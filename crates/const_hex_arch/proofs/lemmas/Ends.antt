@@ -1,20 +1,20 @@
 -- Texts and pieces by their first and their last bytes.
-use Rattle.std.proofs.Common.{◌≡◌, ℕ, ◌+◌, ◌-◌, ◌*◌, ◌≤◌, ◌↔◌, Bool, List, [], ◌∷◌, ◌++◌, length, take, drop, refl, sym, ap, ◌∙◌, arith, take-append-drop, drop-drop, length-take, length-drop, length-append}
+use Rattle.std.proofs.Common.{◌≡◌, ℕ, ◌+◌, ◌-◌, ◌*◌, ◌<◌, ◌≤◌, ◌↔◌, Bool, set, List, [], ◌∷◌, ◌++◌, length, take, drop, refl, sym, ap, ◌∙◌, arith, take-append-drop, take-add, drop-drop, length-take, length-drop, length-append}
 use Rattle.std.proofs.lemmas.Grind.{common_steps}
 use Rattle.std.proofs.lemmas.List.{append_assoc, take_all, take_at, take_rest, drop_at, drop-take, take-append-le}
 use Rattle.std.proofs.lemmas.List.Elements.{All-take, All-drop}
 use Rattle.std.proofs.Math.Seq.{take-append-add, drop-append-add}
 use Rattle.std.proofs.lemmas.Simd.{length-put_chunk, take_more_put_chunk}
 use lib.Lanes.{put_chunk}
+use borrow.Rule.Slice.PartMut.{put_mid}
+use Rattle.std.proofs.lemmas.Slice.{take-put_mid}
 use Rattle.const_hex_arch.specs.Texts.{IsDigit, hex_text, AllDigits, Spells}
-use Rattle.const_hex_arch.specs.Outputs.{Placed}
-use Rattle.const_hex_arch.proofs.lemmas.SliceRuns.{Placed-more}
 use Rattle.const_hex_arch.proofs.lemmas.Spelling.{digits_append, Spells-append, Spells-parts}
 use Rattle.const_hex_arch.proofs.lemmas.Steps.{digits_last}
-use Rattle.const_hex_arch.proofs.lemmas.Texts.{hex_text-append, length-hex_text}
+use Rattle.const_hex_arch.proofs.lemmas.Texts.{hex_text-nil, hex_text-append, length-hex_text}
 
 -- the text of the first k bytes
-take-hex_text : (up : Bool) (k : ℕ) (bs : List ℕ) → k ≤ length bs → take (2 * k) (hex_text up bs) ≡ hex_text up (take k bs)
+pub take-hex_text : (up : Bool) (k : ℕ) (bs : List ℕ) → k ≤ length bs → take (2 * k) (hex_text up bs) ≡ hex_text up (take k bs)
 take-hex_text up k bs h =
     let long : length (hex_text up (take k bs)) ≡ 2 * k = omega (arith, length-hex_text up (take k bs), length-take k bs) in
     ap (take (2 * k)) (ap (hex_text up) (sym (take-append-drop k bs)) ∙ hex_text-append up (take k bs) (drop k bs)) ∙ take_at _ _ (2 * k) long
@@ -58,14 +58,13 @@ digits_ends n u step h k e rest =
     )
 
 -- a store of the first h bytes, and then of the last
-pub put_ends : (h : ℕ) (old first last : List ℕ) → length first ≡ h → length last ≡ h → h ≤ length old → length old ≤ 2 * h
-    → put_chunk (length old - h) (put_chunk 0 old first) last ≡ take (length old - h) first ++ last
-put_ends h old first last p q least most =
-    let start = length old - h in
+pub put_ends : (h start : ℕ) (old first last : List ℕ) → length first ≡ h → length last ≡ h → start + h ≡ length old → length old ≤ 2 * h
+    → put_chunk start (put_chunk 0 old first) last ≡ take start first ++ last
+put_ends h start old first last p q whole most =
     let mid = put_chunk 0 old first in
     let long = length-put_chunk 0 old first in
     let all = length-put_chunk start mid last in
-    let front : take h mid ≡ first = take_more_put_chunk 0 old first h (omega (arith, p)) least in
+    let front : take h mid ≡ first = take_more_put_chunk 0 old first h (omega (arith, p)) (omega arith) in
     let less : take start (take h mid) ≡ take start mid = grind (arith, common_steps) in
     sym (take_all (length old) (put_chunk start mid last) (omega (arith, long, all)))
     ∙ take_more_put_chunk start mid last (length old) (omega (arith, q)) (omega (arith, long))
@@ -86,38 +85,48 @@ spells_ends h d n u step bytes two long least most e s =
     rw take-append-drop at (Spells-append _ _ _ _ (rw (front, first) at (Spells-parts both (take d bytes) (n - h) start (omega arith) spelled).0)
     (rw (back, last) at (Spells-parts both (take d bytes) h d two spelled).1))
 
--- ---- pieces of an output
+-- ---- the first digits of an output are the text of the first bytes
+pub record IsFilled (up : Bool) (u new : List ℕ) (i : ℕ) : Type 0 where
+  pub within : i ≤ length u
+  pub size : length new ≡ 2 * length u
+  pub front : take (2 * i) new ≡ hex_text up (take i u)
 
--- one piece, and then another that begins within it
-Placed-some : (old : List ℕ) (at : ℕ) (first mid : List ℕ) (m : ℕ) (last new : List ℕ) (end count : ℕ) → Placed old at first mid m
-    → Placed mid (m - (length first + length last - count)) last new end → length first ≡ length last → length last ≤ count → count ≤ 2 * length last
-    → 1 ≤ length first → Placed old at (take (count - length last) first ++ last) new end
-Placed-some old at first mid m last new end count h g same least most some =
-    let k = count - length last in
-    let part = length-append (take at old) first in
-    let sum = length-append (take at old ++ first) (drop m old) in
-    let within : m ≤ length old = omega (arith, sum, part, ap length h.bytes, length-take at old, length-drop m old) in
-    let short : length (take at old) ≡ at = omega (arith, length-take at old) in
-    let from : m - (length first + length last - count) ≡ length (take at old) + k = omega arith in
-    let past : end ≡ length (take at old ++ first) + (end - m) = omega (arith, part) in
-    let front : take (length (take at old) + k) mid ≡ take at old ++ take k first =
-    ap (take (length (take at old) + k)) (h.bytes ∙ append_assoc (take at old) first (drop m old)) ∙ take-append-add (take at old) (first ++ drop m old) k
-    ∙ ap (λ x. take at old ++ x) (take-append-le k first (drop m old) (omega arith)) in
-    let behind : drop end mid ≡ drop end old =
-    let q : m + (end - m) ≡ end = omega arith in
-    ap (drop end) h.bytes ∙ ap (λ n. drop n ((take at old ++ first) ++ drop m old)) past
-    ∙ drop-append-add (take at old ++ first) (drop m old) (end - m) ∙ drop-drop (end - m) m old ∙ ap (λ n. drop n old) q in record {
-      end_at = omega (arith, length-append (take k first) last, length-take k first);
-      same_length = g.same_length ∙ h.same_length;
-      bytes = g.bytes ∙ rw (from, front, behind) (ap (λ x. x ++ drop end old) (append_assoc (take at old) (take k first) last));
+pub none_filled : {up : Bool} {u new : List ℕ} → length new ≡ 2 * length u → IsFilled up u new 0
+none_filled {up} {u} {new} e = record { within = omega arith; size = e; front = sym (hex_text-nil up) }
+
+-- the text of n bytes more
+pub filled_step : {up : Bool} {u new : List ℕ} {i end : ℕ} (r : List ℕ) (n m : ℕ) → IsFilled up u new i → end ≡ i + n → end ≤ length u → m ≡ 2 * n
+    → r ≡ hex_text up (take n (drop i u)) → IsFilled up u (put_mid (2 * i) m new r) end
+filled_step {up} {u} {new} {i} {end} r n m d e h f s =
+    let long : length r ≡ m = omega (arith, ap length s, length-hex_text up (take n (drop i u)), length-take n (drop i u), length-drop i u) in
+    let size = d.size in
+    let bytes : take (2 * end) (put_mid (2 * i) m new r) ≡ take (2 * i) new ++ r = take-put_mid (2 * i) m new r (2 * end) (omega arith) (omega arith) in
+    let text : hex_text up (take end u) ≡ hex_text up (take i u) ++ hex_text up (take n (drop i u)) =
+    rw e (ap (hex_text up) (take-add i n u) ∙ hex_text-append up (take i u) (take n (drop i u))) in
+    let kept : length (put_mid (2 * i) m new r) ≡ length new = grind (arith, common_steps) in record {
+      within = h;
+      size = kept ∙ d.size;
+      front = bytes ∙ ap (λ x. x ++ r) d.front ∙ ap (λ x. hex_text up (take i u) ++ x) s ∙ sym text;
     }
 
-pub Placed-ends : (old : List ℕ) (at : ℕ) (first mid : List ℕ) (m : ℕ) (last new : List ℕ) (end count : ℕ) → Placed old at first mid m
-    → Placed mid (m - (length first + length last - count)) last new end → length first ≡ length last → length last ≤ count → count ≤ 2 * length last
-    → Placed old at (take (count - length last) first ++ last) new end
-Placed-ends old at [] mid m last new end count h g same least most =
-    let stays : m - (0 + length last - count) ≡ m = omega arith in
-    let none : count - length last ≡ 0 = omega arith in
-    rw none (Placed-more old at [] mid m last new end h (rw stays at g))
-Placed-ends old at (x ∷ p) mid m last new end count h g same least most =
-    Placed-some old at (x ∷ p) mid m last new end count h g same least most (omega arith)
+-- fewer bytes are written than there are
+pub filled_less : {up : Bool} {u new : List ℕ} {i : ℕ} (e : ℕ) → IsFilled up u new i → e ≤ i → IsFilled up u new e
+filled_less {up} {u} {new} {i} e d h = record {
+  within = omega (arith, d.within);
+  size = d.size;
+  front =
+      let digits : take (2 * e) (take (2 * i) new) ≡ take (2 * e) new = grind (arith, common_steps) in
+      let bytes : take e (take i u) ≡ take e u = grind (arith, common_steps) in
+      sym digits ∙ ap (take (2 * e)) d.front ∙ take-hex_text up e (take i u) (omega (arith, length-take i u, d.within)) ∙ ap (hex_text up) bytes;
+}
+
+-- all of the text
+pub filled_whole : {up : Bool} {u new : List ℕ} {i : ℕ} → IsFilled up u new i → length u ≤ i → new ≡ hex_text up u
+filled_whole {up} {u} {new} {i} d h = sym (take_all (2 * i) new (omega (arith, d.size))) ∙ d.front ∙ ap (hex_text up) (take_all i u h)
+
+-- the rest of the text
+pub filled_rest : {up : Bool} {u new : List ℕ} {i : ℕ} (r : List ℕ) → IsFilled up u new i → r ≡ hex_text up (take (length u - i) (drop i u))
+    → put_mid (2 * i) (length new - 2 * i) new r ≡ hex_text up u
+filled_rest {up} {u} {new} {i} r d s =
+    let size = d.size in
+    filled_whole (filled_step {end = length u} r (length u - i) (length new - 2 * i) d (omega (arith, d.within)) (omega arith) (omega arith) s) (omega arith)

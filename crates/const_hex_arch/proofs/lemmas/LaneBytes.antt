@@ -65,17 +65,3 @@ merge_spells n t u a b p q first second r is d =
 
 pub in_two : (n : ℕ) (u : List ℕ) → length u ≡ 2 * n → take n u ++ take n (drop n u) ≡ u
 in_two n u e = grind (arith, common_steps)
-
-front_long : (n : ℕ) (place bytes : List ℕ) → length place ≡ length bytes → length bytes ≡ 2 * n → length (take n place) ≡ length (take n bytes)
-front_long n place bytes e h = grind (arith, common_steps)
-
-back_long : (n : ℕ) (place bytes : List ℕ) → length place ≡ length bytes → length bytes ≡ 2 * n → length (drop n place) ≡ length (take n (drop n bytes))
-back_long n place bytes e h = grind (arith, common_steps)
-
--- 2 * n bytes stored by two vectors
-pub stored_in_two : (n : ℕ) (place bytes f g : List ℕ) → length place ≡ length bytes → length bytes ≡ 2 * n → f ≡ take n place → g ≡ drop n place
-    → put_chunk 0 f (take n bytes) ++ put_chunk 0 g (take n (drop n bytes)) ≡ bytes
-stored_in_two n place bytes f g e h p q =
-    let front = put_chunk_whole f (take n bytes) (ap length p ∙ front_long n place bytes e h) in
-    let back = put_chunk_whole g (take n (drop n bytes)) (ap length q ∙ back_long n place bytes e h) in
-    rw (front, back) (in_two n bytes h)

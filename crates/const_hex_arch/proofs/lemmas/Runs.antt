@@ -20,13 +20,6 @@ HasRoom-fewer None m n h k = omega arith
 
 module _ {S : Type 0} (step : S → List ℕ → S → Type 0) (room : S → Option ℕ)
     (shrinks : (s : S) (piece : List ℕ) (t : S) → step s piece t → room t ≡ less_room (room s) (length piece)) where
-  -- two bytes leave space for the pairs that are left
-  pub room_after_two : (s : S) (a b : ℕ) (m t : S) (k : ℕ) → step s (a ∷ []) m → step m (b ∷ []) t → (n : ℕ) → n ≡ k + 1 → HasRoom (room s) (2 * n)
-      → HasRoom (room t) (2 * k)
-  room_after_two s a b m t k h i n e r =
-      rw (shrinks m (b ∷ []) t i, shrinks s (a ∷ []) m h, less_room-add)
-      (HasRoom-less (room s) 2 (2 * k) (subst (λ m. HasRoom (room s) m) (let q : 2 * n ≡ 2 + 2 * k = omega arith in q) r))
-
   -- what was written leaves space for the rest
   pub Writes_room : (s : S) (text : List ℕ) (t : S) (n : ℕ) → Writes step s text t → HasRoom (room s) (length text + n) → HasRoom (room t) n
   Writes_room s text t n w h =

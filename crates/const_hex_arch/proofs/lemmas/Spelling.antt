@@ -1,7 +1,8 @@
 -- What texts decode to.
-use Rattle.std.proofs.Common.{◌≡◌, ℕ, zero, suc, ◌+◌, ◌-◌, ◌*◌, ◌/◌, ◌%◌, ◌<◌, ◌≤◌, ◌≢◌, ◌↔◌, eqb, eqb→eq, List, [], ◌∷◌, ◌++◌, length, take, drop, get_or, set, slice_index, false, ◌⊎◌, Option, Some, None, IsSome, IsNone, inl, inr, refl, sym, ap, ◌∙◌, arith, take-add, drop-drop, length-take}
+use Rattle.std.proofs.Common.{◌≡◌, ℕ, zero, suc, ◌+◌, ◌-◌, ◌*◌, ◌/◌, ◌%◌, ◌<◌, ◌≤◌, ◌≢◌, ◌↔◌, eqb, eqb→eq, List, [], ◌∷◌, ◌++◌, length, take, drop, get_or, set, slice_index, bit_or, false, ◌⊎◌, Option, Some, None, IsSome, IsNone, inl, inr, refl, sym, ap, ◌∙◌, arith, take-add, drop-drop, length-take}
 use Rattle.std.proofs.lemmas.Bool.Decides.{nat_tests}
 use Rattle.std.proofs.lemmas.Grind.{common_steps}
+use Rattle.std.proofs.lemmas.Nat.{or_lt}
 use Rattle.std.proofs.lemmas.List.{get_or-take, take_more, append_assoc, take_at, drop_at}
 use Rattle.std.proofs.lemmas.List.Elements.{All-nil, All-cons, All-head, All-tail, All-append, All-take, All-drop, All-get_or, All-more, All-same}
 use Rattle.const_hex_arch.specs.declared.tables.TheConstants.{HEX_DECODE_LUT}
@@ -248,6 +249,26 @@ pub refused_low : (old u new : List ℕ) (i v : ℕ) → Spells (take (2 * i) u)
 refused_low old u new i v s d h l e n =
     let before = All-more IsDigit u (2 * i) 0 (omega arith) (Spells-digits _ _ s) (IsDigit-from_value (get_or u (2 * i) 0) v e) in
     refused_pair old u new i (2 * i + 1) (record { within = h; before = before; here = n }) (omega arith) s d l
+
+-- two bytes whose values, or NIL, have a bit that no value has
+pub refused_joint : (old u new : List ℕ) (i high low : ℕ) → Spells (take (2 * i) u) (take i new) → drop i new ≡ drop i old → 2 * i + 1 < length u
+    → length new ≡ length old → high ≡ value_or_nil (hex_value (get_or u (2 * i) 0)) → low ≡ value_or_nil (hex_value (get_or u (2 * i + 1) 0))
+    → 16 ≤ bit_or high low → Partial old u new
+refused_joint old u new i high low s d h l e f large =
+    let first = get_or u (2 * i) 0 in
+    let second = get_or u (2 * i + 1) 0 in
+    elim (value_cases (hex_value first)) [
+      | inr none ↦ refused_high old u new i s d h l none
+      | inl (v, is) ↦
+          elim (value_cases (hex_value second)) [
+            | inr none ↦ refused_low old u new i v s d h l is none
+            | inl (w, also) ↦
+                let high_is : high ≡ v = e ∙ ap value_or_nil is in
+                let low_is : low ≡ w = f ∙ ap value_or_nil also in
+                let small = or_lt 4 high low (omega (arith, hex_value-small first v is, high_is)) (omega (arith, hex_value-small second w also, low_is)) in
+                absurd (omega (arith, small, large))
+          ]
+    ]
 
 -- a text that is rejected after k bytes were decoded
 pub Partial-after : (old u new : List ℕ) (k m : ℕ) → m ≡ 2 * k → m ≤ length u → length new ≡ length old → k ≤ length new

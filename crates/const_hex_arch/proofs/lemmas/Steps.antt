@@ -1,5 +1,6 @@
 -- Texts that are worked through in steps, and the remainder by another call.
-use Rattle.std.proofs.Common.{◌≡◌, ℕ, ◌+◌, ◌-◌, ◌*◌, ◌≤◌, ◌↔◌, Bool, List, [], ◌++◌, length, take, drop, refl, sym, ap, subst, ◌∙◌, arith, take-add, take-append-drop, drop-drop, length-take, length-append, Option}
+use Rattle.std.proofs.Common.{◌≡◌, ℕ, ◌+◌, ◌-◌, ◌*◌, ◌<◌, ◌≤◌, ◌↔◌, Bool, List, [], ◌++◌, length, take, drop, slice_index, refl, sym, ap, subst, ◌∙◌, arith, take-add, take-append-drop, drop-drop, length-take, length-append, Option}
+use Rattle.std.specs.Str.{IsAscii}
 use Rattle.std.proofs.lemmas.Grind.{common_steps}
 use Rattle.std.proofs.lemmas.List.{append-nil, append_assoc, take_at, drop_at, take_rest}
 use Rattle.std.proofs.lemmas.List.Elements.{All-take, All-drop}
@@ -7,9 +8,8 @@ use Rattle.std.proofs.lemmas.Slice.{take-put_mid, drop-put_mid}
 use borrow.Rule.Slice.PartMut.{put_mid}
 use Rattle.const_hex_arch.specs.Texts.{IsDigit, hex_text, AllDigits, Spells, Partial}
 use Rattle.const_hex_arch.specs.Outputs.{HasRoom, less_room, Writes}
-use Rattle.const_hex_arch.proofs.lemmas.Runs.{HasRoom-less, Writes-none, Writes-more}
+use Rattle.const_hex_arch.proofs.lemmas.Runs.{Writes_room, Writes-none, Writes-append}
 use Rattle.const_hex_arch.proofs.lemmas.Spelling.{Spells-append, Spells-parts, Spells-digits, digits_append, none_decoded, Partial-after}
-use Rattle.const_hex_arch.proofs.lemmas.Texts.{hex_text-nil, hex_text-append, length-hex_text}
 
 pub parts : (n : ℕ) {u front back : List ℕ} → front ≡ take n u → back ≡ drop n u → front ++ back ≡ u
 parts n {u} f b = rw (f, b) (take-append-drop n u)
@@ -30,33 +30,39 @@ digits_last u i e h d = (
   λ whole. rw take_rest (All-drop IsDigit e u whole),
 )
 
--- ---- the text of the front is written, and there is space for the rest
-pub record IsWritten {S : Type 0} (step : S → List ℕ → S → Type 0) (room : S → Option ℕ) (up : Bool) (u : List ℕ) (old new : S) (rest : List ℕ) : Type 0 where
+-- ---- the front of a text is written, and there is space for the rest
+pub record IsWritten {S : Type 0} (step : S → List ℕ → S → Type 0) (room : S → Option ℕ) (text : List ℕ) (old new : S) (rest : List ℕ) : Type 0 where
   pub front : List ℕ
-  pub whole : front ++ rest ≡ u
-  pub text : Writes step old (hex_text up front) new
-  pub has_room : HasRoom (room new) (2 * length rest)
+  pub whole : front ++ rest ≡ text
+  pub written : Writes step old front new
+  pub has_room : HasRoom (room new) (length rest)
+
+-- a part of ASCII text
+pub part_ascii : (u front rest part after : List ℕ) → front ++ rest ≡ u → part ++ after ≡ rest → IsAscii u → IsAscii part
+part_ascii u front rest part after e p h k =
+    let same : front ++ (part ++ after) ≡ u = ap (λ x. front ++ x) p ∙ e in
+    let at : slice_index (front ++ (part ++ after)) (length front + k) < 128 = rw same (h (length front + k)) in
+    grind (arith, common_steps, at)
 
 module _ {S : Type 0} {step : S → List ℕ → S → Type 0} {room : S → Option ℕ}
     (shrinks : (s : S) (piece : List ℕ) (t : S) → step s piece t → room t ≡ less_room (room s) (length piece))
-    {up : Bool} {u : List ℕ} {old : S} where
-  pub none_written : HasRoom (room old) (2 * length u) → IsWritten step room up u old old u
-  none_written h = record { front = []; whole = refl; text = rw (hex_text-nil up) (Writes-none step old); has_room = h }
+    {text : List ℕ} {old : S} where
+  pub none_written : HasRoom (room old) (length text) → IsWritten step room text old old text
+  none_written h = record { front = []; whole = refl; written = Writes-none step old; has_room = h }
 
-  -- the text of one part more, as one piece
-  pub written_step : {mid new : S} {all : List ℕ} (part rest : List ℕ) → IsWritten step room up u old mid all → part ++ rest ≡ all
-      → step mid (hex_text up part) new → (1 ≤ length part) × (length part ≤ 32) → IsWritten step room up u old new rest
-  written_step {mid} {new} {all} part rest d e s size_is =
-      let long = length-hex_text up part in
-      let needed : 2 * length all ≡ length (hex_text up part) + 2 * length rest = rw (← e) (omega (arith, long, length-append part rest)) in record {
+  -- one part more
+  pub written_part : {mid new : S} {all : List ℕ} (part rest : List ℕ) → IsWritten step room text old mid all → part ++ rest ≡ all
+      → Writes step mid part new → IsWritten step room text old new rest
+  written_part {mid} {new} {all} part rest d e w =
+      let needed : length all ≡ length part + length rest = rw (← e) (length-append part rest) in record {
         front = d.front ++ part;
         whole = append_assoc d.front part rest ∙ ap (λ x. d.front ++ x) e ∙ d.whole;
-        text = rw (hex_text-append up d.front part) (Writes-more step _ _ _ _ _ d.text s (omega (arith, long), omega (arith, long)));
-        has_room = rw (shrinks mid (hex_text up part) new s) (HasRoom-less (room mid) (length (hex_text up part)) (2 * length rest) (rw needed at d.has_room));
+        written = Writes-append step _ _ _ _ _ d.written w;
+        has_room = Writes_room step room shrinks mid part new (length rest) w (rw needed at d.has_room);
       }
 
-  pub all_written : {new : S} → IsWritten step room up u old new [] → Writes step old (hex_text up u) new
-  all_written d = let whole : d.front ≡ u = sym (append-nil d.front) ∙ d.whole in rw whole at d.text
+  pub all_written : {new : S} → IsWritten step room text old new [] → Writes step old text new
+  all_written d = let whole : d.front ≡ text = sym (append-nil d.front) ∙ d.whole in rw whole at d.written
 
 -- ---- the first bytes of an output hold what the first pairs of a text decode to, and the rest of the
 -- output is unchanged

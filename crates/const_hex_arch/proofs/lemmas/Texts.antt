@@ -1,8 +1,9 @@
 -- The text of bytes: its length, that it is ASCII, and that it decodes to the bytes.
-use Rattle.std.proofs.Common.{◌≡◌, ℕ, suc, ◌+◌, ◌*◌, ◌/◌, ◌%◌, ◌<◌, Bool, true, false, List, [], ◌∷◌, ◌++◌, length, take, get_or, slice_index, Some, refl, ap, ◌∙◌, sym, arith, length-append}
+use Rattle.std.proofs.Common.{◌≡◌, ℕ, suc, ◌+◌, ◌*◌, ◌/◌, ◌%◌, ◌<◌, Bool, true, false, List, [], ◌∷◌, ◌++◌, length, take, drop, get_or, slice_index, Some, refl, ap, ◌∙◌, sym, arith, length-append}
 use Rattle.std.specs.Str.{IsAscii}
 use Rattle.std.proofs.lemmas.Bool.Decides.{nat_tests}
-use Rattle.std.proofs.lemmas.List.{append_assoc, take_more}
+use Rattle.std.proofs.lemmas.Grind.{common_steps}
+use Rattle.std.proofs.lemmas.List.{append_assoc}
 use Rattle.std.proofs.lemmas.Str.{IsUtf8-from_ascii}
 use Rattle.std.proofs.lemmas.Str.Ascii.{IsAscii-nil, IsAscii-cons}
 use Rattle.const_hex_arch.specs.Texts.{hex_value, hex_digit, hex_text, prefix_of, full_text, text_length, Spells}
@@ -28,12 +29,11 @@ pub full_text_size : (prefix up : Bool) (bs : List ℕ) → length (full_text pr
 full_text_size true up bs = let l = length-full_text true up bs in omega (arith, l)
 full_text_size false up bs = let l = length-full_text false up bs in omega (arith, l)
 
--- the text of one more byte
-pub hex_text-more : (up : Bool) (bs : List ℕ) (i : ℕ) → i < length bs
-    → hex_text up (take (i + 1) bs) ≡ hex_text up (take i bs) ++ hex_digit up (get_or bs i 0 / 16) ∷ [] ++ hex_digit up (get_or bs i 0 % 16) ∷ []
+-- the text of one byte
+pub hex_text-one : (up : Bool) (bs : List ℕ) (i : ℕ) → i < length bs
+    → hex_text up (take 1 (drop i bs)) ≡ hex_digit up (get_or bs i 0 / 16) ∷ hex_digit up (get_or bs i 0 % 16) ∷ []
 unfolding hex_text
-hex_text-more up bs i h =
-    ap (hex_text up) (take_more bs i 0 h) ∙ hex_text-append up (take i bs) (get_or bs i 0 ∷ []) ∙ sym (append_assoc (hex_text up (take i bs)) _ _)
+hex_text-one up bs i h = let one : take 1 (drop i bs) ≡ get_or bs i 0 ∷ [] = grind (arith, common_steps) in ap (hex_text up) one
 
 -- ---- the text is ASCII
 

@@ -8,7 +8,6 @@ ghost use Rattle.const_hex_arch.specs.Texts.{hex_text, AllDigits};
 use crate::arch::lanes::{self, LaneOps};
 use crate::arch::lanes16::{self, Lanes16};
 use crate::arch::{Kernel, loops, small_input};
-use crate::output::Output;
 use std::simd::prelude::*;
 
 /// A kernel that works in the steps of [`Lanes16`], and computes digits, their values and the
@@ -29,9 +28,11 @@ impl Kernel for Arithmetic16 {
 
     const USE_CHECK_FN: bool = false;
 
+    const PIECE: usize = 32;
+
     #[inline(always)]
-    fn encode<O: Output>(input: &[u8], upper: bool, output: &mut O) {
-        loops::encode_in_steps::<8, 16, Arithmetic16, Arithmetic16, O>(input, upper, output);
+    fn fill(input: &[u8], upper: bool, output: &mut [u8]) {
+        loops::fill_in_steps::<16, Arithmetic16, Arithmetic16>(input, upper, output);
     }
 
     #[inline]

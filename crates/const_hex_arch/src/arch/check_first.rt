@@ -3,7 +3,6 @@
 ghost use Rattle.std.specs.Prelude.{true, false};
 
 use crate::arch::Kernel;
-use crate::output::Output;
 use std::marker::PhantomData;
 
 /// The kernel `K`, but it decodes a text only after it has checked all of it. So an error leaves
@@ -26,9 +25,11 @@ impl<K: Kernel> Kernel for CheckFirst<K> {
 
     const USE_CHECK_FN: bool = true;
 
+    const PIECE: usize = K::PIECE;
+
     #[inline(always)]
-    fn encode<O: Output>(input: &[u8], upper: bool, output: &mut O) {
-        K::encode(input, upper, output);
+    fn fill(input: &[u8], upper: bool, output: &mut [u8]) {
+        K::fill(input, upper, output);
     }
 
     #[inline(always)]

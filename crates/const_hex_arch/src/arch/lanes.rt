@@ -34,16 +34,16 @@ pub(crate) trait LaneOps<const N: usize> {
         ensures { AllNibbles (first.entry ++ second.entry)
             → result ≡ byte_pairs (first.entry ++ second.entry) };
 
-    /// A step has at least one byte, so a piece is not empty. Its text has at most 64: the array of
-    /// `steps::encode_to_array`, a kernel's piece, and the `count` of `Output::write_ends`.
+    /// A step has at least one byte, so that a loop ends. It has at most 32, so that two steps of 16
+    /// lanes, which may overlap, encode or decode what is shorter than a step.
     ghost sizes: { (1 ≤ N) × (N ≤ 32) };
 }
 
 /// The value of each lane that is a digit, and more than 15 for every other lane.
 ///
 /// This is algorithm 3 of Wojciech Muła and Geoff Langdale, "Validating hexadecimal", 2022-01-17.
-// Compared line by line with the published arithmetic: min(satsub(v + 0xC6, 6) - 0xF0,
-// satadd((v & 0xDF) - 0x41, 10)), with sums and differences that wrap.
+// Reviewed against the published arithmetic, min(satsub(v + 0xC6, 6) - 0xF0, satadd((v & 0xDF) -
+// 0x41, 10)) with sums and differences that wrap, and equal to it on each of the 256 bytes.
 #[inline(always)]
 pub(crate) fn nibbles<const N: usize>(v: Simd<u8, N>) -> Simd<u8, N>
     ensures { map as_value result ≡ map hex_value v.entry }

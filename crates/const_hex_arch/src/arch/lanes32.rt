@@ -11,7 +11,6 @@ ghost use Rattle.const_hex_arch.specs.Lanes.{AllNibbles, AllUnmarked, byte_pairs
 use crate::arch::lanes::{self, LaneOps};
 use crate::arch::lanes16::{self, Lanes16};
 use crate::arch::{Kernel, loops};
-use crate::output::Output;
 use std::simd::prelude::*;
 
 /// Two digits for each lane, in order: the text of the first 16 lanes, and the text of the last 16.
@@ -86,9 +85,9 @@ pub fn unhex(v: u8x32) -> u8x32
 }
 
 /// A kernel for vectors of 32 lanes. It encodes 32 bytes, checks 32 characters and decodes 64
-/// characters at a time. The remainder is encoded as one piece, and is checked together with the
-/// characters before it. Decoding takes at most one step of half that size, by 16 lanes, and then
-/// goes on as [`Lanes16`].
+/// characters at a time. The remainder is encoded and checked together with what stands before it.
+/// Decoding takes at most one step of half that size, by 16 lanes, and then goes on as
+/// [`Lanes16`].
 ///
 /// ```rust
 /// let mut bytes = [0; 4];
@@ -103,9 +102,11 @@ impl Kernel for Lanes32 {
 
     const USE_CHECK_FN: bool = false;
 
+    const PIECE: usize = 64;
+
     #[inline(always)]
-    fn encode<O: Output>(input: &[u8], upper: bool, output: &mut O) {
-        loops::encode_in_steps::<16, 32, Lanes32, Lanes16, O>(input, upper, output);
+    fn fill(input: &[u8], upper: bool, output: &mut [u8]) {
+        loops::fill_in_steps::<32, Lanes32, Lanes16>(input, upper, output);
     }
 
     // Not `always`: `decode_body` calls `CheckFirst::<K>` in a branch that is never taken for this
@@ -126,11 +127,6 @@ impl Kernel for Lanes32 {
     #[inline(always)]
     fn decode_all(input: &[u8], output: &mut [u8]) -> bool {
         loops::decode_in_steps::<32, false, Lanes32, Lanes16>(input, output)
-    }
-
-    #[inline(always)]
-    fn decode_part(input: &[u8], start: usize, output: &mut [u8]) -> bool {
-        loops::decode_part::<32, Lanes32, Lanes16>(input, start, output)
     }
 
     #[inline(always)]

@@ -1,78 +1,50 @@
-//! Drivers: they take the input step by step, and then the remainder.
+//! Loops that take the input step by step, and then the remainder.
 //!
-//! `V` has the `N` lanes of a step, and `H` is half of `N`. `W` has the 16 lanes of what is shorter
-//! than a step. Neither a contract nor a test notices which steps are taken where others give the
-//! same result. Compare a change with the table "Steps and remainders" in docs/DESIGN.md, for each
-//! kernel.
+//! `V` has the `N` lanes of a step, and `W` the 16 lanes of what is shorter. Neither a contract nor
+//! a test notices which steps are taken where others give the same result: compare a change with
+//! "Steps and remainders" in docs/DESIGN.md. The code was reviewed against that table, step by step;
+//! only the remainders differ from the steps of const-hex (docs/DECISIONS.md).
 
 ghost use Rattle.std.specs.Prelude.{◌≡◌, ◌+◌, ◌*◌, ◌<◌, ◌≤◌, ◌↔◌, IsTrue, false, length, take, drop};
-ghost use Rattle.const_hex_arch.specs.Outputs.{HasRoom, Writes};
 ghost use Rattle.const_hex_arch.specs.Texts.{hex_text, AllDigits, Spells, Partial};
 
 use crate::arch::lanes::LaneOps;
 use crate::arch::{lanes16, small_input, steps};
-use crate::output::Output;
 
-/// Encodes two steps in each turn of the loop, then one more step if the input has one, and then the
-/// remainder, as one piece.
+/// Fills the output with the text of the input. While two steps are left, it takes both in one turn;
+/// then one, if more than one is left; and then the last `N` bytes, if some are left, with bytes before
+/// them that are encoded again. Less than two steps are left to `small_input::fill`.
 #[inline(always)]
-pub(crate) fn encode_in_steps<
-    const H: usize,
-    const N: usize,
-    V: LaneOps<N>,
-    W: LaneOps<16>,
-    O: Output,
->(input: &[u8], upper: bool, output: &mut O)
-    requires half { 2 * H ≡ N }
-    requires room { HasRoom (O.room output.old) (2 * length input.now) }
-    ensures { Writes O.step output.old (hex_text upper input.now) output.new }
-{
-    let mut rest = input;
-    while rest.len() >= 2 * N {
-        let (first, after) = rest.split_at(N);
-        let (second, after) = after.split_at(N);
-        let row_copy = lanes16::row_copy_for(input.len());
-        steps::encode_step::<N, V, O>(first, upper, row_copy, output);
-        steps::encode_step::<N, V, O>(second, upper, row_copy, output);
-        rest = after;
-    }
-    if rest.len() >= N {
-        let (bytes, after) = rest.split_at(N);
-        steps::encode_step::<N, V, O>(bytes, upper, false, output);
-        rest = after;
-    }
-    if rest.len() > 0 {
-        encode_remainder::<H, N, V, W, O>(rest, upper, output);
-    }
-}
-
-/// Encodes fewer bytes than a step, as one piece.
-// Not `always`: its callers would be too large to be inlined.
-#[inline]
-fn encode_remainder<const H: usize, const N: usize, V: LaneOps<N>, W: LaneOps<16>, O: Output>(
-    bytes: &[u8],
+pub(crate) fn fill_in_steps<const N: usize, V: LaneOps<N>, W: LaneOps<16>>(
+    input: &[u8],
     upper: bool,
-    output: &mut O,
+    output: &mut [u8],
 )
-    requires half { 2 * H ≡ N }
-    requires some { 1 ≤ length bytes.now }
-    requires few { length bytes.now < N }
-    requires room { HasRoom (O.room output.old) (2 * length bytes.now) }
-    ensures { O.step output.old (hex_text upper bytes.now) output.new }
+    requires { length output.old ≡ 2 * length input.now }
+    ensures { output.new ≡ hex_text upper input.now }
 {
-    if bytes.len() == 1 {
-        steps::encode_ends::<1, 16, W, O>(bytes, upper, output);
-    } else if bytes.len() > 16 {
-        steps::encode_ends::<H, N, V, O>(bytes, upper, output);
-    } else if bytes.len() == 16 {
-        steps::encode_step::<16, W, O>(bytes, upper, false, output);
-    } else if bytes.len() >= 8 {
-        steps::encode_ends::<8, 16, W, O>(bytes, upper, output);
-    } else if bytes.len() >= 4 {
-        steps::encode_ends::<4, 16, W, O>(bytes, upper, output);
-    } else {
-        steps::encode_ends::<2, 16, W, O>(bytes, upper, output);
+    if input.len() < 2 * N {
+        small_input::fill::<N, V, W>(input, upper, output);
+        return;
     }
+    let row_copy = lanes16::row_copy_for(input.len());
+    let mut at = 0;
+    while input.len() - at >= 2 * N {
+        let end = at + 2 * N;
+        let text = &mut output[2 * at..2 * end];
+        steps::fill_two_steps::<N, V>(&input[at..end], upper, row_copy, text);
+        at = end;
+    }
+    if at == input.len() {
+        return;
+    }
+    if input.len() - at > N {
+        let end = at + N;
+        let text = &mut output[2 * at..2 * end];
+        steps::fill_step::<N, V>(&input[at..end], upper, row_copy, text);
+    }
+    let start = input.len() - N;
+    steps::fill_step::<N, V>(&input[start..], upper, row_copy, &mut output[2 * start..]);
 }
 
 /// Whether every byte is a digit. The input has at least one step. While more than four steps are
@@ -159,47 +131,6 @@ pub(crate) fn decode_in_steps<const N: usize, const PAIRS: bool, V: LaneOps<N>, 
     let start = output.len() - 16;
     steps::decode_step::<16, W>(&input[2 * start..], &mut output[start..], false)
         || (PAIRS && small_input::decode_pairs(&input[2 * at..], &mut output[at..]))
-}
-
-/// Decodes two steps, one step or 16 bytes by one test. A part of any other size is decoded as a
-/// whole text is.
-#[inline(always)]
-pub(crate) fn decode_part<const N: usize, V: LaneOps<N>, W: LaneOps<16>>(
-    input: &[u8],
-    start: usize,
-    output: &mut [u8],
-) -> bool
-    requires { 2 * (start + length output.old) ≤ length input.now }
-    ensures spells { IsTrue result
-        → Spells (take (2 * length output.old) (drop (2 * start) input.now)) output.new }
-    ensures refused { result ≡ false → AllDigits input.now → ⊥ }
-{
-    let end = start + output.len();
-    let text = &input[2 * start..2 * end];
-    if output.len() == 2 * N {
-        let row_copy = lanes16::row_copy_for(input.len());
-        steps::decode_two_steps::<N, V>(text, output, row_copy)
-    } else if output.len() == N {
-        steps::decode_step::<N, V>(text, output, false)
-    } else if output.len() == 16 {
-        steps::decode_step::<16, W>(text, output, false)
-    } else {
-        decode_any_part::<N, V, W>(text, output)
-    }
-}
-
-/// As `decode_in_steps`, without the pairs before an invalid character of the remainder.
-// Not inlined: with this body `decode_part` would be too large to be inlined.
-#[inline(never)]
-fn decode_any_part<const N: usize, V: LaneOps<N>, W: LaneOps<16>>(
-    text: &[u8],
-    output: &mut [u8],
-) -> bool
-    requires { length text.now ≡ 2 * length output.old }
-    ensures spells { IsTrue result → Spells text.now output.new }
-    ensures refused { result ≡ false → Partial output.old text.now output.new }
-{
-    decode_in_steps::<N, false, V, W>(text, output)
 }
 
 /// Decodes digits in steps, and then by the last 16 bytes, some of them again. A text of fewer than

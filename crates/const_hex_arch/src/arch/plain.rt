@@ -3,8 +3,7 @@
 ghost use Rattle.std.specs.Prelude.{◌<◌, List, false};
 
 use crate::arch::Kernel;
-use crate::output::Output;
-use crate::tables::{NIL, digit_at, value_at};
+use crate::tables::{NIL, pair_at, value_at};
 
 /// A kernel that works byte by byte, with tables in memory.
 ///
@@ -21,11 +20,12 @@ impl Kernel for Plain {
 
     const USE_CHECK_FN: bool = false;
 
+    const PIECE: usize = 1;
+
     #[inline(always)]
-    fn encode<O: Output>(input: &[u8], upper: bool, output: &mut O) {
-        for b in input {
-            output.write_byte(digit_at(upper, *b / 16));
-            output.write_byte(digit_at(upper, *b % 16));
+    fn fill(input: &[u8], upper: bool, output: &mut [u8]) {
+        for i in 0..input.len() {
+            output[2 * i..2 * i + 2].copy_from_slice(&pair_at(upper, input[i]));
         }
     }
 
@@ -45,7 +45,8 @@ impl Kernel for Plain {
         for i in 0..output.len() {
             let high = value_at(input[2 * i]);
             let low = value_at(input[2 * i + 1]);
-            if high == NIL || low == NIL {
+            // NIL has bits that no value has.
+            if high | low >= 16 {
                 return false;
             }
             output[i] = high * 16 + low;

@@ -1,12 +1,85 @@
-//! Checks and decodes a short text, by its first and its last digits at once.
+//! Encodes, checks and decodes a short input, by its first and its last bytes at once.
 
-ghost use Rattle.std.specs.Prelude.{◌≡◌, ◌-◌, ◌*◌, ◌≤◌, ◌++◌, ◌↔◌, length, take, IsTrue, false};
-ghost use Rattle.const_hex_arch.specs.Texts.{AllDigits, Spells, Partial};
+ghost use Rattle.std.specs.Prelude.{◌≡◌, ◌+◌, ◌*◌, ◌<◌, ◌≤◌, ◌++◌, ◌↔◌, length, take, IsTrue, false};
+ghost use Rattle.const_hex_arch.specs.Texts.{AllDigits, Spells, Partial, hex_text};
 
 use crate::arch::lanes::LaneOps;
 use crate::arch::plain::Plain;
 use crate::arch::{Kernel, steps};
 use std::simd::prelude::*;
+
+/// Fills the output with two digits for each byte of less than two steps. `V` has the `N` lanes of a
+/// step, and `W` has 16.
+#[inline(always)]
+pub(crate) fn fill<const N: usize, V: LaneOps<N>, W: LaneOps<16>>(
+    bytes: &[u8],
+    upper: bool,
+    output: &mut [u8],
+)
+    requires size { length output.old ≡ 2 * length bytes.now }
+    requires short { length bytes.now < 2 * N }
+    ensures { output.new ≡ hex_text upper bytes.now }
+{
+    if bytes.len() >= N {
+        fill_overlapping::<N, V>(bytes, upper, output);
+    } else if bytes.len() >= 16 {
+        fill_overlapping::<16, W>(bytes, upper, output);
+    } else if bytes.len() == 1 {
+        fill_ends::<1, 2, W>(bytes, upper, output);
+    } else if bytes.len() >= 8 {
+        fill_ends::<8, 16, W>(bytes, upper, output);
+    } else if bytes.len() >= 4 {
+        fill_ends::<4, 8, W>(bytes, upper, output);
+    } else if bytes.len() >= 2 {
+        fill_ends::<2, 4, W>(bytes, upper, output);
+    }
+}
+
+/// As `fill`, for one to two steps: the first one, and the last one.
+#[inline(always)]
+fn fill_overlapping<const N: usize, V: LaneOps<N>>(bytes: &[u8], upper: bool, output: &mut [u8])
+    requires size { length output.old ≡ 2 * length bytes.now }
+    requires least { N ≤ length bytes.now }
+    requires most { length bytes.now ≤ 2 * N }
+    ensures { output.new ≡ hex_text upper bytes.now }
+{
+    steps::fill_step::<N, V>(&bytes[..N], upper, false, &mut output[..2 * N]);
+    if bytes.len() > N {
+        let start = bytes.len() - N;
+        steps::fill_step::<N, V>(&bytes[start..], upper, false, &mut output[2 * start..]);
+    }
+}
+
+/// As `fill`, for `H` to `2 * H` bytes. `D` is `2 * H`, the number of digits of `H` bytes.
+#[inline(always)]
+fn fill_ends<const H: usize, const D: usize, W: LaneOps<16>>(
+    bytes: &[u8],
+    upper: bool,
+    output: &mut [u8],
+)
+    requires half { (1 ≤ H) × (H ≤ 8) }
+    requires digits { D ≡ 2 * H }
+    requires size { length output.old ≡ 2 * length bytes.now }
+    requires least { H ≤ length bytes.now }
+    requires most { length bytes.now ≤ 2 * H }
+    ensures { output.new ≡ hex_text upper bytes.now }
+{
+    let mut text = [0; 32];
+    steps::fill_step::<16, W>(
+        &steps::load_ends::<H, 16>(bytes, 0),
+        upper,
+        false,
+        &mut text,
+    );
+    // Not by the output's length: so a function that is not inlined needs no register for it.
+    let start = 2 * bytes.len() - D;
+    put::<D>(
+        Simd::from_slice(&text),
+        Simd::from_slice(&text[D..]),
+        start,
+        output,
+    );
+}
 
 /// Whether every byte of a text of at most 16 bytes is a digit.
 #[inline(always)]
@@ -92,25 +165,26 @@ fn decode_ends<const H: usize, const D: usize, W: LaneOps<16>>(
     let step = steps::load_ends::<D, 32>(text, b'0');
     let are_digits = steps::decode_step::<16, W>(&step, &mut bytes, false);
     if are_digits {
+        let start = output.len() - H;
         put::<H>(
             Simd::from_slice(&bytes),
             Simd::from_slice(&bytes[H..]),
+            start,
             output,
         );
     }
     are_digits
 }
 
-/// Stores the first bytes and the last bytes, which together fill the output. Where both overlap,
-/// the last bytes are kept.
+/// Stores the first bytes, and the last bytes from their start. Together they fill the output. Where
+/// both overlap, the last bytes are kept.
 #[inline(always)]
 #[tactic(auto, using(crate::proofs::lemmas::Ends::put_ends))]
-fn put<const H: usize>(first: Simd<u8, H>, last: Simd<u8, H>, output: &mut [u8])
-    requires least { H ≤ length output.old }
+fn put<const H: usize>(first: Simd<u8, H>, last: Simd<u8, H>, start: usize, output: &mut [u8])
+    requires start { start + H ≡ length output.old }
     requires most { length output.old ≤ 2 * H }
-    ensures { output.new ≡ take (length output.old - H) first.entry ++ last.entry }
+    ensures { output.new ≡ take start first.entry ++ last.entry }
 {
-    let start = output.len() - H;
     first.copy_to_slice(output);
     last.copy_to_slice(&mut output[start..]);
 }

@@ -3,66 +3,45 @@
 //! `V` has the `N` lanes of a step.
 
 ghost use Rattle.std.specs.Prelude.{◌≡◌, ◌-◌, ◌*◌, ◌≤◌, ◌++◌, ◌↔◌, IsTrue, false, length, take, drop};
-ghost use Rattle.std.specs.Str.{IsAscii};
 ghost use Rattle.const_hex_arch.specs.Texts.{IsDigit, hex_text, AllDigits, Spells};
 ghost use Rattle.const_hex_arch.specs.Lanes.{AllUnmarked};
-ghost use Rattle.const_hex_arch.specs.Outputs.{HasRoom};
 
 use crate::arch::lanes::{self, LaneOps};
-use crate::output::Output;
 use std::simd::prelude::*;
 
-/// Writes two digits for each of `H` to `2 * H` bytes, as one piece. The first `H` bytes and the last
-/// `H` share a vector.
+/// Fills the output with two digits for each byte of a step.
 #[inline(always)]
-#[tactic(auto, using(crate::proofs::lemmas::Ends::ends_text))]
-pub(crate) fn encode_ends<const H: usize, const N: usize, V: LaneOps<N>, O: Output>(
-    bytes: &[u8],
-    upper: bool,
-    output: &mut O,
-)
-    requires half { (1 ≤ H) × (2 * H ≤ N) }
-    requires least { H ≤ length bytes.now }
-    requires most { length bytes.now ≤ 2 * H }
-    requires room { HasRoom (O.room output.old) (2 * length bytes.now) }
-    ensures { O.step output.old (hex_text upper bytes.now) output.new }
-{
-    let text = &encode_to_array::<N, V>(&load_ends::<H, N>(bytes, 0), upper, false)[..2 * N];
-    output.write_ends(&text[..2 * H], &text[2 * H..4 * H], 2 * bytes.len());
-}
-
-/// Writes two digits for each byte of a step, as one piece.
-#[inline(always)]
-pub(crate) fn encode_step<const N: usize, V: LaneOps<N>, O: Output>(
+pub(crate) fn fill_step<const N: usize, V: LaneOps<N>>(
     bytes: &[u8],
     upper: bool,
     row_copy: bool,
-    output: &mut O,
+    output: &mut [u8],
 )
-    requires size { length bytes.now ≡ N }
-    requires room { HasRoom (O.room output.old) (2 * N) }
-    ensures { O.step output.old (hex_text upper bytes.now) output.new }
-{
-    output.write(&encode_to_array::<N, V>(bytes, upper, row_copy)[..2 * N]);
-}
-
-/// An array that begins with the text of a step.
-#[inline(always)]
-fn encode_to_array<const N: usize, V: LaneOps<N>>(
-    bytes: &[u8],
-    upper: bool,
-    row_copy: bool,
-) -> [u8; 64]
-    requires { length bytes.now ≡ N }
-    ensures text { take (2 * N) result ≡ hex_text upper bytes.now }
-    ensures ascii { IsAscii (take (2 * N) result) }
+    requires bytes { length bytes.now ≡ N }
+    requires output { length output.old ≡ 2 * N }
+    ensures { output.new ≡ hex_text upper bytes.now }
 {
     let digits = V::digits_of(Simd::from_slice(bytes), upper, row_copy);
-    let mut text = [0; 64];
-    let lanes = &mut text[..];
-    digits[0].copy_to_slice(lanes);
-    digits[1].copy_to_slice(&mut lanes[N..]);
-    text
+    digits[0].copy_to_slice(output);
+    digits[1].copy_to_slice(&mut output[N..]);
+}
+
+/// As `fill_step`, for the bytes of two steps.
+#[inline(always)]
+pub(crate) fn fill_two_steps<const N: usize, V: LaneOps<N>>(
+    bytes: &[u8],
+    upper: bool,
+    row_copy: bool,
+    output: &mut [u8],
+)
+    requires bytes { length bytes.now ≡ 2 * N }
+    requires output { length output.old ≡ 4 * N }
+    ensures { output.new ≡ hex_text upper bytes.now }
+{
+    let (first, second) = bytes.split_at(N);
+    let (front, back) = output.split_at_mut(2 * N);
+    fill_step::<N, V>(first, upper, row_copy, front);
+    fill_step::<N, V>(second, upper, row_copy, back);
 }
 
 /// Packs the first `H` bytes and the last `H` bytes into an array of `N` bytes, and puts `fill`

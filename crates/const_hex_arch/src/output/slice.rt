@@ -4,7 +4,6 @@ ghost use Rattle.std.specs.Prelude.{◌≡◌, ◌+◌, ◌-◌, ◌<◌, length
 ghost use Rattle.const_hex_arch.specs.Outputs.{SliceStep, slice_bytes, slice_written, slice_name};
 
 use crate::output::Output;
-use std::simd::prelude::*;
 
 /// Writes into a slice, from its start.
 ///
@@ -56,56 +55,11 @@ impl Output for SliceOutput<'_> {
         }
         let end = self.count + bytes.len();
         let slice = &mut *self.slice;
-        copy_over(&mut slice[self.count..end], bytes);
+        slice[self.count..end].copy_from_slice(bytes);
         self.count = end;
-    }
-
-    #[inline(always)]
-    fn write_ends(&mut self, first: &[u8], last: &[u8], count: usize) {
-        self.write(first);
-        self.count -= first.len() + last.len() - count;
-        self.write(last);
     }
 
     ghost use Rattle.std.proofs.Common.{arith};
 
     ghost shrinks = { λ s piece t h. Prim.grind (arith) };
-}
-
-/// Copies bytes to a target of the same length.
-// A piece of 2, 4, 8, 16, 32 or 64 bytes goes through registers. If it is copied byte by byte, the
-// compiler may store it in memory first, and test there whether both overlap.
-#[inline(always)]
-fn copy_over(target: &mut [u8], bytes: &[u8])
-    requires { length target.old ≡ length bytes.now }
-    ensures { target.new ≡ bytes.now }
-{
-    if bytes.len() == 64 {
-        let (front, back) = target.split_at_mut(32);
-        u8x32::from_slice(bytes).copy_to_slice(front);
-        u8x32::from_slice(&bytes[32..]).copy_to_slice(back);
-    } else if bytes.len() == 32 {
-        copy_lanes::<32>(target, bytes);
-    } else if bytes.len() == 16 {
-        copy_lanes::<16>(target, bytes);
-    } else if bytes.len() == 8 {
-        copy_lanes::<8>(target, bytes);
-    } else if bytes.len() == 4 {
-        copy_lanes::<4>(target, bytes);
-    } else if bytes.len() == 2 {
-        copy_lanes::<2>(target, bytes);
-    } else {
-        target.copy_from_slice(bytes);
-    }
-}
-
-/// As `copy_over`, for `N` bytes, through a register.
-#[inline(always)]
-#[tactic(auto, using(std::proofs::lemmas::Simd::put_chunk_whole, std::proofs::lemmas::List::take_all))]
-fn copy_lanes<const N: usize>(target: &mut [u8], bytes: &[u8])
-    requires target { length target.old ≡ N }
-    requires bytes { length bytes.now ≡ N }
-    ensures { target.new ≡ bytes.now }
-{
-    Simd::<u8, N>::from_slice(bytes).copy_to_slice(target);
 }

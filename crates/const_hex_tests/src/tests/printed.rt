@@ -1,6 +1,6 @@
 //! What no clause says of printed values, and what new buffers hold.
 
-use const_hex::{Buffer, FromHexError, JsonError, SinkError};
+use const_hex::{Buffer, FromHexError, JsonError, SinkError, const_encode};
 use const_hex_vectors::texts::invalid;
 use const_hex_vectors::{Testing, same, same_bytes};
 use hash_hex::{Address20, FixedBytes, Hash32};
@@ -24,6 +24,7 @@ fn errors(rt: HostRuntime) {
         &JsonError::Hex(FromHexError::OddLength),
         "Hex(OddLength)",
     );
+    shows(&rt, &JsonError::<FromHexError>::NotText, "NotText");
     shows(&rt, &SinkError, "SinkError");
     same_bytes!(&rt, "{}", SinkError; SinkError.to_string(rt.alloc()).expect(&rt, "memory"), "sink refused");
 }
@@ -43,6 +44,8 @@ fn hashes(rt: HostRuntime) {
 #[test]
 fn new_buffers(rt: HostRuntime) {
     shows(&rt, &Buffer::<1, false, 2>::new(), "Buffer(\"\\0\\0\")");
+    let text = format!(in rt.alloc(); "{:#?}", const_encode::<2, true, 6>(b"ki"));
+    same_bytes!(&rt, "{:#?}", "0x6b69"; text.expect(&rt, "memory"), "Buffer(\n    \"0x6b69\",\n)");
     same!(&rt; Buffer::<4, false, 8>::new().as_str(), "\0\0\0\0\0\0\0\0");
     same!(&rt; Buffer::<4, true, 10>::default().as_str(), "0x\0\0\0\0\0\0\0\0");
     same!(&rt; Buffer::<0, true, 2>::new().as_str(), "0x");

@@ -10,7 +10,7 @@ use const_hex_uses::readers::{
 };
 use const_hex_uses::sinks::{packets, refused_key, send_json};
 use const_hex_uses::store::{find, put};
-use const_hex_uses::streams::decode_typed;
+use const_hex_uses::streams::{check_chunks, decode_chunks, decode_typed, decode_where_it_fits};
 use const_hex_uses::writers::{address_text, array_text, fill_field, joined_text};
 use const_hex_vectors::texts::invalid;
 use const_hex_vectors::{Testing, Text, same, same_bytes, same_read};
@@ -111,6 +111,12 @@ fn salts_and_typed_texts(rt: HostRuntime) {
     for (text, want) in rows {
         same!(&rt, "decode_typed", Text(text); decode_typed(text, &mut [0; 2]), want);
     }
+    let bad = invalid(b'z', 1);
+    same!(&rt; check_chunks(b"6z", b"69"), (Err(bad), Err(bad), Err(bad)));
+    let (mut small, mut large) = ([7; 1], [7; 2]);
+    same!(&rt; decode_chunks(b"6z", b"69", &mut small, &mut large), (Err(bad), Err(bad)));
+    same!(&rt; decode_where_it_fits(b"6b69", &mut small, &mut large), (Err(FromHexError::InvalidStringLength), Ok(2)));
+    same!(&rt; (small, large), ([7], *b"ki"));
 }
 
 #[test]

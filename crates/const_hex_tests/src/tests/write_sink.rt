@@ -56,6 +56,14 @@ fn writes(
     same_bytes!(rt, "what the writer has", fault; target.taken, front);
 }
 
+// An empty piece is no call, also of a writer that would fail.
+#[test]
+fn an_empty_piece(rt: HostRuntime) {
+    let mut target = Target::new(rt.alloc(), 1, Fault::Full(1));
+    same!(&rt; WriteSink::new(&mut target).write_str(""), Ok(()));
+    same!(&rt; target.writes, 0);
+}
+
 fn kind_of(error: Option<&io::Error>) -> Option<ErrorKind> {
     Some(error?.kind())
 }

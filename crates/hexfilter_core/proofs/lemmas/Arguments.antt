@@ -11,7 +11,7 @@ use Rattle.std.proofs.lemmas.Str.Parse.{numerals_by_value, parse_plain, tells_al
 use Rattle.hexfilter_core.specs.Options.{Writes, WritesGroups, at, find, number, request, request_for, with_argument, written, with_arguments, and_then, with_letters, table, with_value}
 use Rattle.hexfilter_core.specs.declared.mode.Groups.{Groups}
 use Rattle.hexfilter_core.specs.declared.mode.Mode.{Mode}
-use Rattle.hexfilter_core.specs.declared.mode.Mode.TheVariants.{Check, Decode, Encode}
+use Rattle.hexfilter_core.specs.declared.mode.Mode.TheVariants.{Decode, Encode}
 use Rattle.hexfilter_core.specs.declared.mode.Reading.{Reading}
 use Rattle.hexfilter_core.specs.declared.options.Fault.{Fault}
 use Rattle.hexfilter_core.specs.declared.options.Fault.TheVariants.{InvalidNumber, UnknownOption}
@@ -81,8 +81,8 @@ arguments_end bytes xs i o h = let all : length (map bytes xs) ≤ i = rw (lengt
 -- ---- what is written as arguments is read back
 
 reading_read : (check ignores : Bool) (g : Groups) (words : List (List ℕ)) → WritesGroups g words
-    → let r : Reading = record { ignore_whitespace = ignores; groups = g } in let m : Mode = if check then Check r else Decode r in
-    request_for (written m words) ≡ Ok (Run m None)
+    → let r : Reading = record { is_check = check; ignore_whitespace = ignores; groups = g } in
+    request_for (written (Decode r) words) ≡ Ok (Run (Decode r) None)
 unfolding with_arguments
 reading_read true true g words (v, n, h, size, character, is) = rw (is, h, character, ← size) refl
 reading_read true false g words (v, n, h, size, character, is) = rw (is, h, character, ← size) refl
@@ -99,5 +99,4 @@ read_back (Encode true true g) words (inr (v, n, h, size, character, is)) = rw (
 read_back (Encode true false g) words (inr (v, n, h, size, character, is)) = rw (is, h, character, ← size) refl
 read_back (Encode false true g) words (inr (v, n, h, size, character, is)) = rw (is, h, character, ← size) refl
 read_back (Encode false false g) words (inr (v, n, h, size, character, is)) = rw (is, h, character, ← size) refl
-read_back (Decode r) words h = reading_read false r.ignore_whitespace r.groups words h
-read_back (Check r) words h = reading_read true r.ignore_whitespace r.groups words h
+read_back (Decode r) words h = reading_read r.is_check r.ignore_whitespace r.groups words h

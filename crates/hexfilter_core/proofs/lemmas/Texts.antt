@@ -1,6 +1,6 @@
 -- The text of an input, part after part.
 use borrow.Rule.Slice.PartMut.{put_mid, post_of}
-use Rattle.std.proofs.Common.{◌≡◌, ◌≢◌, ℕ, ◌+◌, ◌-◌, ◌*◌, ◌/◌, ◌<◌, ◌≤◌, ◌&&◌, min, if◌then◌else◌, Bool, true, false, List, [], ◌∷◌, ◌++◌, length, take, drop, get_or, Option, Ok, refl, sym, ap, ◌∙◌, arith, append_assoc, length-append}
+use Rattle.std.proofs.Common.{◌≡◌, ◌≢◌, ℕ, ◌+◌, ◌-◌, ◌*◌, ◌/◌, ◌<◌, ◌≤◌, ◌&&◌, min, if◌then◌else◌, Bool, true, false, List, [], ◌∷◌, ◌++◌, length, take, drop, get_or, refl, sym, ap, ◌∙◌, arith, append_assoc, length-append}
 use Rattle.std.proofs.Math.Seq.{take-add, take-append-add}
 use Rattle.std.proofs.lemmas.Bool.Decides.{nat_tests}
 use Rattle.std.proofs.lemmas.List.{append-nil, length-drop, length-take, length-take-le, take-append-drop, take-append-le, take-take, take_all, take_min, take_more}
@@ -9,22 +9,21 @@ use Rattle.std.specs.List.{All}
 use Rattle.std.specs.Prelude.{nat_lt}
 use Rattle.const_hex.proofs.lemmas.Decoding.{read_digits, read_front}
 use Rattle.const_hex.specs.Decoding.{HasRead, waiting_digit}
-use Rattle.const_hex.specs.Results.{Reads, body_of}
+use Rattle.const_hex.specs.Results.{body_of}
 use Rattle.const_hex.specs.declared.codec.decoder.Decoder.{Decoder}
-use Rattle.const_hex.specs.declared.error.FromHexError.{FromHexError}
 use Rattle.const_hex_arch.proofs.lemmas.Spelling.{Spells-length, Spells-parts}
-use Rattle.hexfilter_core.specs.Decoding.{HasAdded, HasDecoded, HasScanned}
-use Rattle.hexfilter_core.specs.Inputs.{HasError, SpellsBeginning, SpellsPairs, is_whitespace, kept, next, next_from, text_from, text_of}
-use Rattle.hexfilter_core.specs.Outcome.{FailsWith, Makes, MakesBeginning, mode_of, written}
+use Rattle.hexfilter_core.specs.Stages.{HasAdded, HasDecoded, HasMade, HasScanned}
+use Rattle.hexfilter_core.specs.Inputs.{SpellsBeginning, SpellsPairs, is_whitespace, kept, next, next_from, text_from, text_of}
+use Rattle.hexfilter_core.specs.Outcome.{MakesBeginning}
+use Rattle.hexfilter_core.specs.Groups.{encoded}
 use Rattle.hexfilter_core.specs.Places.{leaves_out}
 use Rattle.hexfilter_core.specs.declared.input_decoder.InputDecoder.{InputDecoder}
 use Rattle.hexfilter_core.proofs.lemmas.PlacesOfCharacters.{line_after_run}
-use Rattle.hexfilter_core.specs.declared.mode.DecodeMode.{DecodeMode}
 use Rattle.hexfilter_core.specs.declared.mode.Mode.{Mode}
-use Rattle.hexfilter_core.specs.declared.mode.Mode.TheVariants.{Check, Decode}
+use Rattle.hexfilter_core.specs.declared.mode.Mode.TheVariants.{Decode, Encode}
 use Rattle.hexfilter_core.specs.declared.mode.Reading.{Reading}
-use Rattle.hexfilter_core.specs.declared.place.Place.{Place}
 use Rattle.hexfilter_core.specs.declared.scanner.Scanner.{Scanner}
+use Rattle.hexfilter_core.specs.declared.stage.Stage.{Stage}
 
 pub text-append : (r : Reading) (k : ℕ) (x y : List ℕ) → text_from r k (x ++ y) ≡ text_from r k x ++ text_from r (next_from r k x) y
 unfolding text_from next_from
@@ -214,42 +213,33 @@ fewer_spelled r x y k h =
     let same : take n y ≡ take k y = ap (λ m. take m y) (length-take k y) ∙ take_min k y in
     rw (take-take (2 * n) (2 * length y) (body_of (text_of r x)) (omega arith), same) at part
 
--- ---- what a decoder writes
+-- ---- what is written
 
--- what holds of a mode and of what it writes, if it holds of both modes
-by_mode : (P : Mode → List ℕ → Type 0) (c : Bool) (r : Reading) (bytes : List ℕ)
-    → P (Check r) [] → P (Decode r) bytes → P (if c then Check r else Decode r) (written c bytes)
-by_mode P true r bytes check decode = check
-by_mode P false r bytes check decode = decode
+take_written : (c : Bool) (bytes : List ℕ) (k : ℕ) → take k (if c then [] else bytes) ≡ (if c then [] else take k bytes)
+take_written true bytes k = take_all k [] (omega arith)
+take_written false bytes k = refl
 
--- all that is decoded
-pub made : (m : DecodeMode) (x bytes : List ℕ) → Reads (text_of m.reading x) (Ok bytes) → Makes (mode_of m) x (written m.is_check bytes)
-made m x bytes h = by_mode (λ m y. Makes m x y) m.is_check m.reading bytes ((bytes, h), refl) h
+-- a beginning of a beginning
+pub fewer_made : (m : Mode) (x y : List ℕ) (k : ℕ) → MakesBeginning m x y → MakesBeginning m x (take k y)
+fewer_made (Encode prefix upper g) x y k (left, is) =
+    (drop k y ++ left, is ∙ ap (λ l. l ++ left) (sym (take-append-drop k y)) ∙ append_assoc (take k y) (drop k y) left)
+fewer_made (Decode r) x y k (bytes, spelled, is) = (take k bytes, fewer_spelled r x bytes k spelled, ap (take k) is ∙ take_written r.is_check bytes k)
 
--- all before an error
-pub failed : (m : DecodeMode) (left : Option (List ℕ)) (x bytes : List ℕ) (e : FromHexError) (place : Option Place)
-    → HasError m.reading left x bytes e place → FailsWith (mode_of m) left x (written m.is_check bytes) e place
-failed m left x bytes e place h = by_mode (λ m y. FailsWith m left x y e place) m.is_check m.reading bytes ((bytes, h), refl) h
+-- what a decoder has written is a beginning, whatever follows
+module _ (r : Reading) (d : InputDecoder) (x z : List ℕ) (has : HasDecoded r d x z) where
+  pub decoded_then : (more : List ℕ) → MakesBeginning (Decode r) (x ++ more) z
+  decoded_then more = (has.text.bytes, spelled_before r d.decoder x has.text.bytes has.text.read more, has.text.given)
 
-fewer : (c : Bool) (r : Reading) (x y : List ℕ) (k : ℕ) → let m : Mode = if c then Check r else Decode r in MakesBeginning m x y → MakesBeginning m x (take k y)
-fewer true r x y k none = ap (take k) none ∙ take_all k [] (omega arith)
-fewer false r x y k h = fewer_spelled r x y k h
-
-pub fewer_made : (m : DecodeMode) (x y : List ℕ) (k : ℕ) → MakesBeginning (mode_of m) x y → MakesBeginning (mode_of m) x (take k y)
-fewer_made m x y k h = fewer m.is_check m.reading x y k h
-
--- a beginning, whatever follows
-module _ (m : DecodeMode) (d : InputDecoder) (x z : List ℕ) (has : HasDecoded m d x z) where
-  decoded_then : (more : List ℕ) → MakesBeginning (mode_of m) (x ++ more) z
-  decoded_then more =
-      rw has.text.given (by_mode (λ m y. MakesBeginning m (x ++ more) y) m.is_check m.reading has.text.bytes refl
-      (spelled_before m.reading d.decoder x has.text.bytes has.text.read more))
-
-  pub decoded : MakesBeginning (mode_of m) x z
+  pub decoded : MakesBeginning (Decode r) x z
   decoded = rw append-nil at (decoded_then [])
 
-pub decoded_before : (m : DecodeMode) (d : InputDecoder) (x chunk z : List ℕ) (k : ℕ)
-    → HasDecoded m d (x ++ take k chunk) z → MakesBeginning (mode_of m) (x ++ chunk) z
-decoded_before m d x chunk z k has =
+pub decoded_before : (r : Reading) (d : InputDecoder) (x chunk z : List ℕ) (k : ℕ)
+    → HasDecoded r d (x ++ take k chunk) z → MakesBeginning (Decode r) (x ++ chunk) z
+decoded_before r d x chunk z k has =
     let whole : (x ++ take k chunk) ++ drop k chunk ≡ x ++ chunk = append_assoc x (take k chunk) (drop k chunk) ∙ ap (λ l. x ++ l) (take-append-drop k chunk) in
-    rw whole at (decoded_then m d (x ++ take k chunk) z has (drop k chunk))
+    rw whole at (decoded_then r d (x ++ take k chunk) z has (drop k chunk))
+
+pub so_far_made : (m : Mode) (s : Stage) (x y : List ℕ) → HasMade m s x y → MakesBeginning m x y
+so_far_made (Encode prefix upper g) s x y has =
+    (_, ap (λ l. encoded prefix upper g l) (sym (append-nil x)) ∙ has.left [])
+so_far_made (Decode r) s x y has = decoded r s.decoder x y has

@@ -8,7 +8,7 @@ use std::str::FromStr;
 fn hexfilter_error_runerror() {
     let mut output = Vec::new();
     let groups = Groups { size: 0, separator: b' ' };
-    let mode = Mode::Decode(Reading { ignore_whitespace: false, groups });
+    let mode = Mode::Decode(Reading { is_check: false, ignore_whitespace: false, groups });
     let error = run(mode, &mut b"6b6".as_slice(), &mut output).unwrap_err();
     assert_eq!(error.status(), 1);
 }
@@ -42,7 +42,7 @@ fn hexfilter_options_request_of() {
 fn hexfilter_runs_run() {
     let mut output = Vec::new();
     let groups = Groups { size: 0, separator: b' ' };
-    let mode = Mode::Decode(Reading { ignore_whitespace: true, groups });
+    let mode = Mode::Decode(Reading { is_check: false, ignore_whitespace: true, groups });
     run(mode, &mut b"6b69\n7769\n".as_slice(), &mut output).unwrap();
     assert_eq!(output.as_slice(), b"kiwi".as_slice());
 }

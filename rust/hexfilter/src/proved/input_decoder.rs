@@ -3,7 +3,7 @@
 
 use crate::std_shim::prelude::*;
 use crate::proved::error::RunError;
-use crate::proved::mode::DecodeMode;
+use crate::proved::mode::Reading;
 use crate::proved::scanner::Scanner;
 use crate::std_shim::codec::{Decoder, FromHexError};
 
@@ -26,24 +26,27 @@ impl InputDecoder {
         }
     }
 
-    /// Decodes the next chunk into the front of the output. Returns the number of bytes there, which are all
-    /// before the error, if there is one. The text is space for the chunk, if bytes may be left out.
+    /// Decodes the next chunk into the front of the output, or ends the input, if the chunk is empty. Returns the number
+    /// of bytes there, which are all before the error, if there is one. The text is space for the chunk.
     pub(crate) fn decode(
         &mut self,
-        mode: DecodeMode,
+        reading: Reading,
         chunk: &[u8],
         text: &mut [u8],
         output: &mut [u8],
     ) -> (usize, Option<RunError>) {
         let mut whole = self.clone();
-        if let Ok(count) = whole.decode_whole(mode, chunk, text, output) {
+        if chunk.is_empty() {
+            return (0, whole.finish());
+        }
+        if let Ok(count) = whole.decode_whole(reading, chunk, text, output) {
             *self = whole;
             return (count, None);
         }
         // A chunk with an error is decoded byte after byte.
         let mut end = 0;
         for byte in chunk {
-            match self.decode_byte(mode, *byte, &mut output[end..]) {
+            match self.decode_byte(reading, *byte, &mut output[end..]) {
                 Ok(count) => end += count,
                 Err(error) => return (end, Some(error)),
             }
@@ -54,48 +57,48 @@ impl InputDecoder {
     /// As `decode`, if the chunk has no error. After an error, this decoder cannot go on.
     fn decode_whole(
         &mut self,
-        mode: DecodeMode,
+        reading: Reading,
         chunk: &[u8],
         text: &mut [u8],
         output: &mut [u8],
     ) -> Result<usize, FromHexError> {
         let read = self.read;
         self.read = read.saturating_add(chunk.len());
-        if mode.reading.leaves_out() {
-            let count = self.scanner.text(mode.reading, read, chunk, text);
-            return decode_text(&mut self.decoder, mode.is_check, &text[..count], output);
+        if reading.leaves_out() {
+            let count = self.scanner.text(reading, read, chunk, text);
+            return decode_text(&mut self.decoder, reading, &text[..count], output);
         }
-        decode_text(&mut self.decoder, mode.is_check, chunk, output)
+        decode_text(&mut self.decoder, reading, chunk, output)
     }
 
     /// Decodes a byte into the front of the output, and returns the number of bytes there.
     fn decode_byte(
         &mut self,
-        mode: DecodeMode,
+        reading: Reading,
         byte: u8,
         output: &mut [u8],
     ) -> Result<usize, RunError> {
         let (index, scanner) = (self.read, self.scanner);
         self.read = index.saturating_add(1);
-        let character = match self.scanner.next(mode.reading, byte, self.read) {
+        let character = match self.scanner.next(reading, byte, self.read) {
             Some(character) => character,
             None => return Ok(0),
         };
-        match decode_text(&mut self.decoder, mode.is_check, &[character], output) {
+        match decode_text(&mut self.decoder, reading, &[character], output) {
             Ok(count) => Ok(count),
             Err(_) => {
                 let c = char::from(byte);
                 let error = FromHexError::InvalidHexCharacter { c, index };
-                Err(RunError::Text(error, scanner.place(mode.reading, index)))
+                Err(RunError::Text(error, scanner.place(reading, index)))
             }
         }
     }
 
     /// Ends the input. Returns `OddLength` if the text has an odd number of digits.
-    pub(crate) fn finish(self) -> Result<(), RunError> {
+    fn finish(self) -> Option<RunError> {
         match self.decoder.finish() {
-            Ok(()) => Ok(()),
-            Err(error) => Err(RunError::Text(error, None)),
+            Ok(()) => None,
+            Err(error) => Some(RunError::Text(error, None)),
         }
     }
 }
@@ -105,11 +108,11 @@ impl InputDecoder {
 #[inline(always)]
 fn decode_text(
     decoder: &mut Decoder,
-    is_check: bool,
+    reading: Reading,
     text: &[u8],
     output: &mut [u8],
 ) -> Result<usize, FromHexError> {
-    if is_check {
+    if reading.is_check {
         return match decoder.check(text) {
             Ok(()) => Ok(0),
             Err(error) => Err(error),

@@ -7,8 +7,7 @@
 
 use crate::std_shim::prelude::*;
 
-mod decoding;
-mod encoding;
+mod encoder;
 mod error;
 mod groups;
 mod input_decoder;
@@ -18,13 +17,14 @@ mod place;
 mod process;
 mod runs;
 mod scanner;
+mod stage;
 mod transfer;
 
 pub use crate::proved::error::RunError;
 pub use crate::proved::mode::{Groups, Mode, Reading};
 pub use crate::proved::options::{Fault, Request, UsageError, request_of};
 pub use crate::proved::place::Place;
-pub use crate::proved::process::program;
+pub use crate::proved::process::{Output, program};
 pub use crate::proved::runs::run;
 
 #[cfg(test)]

@@ -16,10 +16,8 @@ pub enum Mode {
         /// The groups of the text, prefix included.
         groups: Groups,
     },
-    /// The bytes that the text decodes to.
+    /// The bytes that the text decodes to or, if it is only checked, nothing.
     Decode(Reading),
-    /// Nothing. Only tests whether the text can be decoded.
-    Check(Reading),
 }
 
 /// Groups of characters, with a separator between them.
@@ -31,9 +29,11 @@ pub struct Groups {
     pub separator: u8,
 }
 
-/// What is left out of an input before it is decoded.
+/// How a text is read.
 #[derive(Clone, Copy, PartialEq, Eq, Debug)]
 pub struct Reading {
+    /// Whether the text is only checked: nothing is written then.
+    pub is_check: bool,
     /// Whether spaces, tabs, line feeds, vertical tabs, form feeds and carriage returns are left out.
     pub ignore_whitespace: bool,
     /// The groups of the text. After a whole group, only a separator can follow, which is left out.
@@ -45,12 +45,4 @@ impl Reading {
     pub(crate) fn leaves_out(self) -> bool {
         self.ignore_whitespace || self.groups.size > 0
     }
-}
-
-/// How an input is decoded.
-#[derive(Clone, Copy)]
-pub(crate) struct DecodeMode {
-    pub(crate) reading: Reading,
-    /// Whether the input is only checked.
-    pub(crate) is_check: bool,
 }

@@ -24,7 +24,7 @@ pub enum Fault {
     MissingValue,
     /// It has or is a value that is no number of at most `usize::MAX`.
     InvalidNumber,
-    /// It has or is a separator that is no ASCII character, or a digit.
+    /// It has or is a separator that is no ASCII character, a digit, or a newline.
     InvalidSeparator,
     /// It asks for groups beside lines, or for lines beside groups.
     GroupsInLines,
@@ -107,9 +107,7 @@ impl Options {
         match (self.value, text.as_bytes()) {
             (None, _) => return Err(Fault::UnknownOption),
             (Some(Value::Size), _) => self.size = Some(number(text)?),
-            (_, [byte]) if byte.is_ascii() && !byte.is_ascii_hexdigit() => self.separator = Some(
-                *byte,
-            ),
+            (_, [byte]) if is_separator(*byte) => self.separator = Some(*byte),
             _ => return Err(Fault::InvalidSeparator),
         }
         self.value = None;
@@ -151,7 +149,6 @@ impl Options {
     }
 
     /// The options with letters. What follows the letter of an option that takes a value is this value.
-    
     fn with_letters(mut self, text: &str) -> Result<Options, Fault> {
         let mut letters = text;
         while !letters.is_empty() {
@@ -189,21 +186,26 @@ impl Options {
             _ => (self.size.unwrap_or(0), b'\n'),
         };
         let groups = Groups { size, separator };
-        let reading = Reading {
-            ignore_whitespace: self.ignore_whitespace,
-            groups,
-        };
-        let mode = match (self.check, self.decode) {
-            (true, _) => Mode::Check(reading),
-            (_, true) => Mode::Decode(reading),
-            _ => Mode::Encode {
+        let mode = if self.check || self.decode {
+            Mode::Decode(Reading {
+                is_check: self.check,
+                ignore_whitespace: self.ignore_whitespace,
+                groups,
+            })
+        } else {
+            Mode::Encode {
                 prefix: self.prefix,
                 upper: self.upper,
                 groups,
-            },
+            }
         };
         Ok(Request::Run(mode, self.file))
     }
+}
+
+/// Whether the byte may separate groups. A newline separates lines.
+fn is_separator(byte: u8) -> bool {
+    byte.is_ascii() && byte != b'\n' && !byte.is_ascii_hexdigit()
 }
 
 /// The number that decimal digits write.

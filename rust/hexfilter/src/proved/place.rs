@@ -40,7 +40,6 @@ impl Line {
     }
 
     /// The place of the byte after the first `read`.
-    
     pub(crate) fn place(self, read: usize) -> Place {
         Place {
             line: self.number,

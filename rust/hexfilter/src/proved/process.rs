@@ -8,9 +8,8 @@ use crate::proved::options::{Fault, Request, UsageError, request_of};
 use crate::proved::place::Place;
 use crate::proved::runs::run;
 use crate::proved::transfer::{flush, write_piece};
-use crate::std_shim::env::{self, Env};
 use crate::std_shim::fs::File;
-use crate::std_shim::io::{self, Eprint, ErrorKind, Read, Write};
+use crate::std_shim::io::{Eprint, Error, ErrorKind, Read, Write};
 use crate::std_shim::process::ExitCode;
 use crate::std_shim::rt::Files;
 
@@ -46,33 +45,40 @@ Examples:
 /// What `--version` prints.
 const VERSION: &str = "hexfilter 1.0.0\n";
 
-/// Does what the arguments ask for, with `input` and `output` as standard input and output. Returns the
-/// exit status: 0 if that succeeds, 1 if the text cannot be decoded, 2 if the arguments are not valid or not
-/// UTF-8, and 3 if a read or a write fails. An error is one line on standard error, but none if the reader
-/// of standard output is gone.
+/// What a host knows of its standard output.
+pub trait Output {
+    /// Whether standard output goes to the file with that name or, without a name, to the file that is standard input,
+    /// and this file has bytes.
+    fn is_output(&self, name: Option<&str>) -> bool;
+}
+
+/// Does what the arguments after the program's name ask for, with `input` and `output` as standard input and output.
+/// Returns the exit status: 0 if that succeeds, 1 if the text cannot be decoded, 2 if the arguments are not valid, and 3
+/// if a read or a write fails, or if the input is the file that standard output goes to. An error is one line on standard
+/// error, but none if the reader of standard output is gone.
 pub fn program<R: Read, W: Write>(
-    rt: &(impl Env + Files + Eprint + AllocGlobal),
+    rt: &(impl Files + Eprint),
+    host: &impl Output,
+    arguments: &[String],
     input: &mut R,
     output: &mut W,
 ) -> ExitCode {
-    let arguments = match arguments(rt) {
-        Ok(arguments) => arguments,
-        Err(error) => {
-            let _ = eprintln!(rt; "hexfilter: cannot read the arguments: {error}");
-            return ExitCode::from(2);
-        }
-    };
-    match request_of(&arguments) {
-        Ok(Request::Help) => end(rt, "", print(HELP, output)),
-        Ok(Request::Version) => end(rt, "", print(VERSION, output)),
-        Ok(Request::Run(mode, None)) => run_standard_input(rt, mode, input, output),
-        Ok(Request::Run(mode, Some(index))) => match arguments.get(index) {
-            Some(name) if name.as_str() != "-" => {
-                end(rt, name.as_str(), run_file(rt, mode, name.as_str(), output))
-            }
-            _ => run_standard_input(rt, mode, input, output),
+    match request_of(arguments) {
+        Ok(Request::Help) => end(rt, None, print(HELP, output)),
+        Ok(Request::Version) => end(rt, None, print(VERSION, output)),
+        Ok(Request::Run(mode, file)) => match file_name(arguments, file) {
+            Some(name) => run_file(rt, host, mode, name, output),
+            None => run_standard_input(rt, host, mode, input, output),
         },
-        Err(error) => misused(rt, &arguments, error),
+        Err(error) => misused(rt, arguments, error),
+    }
+}
+
+/// The name of the file that the argument with that index names, unless that is standard input.
+fn file_name(arguments: &[String], index: Option<usize>) -> Option<&str> {
+    match arguments.get(index?) {
+        Some(name) if name.as_str() != "-" => Some(name.as_str()),
+        _ => None,
     }
 }
 
@@ -91,36 +97,44 @@ fn misused(rt: &impl Eprint, arguments: &[String], error: UsageError) -> ExitCod
         Fault::SecondFile => "second file",
     };
     // Nothing is left to be done if standard error fails.
-    let _ = eprintln!(rt; "hexfilter: {reason} '{argument}'; try --help");
+    let _ = eprintln!(rt; "hexfilter: {reason} {argument:?}; try --help");
     ExitCode::from(2)
-}
-
-/// The arguments after the program's name.
-fn arguments(rt: &(impl Env + AllocGlobal)) -> io::Result<Vec<String>> {
-    Ok(env::args(rt)?.skip(1).collect())
 }
 
 /// Runs on standard input.
 fn run_standard_input<R: Read, W: Write>(
     rt: &impl Eprint,
+    host: &impl Output,
     mode: Mode,
     input: &mut R,
     output: &mut W,
 ) -> ExitCode {
-    end(rt, "standard input", run(mode, input, output))
+    if host.is_output(None) {
+        return end(rt, None, Err(same_file()));
+    }
+    end(rt, None, run(mode, input, output))
 }
 
 /// Runs on the file with that name.
 fn run_file<W: Write>(
-    rt: &impl Files,
+    rt: &(impl Files + Eprint),
+    host: &impl Output,
     mode: Mode,
     name: &str,
     output: &mut W,
-) -> Result<(), RunError> {
-    match File::open(rt, name) {
-        Ok(mut file) => run(mode, &mut file, output),
-        Err(error) => Err(RunError::Read(error)),
+) -> ExitCode {
+    if host.is_output(Some(name)) {
+        return end(rt, Some(name), Err(same_file()));
     }
+    match File::open(rt, name) {
+        Ok(mut file) => end(rt, Some(name), run(mode, &mut file, output)),
+        Err(error) => end(rt, Some(name), Err(RunError::Read(error))),
+    }
+}
+
+/// The error of an input that would grow while it is read.
+fn same_file() -> RunError {
+    RunError::Read(Error::new(ErrorKind::InvalidInput, "input file is output file"))
 }
 
 /// Writes a text, and flushes.
@@ -129,22 +143,30 @@ fn print<W: Write>(text: &str, output: &mut W) -> Result<(), RunError> {
     flush(output)
 }
 
-/// Ends a run on an input with that name. Prints its error, unless the reader of standard output is gone, and
-/// returns the exit status.
-fn end(rt: &impl Eprint, name: &str, outcome: Result<(), RunError>) -> ExitCode {
+/// Ends a run on the file with that name, or on standard input. Prints its error, unless the reader of standard output
+/// is gone, and returns the exit status.
+fn end(rt: &impl Eprint, name: Option<&str>, outcome: Result<(), RunError>) -> ExitCode {
     let error = match outcome {
         Ok(()) => return ExitCode::SUCCESS,
         Err(error) => error,
     };
+    let status = error.status();
     // Nothing is left to be done if standard error fails.
-    let _ = match &error {
-        RunError::Text(error, None) => eprintln!(rt; "hexfilter: {name}: {error}"),
-        RunError::Text(error, Some(Place { line, column })) => {
-            eprintln!(rt; "hexfilter: {name}: {error} (line {line}, column {column})")
+    let _ = match (name, error) {
+        (None, RunError::Text(error, None)) => {
+            eprintln!(rt; "hexfilter: standard input: {error}")
         }
-        RunError::Read(error) => eprintln!(rt; "hexfilter: {name}: {error}"),
-        RunError::Write(error) if error.kind() == ErrorKind::BrokenPipe => Ok(()),
-        RunError::Write(error) => eprintln!(rt; "hexfilter: standard output: {error}"),
+        (None, RunError::Text(error, Some(Place { line, column }))) => {
+            eprintln!(rt; "hexfilter: standard input: {error} (line {line}, column {column})")
+        }
+        (None, RunError::Read(error)) => eprintln!(rt; "hexfilter: standard input: {error}"),
+        (Some(name), RunError::Text(error, None)) => eprintln!(rt; "hexfilter: {name:?}: {error}"),
+        (Some(name), RunError::Text(error, Some(Place { line, column }))) => {
+            eprintln!(rt; "hexfilter: {name:?}: {error} (line {line}, column {column})")
+        }
+        (Some(name), RunError::Read(error)) => eprintln!(rt; "hexfilter: {name:?}: {error}"),
+        (_, RunError::Write(error)) if error.kind() == ErrorKind::BrokenPipe => Ok(()),
+        (_, RunError::Write(error)) => eprintln!(rt; "hexfilter: standard output: {error}"),
     };
-    ExitCode::from(error.status())
+    ExitCode::from(status)
 }

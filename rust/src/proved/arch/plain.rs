@@ -3,8 +3,7 @@
 
 use crate::std_shim::prelude::*;
 use crate::proved::arch::Kernel;
-use crate::proved::output::Output;
-use crate::proved::tables::{NIL, digit_at, value_at};
+use crate::proved::tables::{NIL, pair_at, value_at};
 
 /// A kernel that works byte by byte, with tables in memory.
 pub struct Plain;
@@ -12,16 +11,16 @@ pub struct Plain;
 impl Kernel for Plain {
     const USE_CHECK_FN: bool = false;
 
+    const PIECE: usize = 1;
+
     #[inline(always)]
-    fn encode<O: Output>(input: &[u8], upper: bool, output: &mut O) {
-        for b in input {
-            output.write_byte(digit_at(upper, *b / 16));
-            output.write_byte(digit_at(upper, *b % 16));
+    fn fill(input: &[u8], upper: bool, output: &mut [u8]) {
+        for i in 0..input.len() {
+            output[2 * i..2 * i + 2].copy_from_slice(&pair_at(upper, input[i]));
         }
     }
 
     #[inline(always)]
-    
     fn check(input: &[u8]) -> bool {
         for b in input {
             if value_at(*b) == NIL {
@@ -36,7 +35,8 @@ impl Kernel for Plain {
         for i in 0..output.len() {
             let high = value_at(input[2 * i]);
             let low = value_at(input[2 * i + 1]);
-            if high == NIL || low == NIL {
+            // NIL has bits that no value has.
+            if high | low >= 16 {
                 return false;
             }
             output[i] = high * 16 + low;

@@ -1,11 +1,68 @@
 // Made by rust/erase from crates/const_hex_arch/src/arch/small_input.rt. Do not edit.
-//! Checks and decodes a short text, by its first and its last digits at once.
+//! Encodes, checks and decodes a short input, by its first and its last bytes at once.
 
 use crate::std_shim::prelude::*;
 use crate::proved::arch::lanes::LaneOps;
 use crate::proved::arch::plain::Plain;
 use crate::proved::arch::{Kernel, steps};
 use crate::std_shim::simd::prelude::*;
+
+/// Fills the output with two digits for each byte of less than two steps. `V` has the `N` lanes of a
+/// step, and `W` has 16.
+#[inline(always)]
+pub(crate) fn fill<const N: usize, V: LaneOps<N>, W: LaneOps<16>>(
+    bytes: &[u8],
+    upper: bool,
+    output: &mut [u8],
+) {
+    if bytes.len() >= N {
+        fill_overlapping::<N, V>(bytes, upper, output);
+    } else if bytes.len() >= 16 {
+        fill_overlapping::<16, W>(bytes, upper, output);
+    } else if bytes.len() == 1 {
+        fill_ends::<1, 2, W>(bytes, upper, output);
+    } else if bytes.len() >= 8 {
+        fill_ends::<8, 16, W>(bytes, upper, output);
+    } else if bytes.len() >= 4 {
+        fill_ends::<4, 8, W>(bytes, upper, output);
+    } else if bytes.len() >= 2 {
+        fill_ends::<2, 4, W>(bytes, upper, output);
+    }
+}
+
+/// As `fill`, for one to two steps: the first one, and the last one.
+#[inline(always)]
+fn fill_overlapping<const N: usize, V: LaneOps<N>>(bytes: &[u8], upper: bool, output: &mut [u8]) {
+    steps::fill_step::<N, V>(&bytes[..N], upper, false, &mut output[..2 * N]);
+    if bytes.len() > N {
+        let start = bytes.len() - N;
+        steps::fill_step::<N, V>(&bytes[start..], upper, false, &mut output[2 * start..]);
+    }
+}
+
+/// As `fill`, for `H` to `2 * H` bytes. `D` is `2 * H`, the number of digits of `H` bytes.
+#[inline(always)]
+fn fill_ends<const H: usize, const D: usize, W: LaneOps<16>>(
+    bytes: &[u8],
+    upper: bool,
+    output: &mut [u8],
+) {
+    let mut text = [0; 32];
+    steps::fill_step::<16, W>(
+        &steps::load_ends::<H, 16>(bytes, 0),
+        upper,
+        false,
+        &mut text,
+    );
+    // Not by the output's length: so a function that is not inlined needs no register for it.
+    let start = 2 * bytes.len() - D;
+    put::<D>(
+        Simd::from_slice(&text),
+        Simd::from_slice(&text[D..]),
+        start,
+        output,
+    );
+}
 
 /// Whether every byte of a text of at most 16 bytes is a digit.
 #[inline(always)]
@@ -62,20 +119,21 @@ fn decode_ends<const H: usize, const D: usize, W: LaneOps<16>>(
     let step = steps::load_ends::<D, 32>(text, b'0');
     let are_digits = steps::decode_step::<16, W>(&step, &mut bytes, false);
     if are_digits {
+        let start = output.len() - H;
         put::<H>(
             Simd::from_slice(&bytes),
             Simd::from_slice(&bytes[H..]),
+            start,
             output,
         );
     }
     are_digits
 }
 
-/// Stores the first bytes and the last bytes, which together fill the output. Where both overlap,
-/// the last bytes are kept.
+/// Stores the first bytes, and the last bytes from their start. Together they fill the output. Where
+/// both overlap, the last bytes are kept.
 #[inline(always)]
-fn put<const H: usize>(first: Simd<u8, H>, last: Simd<u8, H>, output: &mut [u8]) {
-    let start = output.len() - H;
+fn put<const H: usize>(first: Simd<u8, H>, last: Simd<u8, H>, start: usize, output: &mut [u8]) {
     first.copy_to_slice(output);
     last.copy_to_slice(&mut output[start..]);
 }

@@ -5,45 +5,33 @@
 
 use crate::std_shim::prelude::*;
 use crate::proved::arch::lanes::{self, LaneOps};
-use crate::proved::output::Output;
 use crate::std_shim::simd::prelude::*;
 
-/// Writes two digits for each of `H` to `2 * H` bytes, as one piece. The first `H` bytes and the last
-/// `H` share a vector.
+/// Fills the output with two digits for each byte of a step.
 #[inline(always)]
-pub(crate) fn encode_ends<const H: usize, const N: usize, V: LaneOps<N>, O: Output>(
-    bytes: &[u8],
-    upper: bool,
-    output: &mut O,
-) {
-    let text = &encode_to_array::<N, V>(&load_ends::<H, N>(bytes, 0), upper, false)[..2 * N];
-    output.write_ends(&text[..2 * H], &text[2 * H..4 * H], 2 * bytes.len());
-}
-
-/// Writes two digits for each byte of a step, as one piece.
-#[inline(always)]
-pub(crate) fn encode_step<const N: usize, V: LaneOps<N>, O: Output>(
+pub(crate) fn fill_step<const N: usize, V: LaneOps<N>>(
     bytes: &[u8],
     upper: bool,
     row_copy: bool,
-    output: &mut O,
+    output: &mut [u8],
 ) {
-    output.write(&encode_to_array::<N, V>(bytes, upper, row_copy)[..2 * N]);
-}
-
-/// An array that begins with the text of a step.
-#[inline(always)]
-fn encode_to_array<const N: usize, V: LaneOps<N>>(
-    bytes: &[u8],
-    upper: bool,
-    row_copy: bool,
-) -> [u8; 64] {
     let digits = V::digits_of(Simd::from_slice(bytes), upper, row_copy);
-    let mut text = [0; 64];
-    let lanes = &mut text[..];
-    digits[0].copy_to_slice(lanes);
-    digits[1].copy_to_slice(&mut lanes[N..]);
-    text
+    digits[0].copy_to_slice(output);
+    digits[1].copy_to_slice(&mut output[N..]);
+}
+
+/// As `fill_step`, for the bytes of two steps.
+#[inline(always)]
+pub(crate) fn fill_two_steps<const N: usize, V: LaneOps<N>>(
+    bytes: &[u8],
+    upper: bool,
+    row_copy: bool,
+    output: &mut [u8],
+) {
+    let (first, second) = bytes.split_at(N);
+    let (front, back) = output.split_at_mut(2 * N);
+    fill_step::<N, V>(first, upper, row_copy, front);
+    fill_step::<N, V>(second, upper, row_copy, back);
 }
 
 /// Packs the first `H` bytes and the last `H` bytes into an array of `N` bytes, and puts `fill`

@@ -19,8 +19,9 @@ const FAILED: u8 = 2;
 /// digits, or into empty chunks. Only a prefix at the start of the whole text is removed.
 ///
 /// Pass each chunk to [`decode`](Decoder::decode), and call [`finish`](Decoder::finish) at the end
-/// of the text. [`decode`](crate::decode) names an odd length before any invalid character. A decoder
-/// cannot: it names the first invalid character at once, and an odd length at the end.
+/// of the text. [`decode_to_slice`](crate::decode_to_slice) names an odd length before any invalid
+/// character. A decoder cannot: it names the first invalid character at once, and an odd length at
+/// the end.
 // Calls for C take this struct as it is. Its bytes may then have any values, and if all are zero it
 // is a new decoder.
 #[repr(C)]

@@ -5,7 +5,7 @@ use crate::std_shim::prelude::*;
 use crate::proved::codec::body::{decode_body, find_invalid_character, strip_even};
 use crate::proved::error::FromHexError;
 #[cfg(feature = "alloc")]
-use crate::kernel::decode_reserved;
+use crate::kernel::decode_to_vec;
 use crate::proved::{FixedKernel, Kernel, NIL, value_at};
 use crate::std_shim::alloc::Global;
 
@@ -34,7 +34,7 @@ pub fn decode_with<K: Kernel>(alloc: Global, input: &[u8]) -> Result<Vec<u8>, Fr
 #[inline(always)]
 #[cfg(feature = "alloc")]
 fn decode_owned<K: Kernel>(alloc: Global, input: &[u8]) -> Result<Vec<u8>, FromHexError> {
-    match decode_reserved::<K>(alloc, strip_even(input)?)? {
+    match decode_to_vec::<K>(alloc, strip_even(input)?)? {
         Some(bytes) => Ok(bytes),
         None => Err(find_invalid_character(input)),
     }

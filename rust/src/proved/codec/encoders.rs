@@ -4,20 +4,20 @@
 use crate::std_shim::prelude::*;
 use crate::proved::error::FromHexError;
 #[cfg(feature = "alloc")]
-use crate::kernel::encode_reserved;
+use crate::kernel::encode_to_vec;
 use crate::proved::{FixedKernel, Kernel, ascii_text, fill_text, text_length};
 use crate::std_shim::alloc::{AllocError, Global};
 
 /// The text, as a `String`.
 #[inline(always)]
 #[cfg(feature = "alloc")]
-fn encode_owned<K: Kernel>(
+pub(crate) fn encode_owned<K: Kernel>(
     alloc: Global,
     input: &[u8],
     prefix: bool,
     upper: bool,
 ) -> Result<String, AllocError> {
-    let text = encode_reserved::<K>(alloc, input, prefix, upper)?;
+    let text = encode_to_vec::<K>(alloc, input, prefix, upper)?;
     // SAFETY: the text is ASCII.
     Ok(unsafe { String::from_utf8_unchecked(text) })
 }
@@ -26,14 +26,14 @@ fn encode_owned<K: Kernel>(
 ///
 #[cfg(feature = "alloc")]
 pub fn encode(alloc: Global, input: &[u8]) -> Result<String, AllocError> {
-    encode_with::<FixedKernel, false>(alloc, input)
+    encode_owned::<FixedKernel>(alloc, input, false, false)
 }
 
 /// As [`encode`], in uppercase.
 ///
 #[cfg(feature = "alloc")]
 pub fn encode_upper(alloc: Global, input: &[u8]) -> Result<String, AllocError> {
-    encode_with::<FixedKernel, true>(alloc, input)
+    encode_owned::<FixedKernel>(alloc, input, false, true)
 }
 
 /// `0x`, and then the text of [`encode`].

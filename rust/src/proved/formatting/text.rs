@@ -45,7 +45,6 @@ impl fmt::Display for Display<'_> {
 }
 
 impl fmt::LowerHex for Display<'_> {
-    
     fn fmt<'w>(&self, f: &mut fmt::Formatter<'w>) -> fmt::Result {
         self.write::<false>(f)
     }

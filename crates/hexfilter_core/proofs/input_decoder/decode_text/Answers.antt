@@ -4,16 +4,16 @@ use Rattle.hexfilter_core.proofs.input_decoder.decode_text.Goals as goal
 
 pub returns-in-Ok-clause-ok : goal.returns-in-Ok-clause-ok
 returns-in-Ok-clause-ok c = λ t z has.
-    let given = rw c.if-is_check.true at has.given in
-    record { bytes = _; read = (c.in-Ok.ensures.ok t has.bytes has.read).1; given = rw (c.if-is_check.true, given) refl }
+    let given = rw c.if-reading.true at has.given in
+    record { bytes = _; read = (c.in-Ok.ensures.ok t has.bytes has.read).1; given = rw (c.if-reading.true, given) refl }
 
 pub returns-in-Err-clause-err : goal.returns-in-Err-clause-err
 returns-in-Err-clause-err c = λ t z has room. not_checked (t ++ c.args.text.now) _ (c.in-Err.ensures.answer t has.bytes has.read)
 
 pub returns-clause-ok : goal.returns-clause-ok
 returns-clause-ok c = λ t z has.
-    let given = rw c.if-is_check.false at has.given in
-    if_ok_weaker c.decode.result (λ n read. record { bytes = _; read = read; given = rw (c.if-is_check.false, given) refl })
+    let given = rw c.if-reading.false at has.given in
+    if_ok_weaker c.decode.result (λ n read. record { bytes = _; read = read; given = rw (c.if-reading.false, given) refl })
     (c.decode.ensures.ok t has.bytes has.read)
 
 pub returns-clause-err : goal.returns-clause-err

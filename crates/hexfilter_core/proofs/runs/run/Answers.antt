@@ -1,19 +1,71 @@
-use Rattle.hexfilter_core.specs.declared.mode.Mode.TheVariants.{Check, Decode}
-use Rattle.hexfilter_core.proofs.lemmas.Errors.{not_interrupted}
+use Rattle.std.proofs.Common.{◌++◌, ◌+◌, length, take, arith, append-nil, length-take}
+use Rattle.std.proofs.KnownBytes.{Appends-kept, Appends-trans, Consumes-kept, Consumes-trans}
+use Rattle.std.proofs.Math.Seq.{take-append-add}
+use Rattle.hexfilter_core.proofs.lemmas.Encoding.{if_err, if_ok}
+use Rattle.hexfilter_core.proofs.lemmas.Errors.{same_value, text_not_interrupted}
+use Rattle.hexfilter_core.proofs.lemmas.Texts.{fewer_made, so_far_made}
 use Rattle.hexfilter_core.proofs.runs.run.Goals as goal
 
-pub returns-in-Decode-clause-text : goal.returns-in-Decode-clause-text
-returns-in-Decode-clause-text g c = λ e place is. rw c.in-Decode.is (rw is at c.decode_stream.ensures.err)
+pub returns-in_err-count-clause-begun : goal.returns-in_err-count-clause-begun
+returns-in_err-count-clause-begun g c =
+    let (x, y, has, read, wrote) = c.chunks.invariant in
+    if_err c.from_residual.result (x, y, Consumes-kept _ _ _ x read c.in_err-count.ensures.nothing_read, so_far_made c.args.mode _ x y has, wrote)
 
-pub returns-in-Decode-clause-retried : goal.returns-in-Decode-clause-retried
-returns-in-Decode-clause-retried g c =
-    not_interrupted (Decode c.in-Decode.reading) (g.R.Read.remaining c.args.input.now) (g.R.Read.remaining c.decode_stream.new.input)
-    (g.W.Write.contents c.args.output.now) (g.W.Write.contents c.decode_stream.new.output) _ c.decode_stream.ensures.err
+pub returns-in_err-write_piece-clause-begun : goal.returns-in_err-write_piece-clause-begun
+returns-in_err-write_piece-clause-begun g c =
+    let (x, y, has, read, wrote) = c.chunks.invariant in
+    let piece = take c.next-end.result.0 c.next-end.new.output in
+    let (n, begun) = c.in_err-write_piece.ensures.begun in
+    let fewer = rw (take-append-add y piece n) at (fewer_made c.args.mode _ (y ++ piece) (length y + n) (c.next-end.ensures.begun x y has)) in
+    if_err c.from_residual-in_err-write_piece.result
+    (_, _, Consumes-trans _ _ _ x _ read c.in_ok-count.ensures.bytes, fewer, Appends-trans _ _ _ y _ wrote begun)
 
-pub returns-in-Check-clause-text : goal.returns-in-Check-clause-text
-returns-in-Check-clause-text g c = λ e place is. rw c.in-Check.is (rw is at c.decode_stream-in-Check.ensures.err)
+pub returns-in-Some-clause-begun : goal.returns-in-Some-clause-begun
+returns-in-Some-clause-begun g c =
+    let (x, y, has, read, wrote) = c.chunks.invariant in
+    let more = Appends-trans _ _ _ y _ wrote c.in_ok-write_piece.ensures.ok in
+    (_, _, Consumes-trans _ _ _ x _ read c.in_ok-count.ensures.bytes, c.next-end.ensures.begun x y has, more)
 
-pub returns-in-Check-clause-retried : goal.returns-in-Check-clause-retried
-returns-in-Check-clause-retried g c =
-    not_interrupted (Check c.in-Check.reading) (g.R.Read.remaining c.args.input.now) (g.R.Read.remaining c.decode_stream-in-Check.new.input)
-    (g.W.Write.contents c.args.output.now) (g.W.Write.contents c.decode_stream-in-Check.new.output) _ c.decode_stream-in-Check.ensures.err
+pub chunks-preserved : goal.chunks-preserved
+chunks-preserved g c =
+    let (x, y, has, read, wrote) = c.chunks.invariant in
+    let more = Appends-trans _ _ _ y _ wrote c.in_ok-write_piece.ensures.ok in
+    (_, _, c.next-end.ensures.more c.in_default.is (omega (arith, length-take c.in_ok-count.count c.read_chunk.new.buffer, c.in_ok-count.ensures.bound, c.if-count-eq0.false)) x y has, Consumes-trans _ _ _ x _ read c.in_ok-count.ensures.bytes, more)
+
+pub returns-clause-begun : goal.returns-clause-begun
+returns-clause-begun g c =
+    let (x, y, has, read, wrote) = c.chunks.invariant in (x, y, read, so_far_made c.args.mode _ x y has, wrote)
+
+pub returns-in-Some-clause-text : goal.returns-in-Some-clause-text
+returns-in-Some-clause-text g c = λ e place is.
+    let (x, y, has, read, wrote) = c.chunks.invariant in
+    let more = Appends-trans _ _ _ y _ wrote c.in_ok-write_piece.ensures.ok in
+    let fails = c.next-end.ensures.err c.in-Some.error c.in-Some.is x y has (g.R.Read.remaining c.read_chunk.new.input)
+    (λ none. c.in_ok-count.ensures.end (omega (arith, none, length-take c.in_ok-count.count c.read_chunk.new.buffer, c.in_ok-count.ensures.bound))
+    (omega (arith, c.read_chunk.auto.buffer))) in
+    (_, _, Consumes-trans _ _ _ x _ read c.in_ok-count.ensures.bytes, rw (same_value _ _ is) at fails, more)
+
+pub returns-in-Some-clause-retried : goal.returns-in-Some-clause-retried
+returns-in-Some-clause-retried g c =
+    let (x, y, has, read, wrote) = c.chunks.invariant in
+    text_not_interrupted c.args.mode _ _ _ c.in-Some.error
+    (c.next-end.ensures.err c.in-Some.error c.in-Some.is x y has (g.R.Read.remaining c.read_chunk.new.input)
+    (λ none. c.in_ok-count.ensures.end (omega (arith, none, length-take c.in_ok-count.count c.read_chunk.new.buffer, c.in_ok-count.ensures.bound))
+    (omega (arith, c.read_chunk.auto.buffer))))
+
+pub returns-then-count-eq0-clause-ok : goal.returns-then-count-eq0-clause-ok
+returns-then-count-eq0-clause-ok g c =
+    let (x, y, has, read, wrote) = c.chunks.invariant in
+    let got = c.in_ok-count.ensures in
+    let all = rw (c.if-count-eq0.true, append-nil x) at (Consumes-trans _ _ _ x _ read got.bytes) in
+    let more = Appends-trans _ _ _ y _ wrote c.in_ok-write_piece.ensures.ok in
+    let makes = c.next-end.ensures.end c.in_default.is (omega (arith, length-take c.in_ok-count.count c.read_chunk.new.buffer, c.if-count-eq0.true)) x y has in
+    if_ok c.flush.result
+    (x, _, (all, got.end c.if-count-eq0.true (omega (arith, c.read_chunk.auto.buffer))), makes, Appends-kept _ _ _ _ more c.flush.ensures.bytes)
+
+pub returns-then-count-eq0-clause-begun : goal.returns-then-count-eq0-clause-begun
+returns-then-count-eq0-clause-begun g c =
+    let (x, y, has, read, wrote) = c.chunks.invariant in
+    let more = Appends-trans _ _ _ y _ wrote c.in_ok-write_piece.ensures.ok in
+    if_err c.flush.result
+    (_, _, Consumes-trans _ _ _ x _ read c.in_ok-count.ensures.bytes, c.next-end.ensures.begun x y has, Appends-kept _ _ _ _ more c.flush.ensures.bytes)

@@ -5,7 +5,7 @@ use Rattle.hexfilter_core.proofs.input_decoder.InputDecoder.new.Goals as goal
 
 pub returns : goal.returns
 unfolding text_from next_from place_after
-returns c = λ m. record {
+returns c = λ r. record {
   text = record { bytes = _; read = c.new.ensures.starts; given = grind arith };
   scanned = record { next = refl; line = λ some short. (refl, refl) };
   count = refl;

@@ -1,6 +1,6 @@
 use Rattle.std.proofs.Common.{◌≡◌, ◌-◌, ◌≤◌, List, ℕ, length, take}
 use Rattle.const_hex.specs.Decoding.{counted}
-use Rattle.hexfilter_core.specs.Decoding.{HasAdded, HasScanned}
+use Rattle.hexfilter_core.specs.Stages.{HasAdded, HasScanned}
 use Rattle.hexfilter_core.proofs.scanner.Scanner.text.Given as goal
 
 abbrev pub invariant-runs : goal.invariant-runs

@@ -1,0 +1,54 @@
+-- What a run has made of the chunks that it has read.
+use Rattle.std.specs.Prelude.{◌≡◌, ◌≤◌, ◌++◌, Bool, true, ℕ, List, length}
+use Rattle.const_hex.specs.Decoding.{HasRead, counted}
+use Rattle.const_hex.specs.Texts.{full_text}
+use Rattle.const_hex.specs.declared.codec.decoder.Decoder.{Decoder}
+use Rattle.hexfilter_core.specs.Groups.{encoded, laid_out}
+use Rattle.hexfilter_core.specs.Inputs.{next_from, text_of}
+use Rattle.hexfilter_core.specs.Outcome.{written}
+use Rattle.hexfilter_core.specs.Places.{IsLine, leaves_out}
+use Rattle.hexfilter_core.specs.declared.encoder.Encoder.{Encoder}
+use Rattle.hexfilter_core.specs.declared.input_decoder.InputDecoder.{InputDecoder}
+use Rattle.hexfilter_core.specs.declared.mode.Groups.{Groups}
+use Rattle.hexfilter_core.specs.declared.mode.Mode.{Mode}
+use Rattle.hexfilter_core.specs.declared.mode.Mode.TheVariants.{Encode, Decode}
+use Rattle.hexfilter_core.specs.declared.mode.Reading.{Reading}
+use Rattle.hexfilter_core.specs.declared.scanner.Scanner.{Scanner}
+use Rattle.hexfilter_core.specs.declared.stage.Stage.{Stage}
+
+-- the scanner has read the input x
+pub record HasScanned (r : Reading) (s : Scanner) (x : List ℕ) : Type 0 where
+  pub next : s.column ≡ next_from r 0 x
+  pub line : leaves_out r ≡ true → IsLine x s.line
+
+-- the next bytes u of the input add v to the text, and the scanner has read them, too
+pub record HasAdded (r : Reading) (s : Scanner) (x u v : List ℕ) : Type 0 where
+  pub text : text_of r (x ++ u) ≡ text_of r x ++ v
+  pub scanned : HasScanned r s (x ++ u)
+
+-- the decoder has read the text t without an error, and has written z of its bytes
+pub record HasWritten (r : Reading) (d : Decoder) (t z : List ℕ) : Type 0 where
+  pub bytes : List ℕ
+  pub read : HasRead d t bytes
+  pub given : z ≡ written r bytes
+
+-- the decoder has read the input x without an error, and has written the bytes z
+pub record HasDecoded (r : Reading) (d : InputDecoder) (x z : List ℕ) : Type 0 where
+  pub text : HasWritten r d.decoder (text_of r x) z
+  pub scanned : HasScanned r d.scanner x
+  pub count : d.read ≡ counted (length x)
+
+-- the encoder has read the bytes x and has written z: what is left is the text of more bytes
+pub record HasEncoded (prefix upper : Bool) (g : Groups) (e : Encoder) (x z : List ℕ) : Type 0 where
+  pub left : (more : List ℕ) → encoded prefix upper g (x ++ more) ≡ z ++ laid_out g e.column (full_text e.prefix upper more)
+  pub fits : e.column ≤ g.size
+
+-- in this mode, x was read and z was made
+abbrev pub HasMade : Mode → Stage → List ℕ → List ℕ → Type 0
+HasMade (Encode prefix upper g) s x z = HasEncoded prefix upper g s.encoder x z
+HasMade (Decode r) s x z = HasDecoded r s.decoder x z
+
+-- nothing was read
+abbrev pub IsNew : Mode → Encoder → Type 0
+IsNew (Encode prefix upper g) e = (e.prefix ≡ prefix) × (e.column ≡ 0)
+IsNew (Decode r) e = Unit {0}

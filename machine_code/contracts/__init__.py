@@ -1,0 +1,1 @@
+"""Trusted: what is claimed of the functions."""

@@ -1,0 +1,1 @@
+"""Trusted: runs machine code on all inputs at once."""

@@ -1,0 +1,53 @@
+"""The instructions and constants of an object file, as `reading` has them.
+
+`reading` lays sections out at places that it draws. Here these are only names of places: code that names one without a
+relocation is refused, and constants lie at unknown bases. If this were wrong, another instruction or constant could be
+proved than that which runs.
+"""
+
+import re
+
+from execution.state import Region, word
+from reading import objects
+from solver.questions import require
+
+
+class Code:
+    def __init__(self, content, processors):
+        self.object = objects.read(content)
+        self.processor = processors[self.object.machine]
+        self.constants, self.instructions, self._references = {}, {}, {}
+        for at, section in enumerate(self.object.sections):
+            if section.is_code:
+                for offset, kind, symbol, addend in section.references:
+                    self._references[section.address + offset] = kind, symbol + addend
+            elif not section.is_writable and not section.references:
+                # An access beyond the end of a section is one to what is not known.
+                region = Region(f"constants_{at}", word(len(section.content)), section.alignment, section.content)
+                self.constants[section.address] = section, region
+
+    def function(self, name):
+        """The address of the function with this name and any version of the crate; its instructions are read for the
+        processor that its name says."""
+        pattern = rf"const_hex_\d+_\d+_\d+_{name}(_v[23])?"
+        found = [symbol for symbol in sorted(self.object.exported) if re.fullmatch(pattern, symbol)]
+        require(len(found) == 1, f"{len(found)} functions {name}")
+        for section in self.object.sections:
+            if section.is_code:
+                self.instructions |= self.processor.instructions(self, section, found[0].rpartition("_")[2])
+        return self.object.symbols[found[0]]
+
+    def references_in(self, address, size):
+        """The relocations that change bytes of an instruction: where, of which kind, and what they refer to."""
+        return [(at, *self._references[at]) for at in range(address - 3, address + size) if at in self._references]
+
+    def constant_at(self, address):
+        """The region of constants with an address, and the offset in it."""
+        for section, region in self.constants.values():
+            if section.address <= address < section.end:
+                return region, address - section.address
+        return None
+
+    def name_at(self, address):
+        text = self.instructions[address].text if address in self.instructions else "no instruction"
+        return f"{self.object.name_at(address)} {text}"

@@ -1,0 +1,131 @@
+"""Runs a function on all inputs, by a path for each way through it, and proves what is claimed at each loop head,
+branch and return.
+
+A loop is proved by induction: what holds at its head after k rounds is claimed where it is entered, for k = 0; and
+from it, for any k, each way through the loop comes back to it for k + 1. If this were wrong, code could be accepted
+that is wrong after some rounds, or that does not end.
+"""
+
+import z3
+
+from execution.state import fresh, simple, word
+from solver.questions import Refused, require
+
+# So many instructions from one loop head to the next.
+STEPS = 2000
+
+
+class Branch:
+    """What a jump returns that is taken on a condition."""
+
+    def __init__(self, choice, target):
+        self.choice, self.target = choice, target
+
+
+class Loop:
+    """A loop that was entered in some state, and what is claimed after any number of rounds. A hint says it once; what
+    it means after other numbers of rounds is no matter of the hint."""
+
+    def __init__(self, entry, hint):
+        self.entry, self.rounds = entry, fresh("p_rounds", 64)
+        # There are no more rounds than this number, so they end; and the next one after them is a number, too.
+        bound = hint.bound(entry)
+        entry.must(z3.ULT(bound, (1 << 64) - 1), "the number of rounds")
+        self.claims = [z3.ULE(self.rounds, bound), *hint.guards(self.rounds)]
+        # The registers that a round changes by a fixed number, or not at all; and the vectors that it keeps.
+        self.general = {name: entry.general[name] + step * self.rounds for name, step in hint.steps.items()}
+        self.kept, self.is_clean = list(hint.kept), bool(hint.is_clean)
+        self.read, self.written = hint.read(self.rounds), hint.written(self.rounds)
+
+    def after(self, k, term):
+        """A term after so many rounds."""
+        return simple(z3.substitute(term, (self.rounds, k)))
+
+    def arrive(self, state, k):
+        """Proves that all that is assumed at the head holds in a state that has come there after k rounds."""
+        for claim in self.claims:
+            state.must(self.after(k, claim), f"at the head of a loop: {self.after(k, claim)}")
+        for name, wanted in self.general.items():
+            state.must(state.general[name] == self.after(k, wanted), f"at the head of a loop: {name}")
+        for at in self.kept:
+            same = all(state.holds(a == b) for a, b in zip(state.vectors[at], self.entry.vectors[at]))
+            require(same, f"at the head of a loop: vector {at}")
+        same = state.stack.keys() == self.entry.stack.keys()
+        require(same and all(state.stack[at].eq(value) for at, value in self.entry.stack.items()),
+                "at the head of a loop: the stack")
+        require(state.calls == self.entry.calls, "at the head of a loop: where calls return to")
+        state.arrive(self.is_clean)
+        state.contract.reached(state, self.after(k, self.read), self.after(k, self.written))
+
+    def head(self):
+        """The state after any number of rounds."""
+        state = self.entry.copy()
+        state.general = {name: fresh("g", 64) for name in state.general}
+        state.general |= {name: simple(term) for name, term in self.general.items()}
+        state.vectors = {at: lane if at in self.kept else [fresh("g", 8) for _ in lane]
+                         for at, lane in state.vectors.items()}
+        for claim in self.claims:
+            state.assume(claim)
+        state.reads, state.writes = [(word(0), self.read)], [(word(0), self.written)]
+        state.digits = {(state.reads[0][0].get_id(), str(self.read)): True}
+        state.flags, state.steps, state.loops = None, 0, state.loops | {state.at: self}
+        state.leave(self.is_clean)
+        return state
+
+
+def step(code, state):
+    """Runs one instruction, and gives the states after it; none after a return."""
+    require(state.at in code.instructions, "it leaves the code")
+    state.steps += 1
+    require(state.steps < STEPS, "a loop without a hint")
+    instruction = code.instructions[state.at]
+    require(not instruction.refused, instruction.refused)
+    require(instruction.mnemonic in code.processor.HANDLERS, "an instruction without a meaning here")
+    state.next = instruction.address + instruction.size
+    to = code.processor.HANDLERS[instruction.mnemonic](state, instruction)
+    state.drop_below()
+    if isinstance(to, Branch):
+        certain = state.choose(to.choice)
+        ways = {True: state.when(to.choice, to.target), False: state.when(z3.Not(to.choice), state.next)}
+        for truth, way in ways.items():
+            if way and certain is not None and truth is not certain:
+                way.is_invalid = True
+        return [way for way in ways.values() if way]
+    if z3.is_expr(to):
+        # A return goes back to a call, or out of the function.
+        name = to.decl().name()
+        if name not in state.calls:
+            require(name == "p_return", "a return to another place")
+            state.returned()
+            state.contract.returns(state)
+            return []
+        to = state.calls.pop(name)
+    state.at = state.next if to is None else to
+    return [state]
+
+
+def run(code, start, heads, guess, ran=None):
+    """Runs a function from its start. Gives how many paths have ended."""
+    count, work, state = 0, [start], start
+    try:
+        while work:
+            state = work.pop()
+            if state.at in heads:
+                if state.at in state.loops:
+                    loop = state.loops[state.at]
+                    loop.arrive(state, simple(loop.rounds + 1))
+                    count += 1
+                    continue
+                # Without a hint, a round is run as it is; STEPS limits how many there are.
+                if hint := guess(code, state):
+                    loop = Loop(state, hint)
+                    loop.arrive(state, word(0))
+                    state = loop.head()
+            if ran is not None:
+                ran.add(state.at)
+            after = step(code, state)
+            count += not after
+            work += after
+    except Refused as refused:
+        raise Refused(f"{code.name_at(state.at)}: {refused}") from None
+    return count

@@ -1,0 +1,131 @@
+"""What may hold at the head of a loop, guessed from one round.
+
+The round begins with registers that are some unknown numbers more than where the loop was entered. What the round adds
+to each is a step, if it is a constant; and the branches that lead back to the head say what holds of the registers
+then. All of it is proved where it is used (execution/paths.py), so a wrong guess is refused.
+"""
+
+import z3
+
+from execution import paths
+from execution.state import fresh, simple, word
+from solver.questions import Refused, names
+
+
+def heads(code, start):
+    """The targets of edges back to an instruction that is being visited, in calls, too."""
+    found, done, work = set(), set(), [(start, frozenset())]
+    while work:
+        at, above = work.pop()
+        found |= {at} & above
+        if at not in done and at in code.instructions:
+            done.add(at)
+            work += [(to, above | {at}) for to in code.processor.follows(code.instructions[at])]
+    return found
+
+
+class Hint:
+    """By k, which is how many rounds are done: registers, guards, and how much was read and written.
+
+    `added` has what a register is more than where the loop was entered, when the round began that `end` came from.
+    """
+
+    def __init__(self, entry, end, added):
+        def difference(name):
+            by = simple(end.general[name] - entry.general[name] - added[name])
+            return by.as_signed_long() if z3.is_bv_value(by) else None
+
+        steps = {name: difference(name) for name in entry.general}
+        self.added, self.steps = added, {name: step for name, step in steps.items() if step is not None}
+        self.kept = [at for at, lane in entry.vectors.items() if all(a.eq(b) for a, b in zip(lane, end.vectors[at]))]
+        self.is_clean = getattr(entry, "is_clean", False) and end.is_clean
+        self.first_read, self.first_written = _least(end.reads), _least(end.writes)
+        unknown = {added[name].decl().name() for name in added if name not in self.steps}
+        moving = {added[name].decl().name() for name, step in self.steps.items() if step}
+        facts = [fact.term for fact in end.facts[len(entry.facts):] if fact.names & moving and not fact.names & unknown]
+        # What the branches say of the registers where the round ends, and so held where it began.
+        self.facts = [fact for fact in facts if entry.holds(self._at(fact, word(-1)))]
+
+    def _at(self, term, k):
+        """A term of the registers after so many rounds."""
+        return simple(z3.substitute(term, *[(self.added[name], step * k) for name, step in self.steps.items() if step]))
+
+    def guards(self, k):
+        return [self._at(fact, k - 1) for fact in self.facts]
+
+    def read(self, k):
+        return self._at(self.first_read, k)
+
+    def written(self, k):
+        return self._at(self.first_written, k)
+
+    def bound(self, entry):
+        """How many rounds a register allows that counts down."""
+        guarded = {name for fact in self.facts for name in names(fact)}
+        for name, step in self.steps.items():
+            if step < 0 and self.added[name].decl().name() in guarded:
+                return simple(z3.UDiv(entry.general[name], word(-step)))
+        raise Refused("nothing counts down")
+
+
+def _least(parts):
+    """The least offset of what was read or written, if there is one."""
+    far = [simple(offset - parts[0][0]) for offset, _ in parts]
+    return simple(parts[0][0] + min(by.as_signed_long() for by in far if z3.is_bv_value(by))) if parts else word(0)
+
+
+def guess(code, entry):
+    """What may hold at the head that a state has come to, or None."""
+
+    class Quiet(type(entry)):
+        """A state of which nothing has to be proved."""
+
+        def must(self, goal, message):
+            pass
+
+        def choose(self, choice):
+            return None
+
+        def store(self, address, lane, aligned=False):
+            if "p_output" in names(simple(address)):
+                self.writes.append((simple(address - self.regions["output"].base), len(lane)))
+            else:
+                super().store(address, lane, aligned)
+
+        def returned(self):
+            raise Refused("a round that ends elsewhere")
+
+    class Follower(Quiet):
+        """A state of which is known which way it goes."""
+
+        def when(self, condition, at):
+            other = self.copy()
+            other.assume(condition)
+            other.at = at
+            return other
+
+    def begin(kind, added):
+        state = entry.copy()
+        state.__class__, state.reads, state.writes = kind, [], []
+        state.general = {name: simple(value + added[name]) for name, value in entry.general.items()}
+        return paths.step(code, state)
+
+    work, end = [(state, (state.at,)) for state in begin(Quiet, {name: word(0) for name in entry.general})], None
+    while work and end is None:
+        state, way = work.pop()
+        if state.at == entry.at:
+            end = state
+        else:
+            try:
+                work += [(after, (*way, after.at)) for after in paths.step(code, state)]
+            except Refused:
+                pass
+    if end is None:
+        return None
+    added = {name: word(0) if end.general[name].eq(value) else fresh("p_added", 64)
+             for name, value in entry.general.items()}
+    states = begin(Follower, added)
+    for at in way:
+        state, = [state for state in states if state.at == at]
+        states = paths.step(code, state) if at != entry.at else []
+    return Hint(entry, state, added)

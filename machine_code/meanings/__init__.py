@@ -1,0 +1,1 @@
+"""Trusted: what instructions do."""

@@ -1,0 +1,474 @@
+"""AArch64: its operands as `objdump` writes them, what each instruction does, and the procedure call standard.
+
+If a meaning were wrong, code would be proved that does something else. test_meanings.py compares each form that occurs
+with QEMU. An instruction is refused unless the assembler, which knows what ARMv8.0 has, makes the same bytes of its
+text.
+"""
+
+import re
+
+import z3
+
+from execution import state
+from execution.paths import Branch
+from execution.state import byte, fresh, joined, simple, split, word
+from meanings.lanes import (ADD, AND, AND_NOT, MAXIMUM, MINIMUM, MULTIPLY, OR, SUBTRACT, SUBTRACT_SATURATED, XOR,
+                            bytes_of, chosen, each, units)
+from reading import disassembly
+from reading.assembled import checked, with_distance
+from solver.questions import require
+
+# By what a relocation is for, as ELF numbers them.
+PAGE, LOW, LOW8, LOW16, JUMP, CALL = 275, 277, 286, 299, 282, 283
+# An address, registers in braces, or anything else without a comma.
+OPERAND = re.compile(r"\[[^]]*\]!?|\{[^}]*\}(?:\[\d+\])?|[^,\s][^,]*")
+NO_RELOCATION = "an address without its relocation, or a relocation without an address"
+SIZES = {"b": 1, "h": 2, "s": 4, "d": 8, "q": 16}
+
+
+class Operand:
+    """A register of so many bytes, of which a vector has lanes; an element of a vector; a number; an address; how
+    another operand is shifted; or a condition."""
+
+    def __init__(self, text):
+        self.text, self.lane, self.size = text, None, None
+        if found := re.fullmatch(r"([xw])(\d+|zr)|(w?sp)", text):
+            require(found[2] != "18", "x18, which belongs to the platform")
+            self.kind, self.name, self.size = "general", found[3] and "sp" or f"x{found[2]}", 4 if text[0] == "w" else 8
+        elif found := re.fullmatch(r"([bhsdq])(\d+)", text):
+            self.kind, self.name, self.size = "vector", int(found[2]), SIZES[found[1]]
+        elif found := re.fullmatch(r"(\{?)v(\d+)\.(\d+)([bhsd])\}?", text):
+            self.kind, self.name, self.lane = "vector", int(found[2]), SIZES[found[4]]
+            self.size = int(found[3]) * self.lane
+        elif found := re.fullmatch(r"\{?v(\d+)\.([bhsd])\}?\[(\d+)\]", text):
+            self.kind, self.name, self.size = "element", int(found[1]), SIZES[found[2]]
+            self.first = int(found[3]) * self.size
+        elif found := re.fullmatch(r"\[(x\d+|sp)(?:, (?:#(-?\d+)|(x\d+)(?:, lsl #(\d+))?))?\](!?)", text):
+            self.kind, self.base, self.offset, self.index = "memory", found[1], int(found[2] or 0), found[3]
+            self.count, self.is_moved, self.after = int(found[4] or 0), bool(found[5]), None
+            require("x18" not in found.groups(), "x18, which belongs to the platform")
+        elif found := re.fullmatch(r"(lsl|lsr) #(\d+)", text):
+            self.kind, self.how, self.count = "shift", found[1], int(found[2])
+        elif text in CONDITIONS:
+            self.kind = "condition"
+        else:
+            self.kind, self.value = "number", int(text.removeprefix("#"), 0 if text.startswith("#") else 16)
+
+
+def _instruction(text):
+    mnemonic, _, rest = text.partition("\t")
+    rest = re.split("//|<", rest)[0].strip()
+    text = f"{mnemonic} {rest}".strip()
+    try:
+        operands = [Operand(part.strip()) for part in OPERAND.findall(rest)]
+    except Exception:
+        return "unknown", [], text
+    if len(operands) > 1 and operands[-2].kind == "memory":
+        *operands, after = operands
+        operands[-1].after = after
+    return mnemonic, operands, text
+
+
+def _is_page(i, old, new):
+    """The linker writes which page the instruction has."""
+    words = [int.from_bytes(code[:4], "little") & ~0x60FFFFE0 for code in (old, new)]
+    return i.mnemonic == "adrp" and words[0] == words[1]
+
+
+def _is_target(i):
+    return i.mnemonic in ("b", "bl", "cbz", "cbnz") or i.mnemonic.startswith("b.")
+
+
+def instructions(code, section, level):
+    """Those of a section by their addresses. One with a relocation must be what the relocation is for."""
+    found = disassembly.read(section, ["aarch64-linux-gnu-objdump", "-m", "aarch64"], _instruction)
+    found = checked(section, found, ["aarch64-linux-gnu-as", "-march=armv8-a"], with_distance, _is_page)
+    for address, i in found.items():
+        references = code.references_in(address, i.size)
+        kinds = {"adrp": (PAGE,), "add": (None, LOW), "ldr": (None, LOW8, LOW16), "b": (None, JUMP), "bl": (CALL,)}
+        kind = references[0][1] if references else None
+        is_right = len(references) <= 1 and kind in kinds.get(i.mnemonic, (None,))
+        if references:
+            is_right &= references[0][0] == address
+        if _is_target(i):
+            to = i.operands[-1].value
+            is_right &= to == references[0][2] if references else section.address <= to < section.end
+        if not is_right:
+            found[address] = i._replace(refused=i.refused or NO_RELOCATION)
+    return found
+
+
+def follows(i):
+    """Where an instruction leads: to the next one, and to a jump's target. Not trusted."""
+    targets = [i.operands[-1].value] if _is_target(i) else []
+    return ([i.address + 4] if i.mnemonic not in ("ret", "b") else []) + targets
+
+
+class State(state.State):
+    """The arguments are in these registers, and a call has left the address to return to in x30."""
+
+    TOP, STACK, RETURN, VECTORS, WIDTH = "sp", 2000, 0, 32, 16
+    GENERAL = tuple(f"x{at}" for at in range(31)) + ("sp",)
+    ARGUMENTS, RESULT = tuple(f"x{at}" for at in range(8)), ("x0", 32)
+    KEPT = ("sp", *(f"x{at}" for at in range(19, 30)))
+
+    def enter(self):
+        self.general |= {"sp": simple(self.regions["stack"].base + self.STACK), "x30": z3.BitVec("p_return", 64)}
+        self.first, self.first_vectors = self.general.copy(), self.vectors.copy()
+
+    def returned(self):
+        for name in self.KEPT:
+            self.must(self.general[name] == self.first[name], f"{name} is not as before")
+        for at in range(8, 16):
+            for new, old in zip(self.vectors[at][:8], self.first_vectors[at]):
+                self.must(new == old, f"v{at} is not as before")
+
+    def arrive(self, is_clean):
+        """All that a loop head says is said of any processor."""
+
+    leave = arrive
+
+    # Operands
+    def number(self, o, size=None):
+        """What a general register or a number has."""
+        if o.kind == "number":
+            return z3.BitVecVal(o.value, 8 * size)
+        require(o.kind == "general" and size in (None, o.size), "two sizes")
+        whole = word(0) if o.name == "xzr" else self.general[o.name]
+        return whole if o.size == 8 else simple(z3.Extract(31, 0, whole))
+
+    def last(self, operands, size):
+        """The last operand, which may be shifted."""
+        value = self.number(operands[0], size)
+        if len(operands) == 1:
+            return value
+        require(len(operands) == 2 and operands[1].kind == "shift" and operands[1].count < 8 * size, "a shift")
+        return simple(SHIFTS[operands[1].how](value, operands[1].count))
+
+    def lane(self, o):
+        """The bytes of any register."""
+        if o.kind == "general":
+            return split(self.number(o))
+        require(o.kind in ("vector", "element"), "a register is needed")
+        return self.vectors[o.name][o.first :][: o.size] if o.kind == "element" else self.vectors[o.name][: o.size]
+
+    def put(self, o, term):
+        require(o.kind == "general" and term.size() == 8 * o.size, "two sizes")
+        if o.name != "xzr":
+            self.general[o.name] = simple(z3.ZeroExt(32, term) if o.size == 4 else term)
+
+    def put_lane(self, o, lane):
+        """Writes any register. What lies above in it is cleared, but not what is beside an element."""
+        require(len(lane) == o.size, "two sizes")
+        if o.kind == "general":
+            return self.put(o, joined(lane))
+        require(o.kind in ("vector", "element"), "a register is needed")
+        old = self.vectors[o.name]
+        self.vectors[o.name] = (old[: o.first] + lane + old[o.first + o.size :] if o.kind == "element" else
+                                lane + [byte(0)] * (16 - o.size))
+
+
+SHIFTS = {"lsl": lambda a, by: a * (1 << by), "lsr": z3.LShR}
+CONDITIONS = {
+    "eq": lambda n, z, c, v: z, "cs": lambda n, z, c, v: c, "mi": lambda n, z, c, v: n, "vs": lambda n, z, c, v: v,
+    "hi": lambda n, z, c, v: z3.And(c, z3.Not(z)), "ge": lambda n, z, c, v: n == v,
+    "gt": lambda n, z, c, v: z3.And(z3.Not(z), n == v),
+}
+CONDITIONS |= {new: lambda *flags, old=old: z3.Not(CONDITIONS[old](*flags)) for new, old in
+               {"ne": "eq", "cc": "cs", "pl": "mi", "vc": "vs", "ls": "hi", "lt": "ge", "le": "gt"}.items()}
+
+
+def condition(s, name):
+    require(s.flags is not None, "a flag that is not known")
+    return simple(CONDITIONS[name](*s.flags))
+
+
+def sum_flags(a, b):
+    result = a + b
+    return result < 0, result == 0, z3.ULT(result, a), (a ^ result) & (b ^ result) < 0
+
+
+def difference_flags(a, b):
+    result = a - b
+    return result < 0, a == b, z3.UGE(a, b), (a ^ b) & (a ^ result) < 0
+
+
+def logic_flags(a, b):
+    return simple(a & b) < 0, simple(a & b) == 0, z3.BoolVal(False), z3.BoolVal(False)
+
+
+# General instructions
+def general(function, flags=None, is_kept=True):
+    def handler(s, i):
+        to, one, *others = i.operands if is_kept else [None, *i.operands]
+        a, b = s.number(one), s.last(others, one.size)
+        if flags:
+            s.flags = flags(a, b)
+        if is_kept:
+            s.put(to, simple(function(a, b)))
+    return handler
+
+
+def page(s, i):
+    """The page of a constant is any number, to which only the lower bits of the same constant may be added."""
+    _, _, place = s.code.references_in(i.address, 4)[0]
+    require(s.code.constant_at(place), "an address without a constant")
+    return z3.BitVec(f"p_page_of_{place:x}", 64), s.code.constant_at(place)
+
+
+def adrp(s, i):
+    s.put(i.operands[0], page(s, i)[0])
+
+
+def add(s, i):
+    if not s.code.references_in(i.address, 4):
+        return general(ADD)(s, i)
+    to, base, more = i.operands
+    number, (region, offset) = page(s, i)
+    require(to.size == 8 and s.number(base).eq(number) and more.kind == "number", "the page of another constant")
+    s.put(to, simple(region.base + offset))
+
+
+def negate(s, i):
+    s.put(i.operands[0], simple(-s.last(i.operands[1:], i.operands[0].size)))
+
+
+def invert(s, i):
+    s.put(i.operands[0], simple(~s.last(i.operands[1:], i.operands[0].size)))
+
+
+def shift(s, i):
+    to, by, count = i.operands
+    require(count.kind == "number" and 0 <= count.value < 8 * to.size, "a shift")
+    s.put(to, simple(SHIFTS[i.mnemonic](s.number(by, to.size), count.value)))
+
+
+def select(function):
+    def handler(s, i):
+        to, one, other, name = i.operands
+        a, b = s.number(one, to.size), s.number(other, to.size)
+        s.put(to, simple(z3.If(condition(s, name.text), a, function(b))))
+    return handler
+
+
+def set_if(s, i):
+    to, name = i.operands
+    s.put(to, simple(z3.If(condition(s, name.text), z3.BitVecVal(1, 8 * to.size), z3.BitVecVal(0, 8 * to.size))))
+
+
+def compare_if(s, i):
+    """Compares where a condition holds, and otherwise sets the flags to a number."""
+    one, other, number, name = i.operands
+    holds = condition(s, name.text)
+    flags = difference_flags(s.number(one), s.number(other, one.size))
+    bits = [z3.BoolVal(bool(number.value >> at & 1)) for at in (3, 2, 1, 0)]
+    s.flags = tuple(z3.If(holds, flag, bit) for flag, bit in zip(flags, bits))
+
+
+# Jumps
+def jump(s, i):
+    if i.mnemonic == "bl":
+        s.general["x30"] = s.return_to(s.next)
+    if s.code.references_in(i.address, 4):
+        # The linker may put code of its own between, which changes these.
+        s.general |= {name: fresh("g", 64) for name in ("x16", "x17")}
+    return i.operands[0].value
+
+
+def ret(s, i):
+    require(not i.operands, "a return by another register")
+    return s.general["x30"]
+
+
+def jump_if(s, i):
+    return Branch(condition(s, i.mnemonic[2:]), i.operands[0].value)
+
+
+def jump_if_zero(s, i):
+    is_zero = simple(s.number(i.operands[0]) == 0)
+    return Branch(is_zero if i.mnemonic == "cbz" else simple(z3.Not(is_zero)), i.operands[1].value)
+
+
+# Loads and stores: how many bytes are of each register, if not all
+LOADS = {"ldr": None, "ldur": None, "ldp": None, "ld1": None, "ldrb": 1, "ldurb": 1, "ldrh": 2, "ldurh": 2}
+STORES = {"str": None, "stur": None, "stp": None, "st1": None, "strb": 1, "sturb": 1, "strh": 2, "sturh": 2}
+
+
+def address(s, i, registers):
+    """The address of an access, and what the base is afterwards, if it is moved."""
+    o = i.operands[-1]
+    require(o.kind == "memory" and not (o.is_moved and o.after), "an address of another form")
+    require(not ((o.is_moved or o.after) and o.base in [r.name for r in registers]),
+            "a base that is moved and accessed, which is unpredictable")
+    base = s.general[o.base]
+    if o.base == "sp":
+        s.must(base & 15 == 0, "the stack pointer is not aligned")
+    if s.code.references_in(i.address, 4):
+        size, (number, (region, offset)) = registers[0].size, page(s, i)
+        kind = s.code.references_in(i.address, 4)[0][1]
+        require(kind == {8: LOW8, 16: LOW16}.get(size), "a relocation for another size")
+        require(base.eq(number) and not (o.index or o.is_moved or o.after), "the page of another constant")
+        require(region.align >= size and offset % size == 0, "a constant that is not aligned")
+        return region.base + offset, None
+    at = simple(base + (s.general[o.index] * (1 << o.count) if o.index else o.offset))
+    return at, simple(base + s.number(o.after, 8)) if o.after else at if o.is_moved else None
+
+
+def accessed(s, i, table):
+    """The registers of a load or store, how many bytes are of each, and its address and the base afterwards."""
+    *registers, _ = i.operands
+    size = table[i.mnemonic] or registers[0].size
+    require(all(r.size == registers[0].size for r in registers), "two sizes")
+    require(size == registers[0].size or registers[0].kind == "general", "two sizes")
+    return registers, size, *address(s, i, registers)
+
+
+def move_base(s, i, base):
+    if base is not None:
+        s.general[i.operands[-1].base] = base
+
+
+def load(s, i):
+    targets, size, at, base = accessed(s, i, LOADS)
+    require(len({(t.kind, t.name) for t in targets}) == len(targets), "two loads of one register")
+    lane = s.load(at, size * len(targets))
+    move_base(s, i, base)
+    for number, target in enumerate(targets):
+        s.put_lane(target, lane[size * number :][:size] + [byte(0)] * (target.size - size))
+
+
+def store(s, i):
+    """One that moves the stack pointer first makes space for what it stores."""
+    sources, size, at, base = accessed(s, i, STORES)
+    require(not (i.operands[-1].base == "sp" and i.operands[-1].after), "a store below the stack")
+    lane = [x for source in sources for x in s.lane(source)[:size]]
+    move_base(s, i, base)
+    s.store(at, lane)
+
+
+# Vectors
+def same(*vectors):
+    """The vectors have the same lanes."""
+    require(all(o.kind == "vector" and o.lane for o in vectors), "vectors are needed")
+    require(len({(o.size, o.lane) for o in vectors}) == 1, "two sizes")
+    return vectors
+
+
+def by_units(function):
+    def handler(s, i):
+        to, one, other = same(*i.operands)
+        s.put_lane(to, each(function, to.lane, s.lane(one), s.lane(other)))
+    return handler
+
+
+def either(of_general, of_vectors):
+    return lambda s, i: (of_general if i.operands[0].kind == "general" else of_vectors)(s, i)
+
+
+def shift_right(s, i):
+    *vectors, by = i.operands
+    to, one = same(*vectors)
+    require(0 < by.value <= 8 * to.lane, "a shift")
+    s.put_lane(to, each(lambda a: z3.LShR(a, by.value), to.lane, s.lane(one)))
+
+
+def constant(s, i):
+    to, number = i.operands
+    require(to.lane and 0 <= number.value < 1 << 8 * to.lane, "a constant")
+    s.put_lane(to, split(z3.BitVecVal(number.value, 8 * to.lane)) * (to.size // to.lane))
+
+
+def move(s, i):
+    """Between registers of any kind. What is above in a register is cleared."""
+    to, by = i.operands
+    if by.kind == "number":
+        require(to.kind == "general" and -(1 << 8 * to.size - 1) <= by.value < 1 << 8 * to.size, "a constant")
+        return s.put(to, s.number(by, to.size))
+    if by.kind == to.kind == "general":
+        return s.put(to, s.number(by, to.size))
+    # An element comes from the lower bytes of a register, and goes into a register that may be wider.
+    is_narrow = by.kind == "general" and to.kind == "element" and to.size < by.size
+    is_wide = by.kind == "element" and to.kind == "general" and by.size < to.size
+    require((to.size == by.size or is_narrow or is_wide) and to.lane == by.lane, "two sizes")
+    s.put_lane(to, s.lane(by)[: to.size] + [byte(0)] * (to.size - by.size))
+
+
+def duplicate(s, i):
+    to, by = i.operands
+    require(to.lane and by.kind in ("general", "element") and by.size >= to.lane, "two sizes")
+    s.put_lane(to, s.lane(by)[: to.lane] * (to.size // to.lane))
+
+
+def widen(s, i):
+    to, by = i.operands
+    is_upper = i.mnemonic.endswith("2")
+    require(to.size == 16 and by.lane and to.lane == 2 * by.lane and by.size == (16 if is_upper else 8), "two sizes")
+    half = s.lane(by)[8 * is_upper :][:8]
+    s.put_lane(to, [x for a in units(half, by.lane) for x in split(a) + [byte(0)] * by.lane])
+
+
+def narrow(s, i):
+    to, by, *count = i.operands
+    require(to.size == 8 and by.size == 16 and to.lane and by.lane == 2 * to.lane, "two sizes")
+    require(not count or 0 < count[0].value <= 8 * to.lane, "a shift")
+    shifted = [z3.LShR(a, count[0].value if count else 0) for a in units(s.lane(by), by.lane)]
+    s.put_lane(to, bytes_of(z3.Extract(8 * to.lane - 1, 0, a) for a in shifted))
+
+
+def mixed(function):
+    """An instruction that takes numbers of two vectors."""
+    def handler(s, i):
+        to, one, other = same(*i.operands)
+        s.put_lane(to, bytes_of(function(units(s.lane(one), to.lane), units(s.lane(other), to.lane))))
+    return handler
+
+
+def extract(s, i):
+    *vectors, at = i.operands
+    to, one, other = same(*vectors)
+    require(to.lane == 1 and 0 <= at.value < to.size, "an index")
+    s.put_lane(to, (s.lane(one) + s.lane(other))[at.value :][: to.size])
+
+
+def look_up(s, i):
+    to, table, at = i.operands
+    require(table.size == 16 and table.text[0] == "{" and to.lane == at.lane == 1 and to.size == at.size, "two sizes")
+    entries = s.lane(table)
+    s.put_lane(to, [simple(z3.If(z3.ULT(index, 16), chosen(entries, index), byte(0))) for index in s.lane(at)])
+
+
+def greatest(s, i):
+    """The greatest or least number of a vector."""
+    to, by = i.operands
+    require(by.lane == to.size, "two sizes")
+    first, *others = units(s.lane(by), by.lane)
+    for number in others:
+        first = (MAXIMUM if i.mnemonic == "umaxv" else MINIMUM)(first, number)
+    s.put_lane(to, split(simple(first)))
+
+
+HANDLERS = {
+    "add": either(add, by_units(ADD)), "adds": general(ADD, sum_flags), "cmn": general(ADD, sum_flags, is_kept=False),
+    "sub": either(general(SUBTRACT), by_units(SUBTRACT)), "subs": general(SUBTRACT, difference_flags),
+    "cmp": general(SUBTRACT, difference_flags, is_kept=False), "and": either(general(AND), by_units(AND)),
+    "ands": general(AND, logic_flags), "tst": general(AND, logic_flags, is_kept=False),
+    "orr": either(general(OR), by_units(OR)), "eor": either(general(XOR), by_units(XOR)),
+    "bic": either(general(lambda a, b: a & ~b), by_units(lambda a, b: a & ~b)),
+    "orn": either(general(lambda a, b: a | ~b), by_units(lambda a, b: a | ~b)),
+    "neg": negate, "mvn": invert, "lsl": shift, "lsr": shift, "adrp": adrp, "csel": select(lambda b: b),
+    "csinc": select(lambda b: b + 1), "csinv": select(lambda b: ~b), "cset": set_if, "ccmp": compare_if,
+    "nop": lambda s, i: None, "b": jump, "bl": jump, "ret": ret, "cbz": jump_if_zero, "cbnz": jump_if_zero,
+    "mul": by_units(MULTIPLY), "umin": by_units(MINIMUM), "umax": by_units(MAXIMUM),
+    "uqsub": by_units(SUBTRACT_SATURATED), "cmhi": by_units(lambda a, b: all_bits(z3.UGT(a, b), a)),
+    "cmhs": by_units(lambda a, b: all_bits(z3.UGE(a, b), a)), "ushr": shift_right, "movi": constant, "mov": move,
+    "fmov": move, "umov": move, "dup": duplicate, "uxtl": widen, "uxtl2": widen, "xtn": narrow, "shrn": narrow,
+    "ext": extract, "tbl": look_up, "umaxv": greatest, "uminv": greatest, "uzp1": mixed(lambda a, b: (a + b)[::2]),
+    "uzp2": mixed(lambda a, b: (a + b)[1::2]),
+    "zip1": mixed(lambda a, b: [x for pair in zip(a[: len(a) // 2], b) for x in pair]),
+    "zip2": mixed(lambda a, b: [x for pair in zip(a[len(a) // 2 :], b[len(b) // 2 :]) for x in pair]),
+}
+HANDLERS |= dict.fromkeys(LOADS, load) | dict.fromkeys(STORES, store) | {f"b.{name}": jump_if for name in CONDITIONS}
+
+
+def all_bits(holds, like):
+    return z3.If(holds, z3.BitVecVal(-1, like.size()), z3.BitVecVal(0, like.size()))

@@ -1,0 +1,52 @@
+"""What instructions on vectors have in common: a vector is a list of its bytes, the lowest first. Each meaning is
+compared with the processor by test_meanings.py."""
+
+import z3
+
+from execution.state import joined, simple, split
+
+
+def units(lane, size):
+    """The numbers of so many bytes that a lane has."""
+    return [joined(lane[at : at + size]) for at in range(0, len(lane), size)]
+
+
+def bytes_of(numbers):
+    return [byte for number in numbers for byte in split(simple(number))]
+
+
+def each(function, size, *lanes):
+    """Does the same to the numbers of so many bytes of some lanes."""
+    return bytes_of(map(function, *[units(lane, size) for lane in lanes]))
+
+
+_INDEX, _trees = z3.BitVec("g_index_of_a_table", 8), {}
+
+
+def chosen(table, index):
+    """The entry of a table of 16 that the lowest bits of an index choose."""
+    def among(low, bit):
+        if bit < 0:
+            return table[low]
+        one, other = among(low, bit - 1), among(low + (1 << bit), bit - 1)
+        return one if one.eq(other) else z3.If(z3.Extract(bit, bit, _INDEX) == 1, other, one)
+
+    # Made once for each table, which is kept, so that the numbers of its entries are not used again.
+    key = tuple(entry.get_id() for entry in table)
+    if key not in _trees:
+        _trees[key] = among(0, 3), table
+    return z3.substitute(_trees[key][0], (_INDEX, index))
+
+
+def saturated(number, most, size):
+    """A signed number, or the nearest one from 0 to a greatest one, in so many bits."""
+    kept = z3.If(number < 0, 0, z3.If(number > most, most, number))
+    return z3.Extract(size - 1, 0, kept)
+
+
+# By two numbers of any size.
+ADD, SUBTRACT, MULTIPLY = lambda a, b: a + b, lambda a, b: a - b, lambda a, b: a * b
+AND, OR, XOR, AND_NOT = lambda a, b: a & b, lambda a, b: a | b, lambda a, b: a ^ b, lambda a, b: ~a & b
+MINIMUM, MAXIMUM = lambda a, b: z3.If(z3.ULT(a, b), a, b), lambda a, b: z3.If(z3.ULT(a, b), b, a)
+SUBTRACT_SATURATED = lambda a, b: z3.If(z3.ULT(a, b), z3.BitVecVal(0, a.size()), a - b)
+ADD_SATURATED = lambda a, b: z3.If(z3.ULT(a + b, a), z3.BitVecVal(-1, a.size()), a + b)

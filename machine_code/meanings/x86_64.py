@@ -1,0 +1,495 @@
+"""x86-64: its operands as `objdump` writes them, what each instruction does, and the System V ABI.
+
+If a meaning were wrong, code would be proved that does something else. test_meanings.py compares each form that occurs
+with the processor. An instruction is refused unless the assembler, which knows what a CPU of the level has, makes the
+same bytes of its text.
+"""
+
+import re
+
+import z3
+
+from execution import state
+from execution.paths import Branch
+from execution.state import byte, joined, simple, split, word
+from meanings.lanes import (ADD, ADD_SATURATED, AND, AND_NOT, MAXIMUM, MINIMUM, MULTIPLY, OR, SUBTRACT,
+                            SUBTRACT_SATURATED, XOR, bytes_of, chosen, each, saturated, units)
+from reading import disassembly
+from reading.assembled import checked, with_distance
+from solver.questions import require
+
+# What a CPU has, by the levels of the x86-64 psABI, as GNU as names it.
+V2 = "generic64+cx16+popcnt+sse3+ssse3+sse4.1+sse4.2"
+V3 = f"{V2}+xsave+avx+avx2+bmi+bmi2+f16c+fma+lzcnt+movbe"
+# What assemblers put between instructions, and assemble otherwise from its text.
+NOPS = "0f1f4000 0f1f440000 660f1f440000 0f1f8000000000 0f1f840000000000 660f1f840000000000".split()
+NOPS += ["66" * count + "2e0f1f840000000000" for count in range(1, 7)]
+NO_RELOCATION = "an address without its relocation, or a relocation without an address"
+SIZES = {"BYTE": 1, "WORD": 2, "DWORD": 4, "QWORD": 8, "XMMWORD": 16, "YMMWORD": 32}
+# The register that a name means, the first of its bytes, and how many.
+GENERAL = {}
+for _short in ("ax", "bx", "cx", "dx", "si", "di", "bp", "sp"):
+    GENERAL |= {"r" + _short: ("r" + _short, 0, 8), "e" + _short: ("r" + _short, 0, 4), _short: ("r" + _short, 0, 2)}
+    GENERAL |= {_short[0] + "l": ("r" + _short, 0, 1), _short[0] + "h": ("r" + _short, 1, 1)} if _short[1] == "x" else \
+        {_short + "l": ("r" + _short, 0, 1)}
+for _at in range(8, 16):
+    GENERAL |= {f"r{_at}{end}": (f"r{_at}", 0, size) for end, size in (("", 8), ("d", 4), ("w", 2), ("b", 1))}
+
+
+class Operand:
+    """A register, a number, or a place in memory; of so many bytes if it is not a number."""
+
+    def __init__(self, text):
+        self.size = None
+        if text in GENERAL:
+            self.kind, (self.name, self.first, self.size) = "general", GENERAL[text]
+        elif found := re.fullmatch(r"([xy])mm(\d+)", text):
+            self.kind, self.name, self.size = "vector", int(found[2]), 16 if found[1] == "x" else 32
+        elif found := re.fullmatch(r"(?:(\w+) PTR )?\[(.*)\]", text):
+            self.kind, self.size, self.terms, self.offset = "memory", SIZES.get(found[1]), [], 0
+            for sign, part in re.findall(r"([+-]?)([^+-]+)", found[2]):
+                name, _, scale = part.partition("*")
+                if name == "rip" or GENERAL.get(name, ("", 0, 0))[2] == 8:
+                    self.terms.append((name, int(scale or 1)))
+                else:
+                    self.offset += int(sign + part, 16)
+            self.offset -= 1 << 64 if self.offset >= 1 << 63 else 0
+        else:
+            self.kind, self.value = "number", int(text, 16)
+
+
+def _instruction(text):
+    text = text.split("#")[0].split("<")[0].strip()
+    mnemonic, _, rest = text.partition(" ")
+    if re.match(r"(data16 |cs )*nop", text):
+        return "nop", (), text
+    return mnemonic, [Operand(part.strip()) for part in rest.split(",") if part], text
+
+
+def _is_jump(instruction):
+    return instruction.mnemonic.startswith("j") or instruction.mnemonic == "call"
+
+
+def instructions(code, section, level):
+    """Those of a section by their addresses, for the least CPU of a level. One with a relocation has the place that
+    the linker will make of it: at its end, it is so far from there."""
+    found = disassembly.read(section, ["objdump", "-m", "i386:x86-64", "-M", "intel", "-w"], _instruction)
+    command = ["as", "--64", "-msyntax=intel", "-mnaked-reg", f"-march={V3 if level == 'v3' else V2}"]
+    text_of = lambda i: with_distance(i) if _is_jump(i) else i.text
+    found = checked(section, found, command, text_of, lambda i, old, new: i.mnemonic == "nop" and old.hex() in NOPS)
+    for address, i in found.items():
+        after, references = address + i.size, code.references_in(address, i.size)
+        wanted = [o.offset + after for o in i.operands if o.kind == "memory" and ("rip", 1) in o.terms]
+        if _is_jump(i) and i.operands and i.operands[0].kind == "number":
+            to = i.operands[0].value
+            wanted += [to] if references or not section.address <= to < section.end else []
+        # That of the kinds 2 and 4 is the distance of 32 bits from a place to what is named.
+        named = [to + after - at for at, kind, to in references if kind in (2, 4) and at + 4 <= after]
+        if wanted != named or len(references) > 1:
+            found[address] = i._replace(refused=i.refused or NO_RELOCATION)
+    return found
+
+
+def follows(i):
+    """Where an instruction leads: to the next one, and to a jump's target. Not trusted."""
+    targets = [i.operands[0].value] if _is_jump(i) and i.operands and i.operands[0].kind == "number" else []
+    return ([i.address + i.size] if i.mnemonic not in ("ret", "jmp") else []) + targets
+
+
+class State(state.State):
+    """The arguments are in these registers, and a call has left the address to return to on the stack."""
+
+    TOP, STACK, RETURN, VECTORS, WIDTH = "rsp", 1912, 8, 16, 32
+    GENERAL = tuple(dict.fromkeys(name for name, _, _ in GENERAL.values()))
+    ARGUMENTS, RESULT = ("rdi", "rsi", "rdx", "rcx", "r8", "r9"), ("rax", 8)
+    KEPT = ("rbx", "rbp", "r12", "r13", "r14", "r15")
+
+    def enter(self):
+        self.general["rsp"] = simple(self.regions["stack"].base + self.STACK)
+        self.stack = dict(enumerate(split(z3.BitVec("p_return", 64)), self.STACK))
+        self.first, self.is_clean, self.is_legacy = self.general.copy(), True, False
+
+    def returned(self):
+        require(self.top() == self.STACK + self.RETURN, "the stack pointer is not as before")
+        for name in self.KEPT:
+            self.must(self.general[name] == self.first[name], f"{name} is not as before")
+        require(self.is_clean, "vzeroupper is missing")
+
+    # Where a loop says that the upper halves of vectors are not used, they are not.
+    def arrive(self, is_clean):
+        require(self.is_clean or not is_clean, "at the head of a loop: vzeroupper is missing")
+
+    def leave(self, is_clean):
+        self.is_clean = is_clean
+
+    # Operands
+    def address(self, o, i):
+        if ("rip", 1) in o.terms:
+            found = self.code.constant_at(i.address + i.size + o.offset)
+            require(found and len(o.terms) == 1, "an address without a constant")
+            return found[0].base + found[1]
+        return simple(sum([self.general[name] * scale for name, scale in o.terms], word(o.offset)))
+
+    def lane(self, o, i, size=None):
+        """The lowest bytes of an operand, or all."""
+        if o.kind == "number":
+            return split(z3.BitVecVal(o.value, 8 * size))
+        if o.kind == "general":
+            return split(z3.Extract(8 * (o.first + o.size) - 1, 8 * o.first, self.general[o.name]))[:size]
+        if o.kind == "vector":
+            return self.vectors[o.name][: size or o.size]
+        return self.load(self.address(o, i), size or o.size, self.is_legacy and (size or o.size) == 16)
+
+    def number(self, o, i, size=None):
+        if o.kind == "number":
+            return z3.BitVecVal(o.value, 8 * size)
+        return self.general[o.name] if o.kind == "general" and o.size == 8 else joined(self.lane(o, i))
+
+    def put(self, o, i, term):
+        """Writes a general register, of which 4 bytes clear the others, or memory."""
+        require(term.size() == 8 * o.size, "another size")
+        if o.kind == "memory":
+            return self.store(self.address(o, i), split(term))
+        require(o.kind == "general", "a general register is needed")
+        old, low, high = self.general[o.name], 8 * o.first, 8 * (o.first + o.size)
+        if o.size == 4:
+            term = z3.ZeroExt(32, term)
+        elif o.size < 4:
+            below = [z3.Extract(low - 1, 0, old)] if low else []
+            term = z3.Concat(z3.Extract(63, high, old), term, *below)
+        self.general[o.name] = simple(term)
+
+    def put_vector(self, o, lane):
+        """Writes a vector: what lies above is kept by the old forms of instructions, and cleared by the new ones."""
+        require(o.kind == "vector" and len(lane) <= o.size, "another size")
+        above = self.vectors[o.name][16:] if self.is_legacy else [byte(0)] * 16
+        self.vectors[o.name] = (list(lane) + [byte(0)] * (o.size - len(lane)) + above)[:32]
+        self.is_clean &= o.size == 16
+
+
+# Flags
+def logic_flags(s, result):
+    s.flags = {"c": z3.BoolVal(False), "o": z3.BoolVal(False), "z": result == 0, "s": result < 0}
+
+
+def sum_flags(s, a, b):
+    result = a + b
+    s.flags = {"c": z3.ULT(result, a), "z": result == 0, "s": result < 0, "o": (a ^ result) & (b ^ result) < 0}
+
+
+def difference_flags(s, a, b):
+    result = a - b
+    s.flags = {"c": z3.ULT(a, b), "z": a == b, "s": result < 0, "o": (a ^ b) & (a ^ result) < 0}
+
+
+CONDITIONS = {
+    "e": lambda flag: flag("z"), "b": lambda flag: flag("c"), "be": lambda flag: z3.Or(flag("c"), flag("z")),
+    "s": lambda flag: flag("s"), "o": lambda flag: flag("o"), "l": lambda flag: flag("s") != flag("o"),
+    "le": lambda flag: z3.Or(flag("z"), flag("s") != flag("o")),
+}
+CONDITIONS |= {new: lambda flag, old=old: z3.Not(CONDITIONS[old](flag)) for new, old in
+               {"ne": "e", "ae": "b", "a": "be", "ns": "s", "no": "o", "ge": "l", "g": "le"}.items()}
+
+
+def condition(s, name):
+    def flag(letter):
+        require(s.flags and letter in s.flags, "a flag that is not known")
+        return s.flags[letter]
+
+    return simple(CONDITIONS[name](flag))
+
+
+# General instructions
+def two(s, i):
+    """The first operand and the second, of which a number is as long as the first."""
+    to, by = i.operands
+    require(to.size and by.size in (None, to.size), "two sizes")
+    return to, s.number(to, i), s.number(by, i, to.size)
+
+
+def arithmetic(function, flags, is_kept=True):
+    def handler(s, i):
+        to, a, b = two(s, i)
+        flags(s, a, b)
+        if is_kept:
+            s.put(to, i, function(a, b))
+    return handler
+
+
+def logic(function, is_kept=True):
+    def handler(s, i):
+        to, a, b = two(s, i)
+        logic_flags(s, simple(function(a, b)))
+        if is_kept:
+            s.put(to, i, simple(function(a, b)))
+    return handler
+
+
+def shift(function):
+    def handler(s, i):
+        to, by = i.operands
+        require(by.kind == "number" and 0 < by.value < 8 * to.size, "a shift")
+        s.put(to, i, simple(function(s.number(to, i), by.value)))
+        s.flags = None
+    return handler
+
+
+def inc_dec(by):
+    def handler(s, i):
+        to, = i.operands
+        a, carry = s.number(to, i), {name: flag for name, flag in (s.flags or {}).items() if name == "c"}
+        (sum_flags if by > 0 else difference_flags)(s, a, z3.BitVecVal(1, a.size()))
+        s.flags.pop("c")
+        s.flags |= carry
+        s.put(to, i, a + by)
+    return handler
+
+
+def mov(s, i):
+    to, by = i.operands
+    require(to.size and by.size in (None, to.size), "two sizes")
+    s.put(to, i, s.number(by, i, to.size))
+
+
+def movzx(s, i):
+    to, by = i.operands
+    require(by.size < to.size, "two sizes")
+    s.put(to, i, z3.ZeroExt(8 * (to.size - by.size), s.number(by, i)))
+
+
+def lea(s, i):
+    to, by = i.operands
+    address = s.address(by, i)
+    s.put(to, i, simple(z3.Extract(8 * to.size - 1, 0, address)) if to.size < 8 else address)
+
+
+def set_if(s, i):
+    s.put(i.operands[0], i, simple(z3.If(condition(s, i.mnemonic[3:]), byte(1), byte(0))))
+
+
+def move_if(s, i):
+    to, a, b = two(s, i)
+    s.put(to, i, simple(z3.If(condition(s, i.mnemonic[4:]), b, a)))
+
+
+def push(s, i):
+    require(i.operands[0].size == 8, "another size")
+    lane = s.lane(i.operands[0], i)
+    s.general["rsp"] = simple(s.general["rsp"] - 8)
+    s.store(s.general["rsp"], lane)
+
+
+def popped(s):
+    lane = s.load(s.general["rsp"], 8)
+    s.general["rsp"] = simple(s.general["rsp"] + 8)
+    return joined(lane)
+
+
+def pop(s, i):
+    require(i.operands[0].kind == "general" and i.operands[0].size == 8, "another size")
+    s.general[i.operands[0].name] = popped(s)
+
+
+def jump(s, i):
+    require(i.operands[0].kind == "number", "a jump to a place that is not fixed")
+    return i.operands[0].value
+
+
+def jump_if(s, i):
+    return Branch(condition(s, i.mnemonic[1:]), jump(s, i))
+
+
+def call(s, i):
+    s.general["rsp"] = simple(s.general["rsp"] - 8)
+    s.store(s.general["rsp"], split(s.return_to(s.next)))
+    return jump(s, i)
+
+
+def ret(s, i):
+    require(not i.operands, "a return that takes arguments")
+    return popped(s)
+
+
+# Vectors. The old form of an instruction has its target for the first source.
+def three(s, i):
+    to, *others = i.operands
+    one, other = [to, *others] if len(others) == 1 else others
+    require(to.kind == one.kind == "vector" and to.size == one.size and other.size in (None, to.size), "two sizes")
+    return to, one, other
+
+
+def by_units(size, function):
+    def handler(s, i):
+        to, one, other = three(s, i)
+        s.put_vector(to, each(function, size, s.lane(one, i), s.lane(other, i)))
+    return handler
+
+
+def by_halves(function):
+    """Does the same to each 16 bytes of two operands."""
+    def handler(s, i):
+        to, one, other = three(s, i)
+        a, b = s.lane(one, i), s.lane(other, i)
+        s.put_vector(to, [x for at in range(0, to.size, 16) for x in function(a[at : at + 16], b[at : at + 16])])
+    return handler
+
+
+def shift_units(size, function):
+    def handler(s, i):
+        to, one, by = three(s, i)
+        require(by.kind == "number" and 0 <= by.value < 8 * size, "a shift")
+        s.put_vector(to, each(lambda a: function(a, by.value), size, s.lane(one, i)))
+    return handler
+
+
+def looked_up(table, index):
+    return simple(z3.If(z3.Extract(7, 7, index) == 1, byte(0), chosen(table, index)))
+
+
+def pairs_added(a, b):
+    """The sums of two products of unsigned bytes by signed ones, which are saturated."""
+    products = [z3.ZeroExt(24, x) * z3.SignExt(24, y) for x, y in zip(a, b)]
+    sums = [one + other for one, other in zip(products[::2], products[1::2])]
+    return bytes_of(z3.Extract(15, 0, z3.If(x < -(1 << 15), -(1 << 15), z3.If(x > (1 << 15) - 1, (1 << 15) - 1, x)))
+                    for x in sums)
+
+
+def interleaved(size, first):
+    return by_halves(lambda a, b: [x for at in range(first, first + 8, size)
+                                   for x in a[at : at + size] + b[at : at + size]])
+
+
+def move_vector(is_aligned):
+    def handler(s, i):
+        to, by = i.operands
+        require(to.size == by.size and "vector" in (to.kind, by.kind), "two sizes")
+        if to.kind == "memory":
+            return s.store(s.address(to, i), s.lane(by, i), is_aligned)
+        s.put_vector(to, s.load(s.address(by, i), by.size, is_aligned) if by.kind == "memory" else s.lane(by, i))
+    return handler
+
+
+def move_low(size):
+    """Between the lowest bytes of a vector and another place. In a vector, the others are cleared."""
+    def handler(s, i):
+        to, by = i.operands
+        vector, other = (to, by) if to.kind == "vector" else (by, to)
+        require(vector.size == 16 and other.size == (16 if other.kind == "vector" else size), "two sizes")
+        lane = s.lane(by, i, size)
+        return s.put_vector(to, lane) if to is vector else s.put(to, i, joined(lane))
+    return handler
+
+
+def insert(size):
+    def handler(s, i):
+        to, *one, by, at = i.operands
+        one = one[0] if one else to
+        require(to.size == one.size == 16 and by.size == (size if by.kind == "memory" or size == 8 else 4), "two sizes")
+        require(0 <= at.value < 16 // size, "an index")
+        lane = list(s.lane(one, i))
+        lane[at.value * size : (at.value + 1) * size] = s.lane(by, i, size)
+        s.put_vector(to, lane)
+    return handler
+
+
+def extract(size):
+    def handler(s, i):
+        to, one, at = i.operands
+        require(one.size == 16 and 0 <= at.value < 16 // size, "an index")
+        require(to.size == (size if to.kind == "memory" or size == 8 else 4), "two sizes")
+        lane = s.lane(one, i)[at.value * size : (at.value + 1) * size]
+        s.put(to, i, joined(lane + [byte(0)] * (to.size - size)))
+    return handler
+
+
+def broadcast(size):
+    def handler(s, i):
+        to, by = i.operands
+        require(by.size == (size if by.kind == "memory" else 16) and (size < 16 or by.kind == "memory"), "two sizes")
+        s.put_vector(to, s.lane(by, i, size) * (to.size // size))
+    return handler
+
+
+def test_vector(s, i):
+    one, other = i.operands
+    require(one.size == other.size, "two sizes")
+    lanes = s.lane(one, i), s.lane(other, i)
+    z, c = [z3.And(*[simple(function(a, b)) == 0 for a, b in zip(*lanes)]) for function in (AND, AND_NOT)]
+    s.flags = {"z": z, "c": c, "s": z3.BoolVal(False), "o": z3.BoolVal(False)}
+
+
+def widen(s, i):
+    to, by = i.operands
+    require(by.size == (16 if by.kind == "vector" else to.size // 2), "two sizes")
+    s.put_vector(to, [x for low in s.lane(by, i, to.size // 2) for x in (low, byte(0))])
+
+
+def permute(s, i):
+    to, by, how = i.operands
+    require(to.size == by.size == 32, "two sizes")
+    lane = s.lane(by, i)
+    s.put_vector(to, [x for at in range(0, 8, 2) for x in lane[8 * (how.value >> at & 3) :][:8]])
+
+
+def insert_half(s, i):
+    to, one, by, at = i.operands
+    require(to.size == one.size == 32 and by.size == 16 and at.value in (0, 1), "two sizes")
+    lane = list(s.lane(one, i))
+    lane[16 * at.value : 16 * at.value + 16] = s.lane(by, i)
+    s.put_vector(to, lane)
+
+
+def extract_half(s, i):
+    to, one, at = i.operands
+    require(to.size == 16 and one.size == 32 and at.value in (0, 1), "two sizes")
+    lane = s.lane(one, i)[16 * at.value :][:16]
+    return s.store(s.address(to, i), lane) if to.kind == "memory" else s.put_vector(to, lane)
+
+
+def vzeroupper(s, i):
+    s.vectors = {name: lane[:16] + [byte(0)] * 16 for name, lane in s.vectors.items()}
+    s.is_clean = True
+
+
+HANDLERS = {
+    "add": arithmetic(ADD, sum_flags), "sub": arithmetic(SUBTRACT, difference_flags),
+    "cmp": arithmetic(SUBTRACT, difference_flags, is_kept=False), "and": logic(AND), "or": logic(OR), "xor": logic(XOR),
+    "test": logic(AND, is_kept=False), "inc": inc_dec(1), "dec": inc_dec(-1), "mov": mov, "movzx": movzx, "lea": lea,
+    "shl": shift(lambda a, by: a * (1 << by)), "shr": shift(z3.LShR), "push": push, "pop": pop,
+    "nop": lambda s, i: None, "jmp": jump, "call": call, "ret": ret,
+}
+HANDLERS |= {f"j{name}": jump_if for name in CONDITIONS} | {f"set{name}": set_if for name in CONDITIONS}
+HANDLERS |= {f"cmov{name}": move_if for name in CONDITIONS}
+# Those that are in SSE4.2, and with a v before in AVX2.
+VECTORS = {
+    "paddb": by_units(1, ADD), "paddw": by_units(2, ADD), "paddd": by_units(4, ADD), "psubb": by_units(1, SUBTRACT),
+    "psubw": by_units(2, SUBTRACT), "psubusb": by_units(1, SUBTRACT_SATURATED), "paddusb": by_units(1, ADD_SATURATED),
+    "pminub": by_units(1, MINIMUM), "pmaxub": by_units(1, MAXIMUM), "por": by_units(1, OR), "pand": by_units(1, AND),
+    "pxor": by_units(1, XOR), "pandn": by_units(1, AND_NOT), "pmullw": by_units(2, MULTIPLY),
+    "psllw": shift_units(2, lambda a, by: a << by), "psrlw": shift_units(2, z3.LShR),
+    "pshufb": by_halves(lambda a, b: [looked_up(a, index) for index in b]), "pmaddubsw": by_halves(pairs_added),
+    "packuswb": by_halves(lambda a, b: bytes_of(saturated(w, 255, 8) for w in units(a + b, 2))),
+    "punpcklbw": interleaved(1, 0), "punpcklwd": interleaved(2, 0), "punpckldq": interleaved(4, 0),
+    "punpcklqdq": interleaved(8, 0), "punpckhbw": interleaved(1, 8),
+    "movdqu": move_vector(False), "movdqa": move_vector(True), "movd": move_low(4), "movq": move_low(8),
+    "pinsrb": insert(1), "pinsrw": insert(2), "pinsrd": insert(4), "pinsrq": insert(8), "pextrb": extract(1),
+    "pextrw": extract(2), "pextrd": extract(4), "pextrq": extract(8), "ptest": test_vector, "pmovzxbw": widen,
+}
+
+
+def legacy(handler):
+    """The form of SSE: an operand of 16 bytes in memory is aligned, and what lies above in a vector is kept."""
+    def of_sse(s, i):
+        require(all(o.size != 32 for o in i.operands), "a vector of 32 bytes")
+        s.is_legacy = True
+        handler(s, i)
+        s.is_legacy = False
+    return of_sse
+
+
+HANDLERS |= {name: legacy(handler) for name, handler in VECTORS.items()}
+HANDLERS |= {f"v{name}": handler for name, handler in VECTORS.items()} | {
+    "vpbroadcastb": broadcast(1), "vpbroadcastw": broadcast(2), "vpbroadcastd": broadcast(4),
+    "vpbroadcastq": broadcast(8), "vbroadcasti128": broadcast(16), "vpermq": permute, "vinserti128": insert_half,
+    "vextracti128": extract_half, "vzeroupper": vzeroupper,
+}

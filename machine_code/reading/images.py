@@ -1,0 +1,302 @@
+"""Files as their code lies in memory: a linked ELF file, and an object of ELF, COFF or Mach-O. The
+relocations of an object are applied, so that each field says where it points to.
+
+This is for comparing code with what was proved (linked.py). What a file has beside its code, constants and the names
+of functions is not read here.
+"""
+
+import struct
+from collections import namedtuple
+
+from reading import objects
+from reading.objects import BRANCH, PAGE, RELATIVE, place_in_page, whole
+
+# Bytes at an address, and whether they can run, and be written.
+Piece = namedtuple("Piece", "name is_code is_writable address content")
+X86_64, AARCH64 = 62, 183
+PAGE_SIZE, FAR, APART = 4096, 1 << 26, 1 << 12
+FUNCTION, UNDEFINED = 2, 0
+
+
+class Image:
+    """The pieces that are loaded; by the name of a function the places that it has; and the names at the places of
+    those that an object leaves to others. A library has to have all functions."""
+
+    is_library = False
+
+    def __init__(self, machine):
+        self.machine, self.pieces, self.places, self.absent = machine, [], {}, {}
+
+    def add_place(self, name, address):
+        self.places.setdefault(name, set()).add(address)
+
+    def read(self, address, size):
+        """The only piece that has these bytes, and the bytes."""
+        found = [it for it in self.pieces if it.address < address + size and address < it.address + len(it.content)]
+        if len(found) != 1 or not found[0].address <= address <= found[0].address + len(found[0].content) - size:
+            raise ValueError(f"{size} bytes at {address:#x}, which are not in one part of the file")
+        return found[0], bytes(found[0].content[address - found[0].address :][:size])
+
+
+@whole
+def read(data):
+    """The image of a file by its first bytes."""
+    if data.startswith(b"\x7fELF\x02\x01"):
+        return _of_object(data) if data[16:18] == b"\1\0" else _linked(data)
+    if data.startswith(b"\xcf\xfa\xed\xfe"):
+        return _mach_o(data)
+    if data[:2] in COFF_MACHINES:
+        return _coff(data)
+    raise ValueError("a kind of file that is not known here")
+
+
+def _of_object(data):
+    obj = objects.read(data)
+    image = Image(obj.machine)
+    image.pieces = [Piece(it.name, it.is_code, it.is_writable, it.address, it.content) for it in obj.sections]
+    for name, address in obj.symbols.items():
+        image.add_place(name, address)
+    image.absent = obj.undefined
+    _refuse_other_kinds((name, f"{symbol.binding}, {symbol.kind} in {symbol.section}") for name, symbol in obj.seen
+                        if symbol.section and name not in obj.exported)
+    return image
+
+
+def _refuse_other_kinds(symbols):
+    for name, kind in symbols:
+        if name.startswith("const_hex_") and kind not in ("function", "object", "no kind"):
+            raise ValueError(f"{name} is a symbol of another kind: {kind}")
+
+
+# ELF
+
+LOAD, DYNAMIC, SHARED, SYMBOLS = 1, 2, 3, 2
+# Tags of the loader's table, and flags in it.
+NEEDED, HASH, STRINGS_AT, SYMBOLS_AT, WRITES_CODE, FLAGS, GNU_HASH, FLAGS_1 = 1, 4, 5, 6, 22, 30, 0x6FFFFEF5, 0x6FFFFFFB
+WRITES_CODE_FLAG, PROGRAM_FLAG = 4, 0x08000000
+
+
+def _linked(data):
+    """A program or a shared library: its segments, the names that the loader has, and those of its sections."""
+    [file_kind, machine], [first, sections] = struct.unpack_from("<HH", data, 16), struct.unpack_from("<QQ", data, 32)
+    size, count, section_size, section_count = struct.unpack_from("<HHHH", data, 54)
+    image, end = Image(machine), 0
+    headers = [struct.unpack_from("<IIQQQQQQ", data, first + at * size) for at in range(count)]
+    for _, flags, offset, address, _, in_file, in_memory, _ in (header for header in headers if header[0] == LOAD):
+        if address // PAGE_SIZE * PAGE_SIZE < end:
+            raise ValueError("two segments that share a page")
+        if in_file != in_memory and not flags & 2:
+            raise ValueError("a segment that is not written, and larger than in the file")
+        end = -(-(address + in_memory) // PAGE_SIZE) * PAGE_SIZE
+        content = data[offset : offset + in_file] + bytes(in_memory - in_file)
+        image.pieces.append(Piece(f"segment at {address:#x}", bool(flags & 1), bool(flags & 2), address, content))
+    dynamic = _dynamic(image, [(header[3], header[5]) for header in headers if header[0] == DYNAMIC])
+    if WRITES_CODE in dynamic or dynamic.get(FLAGS, 0) & WRITES_CODE_FLAG:
+        raise ValueError("the loader changes its code")
+    image.is_library = bool(dynamic) and file_kind == SHARED and not dynamic.get(FLAGS_1, 0) & PROGRAM_FLAG
+    if dynamic:
+        table = image.read(dynamic[SYMBOLS_AT], 24 * _count(image, dynamic))[1]
+        _add_symbols(image, table, _after(image, dynamic[STRINGS_AT]))
+    headers = [struct.unpack_from("<IIQQQQIIQQ", data, sections + at * section_size) for at in range(section_count)]
+    for _, kind, _, _, offset, length, link, *_ in headers:
+        if kind == SYMBOLS:
+            _add_symbols(image, data[offset : offset + length], data[headers[link][4] :][: headers[link][5]])
+    return image
+
+
+def _dynamic(image, tables):
+    """The values of the loader's table by their tags, where it lies in memory, up to its end."""
+    found = {}
+    for address, size in tables:
+        for tag, value in struct.iter_unpack("<QQ", image.read(address, size)[1]):
+            if not tag:
+                break
+            if tag in found and tag != NEEDED:
+                raise ValueError(f"the loader's table has the tag {tag:#x} twice")
+            found[tag] = value
+        else:
+            raise ValueError("the loader's table has no end")
+    if len(tables) > 1:
+        raise ValueError("two tables for the loader")
+    return found
+
+
+def _after(image, address):
+    """What lies at an address and after it in its segment."""
+    piece, _ = image.read(address, 1)
+    return piece.content[address - piece.address :]
+
+
+def _count(image, dynamic):
+    """The number of symbols, by the tables in which the loader looks for names."""
+    count = 0
+    if HASH in dynamic:
+        content = _after(image, dynamic[HASH])
+        buckets, count = struct.unpack_from("<II", content)
+        if max(struct.unpack_from(f"<{buckets + count}I", content, 8)) >= count:
+            raise ValueError("a table of names that has more symbols than it says")
+    if GNU_HASH in dynamic:
+        content = _after(image, dynamic[GNU_HASH])
+        buckets, first, words = struct.unpack_from("<III", content)
+        chains = 16 + 8 * words + 4 * buckets
+        last = max(struct.unpack_from(f"<{buckets}I", content, chains - 4 * buckets))
+        while last and not struct.unpack_from("<I", content, chains + 4 * (last - first))[0] & 1:
+            last += 1
+        count = max(count, last + 1)
+    return count
+
+
+def _add_symbols(image, table, strings):
+    for name, info, _, index, value, _ in struct.iter_unpack("<IBBHQQ", table):
+        name = strings[name : strings.index(b"\0", name)].decode()
+        if index != UNDEFINED:
+            _refuse_other_kinds([(name, objects.KINDS.get(info & 15, info & 15))])
+            image.add_place(name, value)
+
+
+# Mach-O
+
+MACH_O_MACHINES = {0x01000007: X86_64, 0x0100000C: AARCH64}
+SEGMENT, SYMBOL_TABLE, IN_SECTION, TYPE, WEAK = 0x19, 2, 0xE, 0xE, 0xC0
+INSTRUCTIONS, ZEROS, OBJECT = 0x80000400, 1, 1
+# Kinds of relocations: by the kind the field, and for what is relative on x86-64 how many bytes follow.
+MACH_O_X86_64 = {1: RELATIVE, 2: RELATIVE, 6: RELATIVE, 7: RELATIVE, 8: RELATIVE}
+ABSOLUTE, SUBTRACTED = 0, {X86_64: 5, AARCH64: 1}
+ADDEND = 10
+
+
+def _mach_o(data):
+    [machine], [file_kind, count] = struct.unpack_from("<I", data, 4), struct.unpack_from("<II", data, 12)
+    if file_kind != OBJECT:
+        raise ValueError("a file of Mach-O that is no object")
+    image, at, sections, table = Image(MACH_O_MACHINES[machine]), 32, [], (0, 0, 0)
+    for _ in range(count):
+        command, size = struct.unpack_from("<II", data, at)
+        if command == SEGMENT:
+            [found] = struct.unpack_from("<I", data, at + 64)
+            sections += [struct.unpack_from("<16s16sQQIIIII", data, at + 72 + 80 * each) for each in range(found)]
+        elif command == SYMBOL_TABLE:
+            table = struct.unpack_from("<IIII", data, at + 8)
+        at += size
+    for name, segment, address, size, offset, _, _, _, flags in sections:
+        content = bytearray(size) if flags & 255 == ZEROS else bytearray(data[offset : offset + size])
+        name = name.rstrip(b"\0").decode()
+        is_writable = segment.startswith(b"__DATA")
+        image.pieces.append(Piece(name, bool(flags & INSTRUCTIONS), is_writable, address, content))
+    places = _placed(image, [(name.removeprefix("_"), address if kind & TYPE == IN_SECTION else None)
+                             for name, kind, address in _mach_o_symbols(data, *table)])
+    for piece, (*_, offset, count, _) in zip(image.pieces, sections):
+        _relocate_mach_o(image.machine, piece, data[offset : offset + 8 * count], places)
+    return image
+
+
+def _mach_o_symbols(data, start, count, strings, _=0):
+    for at in range(count):
+        name, kind, _, flags, value = struct.unpack_from("<IBBHQ", data, start + 16 * at)
+        name = data[strings + name : data.index(b"\0", strings + name)].decode()
+        if flags & WEAK or kind & TYPE not in (0, IN_SECTION):
+            _refuse_other_kinds([(name.removeprefix("_"), f"{kind:#x} with the flags {flags:#x}")])
+        yield name, kind, value
+
+
+def _placed(image, symbols):
+    """Where each symbol lies. Those that the file does not have lie far away, each at a place of its own."""
+    found = []
+    for at, (name, address) in enumerate(symbols):
+        found.append(FAR + APART * at if address is None else address)
+        if address is None:
+            image.absent[found[at]] = name
+        else:
+            image.add_place(name, address)
+    return found
+
+
+def _relocate_mach_o(machine, piece, table, places):
+    base, addend = None, 0
+    # The last one stands first.
+    for offset, info in struct.iter_unpack("<II", table):
+        number, length, is_extern, kind = info & 0xFFFFFF, info >> 25 & 3, info >> 27 & 1, info >> 28
+        if kind == ADDEND and machine == AARCH64:
+            addend = number - (number >> 23 << 24)
+            continue
+        if not is_extern or length != 2:
+            if is_extern or kind in (SUBTRACTED[machine], ABSOLUTE):
+                raise ValueError(f"a relocation of kind {kind} that is not known here")
+            continue  # The field is right where the sections lie in the object.
+        if kind == SUBTRACTED[machine]:
+            base = places[number]
+            continue
+        [word], target = struct.unpack_from("<I", piece.content, offset), places[number] + addend
+        place = piece.address + offset
+        if kind == ABSOLUTE and base is not None:
+            word = word + target - base
+        elif machine == X86_64 and kind in MACH_O_X86_64:
+            word = word + target - place - 4
+        elif machine == AARCH64:
+            field = {2: BRANCH, 3: PAGE}.get(kind) or place_in_page(_access(word)) if kind in (2, 3, 4) else None
+            word = field.set(word, place, target) if field else _not_known(kind)
+        else:
+            _not_known(kind)
+        struct.pack_into("<I", piece.content, offset, word & 0xFFFFFFFF)
+        base, addend = None, 0
+
+
+def _not_known(kind):
+    raise ValueError(f"a relocation of kind {kind} that is not known here")
+
+
+def _access(word):
+    """How many bytes an access with an offset has; 1 for an ADD."""
+    if word & 0x3B000000 != 0x39000000:
+        return 1
+    return 16 if word & 0x04800000 == 0x04800000 else 1 << (word >> 30)
+
+
+# COFF
+
+COFF_MACHINES = {b"\x64\x86": X86_64, b"\x64\xaa": AARCH64}
+RUNS, WRITES, EXTERNAL, STATIC = 0x20000000, 0x80000000, 2, 3
+COFF_X86_64 = {4 + after: 4 + after for after in range(6)}
+COFF_AARCH64 = {3: BRANCH, 4: PAGE, 6: place_in_page(1), 7: None, 0x11: RELATIVE}
+
+
+def _coff(data):
+    image = Image(COFF_MACHINES[data[:2]])
+    [count], [table, symbols] = struct.unpack_from("<H", data, 2), struct.unpack_from("<II", data, 8)
+    headers, end = [struct.unpack_from("<8sIIIIIIHHI", data, 20 + 40 * at) for at in range(count)], APART
+    for name, _, _, size, offset, *_, flags in headers:
+        content = bytearray(data[offset : offset + size] if offset else size)
+        end += -end % PAGE_SIZE
+        image.pieces.append(Piece(name.decode().rstrip("\0"), bool(flags & RUNS), bool(flags & WRITES), end, content))
+        end += size + PAGE_SIZE
+    found, at, strings = [], 0, table + 18 * symbols
+    while at < symbols:
+        name, value, section, _, storage, more = struct.unpack_from("<8sIhHBB", data, table + 18 * at)
+        if name.startswith(bytes(4)):
+            start = strings + int.from_bytes(name[4:], "little")
+            name = data[start : data.index(b"\0", start)]
+        address = image.pieces[section - 1].address + value if section > 0 else None
+        name = name.rstrip(b"\0").decode()
+        if section < 0 or storage not in (EXTERNAL, STATIC):
+            _refuse_other_kinds([(name, f"{storage} in {section}")])
+        found += [(name, address)] * (1 + more)
+        at += 1 + more
+    places = _placed(image, found)
+    for piece, (*_, offset, _, count, _, _) in zip(image.pieces, headers):
+        for place, number, kind in struct.iter_unpack("<IIH", data[offset : offset + 10 * count]):
+            _relocate_coff(image.machine, piece, place, kind, places[number])
+    return image
+
+
+def _relocate_coff(machine, piece, offset, kind, target):
+    [word], place = struct.unpack_from("<I", piece.content, offset), piece.address + offset
+    if machine == X86_64 and kind in COFF_X86_64:
+        word = word + target - place - COFF_X86_64[kind]
+    elif machine == AARCH64 and kind in COFF_AARCH64:
+        field = COFF_AARCH64[kind] or place_in_page(_access(word))
+        if word & field.mask:
+            raise ValueError("an addend in an instruction")
+        word = field.set(word, place, target)
+    else:
+        return  # What has one is another section's, or differs from what was proved.
+    struct.pack_into("<I", piece.content, offset, word & 0xFFFFFFFF)

@@ -1,0 +1,1 @@
+"""Trusted: what is asked of z3, and of a second solver."""

@@ -1,0 +1,73 @@
+"""Conditions on numbers of bits as conditions on integers, which mean exactly the same.
+
+If a translation were wrong, what z3 says of it would say nothing of the code, and a wrong access or a wrong length
+could be accepted. test_questions.py compares it with bits on random terms.
+"""
+
+import z3
+
+JOINS = {z3.Z3_OP_AND: z3.And, z3.Z3_OP_OR: z3.Or, z3.Z3_OP_NOT: z3.Not, z3.Z3_OP_IMPLIES: z3.Implies}
+COMPARES = {z3.Z3_OP_ULEQ: lambda a, b: a <= b, z3.Z3_OP_ULT: lambda a, b: a < b, z3.Z3_OP_UGT: lambda a, b: a > b,
+            z3.Z3_OP_UGEQ: lambda a, b: a >= b, z3.Z3_OP_EQ: lambda a, b: a == b}
+
+
+class Facts:
+    """Facts in integers. `is_impossible` says whether integer conditions, all together, contradict each other: it
+    decides, too, that a sum is so small that it need not be reduced."""
+
+    def __init__(self, facts, is_impossible):
+        self.conditions, self.ranges, self.sums, self._is_impossible = [], {}, {}, is_impossible
+        for fact in facts:
+            self.conditions.append(self.condition(fact))
+
+    def imply(self, *conditions):
+        return self._is_impossible([*self.ranges.values(), *self.conditions, z3.Not(z3.And(*conditions))])
+
+    def condition(self, term):
+        """The condition in integers, where the facts before hold."""
+        kind, children = term.decl().kind(), term.children()
+        if z3.is_true(term) or z3.is_false(term):
+            return term
+        if kind in JOINS:
+            return JOINS[kind](*map(self.condition, children))
+        if kind in COMPARES and z3.is_bv(children[0]):
+            return COMPARES[kind](*map(self._number, children))
+        raise ValueError(term)
+
+    def _number(self, term):
+        """The integer from 0 up to the power of two that these bits stand for."""
+        kind, children, size = term.decl().kind(), term.children(), term.size()
+        if z3.is_bv_value(term):
+            return z3.IntVal(term.as_long())
+        if z3.is_const(term):
+            number = z3.Int(term.decl().name())
+            self.ranges[term.get_id()] = z3.And(0 <= number, number < 1 << size)
+            return number
+        if kind in (z3.Z3_OP_BADD, z3.Z3_OP_BMUL):
+            if term.get_id() not in self.sums:
+                total = self._sum(term)
+                self.sums[term.get_id()] = total if self.imply(0 <= total, total < 1 << size) else total % (1 << size)
+            return self.sums[term.get_id()]
+        if kind == z3.Z3_OP_EXTRACT:
+            high, low = term.params()
+            part = self._number(children[0]) / (1 << low) if low else self._number(children[0])
+            return part if high == children[0].size() - 1 else part % (1 << high - low + 1)
+        if kind == z3.Z3_OP_CONCAT:
+            found = z3.IntVal(0)
+            for child in children:
+                found = found * (1 << child.size()) + self._number(child)
+            return z3.simplify(found)
+        raise ValueError(term)
+
+    def _sum(self, term):
+        """An integer that is the same but for a multiple of the power of two."""
+        kind, children = term.decl().kind(), term.children()
+        if z3.is_bv_value(term):
+            return z3.IntVal(term.as_signed_long())
+        if kind == z3.Z3_OP_BADD:
+            return z3.Sum(*map(self._sum, children))
+        if kind == z3.Z3_OP_BMUL and len(children) == 2 and z3.is_bv_value(children[0]):
+            return children[0].as_signed_long() * self._sum(children[1])
+        if kind == z3.Z3_OP_BMUL:
+            raise ValueError(term)
+        return self._number(term)

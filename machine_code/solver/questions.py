@@ -1,0 +1,171 @@
+"""Whether a condition follows from facts, by z3.
+
+If `holds` said yes where a condition does not follow, any code could be accepted. A yes is z3's "unsat". An answer
+that is "unknown", or takes more of z3's steps than the limit, is a no. Facts may be left out, and so may be which
+constants these are: both only make a proof harder, or find it among those that were made already.
+"""
+
+import z3
+
+from solver import integers
+
+# In steps of z3 ("rlimit"), which do not depend on the load of the machine.
+QUICK, LIMIT = 600_000, 40_000_000
+# Each question that was answered by "unsat", as the logic and conditions, for a second solver.
+proved = []
+counts = {"asked": 0, "repeated": 0, "given up": 0}
+_constants, _names, _answers, _kept = {}, {}, {}, []
+
+
+class Refused(Exception):
+    """Code is refused, or what is to be proved of it is not known to hold."""
+
+
+def require(condition, message):
+    if not condition:
+        raise Refused(message)
+
+
+def names(term):
+    """The names of the constants in a term, each once, in the order in which they occur."""
+    _kept.append(term)  # so that its number, and those of its parts, are not used again
+    return _names_of(term.as_ast(), term.ctx_ref())
+
+
+def _names_of(part, context):
+    """By z3's functions for C, which are faster on many parts."""
+    key = z3.Z3_get_ast_id(context, part)
+    if key not in _names:
+        count = z3.Z3_get_app_num_args(context, z3.Z3_to_app(context, part))
+        parts = [z3.Z3_get_app_arg(context, z3.Z3_to_app(context, part), at) for at in range(count)]
+        _names[key] = tuple(dict.fromkeys(name for each in parts for name in _names_of(each, context)))
+        decl = z3.Z3_get_app_decl(context, z3.Z3_to_app(context, part))
+        if not count and z3.Z3_get_decl_kind(context, decl) == z3.Z3_OP_UNINTERPRETED:
+            constant = z3.BitVecRef(part)
+            name = constant.decl().name()
+            require(_constants.setdefault(name, constant).sort() == constant.sort(), f"two constants {name}")
+            _names[key] = (name,)
+    return _names[key]
+
+
+def is_public(term):
+    """Whether it depends on nothing but lengths, addresses and numbers of rounds, whose names begin so."""
+    return all(name.startswith("p_") for name in names(term))
+
+
+def conjuncts(term):
+    """Conditions that hold together just if this one does."""
+    term = z3.simplify(term)
+    if z3.is_true(term):
+        return []
+    if z3.is_and(term):
+        return [part for child in term.children() for part in conjuncts(child)]
+    if z3.is_not(term) and z3.is_or(term.arg(0)):
+        return [part for child in term.arg(0).children() for part in conjuncts(z3.Not(child))]
+    if z3.is_eq(term) and z3.is_bv_value(term.arg(1)):
+        if z3.is_app_of(term.arg(0), z3.Z3_OP_ITE) and all(map(z3.is_bv_value, term.arg(0).children()[1:])):
+            choice, one, other = term.arg(0).children()
+            if not one.eq(other) and (one.eq(term.arg(1)) or other.eq(term.arg(1))):
+                return conjuncts(choice if one.eq(term.arg(1)) else z3.Not(choice))
+        if term.arg(1).as_long() == 0 and len(zeros := _zeros(term.arg(0))) > 1:
+            return [part == 0 for part in zeros]
+    return [term]
+
+
+def _zeros(term):
+    """The terms that are all 0 just if this one is."""
+    if z3.is_app_of(term, z3.Z3_OP_BOR) or z3.is_app_of(term, z3.Z3_OP_CONCAT):
+        return [part for child in term.children() for part in _zeros(child)]
+    if z3.is_app_of(term, z3.Z3_OP_EXTRACT) and z3.is_app_of(term.arg(0), z3.Z3_OP_BOR):
+        high, low = term.params()
+        return [part for child in term.arg(0).children() for part in _zeros(z3.simplify(z3.Extract(high, low, child)))]
+    return [] if z3.is_bv_value(term) and term.as_long() == 0 else [term]
+
+
+class Fact:
+    """A condition that is known, with the names of its constants."""
+
+    def __init__(self, term):
+        self.term, self.names, self.is_public = term, frozenset(names(term)), is_public(term)
+
+
+def facts_of(condition):
+    return [Fact(part) for part in conjuncts(condition)]
+
+
+def relevant(facts, goal):
+    """The facts that share constants with a goal, directly or by others; of a public goal those that are public."""
+    facts = [fact for fact in facts if fact.is_public] if is_public(goal) else facts
+    seen, rest, count = set(names(goal)), facts, -1
+    while count != len(rest):
+        count, others = len(rest), []
+        for fact in rest:
+            if seen.isdisjoint(fact.names):
+                others.append(fact)
+            else:
+                seen |= fact.names
+        rest = others
+    return [fact.term for fact in facts if not seen.isdisjoint(fact.names)]
+
+
+def _renamed(facts):
+    """The facts with constants that are named in the order in which they occur."""
+    found = dict.fromkeys(name for fact in facts for name in names(fact))
+    new = [(_constants[name], z3.Const(f"x{at}", _constants[name].sort())) for at, name in enumerate(found)]
+    return [z3.simplify(z3.substitute(fact, *new)) for fact in facts]
+
+
+def _answer(logic, conditions, limit):
+    solver = z3.SolverFor(logic)
+    solver.set("rlimit", limit)
+    solver.add(*conditions)
+    answer = solver.check()
+    counts["asked"] += 1
+    counts["given up"] += answer == z3.unknown
+    if answer == z3.unsat:
+        proved.append((logic, conditions))
+    return answer
+
+
+def _is_impossible_in_integers(conditions):
+    return _answer("QF_LIA", conditions, QUICK) == z3.unsat
+
+
+def _by_integers(facts):
+    """The answer by integers, if all is linear. Sums of many bits are hard in bits and easy in integers, masks are
+    the other way round."""
+    try:
+        known = integers.Facts(facts, _is_impossible_in_integers)
+    except ValueError:
+        return z3.unknown
+    return _answer("QF_LIA", [*known.ranges.values(), *known.conditions], QUICK)
+
+
+def is_impossible(facts):
+    """Whether facts contradict each other."""
+    terms = _renamed(facts)
+    key = tuple(term.get_id() for term in terms)
+    counts["repeated"] += key in _answers
+    if key not in _answers:
+        _kept.extend(terms)
+        answer = _by_integers(terms) if all(map(is_public, facts)) else z3.unknown
+        _answers[key] = z3.unsat in (answer, answer == z3.unknown and _answer("QF_BV", terms, LIMIT))
+    return _answers[key]
+
+
+def holds(facts, goal):
+    """Whether a goal follows from facts."""
+    return all(is_impossible([*relevant(facts, part), z3.Not(part)]) for part in conjuncts(goal))
+
+
+def values(facts, term, most):
+    """All values that a term has where the facts hold, of which there are at most so many."""
+    found = []
+    while not holds(facts, z3.Or(*[term == value for value in found])):
+        require(len(found) < most, "an offset that may have too many values")
+        solver = z3.SolverFor("QF_BV")
+        solver.set("rlimit", LIMIT)
+        solver.add(*relevant(facts, term == 0), *[term != value for value in found])
+        require(solver.check() == z3.sat, "an offset whose values are not known")
+        found.append(solver.model().eval(term, True).as_long())
+    return found

@@ -1,0 +1,31 @@
+"""A second solver, cvc5, on what z3 has answered by "unsat", as text in SMT-LIB.
+
+If this were wrong, an error of z3 might not be noticed.
+"""
+
+import random
+import subprocess
+
+import z3
+
+# In steps of cvc5.
+LIMIT = 20_000_000
+
+
+def as_text(logic, conditions):
+    """A question in SMT-LIB."""
+    solver = z3.Solver()
+    solver.add(*conditions)
+    return f"(set-logic {logic})\n{solver.to_smt2()}"
+
+
+def disagreements(questions, most=None):
+    """The questions, or so many of them chosen at random, to which cvc5 does not answer "unsat"."""
+    chosen = random.sample(questions, most) if most is not None and most < len(questions) else questions
+    texts = [as_text(*question) for question in chosen]
+    command = ["cvc5", "--lang=smt2", f"--rlimit-per={LIMIT}", "-"]
+    run = subprocess.run(command, input="(reset)\n".join(texts), text=True, capture_output=True)
+    answers = run.stdout.split()
+    if len(answers) != len(texts):
+        answers = [f"none: {run.stdout}{run.stderr}"] * len(texts)
+    return [(text, answer) for text, answer in zip(texts, answers) if answer != "unsat"]

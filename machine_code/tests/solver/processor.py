@@ -1,0 +1,198 @@
+"""Runs single instructions of an object on a processor, each from a random state, and compares them with their meaning.
+
+The object lies in the memory of a program (run.c in the folder above) as `reading` lays it out. After the instruction
+stands a jump back, and so at its target if it is a jump. The registers are random; those that an address needs point
+into a scratch area.
+"""
+
+import pathlib
+import random
+import re
+import struct
+import subprocess
+import tempfile
+
+import z3
+
+from execution.code import Code
+from execution.paths import Branch
+from execution.state import byte, simple, word
+from programs import PROCESSORS
+from solver.questions import require
+
+FOLDER = pathlib.Path(__file__).resolve().parents[1]
+# As in run.c.
+SIZE, TEXT, SCRATCH = 1 << 12, 0x4000000, 0x8000000
+MIDDLE = SIZE // 2
+NOT_ALONE = ("ret", "call", "jmp", "nop", "bl", "b")
+EDGES = bytes([0, 1, 0x7F, 0x80, 0xFF, 0x30, 0x39, 0x41, 0x66, 0x0F, 0x10] * 24)[:256]
+# So many instructions of each form, and states.
+PLACES, STATES = 2, 8
+BYTES = [byte(value) for value in range(256)]
+# By processor: its registers as run.c has them, its compiler and emulator, where flags are, how long a jump is, and
+# what does not count as a form.
+KINDS = {
+    "x86_64": ("rax rcx rdx rbx rsp rbp rsi rdi r8 r9 r10 r11 r12 r13 r14 r15".split(), ["cc"], [],
+               {"c": 0, "z": 6, "s": 7, "o": 11}, 5,
+               r"\b([abcd]|[sd]i|[sb]p)l\b|(?<=\b[re])([abcd]x|[sd]i|[sb]p)\b|(?<=[a-z])\d+|0x[0-9a-f]+|\[.*\]"),
+    "aarch64": ([f"x{at}" for at in range(31)] + ["sp"], ["aarch64-linux-gnu-gcc", "-static"], ["qemu-aarch64"],
+                {0: 31, 1: 30, 2: 29, 3: 28}, 4, r"(?<=\b[xwvqdsbh])\d+|(?<=#)-?\w+|0x[0-9a-f]+"),
+}
+
+
+def _random_bytes(some, count):
+    """Random bytes; often at the edges, and sometimes all 0."""
+    found, kind = some.randbytes(count), some.randrange(8)
+    return bytes(count) if kind == 0 else found if kind < 4 else found.translate(EDGES)
+
+
+class Processor:
+    def __init__(self, content, function):
+        self.code = Code(content, PROCESSORS)
+        self.code.function(function)
+        self.meanings = self.code.processor
+        name = self.meanings.__name__.rpartition(".")[2]
+        self.names, compiler, emulator, self.bits, self.jump, self.not_form = KINDS[name]
+        self.memory = bytearray(max(section.end for section in self.code.object.sections))
+        for section in self.code.object.sections:
+            self.memory[section.address : section.end] = section.content
+        with tempfile.TemporaryDirectory() as folder:
+            sources = [FOLDER / "run.c", FOLDER / f"run_{name}.S"]
+            subprocess.run([*compiler, "-O1", "-no-pie", "-o", f"{folder}/run", *sources], check=True,
+                           capture_output=True)
+            self.process = subprocess.Popen([*emulator, f"{folder}/run"], stdin=subprocess.PIPE, stdout=subprocess.PIPE)
+            self.process.stdin.write(struct.pack("<Q", len(self.memory)) + self.memory)
+            self.forms = self._forms()
+            # The program has begun when it answers.
+            self.difference(next(iter(self.forms.values()))[0], "")
+
+    def close(self):
+        self.process.communicate()
+
+    def _forms(self):
+        """Some instructions of each form that has a meaning."""
+        forms = {}
+        for i in self.code.instructions.values():
+            if i.mnemonic in self.meanings.HANDLERS and i.mnemonic not in NOT_ALONE and not i.refused:
+                target = self._target(i)
+                if not target or not i.address - self.jump < target < i.address + i.size + self.jump:
+                    operands = "" if target else re.sub(self.not_form, "", i.text.partition(" ")[2])
+                    forms.setdefault(f"{i.mnemonic} {operands}", []).append(i)
+        return {form: found[:: max(1, len(found) // PLACES)][:PLACES] for form, found in forms.items()}
+
+    def _target(self, i):
+        """Where a jump goes, or 0."""
+        return next((to for to in self.meanings.follows(i) if to != i.address + i.size), 0)
+
+    def _start(self, some, memory):
+        """A random state whose memory is that of the program."""
+
+        class Concrete(self.meanings.State):
+            def load(self, address, count, aligned=False):
+                at = simple(address).as_long()
+                require(not aligned or at % count == 0, "not aligned")
+                data, start = (memory[0], SCRATCH) if at >= SCRATCH else (memory[1], TEXT)
+                return [BYTES[value] for value in data[at - start :][:count]]
+
+            def store(self, address, lane, aligned=False):
+                at = simple(address).as_long() - SCRATCH
+                memory[0][at : at + len(lane)] = bytes(simple(value).as_long() for value in lane)
+
+        state = Concrete()
+        state.code, state.calls, state.facts, state.is_clean, state.is_legacy = self.code, {}, [], True, False
+        state.general = {name: int.from_bytes(_random_bytes(some, 8), "little") for name in self.names}
+        state.general[state.TOP] = SCRATCH + MIDDLE
+        raw = {at: _random_bytes(some, state.WIDTH) for at in range(state.VECTORS)}
+        state.vectors = {at: [BYTES[value] for value in lane] for at, lane in raw.items()}
+        return state, raw
+
+    def _known(self, term):
+        """The number of a term of bases and pages."""
+        bases = [(region.base, word(TEXT + section.address)) for section, region in self.code.constants.values()]
+        pages = [(z3.BitVec(name, 64), word(TEXT + int(name[10:], 16) & -4096)) for name in
+                 {part.decl().name() for part in _constants(term)} if name.startswith("p_page_of_")]
+        return simple(z3.substitute(term, *bases, *pages))
+
+    def _point(self, state, i, some):
+        """Lets an address lie in the scratch area, aligned for any access."""
+        for o in i.operands if i.mnemonic != "lea" else ():
+            if o.kind == "memory" and not self.code.references_in(i.address, i.size):
+                terms = getattr(o, "terms", None) or [(o.base, 1)] + ([(o.index, 1 << o.count)] if o.index else [])
+                rest = o.offset
+                for name, scale in terms[1:]:
+                    state.general[name] = some.randrange(256) & -32
+                    rest += state.general[name] * scale
+                if terms[0][0] != state.TOP:
+                    state.general[terms[0][0]] = SCRATCH + MIDDLE + 64 * some.randrange(16) - rest
+
+    def difference(self, i, seed):
+        """What differs between the processor and the meaning for one random state."""
+        some, scratch = random.Random(seed), bytearray(SIZE)
+        scratch[:] = _random_bytes(some, SIZE)
+        before = bytes(scratch)
+        state, raw = self._start(some, (scratch, self.memory))
+        old = state.vectors.copy()
+        self._point(state, i, some)
+        given = {name: value % (1 << 64) for name, value in state.general.items()}
+        state.general = {name: word(value) for name, value in state.general.items()}
+        if self.code.references_in(i.address, i.size) and i.mnemonic in ("add", "ldr") and self.jump == 4:
+            base = i.operands[1].name if i.mnemonic == "add" else i.operands[1].base
+            state.general[base] = self.meanings.page(state, i)[0]
+            given[base] = self._known(state.general[base]).as_long()
+        flags = {name: some.random() < 0.5 for name in self.bits}
+        state.flags = {name: z3.BoolVal(bit) for name, bit in flags.items()}
+        state.flags = tuple(state.flags.values()) if self.jump == 4 else state.flags
+        target = self._target(i)
+        request = struct.pack("<QQQ", i.address, i.address + i.size, target)
+        request += b"".join(struct.pack("<Q", given[name]) for name in self.names)
+        request += b"".join(raw.values())
+        request += struct.pack("<QQ", sum(bit << self.bits[name] for name, bit in flags.items()), 0) + before
+        self.process.stdin.write(request)
+        self.process.stdin.flush()
+        found = self.process.stdout.read(len(request) - 24)
+        # An address in the program is a constant's: the base of its region and an offset.
+        load = state.load
+        state.load = lambda address, count, aligned=False: load(self._known(simple(address)), count, aligned)
+        state.next = i.address + i.size
+        to = self.meanings.HANDLERS[i.mnemonic](state, i)
+        lanes = {at: raw[at] if lane is old[at] else bytes(simple(value).as_long() for value in lane)
+                 for at, lane in state.vectors.items()}
+        return ", ".join(self._compared(state, lanes, found, scratch, target, to))
+
+    def _compared(self, state, lanes, found, scratch, target, to):
+        at = 0
+        for name in self.names:
+            if struct.unpack_from("<Q", found, at)[0] != self._known(state.general[name]).as_long():
+                yield name
+            at += 8
+        for name, lane in lanes.items():
+            if found[at : at + state.WIDTH] != lane:
+                yield f"vector {name}"
+            at += state.WIDTH
+        flags, is_taken = struct.unpack_from("<QQ", found, at)
+        if found[at + 16 :] != scratch:
+            yield "memory"
+        known = state.flags if isinstance(state.flags, dict) else dict(enumerate(state.flags or ()))
+        for name, flag in known.items():
+            if z3.is_true(simple(flag)) != bool(flags >> self.bits[name] & 1):
+                yield f"flag {name}"
+        if target and (not isinstance(to, Branch) or z3.is_true(simple(to.choice)) != bool(is_taken)):
+            yield "the jump"
+
+    def differences(self, mnemonics=None, states=STATES):
+        """What differs of each form, as far as it is one of some mnemonics."""
+        for form, instructions in self.forms.items():
+            for i in instructions if not mnemonics or form.split()[0] in mnemonics else ():
+                for seed in range(states):
+                    try:
+                        what = self.difference(i, f"{form} {seed}")
+                    except Exception as error:
+                        what = f"{type(error).__name__}: {error}"
+                    if what:
+                        yield f"{form}: {i.text}: {what}"
+
+
+def _constants(term):
+    if z3.is_const(term):
+        return [term]
+    return [part for child in term.children() for part in _constants(child)]

@@ -1,0 +1,111 @@
+"""Small kernels, each a loop over single bytes, which are changed to be wrong; and the objects that they make."""
+
+import pathlib
+import subprocess
+import tempfile
+
+from contracts.kernels import KERNELS
+from execution.code import Code
+from execution.paths import run
+from hints.loops import guess, heads
+from meanings import aarch64, x86_64
+
+ASSEMBLY = pathlib.Path(__file__).resolve().parents[3] / "rust" / "src" / "asm"
+PROCESSORS = {62: x86_64, 183: aarch64}
+COMPILERS = {"v2": "cc", "v3": "cc", "aarch64": "aarch64-linux-gnu-gcc"}
+# Where it begins, a character in eax, whether it is a digit, what is done in a round, and where it returns.
+CHECK = """
+    {start}
+    1: test rsi, rsi; je 2f
+    movzx eax, byte ptr [rdi]; {character}
+    lea ecx, [rax-0x30]; cmp cl, 10; setb r8b
+    or al, 0x20; sub al, 0x61; cmp al, 6; setb r9b
+    or r8b, r9b; je 3f
+    add rdi, 1; add rsi, -1; {round}
+    jmp 1b
+    2: mov eax, 1; {end}
+    ret
+    3: xor eax, eax; ret
+    .section .rodata.table, "a"; .balign 16; table: .skip 32, 1
+    .section .rodata.other, "a"; .balign 16; other: .skip 32
+    .section .text.helper, "ax"; helper: {helper} ret
+"""
+FILL = """
+    {start}
+    1: test rsi, rsi; je 2f
+    movzx eax, byte ptr [rdi]; {character}
+    mov r9d, eax; shr r9d, 4; and eax, 15
+    lea r10d, [r9+0x30]; lea r11d, [r9+0x57]; cmp r9d, 10; cmovb r11d, r10d; mov [rdx], r11b
+    lea r10d, [rax+0x30]; lea r11d, [rax+0x57]; cmp eax, 10; cmovb r11d, r10d; mov [rdx+1], r11b
+    add rdi, 1; add rdx, 2; add rsi, -1; {round}
+    jmp 1b
+    2: {end}
+    ret
+    .section .rodata.table, "a"; .balign 16; table: .skip 32, 1
+    .section .text.helper, "ax"; helper: {helper} ret
+"""
+READ = """
+    {start}
+    1: test rcx, rcx; je 2f
+    movzx eax, byte ptr [rdi]; movzx esi, byte ptr [rdi+1]; {character}
+    lea r10d, [rax-0x30]; cmp r10b, 10; setb r8b; or al, 0x20; sub al, 0x57; lea r11d, [rax-10]
+    cmp r11b, 6; setb r9b; or r9b, r8b; je 3f; test r8b, r8b; cmovne eax, r10d
+    lea r10d, [rsi-0x30]; cmp r10b, 10; setb r8b; or sil, 0x20; sub sil, 0x57; lea r11d, [rsi-10]
+    cmp r11b, 6; setb r9b; or r9b, r8b; je 3f; test r8b, r8b; cmovne esi, r10d
+    shl eax, 4; or eax, esi; {store}
+    add rdi, 2; add rdx, 1; add rcx, -1; {round}
+    jmp 1b
+    2: mov eax, 1; {end}
+    ret
+    3: xor eax, eax; ret
+    .section .rodata.table, "a"; .balign 16; table: .skip 32, 1
+    .section .text.helper, "ax"; helper: {helper} ret
+"""
+ON_AARCH64 = """
+    {start}
+    1: cbz x1, 2f
+    ldrb w8, [x0]; {character}
+    sub w9, w8, #0x30; cmp w9, #10; cset w10, cc
+    mov w11, #0x20; orr w8, w8, w11; sub w8, w8, #0x61; cmp w8, #6; cset w11, cc
+    orr w10, w10, w11; cbz w10, 3f
+    add x0, x0, #1; sub x1, x1, #1; {round}
+    b 1b
+    2: mov w0, #1; {end}
+    ret
+    3: mov w0, #0; ret
+    .section .rodata.table, "a"; .balign 16; table: .skip 32, 1
+    .section .rodata.other, "a"; .balign 16; other: .skip 32
+    .section .text.helper, "ax"; helper: {helper} ret
+"""
+PROGRAMS = {"check": CHECK, "fill": FILL, "read": READ}
+
+
+def assembled(source, compiler):
+    """The bytes of the object that a source makes."""
+    with tempfile.NamedTemporaryFile(suffix=".o") as file:
+        command = [compiler, "-x", "assembler", "-c", "-o", file.name, "-"]
+        subprocess.run(command, input=source, text=True, check=True)
+        return pathlib.Path(file.name).read_bytes()
+
+
+def program(level, call, **changes):
+    """The object of a small kernel with what stands at its places."""
+    body = (ON_AARCH64 if level == "aarch64" else PROGRAMS[call]).format_map(
+        dict.fromkeys(("start", "character", "round", "end", "helper"), "") | {"store": "mov [rdx], al"} | changes)
+    syntax = "" if level == "aarch64" else ".intel_syntax noprefix\n"
+    name = f"const_hex_1_0_0_{call}" + (f"_{level}" if level != "aarch64" else "")
+    return assembled(f'{syntax}.section .text.{name}, "ax"\n.globl {name}\n{name}:\n{body}', COMPILERS[level])
+
+
+def kernel(name, change=lambda text: text):
+    """The object of the committed kernels of a file, whose text may be changed."""
+    text = "".join((ASSEMBLY / f"{part}.s").read_text() for part in ("elf", name, "end"))
+    return assembled(change(text), COMPILERS["aarch64" if name == "aarch64" else "v3"])
+
+
+def prove(content, call, ran=None):
+    """Proves the first contract of a call."""
+    code = Code(content, PROCESSORS)
+    contract = next(kernel for kernel in KERNELS if kernel.function == call)
+    start = contract.start(code)
+    return run(code, start, heads(code, start.at), guess, ran)

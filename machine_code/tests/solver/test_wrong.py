@@ -1,0 +1,211 @@
+"""Wrong programs, each refused by the check that is meant, and right ones that look alike."""
+
+import ast
+import contextlib
+import pathlib
+import re
+import traceback
+import unittest
+
+from programs import assembled, program, prove
+from solver.questions import Refused
+
+ROOM = pathlib.Path(__file__).resolve().parents[2]
+# What refuses a program.
+CHECKS = ("require", "must", "must_cover", "must_equal")
+
+PASSES, SECRET = "a character is passed that may be no digit", "a branch depends on bytes"
+BELOW, UNWRITTEN = "an access below the stack pointer", "a byte of the stack that was not written"
+OUTSIDE, NOT_IN_STACK, AT_HEAD = "may lie outside", "the stack pointer is not in the stack", "at the head of a loop: "
+# What is wrong, the processor's level, the function, what is changed, and what is said of it.
+WRONG = [
+    ("the OR of three characters compared by the carry", "v3", "check",
+     {"start": "cmp rsi, 3; jb 1f; movzx eax, byte ptr [rdi]; or al, [rdi+1]; or al, [rdi+2]; cmp al, 0; jb 1f; "
+               "mov eax, 1; ret"}, PASSES),
+    ("the OR of three characters compared by what is above", "v3", "check",
+     {"start": "cmp rsi, 3; jb 1f; movzx eax, byte ptr [rdi]; or al, [rdi+1]; or al, [rdi+2]; cmp al, 0; jae 5f; "
+               "jmp 1f; 5: mov eax, 1; ret"}, PASSES),
+    ("a bit that is kept over a branch", "v3", "check",
+     {"start": "mov r9, rsi; and r9, 1; push r9; mov r10d, [rsp]; or r10d, 0; pop r11; test r9, r9; je 1f; push r9; "
+               "mov r11d, [rsp]; or r11d, 0; pop rax; cmp r10d, r11d; jne 1f; mov eax, 1; ret"}, PASSES),
+    ("the distance of two sections", "v3", "check",
+     {"start": "lea rax, [rip+table]; lea rcx, [rip+other]; sub rax, rcx; cmp rax, 0x1000; jae 1f; mov eax, 1; ret"},
+     PASSES),
+    ("an access by the distance of two sections", "v3", "check",
+     {"start": "lea rax, [rip+table]; lea rcx, [rip+other]; lea rax, [rax+rcx]; mov al, [rax]"}, "an address in"),
+    ("a place in the stack that depends on the length", "v3", "check",
+     {"start": "mov rax, rsi; and rax, 8; sub rsp, 64; mov [rsp+rax], rsi; mov rsi, [rsp]; add rsp, 64"},
+     "an offset in the stack is not known"),
+    ("a value from below the stack pointer", "v3", "check",
+     {"start": "sub rsp, 64; mov [rsp], rsi; add rsp, 64; sub rsp, 64; mov rsi, [rsp]; add rsp, 64"}, UNWRITTEN),
+    ("a value that is popped twice", "v3", "check",
+     {"start": "push rsi; pop rax; sub rsp, 8; pop rsi"}, UNWRITTEN),
+    ("a read of the red zone", "v3", "check", {"start": "mov al, [rsp-8]"}, BELOW),
+    ("a vector below the stack pointer", "v3", "check", {"start": "vmovdqu [rsp-32], xmm0"}, BELOW),
+    ("a stack that is too long", "v3", "check", {"start": "sub rsp, 0x800; push rsi; pop rsi; add rsp, 0x800"},
+     NOT_IN_STACK),
+    ("a stack pointer that is a length", "v3", "check",
+     {"start": "mov rax, rsp; mov rsp, rsi; mov rsp, rax"}, NOT_IN_STACK),
+    ("the stack is not restored", "v3", "check", {"end": "sub rsp, 8; push rax; pop rcx"}, UNWRITTEN),
+    ("a return that pops too much", "v3", "check", {"end": "pop rcx; add rsp, 8; push rcx; sub rsp, 8; add rsp, 8"},
+     NOT_IN_STACK),
+    ("a return that leaves the stack", "v3", "check", {"end": "pop rcx; push rcx; push rcx"},
+     "the stack pointer is not as before"),
+    ("a return to another place", "v3", "check", {"end": "add qword ptr [rsp], 2"}, "a return to another place"),
+    ("rbx", "v3", "check", {"start": "mov rbx, rsi"}, "rbx is not as before"),
+    ("the upper half of rbx", "v3", "check", {"start": "mov ebx, ebx"}, "rbx is not as before"),
+    ("vzeroupper", "v3", "check", {"end": "vpxor ymm0, ymm0, ymm0"}, "vzeroupper is missing"),
+    ("vzeroupper after a loop", "v3", "check", {"round": "vpxor ymm0, ymm0, ymm0"}, "vzeroupper is missing"),
+    ("the direction flag", "v3", "check", {"start": "std"}, "without a meaning"),
+    ("AVX without a check", "v2", "check", {"start": "vzeroupper"}, "is not what the assembler makes"),
+    ("an access that is not aligned", "v2", "check", {"start": "cmp rsi, 16; jb 1f; pand xmm0, [rdi]"},
+     "may not be aligned"),
+    ("a move that is not aligned", "v3", "check", {"start": "cmp rsi, 16; jb 1f; vmovdqa xmm0, [rdi]"},
+     "may not be aligned"),
+    ("a loop without an end", "v3", "check", {"start": "5: jmp 5b"}, "nothing counts down"),
+    ("a loop that ends for some lengths", "v3", "check", {"start": "5: cmp rsi, 0x80; jae 5b"}, "nothing counts down"),
+    ("a loop that turns too often", "v3", "check", {"start": "mov r8d, 6; 5: sub r8, 4; jne 5b"}, AT_HEAD),
+    ("more rounds than there are numbers", "v3", "check", {"start": "or rax, -1; 5: sub rax, 1; jne 5b"},
+     "the number of rounds"),
+    ("a register that some rounds change", "v3", "check",
+     {"start": "xor r10d, r10d", "round": "test sil, 1; je 5f; add r10, 1; 5:"}, "at the head of a loop: r10"),
+    ("a vector that some rounds change", "v3", "check",
+     {"round": "test sil, 1; jne 5f; jmp 6f; 5: vmovdqa xmm1, xmm2; 6:"}, "at the head of a loop: vector 1"),
+    ("a call in each round that does not return", "v3", "check", {"round": "call 5f; 5: add rsp, 8"},
+     "at the head of a loop: where calls return to"),
+    ("too many instructions", "v3", "check", {"start": ".rept 2001; nop; .endr"}, "a loop without a hint"),
+    ("too many constants", "v3", "check",
+     {"start": "lea rax, [rip+table]; mov rcx, rsi; and ecx, 15; mov al, [rax+rcx]"},
+     "too many values"),
+    ("one character too much", "v3", "check", {"character": "mov cl, [rdi+1]"}, OUTSIDE),
+    ("a character before the text", "v3", "check", {"start": "mov cl, [rdi-1]"}, OUTSIDE),
+    ("a read beyond constants", "v3", "check", {"start": "mov al, [rip+table+32]"}, "an address without a constant"),
+    ("a vector beyond constants", "v3", "check", {"start": "movdqu xmm0, [rip+table+17]"}, OUTSIDE),
+    ("an address without a relocation", "v3", "check", {"start": "mov al, [rip+0x40]"}, "an address without its reloc"),
+    ("a call of another library", "v3", "check", {"start": "call memcpy"}, "it leaves the code"),
+    ("code that ends", "v3", "check", {"start": "jmp helper", "helper": "nop; .byte 0xf4;"}, "without a meaning"),
+    ("a length of 32 bits", "v3", "check", {"start": "mov esi, esi"}, PASSES),
+    ("a length by a shift", "v3", "check",
+     {"start": "mov rax, rsi; shr rax, 7; cmp rax, 1000; jne 1f; mov eax, 1; ret"},
+     PASSES),
+    ("a length of one kind", "v3", "check",
+     {"start": "mov rax, rsi; and rax, 128; je 1f; cmp rsi, 1000; jb 1f; dec rsi"}, PASSES),
+    ("a sum that carries", "v3", "check", {"start": "mov rax, rsi; add rax, -1000; jb 1f; mov eax, 1; ret"}, PASSES),
+    ("an address in the upper half", "v3", "check",
+     {"start": "mov rax, rdi; shr rax, 63; test rax, rax; je 1f; mov eax, 1; ret"}, PASSES),
+    ("the flag of a shift", "v3", "check", {"start": "mov rax, rdi; shr rax, 63; jb 1f"}, "a flag that is not known"),
+    ("2 for true", "v3", "check", {"end": "add al, al"}, "neither true nor false"),
+    ("false for digits", "v3", "check", {"end": "xor eax, eax"}, "digits are rejected"),
+    ("true for what is no digit", "v3", "check", {"character": "or eax, 0x20"}, PASSES),
+    ("a branch by a digit", "v3", "check", {"character": "cmp al, 0x39; ja 5f; nop; 5:"}, SECRET),
+    ("a branch by what is unknown", "v3", "check", {"start": "test r15, r15; je 5f; nop; 5:"}, SECRET),
+    ("an address by a digit", "v3", "check", {"character": "and eax, 7; lea rcx, [rip+table]; mov al, [rcx+rax]"},
+     "an address depends on bytes"),
+    ("a write of the text", "v3", "check", {"character": "mov [rdi], al"}, "input is written"),
+    ("a write of constants", "v3", "check", {"start": "mov byte ptr [rip+table], 1"}, "is written"),
+    ("a write into a stack that is kept", "v3", "check",
+     {"start": "push rsi", "round": "mov [rsp], rsi", "end": "pop rsi"}, "the stack"),
+    ("a branch by a byte", "v3", "fill", {"character": "cmp al, 9; ja 5f; nop; 5:"}, SECRET),
+    ("an address by a byte", "v3", "fill",
+     {"character": "and eax, 7; lea r10, [rip+table]; mov al, [r10+rax]"}, "an address depends on bytes"),
+    ("the output is read", "v3", "fill", {"character": "mov cl, [rdx]"}, "output is read"),
+    ("the output is written back", "v3", "fill", {"round": "mov al, [rdx-1]; mov [rdx-1], al"}, "output is read"),
+    ("a wrong digit", "v3", "fill", {"character": "xor eax, 1"}, "a wrong character at"),
+    ("a digit of the next byte", "v3", "fill", {"start": "add rdx, 1"}, "left out"),
+    ("a text at an odd or even offset", "v3", "fill",
+     {"start": "mov r8, rsi",
+      "end": "test r8, r8; je 5f; and r8d, 1; sub rdx, r8; mov byte ptr [rdx-1], 0x30; 5:"}, "may be odd or even"),
+    ("a character too much", "v3", "fill", {"end": "mov byte ptr [rdx], 0x30"}, OUTSIDE),
+    ("a byte that is left out", "v3", "fill", {"start": "test rsi, rsi; je 1f; add rdi, 1; add rdx, 2; add rsi, -1"},
+     "a character of the text is left out"),
+    ("a distance of two buffers", "v3", "fill", {"start": "mov rax, rdx; sub rax, rdi; cmp rax, 64; jae 1f; ret"},
+     "a character of the text is left out"),
+    ("a byte before it is known", "v3", "read", {"character": "mov r10d, eax; and r10d, 15; mov [rdx], r10b"},
+     "written before it is known"),
+    ("a wrong byte", "v3", "read", {"round": "mov al, 0; mov [rdx-1], al"}, "a wrong byte at"),
+    ("a byte that is left out", "v3", "read", {"start": "test rcx, rcx; je 1f; sub rcx, 1; add rdi, 2; add rdx, 1"},
+     PASSES),
+    ("a byte that is not written", "v3", "read", {"store": "cmp rcx, 1; je 6f; mov [rdx], al; 6:"},
+     "a byte of the output is left out"),
+    ("x18", "aarch64", "check", {"start": "mov x18, #1"}, "without a meaning"),
+    ("x19", "aarch64", "check", {"start": "mov x19, #1"}, "x19 is not as before"),
+    ("v8", "aarch64", "check", {"start": "movi v8.16b, #1"}, "v8 is not as before"),
+    ("the stack pointer", "aarch64", "check", {"end": "sub sp, sp, #16"}, "sp is not as before"),
+    ("a return to another place", "aarch64", "check", {"end": "add x30, x30, #4"}, "a return to another place"),
+    ("a stack that is not aligned", "aarch64", "check",
+     {"start": "sub sp, sp, #8; str x0, [sp]; add sp, sp, #8"}, "is not aligned"),
+    ("a value from below the stack pointer", "aarch64", "check",
+     {"start": "str x1, [sp, #-16]!; add sp, sp, #16; sub sp, sp, #16; ldr x1, [sp], #16"}, UNWRITTEN),
+    ("the page of another constant", "aarch64", "check", {"start": "adrp x8, table; add x8, x8, :lo12:other"},
+     "the page of another constant"),
+    ("a page that is no address", "aarch64", "check", {"start": "adrp x8, table; ldrb w8, [x8]"}, "an address in"),
+    ("the whole result", "aarch64", "check", {"end": "mov w8, #256; orr w0, w0, w8"}, "neither true nor false"),
+    ("a register that the linker may change", "aarch64", "check",
+     {"start": "mov x9, x30; mov x16, x1; bl helper; mov x1, x16; mov x30, x9"}, "nothing counts down"),
+    ("a base that is moved and stored", "aarch64", "check",
+     {"start": "sub sp, sp, #16; mov x8, sp; .inst 0xf8000508; add sp, sp, #16"}, "unpredictable|not what the as"),
+    ("dot products", "aarch64", "check", {"start": ".inst 0x6e809400"}, "without a meaning|not what the assembler"),
+    ("flags that are not known", "aarch64", "check", {"start": "b.eq 5f; nop; 5:"}, "a flag that is not known"),
+]
+RIGHT = [("a loop over bytes", "v3", call, {}) for call in ("check", "fill", "read")] + [
+    ("a loop over bytes", "v2", "check", {}), ("a loop over bytes", "aarch64", "check", {}),
+    ("a stack that is used", "v3", "check", {"start": "push rbx; mov rbx, rsi; mov rsi, rbx; pop rbx"}),
+    ("a wide register that is cleared", "v3", "check", {"start": "vpxor ymm0, ymm0, ymm0; vzeroupper"}),
+    ("a call", "v3", "check", {"start": "call helper"}),
+    ("a call", "aarch64", "check", {"start": "mov x9, x30; bl helper; mov x30, x9"}),
+    ("the lower bits of a page", "aarch64", "check",
+     {"start": "adrp x8, table; add x8, x8, :lo12:table; ldrb w9, [x8]; adrp x8, table; ldr q0, [x8, :lo12:table]"}),
+]
+
+
+class TestWrong(unittest.TestCase):
+    # Where programs were refused, and which rows were.
+    refused, rows = set(), set()
+
+    def prove(self, content, call, wanted=None):
+        with self.assertRaisesRegex(Refused, wanted) if wanted else contextlib.nullcontext():
+            try:
+                prove(content, call)
+            except Refused as refused:
+                # `run` says where a program is refused, of what another function has found.
+                found = refused.__context__ or refused
+                places = [(frame.filename, frame.lineno) for frame in traceback.extract_tb(found.__traceback__)]
+                self.refused.update(places)
+                raise
+
+    def test_a_function_that_is_weak_local_or_missing(self):
+        """A weak function may be replaced by the linker's, and a local one is not called."""
+        local = "const_hex_1_0_0_check_v3: ret"
+        for line in (f".weak const_hex_1_0_0_check_v3; {local}", local, "check: ret"):
+            self.prove(assembled(f"{line}\n", "cc"), "check", "0 functions check")
+
+    def test_zz_each_check_refuses_a_row(self):
+        """After the rows: without a check, one that is refused by it would not be, or by another message."""
+        if len(self.rows) < len(WRONG):
+            self.skipTest("not all rows have run")
+        checks = {(str(file), line) for folder in ("execution", "contracts") for file in (ROOM / folder).glob("*.py")
+                  for line in _checks(file)}
+        unused = checks - self.refused
+        self.assertEqual(sorted(unused), [])
+
+
+def _checks(file):
+    """The lines of a file where a check is called."""
+    for node in ast.walk(ast.parse(file.read_text())):
+        if isinstance(node, ast.Call) and getattr(node.func, "attr", getattr(node.func, "id", "")) in CHECKS:
+            yield node.lineno
+
+
+def _add(what, level, call, changes, wanted=None):
+    name = re.sub(r"\W+", "_", f"test_{level}_{call}_{what}".lower())
+
+    def test(self):
+        self.prove(program(level, call, **changes), call, wanted)
+        self.rows.update([name] if wanted else [])
+
+    assert not hasattr(TestWrong, name), name
+    setattr(TestWrong, name, test)
+
+
+for row in [*WRONG, *RIGHT]:
+    _add(*row)
