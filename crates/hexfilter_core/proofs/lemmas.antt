@@ -1,4 +1,5 @@
 pub mod Arguments
+pub mod Colons
 pub mod Encoding
 pub mod Errors
 pub mod GroupBreaks

@@ -82,7 +82,8 @@ pub record FirstInvalid (r : Reading) (x y : List ℕ) (c i : ℕ) (place : Opti
 -- the error of an input of which x was read, before which the text decodes to y: an odd number of digits, at the
 -- end, or the first invalid character
 abbrev pub HasError : Reading → Option (List ℕ) → List ℕ → List ℕ → FromHexError → Option Place → Type 0
-HasError r left x y OddLength place = (place ≡ None) × IsAtEnd left × IsOdd (length (text_of r x)) × SpellsPairs (text_of r x) y
+HasError r left x y OddLength place =
+    (place ≡ None) × IsAtEnd left × IsOdd (length (text_of r x)) × SpellsPairs (text_of r x) y
 HasError r left x y InvalidStringLength place = ⊥
 HasError r left x y (InvalidHexCharacter c i) place = FirstInvalid r x y c i place
 HasError r left x y NoMemory place = ⊥

@@ -44,7 +44,8 @@ find key (row ∷ rows) = if list_any (λ k. bytes_eq key k) row.0 then Ok row.1
 
 -- a value: the number that decimal digits write, or an ASCII character that is neither a digit nor a newline
 abbrev pub number : List ℕ → Result ℕ Fault
-number v = if nat_lt 0 (length v) && all_ascii_digits v && nat_lt (digits_value 10 v) (2 ^ 64) then Ok (digits_value 10 v) else Err InvalidNumber
+number v = if nat_lt 0 (length v) && all_ascii_digits v && nat_lt (digits_value 10 v) (2 ^ 64) then Ok
+    (digits_value 10 v) else Err InvalidNumber
 
 unfoldable pub is_separator : ℕ → Bool
 is_separator b = nat_lt b 128 && not (b == 10) && not (is_ascii_hexdigit b)
@@ -66,7 +67,8 @@ with_value (Some Separator) o v = Err InvalidSeparator
 unfoldable pub with_letters : Options → List ℕ → Result Options Fault
 with_letters o [] = Ok o
 with_letters o (c ∷ t) =
-    and_then (find (c ∷ []) (table o)) (λ p. if is_some p.value && nat_lt 0 (length t) then with_value p.value p t else with_letters p t)
+    and_then (find (c ∷ []) (table o))
+    (λ p. if is_some p.value && nat_lt 0 (length t) then with_value p.value p t else with_letters p t)
 
 -- letters after a dash, a name after two, which may have a value after an equals sign, or else a file
 abbrev pub dashed : Options → Result Options Fault → List ℕ → Result Options Fault
@@ -140,7 +142,9 @@ flag wanted name = if wanted then name ∷ [] else []
 -- those of a mode, and then the words of its groups
 abbrev pub written : Mode → List (List ℕ) → List (List ℕ)
 written (Encode prefix upper groups) words = flag prefix (codes "--prefix") ++ (flag upper (codes "--upper") ++ words)
-written (Decode r) words = (if r.is_check then codes "--check" else codes "--decode") ∷ flag r.ignore_whitespace (codes "--ignore-whitespace") ++ words
+written (Decode r) words =
+    (if r.is_check then codes "--check" else codes "--decode") ∷ flag r.ignore_whitespace
+    (codes "--ignore-whitespace") ++ words
 
 abbrev pub WritesGroups : Groups → List (List ℕ) → Type 0
 WritesGroups g words =
@@ -152,5 +156,6 @@ WritesGroups g words =
 -- the separator
 abbrev pub Writes : Mode → List (List ℕ) → Type 0
 Writes (Encode prefix upper g) words =
-    ((v : List ℕ) × (number v ≡ Ok g.size) × (g.separator ≡ 10) × (words ≡ codes "--wrap" ∷ v ∷ [])) ⊎ WritesGroups g words
+    ((v : List ℕ) × (number v ≡ Ok g.size) × (g.separator ≡ 10) × (words ≡ codes "--wrap" ∷ v ∷ [])) ⊎ WritesGroups g
+    words
 Writes (Decode r) words = WritesGroups r.groups words

@@ -8,7 +8,8 @@ use Rattle.hexfilter_core.specs.declared.place.Place.{Place}
 unfoldable pub place_after : Place → List ℕ → Place
 place_after p [] = p
 place_after p (b ∷ t) =
-    place_after (record { line = if b == 10 then p.line + 1 else p.line; column = if b == 10 then 1 else p.column + 1 }) t
+    place_after (record { line = if b == 10 then p.line + 1 else p.line; column = if b == 10 then 1 else p.column + 1 })
+    t
 
 -- the place after the input x
 abbrev pub after : List ℕ → Place

@@ -40,7 +40,8 @@ pub record HasDecoded (r : Reading) (d : InputDecoder) (x z : List ℕ) : Type 0
 
 -- the encoder has read the bytes x and has written z: what is left is the text of more bytes
 pub record HasEncoded (prefix upper : Bool) (g : Groups) (e : Encoder) (x z : List ℕ) : Type 0 where
-  pub left : (more : List ℕ) → encoded prefix upper g (x ++ more) ≡ z ++ laid_out g e.column (full_text e.prefix upper more)
+  pub left : (more : List ℕ)
+      → encoded prefix upper g (x ++ more) ≡ z ++ laid_out g e.column (full_text e.prefix upper more)
   pub fits : e.column ≤ g.size
 
 -- in this mode, x was read and z was made

@@ -13,7 +13,8 @@ abbrev pub RunsToEnd : Mode → Option (List ℕ) → Option (List ℕ) → Opti
 RunsToEnd m had left old new = (x : List ℕ) × (y : List ℕ) × ReadsAll had left x × Makes m x y × Appends old new y
 
 -- the mode fails with the error e of what is read, and all before it is written
-abbrev pub RunsToError : Mode → Option (List ℕ) → Option (List ℕ) → Option (List ℕ) → Option (List ℕ) → FromHexError → Option Place → Type 0
+abbrev pub RunsToError : Mode → Option (List ℕ) → Option (List ℕ) → Option (List ℕ) → Option (List ℕ) → FromHexError
+    → Option Place → Type 0
 RunsToError m had left old new e place =
     (x : List ℕ) × (y : List ℕ) × Consumes had left x × FailsWith m left x y e place × Appends old new y
 

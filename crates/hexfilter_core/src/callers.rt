@@ -13,6 +13,7 @@ ghost use Rattle.const_hex.specs.Texts.{AllDigits, Spells, full_text};
 ghost use Rattle.const_hex.specs.declared.error.FromHexError.{FromHexError};
 ghost use Rattle.const_hex.specs.declared.error.FromHexError.TheVariants.{InvalidHexCharacter, InvalidStringLength, NoMemory, OddLength};
 ghost use Rattle.hexfilter_core.specs.Groups.{mirror};
+ghost use Rattle.hexfilter_core.specs.Pairs.{ArePairs, HasColons, without_thirds};
 ghost use Rattle.hexfilter_core.specs.Options.{number};
 ghost use Rattle.hexfilter_core.specs.declared.mode.Mode.TheVariants.{Decode};
 ghost use Rattle.hexfilter_core.specs.declared.options.Request.TheVariants.{Run};
@@ -36,7 +37,8 @@ const PLAIN: Groups = Groups {
 /// Writes the bytes that a text decodes to.
 fn decode<R: Read, W: Write>(input: &mut R, output: &mut W) -> Result<(), RunError>
     ensures ok { OnOk result ((x : List ℕ) × (y : List ℕ) × Consumes (R.remaining input.old) (R.remaining input.new) x
-        × IsAtEnd (R.remaining input.new) × Reads x (Ok y) × Appends (W.contents output.old) (W.contents output.new) y) }
+        × IsAtEnd (R.remaining input.new) × Reads x (Ok y)
+        × Appends (W.contents output.old) (W.contents output.new) y) }
     ensures odd { (place : Option Place) → result ≡ Err (Text OddLength place) → (place ≡ None)
         × ((x : List ℕ) × (y : List ℕ) × Consumes (R.remaining input.old) (R.remaining input.new) x
         × IsAtEnd (R.remaining input.new) × IsOdd (length x) × AllDigits (body_of x)
@@ -52,7 +54,8 @@ fn decode<R: Read, W: Write>(input: &mut R, output: &mut W) -> Result<(), RunErr
         × Appends (W.contents output.old) (W.contents output.new) y) }
     ensures others { (e : FromHexError) (place : Option Place) → result ≡ Err (Text e place)
         → (e ≢ InvalidStringLength) × (e ≢ NoMemory) }
-    ensures begun { OnErr result ((x : List ℕ) × (y : List ℕ) × Consumes (R.remaining input.old) (R.remaining input.new) x
+    ensures begun { OnErr result ((x : List ℕ) × (y : List ℕ)
+        × Consumes (R.remaining input.old) (R.remaining input.new) x
         × Spells (take (2 * length y) (body_of x)) y × Appends (W.contents output.old) (W.contents output.new) y) }
     ensures retried { (e : Error) → (result ≡ Err (Read e)) ⊎ (result ≡ Err (Write e)) → error_kind e ≢ Interrupted }
 {
@@ -98,6 +101,32 @@ fn decode_lines<R: Read, W: Write>(input: &mut R, output: &mut W) -> Result<(), 
         is_check: false,
         ignore_whitespace: true,
         groups: PLAIN,
+    };
+    run(Mode::Decode(reading), input, output)
+}
+
+/// Writes the bytes that pairs of digits with a colon between two of them decode to. An error names the line and the
+/// column of the first character that is no digit, or stands where a colon has to stand.
+fn decode_pairs<R: Read, W: Write>(input: &mut R, output: &mut W) -> Result<(), RunError>
+    ensures ok { OnOk result ((x : List ℕ) × (y : List ℕ) × Consumes (R.remaining input.old) (R.remaining input.new) x
+        × IsAtEnd (R.remaining input.new) × HasColons x × Reads (without_thirds x) (Ok y)
+        × Appends (W.contents output.old) (W.contents output.new) y) }
+    ensures invalid { (c i : ℕ) (place : Option Place) → result ≡ Err (Text (InvalidHexCharacter c i) place)
+        → (p : Place) × (lines : List ℕ) × (line : List ℕ) × (rest : List ℕ) × (place ≡ Some p)
+        × Consumes (R.remaining input.old) (R.remaining input.new) ((lines ++ line) ++ c ∷ rest)
+        × (i ≡ counted (length (lines ++ line))) × ArePairs (lines ++ line) × (ArePairs ((lines ++ line) ++ c ∷ []) → ⊥)
+        × (length (lines ++ line) < 2 ^ 64 - 1
+        → (p.line ≡ 1 + count_by (λ b. b == 10) (lines ++ line)) × (p.column ≡ 1 + length line)
+        × All (λ b. b ≢ 10) line × ((lines ≡ []) ⊎ ((l : List ℕ) × (lines ≡ l ++ 10 ∷ [])))) }
+{
+    let groups = Groups {
+        size: 2,
+        separator: b':',
+    };
+    let reading = Reading {
+        is_check: false,
+        ignore_whitespace: false,
+        groups,
     };
     run(Mode::Decode(reading), input, output)
 }

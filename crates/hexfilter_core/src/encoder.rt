@@ -41,9 +41,11 @@ impl Encoder {
     ) -> usize
         requires text { 2 * length chunk.now + 2 ≤ length text.old }
         requires room { 4 * length chunk.now + 5 ≤ length output.old }
-        ensures more { (prefix : Bool) (x y : List ℕ) → 0 < length chunk.now → HasEncoded prefix upper groups self.old x y
+        ensures more { (prefix : Bool) (x y : List ℕ) → 0 < length chunk.now
+            → HasEncoded prefix upper groups self.old x y
             → HasEncoded prefix upper groups self.new (x ++ chunk.now) (y ++ take result output.new) }
-        ensures end { (prefix : Bool) (x y : List ℕ) → length chunk.now ≡ 0 → HasEncoded prefix upper groups self.old x y
+        ensures end { (prefix : Bool) (x y : List ℕ) → length chunk.now ≡ 0
+            → HasEncoded prefix upper groups self.old x y
             → encoded prefix upper groups x ≡ y ++ take result output.new }
         ensures within { result ≤ length output.new }
         ensures lengths { (length text.new ≡ length text.old) × (length output.new ≡ length output.old) }

@@ -1,41 +1,8 @@
-//! What the documentation and the tests of the crate `hex` show, with the results that they name.
+//! What only this package decides, with the results that the documentation and the tests of the crate `hex` name.
 #![cfg(feature = "std")]
 
 use hex::FromHexError::{InvalidHexCharacter, InvalidStringLength, OddLength};
-use hex::{FromHex, ToHex};
-
-#[test]
-fn encoding() {
-    assert_eq!(hex::encode("Hello world!"), "48656c6c6f20776f726c6421");
-    assert_eq!(hex::encode(vec![1, 2, 3, 15, 16]), "0102030f10");
-    assert_eq!(hex::encode_upper("Hello world!"), "48656C6C6F20776F726C6421");
-    assert_eq!(hex::encode_upper(vec![1, 2, 3, 15, 16]), "0102030F10");
-    assert_eq!("Hello world!".encode_hex::<String>(), "48656c6c6f20776f726c6421");
-    assert_eq!([66, 255].encode_hex_upper::<String>(), "42FF");
-
-    let mut output = [0; 8];
-    assert_eq!(hex::encode_to_slice(b"kiwi", &mut output), Ok(()));
-    assert_eq!(&output, b"6b697769");
-    let mut output = [0; 5];
-    let encoded = hex::encode_to_slice(b"kiwi", &mut output);
-    assert_eq!(encoded, Err(InvalidStringLength));
-}
-
-#[test]
-fn decoding() {
-    let bytes = hex::decode("48656c6c6f20776f726c6421");
-    assert_eq!(bytes, Ok("Hello world!".to_owned().into_bytes()));
-    assert_eq!(hex::decode("123"), Err(OddLength));
-    assert!(hex::decode("foo").is_err());
-
-    let mut bytes = [0; 4];
-    assert_eq!(hex::decode_to_slice("6b697769", &mut bytes as &mut [u8]), Ok(()));
-    assert_eq!(&bytes, b"kiwi");
-    assert_eq!(hex::decode_to_slice("6", &mut bytes), Err(OddLength));
-    let mut bytes = [0; 4];
-    let decoded = hex::decode_to_slice("6b69776973", &mut bytes);
-    assert_eq!(decoded, Err(InvalidStringLength));
-}
+use hex::FromHex;
 
 /// No line of these names the type of the elements.
 #[test]

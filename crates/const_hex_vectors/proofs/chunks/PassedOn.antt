@@ -37,17 +37,21 @@ module _ (n : ℕ) {M : Type 1} (𝓤 : Ura M) (𝓛 : Logic 𝓤) (𝓜 : Model
       let W = walk_of 𝓛 (Chunks n) hs any in
       proved 𝓛 (Chunks n) hs any 𝓜 𝓡 (Goes-dropped 𝓛 0 (Pair n) yes (λ κs x w. refl), tt)
       self (code_of called) unfolded
-      (λ κs. (pair_vals n, tt)) (λ κs. (Array-Tells (Lanes n) (lanes_vals n) (lanes_Tells n) 2, tt)) (λ κs qs bounds a _ are.
+      (λ κs. (pair_vals n, tt)) (λ κs. (Array-Tells (Lanes n) (lanes_vals n) (lanes_Tells n) 2, tt))
+      (λ κs qs bounds a _ are.
       let text = concat a.0 in
       let G = triple_of 𝓛 (Chunks n).signature (closing 𝓛 (Chunks n) decoded) in
       let z : G.Ghost = ((κs, qs, bounds, a, (pair_vals n a.0, tt)), tt) in
       let y : W.Ghost = ((κs, qs, bounds, a, (pair_vals n a.0, tt)), tt) in
       qed 𝓛 (raw (G.pre z) ∷ []) ∵ enter ! _ _ _ _ _ $
-      alloc_all ! (λ l. pass_all ! refl ((Array-Lawful 𝓛 (Lanes n) (Simd-Lawful 𝓛 u8 (uint_Lawful 𝓛 w8) n) 2).typed a.0 _ are.0) $
+      alloc_all ! (λ l.
+      pass_all ! refl ((Array-Lawful 𝓛 (Lanes n) (Simd-Lawful 𝓛 u8 (uint_Lawful 𝓛 w8) n) 2).typed a.0 _ are.0) $
       calls_at ! (framed 𝓤 𝓛.H 𝓜 (tables 𝓤 𝓛.H 𝓜 𝓡 𝓡.env)) G met z
       (and_then ! (get ! refl) (no_more !)) (λ v.
       use1 𝓛 (later (some (λ (r : Option (List ℕ)). (‵ ftrue ⊛ ‵ ((Answer n).own_val r (v ∷ []))) ⊛
-      some (λ (ws : Unit {0} × Unit {0}). ‵ (lasts (Chunks n) κs a ws) ⊛ (raw (fact 𝓤 (NoneClause text r)) ⊛ raw (fact 𝓤 (SpellsClause text r))))))) (id⊢ 𝓤 _) $
+      some (λ (ws : Unit {0} × Unit {0}).
+      ‵ (lasts (Chunks n) κs a ws) ⊛ (raw (fact 𝓤 (NoneClause text r)) ⊛ raw (fact 𝓤 (SpellsClause text r)))))))
+      (id⊢ 𝓤 _) $
       await ! tt $ pick ! (λ r. split ! $ split ! $ drop ! $ peeks ! (Answer n) _ (shows 𝓛 (Answer n)) r (v ∷ []) (λ is.
       lands_as ! refl refl ((Answer-Lawful n 𝓛).typed r (v ∷ []) is).0 $
       returns ! (look_at ! 0 refl) $ free_all ! refl $ keep ! (0 ∷ []) $

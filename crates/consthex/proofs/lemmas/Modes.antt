@@ -15,6 +15,7 @@ failed_text m x e h = grind arith
 
 -- a mode that reads a text fails on an odd one for its length
 pub odd_text : {V : Type 0} (items : V → List ℕ) (m : Mode) (x : List ℕ) (r : Result V RunError)
-    → IfOk r (λ v. Answer m x (Ok (items v))) → IfErr r (λ e. e ≢ NoMemory → Answer m x (Err e)) → (r ≡ Err NoMemory → TakesMemory m x)
+    → IfOk r (λ v. Answer m x (Ok (items v))) → IfErr r (λ e. e ≢ NoMemory → Answer m x (Err e))
+    → (r ≡ Err NoMemory → TakesMemory m x)
     → (m ≡ Decode) ⊎ (m ≡ Check) → length x ≤ limit → IsOdd (length (without_newline x)) → r ≡ Err (Text OddLength)
 odd_text items m x r ok err memory reads short odd = grind arith

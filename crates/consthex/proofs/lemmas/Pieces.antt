@@ -22,4 +22,5 @@ read_step o a b held xs piece count n len inside within started p q =
     let rest = drop (length (put_mid count (length xs - count) xs piece)) held in
     let front = length-take-le count xs started in
     let two = take_two (take count xs) piece (after ++ rest) n inside in
-    rw (take-take (count + n) len _ within, append_assoc, append_assoc) (rw (rw front at two) (Consumes-trans o a b (take count xs) (take n piece) p q))
+    rw (take-take (count + n) len _ within, append_assoc, append_assoc)
+    (rw (rw front at two) (Consumes-trans o a b (take count xs) (take n piece) p q))

@@ -1,6 +1,6 @@
 //! The whole program, from its arguments to its exit status and its line on standard error.
 
-use crate::mode::{Mode, USAGE, mode_of};
+use crate::mode::USAGE;
 use crate::process::program;
 use const_hex_vectors::{Endless, Fault, Source, Target, Testing, Text, same, same_bytes};
 use std::cell::Cell;
@@ -195,42 +195,6 @@ fn statuses_of_failed_writes(rt: HostRuntime) {
         let mut output = Target::new(rt.alloc(), 1, fault);
         ends(&rt, host, &mut b"kiwi".as_slice(), &mut output, line);
     }
-}
-
-#[test]
-fn six_words_name_a_mode(rt: HostRuntime) {
-    let rows = [
-        ("encode", Mode::Encode),
-        ("encode-upper", Mode::EncodeUpper),
-        ("encode-prefixed", Mode::EncodePrefixed),
-        ("encode-upper-prefixed", Mode::EncodeUpperPrefixed),
-        ("decode", Mode::Decode),
-        ("check", Mode::Check),
-    ];
-    for (word, mode) in rows {
-        name(&rt, &[word], Some(mode));
-        name(&rt, &[word, word], None);
-    }
-}
-
-#[test]
-fn other_words_name_none(rt: HostRuntime) {
-    for word in "|ENCODE|Decode|encode |encodes|--check|upper".split('|') {
-        name(&rt, &[word], None);
-    }
-    name(&rt, &[], None);
-    name(&rt, &["encode", "-upper"], None)
-}
-
-/// These arguments name that mode, or none.
-fn name(rt: &impl Testing, arguments: &[&str], mode: Option<Mode>) {
-    let mut strings = Vec::new(rt.alloc());
-    for word in arguments {
-        strings
-            .push(word.to_string(rt.alloc()).expect(rt, "memory"))
-            .expect(rt, "memory");
-    }
-    same!(rt, "mode_of", arguments; mode_of(&strings), mode);
 }
 
 #[test]

@@ -1,14 +1,11 @@
-//! Runs of the program: worked inputs, rejected texts, the limit, and devices that fail.
+//! Runs of the program: worked inputs, messages, the limit, and devices that fail.
 
-use crate::answers::answer;
 use crate::error::RunError;
 use crate::mode::Mode;
 use crate::runs::run;
-use const_hex::FromHexError;
-use const_hex_vectors::{
-    Endless, Fault, Source, Target, Testing, Text, same, same_bytes, same_read,
-};
-use std::alloc::Global;
+use const_hex::FromHexError::OddLength;
+use const_hex_vectors::texts::invalid;
+use const_hex_vectors::{Endless, Fault, Source, Target, Testing, Text, same, same_bytes};
 use std::io::{self, ErrorKind, Read};
 
 /// A mode, an input, and the result.
@@ -36,101 +33,39 @@ const ANSWERS: [Answered<'_>; 19] = [
     (Mode::Check, b"\n", b"ok\n"),
 ];
 
-/// What a run with ample memory writes.
-fn written(alloc: Global, mode: Mode, input: &[u8]) -> Result<Vec<u8>, RunError> {
-    let mut input = input;
-    let mut output = Vec::new(alloc);
-    run(alloc, mode, &mut input, &mut output)?;
-    Ok(output)
-}
-
-#[test]
-fn answers_each_mode(rt: HostRuntime) {
-    for (mode, input, want) in ANSWERS {
-        answers(&rt, (mode, input), Ok(want));
-    }
-}
-
-/// A mode returns this for bytes in memory, and so does a run.
-fn answers(rt: &impl Testing, (mode, input): (Mode, &[u8]), want: Result<&[u8], RunError>) {
-    let row = (mode, Text(input));
-    same_read!(rt, "answer", row; answer(rt.alloc(), mode, input), want);
-    same_read!(rt, "run", row; written(rt.alloc(), mode, input), want);
-}
-
-#[test]
-fn names_oddness(rt: HostRuntime) {
-    let rows: [(Mode, &[u8]); 5] = [
-        (Mode::Decode, b"0x1\n"),
-        (Mode::Check, b"0x1\n"),
-        (Mode::Decode, b"6b\n\n"),
-        (Mode::Decode, b"123"),
-        (Mode::Check, b"123\n"),
-    ];
-    for row in rows {
-        refuses(&rt, row, FromHexError::OddLength, "odd number of digits");
-    }
-}
-
-#[test]
-fn names_the_first_bad_byte(rt: HostRuntime) {
-    let rows: [(Mode, &[u8], char, usize, &str); 7] = [
-        (Mode::Decode, b"zz", 'z', 0, "'z' at position 0"),
-        (Mode::Check, b"zz", 'z', 0, "'z' at position 0"),
-        (Mode::Decode, b"0xzz\n", 'z', 2, "'z' at position 2"),
-        (Mode::Check, b"0xzz\n", 'z', 2, "'z' at position 2"),
-        (Mode::Decode, b"6b\r\n6b", '\r', 2, "'\\r' at position 2"),
-        (Mode::Decode, b"6b\n\n\n", '\n', 2, "'\\n' at position 2"),
-        (Mode::Check, b"6b\xff0", '\u{ff}', 2, "'ÿ' at position 2"),
-    ];
-    for (mode, input, c, index, named) in rows {
-        let error = FromHexError::InvalidHexCharacter { c, index };
-        let line = ["invalid character ", named]
-            .concat(rt.alloc())
-            .expect(&rt, "memory");
-        refuses(&rt, (mode, input), error, &line);
-    }
-}
-
-/// An input fails with that error, which prints that line and has the status 1.
-fn refuses(rt: &impl Testing, row: (Mode, &[u8]), error: FromHexError, line: &str) {
-    answers(rt, row, Err(RunError::Text(error)));
-    prints(rt, RunError::Text(error), 1, line);
-}
-
-/// An error has that status, and prints that line.
-fn prints(rt: &impl Testing, error: RunError, status: u8, line: &str) {
-    same!(rt, "status", error; error.status(), status);
-    let text = error.to_string(rt.alloc()).expect(rt, "memory");
-    same_bytes!(rt, "message", line; text, line);
-}
-
 #[test]
 fn prints_each_error(rt: HostRuntime) {
     let rows = [
+        (RunError::Text(OddLength), 1, "odd number of digits"),
+        (
+            RunError::Text(invalid(b'z', 0)),
+            1,
+            "invalid character 'z' at position 0",
+        ),
+        (
+            RunError::Text(invalid(b'\r', 2)),
+            1,
+            "invalid character '\\r' at position 2",
+        ),
+        (
+            RunError::Text(invalid(b'\n', 2)),
+            1,
+            "invalid character '\\n' at position 2",
+        ),
+        (
+            RunError::Text(invalid(b'\xff', 2)),
+            1,
+            "invalid character 'ÿ' at position 2",
+        ),
         (RunError::ReadFailed, 3, "read failed"),
         (RunError::WriteFailed, 3, "write failed"),
         (RunError::TooLong, 3, "input too long"),
         (RunError::NoMemory, 4, "out of memory"),
     ];
     for (error, status, line) in rows {
-        prints(&rt, error, status, line);
-    }
-}
-
-// The bytes 0 to 64.
-const TEXT: &str = "000102030405060708090a0b0c0d0e0f101112131415161718191a1b1c1d1e1f\
-                    202122232425262728292a2b2c2d2e2f303132333435363738393a3b3c3d3e3f40";
-
-#[test]
-fn handles_lengths_round_the_lanes(rt: HostRuntime) {
-    // The bytes below `count` are written as the front of `TEXT`, and read from it.
-    for count in [15u8, 16, 17, 31, 32, 33, 47, 48, 49, 63, 64, 65] {
-        let bytes: Vec<u8> = (0..count).collect(rt.alloc()).expect(&rt, "memory");
-        let digits = TEXT.get(..2 * usize::from(count)).unwrap_or("");
-        let text = [digits, "\n"].concat(rt.alloc()).expect(&rt, "memory");
-        answers(&rt, (Mode::Encode, &bytes), Ok(text.as_bytes()));
-        answers(&rt, (Mode::Decode, text.as_bytes()), Ok(&bytes));
+        same!(&rt, "status", error; error.status(), status);
+        let text = error.to_string(rt.alloc()).expect(&rt, "memory");
+        same_bytes!(&rt, "message", line; text, line);
     }
 }
 
@@ -184,9 +119,9 @@ fn stops_an_endless_reader(rt: HostRuntime) {
     same!(&rt; (output.writes, output.flushes), (0, 0));
 }
 
-// A write that fails or accepts nothing, at each call, and a flush that fails.
+// Each answer; then a write that fails or accepts nothing, at each call, and a flush that fails.
 #[test]
-fn names_a_failed_write(rt: HostRuntime) {
+fn answers_and_names_a_failed_write(rt: HostRuntime) {
     for row in ANSWERS {
         writes(&rt, row, Fault::Nothing);
         for kind in KINDS {

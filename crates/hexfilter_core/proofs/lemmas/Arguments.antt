@@ -29,31 +29,40 @@ tested true n v m (Err e) h = grind (arith, nat_tests)
 tested false n v m (Err e) h = grind (arith, nat_tests)
 
 -- what `parse` makes of a text that begins with no plus sign
-pub parsed : {E : Type 0} (v : List ℕ) (r : Result ℕ E) → ParsesUnsigned 64 10 v r → (slice_index v 0 == 43) ≡ false → number v ≡ as_number r
+pub parsed : {E : Type 0} (v : List ℕ) (r : Result ℕ E) → ParsesUnsigned 64 10 v r → (slice_index v 0 == 43) ≡ false
+    → number v ≡ as_number r
 parsed v r h plain =
     let own = numerals_by_value (λ ds. all_ascii_digits ds ≡ true) tells_all_ascii_digits in
-    tested (all_ascii_digits v) (length v) (digits_value 10 v) (2 ^ 64) r (parse_plain own 64 v r h (grind (arith, nat_tests)))
+    tested (all_ascii_digits v) (length v) (digits_value 10 v) (2 ^ 64) r
+    (parse_plain own 64 v r h (grind (arith, nat_tests)))
 
 -- the first letter, and the rest
-letter : (o : Options) (t first rest : List ℕ) (found : Result Options Fault) → 0 < length t → first ≡ take 1 t → rest ≡ drop 1 t → found ≡ find first (table o)
-    → with_letters o t ≡ and_then found (λ p. if is_some p.value && nat_lt 0 (length rest) then with_value p.value p rest else with_letters p rest)
+letter : (o : Options) (t first rest : List ℕ) (found : Result Options Fault) → 0 < length t → first ≡ take 1 t
+    → rest ≡ drop 1 t → found ≡ find first (table o)
+    → with_letters o t ≡ and_then found
+    (λ p. if is_some p.value && nat_lt 0 (length rest) then with_value p.value p rest else with_letters p rest)
 unfolding with_letters
 letter o [] first rest found h front back is = absurd (omega arith)
 letter o (c ∷ t) first rest found h front back is = rw (is, front, back) refl
 
-pub letter_read : (o p : Options) (t first rest : List ℕ) (b : Bool) → 0 < length t → first ≡ take 1 t → rest ≡ drop 1 t → Ok p ≡ find first (table o)
-    → (is_some p.value && nat_lt 0 (length rest)) ≡ b → with_letters o t ≡ (if b then with_value p.value p rest else with_letters p rest)
+pub letter_read : (o p : Options) (t first rest : List ℕ) (b : Bool) → 0 < length t → first ≡ take 1 t → rest ≡ drop 1 t
+    → Ok p ≡ find first (table o)
+    → (is_some p.value && nat_lt 0 (length rest)) ≡ b
+    → with_letters o t ≡ (if b then with_value p.value p rest else with_letters p rest)
 letter_read o p t first rest b h front back is given =
-    letter o t first rest (Ok p) h front back is ∙ ap (λ x. if x then with_value p.value p rest else with_letters p rest) given
+    letter o t first rest (Ok p) h front back is
+    ∙ ap (λ x. if x then with_value p.value p rest else with_letters p rest) given
 
-pub letter_fails : (o : Options) (t first : List ℕ) (e : Fault) → 0 < length t → first ≡ take 1 t → Err e ≡ find first (table o) → with_letters o t ≡ Err e
+pub letter_fails : (o : Options) (t first : List ℕ) (e : Fault) → 0 < length t → first ≡ take 1 t
+    → Err e ≡ find first (table o) → with_letters o t ≡ Err e
 letter_fails o t first e h front is = letter o t first (drop 1 t) (Err e) h front refl is
 
 no_letter : (o : Options) (c : ℕ) → 128 ≤ c → find (c ∷ []) (table o) ≡ Err UnknownOption
 no_letter o c h = grind (arith, nat_tests)
 
 -- a character that is not ASCII is no letter
-pub letter_unknown : (o : Options) (t : List ℕ) → IsUtf8 t → 0 < length t → ¬ (IsCharBoundary t 1) → with_letters o t ≡ Err UnknownOption
+pub letter_unknown : (o : Options) (t : List ℕ) → IsUtf8 t → 0 < length t → ¬ (IsCharBoundary t 1)
+    → with_letters o t ≡ Err UnknownOption
 unfolding with_letters
 letter_unknown o [] utf8 h inside = absurd (omega arith)
 letter_unknown o (c ∷ t) utf8 h inside =
@@ -66,17 +75,25 @@ letters_end o [] h = refl
 letters_end o (c ∷ t) h = absurd (omega arith)
 
 -- the argument x
-pub argument_read : {X : Type 0} (bytes : X → List ℕ) (xs : List X) (i : ℕ) (o : Options) (found : Result Options Fault) (x : X) (a : List ℕ)
+pub argument_read : {X : Type 0} (bytes : X → List ℕ) (xs : List X) (i : ℕ) (o : Options) (found : Result Options Fault)
+    (x : X) (a : List ℕ)
     → i < length xs → x ≡ get_or xs i x → a ≡ bytes x → found ≡ with_argument o i a
-    → with_arguments o i (drop i (map bytes xs)) ≡ at i found (λ p. with_arguments p (i + 1) (drop (i + 1) (map bytes xs)))
+    → with_arguments o i (drop i (map bytes xs)) ≡ at i found
+    (λ p. with_arguments p (i + 1) (drop (i + 1) (map bytes xs)))
 unfolding with_arguments
 argument_read bytes xs i o found x a h here text is =
-    rw (drop_more (map bytes xs) i a (rw (length-map xs bytes) h), get_or-map bytes xs i x a h ∙ ap bytes (sym here) ∙ sym text, is) refl
+    rw (
+      drop_more (map bytes xs) i a (rw (length-map xs bytes) h),
+      get_or-map bytes xs i x a h ∙ ap bytes (sym here)
+          ∙ sym text,
+      is,
+    ) refl
 
 pub arguments_end : {X : Type 0} (bytes : X → List ℕ) (xs : List X) (i : ℕ) (o : Options) → length xs ≤ i
     → with_arguments o i (drop i (map bytes xs)) ≡ request o i
 unfolding with_arguments
-arguments_end bytes xs i o h = let all : length (map bytes xs) ≤ i = rw (length-map xs bytes) h in rw (drop_all i (map bytes xs) all) refl
+arguments_end bytes xs i o h = let all : length (map bytes xs) ≤ i =
+    rw (length-map xs bytes) h in rw (drop_all i (map bytes xs) all) refl
 
 -- ---- what is written as arguments is read back
 

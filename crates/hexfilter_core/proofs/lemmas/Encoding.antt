@@ -21,35 +21,41 @@ pub BreaksInto-plain : (g : Groups) (c : ℕ) (t : List ℕ) → g.size ≡ 0 �
 BreaksInto-plain g c t e rest = rw e refl
 
 pub BreaksInto-groups : (g : Groups) (c : ℕ) (t y : List ℕ) (d : ℕ) → g.size ≢ 0
-    → ((rest : List ℕ) → groups_from g.size g.separator c (t ++ rest) ≡ y ++ groups_from g.size g.separator d rest) → BreaksInto g c t y d
+    → ((rest : List ℕ) → groups_from g.size g.separator c (t ++ rest) ≡ y ++ groups_from g.size g.separator d rest)
+    → BreaksInto g c t y d
 BreaksInto-groups g c t y d e h rest = let at = h rest in grind (arith, at)
 
-full_text-more : (prefix up : Bool) (x more : List ℕ) → full_text prefix up (x ++ more) ≡ full_text prefix up x ++ full_text false up more
+full_text-more : (prefix up : Bool) (x more : List ℕ)
+    → full_text prefix up (x ++ more) ≡ full_text prefix up x ++ full_text false up more
 full_text-more prefix up x more =
     rw (hex_text-append up x more) (sym (append_assoc (prefix_of prefix) (hex_text up x) (hex_text up more)))
 
 -- a chunk more is encoded
-pub encoded_more : (prefix up : Bool) (g : Groups) (old new : Encoder) (x y chunk z : List ℕ) → HasEncoded prefix up g old x y
+pub encoded_more : (prefix up : Bool) (g : Groups) (old new : Encoder) (x y chunk z : List ℕ)
+    → HasEncoded prefix up g old x y
     → BreaksInto g old.column (full_text old.prefix up chunk) z new.column → new.prefix ≡ false → new.column ≤ g.size
     → HasEncoded prefix up g new (x ++ chunk) (y ++ z)
 encoded_more prefix up g old new x y chunk z has breaks due fits = record {
   left = λ more.
       let rest = full_text false up more in
       rw due (ap (λ l. encoded prefix up g l) (append_assoc x chunk more) ∙ has.left (chunk ++ more)
-      ∙ ap (λ l. y ++ laid_out g old.column l) (full_text-more old.prefix up chunk more) ∙ ap (λ l. y ++ l) (breaks rest)
+      ∙ ap (λ l. y ++ laid_out g old.column l) (full_text-more old.prefix up chunk more)
+      ∙ ap (λ l. y ++ l) (breaks rest)
       ∙ sym (append_assoc y z (laid_out g new.column rest)));
   fits = fits;
 }
 
 -- nothing more follows
-encoded_end : (prefix up : Bool) (g : Groups) (e : Encoder) (x y : List ℕ) → HasEncoded prefix up g e x y → e.prefix ≡ false
+encoded_end : (prefix up : Bool) (g : Groups) (e : Encoder) (x y : List ℕ) → HasEncoded prefix up g e x y
+    → e.prefix ≡ false
     → encoded prefix up g x ≡ y ++ ended g.separator e.column
 unfolding groups_from
 encoded_end prefix up g e x y has due =
     let none : full_text false up [] ≡ [] = hex_text-nil up in
     let fits = has.fits in
     let end : laid_out g e.column [] ≡ ended g.separator e.column = grind (arith, fits) in
-    ap (λ l. encoded prefix up g l) (sym (append-nil x)) ∙ has.left [] ∙ ap (λ p. y ++ laid_out g e.column (full_text p up [])) due
+    ap (λ l. encoded prefix up g l) (sym (append-nil x)) ∙ has.left []
+    ∙ ap (λ p. y ++ laid_out g e.column (full_text p up [])) due
     ∙ ap (λ l. y ++ laid_out g e.column l) none ∙ ap (λ l. y ++ l) end
 
 pub no_bytes : (l : List ℕ) → length l ≡ 0 → l ≡ []
@@ -57,7 +63,8 @@ no_bytes [] h = refl
 no_bytes (b ∷ l) h = absurd (omega arith)
 
 -- the empty chunk is the end
-pub encoded_last : (prefix up : Bool) (g : Groups) (old new : Encoder) (x y chunk z : List ℕ) → length chunk ≡ 0 → HasEncoded prefix up g old x y
+pub encoded_last : (prefix up : Bool) (g : Groups) (old new : Encoder) (x y chunk z : List ℕ) → length chunk ≡ 0
+    → HasEncoded prefix up g old x y
     → BreaksInto g old.column (full_text old.prefix up chunk) z new.column → new.prefix ≡ false → new.column ≤ g.size
     → encoded prefix up g x ≡ y ++ (z ++ ended g.separator new.column)
 encoded_last prefix up g old new x y chunk z none has breaks due fits =

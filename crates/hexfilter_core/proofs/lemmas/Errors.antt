@@ -14,12 +14,14 @@ use Rattle.hexfilter_core.specs.declared.error.RunError.TheVariants.{Text, Read,
 use Rattle.hexfilter_core.specs.declared.mode.Mode.{Mode}
 
 -- a decoder that has room fails for a text that has not digits alone
-pub not_decoded : (t y : List ℕ) (room : ℕ) (r : Result ℕ FromHexError) → ReadsOn t y room r → r ≢ Err InvalidStringLength
+pub not_decoded : (t y : List ℕ) (room : ℕ) (r : Result ℕ FromHexError) → ReadsOn t y room r
+    → r ≢ Err InvalidStringLength
     → OnErr r (AllDigits (body_of t) → ⊥)
 not_decoded t y room (Ok n) h other = tt
 not_decoded t y room (Err OddLength) h other = λ digits. h
 not_decoded t y room (Err InvalidStringLength) h other = λ digits. other refl
-not_decoded t y room (Err (InvalidHexCharacter c i)) (fits, (n, (p, bad, is, at), counts)) other = λ digits. digits_no_bad (body_of t) p digits bad
+not_decoded t y room (Err (InvalidHexCharacter c i)) (fits, (n, (p, bad, is, at), counts)) other =
+    λ digits. digits_no_bad (body_of t) p digits bad
 not_decoded t y room (Err NoMemory) h other = λ digits. h
 
 pub not_checked : (t : List ℕ) (e : FromHexError) → ChecksOn t (Err e) → AllDigits (body_of t) → ⊥
@@ -46,7 +48,8 @@ if_some P (Some u) v is h = rw (same_some u v is) at h
 if_some P None v is h = absurd (not_some v is)
 
 -- an error of the text was not made by a signal
-pub text_not_interrupted : (m : Mode) (left : Option (List ℕ)) (x y : List ℕ) (e : RunError) → IsErrorOf m left x y e → IsNotInterrupted e
+pub text_not_interrupted : (m : Mode) (left : Option (List ℕ)) (x y : List ℕ) (e : RunError) → IsErrorOf m left x y e
+    → IsNotInterrupted e
 text_not_interrupted m left x y (Text e place) h = tt
 text_not_interrupted m left x y (Read e) h = absurd h
 text_not_interrupted m left x y (Write e) h = absurd h

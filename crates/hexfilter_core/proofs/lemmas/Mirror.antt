@@ -25,7 +25,8 @@ abbrev reads_lines : Reading
 reads_lines = record { is_check = false; ignore_whitespace = true; groups = record { size = 0; separator = 32 } }
 
 -- lines without their ends
-lines_read : (n c : ℕ) (t : List ℕ) → All (λ b. is_whitespace b ≡ false) t → text_from reads_lines 0 (groups_from n 10 c t) ≡ t
+lines_read : (n c : ℕ) (t : List ℕ) → All (λ b. is_whitespace b ≡ false) t
+    → text_from reads_lines 0 (groups_from n 10 c t) ≡ t
 unfolding groups_from text_from
 lines_read n c [] plain = grind (arith, nat_tests)
 lines_read n c (b ∷ t) plain =
@@ -36,12 +37,14 @@ lines_read n c (b ∷ t) plain =
 
 -- groups without their separators
 groups_read : (n s k : ℕ) (t : List ℕ) → 0 < n → k ≤ n → s ≢ 10
-    → text_from (record { is_check = false; ignore_whitespace = false; groups = record { size = n; separator = s } }) k (groups_from n s k t) ≡ t
+    → text_from (record { is_check = false; ignore_whitespace = false; groups = record { size = n; separator = s } }) k
+    (groups_from n s k t) ≡ t
 unfolding groups_from text_from
 groups_read n s k [] some fits other = grind (arith, nat_tests, other)
 groups_read n s k (b ∷ t) some fits other =
     let first = groups_read n s 1 t some (omega (arith, some)) other in
-    let more = λ (h : k < n). groups_read n s (k + 1) t some (omega (arith, h)) other in grind (arith, nat_tests, some, fits, other, first, more)
+    let more = λ (h : k < n).
+    groups_read n s (k + 1) t some (omega (arith, h)) other in grind (arith, nat_tests, some, fits, other, first, more)
 
 digit_plain : (b : ℕ) → IsDigit b → is_whitespace b ≡ false
 digit_plain b h = grind (arith, nat_tests, h)
@@ -49,8 +52,10 @@ digit_plain b h = grind (arith, nat_tests, h)
 zero_digit : (c : ℕ) → c ≡ 48 → IsDigit c
 zero_digit c e = rw e refl
 
-with_prefix : (prefix : Bool) (t : List ℕ) → All (λ b. is_whitespace b ≡ false) t → All (λ b. is_whitespace b ≡ false) (prefix_of prefix ++ t)
-with_prefix true t h = All-cons (λ b. is_whitespace b ≡ false) 48 (120 ∷ t) refl (All-cons (λ b. is_whitespace b ≡ false) 120 t refl h)
+with_prefix : (prefix : Bool) (t : List ℕ) → All (λ b. is_whitespace b ≡ false) t
+    → All (λ b. is_whitespace b ≡ false) (prefix_of prefix ++ t)
+with_prefix true t h =
+    All-cons (λ b. is_whitespace b ≡ false) 48 (120 ∷ t) refl (All-cons (λ b. is_whitespace b ≡ false) 120 t refl h)
 with_prefix false t h = h
 
 nothing_left_out : (s : ℕ) → leaves_out (mirror (record { size = 0; separator = s })) ≡ false
@@ -65,12 +70,16 @@ same_bytes a b is = cc
 regroup : (a : List ℕ) (c : ℕ) (b d : List ℕ) → (a ++ c ∷ b) ++ d ≡ (a ++ c ∷ []) ++ (b ++ d)
 regroup a c b d = append_assoc a (c ∷ b) d ∙ sym (append_assoc a (c ∷ []) (b ++ d))
 
-text_plain_chars : (prefix up : Bool) (x : List ℕ) → AreBytes x → All (λ b. is_whitespace b ≡ false) (full_text prefix up x)
+text_plain_chars : (prefix up : Bool) (x : List ℕ) → AreBytes x
+    → All (λ b. is_whitespace b ≡ false) (full_text prefix up x)
 text_plain_chars prefix up x h =
-    let digits = All-weaker IsDigit (λ b. is_whitespace b ≡ false) digit_plain (hex_text up x) (Spells-digits (hex_text up x) x (Spells-hex_text up x h)) in
+    let digits =
+    All-weaker IsDigit (λ b. is_whitespace b ≡ false) digit_plain (hex_text up x)
+    (Spells-digits (hex_text up x) x (Spells-hex_text up x h)) in
     with_prefix prefix (hex_text up x) digits
 
-by_separator : (n s : ℕ) (t : List ℕ) (lines none : Bool) → (s == 10) ≡ lines → (n == 0) ≡ none → All (λ b. is_whitespace b ≡ false) t
+by_separator : (n s : ℕ) (t : List ℕ) (lines none : Bool) → (s == 10) ≡ lines → (n == 0) ≡ none
+    → All (λ b. is_whitespace b ≡ false) t
     → let g : Groups = record { size = n; separator = s } in text_of (mirror g) (laid_out g 0 t) ≡ t
 by_separator n s t lines true e f plain =
     let zero : n ≡ 0 = grind (arith, nat_tests, f) in
@@ -89,17 +98,20 @@ by_groups : (n s : ℕ) (t : List ℕ) → All (λ b. is_whitespace b ≡ false)
 by_groups n s t plain = by_separator n s t (s == 10) (n == 0) refl refl plain
 
 -- the text of what was encoded
-mirrored : (prefix up : Bool) (g : Groups) (x : List ℕ) → AreBytes x → text_of (mirror g) (encoded prefix up g x) ≡ full_text prefix up x
+mirrored : (prefix up : Bool) (g : Groups) (x : List ℕ) → AreBytes x
+    → text_of (mirror g) (encoded prefix up g x) ≡ full_text prefix up x
 mirrored prefix up g x h = by_groups g.size g.separator (full_text prefix up x) (text_plain_chars prefix up x h)
 
 even_not_odd : (n : ℕ) → IsEven n → IsOdd n → ⊥
 even_not_odd n e h = omega (arith, e, h)
 
-one_digit : (c d : ℕ) (v : List ℕ) (b : Bool) → ((c == 48) && (d == 120 || d == 88)) ≡ b → AllDigits (if b then v else c ∷ d ∷ v) → AllDigits (c ∷ [])
+one_digit : (c d : ℕ) (v : List ℕ) (b : Bool) → ((c == 48) && (d == 120 || d == 88)) ≡ b
+    → AllDigits (if b then v else c ∷ d ∷ v) → AllDigits (c ∷ [])
 one_digit c d v true e h = All-cons IsDigit c [] (zero_digit c (grind (arith, nat_tests, e))) (All-nil IsDigit)
 one_digit c d v false e h = All-cons IsDigit c [] (All-head IsDigit c (d ∷ v) h) (All-nil IsDigit)
 
-front_digits : (c d : ℕ) (u v : List ℕ) (b : Bool) → AllDigits (if b then u ++ v else c ∷ d ∷ (u ++ v)) → AllDigits (if b then u else c ∷ d ∷ u)
+front_digits : (c d : ℕ) (u v : List ℕ) (b : Bool) → AllDigits (if b then u ++ v else c ∷ d ∷ (u ++ v))
+    → AllDigits (if b then u else c ∷ d ∷ u)
 front_digits c d u v true h = ((digits_append u v).0 h).0
 front_digits c d u v false h = ((digits_append (c ∷ d ∷ u) v).0 h).0
 
@@ -114,10 +126,12 @@ module _ (prefix up : Bool) (g : Groups) (bytes : List ℕ) (are : AreBytes byte
   pub decoded_again : (x y : List ℕ) → x ≡ encoded prefix up g bytes → Makes (Decode (mirror g)) x y → y ≡ bytes
   decoded_again x y cut (found, reads, is) =
       let text = ap (text_of (mirror g)) cut ∙ mirrored prefix up g bytes are in
-      is ∙ same_bytes found bytes (one_answer _ (Ok found) (Ok bytes) reads (Reads-full_text _ prefix up bytes are text))
+      is ∙ same_bytes found bytes
+      (one_answer _ (Ok found) (Ok bytes) reads (Reads-full_text _ prefix up bytes are text))
 
   -- and never rejected
-  pub never_rejected : (x rest y : List ℕ) (e : FromHexError) (place : Option Place) → encoded prefix up g bytes ≡ x ++ rest
+  pub never_rejected : (x rest y : List ℕ) (e : FromHexError) (place : Option Place)
+      → encoded prefix up g bytes ≡ x ++ rest
       → FailsWith (Decode (mirror g)) (Some rest) x y e place → ⊥
   never_rejected x rest y OddLength place cut (found, (none, at, odd, pairs), is) =
       let whole = sym (cut ∙ ap (λ l. x ++ l) at ∙ append-nil x) in
@@ -128,8 +142,10 @@ module _ (prefix up : Bool) (g : Groups) (bytes : List ℕ) (are : AreBytes byte
       let r = mirror g in
       let front = fails.front ++ c ∷ [] in
       let more = fails.rest ++ rest in
-      let whole : encoded prefix up g bytes ≡ front ++ more = cut ∙ ap (λ l. l ++ rest) fails.cut ∙ regroup fails.front c fails.rest rest in
+      let whole : encoded prefix up g bytes ≡ front ++ more =
+      cut ∙ ap (λ l. l ++ rest) fails.cut ∙ regroup fails.front c fails.rest rest in
       let text = sym (mirrored prefix up g bytes are) ∙ ap (text_of r) whole ∙ text-append r 0 front more in
-      let digits : AllDigits (body_of (full_text prefix up bytes)) = rw (body-full_text prefix up bytes) (Spells-digits (hex_text up bytes) bytes (Spells-hex_text up bytes are)) in
+      let digits : AllDigits (body_of (full_text prefix up bytes)) =
+      rw (body-full_text prefix up bytes) (Spells-digits (hex_text up bytes) bytes (Spells-hex_text up bytes are)) in
       fails.invalid (body_front (text_of r front) _ (rw text at digits))
   never_rejected x rest y NoMemory place cut (found, fails, is) = fails

@@ -25,7 +25,8 @@ use Rattle.hexfilter_core.specs.declared.mode.Reading.{Reading}
 use Rattle.hexfilter_core.specs.declared.scanner.Scanner.{Scanner}
 use Rattle.hexfilter_core.specs.declared.stage.Stage.{Stage}
 
-pub text-append : (r : Reading) (k : ℕ) (x y : List ℕ) → text_from r k (x ++ y) ≡ text_from r k x ++ text_from r (next_from r k x) y
+pub text-append : (r : Reading) (k : ℕ) (x y : List ℕ)
+    → text_from r k (x ++ y) ≡ text_from r k x ++ text_from r (next_from r k x) y
 unfolding text_from next_from
 text-append r k [] y = refl
 text-append r k (b ∷ x) y =
@@ -53,16 +54,20 @@ unfolding next_from
 next_bound r k [] h = h
 next_bound r k (b ∷ x) h = next_bound r (next r k b) x (grind (arith, nat_tests, h))
 
-kept_one : (r : Reading) (k b : ℕ) → (0 < r.groups.size → k + 1 ≤ r.groups.size) → (r.ignore_whitespace && is_whitespace b) ≡ false
+kept_one : (r : Reading) (k b : ℕ) → (0 < r.groups.size → k + 1 ≤ r.groups.size)
+    → (r.ignore_whitespace && is_whitespace b) ≡ false
     → (kept r k b ≡ b ∷ []) × (next r k b ≡ min (k + 1) r.groups.size)
 kept_one r k b fits h = grind (arith, nat_tests, fits, h)
 
-pub kept_run : (r : Reading) (k : ℕ) (run : List ℕ) → k ≤ r.groups.size → (0 < r.groups.size → k + length run ≤ r.groups.size)
-    → All (λ b. (r.ignore_whitespace && is_whitespace b) ≡ false) run → (text_from r k run ≡ run) × (next_from r k run ≡ min (k + length run) r.groups.size)
+pub kept_run : (r : Reading) (k : ℕ) (run : List ℕ) → k ≤ r.groups.size
+    → (0 < r.groups.size → k + length run ≤ r.groups.size)
+    → All (λ b. (r.ignore_whitespace && is_whitespace b) ≡ false) run
+    → (text_from r k run ≡ run) × (next_from r k run ≡ min (k + length run) r.groups.size)
 unfolding text_from next_from
 kept_run r k [] h fits all = (refl, omega (arith, h))
 kept_run r k (b ∷ x) h fits all =
-    let one = kept_one r k b (λ some. omega (arith, fits some)) (All-head (λ b. (r.ignore_whitespace && is_whitespace b) ≡ false) b x all) in
+    let one = kept_one r k b (λ some. omega (arith, fits some))
+    (All-head (λ b. (r.ignore_whitespace && is_whitespace b) ≡ false) b x all) in
     let at = one.1 in
     let rest = kept_run r (next r k b) x (omega (arith, at)) (λ some. omega (arith, at, fits some, some))
     (All-tail (λ b. (r.ignore_whitespace && is_whitespace b) ≡ false) b x all) in
@@ -71,7 +76,8 @@ kept_run r k (b ∷ x) h fits all =
       omega (arith, goes, at, h),
     )
 
-all_kept : (r : Reading) (x : List ℕ) → leaves_out r ≡ false → All (λ b. (r.ignore_whitespace && is_whitespace b) ≡ false) x
+all_kept : (r : Reading) (x : List ℕ) → leaves_out r ≡ false
+    → All (λ b. (r.ignore_whitespace && is_whitespace b) ≡ false) x
 all_kept r x h =
     let none : r.ignore_whitespace ≡ false = grind (arith, nat_tests, h) in
     All-from_get_or (λ b. (r.ignore_whitespace && is_whitespace b) ≡ false) x 0 (λ i inside. rw none refl)
@@ -84,9 +90,11 @@ not_both b e h = cc
 
 -- an input of which nothing is left out
 pub text_plain : (r : Reading) (x : List ℕ) → leaves_out r ≡ false → text_of r x ≡ x
-text_plain r x h = let none = no_groups r h in (kept_run r 0 x (omega arith) (λ some. omega (arith, none, some)) (all_kept r x h)).0
+text_plain r x h = let none =
+    no_groups r h in (kept_run r 0 x (omega arith) (λ some. omega (arith, none, some)) (all_kept r x h)).0
 
-pub plain_added : (r : Reading) (s : Scanner) (x u : List ℕ) → leaves_out r ≡ false → HasScanned r s x → HasAdded r s x u u
+pub plain_added : (r : Reading) (s : Scanner) (x u : List ℕ) → leaves_out r ≡ false → HasScanned r s x
+    → HasAdded r s x u u
 plain_added r s x u h is = record {
   text = text_plain r (x ++ u) h ∙ ap (λ l. l ++ u) (sym (text_plain r x h));
   scanned = record {
@@ -100,11 +108,13 @@ high : (ignores : Bool) (b : ℕ) → nat_lt b 33 ≡ false → ((ignores && is_
 high true b h = (grind (arith, nat_tests, h), λ e. grind (arith, nat_tests, h, e))
 high false b h = (refl, λ e. grind (arith, nat_tests, h, e))
 
-pub high_added : (r : Reading) (s : Scanner) (column : ℕ) (x u : List ℕ) → HasScanned r s x → All (λ b. nat_lt b 33 ≡ false) u
+pub high_added : (r : Reading) (s : Scanner) (column : ℕ) (x u : List ℕ) → HasScanned r s x
+    → All (λ b. nat_lt b 33 ≡ false) u
     → (0 < r.groups.size → s.column + length u ≤ r.groups.size) → column ≡ min (s.column + length u) r.groups.size
     → HasAdded r (record { column = column; line = s.line }) x u u
 high_added r s column x u is above fits at =
-    let all = All-weaker (λ b. nat_lt b 33 ≡ false) (λ b. (r.ignore_whitespace && is_whitespace b) ≡ false) (λ b h. (high r.ignore_whitespace b h).0) u above in
+    let all = All-weaker (λ b. nat_lt b 33 ≡ false) (λ b. (r.ignore_whitespace && is_whitespace b) ≡ false)
+    (λ b h. (high r.ignore_whitespace b h).0) u above in
     let none = All-weaker (λ b. nat_lt b 33 ≡ false) (λ b. b ≢ 10) (λ b h. (high r.ignore_whitespace b h).1) u above in
     let kept = kept_run r s.column u (omega (arith, is.next, next_bound r 0 x (omega arith))) fits all in record {
       text = text-append r 0 x u ∙ ap (λ t. text_of r x ++ t) (rw is.next at kept.0);
@@ -117,20 +127,25 @@ high_added r s column x u is above fits at =
 -- ---- the parts of a chunk
 
 -- a part is put after the first a elements, and k of it are kept
-pub take_put : (a m k : ℕ) (xs ys : List ℕ) → a ≤ length xs → k ≤ length ys → take (a + k) (put_mid a m xs ys) ≡ take a xs ++ take k ys
+pub take_put : (a m k : ℕ) (xs ys : List ℕ) → a ≤ length xs → k ≤ length ys
+    → take (a + k) (put_mid a m xs ys) ≡ take a xs ++ take k ys
 take_put a m k xs ys started within =
     let front = length-take-le a xs started in
-    let both = take-append-add (take a xs) (ys ++ post_of a m xs) k ∙ ap (λ l. take a xs ++ l) (take-append-le k ys (post_of a m xs) within) in
+    let both = take-append-add (take a xs) (ys ++ post_of a m xs) k
+    ∙ ap (λ l. take a xs ++ l) (take-append-le k ys (post_of a m xs) within) in
     rw front at both
 
 pub fewer_copied : (m n : ℕ) (xs ys : List ℕ) → n ≤ m → take m ys ≡ take m xs → take n ys ≡ take n xs
 fewer_copied m n xs ys few same = sym (take-take n m ys few) ∙ ap (take n) same ∙ take-take n m xs few
 
-pub fewer_high : (m n : ℕ) (xs : List ℕ) → n ≤ m → All (λ b. nat_lt b 33 ≡ false) (take m xs) → All (λ b. nat_lt b 33 ≡ false) (take n xs)
+pub fewer_high : (m n : ℕ) (xs : List ℕ) → n ≤ m → All (λ b. nat_lt b 33 ≡ false) (take m xs)
+    → All (λ b. nat_lt b 33 ≡ false) (take n xs)
 fewer_high m n xs few high =
-    All-same (λ b. nat_lt b 33 ≡ false) _ _ (sym (take-take n m xs few)) (All-take (λ b. nat_lt b 33 ≡ false) n (take m xs) high)
+    All-same (λ b. nat_lt b 33 ≡ false) _ _ (sym (take-take n m xs few))
+    (All-take (λ b. nat_lt b 33 ≡ false) n (take m xs) high)
 
-pub rest-size : (chunk : List ℕ) (done : ℕ) → length (take (length chunk - done) (drop done chunk)) ≡ length chunk - done
+pub rest-size : (chunk : List ℕ) (done : ℕ)
+    → length (take (length chunk - done) (drop done chunk)) ≡ length chunk - done
 rest-size chunk done = omega (arith, length-take (length chunk - done) (drop done chunk), length-drop done chunk)
 
 -- n more after the first `done` of a chunk
@@ -141,22 +156,28 @@ joined x chunk done n started =
     (append_assoc x (take done chunk) (take n (drop done chunk)))
 
 -- of which the first `done` are copied, and then n more
-pub joined_copy : (m n done : ℕ) (chunk out new : List ℕ) → done ≤ 32 → 32 ≤ length chunk → 32 ≤ length out → n ≤ length new
+pub joined_copy : (m n done : ℕ) (chunk out new : List ℕ) → done ≤ 32 → 32 ≤ length chunk → 32 ≤ length out
+    → n ≤ length new
     → take 32 out ≡ take 32 chunk → take n new ≡ take n (take (length chunk - done) (drop done chunk))
     → take (done + n) (put_mid done m out new) ≡ take (done + n) chunk
 joined_copy m n done chunk out new few inside started within first next =
-    take_put done m n out new (omega arith) within ∙ ap (λ l. l ++ take n new) (fewer_copied 32 done chunk out few first)
+    take_put done m n out new (omega arith) within
+    ∙ ap (λ l. l ++ take n new) (fewer_copied 32 done chunk out few first)
     ∙ ap (λ l. take done chunk ++ l) next ∙ joined [] chunk done n (omega arith)
 
-pub joined_high : (n done : ℕ) (chunk : List ℕ) → done ≤ 32 → 32 ≤ length chunk → All (λ b. nat_lt b 33 ≡ false) (take 32 chunk)
-    → All (λ b. nat_lt b 33 ≡ false) (take n (take (length chunk - done) (drop done chunk))) → All (λ b. nat_lt b 33 ≡ false) (take (done + n) chunk)
+pub joined_high : (n done : ℕ) (chunk : List ℕ) → done ≤ 32 → 32 ≤ length chunk
+    → All (λ b. nat_lt b 33 ≡ false) (take 32 chunk)
+    → All (λ b. nat_lt b 33 ≡ false) (take n (take (length chunk - done) (drop done chunk)))
+    → All (λ b. nat_lt b 33 ≡ false) (take (done + n) chunk)
 joined_high n done chunk few inside first next =
     All-same (λ b. nat_lt b 33 ≡ false) _ _ (sym (joined [] chunk done n (omega arith)))
     (All-append (λ b. nat_lt b 33 ≡ false) _ _ (fewer_high 32 done chunk few first) next)
 
 -- one more
-pub joined_one : (x chunk : List ℕ) (done : ℕ) → done < length chunk → (x ++ take done chunk) ++ get_or chunk done 0 ∷ [] ≡ x ++ take (done + 1) chunk
-joined_one x chunk done inside = append_assoc x (take done chunk) (get_or chunk done 0 ∷ []) ∙ ap (λ l. x ++ l) (sym (take_more chunk done 0 inside))
+pub joined_one : (x chunk : List ℕ) (done : ℕ) → done < length chunk
+    → (x ++ take done chunk) ++ get_or chunk done 0 ∷ [] ≡ x ++ take (done + 1) chunk
+joined_one x chunk done inside =
+    append_assoc x (take done chunk) (get_or chunk done 0 ∷ []) ∙ ap (λ l. x ++ l) (sym (take_more chunk done 0 inside))
 
 -- `done` bytes of a chunk are read, and `end` bytes of the text put into the output
 module _ (r : Reading) (before after : Scanner) (x chunk out : List ℕ) (end done : ℕ)
@@ -172,14 +193,17 @@ module _ (r : Reading) (before after : Scanner) (x chunk out : List ℕ) (end do
 
   -- a run
   pub added_run : (m n : ℕ) (new : List ℕ) → done ≤ length chunk → end ≤ length out → n ≤ length new
-      → ((y : List ℕ) → HasScanned r before y → HasAdded r after y (take n (take (length chunk - done) (drop done chunk))) (take n new))
+      → ((y : List ℕ) → HasScanned r before y
+      → HasAdded r after y (take n (take (length chunk - done) (drop done chunk))) (take n new))
       → HasAdded r after x (take (done + n) chunk) (take (end + n) (put_mid end m out new))
   added_run m n new started within few run =
-      added _ _ _ _ (joined x chunk done n started) (take_put end m n out new within few) (run (x ++ take done chunk) so_far.scanned)
+      added _ _ _ _ (joined x chunk done n started) (take_put end m n out new within few)
+      (run (x ++ take done chunk) so_far.scanned)
 
   -- a byte
   pub added_byte : (new v : List ℕ) (k : ℕ) → done < length chunk → take k new ≡ take end out ++ v
-      → HasAdded r after (x ++ take done chunk) (get_or chunk done 0 ∷ []) v → HasAdded r after x (take (done + 1) chunk) (take k new)
+      → HasAdded r after (x ++ take done chunk) (get_or chunk done 0 ∷ []) v
+      → HasAdded r after x (take (done + 1) chunk) (take k new)
   added_byte new v k inside put next = added _ v _ _ (joined_one x chunk done inside) put next
 
 -- ---- what a text decodes to
@@ -223,7 +247,8 @@ take_written false bytes k = refl
 pub fewer_made : (m : Mode) (x y : List ℕ) (k : ℕ) → MakesBeginning m x y → MakesBeginning m x (take k y)
 fewer_made (Encode prefix upper g) x y k (left, is) =
     (drop k y ++ left, is ∙ ap (λ l. l ++ left) (sym (take-append-drop k y)) ∙ append_assoc (take k y) (drop k y) left)
-fewer_made (Decode r) x y k (bytes, spelled, is) = (take k bytes, fewer_spelled r x bytes k spelled, ap (take k) is ∙ take_written r.is_check bytes k)
+fewer_made (Decode r) x y k (bytes, spelled, is) =
+    (take k bytes, fewer_spelled r x bytes k spelled, ap (take k) is ∙ take_written r.is_check bytes k)
 
 -- what a decoder has written is a beginning, whatever follows
 module _ (r : Reading) (d : InputDecoder) (x z : List ℕ) (has : HasDecoded r d x z) where
@@ -236,7 +261,8 @@ module _ (r : Reading) (d : InputDecoder) (x z : List ℕ) (has : HasDecoded r d
 pub decoded_before : (r : Reading) (d : InputDecoder) (x chunk z : List ℕ) (k : ℕ)
     → HasDecoded r d (x ++ take k chunk) z → MakesBeginning (Decode r) (x ++ chunk) z
 decoded_before r d x chunk z k has =
-    let whole : (x ++ take k chunk) ++ drop k chunk ≡ x ++ chunk = append_assoc x (take k chunk) (drop k chunk) ∙ ap (λ l. x ++ l) (take-append-drop k chunk) in
+    let whole : (x ++ take k chunk) ++ drop k chunk ≡ x ++ chunk =
+    append_assoc x (take k chunk) (drop k chunk) ∙ ap (λ l. x ++ l) (take-append-drop k chunk) in
     rw whole at (decoded_then r d (x ++ take k chunk) z has (drop k chunk))
 
 pub so_far_made : (m : Mode) (s : Stage) (x y : List ℕ) → HasMade m s x y → MakesBeginning m x y

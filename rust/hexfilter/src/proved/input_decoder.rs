@@ -26,8 +26,8 @@ impl InputDecoder {
         }
     }
 
-    /// Decodes the next chunk into the front of the output, or ends the input, if the chunk is empty. Returns the number
-    /// of bytes there, which are all before the error, if there is one. The text is space for the chunk.
+    /// Decodes the next chunk into the front of the output, or ends the input, if the chunk is empty. Returns the
+    /// number of bytes there, which are all before the error, if there is one. The text is space for the chunk.
     pub(crate) fn decode(
         &mut self,
         reading: Reading,

@@ -53,9 +53,9 @@ pub trait Output {
 }
 
 /// Does what the arguments after the program's name ask for, with `input` and `output` as standard input and output.
-/// Returns the exit status: 0 if that succeeds, 1 if the text cannot be decoded, 2 if the arguments are not valid, and 3
-/// if a read or a write fails, or if the input is the file that standard output goes to. An error is one line on standard
-/// error, but none if the reader of standard output is gone.
+/// Returns the exit status: 0 if that succeeds, 1 if the text cannot be decoded, 2 if the arguments are not valid, and
+/// 3 if a read or a write fails, or if the input is the file that standard output goes to. An error is one line on
+/// standard error, but none if the reader of standard output is gone.
 pub fn program<R: Read, W: Write>(
     rt: &(impl Files + Eprint),
     host: &impl Output,

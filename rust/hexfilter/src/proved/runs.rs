@@ -14,8 +14,8 @@ use crate::std_shim::io::{Read, Write};
 /// Returns
 ///
 /// - [`RunError::Text`], if the text cannot be decoded: with `InvalidHexCharacter` for its first
-///   invalid character, before another chunk is read, and with `OddLength` at the end. The position counts in the input,
-///   whitespace included, from 0; `usize::MAX` stands for a position beyond it;
+///   invalid character, before another chunk is read, and with `OddLength` at the end. The position counts in the
+///   input, whitespace included, from 0; `usize::MAX` stands for a position beyond it;
 /// - [`RunError::Read`], if a read fails;
 /// - [`RunError::Write`], if a write or the flush fails, or a write takes no bytes.
 ///

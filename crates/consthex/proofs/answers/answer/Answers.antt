@@ -18,7 +18,10 @@ pub returns-clause-too_long : goal.returns-clause-too_long
 returns-clause-too_long c = (λ e. (rw e at c.answer_within_limit.ensures.err) (λ q. cc), λ h. absurd (omega arith))
 
 pub returns-clause-invalid : goal.returns-clause-invalid
-returns-clause-invalid c = λ e q. failed_text c.args.mode c.args.input.now e ((rw q at c.answer_within_limit.ensures.err) (λ z. cc)).1
+returns-clause-invalid c =
+    λ e q. failed_text c.args.mode c.args.input.now e ((rw q at c.answer_within_limit.ensures.err) (λ z. cc)).1
 
 pub returns-clause-odd : goal.returns-clause-odd
-returns-clause-odd c = odd_text (λ v. v.items) c.args.mode c.args.input.now c.answer_within_limit.result c.answer_within_limit.ensures.ok c.answer_within_limit.ensures.err c.answer_within_limit.ensures.no_memory
+returns-clause-odd c =
+    odd_text (λ v. v.items) c.args.mode c.args.input.now c.answer_within_limit.result c.answer_within_limit.ensures.ok
+    c.answer_within_limit.ensures.err c.answer_within_limit.ensures.no_memory

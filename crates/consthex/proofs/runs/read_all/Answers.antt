@@ -14,9 +14,11 @@ reads-preserved g c =
     record {
       within = omega (arith, within, c.deref_mut.ensures.len);
       bound = made.bound;
-      read = read_step _ _ _ c.make_room.new.bytes.items had c.read.new.buf c.reads.count c.in-Ok.read c.make_room.new.bytes.len inside
+      read = read_step _ _ _ c.make_room.new.bytes.items had c.read.new.buf c.reads.count c.in-Ok.read
+          c.make_room.new.bytes.len inside
           (omega (arith, within, c.deref_mut.ensures.len)) started
-          (rw (c.deref_mut.ensures.value, made.kept c.reads.invariant.within) c.reads.invariant.read) c.in-Ok.ensures.bytes.0;
+          (rw (c.deref_mut.ensures.value, made.kept c.reads.invariant.within) c.reads.invariant.read)
+          c.in-Ok.ensures.bytes.0;
     }
 
 pub make_room-requires-clause-below_limit : goal.make_room-requires-clause-below_limit

@@ -8,8 +8,11 @@ returns-in_err-answered-clause-nothing_written g c = search rules
 pub returns-clause-ok : goal.returns-clause-ok
 returns-clause-ok g c =
     let made = rw c.deref.ensures.value at c.in_ok-answered.ensures.ok in
-    on_ok_weaker c.write_all.result (λ all.
-    (c.in_ok-answered.answered.items, (c.in_ok-bytes.bytes.items, c.in_ok-bytes.ensures.ok, made), rw c.deref-2.ensures.value at all))
+    on_ok_weaker c.write_all.result (λ all. (
+      c.in_ok-answered.answered.items,
+      (c.in_ok-bytes.bytes.items, c.in_ok-bytes.ensures.ok, made),
+      rw c.deref-2.ensures.value at all,
+    ))
     c.write_all.ensures.ok
 
 pub returns-clause-write_failed : goal.returns-clause-write_failed

@@ -7,7 +7,8 @@ use Rattle.consthex.proofs.runs.write_all.Goals as goal
 pub writes-preserved : goal.writes-preserved
 writes-preserved g c = record {
   within = step_within c.args.bytes.now c.writes.done c.in-Ok.count c.writes.invariant.within c.in-Ok.ensures.bound;
-  written = write_step _ _ _ c.args.bytes.now c.writes.done c.in-Ok.count c.writes.invariant.written c.in-Ok.ensures.bytes;
+  written = write_step _ _ _ c.args.bytes.now c.writes.done c.in-Ok.count c.writes.invariant.written
+      c.in-Ok.ensures.bytes;
 }
 
 pub returns-in_default-clause-ok : goal.returns-in_default-clause-ok

@@ -13,7 +13,8 @@ pub returns-clause-ok : goal.returns-clause-ok
 returns-clause-ok g c =
     on_ok_weaker c.run.result (λ done.
     let (x, y, read, (bytes, reads, is), wrote) = done in
-    let same : Reads x (Ok bytes) = rw (text_plain plain x refl) at reads in (x, bytes, read.0, read.1, same)) c.run.ensures.ok
+    let same : Reads x (Ok bytes) = rw (text_plain plain x refl) at reads in (x, bytes, read.0, read.1, same))
+    c.run.ensures.ok
 
 pub returns-clause-odd : goal.returns-clause-odd
 returns-clause-odd g c = λ place is.

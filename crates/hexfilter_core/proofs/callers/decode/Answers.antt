@@ -14,23 +14,39 @@ pub returns-clause-ok : goal.returns-clause-ok
 returns-clause-ok g c =
     on_ok_weaker c.run.result (λ done.
     let (x, y, read, (bytes, reads, is), wrote) = done in
-    let same : Reads x (Ok bytes) = rw (text_plain plain x refl) at reads in (x, y, read.0, read.1, rw is same, wrote)) c.run.ensures.ok
+    let same : Reads x (Ok bytes) = rw (text_plain plain x refl) at reads in (x, y, read.0, read.1, rw is same, wrote))
+    c.run.ensures.ok
 
 pub returns-clause-odd : goal.returns-clause-odd
 returns-clause-odd g c = λ place is.
     let (x, y, read, (bytes, fails, same), wrote) = c.run.ensures.text OddLength place is in
     let odd : IsOdd (length x) = rw (text_plain plain x refl) at fails.2 in
-    let pairs = rw (text_plain plain x refl) at fails.3 in (fails.0, (x, y, read, fails.1, odd, pairs.0, rw same pairs.1, wrote))
+    let pairs = rw (text_plain plain x refl) at fails.3 in
+    (fails.0, (x, y, read, fails.1, odd, pairs.0, rw same pairs.1, wrote))
 
 pub returns-clause-invalid : goal.returns-clause-invalid
 returns-clause-invalid g c = λ b i place is.
     let (x, y, read, (bytes, fails, same), wrote) = c.run.ensures.text (InvalidHexCharacter b i) place is in
     let pairs = rw (text_plain plain fails.front refl) at fails.bytes in
-    let no_digit = rw (text_plain plain (fails.front ++ b ∷ []) refl) at fails.invalid in
-    (fails.stands, (fails.front, fails.rest, y, rw fails.cut at read, fails.soon, fails.position, pairs.0, no_digit, rw same pairs.1, wrote))
+    let no_digit = rw (text_plain plain (fails.front ++ b ∷ []) refl) at fails.invalid in (
+      fails.stands,
+      (
+        fails.front,
+        fails.rest,
+        y,
+        rw fails.cut at read,
+        fails.soon,
+        fails.position,
+        pairs.0,
+        no_digit,
+        rw same pairs.1,
+        wrote,
+      ),
+    )
 
 pub returns-clause-begun : goal.returns-clause-begun
 returns-clause-begun g c =
     on_err_weaker c.run.result (λ part.
     let (x, y, read, (bytes, spelled, is), wrote) = part in
-    let begun : Spells (take (2 * length bytes) (body_of x)) bytes = rw (text_plain plain x refl) at spelled in (x, y, read, rw is begun, wrote)) c.run.ensures.begun
+    let begun : Spells (take (2 * length bytes) (body_of x)) bytes =
+    rw (text_plain plain x refl) at spelled in (x, y, read, rw is begun, wrote)) c.run.ensures.begun

@@ -28,7 +28,8 @@ returns-clause-done g c = λ zero.
     let same : Reads x (Ok bytes) = rw (text_plain plain x refl) at reads in (x, y, read.0, read.1, rw is same, wrote)
 
 -- a text with an error has no bytes
-not_read : (left : Option (List ℕ)) (x bytes : List ℕ) (e : FromHexError) (place : Option Place) → HasError plain left x bytes e place
+not_read : (left : Option (List ℕ)) (x bytes : List ℕ) (e : FromHexError) (place : Option Place)
+    → HasError plain left x bytes e place
     → (y : List ℕ) → Reads x (Ok y) → ⊥
 not_read left x bytes OddLength place (none, end, odd, pairs) y (even, spelled) =
     let same : IsOdd (length x) = rw (text_plain plain x refl) at odd in omega (arith, even, same)
@@ -49,7 +50,8 @@ pub returns-clause-failed : goal.returns-clause-failed
 returns-clause-failed g c = λ three.
     let (done, invalid, failed, statuses) = c.program.ensures.input (Decode plain) None (asked _ c.requires) refl in
     let (x, y, read, (bytes, spelled, is), wrote) = failed three in
-    let begun : Spells (take (2 * length bytes) (body_of x)) bytes = rw (text_plain plain x refl) at spelled in (x, y, read, rw is begun, wrote)
+    let begun : Spells (take (2 * length bytes) (body_of x)) bytes =
+    rw (text_plain plain x refl) at spelled in (x, y, read, rw is begun, wrote)
 
 pub returns-clause-statuses : goal.returns-clause-statuses
 returns-clause-statuses g c = (c.program.ensures.input (Decode plain) None (asked _ c.requires) refl).3

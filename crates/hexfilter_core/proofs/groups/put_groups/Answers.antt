@@ -11,7 +11,9 @@ groups-preserved c =
     let text = c.args.text.now in
     let done = c.groups.done in
     let count = c.min-count.result in
-    let copied = rw (take_all (length text - done) (drop done text) (omega (arith, length-drop done text))) at c.copy_front.ensures.front in
+    let copied =
+    rw (take_all (length text - done) (drop done text) (omega (arith, length-drop done text)))
+    at c.copy_front.ensures.front in
     let put = take_put _ _ count _ c.copy_front.new.output (omega arith) (omega arith)
     ∙ ap (λ l. take c.separate-start.result.0 c.separate-start.new.output ++ l) copied in record {
       within = omega arith;

@@ -8,14 +8,17 @@ returns-in-Ok-clause-ok c = λ t z has.
     record { bytes = _; read = (c.in-Ok.ensures.ok t has.bytes has.read).1; given = rw (c.if-reading.true, given) refl }
 
 pub returns-in-Err-clause-err : goal.returns-in-Err-clause-err
-returns-in-Err-clause-err c = λ t z has room. not_checked (t ++ c.args.text.now) _ (c.in-Err.ensures.answer t has.bytes has.read)
+returns-in-Err-clause-err c =
+    λ t z has room. not_checked (t ++ c.args.text.now) _ (c.in-Err.ensures.answer t has.bytes has.read)
 
 pub returns-clause-ok : goal.returns-clause-ok
 returns-clause-ok c = λ t z has.
     let given = rw c.if-reading.false at has.given in
-    if_ok_weaker c.decode.result (λ n read. record { bytes = _; read = read; given = rw (c.if-reading.false, given) refl })
+    if_ok_weaker c.decode.result
+    (λ n read. record { bytes = _; read = read; given = rw (c.if-reading.false, given) refl })
     (c.decode.ensures.ok t has.bytes has.read)
 
 pub returns-clause-err : goal.returns-clause-err
 returns-clause-err c = λ t z has room.
-    not_decoded (t ++ c.args.text.now) has.bytes _ c.decode.result (c.decode.ensures.answer t has.bytes has.read) (c.decode.ensures.enough room)
+    not_decoded (t ++ c.args.text.now) has.bytes _ c.decode.result (c.decode.ensures.answer t has.bytes has.read)
+    (c.decode.ensures.enough room)

@@ -8,4 +8,5 @@ pub returns-clause-begun : goal.returns-clause-begun
 returns-clause-begun g c =
     let text = c.args.text.now in
     let wrote = Appends-kept _ _ _ _ c.in_ok-write_piece.ensures.ok c.flush.ensures.bytes in
-    if_err c.flush.result (length text, rw (take_all (length text) text (omega arith)) (rw c.as_bytes.ensures.value at wrote))
+    if_err c.flush.result
+    (length text, rw (take_all (length text) text (omega arith)) (rw c.as_bytes.ensures.value at wrote))

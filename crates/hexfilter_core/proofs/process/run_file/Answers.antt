@@ -7,7 +7,9 @@ returns-then-is_output g c = ends_unread c.args.mode None _ _ (c.end.ensures.err
 
 pub returns-in-Ok : goal.returns-in-Ok
 returns-in-Ok g c =
-    ends_unknown c.args.mode _ _ _ _ _ (ends c.args.mode _ _ _ _ c.run.result _ c.end-in-Ok.ensures.ok c.end-in-Ok.ensures.err c.run.ensures.ok c.run.ensures.text c.run.ensures.begun)
+    ends_unknown c.args.mode _ _ _ _ _
+    (ends c.args.mode _ _ _ _ c.run.result _ c.end-in-Ok.ensures.ok c.end-in-Ok.ensures.err c.run.ensures.ok
+    c.run.ensures.text c.run.ensures.begun)
 
 pub returns-in-Err : goal.returns-in-Err
 returns-in-Err g c = ends_unread c.args.mode None _ _ c.end-in-Err.ensures.err

@@ -9,14 +9,16 @@ use Rattle.hexfilter_core.proofs.runs.run.Goals as goal
 pub returns-in_err-count-clause-begun : goal.returns-in_err-count-clause-begun
 returns-in_err-count-clause-begun g c =
     let (x, y, has, read, wrote) = c.chunks.invariant in
-    if_err c.from_residual.result (x, y, Consumes-kept _ _ _ x read c.in_err-count.ensures.nothing_read, so_far_made c.args.mode _ x y has, wrote)
+    if_err c.from_residual.result
+    (x, y, Consumes-kept _ _ _ x read c.in_err-count.ensures.nothing_read, so_far_made c.args.mode _ x y has, wrote)
 
 pub returns-in_err-write_piece-clause-begun : goal.returns-in_err-write_piece-clause-begun
 returns-in_err-write_piece-clause-begun g c =
     let (x, y, has, read, wrote) = c.chunks.invariant in
     let piece = take c.next-end.result.0 c.next-end.new.output in
     let (n, begun) = c.in_err-write_piece.ensures.begun in
-    let fewer = rw (take-append-add y piece n) at (fewer_made c.args.mode _ (y ++ piece) (length y + n) (c.next-end.ensures.begun x y has)) in
+    let fewer = rw (take-append-add y piece n) at (fewer_made c.args.mode _ (y ++ piece) (length y + n)
+    (c.next-end.ensures.begun x y has)) in
     if_err c.from_residual-in_err-write_piece.result
     (_, _, Consumes-trans _ _ _ x _ read c.in_ok-count.ensures.bytes, fewer, Appends-trans _ _ _ y _ wrote begun)
 
@@ -29,8 +31,19 @@ returns-in-Some-clause-begun g c =
 pub chunks-preserved : goal.chunks-preserved
 chunks-preserved g c =
     let (x, y, has, read, wrote) = c.chunks.invariant in
-    let more = Appends-trans _ _ _ y _ wrote c.in_ok-write_piece.ensures.ok in
-    (_, _, c.next-end.ensures.more c.in_default.is (omega (arith, length-take c.in_ok-count.count c.read_chunk.new.buffer, c.in_ok-count.ensures.bound, c.if-count-eq0.false)) x y has, Consumes-trans _ _ _ x _ read c.in_ok-count.ensures.bytes, more)
+    let more = Appends-trans _ _ _ y _ wrote c.in_ok-write_piece.ensures.ok in (
+      _,
+      _,
+      c.next-end.ensures.more c.in_default.is
+          (omega (
+            arith,
+            length-take c.in_ok-count.count c.read_chunk.new.buffer,
+            c.in_ok-count.ensures.bound,
+            c.if-count-eq0.false,
+          )) x y has,
+      Consumes-trans _ _ _ x _ read c.in_ok-count.ensures.bytes,
+      more,
+    )
 
 pub returns-clause-begun : goal.returns-clause-begun
 returns-clause-begun g c =
@@ -41,7 +54,8 @@ returns-in-Some-clause-text g c = λ e place is.
     let (x, y, has, read, wrote) = c.chunks.invariant in
     let more = Appends-trans _ _ _ y _ wrote c.in_ok-write_piece.ensures.ok in
     let fails = c.next-end.ensures.err c.in-Some.error c.in-Some.is x y has (g.R.Read.remaining c.read_chunk.new.input)
-    (λ none. c.in_ok-count.ensures.end (omega (arith, none, length-take c.in_ok-count.count c.read_chunk.new.buffer, c.in_ok-count.ensures.bound))
+    (λ none. c.in_ok-count.ensures.end
+    (omega (arith, none, length-take c.in_ok-count.count c.read_chunk.new.buffer, c.in_ok-count.ensures.bound))
     (omega (arith, c.read_chunk.auto.buffer))) in
     (_, _, Consumes-trans _ _ _ x _ read c.in_ok-count.ensures.bytes, rw (same_value _ _ is) at fails, more)
 
@@ -50,7 +64,8 @@ returns-in-Some-clause-retried g c =
     let (x, y, has, read, wrote) = c.chunks.invariant in
     text_not_interrupted c.args.mode _ _ _ c.in-Some.error
     (c.next-end.ensures.err c.in-Some.error c.in-Some.is x y has (g.R.Read.remaining c.read_chunk.new.input)
-    (λ none. c.in_ok-count.ensures.end (omega (arith, none, length-take c.in_ok-count.count c.read_chunk.new.buffer, c.in_ok-count.ensures.bound))
+    (λ none. c.in_ok-count.ensures.end
+    (omega (arith, none, length-take c.in_ok-count.count c.read_chunk.new.buffer, c.in_ok-count.ensures.bound))
     (omega (arith, c.read_chunk.auto.buffer))))
 
 pub returns-then-count-eq0-clause-ok : goal.returns-then-count-eq0-clause-ok
@@ -59,13 +74,26 @@ returns-then-count-eq0-clause-ok g c =
     let got = c.in_ok-count.ensures in
     let all = rw (c.if-count-eq0.true, append-nil x) at (Consumes-trans _ _ _ x _ read got.bytes) in
     let more = Appends-trans _ _ _ y _ wrote c.in_ok-write_piece.ensures.ok in
-    let makes = c.next-end.ensures.end c.in_default.is (omega (arith, length-take c.in_ok-count.count c.read_chunk.new.buffer, c.if-count-eq0.true)) x y has in
-    if_ok c.flush.result
-    (x, _, (all, got.end c.if-count-eq0.true (omega (arith, c.read_chunk.auto.buffer))), makes, Appends-kept _ _ _ _ more c.flush.ensures.bytes)
+    let makes = c.next-end.ensures.end c.in_default.is
+    (omega (arith, length-take c.in_ok-count.count c.read_chunk.new.buffer, c.if-count-eq0.true)) x y has in
+    if_ok c.flush.result (
+      x,
+      _,
+      (all, got.end c.if-count-eq0.true (omega (arith, c.read_chunk.auto.buffer))),
+      makes,
+      Appends-kept _ _ _ _
+          more c.flush.ensures.bytes,
+    )
 
 pub returns-then-count-eq0-clause-begun : goal.returns-then-count-eq0-clause-begun
 returns-then-count-eq0-clause-begun g c =
     let (x, y, has, read, wrote) = c.chunks.invariant in
     let more = Appends-trans _ _ _ y _ wrote c.in_ok-write_piece.ensures.ok in
-    if_err c.flush.result
-    (_, _, Consumes-trans _ _ _ x _ read c.in_ok-count.ensures.bytes, c.next-end.ensures.begun x y has, Appends-kept _ _ _ _ more c.flush.ensures.bytes)
+    if_err c.flush.result (
+      _,
+      _,
+      Consumes-trans _ _ _ x _ read c.in_ok-count.ensures.bytes,
+      c.next-end.ensures.begun x y has,
+      Appends-kept _ _
+          _ _ more c.flush.ensures.bytes,
+    )

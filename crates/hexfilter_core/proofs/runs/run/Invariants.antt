@@ -5,5 +5,6 @@ use Rattle.hexfilter_core.proofs.runs.run.Given as goal
 
 abbrev pub invariant-chunks : goal.invariant-chunks
 invariant-chunks g l =
-    (x : List ℕ) × (y : List ℕ) × HasMade l.mode l.stage x y × Consumes (g.R.Read.remaining l.fn.input) (g.R.Read.remaining l.input) x
+    (x : List ℕ) × (y : List ℕ) × HasMade l.mode l.stage x y
+    × Consumes (g.R.Read.remaining l.fn.input) (g.R.Read.remaining l.input) x
     × Appends (g.W.Write.contents l.fn.output) (g.W.Write.contents l.output) y

@@ -7,17 +7,21 @@ use lib.Lanes.{chunk}
 use Rattle.hexfilter_core.proofs.scanner.copy_block.Goals as goal
 
 pub returns-clause-within : goal.returns-clause-within
-returns-clause-within c = omega (arith, run_in_chunk_le (λ b. nat_lt b 33) c.args.chunk.now 0 32 _ 0 (omega arith) c.count_digits.ensures)
+returns-clause-within c =
+    omega (arith, run_in_chunk_le (λ b. nat_lt b 33) c.args.chunk.now 0 32 _ 0 (omega arith) c.count_digits.ensures)
 
 pub returns-clause-high : goal.returns-clause-high
 returns-clause-high c =
     let xs = c.args.chunk.now in
     let n = c.count_digits.result in
     let room : 32 ≤ length xs = omega arith in
-    let size = length-take-le n xs (omega (arith, run_in_chunk_le (λ b. nat_lt b 33) xs 0 32 n 0 room c.count_digits.ensures)) in
+    let size = length-take-le n xs
+    (omega (arith, run_in_chunk_le (λ b. nat_lt b 33) xs 0 32 n 0 room c.count_digits.ensures)) in
     All-from_get_or (λ b. nat_lt b 33 ≡ false) (take n xs) 0 (λ i h.
     let inside : i < n = omega (arith, size, h) in
-    rw (get_or-take n xs i 0 inside) (run_in_chunk_fails (λ b. nat_lt b 33) xs 0 32 n 0 room c.count_digits.ensures i (omega arith) (omega (arith, inside))))
+    rw (get_or-take n xs i 0 inside)
+    (run_in_chunk_fails (λ b. nat_lt b 33) xs 0 32 n 0 room c.count_digits.ensures i (omega arith)
+    (omega (arith, inside))))
 
 pub returns-clause-copied : goal.returns-clause-copied
 returns-clause-copied c =

@@ -37,16 +37,20 @@ returns-in-Err-clause-err c = λ e is x y has left end.
     let out = c.loop-byte.output in
     let read = i.decoded x y has in
     let told = c.in-Err.ensures.err (x ++ take at chunk) (y ++ take c.loop-byte.end out) (drop (at + 1) chunk) left read
-    (omega (arith, c.loop-byte.auto.output)) (omega (arith, length-drop (at + 1) chunk, c.requires.chunk, c.loop-byte-test.true)) in
-    rw (take-put_mid_below c.loop-byte.end _ c.loop-byte.output c.decode_byte.new.output c.loop-byte.end (omega arith) (omega (arith, c.loop-byte.auto.output)))
+    (omega (arith, c.loop-byte.auto.output))
+    (omega (arith, length-drop (at + 1) chunk, c.requires.chunk, c.loop-byte-test.true)) in
+    rw (take-put_mid_below c.loop-byte.end _ c.loop-byte.output c.decode_byte.new.output c.loop-byte.end (omega arith)
+    (omega (arith, c.loop-byte.auto.output)))
     (rw (cut_at x chunk at c.loop-byte-test.true, same_error c.in-Err.error e is) at told)
 
 pub returns-in-Err-clause-begun : goal.returns-in-Err-clause-begun
 returns-in-Err-clause-begun c = λ x y has.
     let at = c.loop-byte.byte-index in
     let i = c.loop-byte.invariant in
-    rw (take-put_mid_below c.loop-byte.end _ c.loop-byte.output c.decode_byte.new.output c.loop-byte.end (omega arith) (omega (arith, c.loop-byte.auto.output)))
-    (decoded_before c.args.reading c.loop-byte.self x c.args.chunk.now (y ++ take c.loop-byte.end c.loop-byte.output) at (i.decoded x y has))
+    rw (take-put_mid_below c.loop-byte.end _ c.loop-byte.output c.decode_byte.new.output c.loop-byte.end (omega arith)
+    (omega (arith, c.loop-byte.auto.output)))
+    (decoded_before c.args.reading c.loop-byte.self x c.args.chunk.now
+    (y ++ take c.loop-byte.end c.loop-byte.output) at (i.decoded x y has))
 
 pub loop-byte-preserved : goal.loop-byte-preserved
 loop-byte-preserved c =
@@ -60,8 +64,14 @@ loop-byte-preserved c =
           let out = c.loop-byte.output in
           let new = c.decode_byte.new.output in
           let room = c.loop-byte.auto.output in
-          let put = take_put end _ c.in-Ok-decode_byte.count out new (omega (arith, room)) (omega (arith, told.length, told.within, room)) in
-          rw (joined_one x chunk at c.loop-byte-test.true, append_assoc y (take end out) (take c.in-Ok-decode_byte.count new), sym put) at
+          let put = take_put end _ c.in-Ok-decode_byte.count out new (omega (arith, room))
+          (omega (arith, told.length, told.within, room)) in
+          rw (
+            joined_one x chunk at c.loop-byte-test.true,
+            append_assoc y (take end out)
+                (take c.in-Ok-decode_byte.count new),
+            sym put,
+          ) at
           (told.ok (x ++ take at chunk) (y ++ take end out) (i.decoded x y has));
     }
 
@@ -72,4 +82,6 @@ returns-clause-begun c = λ x y has.
     decoded_before c.args.reading c.loop-byte.self x c.args.chunk.now out c.loop-byte.byte-index (i.decoded x y has)
 
 pub returns-clause-more : goal.returns-clause-more
-returns-clause-more c = λ none some x y has. rw (take_all c.loop-byte.byte-index c.args.chunk.now (omega arith)) at (c.loop-byte.invariant.decoded x y has)
+returns-clause-more c =
+    λ none some x y has.
+    rw (take_all c.loop-byte.byte-index c.args.chunk.now (omega arith)) at (c.loop-byte.invariant.decoded x y has)

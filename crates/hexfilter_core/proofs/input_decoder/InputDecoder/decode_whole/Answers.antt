@@ -9,7 +9,12 @@ returns-then-leaves_out-clause-ok c = λ x y has.
     let more = c.text-count.ensures.added x has.scanned has.count in
     let size = length-append x c.args.chunk.now in
     if_ok_weaker c.decode_text.result (λ n wrote.
-    record { text = rw more.text wrote; scanned = more.scanned; count = omega (arith, has.count, c.saturating_add-self.ensures, size) })
+    record {
+      text = rw more.text wrote;
+      scanned = more.scanned;
+      count =
+          omega (arith, has.count, c.saturating_add-self.ensures, size);
+    })
     (c.decode_text.ensures.ok (text_of c.args.reading x) y has.text)
 
 pub returns-clause-ok : goal.returns-clause-ok
@@ -18,5 +23,10 @@ returns-clause-ok c = λ x y has.
     let more = plain_added c.args.reading _ x c.args.chunk.now none has.scanned in
     let size = length-append x c.args.chunk.now in
     if_ok_weaker c.decode_text-2.result (λ n wrote.
-    record { text = rw more.text wrote; scanned = more.scanned; count = omega (arith, has.count, c.saturating_add-self.ensures, size) })
+    record {
+      text = rw more.text wrote;
+      scanned = more.scanned;
+      count =
+          omega (arith, has.count, c.saturating_add-self.ensures, size);
+    })
     (c.decode_text-2.ensures.ok (text_of c.args.reading x) y has.text)

@@ -13,4 +13,5 @@ returns-in-Err-clause-err c = λ r x y left has end.
     let bytes = has.text.bytes in
     let told = c.in-Err.ensures.err (text_of r x) bytes has.text.read in
     let odd = (c.in-Err.ensures.odd (text_of r x) bytes has.text.read).0 told in
-    rw (same_value _ _ told) (bytes, (refl, end, odd, pairs r c.args.self.decoder x bytes has.text.read), has.text.given)
+    rw (same_value _ _ told)
+    (bytes, (refl, end, odd, pairs r c.args.self.decoder x bytes has.text.read), has.text.given)

@@ -18,5 +18,6 @@ returns-clause-added c = λ x is.
     let few : n ≤ m = omega arith in
     let size = length-take-le n xs (omega (arith, copied.within)) in
     let bound = next_bound c.args.reading 0 x (omega arith) in
-    rw (fewer_copied m n xs c.copy_block.new.output few copied.copied) (high_added c.args.reading c.args.self.now _ x (take n xs) is (fewer_high m n xs few copied.high)
+    rw (fewer_copied m n xs c.copy_block.new.output few copied.copied)
+    (high_added c.args.reading c.args.self.now _ x (take n xs) is (fewer_high m n xs few copied.high)
     (λ some. omega (arith, size, bound, is.next)) (omega (arith, size, bound, is.next)))

@@ -13,7 +13,8 @@ runs-preserved-then-count c =
       within = omega (arith, ran.within, size);
       fewer = omega arith;
       so_far = λ x is at.
-          added_run _ _ _ x _ _ c.runs.end c.runs.done (i.so_far x is at) _ c.run-count.result _ i.within (omega (arith, room))
+          added_run _ _ _ x _ _ c.runs.end c.runs.done (i.so_far x is at) _ c.run-count.result _ i.within
+          (omega (arith, room))
           (omega (arith, ran.length, ran.within, size, room)) ran.added;
     }
 
@@ -26,7 +27,8 @@ runs-preserved c =
       within = omega (arith, ran.within, size);
       fewer = omega arith;
       so_far = λ x is at.
-          added_run _ _ _ x _ _ c.runs.end c.runs.done (i.so_far x is at) _ c.run-count.result _ i.within (omega (arith, room))
+          added_run _ _ _ x _ _ c.runs.end c.runs.done (i.so_far x is at) _ c.run-count.result _ i.within
+          (omega (arith, room))
           (omega (arith, ran.length, ran.within, size, room)) ran.added;
     }
 
@@ -45,7 +47,8 @@ runs-preserved-then-done-chunk c =
       so_far = λ x is at.
           let run = added_run _ _ _ x chunk _ c.runs.end done (i.so_far x is at) _ n _ i.within (omega (arith, room))
           (omega (arith, ran.length, ran.within, size, room)) ran.added in
-          added_byte _ _ _ x chunk _ (c.runs.end + n) (done + n) run _ (listed c.next-added.result) c.put-end.result inside c.put-end.ensures.front
+          added_byte _ _ _ x chunk _ (c.runs.end + n) (done + n) run _ (listed c.next-added.result) c.put-end.result
+          inside c.put-end.ensures.front
           (c.next-added.ensures _ run.scanned
           (λ short. omega (arith, short, at, length-append x (take (done + n) chunk), length-take (done + n) chunk)));
     }
