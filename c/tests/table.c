@@ -1,5 +1,5 @@
 /*
- * The table of test vectors of crates/const_hex_test_vectors, beside the model and beside each build of the library.
+ * The table of test vectors of crates/const_hex_vectors, beside the model and beside each build of the library.
  * TABLE is its file.
  */
 #include "model.h"

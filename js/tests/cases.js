@@ -2,7 +2,7 @@
 import * as hex from '../dist/const_hex.js';
 
 const { check, decode, decodeInto, decoder, decoderStream, encode, encoderStream, HexError, isHex } = hex;
-const TABLE = new URL('../../crates/const_hex_test_vectors/data/vectors.tsv', import.meta.url);
+const TABLE = new URL('../../crates/const_hex_vectors/data/vectors.tsv', import.meta.url);
 const CHUNK = 32768; // So many characters are decoded at a time, and half as many bytes encoded.
 const utf8 = (string) => new TextEncoder().encode(string);
 const stringOf = (bytes) => new TextDecoder('utf-8', { ignoreBOM: true }).decode(bytes);

@@ -58,7 +58,8 @@ ReadsOn t bs n (Err NoMemory) = ⊥
 
 -- `Decoder::decode`: the decoder `before` reads the chunk into an output that held `old`, with this
 -- result, which is the number of new bytes; t is what was read before, and bs the bytes written for it
-pub record DecodesChunk (before : Decoder) (chunk old new : List ℕ) (after : Decoder) (r : Result ℕ FromHexError) : Type 0 where
+pub record DecodesChunk (before : Decoder) (chunk old new : List ℕ) (after : Decoder) (r : Result ℕ FromHexError) : Type
+    0 where
   pub ok : (t bs : List ℕ) → HasRead before t bs → IfOk r (λ n. HasRead after (t ++ chunk) (bs ++ take n new))
   pub answer : (t bs : List ℕ) → HasRead before t bs → ReadsOn (t ++ chunk) bs (length old) r
   pub within : IfOk r (λ n. n ≤ length old)
@@ -81,8 +82,9 @@ ChecksOn t (Err (InvalidHexCharacter c i)) = NamesCounted t c i
 ChecksOn t (Err NoMemory) = ⊥
 
 -- `Decoder::check`: as `DecodesChunk`, but the new bytes are not written
-pub record ChecksChunk (before : Decoder) (chunk : List ℕ) (after : Decoder) (r : Result Unit FromHexError) : Type 0 where
-  pub ok : (t bs : List ℕ) → HasRead before t bs → OnOk r ((more : List ℕ) × HasRead after (t ++ chunk) (bs ++ more))
-  pub answer : (t bs : List ℕ) → HasRead before t bs → ChecksOn (t ++ chunk) r
-  pub ended : IfErr r (λ e. error_of after ≡ Some e)
-  pub kept_error : IfSome (error_of before) (λ e. (r ≡ Err e) × (after ≡ before))
+pub record ChecksChunk (before : Decoder) (chunk : List ℕ) (after : Decoder) (r : Result Unit FromHexError) : Type 0
+  where
+    pub ok : (t bs : List ℕ) → HasRead before t bs → OnOk r ((more : List ℕ) × HasRead after (t ++ chunk) (bs ++ more))
+    pub answer : (t bs : List ℕ) → HasRead before t bs → ChecksOn (t ++ chunk) r
+    pub ended : IfErr r (λ e. error_of after ≡ Some e)
+    pub kept_error : IfSome (error_of before) (λ e. (r ≡ Err e) × (after ≡ before))

@@ -93,11 +93,12 @@ pub record Encodes {A E : Type 0} (up : Bool) (bs : List ℕ) (r : Result (Strin
   pub append : (xs ys : List ℕ) → bs ≡ xs ++ ys → IfOk r (λ s. string_bytes s ≡ hex_text up xs ++ hex_text up ys)
 
 -- `encode_to_slice`: the output holds the text if it has exactly its length, and else is unchanged
-pub record EncodesToSlice (length_of_text : ℕ) (text_of_bytes old new : List ℕ) (r : Result Unit FromHexError) : Type 0 where
-  pub fits : IsOk r ↔ (length old ≡ length_of_text)
-  pub text : OnOk r (new ≡ text_of_bytes)
-  pub error : OnErr r (r ≡ Err InvalidStringLength)
-  pub unchanged : OnErr r (new ≡ old)
+pub record EncodesToSlice (length_of_text : ℕ) (text_of_bytes old new : List ℕ) (r : Result Unit FromHexError) : Type 0
+  where
+    pub fits : IsOk r ↔ (length old ≡ length_of_text)
+    pub text : OnOk r (new ≡ text_of_bytes)
+    pub error : OnErr r (r ≡ Err InvalidStringLength)
+    pub unchanged : OnErr r (new ≡ old)
 
 -- `decode`: the result for the text t, or out of memory for an even length
 pub record Decodes {V : Type 0} (items : V → List ℕ) (t : List ℕ) (r : Result V FromHexError) : Type 0 where
@@ -110,7 +111,8 @@ pub record Decodes {V : Type 0} (items : V → List ℕ) (t : List ℕ) (r : Res
   -- the text of the bytes is the body in lowercase
   pub canonical : IfOk r (λ v. hex_text false (items v) ≡ lowered (body_of t))
   -- another text gives the same bytes if and only if the two bodies differ only in case
-  pub agree : (u bs : List ℕ) → Reads u (Ok bs) → IfOk r (λ v. (bs ≡ items v) ↔ (lowered (body_of u) ≡ lowered (body_of t)))
+  pub agree : (u bs : List ℕ) → Reads u (Ok bs)
+      → IfOk r (λ v. (bs ≡ items v) ↔ (lowered (body_of u) ≡ lowered (body_of t)))
 
 -- `decode_to_slice`: the result for the text t and an output of exactly its bytes, and what the output
 -- holds; if the kernel checks a text first, every error leaves it unchanged
@@ -135,9 +137,11 @@ pub record DecodesToArray (n : ℕ) (t : List ℕ) (r : Result (List ℕ) FromHe
   -- for a constant text this is computed, which proves that an `unwrap` succeeds
   pub accepts : IsOk r ↔ IsTrue (is_text_of n t)
   -- what was encoded of n bytes is decoded to the same bytes
-  pub round_trip : (prefix up : Bool) (bs : List ℕ) → AreBytes bs → length bs ≡ n → t ≡ full_text prefix up bs → r ≡ Ok bs
+  pub round_trip : (prefix up : Bool) (bs : List ℕ) → AreBytes bs → length bs ≡ n → t ≡ full_text prefix up bs
+      → r ≡ Ok bs
   -- another text gives the same bytes if and only if the two bodies differ only in case
-  pub agree : (u bs : List ℕ) → ReadsSized u n (Ok bs) → IfOk r (λ v. (bs ≡ v) ↔ (lowered (body_of u) ≡ lowered (body_of t)))
+  pub agree : (u bs : List ℕ) → ReadsSized u n (Ok bs)
+      → IfOk r (λ v. (bs ≡ v) ↔ (lowered (body_of u) ≡ lowered (body_of t)))
   -- this is the only result that meets `ReadsSized`
   pub unique : (s : Result (List ℕ) FromHexError) → ReadsSized t n s → s ≡ r
 

@@ -24,8 +24,10 @@ Reads-some t =
           let even : IsEven (length t) = omega arith in
           elim (digits_or_bad (body_of t)) [
             | inl a ↦ let s = Spells-some (body_of t) (body-parity t ∙ even) a in (Ok s.0, (even, s.1))
-            | inr b ↦
-                (Err (InvalidHexCharacter (slice_index (body_of t) b.0) (b.0 + (length t - length (body_of t)))), (even, (b.0, b.1, refl, refl)))
+            | inr b ↦ (
+              Err (InvalidHexCharacter (slice_index (body_of t) b.0) (b.0 + (length t - length (body_of t)))),
+              (even, (b.0, b.1, refl, refl)),
+            )
           ]
     ]
 
@@ -39,7 +41,8 @@ ReadsOwned-faithful bytes t (Err e) h = λ known. inl (e, grind (arith, known))
 -- ---- arrays
 
 -- a body of another length is an error, or its bytes do not fit
-unfit : (n : ℕ) (t : List ℕ) → length (body_of t) ≢ 2 * n → (r : Result (List ℕ) FromHexError) × Reads t r → IsRejected (IsCount n) t
+unfit : (n : ℕ) (t : List ℕ) → length (body_of t) ≢ 2 * n → (r : Result (List ℕ) FromHexError) × Reads t r
+    → IsRejected (IsCount n) t
 unfit n t other (Ok bs, h) =
     inr (bs, h, λ same. let len = Spells-length (body_of t) bs h.1 in other (omega (arith, len, same)))
 unfit n t other (Err e, h) = inl (e, h)
@@ -63,9 +66,11 @@ bytes_back : (bs : List ℕ) → AreBytes bs → map byte_of (map signed_of bs) 
 bytes_back [] h = refl
 bytes_back (b ∷ bs) h = rw (byte_of-signed_of b (h 0), bytes_back bs (λ k. h (suc k))) refl
 
-module _ {V : Type 0} (items : V → List ℤ) (fits : ℕ → Type 0) (answers : List ℕ → Result (List ℕ) FromHexError → Type 0) where
+module _ {V : Type 0} (items : V → List ℤ) (fits : ℕ → Type 0)
+    (answers : List ℕ → Result (List ℕ) FromHexError → Type 0) where
   -- the law for signed elements is the law for the bytes
-  pub ReadsSigned-faithful : ((t : List ℕ) (r : Result (List ℕ) FromHexError) → answers t r → IsFaithful (λ bs. bs) fits is_no_memory t r)
+  pub ReadsSigned-faithful : ((t : List ℕ) (r : Result (List ℕ) FromHexError) → answers t r
+      → IsFaithful (λ bs. bs) fits is_no_memory t r)
       → (t : List ℕ) (r : Result V FromHexError) → ReadsSigned items answers t r
       → IsFaithful (λ v. map byte_of (items v)) fits is_no_memory t r
   ReadsSigned-faithful law t (Ok v) h =
@@ -76,7 +81,8 @@ module _ {V : Type 0} (items : V → List ℤ) (fits : ℕ → Type 0) (answers 
 
 -- ---- a type of your own
 
-pub ReadsAs-faithful : {V : Type 0} (bytes : V → List ℕ) (fits : ℕ → Type 0) (answers : List ℕ → Result (List ℕ) FromHexError → Type 0)
+pub ReadsAs-faithful : {V : Type 0} (bytes : V → List ℕ) (fits : ℕ → Type 0)
+    (answers : List ℕ → Result (List ℕ) FromHexError → Type 0)
     → ((t : List ℕ) (r : Result (List ℕ) FromHexError) → answers t r → IsFaithful (λ bs. bs) fits is_no_memory t r)
     → (t : List ℕ) (r : Result V FromHexError) → ReadsAs bytes answers t r → IsFaithful bytes fits is_no_memory t r
 ReadsAs-faithful bytes fits answers law t (Ok v) h = law t (Ok (bytes v)) h
@@ -84,7 +90,8 @@ ReadsAs-faithful bytes fits answers law t (Err e) h = law t (Err e) h
 
 -- ---- pointers
 
-pub ReadsThrough-faithful : {W V E : Type 0} (target : W → V) (bytes : V → List ℕ) (fits : ℕ → Type 0) (is_memory : E → Bool)
+pub ReadsThrough-faithful : {W V E : Type 0} (target : W → V) (bytes : V → List ℕ) (fits : ℕ → Type 0)
+    (is_memory : E → Bool)
     (answers : List ℕ → Result V E → Type 0)
     → ((t : List ℕ) (r : Result V E) → answers t r → IsFaithful bytes fits is_memory t r)
     → (t : List ℕ) (r : Result W E) → ReadsThrough target is_memory answers t r

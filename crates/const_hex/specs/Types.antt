@@ -59,18 +59,21 @@ ReadsOwned bytes t (Err (InvalidHexCharacter c i)) = Reads t (Err (InvalidHexCha
 ReadsOwned bytes t (Err NoMemory) = IsEven (length t)
 
 -- the results of a type of your own: the results for bytes, with a value that stands for its bytes
-abbrev pub ReadsAs : {V : Type 0} → (V → List ℕ) → (List ℕ → Result (List ℕ) FromHexError → Type 0) → List ℕ → Result V FromHexError → Type 0
+abbrev pub ReadsAs : {V : Type 0} → (V → List ℕ) → (List ℕ → Result (List ℕ) FromHexError → Type 0) → List ℕ
+    → Result V FromHexError → Type 0
 ReadsAs bytes answers t (Ok v) = answers t (Ok (bytes v))
 ReadsAs bytes answers t (Err e) = answers t (Err e)
 
 -- the results of a type of signed elements: the results for bytes, with the bits of the bytes
-abbrev pub ReadsSigned : {V : Type 0} → (V → List ℤ) → (List ℕ → Result (List ℕ) FromHexError → Type 0) → List ℕ → Result V FromHexError → Type 0
+abbrev pub ReadsSigned : {V : Type 0} → (V → List ℤ) → (List ℕ → Result (List ℕ) FromHexError → Type 0) → List ℕ
+    → Result V FromHexError → Type 0
 ReadsSigned items answers t (Ok v) = (bs : List ℕ) × answers t (Ok bs) × (items v ≡ map signed_of bs)
 ReadsSigned items answers t (Err e) = answers t (Err e)
 
 -- the results of a pointer: the results of its target, or out of memory if the target may have a
 -- value
-abbrev pub ReadsThrough : {W V E : Type 0} → (W → V) → (E → Bool) → (List ℕ → Result V E → Type 0) → List ℕ → Result W E → Type 0
+abbrev pub ReadsThrough : {W V E : Type 0} → (W → V) → (E → Bool) → (List ℕ → Result V E → Type 0) → List ℕ → Result W E
+    → Type 0
 ReadsThrough target is_memory answers t (Ok w) = answers t (Ok (target w))
 ReadsThrough {W} {V} target is_memory answers t (Err e) =
     answers t (Err e) ⊎ ((is_memory e ≡ true) × ((v : V) × answers t (Ok v)))

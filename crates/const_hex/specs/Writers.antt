@@ -35,9 +35,11 @@ abbrev pub formatter_failed : {W : Type 0} → FormatterSink W → Bool
 formatter_failed s = s.failed
 
 -- the same formatter writes the piece if it does not fail; its options do not matter
-pub record FormatterStep {W : Type 0} (took : W → List ℕ → W → Type 0) (s : FormatterSink W) (piece : List ℕ) (t : FormatterSink W) : Type 0 where
+pub record FormatterStep {W : Type 0} (took : W → List ℕ → W → Type 0) (s : FormatterSink W) (piece : List ℕ)
+    (t : FormatterSink W) : Type 0 where
   pub same_formatter : formatter_name t ≡ formatter_name s
-  pub writes : formatter_failed t ≡ false → IsFlush (sink_formatter s) → HasWrittenStyled took (sink_formatter s) piece (sink_formatter t)
+  pub writes : formatter_failed t ≡ false → IsFlush (sink_formatter s)
+      → HasWrittenStyled took (sink_formatter s) piece (sink_formatter t)
 
 -- ---- a sink over a writer
 
@@ -63,7 +65,8 @@ has_failed s = is_some s.error
 
 -- the same writer has written the text if it did not fail, and a beginning of the text if it failed;
 -- for an empty text nothing changes
-pub record WriteStep {W : Type 0} (contents : W → Option (List ℕ)) (s : WriteSink W) (text : List ℕ) (t : WriteSink W) : Type 0 where
+pub record WriteStep {W : Type 0} (contents : W → Option (List ℕ)) (s : WriteSink W) (text : List ℕ)
+    (t : WriteSink W) : Type 0 where
   pub same_writer : writer_name t ≡ writer_name s
   pub accepted : has_failed t ≡ false → Appends (contents (sink_writer s)) (contents (sink_writer t)) text
   pub refused : has_failed t ≡ true → WritesBeginning (contents (sink_writer s)) (contents (sink_writer t)) text

@@ -77,8 +77,8 @@ impl<'a, W: Write> WriteSink<'a, W> {
     /// The error of the write that failed, or `None` if none did.
     ///
     /// ```rust
-    /// let mut room = [0u8; 3];
-    /// let mut rest = room.as_mut_slice();
+    /// let mut space = [0u8; 3];
+    /// let mut rest = space.as_mut_slice();
     /// let mut sink = WriteSink::new(&mut rest);
     /// assert!(rt; sink.error().is_none());
     /// assert!(rt; sink.write_str("four").is_err());

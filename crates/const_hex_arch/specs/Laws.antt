@@ -3,36 +3,40 @@ use Rattle.std.specs.Prelude.{◌≡◌, ℕ, ◌+◌, Bool, true, false, if◌t
 use Rattle.std.specs.List.{FoldsTo, concat}
 use Rattle.std.proofs.Common.{sym, ap, ◌∙◌, arith, length-append}
 use Rattle.std.proofs.lemmas.List.{append-nil}
-use Rattle.const_hex_arch.specs.Outputs.{less_room, Gathers}
+use Rattle.const_hex_arch.specs.Outputs.{less_space, Gathers}
 use Rattle.const_hex_arch.specs.Sinks.{PieceState, PieceStep}
 
 -- no bytes take no space
-less_room-zero : (room : Option ℕ) → less_room room 0 ≡ room
-less_room-zero (Some r) = ap Some (omega arith)
-less_room-zero None = refl
+less_space-zero : (space : Option ℕ) → less_space space 0 ≡ space
+less_space-zero (Some r) = ap Some (omega arith)
+less_space-zero None = refl
 
 -- the space that is left after some bytes and then more
-pub less_room-add : (room : Option ℕ) (m n : ℕ) → less_room (less_room room m) n ≡ less_room room (m + n)
-less_room-add (Some r) m n = ap Some (omega arith)
-less_room-add None m n = refl
+pub less_space-add : (space : Option ℕ) (m n : ℕ) → less_space (less_space space m) n ≡ less_space space (m + n)
+less_space-add (Some r) m n = ap Some (omega arith)
+less_space-add None m n = refl
 
-module _ {S : Type 0} (step : S → List ℕ → S → Type 0) (room : S → Option ℕ)
-    (shrinks : (s : S) (piece : List ℕ) (t : S) → step s piece t → room t ≡ less_room (room s) (length piece)) where
+module _ {S : Type 0} (step : S → List ℕ → S → Type 0) (space : S → Option ℕ)
+    (shrinks : (s : S) (piece : List ℕ) (t : S) → step s piece t → space t ≡ less_space (space s) (length piece)) where
   -- a run takes as much space as all its pieces are long
-  pub run_shrinks : (s : S) (ps : List (List ℕ)) (t : S) → FoldsTo step s ps t → room t ≡ less_room (room s) (length (concat ps))
-  run_shrinks s [] t h = ap room (sym h) ∙ sym (less_room-zero (room s))
+  pub run_shrinks : (s : S) (ps : List (List ℕ)) (t : S) → FoldsTo step s ps t
+      → space t ≡ less_space (space s) (length (concat ps))
+  run_shrinks s [] t h = ap space (sym h) ∙ sym (less_space-zero (space s))
   run_shrinks s (p ∷ ps) t (j, h, k) =
-      run_shrinks j ps t k ∙ ap (λ r. less_room r (length (concat ps))) (shrinks s p j h)
-      ∙ less_room-add (room s) (length p) (length (concat ps)) ∙ ap (less_room (room s)) (sym (length-append p (concat ps)))
+      run_shrinks j ps t k ∙ ap (λ r. less_space r (length (concat ps))) (shrinks s p j h)
+      ∙ less_space-add (space s) (length p) (length (concat ps))
+      ∙ ap (less_space (space s)) (sym (length-append p (concat ps)))
 
   -- gathering takes as much space as the piece is long
-  pub Gathers_room : (n : ℕ) (old : S) (pending piece : List ℕ) (new : S) (rest : List ℕ) → Gathers step room n old pending piece new rest
-      → less_room (room new) (length rest) ≡ less_room (less_room (room old) (length pending)) (length piece)
-  Gathers_room n old pending piece new rest h =
-      ap (λ r. less_room r (length rest)) (run_shrinks old h.handed new h.run)
-      ∙ less_room-add (room old) (length (concat h.handed)) (length rest)
-      ∙ ap (less_room (room old)) (sym (length-append (concat h.handed) rest) ∙ ap length h.whole ∙ length-append pending piece)
-      ∙ sym (less_room-add (room old) (length pending) (length piece))
+  pub Gathers_space : (n : ℕ) (old : S) (pending piece : List ℕ) (new : S) (rest : List ℕ)
+      → Gathers step space n old pending piece new rest
+      → less_space (space new) (length rest) ≡ less_space (less_space (space old) (length pending)) (length piece)
+  Gathers_space n old pending piece new rest h =
+      ap (λ r. less_space r (length rest)) (run_shrinks old h.handed new h.run)
+      ∙ less_space-add (space old) (length (concat h.handed)) (length rest)
+      ∙ ap (less_space (space old))
+      (sym (length-append (concat h.handed) rest) ∙ ap length h.whole ∙ length-append pending piece)
+      ∙ sym (less_space-add (space old) (length pending) (length piece))
 
 -- ---- a sink that keeps its pieces
 

@@ -7,13 +7,13 @@ use Rattle.const_hex_arch.specs.declared.output.slice.SliceOutput.{SliceOutput}
 -- ---- pieces of text that are written one after another, and the space that they leave
 
 -- n more bytes fit, or there is no limit
-abbrev pub HasRoom : Option ℕ → ℕ → Type 0
-HasRoom room n = n ≤ unwrap_or room n
+abbrev pub HasSpace : Option ℕ → ℕ → Type 0
+HasSpace space n = n ≤ unwrap_or space n
 
 -- the space that is left after n bytes
-abbrev pub less_room : Option ℕ → ℕ → Option ℕ
-less_room (Some room) n = Some (room - n)
-less_room None n = None
+abbrev pub less_space : Option ℕ → ℕ → Option ℕ
+less_space (Some space) n = Some (space - n)
+less_space None n = None
 
 -- the length of a kernel's piece: 1 to 64 bytes
 abbrev pub IsKernelPiece : List ℕ → Type 0
@@ -73,12 +73,13 @@ HandsOnPiece n pending piece handed =
 -- a write of the piece to an output that gathers n bytes, from the pending text `pending` to the
 -- pending text `rest`: some pieces are passed on; followed by `rest`, they are `pending` and then the
 -- piece; at most n bytes are pending, and they fit into the output
-pub record Gathers {O : Type 0} (step : O → List ℕ → O → Type 0) (room : O → Option ℕ) (n : ℕ) (old : O) (pending piece : List ℕ) (new : O)
+pub record Gathers {O : Type 0} (step : O → List ℕ → O → Type 0) (space : O → Option ℕ) (n : ℕ) (old : O)
+    (pending piece : List ℕ) (new : O)
     (rest : List ℕ) : Type 0 where
   pub handed : List (List ℕ)
   pub run : FoldsTo step old handed new
   pub whole : concat handed ++ rest ≡ pending ++ piece
   pub bound : length rest ≤ n
-  pub fits : HasRoom (room new) (length rest)
+  pub fits : HasSpace (space new) (length rest)
   pub short : length piece < n → FlushesPending n pending piece handed
   pub long : n ≤ length piece → HandsOnPiece n pending piece handed

@@ -21,7 +21,8 @@ abbrev pub sink_name : {S : Type 0} → SinkOutput S → GName
 sink_name o = o.sink.ghost_name
 
 -- a step of the same sink if it has not failed, and nothing if it has
-pub record SinkStep {S : Type 0} (step : S → List ℕ → S → Type 0) (is_refused : S → Bool) (s : SinkOutput S) (piece : List ℕ) (t : SinkOutput S) : Type 0 where
+pub record SinkStep {S : Type 0} (step : S → List ℕ → S → Type 0) (is_refused : S → Bool) (s : SinkOutput S)
+    (piece : List ℕ) (t : SinkOutput S) : Type 0 where
   pub same_sink : sink_name t ≡ sink_name s
   pub accepting : is_refused (output_sink s) ≡ false → step (output_sink s) piece (output_sink t)
   pub after_refusal : is_refused (output_sink s) ≡ true → output_sink t ≡ output_sink s
@@ -73,12 +74,14 @@ pub record Cut (text : List ℕ) (pieces : List (List ℕ)) : Type 0 where
 -- a sink takes a step for each piece, in order, and has not failed before any of them
 abbrev pub Offers : {S : Type 0} → (S → List ℕ → S → Type 0) → (S → Bool) → S → List (List ℕ) → S → Type 0
 Offers step is_refused s [] t = s ≡ t
-Offers {S} step is_refused s (p ∷ ps) t = (is_refused s ≡ false) × ((m : S) × step s p m × Offers step is_refused m ps t)
+Offers {S} step is_refused s (p ∷ ps) t =
+    (is_refused s ≡ false) × ((m : S) × step s p m × Offers step is_refused m ps t)
 
 -- the text, cut in some way, is passed to a sink piece by piece, up to the first error or to the end;
 -- without an error, that is all of the text; there are no more calls than pieces of 4033 bytes would
 -- need
-pub record Streams {S : Type 0} (step : S → List ℕ → S → Type 0) (is_refused : S → Bool) (old : S) (text : List ℕ) (new : S) : Type 0 where
+pub record Streams {S : Type 0} (step : S → List ℕ → S → Type 0) (is_refused : S → Bool) (old : S) (text : List ℕ)
+    (new : S) : Type 0 where
   pub pieces : List (List ℕ)
   pub offered : ℕ
   pub cut : Cut text pieces
@@ -94,7 +97,8 @@ pub record ReportsCut (old : Option (List (List ℕ))) (text : List ℕ) (new : 
   pub reported : new ≡ reported_after old pieces
 
 -- what happens to a sink that is passed a text, and the result
-pub record StreamsWhole {S : Type 0} (step : S → List ℕ → S → Type 0) (is_refused : S → Bool) (reports : S → Option (List (List ℕ))) (old : S) (text : List ℕ)
+pub record StreamsWhole {S : Type 0} (step : S → List ℕ → S → Type 0) (is_refused : S → Bool)
+    (reports : S → Option (List (List ℕ))) (old : S) (text : List ℕ)
     (ok : Bool) (new : S) : Type 0 where
   pub streams : Streams step is_refused old text new
   pub flag : ok ≡ not (is_refused new)

@@ -2,7 +2,7 @@
 
 ghost use Rattle.std.specs.Prelude.{◌≡◌, Bool, ◌+◌, ◌*◌, ◌<◌, ◌≤◌, ◌↔◌, IsTrue, true, false, length, take, drop};
 ghost use Rattle.std.specs.Str.{IsAscii};
-ghost use Rattle.const_hex_arch.specs.Outputs.{HasRoom, Writes};
+ghost use Rattle.const_hex_arch.specs.Outputs.{HasSpace, Writes};
 ghost use Rattle.const_hex_arch.specs.Texts.{hex_text, AllDigits, Spells, Partial};
 
 pub mod arithmetic16;
@@ -73,7 +73,7 @@ pub trait Kernel {
     /// ```
     #[inline]
     fn encode<O: Output>(input: &[u8], upper: bool, output: &mut O)
-        requires { HasRoom (O.room output.old) (2 * length input.now) }
+        requires { HasSpace (O.space output.old) (2 * length input.now) }
         ensures { Writes O.step output.old (hex_text upper input.now) output.new }
     {
         let mut rest = input;
@@ -151,7 +151,7 @@ pub trait Kernel {
 fn write_in_pieces<O: Output>(text: &[u8], size: usize, output: &mut O)
     requires most { length text.now ≤ 64 }
     requires ascii { IsAscii text.now }
-    requires room { HasRoom (O.room output.old) (length text.now) }
+    requires space { HasSpace (O.space output.old) (length text.now) }
     ensures { Writes O.step output.old text.now output.new }
 {
     let mut rest = text;

@@ -2,7 +2,7 @@
 
 ghost use Rattle.std.specs.Prelude.{◌≡◌, ℕ, ◌+◌, ◌-◌, ◌*◌, ◌<◌, ◌≤◌, List, [], ◌∷◌, ◌++◌, length, take, Option};
 ghost use Rattle.std.specs.Str.{IsAscii};
-ghost use Rattle.const_hex_arch.specs.Outputs.{HasRoom, less_room};
+ghost use Rattle.const_hex_arch.specs.Outputs.{HasSpace, less_space};
 
 pub mod buffered;
 pub mod slice;
@@ -25,7 +25,7 @@ pub trait Output {
     ghost step: { Self → List ℕ → Self → Type 0 };
 
     /// How many bytes it still takes, or `None` if there is no limit.
-    ghost room: { Self → Option ℕ };
+    ghost space: { Self → Option ℕ };
 
     /// How many bytes it still takes, or `None` if there is no limit.
     ///
@@ -33,7 +33,7 @@ pub trait Output {
     /// assert_eq!(rt; SliceOutput::new(&mut [0; 4]).remaining(), Some(4));
     /// ```
     fn remaining(&self) -> Option<usize>
-        ensures { result ≡ room self.now };
+        ensures { result ≡ space self.now };
 
     /// Writes a piece of ASCII text that fits.
     ///
@@ -44,7 +44,7 @@ pub trait Output {
     /// ```
     fn write(&mut self, bytes: &[u8])
         requires ascii { IsAscii bytes.now }
-        requires fits { HasRoom (room self.old) (length bytes.now) }
+        requires fits { HasSpace (space self.old) (length bytes.now) }
         ensures { step self.old bytes.now self.new };
 
     /// Writes a piece of one byte.
@@ -57,7 +57,7 @@ pub trait Output {
     #[inline(always)]
     fn write_byte(&mut self, byte: u8)
         requires ascii { byte < 128 }
-        requires fits { HasRoom (room self.old) 1 }
+        requires fits { HasSpace (space self.old) 1 }
         ensures { step self.old (byte ∷ []) self.new }
     {
         self.write(&[byte])
@@ -65,5 +65,5 @@ pub trait Output {
 
     /// A write takes its length from the remaining space.
     ghost shrinks: { (s : Self) (piece : List ℕ) (t : Self) → step s piece t
-        → room t ≡ less_room (room s) (length piece) };
+        → space t ≡ less_space (space s) (length piece) };
 }

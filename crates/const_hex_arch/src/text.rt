@@ -2,7 +2,7 @@
 
 ghost use Rattle.std.specs.Prelude.{◌≡◌, length, min};
 ghost use Rattle.std.specs.Str.{IsAscii};
-ghost use Rattle.const_hex_arch.specs.Outputs.{HasRoom, Writes};
+ghost use Rattle.const_hex_arch.specs.Outputs.{HasSpace, Writes};
 ghost use Rattle.const_hex_arch.specs.Texts.{full_text, prefix_of, text_length};
 
 use crate::arch::Kernel;
@@ -65,7 +65,7 @@ fn put_prefix(prefix: bool, output: &mut [u8])
 /// ```
 #[inline(always)]
 pub fn encode_full<K: Kernel, O: Output>(input: &[u8], prefix: bool, upper: bool, output: &mut O)
-    requires { HasRoom (O.room output.old) (length (full_text prefix upper input.now)) }
+    requires { HasSpace (O.space output.old) (length (full_text prefix upper input.now)) }
     ensures { Writes O.step output.old (full_text prefix upper input.now) output.new }
 {
     write_prefix(prefix, output);
@@ -76,7 +76,7 @@ pub fn encode_full<K: Kernel, O: Output>(input: &[u8], prefix: bool, upper: bool
 #[inline(always)]
 #[tactic(auto, using(crate::proofs::lemmas::Runs::one_written))]
 fn write_prefix<O: Output>(prefix: bool, output: &mut O)
-    requires { HasRoom (O.room output.old) (length (prefix_of prefix)) }
+    requires { HasSpace (O.space output.old) (length (prefix_of prefix)) }
     ensures { Writes O.step output.old (prefix_of prefix) output.new }
 {
     if prefix {

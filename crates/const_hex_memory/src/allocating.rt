@@ -5,7 +5,7 @@ use crate::judge::allocates;
 use const_hex::FromHexError::{InvalidStringLength, NoMemory, OddLength};
 use const_hex::serde::no_prefix;
 use const_hex::*;
-use const_hex_vectors::{KernelCase, by_each_kernel};
+use const_hex_testing::{KernelCase, by_each_kernel};
 use hash_hex::{Address20, Hash32};
 use serde_json::Value;
 use std::alloc::{AllocError, Global};

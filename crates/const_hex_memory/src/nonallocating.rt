@@ -6,7 +6,7 @@ use crate::judge::returns;
 use const_hex::FromHexError::{InvalidStringLength, OddLength};
 use const_hex::serde::no_prefix;
 use const_hex::*;
-use const_hex_vectors::{KernelCase, by_each_kernel};
+use const_hex_testing::{KernelCase, by_each_kernel};
 use hash_hex::Hash32;
 use serde_json::{Number, Value};
 use std::alloc::Global;

@@ -1,4 +1,4 @@
-//! The tests. `const_hex_test_vectors` has all that a line of its table can ask.
+//! The tests. `const_hex_vectors` has all that a line of its table can ask.
 
 mod edges;
 mod printed;
@@ -8,7 +8,7 @@ mod tables;
 mod uses;
 mod write_sink;
 
-use const_hex_vectors::Testing;
+use const_hex_testing::Testing;
 use std::fmt::Debug;
 
 /// What `same` calls.

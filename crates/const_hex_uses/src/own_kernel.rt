@@ -3,7 +3,7 @@
 ghost use Rattle.std.specs.Prelude.{◌≡◌, ◌≢◌, ◌*◌, ◌≤◌, List, ℕ, false, length, string_bytes, IfOk, IfErr, Ok, Err};
 ghost use Rattle.std.specs.List.{All, FoldsTo, concat};
 ghost use Rattle.const_hex.specs.Results.{Reads};
-ghost use Rattle.const_hex.specs.Outputs.{HasRoom};
+ghost use Rattle.const_hex.specs.Outputs.{HasSpace};
 ghost use Rattle.const_hex.specs.Texts.{hex_text};
 ghost use Rattle.const_hex.specs.declared.error.FromHexError.TheVariants.{NoMemory};
 
@@ -95,7 +95,7 @@ pub fn decoded(alloc: Global, text: &[u8]) -> Result<Vec<u8>, FromHexError>
 /// assert_eq!(rt; &text, b"6b697769");
 /// ```
 pub fn write_pieces<O: Output>(bytes: &[u8], output: &mut O)
-    requires { HasRoom (O.room output.old) (2 * length bytes.now) }
+    requires { HasSpace (O.space output.old) (2 * length bytes.now) }
     ensures { (pieces : List (List ℕ)) × FoldsTo O.step output.old pieces output.new
         × (concat pieces ≡ hex_text false bytes.now)
         × All (λ piece. (1 ≤ length piece) × (length piece ≤ 64)) pieces }

@@ -69,7 +69,7 @@ fn read_all<R: Read>(alloc: Global, input: &mut R) -> Result<Vec<u8>, RunError>
     let mut bytes: Vec<u8> = Vec::new(alloc);
     let mut count = 0;
     'reads: while count <= LIMIT {
-        make_room(&mut bytes, count)?;
+        make_space(&mut bytes, count)?;
         let Ok(read) = input.read(&mut bytes[count..]) else {
             return Err(RunError::ReadFailed);
         };
@@ -84,10 +84,10 @@ fn read_all<R: Read>(alloc: Global, input: &mut R) -> Result<Vec<u8>, RunError>
 
 /// Makes space after the first bytes, if there is none: twice as many bytes, but at least 4096, and
 /// at most one more than an input may have.
-fn make_room(bytes: &mut Vec<u8>, count: usize) -> Result<(), AllocError>
+fn make_space(bytes: &mut Vec<u8>, count: usize) -> Result<(), AllocError>
     requires below_limit { count ≤ limit }
     requires bound { vec_len bytes.old ≤ limit + 1 }
-    ensures room { OnOk result (count < vec_len bytes.new) }
+    ensures space { OnOk result (count < vec_len bytes.new) }
     ensures bound { OnOk result (vec_len bytes.new ≤ limit + 1) }
     ensures kept { OnOk result (count ≤ vec_len bytes.old
         → take count bytes.new.items ≡ take count bytes.old.items) }

@@ -1,9 +1,9 @@
 //! Tests of the program over readers and writers, and on hosts whose standard error can fail.
 
-mod hosts;
+mod programs;
 mod runs;
 
-use const_hex_vectors::Testing;
+use const_hex_testing::Testing;
 use std::fmt::Debug;
 
 /// What `same` calls.

@@ -2,7 +2,7 @@
 //! `compare_with_tools.py` tests the program.
 
 use const_hex::FromHexError;
-use const_hex_vectors::{Fault, Source, Target, Testing, same, same_bytes};
+use const_hex_testing::{Fault, Source, Target, Testing, same, same_bytes};
 use hexfilter_core::{Groups, Mode, Place, Reading, RunError, run};
 use std::fmt::Debug;
 use std::io::{ErrorKind, Read};

@@ -40,7 +40,7 @@ impl Encoder {
         output: &mut [u8],
     ) -> usize
         requires text { 2 * length chunk.now + 2 ≤ length text.old }
-        requires room { 4 * length chunk.now + 5 ≤ length output.old }
+        requires space { 4 * length chunk.now + 5 ≤ length output.old }
         ensures more { (prefix : Bool) (x y : List ℕ) → 0 < length chunk.now
             → HasEncoded prefix upper groups self.old x y
             → HasEncoded prefix upper groups self.new (x ++ chunk.now) (y ++ take result output.new) }
@@ -74,7 +74,7 @@ impl Encoder {
         output: &mut [u8],
     ) -> usize
         requires text { 2 * length chunk.now + 2 ≤ length text.old }
-        requires room { 4 * length chunk.now + 5 ≤ length output.old }
+        requires space { 4 * length chunk.now + 5 ≤ length output.old }
         ensures text { self.old.column ≤ groups.size → BreaksInto groups self.old.column
             (full_text self.old.prefix upper chunk.now) (take result output.new) self.new.column }
         ensures column { self.old.column ≤ groups.size → self.new.column ≤ groups.size }

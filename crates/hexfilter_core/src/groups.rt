@@ -21,7 +21,7 @@ pub(crate) fn put_groups(
 ) -> (usize, usize)
     requires size { groups.size ≢ 0 }
     requires column { column ≤ groups.size }
-    requires room { 2 * length text.now ≤ length output.old }
+    requires space { 2 * length text.now ≤ length output.old }
     ensures within { result.0 ≤ 2 * length text.now }
     ensures length { length output.new ≡ length output.old }
     ensures column { result.1 ≤ groups.size }
@@ -47,7 +47,7 @@ pub(crate) fn put_groups(
 fn separate(groups: Groups, column: usize, output: &mut [u8], end: usize) -> (usize, usize)
     requires size { groups.size ≢ 0 }
     requires column { column ≤ groups.size }
-    requires room { end < length output.old }
+    requires space { end < length output.old }
     ensures within { result.0 ≤ end + 1 }
     ensures column { result.1 < groups.size }
     ensures groups { (rest : List ℕ) → 0 < length rest
@@ -81,7 +81,7 @@ pub(crate) fn put(byte: Option<u8>, output: &mut [u8], end: usize) -> usize
 #[inline(always)]
 fn copy_front(text: &[u8], count: usize, output: &mut [u8])
     requires text { count ≤ length text.now }
-    requires room { count ≤ length output.old }
+    requires space { count ≤ length output.old }
     ensures front { take count output.new ≡ take count text.now }
     ensures length { length output.new ≡ length output.old }
 {

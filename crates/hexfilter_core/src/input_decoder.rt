@@ -48,7 +48,7 @@ impl InputDecoder {
     ) -> (usize, Option<RunError>)
         requires chunk { length chunk.now ≤ chunk_size }
         requires text { length chunk.now ≤ length text.old }
-        requires room { length chunk.now ≤ length output.old }
+        requires space { length chunk.now ≤ length output.old }
         ensures more { result.1 ≡ None → 0 < length chunk.now → (x y : List ℕ) → HasDecoded reading self.old x y
             → HasDecoded reading self.new (x ++ chunk.now) (y ++ take result.0 output.new) }
         ensures end { result.1 ≡ None → length chunk.now ≡ 0 → (x y : List ℕ) → HasDecoded reading self.old x y

@@ -45,7 +45,7 @@ impl Stage {
     ) -> (usize, Option<RunError>)
         requires chunk { length chunk.now ≤ chunk_size }
         requires text { 2 * length chunk.now + 2 ≤ length text.old }
-        requires room { 4 * length chunk.now + 5 ≤ length output.old }
+        requires space { 4 * length chunk.now + 5 ≤ length output.old }
         ensures more { result.1 ≡ None → 0 < length chunk.now → (x y : List ℕ) → HasMade mode self.old x y
             → HasMade mode self.new (x ++ chunk.now) (y ++ take result.0 output.new) }
         ensures end { result.1 ≡ None → length chunk.now ≡ 0 → (x y : List ℕ) → HasMade mode self.old x y

@@ -13,7 +13,7 @@ mod text_calls;
 
 #[test]
 fn each_line() {
-    lines::ask("../crates/const_hex_test_vectors", |line| {
+    lines::ask("../crates/const_hex_vectors", |line| {
         let mut answers = calls::answers(line);
         answers.extend(text_calls::answers(line));
         answers.extend(chunks::answers(line));

@@ -7,7 +7,8 @@ use Rattle.const_hex_arch.proofs.lemmas.Texts.{length-hex_text}
 use Rattle.const_hex.specs.Types.{with_low}
 
 -- nothing is left
-pub left-none : (up : Bool) (low : Option ℕ) (u : List ℕ) → low ≡ None → length u ≡ 0 → with_low low (hex_text up u) ≡ []
+pub left-none : (up : Bool) (low : Option ℕ) (u : List ℕ) → low ≡ None → length u ≡ 0
+    → with_low low (hex_text up u) ≡ []
 unfolding hex_text
 left-none up low [] h e = rw h refl
 left-none up low (b ∷ u) h e = absurd (omega (arith, e))
@@ -20,7 +21,8 @@ unfolding hex_text
 left-more up low t u b x y h e ex ey = rw (h, e, ex, ey) refl
 
 -- how many are left
-pub length-left : (up : Bool) (low : Option ℕ) (u : List ℕ) → length (with_low low (hex_text up u)) ≡ 2 * length u + bool_byte (is_some low)
+pub length-left : (up : Bool) (low : Option ℕ) (u : List ℕ)
+    → length (with_low low (hex_text up u)) ≡ 2 * length u + bool_byte (is_some low)
 length-left up None u = let two = length-hex_text up u in omega (arith, two)
 length-left up (Some c) u = let two = length-hex_text up u in omega (arith, two)
 

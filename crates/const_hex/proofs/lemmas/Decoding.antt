@@ -51,7 +51,8 @@ pub pairs_refused : (old u new : List ℕ) (m : ℕ) → Partial old (take m u) 
 pairs_refused old u new m p = rw (take-append-drop m u) at (Partial-longer old (take m u) new (drop m u) p)
 
 -- the pairs are decoded, and a byte after them is rejected
-pub last_refused : (old u new : List ℕ) (n : ℕ) → (AllDigits (drop (2 * n) u) → ⊥) → 2 * n ≤ length u → length new ≡ n → length old ≡ n
+pub last_refused : (old u new : List ℕ) (n : ℕ) → (AllDigits (drop (2 * n) u) → ⊥) → 2 * n ≤ length u → length new ≡ n
+    → length old ≡ n
     → Spells (take (2 * n) u) new → Partial old u new
 last_refused old u new n bad h l o s =
     let f = first_bad (drop (2 * n) u) bad in
@@ -67,7 +68,8 @@ last_refused old u new n bad h l o s =
 
 -- the pairs are decoded, and what follows has only digits
 pub digits_whole : (u bs : List ℕ) (m : ℕ) → Spells (take m u) bs → AllDigits (drop m u) → AllDigits u
-digits_whole u bs m s a = rw (take-append-drop m u) at ((digits_append (take m u) (drop m u)).1 (Spells-digits _ _ s, a))
+digits_whole u bs m s a =
+    rw (take-append-drop m u) at ((digits_append (take m u) (drop m u)).1 (Spells-digits _ _ s, a))
 
 -- ---- a digit that waits, and the digits that follow
 
@@ -80,10 +82,12 @@ pairs_spell c (d ∷ u) bs cs n m h e s t =
     rw q (Spells-append (c ∷ d ∷ []) bs (take (2 * m) u) cs s t)
 
 -- the first pair is rejected
-pub pair_refused : (c : ℕ) (u old new : List ℕ) → 1 ≤ length u → 1 ≤ length old → Partial (take 1 old) (c ∷ get_or u 0 0 ∷ []) new
+pub pair_refused : (c : ℕ) (u old new : List ℕ) → 1 ≤ length u → 1 ≤ length old
+    → Partial (take 1 old) (c ∷ get_or u 0 0 ∷ []) new
     → Partial old (c ∷ u) (new ++ drop 1 old)
 pair_refused c [] old new h l p = absurd (omega (arith, h))
-pair_refused c (d ∷ u) old new h l p = Partial-longer old (c ∷ d ∷ []) (new ++ drop 1 old) u (partial_front old (c ∷ d ∷ []) new 1 l refl p)
+pair_refused c (d ∷ u) old new h l p =
+    Partial-longer old (c ∷ d ∷ []) (new ++ drop 1 old) u (partial_front old (c ∷ d ∷ []) new 1 l refl p)
 
 -- the first pair is decoded, and what follows is rejected
 pub rest_refused : (c : ℕ) (u old bs new : List ℕ) → 1 ≤ length u → 1 ≤ length old → Spells (c ∷ get_or u 0 0 ∷ []) bs
@@ -94,7 +98,8 @@ rest_refused c (d ∷ u) old bs new h l s p =
     let one : length bs ≡ 1 = omega (arith, two) in
     let same = p.same_length in
     let size : length (bs ++ new) ≡ length old = omega (arith, length-append bs new, length-drop 1 old) in
-    Partial-after old (c ∷ d ∷ u) (bs ++ new) 1 2 refl (omega arith) size (omega arith) (rw (take_at bs new 1 one) s) (rw (drop_at bs new 1 one) p)
+    Partial-after old (c ∷ d ∷ u) (bs ++ new) 1 2 refl (omega arith) size (omega arith) (rw (take_at bs new 1 one) s)
+    (rw (drop_at bs new 1 one) p)
 
 -- ---- what a decoder that has read t reads on
 
@@ -106,23 +111,30 @@ body-shorter t = grind arith
 
 behind : (v u : List ℕ) (p : ℕ) → slice_index u p ≡ slice_index (v ++ u) (length v + p)
 behind [] u p = let e : p ≡ 0 + p = omega arith in ap (slice_index u) e
-behind (c ∷ v) u p = let e : suc (length v + p) ≡ suc (length v) + p = omega arith in behind v u p ∙ ap (slice_index (c ∷ (v ++ u))) e
+behind (c ∷ v) u p = let e : suc (length v + p) ≡ suc (length v) + p =
+    omega arith in behind v u p ∙ ap (slice_index (c ∷ (v ++ u))) e
 
-module _ (d : Decoder) (t bs piece w digits : List ℕ) (r : HasRead d t bs) (whole : body_of (t ++ piece) ≡ r.pairs ++ (w ++ digits)) where
+module _ (d : Decoder) (t bs piece w digits : List ℕ) (r : HasRead d t bs)
+    (whole : body_of (t ++ piece) ≡ r.pairs ++ (w ++ digits)) where
   -- how many bytes are decoded by now
-  pub spelled_by_now : (count : ℕ) → count ≡ length (w ++ digits) / 2 → length (body_of (t ++ piece)) / 2 ≡ length bs + count
+  pub spelled_by_now : (count : ℕ) → count ≡ length (w ++ digits) / 2
+      → length (body_of (t ++ piece)) / 2 ≡ length bs + count
   spelled_by_now count e =
       let twice = Spells-length r.pairs bs r.given in
-      let size : length (body_of (t ++ piece)) ≡ length r.pairs + length (w ++ digits) = rw whole (length-append r.pairs (w ++ digits)) in
+      let size : length (body_of (t ++ piece)) ≡ length r.pairs + length (w ++ digits) =
+      rw whole (length-append r.pairs (w ++ digits)) in
       omega (arith, e, twice, size)
 
   -- all of it is digits
   pub digits_by_now : AllDigits w → AllDigits digits → AllDigits (body_of (t ++ piece))
-  digits_by_now a b = rw whole ((digits_append r.pairs (w ++ digits)).1 (Spells-digits _ _ r.given, (digits_append w digits).1 (a, b)))
+  digits_by_now a b =
+      rw whole ((digits_append r.pairs (w ++ digits)).1 (Spells-digits _ _ r.given, (digits_append w digits).1 (a, b)))
 
   -- the decoder goes on
-  pub goes_on : (e : Decoder) (out : List ℕ) (count : ℕ) → AllDigits w → AllDigits digits → Spells (take (2 * count) (w ++ digits)) out
-      → error_of e ≡ None → position_of e ≡ counted (position_of d + length piece) → waiting_digit e ≡ drop (2 * count) (w ++ digits)
+  pub goes_on : (e : Decoder) (out : List ℕ) (count : ℕ) → AllDigits w → AllDigits digits
+      → Spells (take (2 * count) (w ++ digits)) out
+      → error_of e ≡ None → position_of e ≡ counted (position_of d + length piece)
+      → waiting_digit e ≡ drop (2 * count) (w ++ digits)
       → HasRead e (t ++ piece) (bs ++ out)
   goes_on e out count a b s none index waits =
       let u = w ++ digits in
@@ -139,12 +151,15 @@ module _ (d : Decoder) (t bs piece w digits : List ℕ) (r : HasRead d t bs) (wh
 
   -- and it does so if no byte is written
   pub goes_on_unwritten : (e : Decoder) (count : ℕ) → count ≡ length (w ++ digits) / 2 → AllDigits w → AllDigits digits
-      → error_of e ≡ None → position_of e ≡ counted (position_of d + length piece) → waiting_digit e ≡ drop (2 * count) (w ++ digits)
+      → error_of e ≡ None → position_of e ≡ counted (position_of d + length piece)
+      → waiting_digit e ≡ drop (2 * count) (w ++ digits)
       → (more : List ℕ) × HasRead e (t ++ piece) (bs ++ more)
   goes_on_unwritten e count half a b none index waits =
       let u = w ++ digits in
-      let even : length (take (2 * count) u) % 2 ≡ 0 = omega (arith, length-take-le (2 * count) u (omega (arith, half))) in
-      let bytes = Spells-some (take (2 * count) u) even (All-take IsDigit (2 * count) u ((digits_append w digits).1 (a, b))) in
+      let even : length (take (2 * count) u) % 2 ≡ 0 =
+      omega (arith, length-take-le (2 * count) u (omega (arith, half))) in
+      let bytes = Spells-some (take (2 * count) u) even
+      (All-take IsDigit (2 * count) u ((digits_append w digits).1 (a, b))) in
       (bytes.0, goes_on e bytes.0 count a b bytes.1 none index waits)
 
   -- what the piece adds
@@ -152,7 +167,8 @@ module _ (d : Decoder) (t bs piece w digits : List ℕ) (r : HasRead d t bs) (wh
   added = rw whole (drop_at r.pairs (w ++ digits) (2 * length bs) (Spells-length r.pairs bs r.given))
 
   -- the first invalid character is in the piece
-  pub bad_by_now : (skipped p : ℕ) → skipped ≡ length piece - length digits → length digits ≤ length piece → AllDigits w → FirstBad digits p
+  pub bad_by_now : (skipped p : ℕ) → skipped ≡ length piece - length digits → length digits ≤ length piece → AllDigits w
+      → FirstBad digits p
       → NamesCounted (t ++ piece) (slice_index digits p) (counted (position_of d + skipped + p))
   bad_by_now skipped p e shorter a f =
       let v = r.pairs ++ w in
@@ -163,7 +179,8 @@ module _ (d : Decoder) (t bs piece w digits : List ℕ) (r : HasRead d t bs) (wh
       let parts : length (body_of (t ++ piece)) ≡ length v + length digits = rw body (length-append v digits) in
       let bound = body-shorter (t ++ piece) in
       let named : FirstBad (v ++ digits) (length v + p) =
-      FirstBad-after (length v) (v ++ digits) p (rw (take_at v digits (length v) refl) fine) (omega (arith, length-append v digits))
+      FirstBad-after (length v) (v ++ digits) p (rw (take_at v digits (length v) refl) fine)
+      (omega (arith, length-append v digits))
       (rw (drop_at v digits (length v) refl) f) in (
         length v + p + (length (t ++ piece) - length (body_of (t ++ piece))),
         (length v + p, rw body named, rw body (behind v digits p), refl),
@@ -183,15 +200,18 @@ pub read_front : (d : Decoder) (t bs u : List ℕ) → HasRead d t bs → Spells
 read_front d t [] u r = tt
 read_front d [] (b ∷ bs) u r =
     let twice = Spells-length r.pairs (b ∷ bs) r.given in
-    let size : 0 ≡ length r.pairs + length (waiting_digit d) = ap length r.whole ∙ length-append r.pairs (waiting_digit d) in
+    let size : 0 ≡ length r.pairs + length (waiting_digit d) =
+    ap length r.whole ∙ length-append r.pairs (waiting_digit d) in
     absurd (omega (arith, twice, size))
 read_front d (c ∷ []) (b ∷ bs) u r =
     let twice = Spells-length r.pairs (b ∷ bs) r.given in
-    let size : 1 ≡ length r.pairs + length (waiting_digit d) = ap length r.whole ∙ length-append r.pairs (waiting_digit d) in
+    let size : 1 ≡ length r.pairs + length (waiting_digit d) =
+    ap length r.whole ∙ length-append r.pairs (waiting_digit d) in
     absurd (omega (arith, twice, size))
 read_front d (c ∷ e ∷ t) (b ∷ bs) u r =
     let more : body_of ((c ∷ e ∷ t) ++ u) ≡ r.pairs ++ (waiting_digit d ++ u) =
-    longer ((c == 48) && (e == 120 || e == 88)) t (c ∷ e ∷ t) u ∙ ap (λ x. x ++ u) r.whole ∙ append_assoc r.pairs (waiting_digit d) u in
+    longer ((c == 48) && (e == 120 || e == 88)) t (c ∷ e ∷ t) u ∙ ap (λ x. x ++ u) r.whole
+    ∙ append_assoc r.pairs (waiting_digit d) u in
     rw more (front_of r.pairs (waiting_digit d ++ u) (b ∷ bs) r.given)
 
 -- ---- digits alone have no invalid character

@@ -5,7 +5,8 @@ use Rattle.std.proofs.lemmas.List.{take-append-drop, take-append-le, drop-append
 use Rattle.const_hex_arch.specs.Texts.{Partial}
 
 -- what `Partial` says of a front that the pairs of the text just fill, it says of the whole output
-pub partial_pairs : (old u new : List ℕ) (n : ℕ) → n ≤ length old → length u / 2 ≡ n → Partial (take n old) u new → Partial old u (new ++ drop n old)
+pub partial_pairs : (old u new : List ℕ) (n : ℕ) → n ≤ length old → length u / 2 ≡ n → Partial (take n old) u new
+    → Partial old u (new ++ drop n old)
 partial_pairs old u new n within sized p =
     let other = drop n old in
     let bad = p.first_bad.within in
@@ -19,9 +20,15 @@ partial_pairs old u new n within sized p =
       not_past = p.not_past;
       same_length = grind (arith, common_steps);
       front = rw (take-append-le p.done new other in_new) p.front;
-      rest = rw (drop-append-le p.done new other in_new, p.rest, ← drop-append-le p.done (take n old) other in_old, whole) refl;
+      rest = rw (
+        drop-append-le p.done new other in_new,
+        p.rest,
+        ← drop-append-le p.done (take n old) other in_old,
+        whole,
+      ) refl;
     }
 
 -- the same for an even text
-pub partial_front : (old u new : List ℕ) (n : ℕ) → n ≤ length old → length u ≡ 2 * n → Partial (take n old) u new → Partial old u (new ++ drop n old)
+pub partial_front : (old u new : List ℕ) (n : ℕ) → n ≤ length old → length u ≡ 2 * n → Partial (take n old) u new
+    → Partial old u (new ++ drop n old)
 partial_front old u new n within sized p = partial_pairs old u new n within (omega (arith, sized)) p

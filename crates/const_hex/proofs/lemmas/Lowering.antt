@@ -8,7 +8,8 @@ use Rattle.const_hex_arch.proofs.lemmas.Texts.{Spells-hex_text}
 use Rattle.const_hex.specs.Results.{lowered, AreBytes}
 
 -- the lower digit of a digit's value
-lowered_digit : (c v : ℕ) → hex_value c ≡ Some v → hex_digit false v ≡ (if nat_le 65 c && nat_le c 70 then c + 32 else c)
+lowered_digit : (c v : ℕ) → hex_value c ≡ Some v
+    → hex_digit false v ≡ (if nat_le 65 c && nat_le c 70 then c + 32 else c)
 lowered_digit c v h = grind (arith, nat_tests)
 
 -- the text of the bytes that a text decodes to is that text in lowercase
@@ -27,13 +28,17 @@ hex_text-lowered (c ∷ d ∷ u) (b ∷ bs) s =
 
 -- bytes with the same text are the same
 hex_text-same : (xs ys : List ℕ) → AreBytes xs → AreBytes ys → hex_text false xs ≡ hex_text false ys → xs ≡ ys
-hex_text-same xs ys hx hy e = Spells-same (hex_text false ys) xs ys (rw (sym e) (Spells-hex_text false xs hx)) (Spells-hex_text false ys hy)
+hex_text-same xs ys hx hy e =
+    Spells-same (hex_text false ys) xs ys (rw (sym e) (Spells-hex_text false xs hx)) (Spells-hex_text false ys hy)
 
 -- two texts decode to the same bytes if and only if they are the same in lowercase
 pub Spells-agree : (u v xs ys : List ℕ) → Spells u xs → Spells v ys → (xs ≡ ys) ↔ (lowered u ≡ lowered v)
 Spells-agree u v xs ys s t =
     let a = hex_text-lowered u xs s in
-    let b = hex_text-lowered v ys t in
-    (λ e. sym a ∙ ap (hex_text false) e ∙ b, λ e. hex_text-same xs ys (Spells-bytes u xs s) (Spells-bytes v ys t) (a ∙ e ∙ sym b))
+    let b = hex_text-lowered v ys t in (
+      λ e. sym a ∙ ap (hex_text false) e
+          ∙ b,
+      λ e. hex_text-same xs ys (Spells-bytes u xs s) (Spells-bytes v ys t) (a ∙ e ∙ sym b),
+    )
 
 pub ruleset read_back = (hex_text-lowered, Spells-agree)

@@ -13,7 +13,8 @@ unfolding debug_escape encode_utf8
 shown-ascii c low = grind (arith, nat_tests, hex_one_digit, hex_two_digits)
 
 by_test : (c i : ℕ) (t : Bool) → (t ≡ true → c < 128)
-    → (Some (codes "invalid character ") ++? (if t then Some (39 ∷ (debug_escape 39 c ++ 39 ∷ [])) else None) ++? Some (codes " at position " ++ decimal i))
+    → (Some (codes "invalid character ") ++? (if t then Some (39 ∷ (debug_escape 39 c ++ 39 ∷ [])) else None) ++? Some
+    (codes " at position " ++ decimal i))
     ≡ (if t then Some (message_text (InvalidHexCharacter c i)) else None)
 by_test c i true low = rw (
   shown-ascii c (low refl),
@@ -24,5 +25,6 @@ by_test c i false low = refl
 
 -- what is printed of an invalid character
 pub printed : (c i : ℕ)
-    → (Some (codes "invalid character ") ++? debug_char c ++? Some (codes " at position " ++ decimal i)) ≡ message_of (InvalidHexCharacter c i)
+    → (Some (codes "invalid character ") ++? debug_char c ++? Some (codes " at position " ++ decimal i)) ≡ message_of
+    (InvalidHexCharacter c i)
 printed c i = by_test c i (is_ascii c) (λ e. grind (arith, nat_tests, e))

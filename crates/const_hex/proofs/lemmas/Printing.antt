@@ -17,7 +17,8 @@ module _ {W : Type 0} (took : W → List ℕ → W → Type 0) where
   offered_text : (s : FormatterSink W) (ps : List (List ℕ)) (t : FormatterSink W) → t.failed ≡ false
       → Offers (FormatterStep took) (λ x. x.failed) s ps t → FormatterStep took s (concat ps) t
   offered_text s [] t e h =
-      subst (λ x. FormatterStep took s [] x) h (record { same_formatter = refl; writes = λ _ f. has_written_styled_nil took _ f })
+      subst (λ x. FormatterStep took s [] x) h
+      (record { same_formatter = refl; writes = λ _ f. has_written_styled_nil took _ f })
   offered_text s (p ∷ ps) t e (o, (m, h, k)) =
       let rest = offered_text m ps t e k in record {
         same_formatter = rest.same_formatter ∙ h.same_formatter;
@@ -33,13 +34,16 @@ module _ {W : Type 0} (took : W → List ℕ → W → Type 0) where
       rw h.cut.whole at (offered_text s h.pieces t e (Streams-all (FormatterStep took) (λ x. x.failed) s text t e h))
 
   -- the same for the formatters that the sinks begin and end with
-  pub written_at : (s : FormatterSink W) (text : List ℕ) (t : FormatterSink W) → t.failed ≡ false → FormatterStep took s text t
-      → (f : Formatter W) → sink_formatter s ≡ f → IsFlush f → (g : Formatter W) → g ≡ sink_formatter t → HasWrittenStyled took f text g
+  pub written_at : (s : FormatterSink W) (text : List ℕ) (t : FormatterSink W) → t.failed ≡ false
+      → FormatterStep took s text t
+      → (f : Formatter W) → sink_formatter s ≡ f → IsFlush f → (g : Formatter W) → g ≡ sink_formatter t
+      → HasWrittenStyled took f text g
   written_at s text t ok h f a p g e = rw (e, ← a) (h.writes ok (rw (← a) at p))
 
   -- a formatter without options writes no prefix
   pub plain_from_styled : (f : Formatter W) (r : Result (Unit {0}) Error) (up : Bool) (bs : List ℕ) (g : Formatter W)
-      → WritesStyledOnOk took f r (full_text (spec_alternate (formatter_spec f)) up bs) g → WritesOnOk took f r (hex_text up bs) g
+      → WritesStyledOnOk took f r (full_text (spec_alternate (formatter_spec f)) up bs) g
+      → WritesOnOk took f r (hex_text up bs) g
   plain_from_styled f r up bs g h p ok =
       let x = h p.flush ok in
       record { wrote = rw p.bare.alternate at x.wrote; plain = record { bare = rw x.spec p.bare; flush = x.flush } }

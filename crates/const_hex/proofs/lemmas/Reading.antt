@@ -22,7 +22,8 @@ one_answer t (Err e) (Ok b) h k = absurd (grind (arith, Spells-no_bad))
 one_answer t (Err e) (Err f) h k = ap Err (grind (arith, FirstBad-same))
 
 -- a text that is read as n bytes has one result
-pub one_sized_answer : (t : List ℕ) (n : ℕ) (r s : Result (List ℕ) FromHexError) → ReadsSized t n r → ReadsSized t n s → r ≡ s
+pub one_sized_answer : (t : List ℕ) (n : ℕ) (r s : Result (List ℕ) FromHexError) → ReadsSized t n r → ReadsSized t n s
+    → r ≡ s
 one_sized_answer t n (Ok a) (Ok b) h k = one_answer t (Ok a) (Ok b) h.1 k.1
 one_sized_answer t n (Ok a) (Err f) h k = absurd (grind (arith, Spells-no_bad))
 one_sized_answer t n (Err e) (Ok b) h k = absurd (grind (arith, Spells-no_bad))
@@ -39,7 +40,8 @@ one_check_answer t (Err e) (Err f) h k = cc (one_answer t (Err e) (Err f) h k)
 
 -- a result of `check` keeps all that `check` promises
 pub ChecksText-from_Checks : (t : List ℕ) (r : Result Unit FromHexError) → Checks t r → ChecksText t r
-ChecksText-from_Checks t (Ok u) h = record { answer = h; accepts = (λ _. h, λ _. refl); unique = λ s k. one_check_answer t s (Ok u) k h }
+ChecksText-from_Checks t (Ok u) h =
+    record { answer = h; accepts = (λ _. h, λ _. refl); unique = λ s k. one_check_answer t s (Ok u) k h }
 ChecksText-from_Checks t (Err e) h = record {
   answer = h;
   accepts = (λ gone. absurd (cc gone), λ reads. absurd (cc (one_check_answer t (Ok tt) (Err e) reads h)));
@@ -57,16 +59,21 @@ is_text-parts : (n : ℕ) (t : List ℕ) → IsTrue (is_text_of n t) → (length
 is_text-parts n t e = let p = and_parts _ _ e in (eqb-true _ _ p.0, AllPass-from_list_all _ (body_of t) p.1)
 
 -- and no text of n bytes is rejected
-text_not_refused : (n : ℕ) (t : List ℕ) (e : FromHexError) → ReadsSized t n (Err e) → (length (body_of t) ≡ 2 * n) × AllDigits (body_of t) → ⊥
+text_not_refused : (n : ℕ) (t : List ℕ) (e : FromHexError) → ReadsSized t n (Err e)
+    → (length (body_of t) ≡ 2 * n) × AllDigits (body_of t) → ⊥
 text_not_refused n t OddLength h is = omega (arith, is.0, body-parity t, h)
 text_not_refused n t InvalidStringLength h is = h.1 is.0
 text_not_refused n t (InvalidHexCharacter c i) h is = digits_no_bad (body_of t) h.1.1.0 is.1 h.1.1.1
 text_not_refused n t NoMemory h is = h
 
 -- a text is read as n bytes if and only if the test says so
-pub sized_accepts : (n : ℕ) (t : List ℕ) (r : Result (List ℕ) FromHexError) → ReadsSized t n r → IsOk r ↔ IsTrue (is_text_of n t)
-sized_accepts n t (Ok bs) h =
-    (λ _. and_from _ _ (eq-eqb _ _ h.0) (list_all-from_AllPass _ (body_of t) (Spells-digits (body_of t) bs h.1.1)), λ _. refl)
+pub sized_accepts : (n : ℕ) (t : List ℕ) (r : Result (List ℕ) FromHexError) → ReadsSized t n r
+    → IsOk r ↔ IsTrue (is_text_of n t)
+sized_accepts n t (Ok bs) h = (
+  λ _. and_from _ _ (eq-eqb _ _ h.0) (list_all-from_AllPass _ (body_of t) (Spells-digits (body_of t) bs h.1.1)),
+  λ _.
+      refl,
+)
 sized_accepts n t (Err e) h = (λ gone. absurd (cc gone), λ is. absurd (text_not_refused n t e h (is_text-parts n t is)))
 
 pub ruleset checked = (Reads-digits, Spells-no_bad)

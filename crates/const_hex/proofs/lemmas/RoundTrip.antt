@@ -25,17 +25,21 @@ even-full_text : (prefix up : Bool) (bs : List ℕ) → IsEven (length (full_tex
 even-full_text prefix up bs = grind (arith, length-full_text)
 
 -- what was written is read as its bytes
-pub Reads-full_text : (t : List ℕ) (prefix up : Bool) (bs : List ℕ) → AreBytes bs → t ≡ full_text prefix up bs → Reads t (Ok bs)
-Reads-full_text t prefix up bs h e = rw e (even-full_text prefix up bs, rw (body-full_text prefix up bs) (Spells-hex_text up bs h))
+pub Reads-full_text : (t : List ℕ) (prefix up : Bool) (bs : List ℕ) → AreBytes bs → t ≡ full_text prefix up bs
+    → Reads t (Ok bs)
+Reads-full_text t prefix up bs h e =
+    rw e (even-full_text prefix up bs, rw (body-full_text prefix up bs) (Spells-hex_text up bs h))
 
 -- so a decoder that returns the reader's result, or out of memory, returns these bytes
 pub round_trip : {V : Type 0} (items : V → List ℕ) (t : List ℕ) (r : Result V FromHexError)
     → IfOk r (λ v. Reads t (Ok (items v))) → IfErr r (λ e. e ≢ NoMemory → Reads t (Err e))
     → (prefix up : Bool) (bs : List ℕ) → AreBytes bs → t ≡ full_text prefix up bs
     → MatchResult r (λ v. items v ≡ bs) (λ e. e ≡ NoMemory)
-round_trip items t (Ok v) ok err prefix up bs h e = cc (one_answer t (Ok (items v)) (Ok bs) ok (Reads-full_text t prefix up bs h e))
+round_trip items t (Ok v) ok err prefix up bs h e =
+    cc (one_answer t (Ok (items v)) (Ok bs) ok (Reads-full_text t prefix up bs h e))
 round_trip items t (Err f) ok err prefix up bs h e =
-    let other = λ (is : f ≢ NoMemory). one_answer t (Err f) (Ok bs) (err is) (Reads-full_text t prefix up bs h e) in grind (arith, other)
+    let other = λ (is : f ≢ NoMemory).
+    one_answer t (Err f) (Ok bs) (err is) (Reads-full_text t prefix up bs h e) in grind (arith, other)
 
 -- the text of n bytes is read as these bytes, and has no other result
 pub sized_round_trip : (n : ℕ) (t : List ℕ) (r : Result (List ℕ) FromHexError) → ReadsSized t n r
@@ -48,13 +52,15 @@ sized_round_trip n t r h prefix up bs bytes len e =
 -- ---- what other texts give
 
 -- the text of the bytes that were read is the body in lowercase
-pub canonical : {V : Type 0} (items : V → List ℕ) (t : List ℕ) (r : Result V FromHexError) → IfOk r (λ v. Reads t (Ok (items v)))
+pub canonical : {V : Type 0} (items : V → List ℕ) (t : List ℕ) (r : Result V FromHexError)
+    → IfOk r (λ v. Reads t (Ok (items v)))
     → IfOk r (λ v. hex_text false (items v) ≡ lowered (body_of t))
 canonical items t (Ok v) h = hex_text-lowered (body_of t) (items v) h.1
 canonical items t (Err e) h = tt
 
 -- another text is read as the same bytes if and only if the bodies are the same in lowercase
-pub agree : {V : Type 0} (items : V → List ℕ) (t : List ℕ) (r : Result V FromHexError) → IfOk r (λ v. Reads t (Ok (items v)))
+pub agree : {V : Type 0} (items : V → List ℕ) (t : List ℕ) (r : Result V FromHexError)
+    → IfOk r (λ v. Reads t (Ok (items v)))
     → (u bs : List ℕ) → Reads u (Ok bs) → IfOk r (λ v. (bs ≡ items v) ↔ (lowered (body_of u) ≡ lowered (body_of t)))
 agree items t (Ok v) h u bs k = Spells-agree (body_of u) (body_of t) bs (items v) k.1 h.1
 agree items t (Err e) h u bs k = tt
@@ -65,7 +71,8 @@ sized_agree n t (Ok v) h u bs k = Spells-agree (body_of u) (body_of t) bs v k.1.
 sized_agree n t (Err e) h u bs k = tt
 
 -- a result for n bytes keeps all that `decode_to_array` promises
-pub DecodesToArray-from_ReadsSized : (n : ℕ) (t : List ℕ) (r : Result (List ℕ) FromHexError) → ReadsSized t n r → DecodesToArray n t r
+pub DecodesToArray-from_ReadsSized : (n : ℕ) (t : List ℕ) (r : Result (List ℕ) FromHexError) → ReadsSized t n r
+    → DecodesToArray n t r
 DecodesToArray-from_ReadsSized n t r h = record {
   answer = h;
   accepts = sized_accepts n t r h;

@@ -7,11 +7,13 @@ use Rattle.const_hex_arch.proofs.lemmas.Spelling.{digits_more}
 
 -- the byte at i, counted from the start
 pub from_start : (u : List ℕ) (start i : ℕ) → start ≤ i → get_or (drop start u) (i - start) 0 ≡ get_or u i 0
-from_start u start i after = rw (get_or-drop start u (i - start) 0) (let e : start + (i - start) ≡ i = omega arith in ap (λ k. get_or u k 0) e)
+from_start u start i after =
+    rw (get_or-drop start u (i - start) 0) (let e : start + (i - start) ≡ i = omega arith in ap (λ k. get_or u k 0) e)
 
 -- one digit more
 pub digit_on : (u : List ℕ) (start i next : ℕ) → start ≤ i → i < length u → next ≡ i + 1
-    → value_or_nil (hex_value (get_or u i 0)) ≢ 255 → AllDigits (take (i - start) (drop start u)) → AllDigits (take (next - start) (drop start u))
+    → value_or_nil (hex_value (get_or u i 0)) ≢ 255 → AllDigits (take (i - start) (drop start u))
+    → AllDigits (take (next - start) (drop start u))
 digit_on u start i next after within is digit done =
     let e : next - start ≡ i - start + 1 = omega arith in
     let inside : i - start < length (drop start u) = rw (length-drop start u) (omega arith) in
@@ -27,5 +29,6 @@ found u start i after within done none = record {
 }
 
 -- the end
-pub none_left : (u : List ℕ) (start i : ℕ) → length u ≤ i → AllDigits (take (i - start) (drop start u)) → AllDigits (drop start u)
+pub none_left : (u : List ℕ) (start i : ℕ) → length u ≤ i → AllDigits (take (i - start) (drop start u))
+    → AllDigits (drop start u)
 none_left u start i end done = rw (take_all (i - start) (drop start u) (rw (length-drop start u) (omega arith))) at done

@@ -34,13 +34,16 @@ both_empty (x ∷ a) b e = cc e
 
 module _ {W : Type 0} (contents : W → Option (List ℕ)) where
   -- a text that follows another is written, unless the first failed and nothing more was tried
-  joined : (s : WriteSink W) (a : List ℕ) (m : WriteSink W) (b : List ℕ) (t : WriteSink W) (failed : Bool) → has_failed m ≡ failed
-      → WriteStep contents s a m → WriteStep contents m b t → (has_failed m ≡ true → t ≡ m) → WriteStep contents s (a ++ b) t
+  joined : (s : WriteSink W) (a : List ℕ) (m : WriteSink W) (b : List ℕ) (t : WriteSink W) (failed : Bool)
+      → has_failed m ≡ failed
+      → WriteStep contents s a m → WriteStep contents m b t → (has_failed m ≡ true → t ≡ m)
+      → WriteStep contents s (a ++ b) t
   joined s a m b t false is h k stays = record {
     same_writer = k.same_writer ∙ h.same_writer;
     accepted = λ u. Appends-trans _ _ _ a b (h.accepted is) (k.accepted u);
     refused = λ u.
-        let r = k.refused u in (length a + r.0, rw (take-append-add a b r.0) (Appends-trans _ _ _ a (take r.0 b) (h.accepted is) r.1));
+        let r = k.refused u in
+        (length a + r.0, rw (take-append-add a b r.0) (Appends-trans _ _ _ a (take r.0 b) (h.accepted is) r.1));
     nothing = λ e. let none = both_empty a b e in k.nothing none.1 ∙ h.nothing none.0;
   }
   joined s a m b t true is h k stays = record {
@@ -53,12 +56,14 @@ module _ {W : Type 0} (contents : W → Option (List ℕ)) where
   }
 
   -- after a failure no piece is offered
-  none_after : (m : WriteSink W) (ps : List (List ℕ)) (t : WriteSink W) → Offers (WriteStep contents) has_failed m ps t → has_failed m ≡ true → t ≡ m
+  none_after : (m : WriteSink W) (ps : List (List ℕ)) (t : WriteSink W) → Offers (WriteStep contents) has_failed m ps t
+      → has_failed m ≡ true → t ≡ m
   none_after m [] t h u = sym h
   none_after m (p ∷ ps) t h u = cc (h.0)
 
   -- pieces that were offered are written as one text, with what is left, if a write failed
-  handed : (s : WriteSink W) (ps : List (List ℕ)) (t : WriteSink W) (left : List ℕ) → Offers (WriteStep contents) has_failed s ps t
+  handed : (s : WriteSink W) (ps : List (List ℕ)) (t : WriteSink W) (left : List ℕ)
+      → Offers (WriteStep contents) has_failed s ps t
       → (has_failed t ≡ false → left ≡ []) → WriteStep contents s (concat ps ++ left) t
   handed s [] t left h none = record {
     same_writer = cc;
@@ -67,7 +72,8 @@ module _ {W : Type 0} (contents : W → Option (List ℕ)) where
     nothing = λ _. sym h;
   }
   handed s (p ∷ ps) t left (e, (m, h, k)) none =
-      rw append_assoc (joined s p m (concat ps ++ left) t (has_failed m) refl h (handed m ps t left k none) (none_after m ps t k))
+      rw append_assoc
+      (joined s p m (concat ps ++ left) t (has_failed m) refl h (handed m ps t left k none) (none_after m ps t k))
 
   -- a text that is passed in pieces is written as if it were one piece
   pub streamed_text : (s : WriteSink W) (text : List ℕ) (t : WriteSink W)
@@ -78,4 +84,5 @@ module _ {W : Type 0} (contents : W → Option (List ℕ)) where
       let whole : concat offered ++ concat left ≡ text =
       sym (concat-append offered left) ∙ ap (λ x. concat x) (take-append-drop h.offered h.pieces) ∙ h.cut.whole in
       subst (λ x. WriteStep contents s x t) whole
-      (handed s offered t (concat left) h.run (λ u. ap (λ x. concat x) (drop_all h.offered h.pieces (omega (arith, h.complete u)))))
+      (handed s offered t (concat left) h.run
+      (λ u. ap (λ x. concat x) (drop_all h.offered h.pieces (omega (arith, h.complete u)))))

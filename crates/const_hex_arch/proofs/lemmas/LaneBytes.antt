@@ -17,9 +17,11 @@ abbrev pub merge : ℕ → ℕ
 merge pair = pair * 4097 % 65536 / 256
 
 merge_at : (h l : ℕ) → h ≤ 15 → l ≤ 15 → merge (h + 256 * l) ≡ 16 * h + l
-merge_at h l p q = eqb→eq _ _ (every_pair (λ h l. eqb (merge (h + 256 * l)) (16 * h + l)) 16 16 tt h l (omega arith) (omega arith))
+merge_at h l p q =
+    eqb→eq _ _ (every_pair (λ h l. eqb (merge (h + 256 * l)) (16 * h + l)) 16 16 tt h l (omega arith) (omega arith))
 
-pub merge_all : (k : ℕ) (ns : List ℕ) → length ns ≡ 2 * k → AllNibbles ns → map merge (digits_l 65536 k (number_l 256 ns)) ≡ byte_pairs ns
+pub merge_all : (k : ℕ) (ns : List ℕ) → length ns ≡ 2 * k → AllNibbles ns
+    → map merge (digits_l 65536 k (number_l 256 ns)) ≡ byte_pairs ns
 merge_all zero [] e a = refl
 merge_all zero (h ∷ ns) e a = absurd (omega arith)
 merge_all (suc k) [] e a = absurd (omega arith)
@@ -37,29 +39,36 @@ merge_all (suc k) (h ∷ l ∷ ns) e a =
 value_is : (n b : ℕ) → as_value n ≡ hex_value b → n ≤ 15 → hex_value b ≡ Some n
 value_is n b e h = sym e ∙ rw (le-leb n 15 h) refl
 
-Spells-byte_pairs : (k : ℕ) (ns u : List ℕ) → length ns ≡ 2 * k → map as_value ns ≡ map hex_value u → AllNibbles ns → Spells u (byte_pairs ns)
+Spells-byte_pairs : (k : ℕ) (ns u : List ℕ) → length ns ≡ 2 * k → map as_value ns ≡ map hex_value u → AllNibbles ns
+    → Spells u (byte_pairs ns)
 Spells-byte_pairs zero [] [] l e a = tt
-Spells-byte_pairs zero [] (x ∷ u) l e a = absurd (let q : zero ≡ suc (length (map hex_value u)) = ap length e in omega arith)
+Spells-byte_pairs zero [] (x ∷ u) l e a =
+    absurd (let q : zero ≡ suc (length (map hex_value u)) = ap length e in omega arith)
 Spells-byte_pairs zero (h ∷ ns) u l e a = absurd (omega arith)
 Spells-byte_pairs (suc k) [] u l e a = absurd (omega arith)
 Spells-byte_pairs (suc k) (h ∷ []) u l e a = absurd (omega arith)
-Spells-byte_pairs (suc k) (h ∷ m ∷ ns) [] l e a = absurd (let q : suc (suc (length (map as_value ns))) ≡ zero = ap length e in omega arith)
-Spells-byte_pairs (suc k) (h ∷ m ∷ ns) (x ∷ []) l e a = absurd (let q : suc (suc (length (map as_value ns))) ≡ 1 = ap length e in omega arith)
+Spells-byte_pairs (suc k) (h ∷ m ∷ ns) [] l e a =
+    absurd (let q : suc (suc (length (map as_value ns))) ≡ zero = ap length e in omega arith)
+Spells-byte_pairs (suc k) (h ∷ m ∷ ns) (x ∷ []) l e a =
+    absurd (let q : suc (suc (length (map as_value ns))) ≡ 1 = ap length e in omega arith)
 Spells-byte_pairs (suc k) (h ∷ m ∷ ns) (x ∷ y ∷ u) l e a =
     let high = value_is h x (ap (λ l. get_or l 0 None) e) a.0 in
     let low = value_is m y (ap (λ l. get_or l 1 None) e) a.1.0 in
     (IsPair-of x y h m (16 * h + m) high low refl, Spells-byte_pairs k ns u (omega arith) (ap (drop 2) e) a.1.1)
 
 -- the values a and b of the digits of two vectors t and u of n lanes, merged into r
-pub merge_spells : (n : ℕ) (t u a b : List ℕ) → length a ≡ n → length b ≡ n → AllZip IsValueOf t a → AllZip IsValueOf u b
+pub merge_spells : (n : ℕ) (t u a b : List ℕ) → length a ≡ n → length b ≡ n → AllZip IsValueOf t a
+    → AllZip IsValueOf u b
     → (r : List ℕ) → (AllNibbles (a ++ b) → r ≡ byte_pairs (a ++ b)) → AllDigits (t ++ u) → Spells (t ++ u) r
 merge_spells n t u a b p q first second r is d =
     let parts = (digits_append t u).0 d in
     let high = values_of_digits t a first parts.0 in
     let low = values_of_digits u b second parts.1 in
-    let values : map as_value (a ++ b) ≡ map hex_value (t ++ u) = map-append as_value a b ∙ rw (high, low) (sym (map-append hex_value t u)) in
+    let values : map as_value (a ++ b) ≡ map hex_value (t ++ u) =
+    map-append as_value a b ∙ rw (high, low) (sym (map-append hex_value t u)) in
     let small = small_values (a ++ b) (t ++ u) values d in
-    subst (Spells (t ++ u)) (sym (is small)) (Spells-byte_pairs n (a ++ b) (t ++ u) (omega (arith, length-append a b)) values small)
+    subst (Spells (t ++ u)) (sym (is small))
+    (Spells-byte_pairs n (a ++ b) (t ++ u) (omega (arith, length-append a b)) values small)
 
 -- ---- the vectors of a slice
 

@@ -20,7 +20,8 @@ are_positions m t [] f = tt
 are_positions m t (x ∷ v) f = (every_below (λ x. is_position (bit_and x m)) 256 t x f.0.fits, are_positions m t v f.1)
 
 -- the lanes that a mask leaves, in b blocks
-pub masked_ok : (m : ℕ) → T (all_below (λ x. is_position (bit_and x m)) 256) → (b n : ℕ) (v : List ℕ) → n ≡ b * 16 → (length v ≡ n) × Each1 (Fits w8) v
+pub masked_ok : (m : ℕ) → T (all_below (λ x. is_position (bit_and x m)) 256) → (b n : ℕ) (v : List ℕ) → n ≡ b * 16
+    → (length v ≡ n) × Each1 (Fits w8) v
     → SwzOk w8 16 n 0 (zip2 bit_and v (replicate n m))
 masked_ok m t b n v blocks f =
     let long = length-zip2 bit_and v (replicate n m) (f.0 ∙ sym (length-replicate n m)) in
@@ -30,12 +31,18 @@ masked_ok m t b n v blocks f =
 -- ---- two halves
 
 -- the halves of a vector of twice n lanes, which are picked from it and itself again
-pub halves : (n : ℕ) (v : List ℕ) → length v ≡ 2 * n → pick_l 0 (v ++ v) (range_with_len 0 n) ++ pick_l 0 (v ++ v) (range_with_len n n) ≡ v
+pub halves : (n : ℕ) (v : List ℕ) → length v ≡ 2 * n
+    → pick_l 0 (v ++ v) (range_with_len 0 n) ++ pick_l 0 (v ++ v) (range_with_len n n) ≡ v
 halves n v e =
     let long = length-append v v in
     let front : take n (v ++ v) ≡ take n v = grind (arith, common_steps) in
     let back : take n (drop n (v ++ v)) ≡ take n (drop n v) = grind (arith, common_steps) in
-    rw (pick_l-range_with_len 0 (v ++ v) 0 n (omega arith), pick_l-range_with_len 0 (v ++ v) n n (omega arith), front, back) (in_two n v e)
+    rw (
+      pick_l-range_with_len 0 (v ++ v) 0 n (omega arith),
+      pick_l-range_with_len 0 (v ++ v) n n (omega arith),
+      front,
+      back,
+    ) (in_two n v e)
 
 -- a relation of lanes, by halves
 both_zip : (R : ℕ → ℕ → Type 0) (v w a b : List ℕ) → AllZip R v a → AllZip R w b → AllZip R (v ++ w) (a ++ b)
@@ -44,6 +51,7 @@ both_zip R [] w (y ∷ a) b p q = absurd p
 both_zip R (x ∷ v) w [] b p q = absurd p
 both_zip R (x ∷ v) w (y ∷ a) b p q = (p.0, both_zip R v w a b p.1 q)
 
-pub by_halves : (R : ℕ → ℕ → Type 0) (n : ℕ) (v a b : List ℕ) → length v ≡ 2 * n → AllZip R (pick_l 0 (v ++ v) (range_with_len 0 n)) a
+pub by_halves : (R : ℕ → ℕ → Type 0) (n : ℕ) (v a b : List ℕ) → length v ≡ 2 * n
+    → AllZip R (pick_l 0 (v ++ v) (range_with_len 0 n)) a
     → AllZip R (pick_l 0 (v ++ v) (range_with_len n n)) b → AllZip R v (a ++ b)
 by_halves R n v a b e p q = subst (λ v. AllZip R v (a ++ b)) (halves n v e) (both_zip R _ _ a b p q)

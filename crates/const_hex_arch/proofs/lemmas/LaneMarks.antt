@@ -51,7 +51,8 @@ module _ (table : List ℕ) where
     limit_at : (b : ℕ) → b < 256 → IsLimitOf b (limit b)
     limit_at b h =
         let same = agree_below_at (λ b. eqb (mark_bits (mark_of b)) 0) (λ b. is_some (hex_value b)) 256 b t h in
-        let right = every_below (λ b. is_none (hex_value b) || same_value (hex_value b) (Some (value_of b))) 256 u b h in (
+        let right = every_below (λ b. is_none (hex_value b) || same_value (hex_value b) (Some (value_of b))) 256 u b
+        h in (
           λ d. same_if_some (hex_value b) (Some (value_of b)) right d,
           (λ p. sym same ∙ eq-eqb (mark_bits (mark_of b)) 0 p, λ d. eqb-true (mark_bits (mark_of b)) 0 (same ∙ d)),
         )
@@ -61,11 +62,17 @@ module _ (table : List ℕ) where
         → AllZip IsLimitOf v (swz_l w8 16 table i (zip2 bit_and v (replicate (length v) 143)))
     limits_all i [] h f = tt
     limits_all i (x ∷ xs) h f =
-        let first : zero ≡ i / 16 = omega arith in
-        (subst (λ q. IsLimitOf x (read q (bit_and x 143))) first (limit_at x f.0.fits), limits_all (suc i) xs (omega arith) f.1)
+        let first : zero ≡ i / 16 = omega arith in (
+          subst (λ q. IsLimitOf x (read q (bit_and x 143))) first (limit_at x f.0.fits),
+          limits_all (suc i) xs
+              (omega arith) f.1,
+        )
 
-    pub limits_are : (v : List ℕ) → (length v ≡ 16) × Each1 (Fits w8) v → AllZip IsLimitOf v (swz_l w8 16 table 0 (zip2 bit_and v (replicate 16 143)))
-    limits_are v f = subst (λ n. AllZip IsLimitOf v (swz_l w8 16 table 0 (zip2 bit_and v (replicate n 143)))) f.0 (limits_all 0 v (omega (arith, f.0)) f.1)
+    pub limits_are : (v : List ℕ) → (length v ≡ 16) × Each1 (Fits w8) v
+        → AllZip IsLimitOf v (swz_l w8 16 table 0 (zip2 bit_and v (replicate 16 143)))
+    limits_are v f =
+        subst (λ n. AllZip IsLimitOf v (swz_l w8 16 table 0 (zip2 bit_and v (replicate n 143)))) f.0
+        (limits_all 0 v (omega (arith, f.0)) f.1)
 
 -- ---- values at most the limit, and what they leave of a lane
 
@@ -91,13 +98,17 @@ values_of_parts (x ∷ v) [] z = absurd z
 values_of_parts (x ∷ v) (n ∷ ns) z = (z.0.0, values_of_parts v ns z.1)
 
 -- the marks of lanes: there are none if and only if all lanes are digits
-pub unmarked_are_digits : (v ns : List ℕ) → AllZip IsPartOf v ns → AllUnmarked (zip2 sub8 (less_l (length v) v) ns) ↔ AllDigits v
+pub unmarked_are_digits : (v ns : List ℕ) → AllZip IsPartOf v ns
+    → AllUnmarked (zip2 sub8 (less_l (length v) v) ns) ↔ AllDigits v
 unmarked_are_digits [] [] z = (λ _. All-nil IsDigit, λ _. tt)
 unmarked_are_digits [] (n ∷ ns) z = absurd z
 unmarked_are_digits (b ∷ v) [] z = absurd z
 unmarked_are_digits (b ∷ v) (n ∷ ns) z =
-    let more = unmarked_are_digits v ns z.1 in
-    (λ a. All-cons IsDigit b v (z.0.1.0 a.0) (more.0 a.1), λ a. (z.0.1.1 (All-head IsDigit b v a), more.1 (All-tail IsDigit b v a)))
+    let more = unmarked_are_digits v ns z.1 in (
+      λ a. All-cons IsDigit b v (z.0.1.0 a.0) (more.0 a.1),
+      λ a.
+          (z.0.1.1 (All-head IsDigit b v a), more.1 (All-tail IsDigit b v a)),
+    )
 
 -- a lane of two together
 both_unmarked : (y z : ℕ) → IsUnmarked (bit_or y z) ↔ (IsUnmarked y × IsUnmarked z)
@@ -107,22 +118,30 @@ both_unmarked y z =
       λ h. omega (arith, bits 7, bits 6, bits 4, bits 3),
     )
 
-all_unmarked : (ys zs : List ℕ) → length ys ≡ length zs → AllUnmarked (zip2 bit_or ys zs) ↔ (AllUnmarked ys × AllUnmarked zs)
+all_unmarked : (ys zs : List ℕ) → length ys ≡ length zs
+    → AllUnmarked (zip2 bit_or ys zs) ↔ (AllUnmarked ys × AllUnmarked zs)
 all_unmarked [] [] e = (λ h. (tt, tt), λ h. tt)
 all_unmarked [] (z ∷ zs) e = absurd (omega arith)
 all_unmarked (y ∷ ys) [] e = absurd (omega arith)
 all_unmarked (y ∷ ys) (z ∷ zs) e =
     let here = both_unmarked y z in
-    let more = all_unmarked ys zs (omega arith) in
-    (λ h. (((here.0 h.0).0, (more.0 h.1).0), ((here.0 h.0).1, (more.0 h.1).1)), λ h. (here.1 (h.0.0, h.1.0), more.1 (h.0.1, h.1.1)))
+    let more = all_unmarked ys zs (omega arith) in (
+      λ h. (((here.0 h.0).0, (more.0 h.1).0), ((here.0 h.0).1, (more.0 h.1).1)),
+      λ h.
+          (here.1 (h.0.0, h.1.0), more.1 (h.0.1, h.1.1)),
+    )
 
 -- the marks of two texts joined, for the text of both
-pub joint_test : (ys zs t u : List ℕ) → length ys ≡ length zs → AllUnmarked ys ↔ AllDigits t → AllUnmarked zs ↔ AllDigits u
+pub joint_test : (ys zs t u : List ℕ) → length ys ≡ length zs → AllUnmarked ys ↔ AllDigits t
+    → AllUnmarked zs ↔ AllDigits u
     → AllUnmarked (zip2 bit_or ys zs) ↔ AllDigits (t ++ u)
 joint_test ys zs t u e first second =
     let both = all_unmarked ys zs e in
-    let parts = digits_append t u in
-    (λ h. parts.1 (first.0 (both.0 h).0, second.0 (both.0 h).1), λ d. both.1 (first.1 (parts.0 d).0, second.1 (parts.0 d).1))
+    let parts = digits_append t u in (
+      λ h. parts.1 (first.0 (both.0 h).0, second.0 (both.0 h).1),
+      λ d.
+          both.1 (first.1 (parts.0 d).0, second.1 (parts.0 d).1),
+    )
 
 -- ---- one test of all lanes
 
@@ -131,17 +150,23 @@ marked x = bit_and x 216
 
 unmarked_at : (x : ℕ) → x < 256 → (marked x ≡ 0) ↔ IsUnmarked x
 unmarked_at x h =
-    let same = agree_below_at (λ x. eqb (marked x) 0) (λ x. eqb (mark_bits x) 0) 256 x refl h in
-    (λ e. eqb-true (mark_bits x) 0 (sym same ∙ eq-eqb (marked x) 0 e), λ p. eqb-true (marked x) 0 (same ∙ eq-eqb (mark_bits x) 0 p))
+    let same = agree_below_at (λ x. eqb (marked x) 0) (λ x. eqb (mark_bits x) 0) 256 x refl h in (
+      λ e. eqb-true (mark_bits x) 0 (sym same ∙ eq-eqb (marked x) 0 e),
+      λ p.
+          eqb-true (marked x) 0 (same ∙ eq-eqb (mark_bits x) 0 p),
+    )
 
-unmarked_fold : (a : ℕ) (xs : List ℕ) → Each1 (Fits w8) xs → (fold_l bit_or a (zip2 bit_and xs (replicate (length xs) 216)) ≡ 0) ↔ ((a ≡ 0) × AllUnmarked xs)
+unmarked_fold : (a : ℕ) (xs : List ℕ) → Each1 (Fits w8) xs
+    → (fold_l bit_or a (zip2 bit_and xs (replicate (length xs) 216)) ≡ 0) ↔ ((a ≡ 0) × AllUnmarked xs)
 unmarked_fold a [] f = (λ e. (e, tt), λ h. h.0)
 unmarked_fold a (x ∷ xs) f =
     let one = unmarked_at x f.0.fits in
     let more = unmarked_fold (bit_or a (marked x)) xs f.1 in (
       λ e.
-          let none = (more.0 e).0 in
-          (omega (arith, none, le_or_l a (marked x)), (one.0 (omega (arith, none, le_or_r a (marked x))), (more.0 e).1)),
+          let none = (more.0 e).0 in (
+            omega (arith, none, le_or_l a (marked x)),
+            (one.0 (omega (arith, none, le_or_r a (marked x))), (more.0 e).1),
+          ),
       λ h. let none : marked x ≡ 0 = one.1 h.1.0 in more.1 (rw (none, h.0) refl, h.1.1),
     )
 
@@ -166,10 +191,14 @@ beyond_all [] (n ∷ ns) e = absurd (let q : suc (length (map as_value ns)) ≡ 
 beyond_all (b ∷ v) [] e = absurd (let q : zero ≡ suc (length (map hex_value v)) = ap length e in omega arith)
 beyond_all (b ∷ v) (n ∷ ns) e =
     let here = beyond_at n b (ap (λ l. get_or l 0 None) e) in
-    let more = beyond_all v ns (ap (drop 1) e) in
-    (λ a. All-cons IsDigit b v (here.0 a.0) (more.0 a.1), λ a. (here.1 (All-head IsDigit b v a), more.1 (All-tail IsDigit b v a)))
+    let more = beyond_all v ns (ap (drop 1) e) in (
+      λ a. All-cons IsDigit b v (here.0 a.0) (more.0 a.1),
+      λ a.
+          (here.1 (All-head IsDigit b v a), more.1 (All-tail IsDigit b v a)),
+    )
 
-pub beyond_are : (n : ℕ) (v ns : List ℕ) → length v ≡ n → map as_value ns ≡ map hex_value v → AllUnmarked (beyond_l n ns) ↔ AllDigits v
+pub beyond_are : (n : ℕ) (v ns : List ℕ) → length v ≡ n → map as_value ns ≡ map hex_value v
+    → AllUnmarked (beyond_l n ns) ↔ AllDigits v
 beyond_are n v ns long e = subst (λ n. AllUnmarked (beyond_l n ns) ↔ AllDigits v) long (beyond_all v ns e)
 
 -- ---- one condition through another

@@ -57,7 +57,8 @@ halves_are_values [] f = tt
 halves_are_values (x ∷ v) f = (omega (arith, f.0.fits), (omega arith, halves_are_values v f.1))
 
 pub halves_ok : (v : List ℕ) → (length v ≡ 16) × Each1 (Fits w8) v → SwzOk w8 16 32 0 (halves_of v)
-halves_ok v f = SwzOk-from_below w8 16 2 32 0 (halves_of v) refl (omega (arith, length-halves_of v, f.0)) (halves_below v f.1)
+halves_ok v f =
+    SwzOk-from_below w8 16 2 32 0 (halves_of v) refl (omega (arith, length-halves_of v, f.0)) (halves_below v f.1)
 
 -- ---- their digits
 
@@ -72,7 +73,9 @@ looked_up up t js n long below table =
     let lt : i < length js = omega (arith, length-swz_l w8 16 t 0 js) in
     let small : get_or js i 0 < 16 = Each1-get_or (λ j. j < 16) js i 0 lt below in
     get_or-swz_l_below w8 16 t 0 js i lt small
-    ∙ eqb→eq _ _ (every_pair (λ i j. eqb (get_or t (16 * ((0 + i) / 16) + j) 0) (hex_digit up j)) n 16 table i (get_or js i 0) (omega (arith, long)) small)
+    ∙ eqb→eq _ _
+    (every_pair (λ i j. eqb (get_or t (16 * ((0 + i) / 16) + j) 0) (hex_digit up j)) n 16 table i (get_or js i 0)
+    (omega (arith, long)) small)
     ∙ sym (get_or-map (hex_digit up) js i 0 0 lt))
 
 pub digits_of_halves : (up : Bool) (v : List ℕ) → map (hex_digit up) (halves_of v) ≡ hex_text up v
@@ -87,7 +90,8 @@ halves_text up t v f table =
     ∙ digits_of_halves up v
 
 -- the digits of a row, twice
-pub row_is_table : (up : Bool) → T (is_table up (map (hex_digit up) (range_with_len 0 16) ++ map (hex_digit up) (range_with_len 0 16)) 32)
+pub row_is_table : (up : Bool)
+    → T (is_table up (map (hex_digit up) (range_with_len 0 16) ++ map (hex_digit up) (range_with_len 0 16)) 32)
 row_is_table true = tt
 row_is_table false = tt
 
@@ -104,10 +108,12 @@ concat_pair (a ∷ b ∷ c ∷ vs) e = absurd (omega arith)
 pub in_halves : (n : ℕ) (t : List ℕ) → length t ≡ 2 * n
     → concat (pick_l 0 (t ++ t) (range_with_len 0 n) ∷ pick_l 0 (t ++ t) (range_with_len n n) ∷ []) ≡ t
 in_halves n t long =
-    concat_pair (pick_l 0 (t ++ t) (range_with_len 0 n) ∷ pick_l 0 (t ++ t) (range_with_len n n) ∷ []) refl ∙ halves n t long
+    concat_pair (pick_l 0 (t ++ t) (range_with_len 0 n) ∷ pick_l 0 (t ++ t) (range_with_len n n) ∷ []) refl
+    ∙ halves n t long
 
 -- the texts of both halves of a vector of 2 * n lanes
-pub text_of_halves : (n : ℕ) (up : Bool) (v a b : List ℕ) → length v ≡ 2 * n → a ≡ hex_text up (pick_l 0 (v ++ v) (range_with_len 0 n))
+pub text_of_halves : (n : ℕ) (up : Bool) (v a b : List ℕ) → length v ≡ 2 * n
+    → a ≡ hex_text up (pick_l 0 (v ++ v) (range_with_len 0 n))
     → b ≡ hex_text up (pick_l 0 (v ++ v) (range_with_len n n)) → concat (a ∷ b ∷ []) ≡ hex_text up v
 text_of_halves n up v a b long p q =
     concat_pair (a ∷ b ∷ []) refl ∙ rw (p, q) (sym (hex_text-append up _ _) ∙ ap (hex_text up) (halves n v long))
@@ -122,5 +128,7 @@ stored_pair n (a ∷ b ∷ []) old e h =
     let second : length b ≡ n = ap (λ l. get_or l 1 0) e in
     let long = length-put_chunk 0 old a in
     let front : take n (put_chunk 0 old a) ≡ a = take_more_put_chunk 0 old a n (omega (arith, first)) (omega arith) in
-    take_more_put_chunk n (put_chunk 0 old a) b (2 * n) (omega (arith, second)) (omega (arith, long)) ∙ rw front (ap (λ x. a ++ x) (sym (append-nil b)))
-stored_pair n (a ∷ b ∷ c ∷ vs) old e h = absurd (let q : suc (suc (suc (length (map (λ x. length x) vs)))) ≡ 2 = ap length e in omega arith)
+    take_more_put_chunk n (put_chunk 0 old a) b (2 * n) (omega (arith, second)) (omega (arith, long))
+    ∙ rw front (ap (λ x. a ++ x) (sym (append-nil b)))
+stored_pair n (a ∷ b ∷ c ∷ vs) old e h =
+    absurd (let q : suc (suc (suc (length (map (λ x. length x) vs)))) ≡ 2 = ap length e in omega arith)

@@ -52,19 +52,27 @@ satsub_l xs ys = zip2 sub8 (sel_l (map (top 7) (zip2 below_mask xs ys)) ys xs) y
 abbrev pub nibbles_l : ℕ → List ℕ → List ℕ
 nibbles_l n v =
     min_l (zip2 sub8 (satsub_l (zip2 add8 v (replicate n 198)) (replicate n 6)) (replicate n 240))
-    (zip2 add8 (min_l (zip2 sub8 (zip2 bit_and v (replicate n 223)) (replicate n 65)) (replicate n 245)) (replicate n 10))
+    (zip2 add8 (min_l (zip2 sub8 (zip2 bit_and v (replicate n 223)) (replicate n 65)) (replicate n 245))
+    (replicate n 10))
 
 -- what `unhex` computes of n lanes
 abbrev pub unhex_l : ℕ → List ℕ → List ℕ
-unhex_l n v = zip2 add8 (zip2 bit_and v (replicate n 15)) (sel_l (map (top 7) (zip2 below_mask (replicate n 64) v)) (replicate n 9) (replicate n 0))
+unhex_l n v =
+    zip2 add8 (zip2 bit_and v (replicate n 15))
+    (sel_l (map (top 7) (zip2 below_mask (replicate n 64) v)) (replicate n 9) (replicate n 0))
 
 -- ---- one lane: each of the 256 values is computed
 
 nibble_at : (b : ℕ) → b < 256 → as_value (get_or (nibbles_l 1 (b ∷ [])) 0 0) ≡ hex_value b
-nibble_at b h = same_value-true _ _ (every_below (λ b. same_value (as_value (get_or (nibbles_l 1 (b ∷ [])) 0 0)) (hex_value b)) 256 tt b h)
+nibble_at b h =
+    same_value-true _ _
+    (every_below (λ b. same_value (as_value (get_or (nibbles_l 1 (b ∷ [])) 0 0)) (hex_value b)) 256 tt b h)
 
 unhex_at : (b : ℕ) → b < 256 → IsDigit b → hex_value b ≡ Some (get_or (unhex_l 1 (b ∷ [])) 0 0)
-unhex_at b h s = same_if_some _ _ (every_below (λ b. is_none (hex_value b) || same_value (hex_value b) (Some (get_or (unhex_l 1 (b ∷ [])) 0 0))) 256 tt b h) s
+unhex_at b h s =
+    same_if_some _ _
+    (every_below (λ b. is_none (hex_value b) || same_value (hex_value b) (Some (get_or (unhex_l 1 (b ∷ [])) 0 0))) 256
+    tt b h) s
 
 -- ---- all lanes
 
@@ -92,8 +100,11 @@ one_small n x e = rw (← e) (λ s. grind (arith, nat_tests))
 pub small_values : (ns v : List ℕ) → map as_value ns ≡ map hex_value v → AllDigits v → AllNibbles ns
 small_values [] v e d = tt
 small_values (n ∷ ns) [] e d = absurd (let q : suc (length (map as_value ns)) ≡ zero = ap length e in omega arith)
-small_values (n ∷ ns) (x ∷ v) e d =
-    (one_small n x (ap (λ l. get_or l 0 None) e) (All-head IsDigit x v d), small_values ns v (ap (drop 1) e) (All-tail IsDigit x v d))
+small_values (n ∷ ns) (x ∷ v) e d = (
+  one_small n x (ap (λ l. get_or l 0 None) e) (All-head IsDigit x v d),
+  small_values ns v (ap (drop 1) e)
+      (All-tail IsDigit x v d),
+)
 
 -- ---- by what `nibbles` makes of lanes
 
@@ -114,15 +125,19 @@ gap_of up = if up then 7 else 39
 -- what `digits` computes of n lanes
 abbrev pub digits_of_l : ℕ → ℕ → List ℕ → List ℕ
 digits_of_l gap n v =
-    zip2 add8 (zip2 add8 v (replicate n 48)) (sel_l (map (top 7) (zip2 below_mask (replicate n 9) v)) (replicate n gap) (replicate n 0))
+    zip2 add8 (zip2 add8 v (replicate n 48))
+    (sel_l (map (top 7) (zip2 below_mask (replicate n 9) v)) (replicate n gap) (replicate n 0))
 
 digit_at : (up : Bool) (x : ℕ) → x < 16 → get_or (digits_of_l (gap_of up) 1 (x ∷ [])) 0 0 ≡ hex_digit up x
-digit_at true x h = eqb→eq _ _ (every_below (λ x. eqb (get_or (digits_of_l 7 1 (x ∷ [])) 0 0) (hex_digit true x)) 16 tt x h)
-digit_at false x h = eqb→eq _ _ (every_below (λ x. eqb (get_or (digits_of_l 39 1 (x ∷ [])) 0 0) (hex_digit false x)) 16 tt x h)
+digit_at true x h =
+    eqb→eq _ _ (every_below (λ x. eqb (get_or (digits_of_l 7 1 (x ∷ [])) 0 0) (hex_digit true x)) 16 tt x h)
+digit_at false x h =
+    eqb→eq _ _ (every_below (λ x. eqb (get_or (digits_of_l 39 1 (x ∷ [])) 0 0) (hex_digit false x)) 16 tt x h)
 
 digits_all : (up : Bool) (v : List ℕ) → AllNibbles v → digits_of_l (gap_of up) (length v) v ≡ map (hex_digit up) v
 digits_all up [] f = refl
 digits_all up (x ∷ xs) f = let small : x < 16 = omega (arith, f.0) in cc (digit_at up x small, digits_all up xs f.1)
 
-pub digits_are : (up : Bool) (n : ℕ) (v : List ℕ) → length v ≡ n → AllNibbles v → digits_of_l (gap_of up) n v ≡ map (hex_digit up) v
+pub digits_are : (up : Bool) (n : ℕ) (v : List ℕ) → length v ≡ n → AllNibbles v
+    → digits_of_l (gap_of up) n v ≡ map (hex_digit up) v
 digits_are up n v long f = subst (λ n. digits_of_l (gap_of up) n v ≡ map (hex_digit up) v) long (digits_all up v f)

@@ -5,47 +5,53 @@ use Rattle.std.specs.List.{FoldsTo, concat}
 use Rattle.std.proofs.lemmas.List.{append-nil}
 use Rattle.std.proofs.lemmas.List.Elements.{All-nil, All-cons, All-append}
 use Rattle.std.proofs.lemmas.List.Folds.{concat-append}
-use Rattle.const_hex_arch.specs.Outputs.{Gathers, piece_of, HasRoom, less_room, IsKernelPiece, Writes}
-pub use Rattle.const_hex_arch.specs.Laws.{less_room-add, run_shrinks}
+use Rattle.const_hex_arch.specs.Outputs.{Gathers, piece_of, HasSpace, less_space, IsKernelPiece, Writes}
+pub use Rattle.const_hex_arch.specs.Laws.{less_space-add, run_shrinks}
 
 -- what is left of the space after m bytes
-pub HasRoom-less : (room : Option ℕ) (m n : ℕ) → HasRoom room (m + n) → HasRoom (less_room room m) n
-HasRoom-less (Some r) m n h = omega arith
-HasRoom-less None m n h = omega arith
+pub HasSpace-less : (space : Option ℕ) (m n : ℕ) → HasSpace space (m + n) → HasSpace (less_space space m) n
+HasSpace-less (Some r) m n h = omega arith
+HasSpace-less None m n h = omega arith
 
 -- space for n bytes is space for fewer
-pub HasRoom-fewer : (room : Option ℕ) (m n : ℕ) → m ≤ n → HasRoom room n → HasRoom room m
-HasRoom-fewer (Some r) m n h k = omega arith
-HasRoom-fewer None m n h k = omega arith
+pub HasSpace-fewer : (space : Option ℕ) (m n : ℕ) → m ≤ n → HasSpace space n → HasSpace space m
+HasSpace-fewer (Some r) m n h k = omega arith
+HasSpace-fewer None m n h k = omega arith
 
-module _ {S : Type 0} (step : S → List ℕ → S → Type 0) (room : S → Option ℕ)
-    (shrinks : (s : S) (piece : List ℕ) (t : S) → step s piece t → room t ≡ less_room (room s) (length piece)) where
+module _ {S : Type 0} (step : S → List ℕ → S → Type 0) (space : S → Option ℕ)
+    (shrinks : (s : S) (piece : List ℕ) (t : S) → step s piece t → space t ≡ less_space (space s) (length piece)) where
   -- what was written leaves space for the rest
-  pub Writes_room : (s : S) (text : List ℕ) (t : S) (n : ℕ) → Writes step s text t → HasRoom (room s) (length text + n) → HasRoom (room t) n
-  Writes_room s text t n w h =
-      rw (run_shrinks step room shrinks s w.pieces t w.run, w.whole) (HasRoom-less (room s) (length text) n h)
+  pub Writes_space : (s : S) (text : List ℕ) (t : S) (n : ℕ) → Writes step s text t
+      → HasSpace (space s) (length text + n) → HasSpace (space t) n
+  Writes_space s text t n w h =
+      rw (run_shrinks step space shrinks s w.pieces t w.run, w.whole) (HasSpace-less (space s) (length text) n h)
 
 module _ {S : Type 0} (step : S → List ℕ → S → Type 0) where
-  pub run_append : (s : S) (ps : List (List ℕ)) (m : S) (qs : List (List ℕ)) (t : S) → FoldsTo step s ps m → FoldsTo step m qs t → FoldsTo step s (ps ++ qs) t
+  pub run_append : (s : S) (ps : List (List ℕ)) (m : S) (qs : List (List ℕ)) (t : S) → FoldsTo step s ps m
+      → FoldsTo step m qs t → FoldsTo step s (ps ++ qs) t
   run_append s [] m qs t h k = subst (λ (x : S). FoldsTo step x qs t) (sym h) k
   run_append s (p ∷ ps) m qs t (j, h, r) k = (j, h, run_append j ps m qs t r k)
 
   pub Writes-none : (s : S) → Writes step s [] s
   Writes-none s = record { pieces = []; run = refl; whole = refl; sizes = All-nil IsKernelPiece }
 
-  pub Writes-more : (s : S) (text : List ℕ) (m : S) (piece : List ℕ) (t : S) → Writes step s text m → step m piece t → IsKernelPiece piece
+  pub Writes-more : (s : S) (text : List ℕ) (m : S) (piece : List ℕ) (t : S) → Writes step s text m → step m piece t
+      → IsKernelPiece piece
       → Writes step s (text ++ piece) t
   Writes-more s text m piece t h k i = record {
     pieces = h.pieces ++ piece ∷ [];
     run = run_append s h.pieces m (piece ∷ []) t h.run (t, k, refl);
-    whole = concat-append h.pieces (piece ∷ []) ∙ ap (λ x. x ++ (piece ++ [])) h.whole ∙ ap (λ x. text ++ x) (append-nil piece);
-    sizes = All-append IsKernelPiece h.pieces (piece ∷ []) h.sizes (All-cons IsKernelPiece piece [] i (All-nil IsKernelPiece));
+    whole = concat-append h.pieces (piece ∷ []) ∙ ap (λ x. x ++ (piece ++ [])) h.whole
+        ∙ ap (λ x. text ++ x) (append-nil piece);
+    sizes = All-append IsKernelPiece h.pieces (piece ∷ []) h.sizes
+        (All-cons IsKernelPiece piece [] i (All-nil IsKernelPiece));
   }
 
   pub one_written : (s : S) (piece : List ℕ) (t : S) → step s piece t → IsKernelPiece piece → Writes step s piece t
   one_written s piece t h i = Writes-more s [] s piece t (Writes-none s) h i
 
-  pub Writes-append : (s : S) (first : List ℕ) (m : S) (second : List ℕ) (t : S) → Writes step s first m → Writes step m second t
+  pub Writes-append : (s : S) (first : List ℕ) (m : S) (second : List ℕ) (t : S) → Writes step s first m
+      → Writes step m second t
       → Writes step s (first ++ second) t
   Writes-append s first m second t h k = record {
     pieces = h.pieces ++ k.pieces;
@@ -60,14 +66,16 @@ pub concat-piece_of : (pending : List ℕ) → concat (piece_of pending) ≡ pen
 concat-piece_of [] = refl
 concat-piece_of (b ∷ bs) = append-nil (b ∷ bs)
 
-module _ {O : Type 0} (step : O → List ℕ → O → Type 0) (room : O → Option ℕ) where
+module _ {O : Type 0} (step : O → List ℕ → O → Type 0) (space : O → Option ℕ) where
   -- the pending text goes first, and then a long piece
-  pub Gathers-long : (n : ℕ) (old : O) (pending piece : List ℕ) (mid new : O) → FoldsTo step old (piece_of pending) mid → step mid piece new
-      → n ≤ length piece → Gathers step room n old pending piece new []
+  pub Gathers-long : (n : ℕ) (old : O) (pending piece : List ℕ) (mid new : O) → FoldsTo step old (piece_of pending) mid
+      → step mid piece new
+      → n ≤ length piece → Gathers step space n old pending piece new []
   Gathers-long n old pending piece mid new h k w = record {
     handed = piece_of pending ++ piece ∷ [];
     run = run_append step old (piece_of pending) mid (piece ∷ []) new h (new, k, refl);
-    whole = append-nil _ ∙ concat-append (piece_of pending) (piece ∷ []) ∙ ap (λ x. x ++ (piece ++ [])) (concat-piece_of pending)
+    whole = append-nil _ ∙ concat-append (piece_of pending) (piece ∷ [])
+        ∙ ap (λ x. x ++ (piece ++ [])) (concat-piece_of pending)
         ∙ ap (λ x. pending ++ x) (append-nil piece);
     bound = omega arith;
     fits = omega arith;

@@ -31,7 +31,8 @@ value_not_found b r e n = grind (arith, nat_tests)
 
 -- the table of the look-up
 pub in_table : (b : ℕ) → b < 256 → get_or HEX_DECODE_LUT.now b 0 ≡ value_or_nil (hex_value b)
-in_table b h = eqb→eq _ _ (every_below (λ b. eqb (get_or HEX_DECODE_LUT.now b 0) (value_or_nil (hex_value b))) 256 tt b h)
+in_table b h =
+    eqb→eq _ _ (every_below (λ b. eqb (get_or HEX_DECODE_LUT.now b 0) (value_or_nil (hex_value b))) 256 tt b h)
 
 pub digit_found : (b r : ℕ) → r ≡ value_or_nil (hex_value b) → IsDigit b → hex_value b ≡ Some r
 digit_found b r e n = grind (arith, nat_tests)
@@ -50,15 +51,19 @@ no_value None n s = cc
 pub digits_append : (xs ys : List ℕ) → AllDigits (xs ++ ys) ↔ (AllDigits xs × AllDigits ys)
 digits_append xs ys = (
   λ h. (
-    All-same IsDigit xs (take (length xs) (xs ++ ys)) (sym (take_at xs ys (length xs) refl)) (All-take IsDigit (length xs) (xs ++ ys) h),
-    All-same IsDigit ys (drop (length xs) (xs ++ ys)) (sym (drop_at xs ys (length xs) refl)) (All-drop IsDigit (length xs) (xs ++ ys) h),
+    All-same IsDigit xs (take (length xs) (xs ++ ys)) (sym (take_at xs ys (length xs) refl))
+        (All-take IsDigit (length xs) (xs ++ ys) h),
+    All-same IsDigit ys (drop (length xs) (xs ++ ys)) (sym (drop_at xs ys (length xs) refl))
+        (All-drop IsDigit (length xs) (xs ++ ys) h),
   ),
   λ h. All-append IsDigit xs ys h.0 h.1,
 )
 
 -- one byte more of a text, which the look-up takes for a digit
-pub digits_more : (u : List ℕ) (i : ℕ) → AllDigits (take i u) → i < length u → value_or_nil (hex_value (get_or u i 0)) ≢ 255 → AllDigits (take (i + 1) u)
-digits_more u i a h n = All-more IsDigit u i 0 h a (IsDigit-from_value (get_or u i 0) _ (value_found (get_or u i 0) _ refl n))
+pub digits_more : (u : List ℕ) (i : ℕ) → AllDigits (take i u) → i < length u
+    → value_or_nil (hex_value (get_or u i 0)) ≢ 255 → AllDigits (take (i + 1) u)
+digits_more u i a h n =
+    All-more IsDigit u i 0 h a (IsDigit-from_value (get_or u i 0) _ (value_found (get_or u i 0) _ refl n))
 
 -- the look-up takes each byte of digits for one
 pub digit_values : (u : List ℕ) (i : ℕ) → AllDigits u → i < length u → value_or_nil (hex_value (get_or u i 0)) ≢ 255
@@ -93,7 +98,8 @@ Spells-length (x ∷ y ∷ u) [] s = absurd s
 Spells-length (x ∷ y ∷ u) (z ∷ bs) s = let e = Spells-length u bs s.1 in omega (arith, e)
 
 -- the first pairs of a text decode to the first bytes, and the other pairs the other bytes
-pub Spells-parts : (u bs : List ℕ) (k m : ℕ) → m ≡ 2 * k → Spells u bs → Spells (take m u) (take k bs) × Spells (drop m u) (drop k bs)
+pub Spells-parts : (u bs : List ℕ) (k m : ℕ) → m ≡ 2 * k → Spells u bs
+    → Spells (take m u) (take k bs) × Spells (drop m u) (drop k bs)
 Spells-parts u bs zero zero e s = (tt, s)
 Spells-parts u bs zero (suc m) e s = absurd (omega (arith, e))
 Spells-parts u bs (suc k) zero e s = absurd (omega (arith, e))
@@ -102,7 +108,8 @@ Spells-parts [] [] (suc k) (suc (suc m)) e s = (tt, tt)
 Spells-parts [] (b ∷ bs) (suc k) (suc (suc m)) e s = absurd s
 Spells-parts (x ∷ []) bs (suc k) (suc (suc m)) e s = absurd s
 Spells-parts (x ∷ y ∷ u) [] (suc k) (suc (suc m)) e s = absurd s
-Spells-parts (x ∷ y ∷ u) (b ∷ bs) (suc k) (suc (suc m)) e s = let more = Spells-parts u bs k m (omega (arith, e)) s.1 in ((s.0, more.0), more.1)
+Spells-parts (x ∷ y ∷ u) (b ∷ bs) (suc k) (suc (suc m)) e s = let more =
+    Spells-parts u bs k m (omega (arith, e)) s.1 in ((s.0, more.0), more.1)
 
 -- a text that decodes to bytes has only digits
 pub Spells-digits : (u bs : List ℕ) → Spells u bs → AllDigits u
@@ -163,7 +170,8 @@ FirstBad-same u p q f g =
     omega (arith, below, above)
 
 -- an invalid character after k digits
-pub FirstBad-after : (k : ℕ) (u : List ℕ) (p : ℕ) → AllDigits (take k u) → k ≤ length u → FirstBad (drop k u) p → FirstBad u (k + p)
+pub FirstBad-after : (k : ℕ) (u : List ℕ) (p : ℕ) → AllDigits (take k u) → k ≤ length u → FirstBad (drop k u) p
+    → FirstBad u (k + p)
 FirstBad-after k u p a h f =
     record {
       within = grind (arith, common_steps);
@@ -209,18 +217,23 @@ Spells-some (c ∷ d ∷ u) e a =
 
 -- ---- one more pair of a text
 
-take-pair : (u : List ℕ) (m n : ℕ) → n ≡ m + 2 → m + 1 < length u → take n u ≡ take m u ++ get_or u m 0 ∷ get_or u (m + 1) 0 ∷ []
+take-pair : (u : List ℕ) (m n : ℕ) → n ≡ m + 2 → m + 1 < length u
+    → take n u ≡ take m u ++ get_or u m 0 ∷ get_or u (m + 1) 0 ∷ []
 take-pair u m n e h =
     let q : n ≡ m + 1 + 1 = omega arith in
-    rw (q, take_more u (m + 1) 0 h, take_more u m 0 (omega arith)) (append_assoc (take m u) (get_or u m 0 ∷ []) (get_or u (m + 1) 0 ∷ []))
+    rw (q, take_more u (m + 1) 0 h, take_more u m 0 (omega arith))
+    (append_assoc (take m u) (get_or u m 0 ∷ []) (get_or u (m + 1) 0 ∷ []))
 
 -- one pair more is decoded
-pub pair_more : (u new : List ℕ) (i high low : ℕ) → Spells (take (2 * i) u) (take i new) → 2 * i + 1 < length u → i < length new
-    → high ≡ value_or_nil (hex_value (get_or u (2 * i) 0)) → low ≡ value_or_nil (hex_value (get_or u (2 * i + 1) 0)) → high ≢ 255 → low ≢ 255
+pub pair_more : (u new : List ℕ) (i high low : ℕ) → Spells (take (2 * i) u) (take i new) → 2 * i + 1 < length u
+    → i < length new
+    → high ≡ value_or_nil (hex_value (get_or u (2 * i) 0)) → low ≡ value_or_nil (hex_value (get_or u (2 * i + 1) 0))
+    → high ≢ 255 → low ≢ 255
     → Spells (take (2 * (i + 1)) u) (take (i + 1) (set new i (high * 16 + low)))
 pair_more u new i high low s h k e f p q =
     let pair = take-pair u (2 * i) (2 * (i + 1)) (omega arith) h in
-    let front : take (i + 1) (set new i (high * 16 + low)) ≡ take i new ++ (high * 16 + low) ∷ [] = grind (arith, common_steps) in
+    let front : take (i + 1) (set new i (high * 16 + low)) ≡ take i new ++ (high * 16 + low) ∷ [] =
+    grind (arith, common_steps) in
     let first = value_found (get_or u (2 * i) 0) high e p in
     let second = value_found (get_or u (2 * i + 1) 0) low f q in
     rw (pair, front) (Spells-append _ _ _ _ s (IsPair-of _ _ high low _ first second (omega arith), tt))
@@ -234,25 +247,33 @@ none_decoded old u n =
     record { bad = r.0; done = 0; first_bad = r.1; not_past = omega arith; same_length = refl; front = tt; rest = refl }
 
 -- an invalid character after i pairs: the first of its pair, or the second
-refused_pair : (old u new : List ℕ) (i bad : ℕ) → FirstBad u bad → i ≤ bad / 2 → Spells (take (2 * i) u) (take i new) → drop i new ≡ drop i old
+refused_pair : (old u new : List ℕ) (i bad : ℕ) → FirstBad u bad → i ≤ bad / 2 → Spells (take (2 * i) u) (take i new)
+    → drop i new ≡ drop i old
     → length new ≡ length old → Partial old u new
-refused_pair old u new i bad f n s d l = record { bad = bad; done = i; first_bad = f; not_past = n; same_length = l; front = s; rest = d }
+refused_pair old u new i bad f n s d l =
+    record { bad = bad; done = i; first_bad = f; not_past = n; same_length = l; front = s; rest = d }
 
-pub refused_high : (old u new : List ℕ) (i : ℕ) → Spells (take (2 * i) u) (take i new) → drop i new ≡ drop i old → 2 * i + 1 < length u
+pub refused_high : (old u new : List ℕ) (i : ℕ) → Spells (take (2 * i) u) (take i new) → drop i new ≡ drop i old
+    → 2 * i + 1 < length u
     → length new ≡ length old → IsNone (hex_value (get_or u (2 * i) 0)) → Partial old u new
 refused_high old u new i s d h l n =
-    refused_pair old u new i (2 * i) (record { within = omega arith; before = Spells-digits _ _ s; here = n }) (omega arith) s d l
+    refused_pair old u new i (2 * i) (record { within = omega arith; before = Spells-digits _ _ s; here = n })
+    (omega arith) s d l
 
-pub refused_low : (old u new : List ℕ) (i v : ℕ) → Spells (take (2 * i) u) (take i new) → drop i new ≡ drop i old → 2 * i + 1 < length u
+pub refused_low : (old u new : List ℕ) (i v : ℕ) → Spells (take (2 * i) u) (take i new) → drop i new ≡ drop i old
+    → 2 * i + 1 < length u
     → length new ≡ length old
     → hex_value (get_or u (2 * i) 0) ≡ Some v → IsNone (hex_value (get_or u (2 * i + 1) 0)) → Partial old u new
 refused_low old u new i v s d h l e n =
-    let before = All-more IsDigit u (2 * i) 0 (omega arith) (Spells-digits _ _ s) (IsDigit-from_value (get_or u (2 * i) 0) v e) in
+    let before =
+    All-more IsDigit u (2 * i) 0 (omega arith) (Spells-digits _ _ s) (IsDigit-from_value (get_or u (2 * i) 0) v e) in
     refused_pair old u new i (2 * i + 1) (record { within = h; before = before; here = n }) (omega arith) s d l
 
 -- two bytes whose values, or NIL, have a bit that no value has
-pub refused_joint : (old u new : List ℕ) (i high low : ℕ) → Spells (take (2 * i) u) (take i new) → drop i new ≡ drop i old → 2 * i + 1 < length u
-    → length new ≡ length old → high ≡ value_or_nil (hex_value (get_or u (2 * i) 0)) → low ≡ value_or_nil (hex_value (get_or u (2 * i + 1) 0))
+pub refused_joint : (old u new : List ℕ) (i high low : ℕ) → Spells (take (2 * i) u) (take i new)
+    → drop i new ≡ drop i old → 2 * i + 1 < length u
+    → length new ≡ length old → high ≡ value_or_nil (hex_value (get_or u (2 * i) 0))
+    → low ≡ value_or_nil (hex_value (get_or u (2 * i + 1) 0))
     → 16 ≤ bit_or high low → Partial old u new
 refused_joint old u new i high low s d h l e f large =
     let first = get_or u (2 * i) 0 in
@@ -265,7 +286,8 @@ refused_joint old u new i high low s d h l e f large =
             | inl (w, also) ↦
                 let high_is : high ≡ v = e ∙ ap value_or_nil is in
                 let low_is : low ≡ w = f ∙ ap value_or_nil also in
-                let small = or_lt 4 high low (omega (arith, hex_value-small first v is, high_is)) (omega (arith, hex_value-small second w also, low_is)) in
+                let small = or_lt 4 high low (omega (arith, hex_value-small first v is, high_is))
+                (omega (arith, hex_value-small second w also, low_is)) in
                 absurd (omega (arith, small, large))
           ]
     ]

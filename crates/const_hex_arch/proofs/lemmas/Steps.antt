@@ -7,8 +7,8 @@ use Rattle.std.proofs.lemmas.List.Elements.{All-take, All-drop}
 use Rattle.std.proofs.lemmas.Slice.{take-put_mid, drop-put_mid}
 use borrow.Rule.Slice.PartMut.{put_mid}
 use Rattle.const_hex_arch.specs.Texts.{IsDigit, hex_text, AllDigits, Spells, Partial}
-use Rattle.const_hex_arch.specs.Outputs.{HasRoom, less_room, Writes}
-use Rattle.const_hex_arch.proofs.lemmas.Runs.{Writes_room, Writes-none, Writes-append}
+use Rattle.const_hex_arch.specs.Outputs.{HasSpace, less_space, Writes}
+use Rattle.const_hex_arch.proofs.lemmas.Runs.{Writes_space, Writes-none, Writes-append}
 use Rattle.const_hex_arch.proofs.lemmas.Spelling.{Spells-append, Spells-parts, Spells-digits, digits_append, none_decoded, Partial-after}
 
 pub parts : (n : ℕ) {u front back : List ℕ} → front ≡ take n u → back ≡ drop n u → front ++ back ≡ u
@@ -17,51 +17,57 @@ parts n {u} f b = rw (f, b) (take-append-drop n u)
 -- ---- digits
 
 -- the first bytes are digits, and then n more
-pub digits_step : (u : List ℕ) (i n end : ℕ) → end ≡ i + n → AllDigits (take i u) → AllDigits (take n (drop i u)) → AllDigits (take end u)
+pub digits_step : (u : List ℕ) (i n end : ℕ) → end ≡ i + n → AllDigits (take i u) → AllDigits (take n (drop i u))
+    → AllDigits (take end u)
 digits_step u i n end q d e = rw (q, take-add i n u) ((digits_append (take i u) (take n (drop i u))).1 (d, e))
 
 -- the first i bytes are digits, and so are all bytes, from those after e, which is not past i
-pub digits_last : (u : List ℕ) (i e : ℕ) → e ≤ i → AllDigits (take i u) → AllDigits (take (length u - e) (drop e u)) ↔ AllDigits u
+pub digits_last : (u : List ℕ) (i e : ℕ) → e ≤ i → AllDigits (take i u)
+    → AllDigits (take (length u - e) (drop e u)) ↔ AllDigits u
 digits_last u i e h d = (
   λ last.
-      let past : drop (i - e) (drop e u) ≡ drop i u = let q : e + (i - e) ≡ i = omega arith in drop-drop (i - e) e u ∙ ap (λ k. drop k u) q in
+      let past : drop (i - e) (drop e u) ≡ drop i u = let q : e + (i - e) ≡ i =
+      omega arith in drop-drop (i - e) e u ∙ ap (λ k. drop k u) q in
       let rest : AllDigits (drop i u) = rw past at (All-drop IsDigit (i - e) (drop e u) (rw take_rest at last)) in
       rw (take-append-drop i u) at ((digits_append (take i u) (drop i u)).1 (d, rest)),
   λ whole. rw take_rest (All-drop IsDigit e u whole),
 )
 
 -- ---- the front of a text is written, and there is space for the rest
-pub record IsWritten {S : Type 0} (step : S → List ℕ → S → Type 0) (room : S → Option ℕ) (text : List ℕ) (old new : S) (rest : List ℕ) : Type 0 where
+pub record IsWritten {S : Type 0} (step : S → List ℕ → S → Type 0) (space : S → Option ℕ) (text : List ℕ) (old new : S)
+    (rest : List ℕ) : Type 0 where
   pub front : List ℕ
   pub whole : front ++ rest ≡ text
   pub written : Writes step old front new
-  pub has_room : HasRoom (room new) (length rest)
+  pub has_space : HasSpace (space new) (length rest)
 
 -- a part of ASCII text
-pub part_ascii : (u front rest part after : List ℕ) → front ++ rest ≡ u → part ++ after ≡ rest → IsAscii u → IsAscii part
+pub part_ascii : (u front rest part after : List ℕ) → front ++ rest ≡ u → part ++ after ≡ rest → IsAscii u
+    → IsAscii part
 part_ascii u front rest part after e p h k =
     let same : front ++ (part ++ after) ≡ u = ap (λ x. front ++ x) p ∙ e in
     let at : slice_index (front ++ (part ++ after)) (length front + k) < 128 = rw same (h (length front + k)) in
     grind (arith, common_steps, at)
 
-module _ {S : Type 0} {step : S → List ℕ → S → Type 0} {room : S → Option ℕ}
-    (shrinks : (s : S) (piece : List ℕ) (t : S) → step s piece t → room t ≡ less_room (room s) (length piece))
+module _ {S : Type 0} {step : S → List ℕ → S → Type 0} {space : S → Option ℕ}
+    (shrinks : (s : S) (piece : List ℕ) (t : S) → step s piece t → space t ≡ less_space (space s) (length piece))
     {text : List ℕ} {old : S} where
-  pub none_written : HasRoom (room old) (length text) → IsWritten step room text old old text
-  none_written h = record { front = []; whole = refl; written = Writes-none step old; has_room = h }
+  pub none_written : HasSpace (space old) (length text) → IsWritten step space text old old text
+  none_written h = record { front = []; whole = refl; written = Writes-none step old; has_space = h }
 
   -- one part more
-  pub written_part : {mid new : S} {all : List ℕ} (part rest : List ℕ) → IsWritten step room text old mid all → part ++ rest ≡ all
-      → Writes step mid part new → IsWritten step room text old new rest
+  pub written_part : {mid new : S} {all : List ℕ} (part rest : List ℕ) → IsWritten step space text old mid all
+      → part ++ rest ≡ all
+      → Writes step mid part new → IsWritten step space text old new rest
   written_part {mid} {new} {all} part rest d e w =
       let needed : length all ≡ length part + length rest = rw (← e) (length-append part rest) in record {
         front = d.front ++ part;
         whole = append_assoc d.front part rest ∙ ap (λ x. d.front ++ x) e ∙ d.whole;
         written = Writes-append step _ _ _ _ _ d.written w;
-        has_room = Writes_room step room shrinks mid part new (length rest) w (rw needed at d.has_room);
+        has_space = Writes_space step space shrinks mid part new (length rest) w (rw needed at d.has_space);
       }
 
-  pub all_written : {new : S} → IsWritten step room text old new [] → Writes step old text new
+  pub all_written : {new : S} → IsWritten step space text old new [] → Writes step old text new
   all_written d = let whole : d.front ≡ text = sym (append-nil d.front) ∙ d.whole in rw whole at d.written
 
 -- ---- the first bytes of an output hold what the first pairs of a text decode to, and the rest of the
@@ -73,10 +79,12 @@ pub record IsDecoded (u old new : List ℕ) (i : ℕ) : Type 0 where
   pub rest : drop i new ≡ drop i old
 
 -- n bytes more, of m bytes of text
-pub decoded_step : {u old new : List ℕ} {i end : ℕ} (r : List ℕ) (n m : ℕ) → IsDecoded u old new i → end ≡ i + n → end ≤ length new → m ≡ 2 * n → length r ≡ n
+pub decoded_step : {u old new : List ℕ} {i end : ℕ} (r : List ℕ) (n m : ℕ) → IsDecoded u old new i → end ≡ i + n
+    → end ≤ length new → m ≡ 2 * n → length r ≡ n
     → Spells (take m (drop (2 * i) u)) r → IsDecoded u old (put_mid i n new r) end
 decoded_step {u} {old} {new} {i} {end} r n m d e h f l s =
-    let text : take (2 * end) u ≡ take (2 * i) u ++ take m (drop (2 * i) u) = let q : 2 * end ≡ 2 * i + m = omega arith in rw q (take-add (2 * i) m u) in
+    let text : take (2 * end) u ≡ take (2 * i) u ++ take m (drop (2 * i) u) = let q : 2 * end ≡ 2 * i + m =
+    omega arith in rw q (take-add (2 * i) m u) in
     let bytes : take end (put_mid i n new r) ≡ take i new ++ r = take-put_mid i n new r end (omega arith) d.within in
     let past : drop end (put_mid i n new r) ≡ drop end new = drop-put_mid i n new r end (omega arith) d.within l in
     let length_kept : length (put_mid i n new r) ≡ length new = grind (arith, common_steps) in record {
@@ -103,23 +111,32 @@ pub kept_step : (new r : List ℕ) (i n : ℕ) → r ≡ take n (drop i new) →
 kept_step new r i n e = rw e (ap (λ x. take i new ++ x) (take-append-drop n (drop i new)) ∙ take-append-drop i new)
 
 -- a step anywhere in the text that fails, and wrote nothing
-pub refused_step : {u old new r : List ℕ} {i : ℕ} (j n m k : ℕ) → IsDecoded u old new i → length u ≡ 2 * length old → r ≡ take n (drop j new)
+pub refused_step : {u old new r : List ℕ} {i : ℕ} (j n m k : ℕ) → IsDecoded u old new i → length u ≡ 2 * length old
+    → r ≡ take n (drop j new)
     → (AllDigits (take m (drop k u)) → ⊥) → Partial old u (put_mid j n new r)
 refused_step {u} {old} {new} {r} {i} j n m k d size e none =
-    let part : AllDigits u → AllDigits (take m (drop k u)) = λ a. All-take IsDigit m (drop k u) (All-drop IsDigit k u a) in
-    let whole : AllDigits (drop (2 * i) u) → AllDigits u = λ a. rw (take-append-drop (2 * i) u) at ((digits_append (take (2 * i) u) (drop (2 * i) u)).1 (Spells-digits _ _ d.front, a)) in
+    let part : AllDigits u
+    → AllDigits (take m (drop k u)) = λ a. All-take IsDigit m (drop k u) (All-drop IsDigit k u a) in
+    let whole : AllDigits (drop (2 * i) u)
+    → AllDigits u =
+    λ a. rw (take-append-drop (2 * i) u) at ((digits_append (take (2 * i) u) (drop (2 * i) u)).1
+    (Spells-digits _ _ d.front, a)) in
     let rest = none_decoded (drop i new) (drop (2 * i) u) (λ a. none (part (whole a))) in
-    rw (kept_step new r j n e) (Partial-after old u new i (2 * i) (omega arith) (omega arith) d.same_length d.within d.front (rw (← d.rest) rest))
+    rw (kept_step new r j n e)
+    (Partial-after old u new i (2 * i) (omega arith) (omega arith) d.same_length d.within d.front (rw (← d.rest) rest))
 
 -- the remainder by another call
-module _ {u old new : List ℕ} {i : ℕ} (r : List ℕ) (d : IsDecoded u old new i) (size : length u ≡ 2 * length old) (long : length r ≡ length new - i) where
+module _ {u old new : List ℕ} {i : ℕ} (r : List ℕ) (d : IsDecoded u old new i) (size : length u ≡ 2 * length old)
+    (long : length r ≡ length new - i) where
   whole : put_mid i (length new - i) new r ≡ take i new ++ r
   whole =
       let over : drop (length new - i) (drop i new) ≡ [] = grind (arith, common_steps) in
       ap (λ x. take i new ++ x) (ap (λ x. r ++ x) over ∙ append-nil r)
 
   pub spells_rest : Spells (take (length u - 2 * i) (drop (2 * i) u)) r → Spells u (put_mid i (length new - i) new r)
-  spells_rest s = rw whole (subst (λ x. Spells x (take i new ++ r)) (take-append-drop (2 * i) u) (Spells-append _ _ _ _ d.front (rw take_rest at s)))
+  spells_rest s =
+      rw whole (subst (λ x. Spells x (take i new ++ r)) (take-append-drop (2 * i) u)
+      (Spells-append _ _ _ _ d.front (rw take_rest at s)))
 
   pub refused_rest : Partial (take (length new - i) (drop i new)) (take (length u - 2 * i) (drop (2 * i) u)) r
       → Partial old u (put_mid i (length new - i) new r)

@@ -17,47 +17,67 @@ use Rattle.const_hex_arch.proofs.lemmas.Runs.{run_append, concat-piece_of}
 abbrev IsHandedOn : List ℕ → Type 0
 IsHandedOn p = (4033 ≤ length p) × (length p ≤ 4096)
 
-record Gathered {O : Type 0} (step : O → List ℕ → O → Type 0) (old : O) (pending text : List ℕ) (new : O) (rest : List ℕ) : Type 0 where
+record Gathered {O : Type 0} (step : O → List ℕ → O → Type 0) (old : O) (pending text : List ℕ) (new : O)
+    (rest : List ℕ) : Type 0 where
   handed : List (List ℕ)
   run : FoldsTo step old handed new
   whole : concat handed ++ rest ≡ pending ++ text
   sizes : All IsHandedOn handed
   bound : length rest ≤ 4096
 
-handed_sizes : (pending piece : List ℕ) (handed : List (List ℕ)) → length pending ≤ 4096 → IsKernelPiece piece → FlushesPending 4096 pending piece handed
+handed_sizes : (pending piece : List ℕ) (handed : List (List ℕ)) → length pending ≤ 4096 → IsKernelPiece piece
+    → FlushesPending 4096 pending piece handed
     → All IsHandedOn handed
 handed_sizes pending piece handed f k (inl e) = All-same IsHandedOn handed [] e (All-nil IsHandedOn)
 handed_sizes pending piece handed f k (inr (e, m)) =
-    All-same IsHandedOn handed (pending ∷ []) e (All-cons IsHandedOn pending [] (omega arith, omega arith) (All-nil IsHandedOn))
+    All-same IsHandedOn handed (pending ∷ []) e
+    (All-cons IsHandedOn pending [] (omega arith, omega arith) (All-nil IsHandedOn))
 
-module _ {O : Type 0} (step : O → List ℕ → O → Type 0) (room : O → Option ℕ) where
+module _ {O : Type 0} (step : O → List ℕ → O → Type 0) (space : O → Option ℕ) where
   gathered_none : (o : O) (pending : List ℕ) → length pending ≤ 4096 → Gathered step o pending [] o pending
-  gathered_none o pending f = record { handed = []; run = refl; whole = sym (append-nil pending); sizes = All-nil IsHandedOn; bound = omega arith }
+  gathered_none o pending f =
+      record {
+        handed = [];
+        run = refl;
+        whole = sym (append-nil pending);
+        sizes = All-nil IsHandedOn;
+        bound =
+            omega arith;
+      }
 
-  gathered_more : (old : O) (pending piece : List ℕ) (mid : O) (kept text : List ℕ) (new : O) (rest : List ℕ) → length pending ≤ 4096 → IsKernelPiece piece
-      → Gathers step room 4096 old pending piece mid kept → Gathered step mid kept text new rest → Gathered step old pending (piece ++ text) new rest
+  gathered_more : (old : O) (pending piece : List ℕ) (mid : O) (kept text : List ℕ) (new : O) (rest : List ℕ)
+      → length pending ≤ 4096 → IsKernelPiece piece
+      → Gathers step space 4096 old pending piece mid kept → Gathered step mid kept text new rest
+      → Gathered step old pending (piece ++ text) new rest
   gathered_more old pending piece mid kept text new rest f k g r = record {
     handed = g.handed ++ r.handed;
     run = run_append step old g.handed mid r.handed new g.run r.run;
-    whole = ap (λ x. x ++ rest) (concat-append g.handed r.handed) ∙ append_assoc (concat g.handed) (concat r.handed) rest
+    whole = ap (λ x. x ++ rest) (concat-append g.handed r.handed)
+        ∙ append_assoc (concat g.handed) (concat r.handed) rest
         ∙ ap (λ x. concat g.handed ++ x) r.whole
-        ∙ sym (append_assoc (concat g.handed) kept text) ∙ ap (λ x. x ++ text) g.whole ∙ append_assoc pending piece text;
-    sizes = All-append IsHandedOn g.handed r.handed (handed_sizes pending piece g.handed f k (g.short (omega arith))) r.sizes;
+        ∙ sym (append_assoc (concat g.handed) kept text) ∙ ap (λ x. x ++ text) g.whole
+        ∙ append_assoc pending piece text;
+    sizes = All-append IsHandedOn g.handed r.handed (handed_sizes pending piece g.handed f k (g.short (omega arith)))
+        r.sizes;
     bound = r.bound;
   }
 
   module _ {B : Type 0} (inner : B → O) (pending : B → List ℕ) where
     gathered_run : (s : B) (ps : List (List ℕ)) (t : B) → length (pending s) ≤ 4096 → All IsKernelPiece ps
-        → FoldsTo (λ s p t. Gathers step room 4096 (inner s) (pending s) p (inner t) (pending t)) s ps t
+        → FoldsTo (λ s p t. Gathers step space 4096 (inner s) (pending s) p (inner t) (pending t)) s ps t
         → Gathered step (inner s) (pending s) (concat ps) (inner t) (pending t)
-    gathered_run s [] t f a h = subst (λ x. Gathered step (inner s) (pending s) [] (inner x) (pending x)) h (gathered_none (inner s) (pending s) f)
+    gathered_run s [] t f a h =
+        subst (λ x. Gathered step (inner s) (pending s) [] (inner x) (pending x)) h
+        (gathered_none (inner s) (pending s) f)
     gathered_run s (p ∷ ps) t f a (m, h, k) =
-        gathered_more (inner s) (pending s) p (inner m) (pending m) (concat ps) (inner t) (pending t) f (All-head IsKernelPiece p ps a) h
+        gathered_more (inner s) (pending s) p (inner m) (pending m) (concat ps) (inner t) (pending t) f
+        (All-head IsKernelPiece p ps a) h
         (gathered_run m ps t h.bound (All-tail IsKernelPiece p ps a) k)
 
 -- ---- what was passed on, and then the pending text, is a cut
 
-all_but_last-append : (ps : List (List ℕ)) (rest : List ℕ) → All IsHandedOn ps → All IsLargePiece (all_but_last (ps ++ piece_of rest))
+all_but_last-append : (ps : List (List ℕ)) (rest : List ℕ) → All IsHandedOn ps
+    → All IsLargePiece (all_but_last (ps ++ piece_of rest))
 all_but_last-append ps [] a =
     rw (append-nil ps) (All-take IsLargePiece _ ps (All-weaker IsHandedOn IsLargePiece (λ p h. h.0) ps a))
 all_but_last-append ps (b ∷ bs) a =
@@ -68,11 +88,13 @@ piece_of-sizes : (rest : List ℕ) → length rest ≤ 4096 → All IsCallPiece 
 piece_of-sizes [] f = All-nil IsCallPiece
 piece_of-sizes (b ∷ bs) f = All-cons IsCallPiece (b ∷ bs) [] (omega arith, f) (All-nil IsCallPiece)
 
-Cut-of : (text : List ℕ) (ps : List (List ℕ)) (rest : List ℕ) → concat ps ++ rest ≡ text → All IsHandedOn ps → length rest ≤ 4096
+Cut-of : (text : List ℕ) (ps : List (List ℕ)) (rest : List ℕ) → concat ps ++ rest ≡ text → All IsHandedOn ps
+    → length rest ≤ 4096
     → Cut text (ps ++ piece_of rest)
 Cut-of text ps rest w a f = record {
   whole = concat-append ps (piece_of rest) ∙ ap (λ x. concat ps ++ x) (concat-piece_of rest) ∙ w;
-  sizes = All-append IsCallPiece ps (piece_of rest) (All-weaker IsHandedOn IsCallPiece (λ p h. (omega arith, h.1)) ps a) (piece_of-sizes rest f);
+  sizes = All-append IsCallPiece ps (piece_of rest) (All-weaker IsHandedOn IsCallPiece (λ p h. (omega arith, h.1)) ps a)
+      (piece_of-sizes rest f);
   large = all_but_last-append ps rest a;
 }
 
@@ -98,7 +120,8 @@ few_pieces text ps rest w a =
 -- ---- what is offered to a sink
 
 module _ {S : Type 0} (step : S → List ℕ → S → Type 0) (is_refused : S → Bool) where
-  sink_name-run : (s : SinkOutput S) (ps : List (List ℕ)) (t : SinkOutput S) → FoldsTo (SinkStep step is_refused) s ps t → sink_name t ≡ sink_name s
+  sink_name-run : (s : SinkOutput S) (ps : List (List ℕ)) (t : SinkOutput S) → FoldsTo (SinkStep step is_refused) s ps t
+      → sink_name t ≡ sink_name s
   sink_name-run s [] t h = ap (λ (x : SinkOutput S). sink_name x) (sym h)
   sink_name-run s (p ∷ ps) t (m, h, k) = sink_name-run m ps t k ∙ h.same_sink
 
@@ -113,7 +136,8 @@ module _ {S : Type 0} (step : S → List ℕ → S → Type 0) (is_refused : S �
     run : Offers step is_refused old (take count pieces) new
     complete : is_refused new ≡ false → count ≡ length pieces
 
-  offered_one : (s : SinkOutput S) (p : List ℕ) (m : SinkOutput S) (ps : List (List ℕ)) (t : SinkOutput S) → is_refused (output_sink s) ≡ false
+  offered_one : (s : SinkOutput S) (p : List ℕ) (m : SinkOutput S) (ps : List (List ℕ)) (t : SinkOutput S)
+      → is_refused (output_sink s) ≡ false
       → SinkStep step is_refused s p m → FoldsTo (SinkStep step is_refused) m ps t
       → (is_refused (output_sink m) ≡ false → Offered (output_sink m) ps (output_sink t))
       → (b : Bool) → is_refused (output_sink m) ≡ b → Offered (output_sink s) (p ∷ ps) (output_sink t)
@@ -132,18 +156,23 @@ module _ {S : Type 0} (step : S → List ℕ → S → Type 0) (is_refused : S �
 
   offered_run : (s : SinkOutput S) (ps : List (List ℕ)) (t : SinkOutput S) → is_refused (output_sink s) ≡ false
       → FoldsTo (SinkStep step is_refused) s ps t → Offered (output_sink s) ps (output_sink t)
-  offered_run s [] t e h = record { count = 0; within = omega arith; run = ap (λ (x : SinkOutput S). output_sink x) h; complete = λ _. refl }
-  offered_run s (p ∷ ps) t e (m, h, k) = offered_one s p m ps t e h k (λ u. offered_run m ps t u k) (is_refused (output_sink m)) refl
+  offered_run s [] t e h =
+      record { count = 0; within = omega arith; run = ap (λ (x : SinkOutput S). output_sink x) h; complete = λ _. refl }
+  offered_run s (p ∷ ps) t e (m, h, k) =
+      offered_one s p m ps t e h k (λ u. offered_run m ps t u k) (is_refused (output_sink m)) refl
 
   -- a run of small writes through a gathering output, and then the pending text
-  pub Streams-from_writes : {B : Type 0} (room : SinkOutput S → Option ℕ) (inner : B → SinkOutput S) (pending : B → List ℕ)
+  pub Streams-from_writes : {B : Type 0} (space : SinkOutput S → Option ℕ) (inner : B → SinkOutput S)
+      (pending : B → List ℕ)
       (s : B) (text : List ℕ) (t : B) (out : SinkOutput S) → pending s ≡ []
-      → Writes (λ s p t. Gathers (SinkStep step is_refused) room 4096 (inner s) (pending s) p (inner t) (pending t)) s text t
+      → Writes (λ s p t. Gathers (SinkStep step is_refused) space 4096 (inner s) (pending s) p (inner t) (pending t)) s
+      text t
       → FoldsTo (SinkStep step is_refused) (inner t) (piece_of (pending t)) out
       → is_refused (output_sink (inner s)) ≡ false
       → (sink_name out ≡ sink_name (inner s)) × Streams step is_refused (output_sink (inner s)) text (output_sink out)
-  Streams-from_writes room inner pending s text t out none w k e =
-      let g = gathered_run (SinkStep step is_refused) room inner pending s w.pieces t (rw none (omega arith)) w.sizes w.run in
+  Streams-from_writes space inner pending s text t out none w k e =
+      let g = gathered_run (SinkStep step is_refused) space inner pending s w.pieces t (rw none (omega arith)) w.sizes
+      w.run in
       let pieces = g.handed ++ piece_of (pending t) in
       let whole : concat g.handed ++ pending t ≡ text = g.whole ∙ ap (λ x. x ++ concat w.pieces) none ∙ w.whole in
       let run = run_append (SinkStep step is_refused) (inner s) g.handed (inner t) (piece_of (pending t)) out g.run k in
@@ -162,7 +191,8 @@ module _ {S : Type 0} (step : S → List ℕ → S → Type 0) (is_refused : S �
       )
 
   -- a text that is one piece
-  pub Streams-one : (s : S) (text : List ℕ) (t : S) → 0 < length text → length text ≤ 4096 → is_refused s ≡ false → step s text t
+  pub Streams-one : (s : S) (text : List ℕ) (t : S) → 0 < length text → length text ≤ 4096 → is_refused s ≡ false
+      → step s text t
       → Streams step is_refused s text t
   Streams-one s text t some most e h = record {
     pieces = text ∷ [];
@@ -193,14 +223,17 @@ module _ {S : Type 0} (step : S → List ℕ → S → Type 0) (is_refused : S �
 -- ---- what is offered to a sink that accepts all
 
 module _ {S : Type 0} (step : S → List ℕ → S → Type 0) (is_refused : S → Bool) where
-  pub Offers-accepting : (s : S) (ps : List (List ℕ)) (t : S) → is_refused t ≡ false → Offers step is_refused s ps t → is_refused s ≡ false
+  pub Offers-accepting : (s : S) (ps : List (List ℕ)) (t : S) → is_refused t ≡ false → Offers step is_refused s ps t
+      → is_refused s ≡ false
   Offers-accepting s [] t e h = ap is_refused h ∙ e
   Offers-accepting s (p ∷ ps) t e h = h.0
 
   -- all pieces of a stream are offered
-  pub Streams-all : (s : S) (text : List ℕ) (t : S) → is_refused t ≡ false → (h : Streams step is_refused s text t) → Offers step is_refused s h.pieces t
+  pub Streams-all : (s : S) (text : List ℕ) (t : S) → is_refused t ≡ false → (h : Streams step is_refused s text t)
+      → Offers step is_refused s h.pieces t
   Streams-all s text t e h =
-      let all : take h.offered h.pieces ≡ h.pieces = rw (h.complete e) (take_all (length h.pieces) h.pieces (omega arith)) in
+      let all : take h.offered h.pieces ≡ h.pieces =
+      rw (h.complete e) (take_all (length h.pieces) h.pieces (omega arith)) in
       rw all at h.run
 
 -- ---- what a sink reports
@@ -209,29 +242,42 @@ reported_after-none : (o : Option (List (List ℕ))) → reported_after o [] ≡
 reported_after-none (Some reported) = ap Some (append-nil reported)
 reported_after-none None = refl
 
-reported_after-more : (o : Option (List (List ℕ))) (xs ys : List (List ℕ)) → reported_after (reported_after o xs) ys ≡ reported_after o (xs ++ ys)
+reported_after-more : (o : Option (List (List ℕ))) (xs ys : List (List ℕ))
+    → reported_after (reported_after o xs) ys ≡ reported_after o (xs ++ ys)
 reported_after-more (Some reported) xs ys = ap Some (append_assoc reported xs ys)
 reported_after-more None xs ys = refl
 
 module _ {S : Type 0} (step : S → List ℕ → S → Type 0) (is_refused : S → Bool) (reported : S → Option (List (List ℕ)))
-    (reports : (s : S) (piece : List ℕ) (t : S) → step s piece t → reported t ≡ reported_after (reported s) (if is_refused t then [] else piece ∷ [])) where
+    (reports : (s : S) (piece : List ℕ) (t : S) → step s piece t
+    → reported t ≡ reported_after (reported s) (if is_refused t then [] else piece ∷ [])) where
   -- what is passed to a sink that accepts all is reported
-  reported-Offers : (s : S) (ps : List (List ℕ)) (t : S) → is_refused t ≡ false → Offers step is_refused s ps t → reported t ≡ reported_after (reported s) ps
+  reported-Offers : (s : S) (ps : List (List ℕ)) (t : S) → is_refused t ≡ false → Offers step is_refused s ps t
+      → reported t ≡ reported_after (reported s) ps
   reported-Offers s [] t e h = ap reported (sym h) ∙ sym (reported_after-none (reported s))
   reported-Offers s (p ∷ ps) t e (o, (m, h, k)) =
       let accepted = Offers-accepting step is_refused m ps t e k in
-      reported-Offers m ps t e k ∙ ap (λ x. reported_after x ps) (reports s p m h ∙ ap (λ b. reported_after (reported s) (if b then [] else p ∷ [])) accepted)
+      reported-Offers m ps t e k
+      ∙ ap (λ x. reported_after x ps)
+      (reports s p m h ∙ ap (λ b. reported_after (reported s) (if b then [] else p ∷ [])) accepted)
       ∙ reported_after-more (reported s) (p ∷ []) ps
 
-  pub StreamsWhole-of : (s : S) (text : List ℕ) (ok : Bool) (t : S) → Streams step is_refused s text t → ok ≡ not (is_refused t)
+  pub StreamsWhole-of : (s : S) (text : List ℕ) (ok : Bool) (t : S) → Streams step is_refused s text t
+      → ok ≡ not (is_refused t)
       → StreamsWhole step is_refused reported s text ok t
   StreamsWhole-of s text ok t h flag = record {
     streams = h;
     flag = flag;
-    reported = λ e. record { pieces = h.pieces; cut = h.cut; reported = reported-Offers s h.pieces t e (Streams-all step is_refused s text t e h) };
+    reported = λ e.
+        record {
+          pieces = h.pieces;
+          cut = h.cut;
+          reported =
+              reported-Offers s h.pieces t e (Streams-all step is_refused s text t e h);
+        };
   }
 
 -- the same for the value that the sink ends as
-pub Streams-at : {S : Type 0} (step : S → List ℕ → S → Type 0) (is_refused : S → Bool) (old : S) (text : List ℕ) (new : S)
+pub Streams-at : {S : Type 0} (step : S → List ℕ → S → Type 0) (is_refused : S → Bool) (old : S) (text : List ℕ)
+    (new : S)
     → Streams step is_refused old text new → (end : S) → end ≡ new → Streams step is_refused old text end
 Streams-at step is_refused old text new h end e = rw e h

@@ -22,8 +22,10 @@ unfolding hex_text
 length-hex_text up [] = refl
 length-hex_text up (b ∷ bs) = let e = length-hex_text up bs in omega (arith, e)
 
-pub length-full_text : (prefix up : Bool) (bs : List ℕ) → length (full_text prefix up bs) ≡ length (prefix_of prefix) + 2 * length bs
-length-full_text prefix up bs = length-append (prefix_of prefix) (hex_text up bs) ∙ ap (λ n. length (prefix_of prefix) + n) (length-hex_text up bs)
+pub length-full_text : (prefix up : Bool) (bs : List ℕ)
+    → length (full_text prefix up bs) ≡ length (prefix_of prefix) + 2 * length bs
+length-full_text prefix up bs =
+    length-append (prefix_of prefix) (hex_text up bs) ∙ ap (λ n. length (prefix_of prefix) + n) (length-hex_text up bs)
 
 pub full_text_size : (prefix up : Bool) (bs : List ℕ) → length (full_text prefix up bs) ≡ text_length prefix (length bs)
 full_text_size true up bs = let l = length-full_text true up bs in omega (arith, l)
@@ -33,7 +35,8 @@ full_text_size false up bs = let l = length-full_text false up bs in omega (arit
 pub hex_text-one : (up : Bool) (bs : List ℕ) (i : ℕ) → i < length bs
     → hex_text up (take 1 (drop i bs)) ≡ hex_digit up (get_or bs i 0 / 16) ∷ hex_digit up (get_or bs i 0 % 16) ∷ []
 unfolding hex_text
-hex_text-one up bs i h = let one : take 1 (drop i bs) ≡ get_or bs i 0 ∷ [] = grind (arith, common_steps) in ap (hex_text up) one
+hex_text-one up bs i h = let one : take 1 (drop i bs) ≡ get_or bs i 0 ∷ [] =
+    grind (arith, common_steps) in ap (hex_text up) one
 
 -- ---- the text is ASCII
 
@@ -45,12 +48,16 @@ unfolding hex_text
 IsAscii-hex_text up [] h = IsAscii-nil
 IsAscii-hex_text up (b ∷ bs) h =
     let small : b < 256 = h 0 in
-    IsAscii-cons (hex_digit up (b / 16)) (hex_digit up (b % 16) ∷ hex_text up bs) (hex_digit-ascii up (b / 16) (omega arith))
-    (IsAscii-cons (hex_digit up (b % 16)) (hex_text up bs) (hex_digit-ascii up (b % 16) (omega arith)) (IsAscii-hex_text up bs (λ k. h (suc k))))
+    IsAscii-cons (hex_digit up (b / 16)) (hex_digit up (b % 16) ∷ hex_text up bs)
+    (hex_digit-ascii up (b / 16) (omega arith))
+    (IsAscii-cons (hex_digit up (b % 16)) (hex_text up bs) (hex_digit-ascii up (b % 16) (omega arith))
+    (IsAscii-hex_text up bs (λ k. h (suc k))))
 
-pub IsAscii-full_text : (prefix up : Bool) (bs : List ℕ) → ((k : ℕ) → slice_index bs k < 256) → IsAscii (full_text prefix up bs)
+pub IsAscii-full_text : (prefix up : Bool) (bs : List ℕ) → ((k : ℕ) → slice_index bs k < 256)
+    → IsAscii (full_text prefix up bs)
 IsAscii-full_text true up bs h =
-    IsAscii-cons 48 (120 ∷ hex_text up bs) (omega arith) (IsAscii-cons 120 (hex_text up bs) (omega arith) (IsAscii-hex_text up bs h))
+    IsAscii-cons 48 (120 ∷ hex_text up bs) (omega arith)
+    (IsAscii-cons 120 (hex_text up bs) (omega arith) (IsAscii-hex_text up bs h))
 IsAscii-full_text false up bs h = IsAscii-hex_text up bs h
 
 -- ---- the text decodes to the bytes

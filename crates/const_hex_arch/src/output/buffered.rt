@@ -3,7 +3,7 @@
 ghost use Rattle.std.specs.Prelude.{◌≡◌, ℕ, ◌+◌, ◌<◌, ◌≤◌, List, [], ◌++◌, length, take};
 ghost use Rattle.std.specs.List.{FoldsTo};
 ghost use Rattle.std.specs.Str.{IsAscii};
-ghost use Rattle.const_hex_arch.specs.Outputs.{HasRoom, less_room, Gathers, piece_of};
+ghost use Rattle.const_hex_arch.specs.Outputs.{HasSpace, less_space, Gathers, piece_of};
 
 use crate::output::Output;
 use std::marker::Model;
@@ -37,7 +37,7 @@ impl<O: Output, const N: usize> Model for BufferedOutput<O, N> {
     ghost view = { λ s. (s.output, take s.count s.buffer) };
 
     ghost invariant = { λ s. (0 < N) × (s.count ≤ N) × IsAscii (take s.count s.buffer)
-        × HasRoom (O.room s.output) (length (take s.count s.buffer)) };
+        × HasSpace (O.space s.output) (length (take s.count s.buffer)) };
 }
 
 impl<O: Output, const N: usize> BufferedOutput<O, N> {
@@ -94,7 +94,7 @@ impl<O: Output, const N: usize> BufferedOutput<O, N> {
     #[inline]
     pub(crate) fn flush(&mut self)
         ensures run { FoldsTo O.step self.old.0 (piece_of self.old.1) self.new.0 }
-        ensures room { O.room self.new.0 ≡ less_room (O.room self.old.0) (length self.old.1) }
+        ensures space { O.space self.new.0 ≡ less_space (O.space self.old.0) (length self.old.1) }
         ensures empty { self.new.1 ≡ [] }
     {
         if self.count != 0 {
@@ -107,8 +107,8 @@ impl<O: Output, const N: usize> BufferedOutput<O, N> {
     #[inline(always)]
     fn keep(&mut self, bytes: &[u8])
         requires ascii { IsAscii bytes.now }
-        requires space { length self.old.1 + length bytes.now ≤ N }
-        requires room { HasRoom (O.room self.old.0) (length self.old.1 + length bytes.now) }
+        requires buffer { length self.old.1 + length bytes.now ≤ N }
+        requires space { HasSpace (O.space self.old.0) (length self.old.1 + length bytes.now) }
         ensures output { self.new.0 ≡ self.old.0 }
         ensures pending { self.new.1 ≡ self.old.1 ++ bytes.now }
     {
@@ -125,22 +125,22 @@ impl<O: Output, const N: usize> BufferedOutput<O, N> {
         ensures count { result ≡ length self.now.1 }
         ensures bound { result ≤ N }
         ensures positive { 0 < N }
-        ensures room { HasRoom (O.room self.now.0) (length self.now.1) }
+        ensures space { HasSpace (O.space self.now.0) (length self.now.1) }
     {
         self.count
     }
 }
 
 impl<O: Output, const N: usize> Output for BufferedOutput<O, N> {
-    ghost step = { λ s piece t. Gathers O.step O.room N s.0 s.1 piece t.0 t.1 };
+    ghost step = { λ s piece t. Gathers O.step O.space N s.0 s.1 piece t.0 t.1 };
 
-    ghost room = { λ s. less_room (O.room s.0) (length s.1) };
+    ghost space = { λ s. less_space (O.space s.0) (length s.1) };
 
     /// The remaining space of the output, less the pending bytes.
     #[inline]
     fn remaining(&self) -> Option<usize> {
         match self.output.remaining() {
-            Some(room) => Some(room - self.count),
+            Some(space) => Some(space - self.count),
             None => None,
         }
     }
@@ -165,8 +165,8 @@ impl<O: Output, const N: usize> Output for BufferedOutput<O, N> {
         self.keep(&[byte]);
     }
 
-    ghost use Rattle.const_hex_arch.specs.Laws.{Gathers_room};
+    ghost use Rattle.const_hex_arch.specs.Laws.{Gathers_space};
 
     ghost shrinks = { λ s piece t h.
-        Gathers_room O.step O.room O.shrinks N s.0 s.1 piece t.0 t.1 h };
+        Gathers_space O.step O.space O.shrinks N s.0 s.1 piece t.0 t.1 h };
 }

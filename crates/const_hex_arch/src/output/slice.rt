@@ -40,7 +40,7 @@ impl<'a> SliceOutput<'a> {
 impl Output for SliceOutput<'_> {
     ghost step = { SliceStep };
 
-    ghost room = { λ s. Some (length (slice_bytes s) - slice_written s) };
+    ghost space = { λ s. Some (length (slice_bytes s) - slice_written s) };
 
     /// How many bytes of the slice are not written yet.
     #[inline(always)]

@@ -67,7 +67,7 @@ impl<'a, S: Sink> SinkOutput<'a, S> {
 impl<S: Sink> Output for SinkOutput<'_, S> {
     ghost step = { SinkStep S.step S.is_refused };
 
-    ghost room = { λ _. None };
+    ghost space = { λ _. None };
 
     /// A sink has no limit.
     #[inline]

@@ -1,6 +1,6 @@
 //! What a row that fails prints.
 
-use const_hex_vectors::{same, same_bytes, same_read};
+use const_hex_testing::{same, same_bytes, same_read};
 use std::alloc::AllocError;
 
 #[test]

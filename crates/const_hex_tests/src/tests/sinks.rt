@@ -1,10 +1,10 @@
-//! What reaches a sink or a slice through outputs that gather. `const_hex_test_vectors` asks for the
+//! What reaches a sink or a slice through outputs that gather. `const_hex_vectors` asks for the
 //! calls that a text makes.
 
 ghost use Rattle.std.specs.Prelude.{◌<◌};
 
 use const_hex::{BufferedOutput, Output, PieceSink, Sink, SinkOutput, SliceOutput};
-use const_hex_vectors::{Noting, Testing, same, same_bytes};
+use const_hex_testing::{Noting, Testing, same, same_bytes};
 
 type ToSink<'a, const N: usize> = BufferedOutput<SinkOutput<'a, PieceSink>, N>;
 
@@ -20,8 +20,8 @@ fn has_pieces(rt: &impl Testing, row: usize, sink: &PieceSink, want: &[&str]) {
 
 /// Writes a piece for which the output says that there is space.
 fn put<O: Output>(rt: &impl Testing, output: &mut O, bytes: &[u8]) {
-    let room = output.remaining().unwrap_or(usize::MAX);
-    assert!(rt; bytes.len() <= room);
+    let space = output.remaining().unwrap_or(usize::MAX);
+    assert!(rt; bytes.len() <= space);
     assert!(rt; bytes.is_ascii());
     if bytes.len() == 1 {
         output.write_byte(bytes[0]);
@@ -75,7 +75,7 @@ fn put_all<O: Output>(rt: &impl Testing, output: &mut O) {
 }
 
 #[test]
-fn room_that_remains(rt: HostRuntime) {
+fn space_that_remains(rt: HostRuntime) {
     let mut text = [0u8; 12];
     let slice = SliceOutput::new(&mut text);
     same!(&rt; slice.remaining(), Some(12));

@@ -1,6 +1,8 @@
 //! One call of each function of `const_hex_uses`, whose contract says the rest.
 
 use const_hex::{FromHex, FromHexError, JsonError, PieceSink, SliceOutput};
+use const_hex_testing::texts::invalid;
+use const_hex_testing::{Testing, Text, same, same_bytes, same_read};
 use const_hex_uses::constants::{transfer, wrapped_ether};
 use const_hex_uses::files::{write_line, write_text};
 use const_hex_uses::json_rpc::{code_of, code_request, reason};
@@ -12,8 +14,6 @@ use const_hex_uses::sinks::{packets, refused_key, send_json};
 use const_hex_uses::store::{find, put};
 use const_hex_uses::streams::{check_chunks, decode_chunks, decode_typed, decode_where_it_fits};
 use const_hex_uses::writers::{address_text, array_text, fill_field, joined_text};
-use const_hex_vectors::texts::invalid;
-use const_hex_vectors::{Testing, Text, same, same_bytes, same_read};
 use serde_json::json;
 use std::alloc::AllocError;
 use std::boxed::BoxedSlice;

@@ -2,8 +2,8 @@
 //! it makes again, and that it flushes nothing.
 
 use const_hex::{BufferedHex, Plain, Sink, WriteSink};
-use const_hex_vectors::texts::{make_bytes, print};
-use const_hex_vectors::{Fault, Target, Testing, same, same_bytes};
+use const_hex_testing::texts::{make_bytes, print};
+use const_hex_testing::{Fault, Target, Testing, same, same_bytes};
 use std::io::{self, ErrorKind};
 
 // A text of 6002 bytes comes in pieces of 4096 and 1906. A writer that accepts 1000 per call gets

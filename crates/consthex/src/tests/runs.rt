@@ -4,8 +4,8 @@ use crate::error::RunError;
 use crate::mode::Mode;
 use crate::runs::run;
 use const_hex::FromHexError::OddLength;
-use const_hex_vectors::texts::invalid;
-use const_hex_vectors::{Endless, Fault, Source, Target, Testing, Text, same, same_bytes};
+use const_hex_testing::texts::invalid;
+use const_hex_testing::{Endless, Fault, Source, Target, Testing, Text, same, same_bytes};
 use std::io::{self, ErrorKind, Read};
 
 /// A mode, an input, and the result.

@@ -13,16 +13,16 @@ use Rattle.hexfilter_core.specs.declared.error.RunError.{RunError}
 use Rattle.hexfilter_core.specs.declared.error.RunError.TheVariants.{Text, Read, Write}
 use Rattle.hexfilter_core.specs.declared.mode.Mode.{Mode}
 
--- a decoder that has room fails for a text that has not digits alone
-pub not_decoded : (t y : List ℕ) (room : ℕ) (r : Result ℕ FromHexError) → ReadsOn t y room r
+-- a decoder that has space fails for a text that has not digits alone
+pub not_decoded : (t y : List ℕ) (space : ℕ) (r : Result ℕ FromHexError) → ReadsOn t y space r
     → r ≢ Err InvalidStringLength
     → OnErr r (AllDigits (body_of t) → ⊥)
-not_decoded t y room (Ok n) h other = tt
-not_decoded t y room (Err OddLength) h other = λ digits. h
-not_decoded t y room (Err InvalidStringLength) h other = λ digits. other refl
-not_decoded t y room (Err (InvalidHexCharacter c i)) (fits, (n, (p, bad, is, at), counts)) other =
+not_decoded t y space (Ok n) h other = tt
+not_decoded t y space (Err OddLength) h other = λ digits. h
+not_decoded t y space (Err InvalidStringLength) h other = λ digits. other refl
+not_decoded t y space (Err (InvalidHexCharacter c i)) (fits, (n, (p, bad, is, at), counts)) other =
     λ digits. digits_no_bad (body_of t) p digits bad
-not_decoded t y room (Err NoMemory) h other = λ digits. h
+not_decoded t y space (Err NoMemory) h other = λ digits. h
 
 pub not_checked : (t : List ℕ) (e : FromHexError) → ChecksOn t (Err e) → AllDigits (body_of t) → ⊥
 not_checked t OddLength h digits = h

@@ -82,8 +82,8 @@ impl Scanner {
         if reading.groups.size == 0 {
             return copy_run(guess, chunk, output);
         }
-        let room = reading.groups.size.saturating_sub(self.column);
-        let count = copy_block(chunk, output).min(room);
+        let space = reading.groups.size.saturating_sub(self.column);
+        let count = copy_block(chunk, output).min(space);
         self.column = self.column.saturating_add(count);
         count
     }

@@ -78,7 +78,7 @@ impl<O: Output, const N: usize> Output for BufferedOutput<O, N> {
     #[inline]
     fn remaining(&self) -> Option<usize> {
         match self.output.remaining() {
-            Some(room) => Some(room - self.count),
+            Some(space) => Some(space - self.count),
             None => None,
         }
     }

@@ -40,8 +40,10 @@ not_ok : false ≡ true → ⊥
 not_ok e = cc
 
 -- what the slice ends as, and what is lent of it
-ends : {A : Type 0} {m k : ℕ} {text old new : List ℕ} (r : Result (Bor (List ℕ)) A) → IsOk r ↔ (k ≡ m) → IfOk r (λ w. w.now ≡ new)
-    → ((k ≡ m) → new ≡ text) → ((k ≢ m) → new ≡ old) → IfOk r (λ w. w.now ≡ text) × MatchResult r (λ _. new ≡ text) (λ _. new ≡ old)
+ends : {A : Type 0} {m k : ℕ} {text old new : List ℕ} (r : Result (Bor (List ℕ)) A) → IsOk r ↔ (k ≡ m)
+    → IfOk r (λ w. w.now ≡ new)
+    → ((k ≡ m) → new ≡ text) → ((k ≢ m) → new ≡ old)
+    → IfOk r (λ w. w.now ≡ text) × MatchResult r (λ _. new ≡ text) (λ _. new ≡ old)
 ends (Ok w) fits lent filled kept = let e = filled (fits.0 refl) in (lent ∙ e, e)
 ends (Err e) fits lent filled kept = (tt, kept (λ k. absurd (not_ok (fits.1 k))))
 
@@ -78,7 +80,8 @@ module _ {M : Type 1} (𝓤 : Ura M) (𝓛 : Logic 𝓤) (𝓜 : Model 𝓤 𝓛
       → ent 𝓤 (A.res s.ghost_name ((coded_list u8.coded).code bs)) (sem 𝓛 (Rests (Array u8 0) s P))
   unfolding such_by follows_by
   Rests-of s P bs h =
-      ex_i 𝓤 (λ (y : (p : (List ℕ → List ℕ) × List ℕ) × ((w : List ℕ) → Unit {0}) × P p.1). A.res s.ghost_name ((coded_list u8.coded).code y.0.1))
+      ex_i 𝓤 (λ (y : (p : (List ℕ → List ℕ) × List ℕ) × ((w : List ℕ) → Unit {0}) × P p.1).
+      A.res s.ghost_name ((coded_list u8.coded).code y.0.1))
       (((λ w. w), bs), (λ w. tt), h)
 
   -- a slice that is shared for as long as it lives ends as it is
@@ -86,11 +89,16 @@ module _ {M : Type 1} (𝓤 : Ura M) (𝓛 : Logic 𝓤) (𝓜 : Model 𝓤 𝓛
       → ent 𝓤 (sep 𝓤 (sem 𝓛 ((MutSlice ℓ κ u8).own_val s (mut_slice_vals s))) (A.lft κ q))
       (H.⇛ (sep 𝓤 (sem 𝓛 ((ShrSlice ℓ κ u8).own_val (as_bor s) (mut_slice_vals s)))
       (sep 𝓤 (A.res s.ghost_name ((coded_list u8.coded).code s.now)) (A.lft κ q))))
-  shared ℓ κ q s = qed 𝓛 (‵ ((MutSlice ℓ κ u8).own_val s (mut_slice_vals s)) ∷ ‵ (flft κ q) ∷ []) ∵ updating ! $ fsplit ! $ fsplit ! $ drop ! $ fjoin ! $
+  shared ℓ κ q s =
+      qed 𝓛 (‵ ((MutSlice ℓ κ u8).own_val s (mut_slice_vals s)) ∷ ‵ (flft κ q) ∷ []) ∵ updating ! $ fsplit ! $ fsplit !
+      $ drop ! $ fjoin ! $
       use2 𝓛 (later (‵ ((SharedSlice ℓ κ u8).own_val (as_bor s)) ⊛ ‵ (finally u8 s.ghost_name s.now) ⊛ ‵ (flft κ q)))
-      (sl_Share 𝓛 u8 s.ref_ptr.0 s.ref_ptr.1 s.ghost_name s.now (uint_row_laws w8) κ q ((uint_Copied 𝓛 w8).shares full_share κ)) $
-      await ! tt $ split3 ! $ now ! $ fsplit ! $ feq_i ! (List Val) (mut_slice_vals s) (mut_slice_vals s) refl $ fjoin ! $ fjoin ! $
-      move ! (1 ∷ []) $ use1 𝓛 (‵ (fres s.ghost_name ((coded_list u8.coded).code s.now))) (finally-res 𝓛 u8 s.ghost_name s.now) $
+      (sl_Share 𝓛 u8 s.ref_ptr.0 s.ref_ptr.1 s.ghost_name s.now (uint_row_laws w8) κ q
+      ((uint_Copied 𝓛 w8).shares full_share κ)) $
+      await ! tt $ split3 ! $ now ! $ fsplit ! $ feq_i ! (List Val) (mut_slice_vals s) (mut_slice_vals s) refl $ fjoin !
+      $ fjoin ! $
+      move ! (1 ∷ []) $ use1 𝓛 (‵ (fres s.ghost_name ((coded_list u8.coded).code s.now)))
+      (finally-res 𝓛 u8 s.ghost_name s.now) $
       move ! (1 ∷ 0 ∷ 2 ∷ []) $ done !
 
   abbrev lends : Bool → Clauses 𝓤 e.ended
@@ -112,9 +120,13 @@ module _ {M : Type 1} (𝓤 : Ura M) (𝓛 : Logic 𝓤) (𝓜 : Model 𝓤 𝓛
       let c = lends up in
       let 𝓣 = tables 𝓤 𝓛.H 𝓜 𝓡 𝓡.env in
       let hs : Stays e.signature.params e.ended.kept = (stay_dropped _ yes, (stay_dropped _ no, tt)) in
-      proved 𝓛 e.ended hs c 𝓜 𝓡 (Goes-dropped 𝓛 2 (SliceRefOf (0 ∷ []) tt (plain (λ κs. u8)) (λ κs. tt)) yes (λ κs x w. refl), (Goes-spent_slice 𝓛 2 (1 ∷ []) tt (plain (λ κs. u8)), tt))
+      proved 𝓛 e.ended hs c 𝓜 𝓡 (
+        Goes-dropped 𝓛 2 (SliceRefOf (0 ∷ []) tt (plain (λ κs. u8)) (λ κs. tt)) yes (λ κs x w. refl),
+        (Goes-spent_slice 𝓛 2 (1 ∷ []) tt (plain (λ κs. u8)), tt),
+      )
       self (code_of up) unfolded
-      (λ κs. (shr_slice_vals, (mut_slice_vals, tt))) (λ κs. (shr_slice_Tells (named 0) κs.0 u8, (mut_slice_Tells (named 1) κs.1.0 u8, tt)))
+      (λ κs. (shr_slice_vals, (mut_slice_vals, tt)))
+      (λ κs. (shr_slice_Tells (named 0) κs.0 u8, (mut_slice_Tells (named 1) κs.1.0 u8, tt)))
       (λ κs qs bounds a ghost are.
       let κ = κs.1.0 in let q = qs.1.0 in let loan = named_lft 2 1 tt κs in
       let x = a.0 in let o = a.1.0 in let m : ℕ = 2 * length x.now in
@@ -124,9 +136,11 @@ module _ {M : Type 1} (𝓤 : Ura M) (𝓛 : Logic 𝓤) (𝓜 : Model 𝓤 𝓛
       let tokens = ‵ (flft κs.0 qs.0) ⊛ ‵ (flft κ q) ⊛ ‵ ftrue in
       let G = triple_of 𝓛 g.signature (g.spec 𝓛 𝓜.mem 𝓡.returns) in
       let H = triple_of 𝓛 h.signature (h.spec 𝓛 𝓜.mem 𝓡.returns) in
-      let zg : G.Ghost = ((κs, qs, tt, (x, (up, (o, tt))), (shr_slice_vals x, (bool_vals up, (mut_slice_vals o, tt)))), tt) in
+      let zg : G.Ghost =
+      ((κs, qs, tt, (x, (up, (o, tt))), (shr_slice_vals x, (bool_vals up, (mut_slice_vals o, tt)))), tt) in
       qed 𝓛 ((tokens ⊛ ‵ In ⊛ ‵ (Out.own_val o (mut_slice_vals o)) ⊛ ‵ ftrue) ∷ ‵ ftrue ∷ []) ∵
-      split ! $ move ! (1 ∷ []) $ split ! $ use1 𝓛 (‵ In ⊛ ‵ In) ((shr_slice_copy 𝓛 (named 0) κs.0 u8 (uint_row_laws w8)).twice x (shr_slice_vals x)) $ split ! $
+      split ! $ move ! (1 ∷ []) $ split ! $ use1 𝓛 (‵ In ⊛ ‵ In)
+      ((shr_slice_copy 𝓛 (named 0) κs.0 u8 (uint_row_laws w8)).twice x (shr_slice_vals x)) $ split ! $
       -- [the input; the input; the output; the tokens; nothing]
       move ! (2 ∷ []) $ owned ! bool _ (bool_Makes 𝓛) up (bool_vals up) refl $ join ! $ move ! (1 ∷ 0 ∷ []) $ join ! $
       move ! (2 ∷ 0 ∷ []) $ join ! $ move ! (0 ∷ 2 ∷ []) $ use2 𝓛 (raw (G.pre zg)) (id⊢ 𝓤 _) $
@@ -136,50 +150,71 @@ module _ {M : Type 1} (𝓤 : Ura M) (𝓛 : Logic 𝓤) (𝓜 : Model 𝓤 𝓛
         ((tt, (tt, (record { fits = are.1.0.0.1.0 }, tt))), tt),
       ) $
       sets ! (addr ! (from ! (fld ! refl (hop ! (look_in_at ! 2 (sub ! 0 refl (whole !))) (stop !))))) refl (tt, tt) $
-      sets ! (agg ! (and_then ! (get ! refl) (and_then ! (get_in ! (fld ! refl (stop !)) (sub ! 1 refl (whole !))) (no_more !)))) refl
+      sets ! (agg !
+      (and_then ! (get ! refl) (and_then ! (get_in ! (fld ! refl (stop !)) (sub ! 1 refl (whole !))) (no_more !)))) refl
       (tt, (tt, (record { fits = are.1.0.0.1.0 }, tt))) $
       calls_at ! (framed 𝓤 𝓛.H 𝓜 𝓣) G fills_met zg
       (and_then ! (get ! refl) (and_then ! (flag_lit up !) (and_then ! (get ! refl) (no_more !)))) (λ v.
       use1 𝓛 (later (some (λ (s : MutBor (List ℕ)). (tokens ⊛ ‵ (Out.own_val s (v ∷ []))) ⊛
       some (λ (ws : Lasts g.ended κs zg.0.3). ‵ (lasts g.ended κs zg.0.3 ws) ⊛
-      (raw (fact 𝓤 (s.ghost_name ≡ o.ghost_name)) ⊛ raw (fact 𝓤 (length s.now ≡ length o.now)) ⊛ raw (fact 𝓤 ((length s.now ≡ m) → s.now ≡ hex_text up x.now))
-      ⊛ raw (fact 𝓤 ((length s.now ≡ m) → IsAscii s.now)) ⊛ raw (fact 𝓤 ((length s.now ≢ m) → s.now ≡ o.now))))))) (id⊢ 𝓤 _) $
-      await ! tt $ pick ! (λ s. split ! $ split ! $ move ! (2 ∷ []) $ pick ! (λ ws. split ! $ drop ! $ split ! $ heard ! _ (λ same. split ! $ heard ! _ (λ long.
+      (raw (fact 𝓤 (s.ghost_name ≡ o.ghost_name)) ⊛ raw (fact 𝓤 (length s.now ≡ length o.now)) ⊛ raw
+      (fact 𝓤 ((length s.now ≡ m) → s.now ≡ hex_text up x.now))
+      ⊛ raw (fact 𝓤 ((length s.now ≡ m) → IsAscii s.now)) ⊛ raw (fact 𝓤 ((length s.now ≢ m) → s.now ≡ o.now)))))))
+      (id⊢ 𝓤 _) $
+      await ! tt $ pick !
+      (λ s. split ! $ split ! $ move ! (2 ∷ []) $ pick !
+      (λ ws. split ! $ drop ! $ split ! $ heard ! _ (λ same. split ! $ heard ! _ (λ long.
       split ! $ heard ! _ (λ filled. split ! $ heard ! _ (λ ascii. heard ! _ (λ kept.
       -- [the tokens; the slice; the input; the locals]
       move ! (1 ∷ []) $ peeks ! Out (Is Out) (shows 𝓛 Out) s (v ∷ []) (λ is.
       rewrite ! 0 (λ (vs : List Val). ‵ (Out.own_val s vs)) is.0.0 refl $
       lands_as ! (ap only is.0.0) refl (tt, (tt, (record { fits = is.0.1.0 }, tt))) $
       sets ! (addr ! (from ! (fld ! refl (hop ! (look_in_at ! 3 (sub ! 0 refl (whole !))) (stop !))))) refl (tt, tt) $
-      sets ! (agg ! (and_then ! (get ! refl) (and_then ! (get_in ! (fld ! refl (stop !)) (sub ! 1 refl (whole !))) (no_more !)))) refl
+      sets ! (agg !
+      (and_then ! (get ! refl) (and_then ! (get_in ! (fld ! refl (stop !)) (sub ! 1 refl (whole !))) (no_more !)))) refl
       (tt, (tt, (record { fits = is.0.1.0 }, tt))) $
       move ! (1 ∷ []) $ split ! $ move ! (1 ∷ []) $ split ! $ move ! (3 ∷ 0 ∷ []) $
-      use2 𝓛 (later (‵ (Bytes.own_val (as_bor s) (mut_slice_vals s)) ⊛ ‵ (fres s.ghost_name ((coded_list u8.coded).code s.now)) ⊛ ‵ (flft κ q)))
+      use2 𝓛 (later
+      (‵ (Bytes.own_val (as_bor s) (mut_slice_vals s)) ⊛ ‵ (fres s.ghost_name ((coded_list u8.coded).code s.now)) ⊛ ‵
+      (flft κ q)))
       (shared (named 1) κ q s) $
       await ! tt $ split ! $ move ! (1 ∷ []) $ split ! $
       rewrite ! 0 (λ (name : GName). ‵ (fres name ((coded_list u8.coded).code s.now))) same refl $
       -- [how the slice ends; its token; its bytes; no more tokens; the input's token; the input; the locals]
-      move ! (1 ∷ 3 ∷ []) $ join ! $ move ! (3 ∷ 0 ∷ []) $ join ! $ nothing ! $ move ! (3 ∷ 0 ∷ []) $ join ! $ move ! (3 ∷ 0 ∷ []) $ join ! $ move ! (1 ∷ 0 ∷ []) $ join ! $
+      move ! (1 ∷ 3 ∷ []) $ join ! $ move ! (3 ∷ 0 ∷ []) $ join ! $ nothing ! $ move ! (3 ∷ 0 ∷ []) $ join ! $ move !
+      (3 ∷ 0 ∷ []) $ join ! $ move ! (1 ∷ 0 ∷ []) $ join ! $
       let zh : H.Ghost = ((κs, qs, tt, (x, (as_bor s, tt)), (shr_slice_vals x, (mut_slice_vals s, tt))), tt) in
       let asked = (length s.now ≡ m) → IsAscii s.now in
-      use0 𝓛 (raw (fact 𝓤 asked)) (fact_i 𝓤 asked (emp 𝓤) ascii) $ move ! (1 ∷ 0 ∷ []) $ use2 𝓛 (raw (H.pre zh)) (id⊢ 𝓤 _) $
+      use0 𝓛 (raw (fact 𝓤 asked)) (fact_i 𝓤 asked (emp 𝓤) ascii) $ move ! (1 ∷ 0 ∷ []) $ use2 𝓛 (raw (H.pre zh))
+      (id⊢ 𝓤 _) $
       calls_at ! (framed 𝓤 𝓛.H 𝓜 𝓣) H hands_met zh
       (and_then ! (get ! refl) (and_then ! (get ! refl) (no_more !))) (λ v'.
       use1 𝓛 (later (some (λ (r : Returned.Denot). (tokens ⊛ ‵ (Returned.own_val r (v' ∷ []))) ⊛
       some (λ (ws' : Lasts h.ended κs zh.0.3). ‵ (lasts h.ended κs zh.0.3 ws') ⊛
-      (raw (fact 𝓤 (IsOk r ↔ (length s.now ≡ m))) ⊛ raw (fact 𝓤 (IfOk r (λ w. w.now ≡ s.now))) ⊛ raw (fact 𝓤 (IfErr r (λ x. x ≡ InvalidStringLength)))))))) (id⊢ 𝓤 _) $
-      await ! tt $ pick ! (λ r. split ! $ split ! $ move ! (2 ∷ []) $ pick ! (λ ws'. split ! $ drop ! $ split ! $ heard ! _ (λ fits. split ! $ heard ! _ (λ lent. heard ! _ (λ error.
+      (raw (fact 𝓤 (IsOk r ↔ (length s.now ≡ m))) ⊛ raw (fact 𝓤 (IfOk r (λ w. w.now ≡ s.now))) ⊛ raw
+      (fact 𝓤 (IfErr r (λ x. x ≡ InvalidStringLength)))))))) (id⊢ 𝓤 _) $
+      await ! tt $ pick !
+      (λ r. split ! $ split ! $ move ! (2 ∷ []) $ pick !
+      (λ ws'. split ! $ drop ! $ split ! $ heard ! _ (λ fits. split ! $ heard ! _ (λ lent. heard ! _ (λ error.
       -- [the tokens; the result; how the slice ends; the locals]
       move ! (1 ∷ []) $ peeks ! Returned (Is Returned) (shows 𝓛 Returned) r (v' ∷ []) (λ is'.
       let text_laws = of_field (str-field loan) (str-laws loan) refl (copy_shared (str-field loan) (str-copy loan)) in
-      let typed = (((result_laws (str-field loan).row refusal.the_row text_laws refusal_laws.the_row_laws).lawful 𝓛).typed r _ is').0 in
+      let typed = (((result_laws (str-field loan).row refusal.the_row text_laws refusal_laws.the_row_laws).lawful
+      𝓛).typed r _ is').0 in
       lands_as ! refl refl typed $
       returns ! (look_at ! 0 refl) $ free_all ! refl $
-      suffices ! _ (ends_at 𝓛 e.ended hs c ((κs, qs, bounds, a, (shr_slice_vals x, (mut_slice_vals o, tt))), tt) v' r (tt, (tt, tt)) (tt, (tt, tt))) $
+      suffices ! _
+      (ends_at 𝓛 e.ended hs c ((κs, qs, bounds, a, (shr_slice_vals x, (mut_slice_vals o, tt))), tt) v' r (tt, (tt, tt))
+      (tt, (tt, tt))) $
       let ended = ends r fits lent filled kept in
-      move ! (2 ∷ []) $ use1 𝓛 (‵ (EndsEncoded up x.now o r)) (Rests-of o (λ new. MatchResult r (λ _. new ≡ hex_text up x.now) (λ _. new ≡ o.now)) s.now ended.1) $
+      move ! (2 ∷ []) $ use1 𝓛 (‵ (EndsEncoded up x.now o r))
+      (Rests-of o (λ new. MatchResult r (λ _. new ≡ hex_text up x.now) (λ _. new ≡ o.now)) s.now ended.1) $
       -- [what follows the loan; the result; the tokens]
-      move ! (1 ∷ 0 ∷ []) $ nothing ! $ nothing ! $ join ! $ nothing ! $ join ! $ move ! (3 ∷ 0 ∷ 1 ∷ []) $ group ! 3 $ frame ! $
-      use0 𝓛 (raw (fact 𝓤 (IsOk r ↔ (length o.now ≡ m)))) (fact_i 𝓤 (IsOk r ↔ (length o.now ≡ m)) (emp 𝓤) (subst (λ k. IsOk r ↔ (k ≡ m)) long fits)) $ frame ! $
-      use0 𝓛 (raw (fact 𝓤 (IfOk r (λ w. w.now ≡ hex_text up x.now)))) (fact_i 𝓤 (IfOk r (λ w. w.now ≡ hex_text up x.now)) (emp 𝓤) ended.0) $ frame ! $
-      use0 𝓛 (raw (fact 𝓤 (IfErr r (λ x. x ≡ InvalidStringLength)))) (fact_i 𝓤 (IfErr r (λ x. x ≡ InvalidStringLength)) (emp 𝓤) error) $ frame ! $ done !))))))))))))))))))
+      move ! (1 ∷ 0 ∷ []) $ nothing ! $ nothing ! $ join ! $ nothing ! $ join ! $ move ! (3 ∷ 0 ∷ 1 ∷ []) $ group ! 3 $
+      frame ! $
+      use0 𝓛 (raw (fact 𝓤 (IsOk r ↔ (length o.now ≡ m))))
+      (fact_i 𝓤 (IsOk r ↔ (length o.now ≡ m)) (emp 𝓤) (subst (λ k. IsOk r ↔ (k ≡ m)) long fits)) $ frame ! $
+      use0 𝓛 (raw (fact 𝓤 (IfOk r (λ w. w.now ≡ hex_text up x.now))))
+      (fact_i 𝓤 (IfOk r (λ w. w.now ≡ hex_text up x.now)) (emp 𝓤) ended.0) $ frame ! $
+      use0 𝓛 (raw (fact 𝓤 (IfErr r (λ x. x ≡ InvalidStringLength))))
+      (fact_i 𝓤 (IfErr r (λ x. x ≡ InvalidStringLength)) (emp 𝓤) error) $ frame ! $ done !))))))))))))))))))

@@ -32,7 +32,8 @@ goes : {M : Type 1} {𝓤 : Ura M} (𝓛 : Logic 𝓤) {n : ℕ} (s : Slot n) (k
 goes 𝓛 s k κs x f vs ok = 𝓛.laws.⇛_intro _
 
 abbrev pub ended_of : (params : List (Slot 5)) → Kepts params → Slot 5 → Ended
-ended_of params kept result = record { signature = record { lifetimes = 5; outlives = []; params = params; result = result }; kept = kept }
+ended_of params kept result =
+    record { signature = record { lifetimes = 5; outlives = []; params = params; result = result }; kept = kept }
 
 -- the parameter for the bytes: its type, and its machine value
 pub record Input : Type 2 where
@@ -40,7 +41,8 @@ pub record Input : Type 2 where
   pub val : (κs : Lfts 5) → (slot.row κs).Denot → Val
   pub reports : (κs : Lfts 5) → Tells (slot.row κs) (Is (slot.row κs)) (λ x. val κs x ∷ [])
   pub ty : Ty
-  pub typed : (κs : Lfts 5) (x : (slot.row κs).Denot) → Is (slot.row κs) x (val κs x ∷ []) → T (has_ty ty (val κs x)) × WT (val κs x)
+  pub typed : (κs : Lfts 5) (x : (slot.row κs).Denot) → Is (slot.row κs) x (val κs x ∷ [])
+      → T (has_ty ty (val κs x)) × WT (val κs x)
 
 -- a slice of bytes
 abbrev pub slice_input : Input
@@ -79,7 +81,8 @@ module _ (n p len : ℕ) where
   module _ (I : Input) (up : Bool) where
     -- what is called, and what calls it
     abbrev pub Fills : Ended
-    Fills = ended_of (lender ∷ I.slot ∷ plain (λ κs. bool) ∷ []) (no, (yes, (yes, tt))) (plain (λ κs. lent.the_row (named_lft 5 0 tt κs)))
+    Fills = ended_of (lender ∷ I.slot ∷ plain (λ κs. bool) ∷ []) (no, (yes, (yes, tt)))
+        (plain (λ κs. lent.the_row (named_lft 5 0 tt κs)))
 
     abbrev pub Lends : Ended
     Lends = ended_of (lender ∷ I.slot ∷ []) (no, (yes, tt)) (StrRefOf (0 ∷ []) tt)
@@ -129,26 +132,33 @@ module _ (n p len : ℕ) where
           let z : G.Ghost = ((κs, qs, bounds, (a.0, (a.1.0, (up, tt))), (vs0, (vs1, (bool_vals up, tt)))), g) in
           let at = c κs z.0.3 in
           let tokens = raw (alive 𝓛 Lends.signature κs qs) in
-          qed 𝓛 ((tokens ⊛ ‵ ((lender.row κs).own_val a.0 vs0) ⊛ ‵ ((I.slot.row κs).own_val a.1.0 vs1) ⊛ ‵ ftrue) ∷ raw (at.requires g) ∷ []) ∵
+          qed 𝓛 ((tokens ⊛ ‵ ((lender.row κs).own_val a.0 vs0) ⊛ ‵ ((I.slot.row κs).own_val a.1.0 vs1) ⊛ ‵ ftrue) ∷ raw
+          (at.requires g) ∷ []) ∵
           split ! $ move ! (1 ∷ []) $ split ! $ move ! (1 ∷ []) $ split ! $ move ! (1 ∷ []) $
           owned ! bool _ (bool_Makes 𝓛) up (bool_vals up) refl $ join ! $
           move ! (1 ∷ 0 ∷ []) $ join ! $ move ! (1 ∷ 0 ∷ []) $ join ! $ move ! (1 ∷ 0 ∷ []) $ join ! $
           use2 𝓛 (raw (G.pre z)) (id⊢ 𝓤 _) $
           enter ! _ _ _ _ _ $ alloc_all ! (λ l. pass_all ! refl ((tt, tt), (I.typed κs a.1.0 are.1.0, tt)) $
           sets ! (addr ! (through ! refl (stop !))) refl (tt, tt) $
-          calls_at ! (framed 𝓤 𝓛.H 𝓜 𝓣) G fills_met z (and_then ! (get ! refl) (and_then ! (get ! refl) (and_then ! (flag_lit up !) (no_more !)))) (λ v.
+          calls_at ! (framed 𝓤 𝓛.H 𝓜 𝓣) G fills_met z
+          (and_then ! (get ! refl) (and_then ! (get ! refl) (and_then ! (flag_lit up !) (no_more !)))) (λ v.
           use1 𝓛 (later (some (λ (d : Lent). (tokens ⊛ ‵ (Filled.own_val d (v ∷ []))) ⊛
-          some (λ (ws : Lasts Fills κs z.0.3). ‵ (lasts Fills κs z.0.3 ws) ⊛ raw (at.ensures g d (at_exit Fills κs z.0.3 ws)))))) (id⊢ 𝓤 _) $
+          some (λ (ws : Lasts Fills κs z.0.3).
+          ‵ (lasts Fills κs z.0.3 ws) ⊛ raw (at.ensures g d (at_exit Fills κs z.0.3 ws)))))) (id⊢ 𝓤 _) $
           await ! tt $ pick ! (λ d. split ! $ split ! $ move ! (2 ∷ []) $ pick ! (λ ws. split ! $
           -- [what is left of the parameters; what is ensured; the tokens; the struct; the locals]
-          fsplit ! $ move ! (1 ∷ []) $ fsplit ! $ move ! (1 ∷ []) $ drop ! $ nothing ! $ move ! (1 ∷ 0 ∷ []) $ fjoin ! $ move ! (1 ∷ 0 ∷ []) $ fjoin ! $
+          fsplit ! $ move ! (1 ∷ []) $ fsplit ! $ move ! (1 ∷ []) $ drop ! $ nothing ! $ move ! (1 ∷ 0 ∷ []) $ fjoin ! $
+          move ! (1 ∷ 0 ∷ []) $ fjoin ! $
           move ! (3 ∷ []) $ peeks ! Filled (Is Filled) (shows 𝓛 Filled) d (v ∷ []) (λ is.
           let typed = (((str-laws loan).lawful 𝓛).typed d.text _ (owed L laws d _ is).0).0 in
           lands_as ! (ap only (tells L laws d _ is)) refl (tt, (typed.1, tt)) $
           sets ! (of_opd ! (get_in ! (fld ! refl (stop !)) (sub ! 0 refl (whole !)))) refl typed $
-          use1 𝓛 (‵ (Text.own_val d.text _) ⊛ ‵ ftrue) (takes 𝓛 (shape L) (spells L.parts laws) (tellss L.parts laws) (d.text, tt) (v ∷ [])) $
+          use1 𝓛 (‵ (Text.own_val d.text _) ⊛ ‵ ftrue)
+          (takes 𝓛 (shape L) (spells L.parts laws) (tellss L.parts laws) (d.text, tt) (v ∷ [])) $
           split ! $ move ! (1 ∷ []) $ drop ! $
           returns ! (look_at ! 0 refl) $ free_all ! refl $
           -- [the text; what is left of the parameters; what is ensured; the tokens]
-          suffices ! _ (ends_at 𝓛 Lends hs passed_on ((κs, qs, bounds, a, (vs0, (vs1, tt))), g) _ d.text (ws.0, (ws.1.0, tt)) (tt, (tt, tt))) $
+          suffices ! _
+          (ends_at 𝓛 Lends hs passed_on ((κs, qs, bounds, a, (vs0, (vs1, tt))), g) _ d.text (ws.0, (ws.1.0, tt))
+          (tt, (tt, tt))) $
           move ! (1 ∷ 0 ∷ []) $ join ! $ move ! (2 ∷ 0 ∷ []) $ join ! $ done !))))))

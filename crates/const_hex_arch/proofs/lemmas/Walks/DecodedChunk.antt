@@ -39,7 +39,8 @@ module _ (n : ℕ) where
         (seq (assign (place 2 []) (rv_opd (copy (place 4 (field 0 ∷ [])))))
         (seq (assign (place 3 []) (rv_opd (copy (place 4 (field 1 ∷ [])))))
         (seq (assign (place 5 []) (rv_opd (copy (place 3 []))))
-        (seq (cond (copy (place 5 [])) (assign (place 6 []) (aggregate (int w8 1 ∷ copy (place 2 []) ∷ []))) (assign (place 6 []) (aggregate (int w8 0 ∷ []))))
+        (seq (cond (copy (place 5 [])) (assign (place 6 []) (aggregate (int w8 1 ∷ copy (place 2 []) ∷ [])))
+        (assign (place 6 []) (aggregate (int w8 0 ∷ []))))
         answered))));
   }
 
@@ -55,7 +56,8 @@ module _ (n : ℕ) where
     flagged κs a = record {
       ghost = Unit {0};
       requires = λ g. emp 𝓤;
-      ensures = λ g r e. sep 𝓤 (fact 𝓤 (IsTrue r.1 ↔ AllDigits (concat a.0))) (fact 𝓤 (IsTrue r.1 → Spells (concat a.0) r.0));
+      ensures = λ g r e.
+          sep 𝓤 (fact 𝓤 (IsTrue r.1 ↔ AllDigits (concat a.0))) (fact 𝓤 (IsTrue r.1 → Spells (concat a.0) r.0));
     }
 
     pub some_or_none : (self flags : Callee)
@@ -83,13 +85,15 @@ module _ (n : ℕ) where
         use1 𝓛 (later (some (λ (r : List ℕ × Bool). (‵ ftrue ⊛ ‵ ((Flagged n).own_val r (v ∷ []))) ⊛
         some (λ (ws : Unit {0} × Unit {0}). ‵ (lasts Flags κs a ws) ⊛
         (raw (fact 𝓤 (IsTrue r.1 ↔ AllDigits text)) ⊛ raw (fact 𝓤 (IsTrue r.1 → Spells text r.0))))))) (id⊢ 𝓤 _) $
-        await ! tt $ pick ! (λ r. split ! $ split ! $ drop ! $ facts ! (Flagged n) _ (shows 𝓛 (Flagged n)) r (v ∷ []) (λ is.
+        await ! tt $ pick !
+        (λ r. split ! $ split ! $ drop ! $ facts ! (Flagged n) _ (shows 𝓛 (Flagged n)) r (v ∷ []) (λ is.
         pick ! (λ ws. split ! $ drop ! $ split ! $ heard ! _ (λ digits. heard ! _ (λ spells.
         let bytes = only (lanes_vals n r.0) in
         let held = flagged_lanes n r v is in
         let typed = lawful.typed r.0 (bytes ∷ []) held in
         -- the two locals, and the choice
-        lands_as ! (flagged_is n r v is) refl (as_fields (ty_array (ty_int w8) n ∷ ty_bool ∷ []) (bytes ∷ vbool r.1 ∷ []) (typed.0, ((tt, tt), tt))) $
+        lands_as ! (flagged_is n r v is) refl
+        (as_fields (ty_array (ty_int w8) n ∷ ty_bool ∷ []) (bytes ∷ vbool r.1 ∷ []) (typed.0, ((tt, tt), tt))) $
         sets ! (of_opd ! (get_in ! (fld ! refl (stop !)) (sub ! 0 refl (whole !)))) refl typed.0 $
         sets ! (of_opd ! (get_in ! (fld ! refl (stop !)) (sub ! 1 refl (whole !)))) refl (tt, tt) $
         sets ! (of_opd ! (get ! refl)) refl (tt, tt) $

@@ -78,7 +78,8 @@ SpellsClause text result = IfSome result (Spells text)
 is_some : (bytes : List ℕ) → IsNone (Some bytes) → ⊥
 is_some bytes e = cc
 
-module _ (text bytes : List ℕ) (are_digits : Bool) (digits : IsTrue are_digits ↔ AllDigits text) (spells : IsTrue are_digits → Spells text bytes) where
+module _ (text bytes : List ℕ) (are_digits : Bool) (digits : IsTrue are_digits ↔ AllDigits text)
+    (spells : IsTrue are_digits → Spells text bytes) where
   pub some_is : T are_digits → NoneClause text (Some bytes) × SpellsClause text (Some bytes)
   some_is t =
       let e = is_true are_digits t in
@@ -110,8 +111,10 @@ module _ (n : ℕ) where
   abbrev pub Flagged : RattleType
   Flagged = Tuple (Lanes ∷ bool ∷ [])
 
-  pub flagged_is : (r : List ℕ × Bool) (v : Val) → Is Flagged r (v ∷ []) → v ≡ vstruct (of_list (only (lanes_vals r.0) ∷ vbool r.1 ∷ []))
-  flagged_is r v is = ap only is.1.0 ∙ λ i. vstruct (of_list (lanes_Tells r.0 is.0.0 is.1.1.0 i ++ (is.1.1.1.0 i ++ [])))
+  pub flagged_is : (r : List ℕ × Bool) (v : Val) → Is Flagged r (v ∷ [])
+      → v ≡ vstruct (of_list (only (lanes_vals r.0) ∷ vbool r.1 ∷ []))
+  flagged_is r v is =
+      ap only is.1.0 ∙ λ i. vstruct (of_list (lanes_Tells r.0 is.0.0 is.1.1.0 i ++ (is.1.1.1.0 i ++ [])))
 
   pub flagged_lanes : (r : List ℕ × Bool) (v : Val) → Is Flagged r (v ∷ []) → Is Lanes r.0 (only (lanes_vals r.0) ∷ [])
   flagged_lanes r v is = subst (λ us. Is Lanes r.0 us) (lanes_Tells r.0 is.0.0 is.1.1.0) is.1.1.0
@@ -121,4 +124,6 @@ module _ (n : ℕ) where
   Answer = OP.the_row Lanes
 
   pub Answer-Lawful : {M : Type 1} {𝓤 : Ura M} (𝓛 : Logic 𝓤) → Lawful 𝓛 Answer
-  Answer-Lawful 𝓛 = loose_lawful (OP.the_type Lanes) (the_loose Lanes (simd_laws u8 (of_field u8-field u8-laws refl (copy_shared u8-field u8-copy)) n)) tt 𝓛
+  Answer-Lawful 𝓛 =
+      loose_lawful (OP.the_type Lanes)
+      (the_loose Lanes (simd_laws u8 (of_field u8-field u8-laws refl (copy_shared u8-field u8-copy)) n)) tt 𝓛

@@ -1,13 +1,13 @@
 use Rattle.std.proofs.Common.{◌*◌, length}
 use Rattle.const_hex_arch.specs.Texts.{prefix_of}
-use Rattle.const_hex_arch.proofs.lemmas.Runs.{Writes-append, Writes_room}
+use Rattle.const_hex_arch.proofs.lemmas.Runs.{Writes-append, Writes_space}
 use Rattle.const_hex_arch.proofs.lemmas.Texts.{length-full_text}
 use Rattle.const_hex_arch.proofs.text.encode_full.Goals as goal
 
 pub encode-requires : goal.encode-requires
 encode-requires g c =
     let sized = length-full_text c.args.prefix c.args.upper c.args.input.now in
-    Writes_room g.O.Output.step g.O.Output.room g.met.O.Output.shrinks _ (prefix_of c.args.prefix) _
+    Writes_space g.O.Output.step g.O.Output.space g.met.O.Output.shrinks _ (prefix_of c.args.prefix) _
     (2 * length c.args.input.now) c.write_prefix.ensures (rw sized at c.requires)
 
 pub returns : goal.returns

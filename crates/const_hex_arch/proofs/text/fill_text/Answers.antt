@@ -7,4 +7,6 @@ returns-clause-text g c = search rules
 
 pub returns-clause-ascii : goal.returns-clause-ascii
 returns-clause-ascii g c =
-    rw (returns-clause-text g c) (IsAscii-full_text c.args.prefix c.args.upper c.args.input.now (λ k. let byte = c.type_inv.input k in omega (arith, byte)))
+    rw (returns-clause-text g c)
+    (IsAscii-full_text c.args.prefix c.args.upper c.args.input.now
+    (λ k. let byte = c.type_inv.input k in omega (arith, byte)))

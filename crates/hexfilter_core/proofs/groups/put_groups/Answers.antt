@@ -17,7 +17,7 @@ groups-preserved c =
     let put = take_put _ _ count _ c.copy_front.new.output (omega arith) (omega arith)
     ∙ ap (λ l. take c.separate-start.result.0 c.separate-start.new.output ++ l) copied in record {
       within = omega arith;
-      room = omega (arith, parted.within);
+      space = omega (arith, parted.within);
       column = omega (arith, parted.column);
       groups = goes_on _ _ _ _ text done count _ (λ rest some. laid.groups rest ∙ parted.groups rest some)
           (omega arith) (omega arith) (omega arith) _ put;

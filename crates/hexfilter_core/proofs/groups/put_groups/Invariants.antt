@@ -5,7 +5,7 @@ use Rattle.hexfilter_core.proofs.groups.put_groups.Given as goal
 abbrev pub invariant-groups : goal.invariant-groups
 invariant-groups l = record {
   within : l.done ≤ length l.text;
-  room : l.end ≤ 2 * l.done;
+  space : l.end ≤ 2 * l.done;
   column : l.column ≤ l.groups.size;
   groups : (rest : List ℕ) → groups_from l.groups.size l.groups.separator l.initial.column (take l.done l.text ++ rest)
       ≡ take l.end l.output ++ groups_from l.groups.size l.groups.separator l.column rest;

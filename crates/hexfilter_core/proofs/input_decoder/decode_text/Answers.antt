@@ -9,7 +9,7 @@ returns-in-Ok-clause-ok c = λ t z has.
 
 pub returns-in-Err-clause-err : goal.returns-in-Err-clause-err
 returns-in-Err-clause-err c =
-    λ t z has room. not_checked (t ++ c.args.text.now) _ (c.in-Err.ensures.answer t has.bytes has.read)
+    λ t z has space. not_checked (t ++ c.args.text.now) _ (c.in-Err.ensures.answer t has.bytes has.read)
 
 pub returns-clause-ok : goal.returns-clause-ok
 returns-clause-ok c = λ t z has.
@@ -19,6 +19,6 @@ returns-clause-ok c = λ t z has.
     (c.decode.ensures.ok t has.bytes has.read)
 
 pub returns-clause-err : goal.returns-clause-err
-returns-clause-err c = λ t z has room.
+returns-clause-err c = λ t z has space.
     not_decoded (t ++ c.args.text.now) has.bytes _ c.decode.result (c.decode.ensures.answer t has.bytes has.read)
-    (c.decode.ensures.enough room)
+    (c.decode.ensures.enough space)

@@ -14,21 +14,21 @@ pub returns-clause-high : goal.returns-clause-high
 returns-clause-high c =
     let xs = c.args.chunk.now in
     let n = c.count_digits.result in
-    let room : 32 ≤ length xs = omega arith in
+    let space : 32 ≤ length xs = omega arith in
     let size = length-take-le n xs
-    (omega (arith, run_in_chunk_le (λ b. nat_lt b 33) xs 0 32 n 0 room c.count_digits.ensures)) in
+    (omega (arith, run_in_chunk_le (λ b. nat_lt b 33) xs 0 32 n 0 space c.count_digits.ensures)) in
     All-from_get_or (λ b. nat_lt b 33 ≡ false) (take n xs) 0 (λ i h.
     let inside : i < n = omega (arith, size, h) in
     rw (get_or-take n xs i 0 inside)
-    (run_in_chunk_fails (λ b. nat_lt b 33) xs 0 32 n 0 room c.count_digits.ensures i (omega arith)
+    (run_in_chunk_fails (λ b. nat_lt b 33) xs 0 32 n 0 space c.count_digits.ensures i (omega arith)
     (omega (arith, inside))))
 
 pub returns-clause-copied : goal.returns-clause-copied
 returns-clause-copied c =
     let xs = c.args.chunk.now in
     let n = c.count_digits.result in
-    let room : 32 ≤ length xs = omega arith in
-    let less = run_in_chunk_le (λ b. nat_lt b 33) xs 0 32 n 0 room c.count_digits.ensures in
-    let block : length (chunk 0 32 xs) ≡ 32 = omega (arith, length-take 32 xs, room) in
+    let space : 32 ≤ length xs = omega arith in
+    let less = run_in_chunk_le (λ b. nat_lt b 33) xs 0 32 n 0 space c.count_digits.ensures in
+    let block : length (chunk 0 32 xs) ≡ 32 = omega (arith, length-take 32 xs, space) in
     ap (take n) (put_chunk_is 0 c.args.output.now (chunk 0 32 xs) (omega (arith, block)))
     ∙ take-append-le n (chunk 0 32 xs) _ (omega (arith, block, less)) ∙ take-take n 32 xs (omega (arith, less))

@@ -8,14 +8,16 @@ use Rattle.const_hex.proofs.codec.body.find_first_bad.Goals as goal
 here : (c : goal.Then-value_at) → FirstBad (drop c.args.start c.args.text.now) (c.digits.index - c.args.start)
 here c =
     let (done, after, _) = c.digits.invariant in
-    let none = value_not_found (get_or c.args.text.now c.digits.index 0) c.value_at.result c.value_at.ensures c.if-value_at.true in
+    let none = value_not_found (get_or c.args.text.now c.digits.index 0) c.value_at.result c.value_at.ensures
+    c.if-value_at.true in
     found c.args.text.now c.args.start c.digits.index after c.digits-test.true done none
 
 pub returns-then-value_at-clause-bad : goal.returns-then-value_at-clause-bad
 returns-then-value_at-clause-bad c = λ _. here c
 
 pub returns-then-value_at-clause-all : goal.returns-then-value_at-clause-all
-returns-then-value_at-clause-all c = (λ e. absurd (omega (arith, e, c.digits-test.true)), λ a. absurd (digits_no_bad _ _ a (here c)))
+returns-then-value_at-clause-all c =
+    (λ e. absurd (omega (arith, e, c.digits-test.true)), λ a. absurd (digits_no_bad _ _ a (here c)))
 
 pub digits-preserved : goal.digits-preserved
 digits-preserved c =
@@ -27,7 +29,9 @@ digits-preserved c =
     )
 
 pub returns-clause-bad : goal.returns-clause-bad
-returns-clause-bad c = λ n. absurd (n (none_left c.args.text.now c.args.start c.digits.index c.digits-test.false c.digits.invariant.0))
+returns-clause-bad c =
+    λ n. absurd (n (none_left c.args.text.now c.args.start c.digits.index c.digits-test.false c.digits.invariant.0))
 
 pub returns-clause-all : goal.returns-clause-all
-returns-clause-all c = (λ _. none_left c.args.text.now c.args.start c.digits.index c.digits-test.false c.digits.invariant.0, λ _. refl)
+returns-clause-all c =
+    (λ _. none_left c.args.text.now c.args.start c.digits.index c.digits-test.false c.digits.invariant.0, λ _. refl)

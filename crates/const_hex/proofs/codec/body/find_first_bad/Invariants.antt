@@ -3,7 +3,8 @@ use Rattle.const_hex_arch.specs.Texts.{AllDigits}
 use Rattle.const_hex.proofs.codec.body.find_first_bad.Given as goal
 
 abbrev pub invariant-digits : goal.invariant-digits
-invariant-digits l = AllDigits (take (l.index - l.start) (drop l.start l.text)) × (l.start ≤ l.index) × (l.index ≤ length l.text)
+invariant-digits l =
+    AllDigits (take (l.index - l.start) (drop l.start l.text)) × (l.start ≤ l.index) × (l.index ≤ length l.text)
 
 abbrev pub decreases-digits : goal.decreases-digits
 decreases-digits l = length l.text - l.index

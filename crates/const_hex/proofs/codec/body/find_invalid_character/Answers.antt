@@ -19,7 +19,8 @@ no_prefix (c ∷ d ∷ e ∷ f ∷ t) short even bad = absurd (omega (arith, sho
 
 start-is : (c : goal.After-from) → c.if-text-lt4.start ≡ length c.args.text.now - length (body_of c.args.text.now)
 start-is c = elim c.if-text-lt4.branch [
-  | then-text-lt4 w ↦ omega (arith, w.start-is, ap length (no_prefix c.args.text.now w.if-text-lt4.true c.requires.even c.requires.bad))
+  | then-text-lt4 w ↦ omega
+      (arith, w.start-is, ap length (no_prefix c.args.text.now w.if-text-lt4.true c.requires.even c.requires.bad))
   | else-text-lt4 w ↦ omega (arith, w.start-is, ap length w.strip_prefix.ensures.body)
 ]
 

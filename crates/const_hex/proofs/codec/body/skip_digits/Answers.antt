@@ -8,7 +8,8 @@ use Rattle.const_hex.proofs.codec.body.skip_digits.Goals as goal
 module _ (u : List ℕ) (start i j : ℕ) (below : j < 16) (after : start ≤ i) (long : i + 4 ≤ length u) where
   digit : (k next v : ℕ) → i ≤ k → k < i + 4 → next ≡ k + 1 → v ≡ value_or_nil (hex_value (get_or u k 0)) → v ≤ j
       → AllDigits (take (k - start) (drop start u)) → AllDigits (take (next - start) (drop start u))
-  digit k next v l h is e small done = digit_on u start k next (omega (arith, after, l)) (omega (arith, h, long)) is (rw (← e) (omega arith)) done
+  digit k next v l h is e small done =
+      digit_on u start k next (omega (arith, after, l)) (omega (arith, h, long)) is (rw (← e) (omega arith)) done
 
   four_digits : (a b c d : ℕ) → bit_or (bit_or a b) (bit_or c d) ≡ j
       → a ≡ value_or_nil (hex_value (get_or u i 0)) → b ≡ value_or_nil (hex_value (get_or u (i + 1) 0))
@@ -28,7 +29,8 @@ pub fours-preserved : goal.fours-preserved
 fours-preserved c =
     let (done, after, _) = c.fours.invariant in
     let long : c.fours.index + 4 ≤ length c.args.text.now = omega arith in (
-      four_digits c.args.text.now c.args.start c.fours.index _ c.if-first_two-last_two-ge16.false after long _ _ _ _ refl
+      four_digits c.args.text.now c.args.start c.fours.index _ c.if-first_two-last_two-ge16.false after long _ _ _ _
+          refl
           c.value_at.ensures c.value_at-in-fours.ensures c.value_at-in-fours-2.ensures c.value_at-in-fours-3.ensures
           done,
       omega (arith, after),

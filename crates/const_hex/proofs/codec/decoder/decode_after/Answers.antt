@@ -18,11 +18,13 @@ returns-then-decode_body-clause-refused g c = λ h.
     let rest = drop 1 c.args.digits.now in
     let whole = take_all (length c.args.digits.now - 1) rest (omega (arith, length-drop 1 c.args.digits.now)) in
     rest_refused c.args.high c.args.digits.now c.args.output.now _ _ (omega arith) (omega (arith, size))
-    (c.if-decode_body.ensures.spells refl) (rw (c.split_at_mut-first.ensures.back, whole) at (c.decode_digits.ensures.refused h))
+    (c.if-decode_body.ensures.spells refl)
+    (rw (c.split_at_mut-first.ensures.back, whole) at (c.decode_digits.ensures.refused h))
 
 pub returns-else-decode_body-clause-refused : goal.returns-else-decode_body-clause-refused
 returns-else-decode_body-clause-refused g c = λ h.
     let size = c.requires in
     let pair = rw c.split_at_mut-first.ensures.front at (c.if-decode_body.ensures.refused refl) in
-    rw c.split_at_mut-first.ensures.back (pair_refused c.args.high c.args.digits.now c.args.output.now c.decode_body.new.output
+    rw c.split_at_mut-first.ensures.back
+    (pair_refused c.args.high c.args.digits.now c.args.output.now c.decode_body.new.output
     (omega arith) (omega (arith, size)) pair)

@@ -17,7 +17,8 @@ returns-then-high g c = DecodesToArray-from_ReadsSized g.row.N c.args.input.now 
 pub pairs-preserved : goal.pairs-preserved
 pairs-preserved g c = record {
   front =
-      pair_more c.in-Ok.body.now c.pairs.bytes c.pairs.index c.value_at-high.result c.value_at-low.result c.pairs.invariant.front (omega arith)
+      pair_more c.in-Ok.body.now c.pairs.bytes c.pairs.index c.value_at-high.result c.value_at-low.result
+      c.pairs.invariant.front (omega arith)
       (omega arith) c.value_at-high.ensures c.value_at-low.ensures c.if-high.false c.if-low.false;
   size = grind (arith, common_steps);
   within = omega arith;
@@ -28,6 +29,11 @@ returns g c =
     let body = c.in-Ok.ensures.body in
     let even = c.in-Ok.ensures.even in
     let spelled =
-    rw (take_all (2 * c.pairs.index) c.in-Ok.body.now (omega (arith, even.1)), take_all c.pairs.index c.pairs.bytes (omega arith)) at
+    rw (
+      take_all (2 * c.pairs.index) c.in-Ok.body.now (omega (arith, even.1)),
+      take_all c.pairs.index c.pairs.bytes
+          (omega arith),
+    ) at
     c.pairs.invariant.front in
-    DecodesToArray-from_ReadsSized g.row.N c.args.input.now _ (rw (← body) (omega (arith, even.1)), (even.0, rw (← body) spelled))
+    DecodesToArray-from_ReadsSized g.row.N c.args.input.now _
+    (rw (← body) (omega (arith, even.1)), (even.0, rw (← body) spelled))

@@ -18,8 +18,11 @@ digits : (g : Over) (c : Joined-input-at g) → (length c.args.input.now ≤ c.i
     × AllDigits (take c.if-input-at.at c.args.input.now)
 digits g c =
     elim c.if-input-at.branch [
-      | then-input-at+else-not-check_two_steps w ↦
-          (omega arith, rw w.at-is (digits_step _ _ _ _ (omega arith) c.loop-at.invariant.digits (w.if-not-check_two_steps.ensures.0 refl)))
+      | then-input-at+else-not-check_two_steps w ↦ (
+        omega arith,
+        rw w.at-is
+            (digits_step _ _ _ _ (omega arith) c.loop-at.invariant.digits (w.if-not-check_two_steps.ensures.0 refl)),
+      )
       | else-input-at w ↦ (omega arith, rw w.at-is c.loop-at.invariant.digits)
     ]
 
@@ -33,7 +36,8 @@ returns-then-input-at-2 g c =
     let pair = digits_append (take (end - at) (drop at u)) (take (length u - start) (drop start u)) in (
       λ t.
           let both = pair.0 (c.check_pair.ensures.0 t) in
-          (digits_last u end start (omega arith) (digits_step u at (end - at) end (omega arith) front.1 both.0)).0 both.1,
+          (digits_last u end start (omega arith) (digits_step u at (end - at) end (omega arith) front.1 both.0)).0
+          both.1,
       λ d. c.check_pair.ensures.1 (pair.1 (
         All-take IsDigit (end - at) (drop at u) (All-drop IsDigit at u d),
         All-take IsDigit (length u - start) (drop start u) (All-drop IsDigit start u d),

@@ -9,18 +9,24 @@ use Rattle.const_hex_arch.proofs.arch.loops.decode_in_steps.Goals.{Joined-output
 
 pub loop-output-preserved : goal.loop-output-preserved
 loop-output-preserved g c =
-    decoded_step _ _ _ c.loop-output.invariant (omega arith) (omega arith) (omega arith) (omega arith) (c.if-not-decode_two_steps.ensures.spells refl)
+    decoded_step _ _ _ c.loop-output.invariant (omega arith) (omega arith) (omega arith) (omega arith)
+    (c.if-not-decode_two_steps.ensures.spells refl)
 
 pub loop-output-2-init : goal.loop-output-2-init
 loop-output-2-init g c = elim c.loop-output-test.branch [
   | else-loop-output-test w ↦ rw w.output-is c.loop-output.invariant
   | then-loop-output-test+then-not-decode_two_steps w ↦
-      rw (w.output-is, kept_step c.loop-output.output _ c.loop-output.at _ (w.if-not-decode_two_steps.ensures.unchanged refl)) c.loop-output.invariant
+      rw (
+        w.output-is,
+        kept_step c.loop-output.output _ c.loop-output.at _
+            (w.if-not-decode_two_steps.ensures.unchanged refl),
+      ) c.loop-output.invariant
 ]
 
 pub loop-output-2-preserved : goal.loop-output-2-preserved
 loop-output-2-preserved g c =
-    decoded_step _ _ _ c.loop-output-2.invariant (omega arith) (omega arith) (omega arith) (omega arith) (c.if-not-decode_step.ensures.spells refl)
+    decoded_step _ _ _ c.loop-output-2.invariant (omega arith) (omega arith) (omega arith) (omega arith)
+    (c.if-not-decode_step.ensures.spells refl)
 
 pub returns-then-not-decode_step-clause-refused : goal.returns-then-not-decode_step-clause-refused
 returns-then-not-decode_step-clause-refused g c = λ _.
@@ -41,7 +47,8 @@ decoded g c =
       | then-output-at-ge16+else-not-decode_step-2 w ↦ (
         omega arith,
         rw (w.output-is, w.at-is)
-            (decoded_step _ _ _ c.loop-output-2.invariant (omega arith) (omega arith) (omega arith) (omega arith) (w.if-not-decode_step-2.ensures.spells refl)),
+            (decoded_step _ _ _ c.loop-output-2.invariant (omega arith) (omega arith) (omega arith) (omega arith)
+            (w.if-not-decode_step-2.ensures.spells refl)),
       )
       | else-output-at-ge16 w ↦ (omega arith, rw (w.output-is, w.at-is) c.loop-output-2.invariant)
     ]
@@ -50,13 +57,15 @@ pub returns-then-at-output-clause-spells : goal.returns-then-at-output-clause-sp
 returns-then-at-output-clause-spells g c = λ _.
     let at = c.if-output-at-ge16.at in
     let before = decoded g (goal.at.returns-then-at-output-clause-spells g c).Joined-output-at-ge16 in
-    rw (take_all (2 * at) c.args.input.now (omega arith), take_all at c.if-output-at-ge16.output (omega arith)) at before.1.front
+    rw (take_all (2 * at) c.args.input.now (omega arith), take_all at c.if-output-at-ge16.output (omega arith))
+    at before.1.front
 
 pub returns-then-decode_step-clause-spells : goal.returns-then-decode_step-clause-spells
 returns-then-decode_step-clause-spells g c = λ _.
     let before = decoded g (goal.at.returns-then-decode_step-clause-spells g c).Joined-output-at-ge16 in
     let start = length c.if-output-at-ge16.output - 16 in
-    spells_rest _ (decoded_less start before.1 (omega arith)) (omega arith) (omega arith) (c.if-decode_step.ensures.spells refl)
+    spells_rest _ (decoded_less start before.1 (omega arith)) (omega arith) (omega arith)
+    (c.if-decode_step.ensures.spells refl)
 
 pub returns-else-this-ne0-clause-refused : goal.returns-else-this-ne0-clause-refused
 returns-else-this-ne0-clause-refused g c = λ _.

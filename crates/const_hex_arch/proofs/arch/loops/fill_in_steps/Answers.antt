@@ -8,19 +8,23 @@ pub loop-at-init : goal.loop-at-init
 loop-at-init g c = none_filled c.requires
 
 pub loop-at-preserved : goal.loop-at-preserved
-loop-at-preserved g c = filled_step _ _ _ c.loop-at.invariant (omega arith) (omega arith) (omega arith) c.fill_two_steps.ensures
+loop-at-preserved g c =
+    filled_step _ _ _ c.loop-at.invariant (omega arith) (omega arith) (omega arith) c.fill_two_steps.ensures
 
 pub returns-then-at-input : goal.returns-then-at-input
 returns-then-at-input g c = filled_whole c.loop-at.invariant (omega arith)
 
 -- before the last step
-filled : (g : Over) (c : Joined-input-at g) → IsFilled c.args.upper c.args.input.now c.if-input-at.output (length c.args.input.now - g.row.N)
+filled : (g : Over) (c : Joined-input-at g)
+    → IsFilled c.args.upper c.args.input.now c.if-input-at.output (length c.args.input.now - g.row.N)
 filled g c = elim c.if-input-at.branch [
   | then-input-at w ↦
       let end = c.loop-at.at + g.row.N in
-      let more = filled_step {end = end} _ _ (2 * end - 2 * c.loop-at.at) c.loop-at.invariant (omega arith) (omega arith) (omega arith) w.fill_step.ensures in
+      let more = filled_step {end = end} _ _ (2 * end - 2 * c.loop-at.at) c.loop-at.invariant (omega arith)
+      (omega arith) (omega arith) w.fill_step.ensures in
       rw w.output-is (filled_less {i = end} (length c.args.input.now - g.row.N) more (omega arith))
-  | else-input-at w ↦ rw w.output-is (filled_less {i = c.loop-at.at} (length c.args.input.now - g.row.N) c.loop-at.invariant (omega arith))
+  | else-input-at w ↦ rw w.output-is
+      (filled_less {i = c.loop-at.at} (length c.args.input.now - g.row.N) c.loop-at.invariant (omega arith))
 ]
 
 pub returns : goal.returns

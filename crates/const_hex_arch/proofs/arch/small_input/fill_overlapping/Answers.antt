@@ -6,12 +6,14 @@ pub returns-else-bytes : goal.returns-else-bytes
 returns-else-bytes g c =
     let n = g.row.N in
     let first : IsFilled c.args.upper c.args.bytes.now _ n =
-    filled_step _ n (2 * n) (none_filled c.requires.size) (omega arith) (omega arith) (omega arith) c.fill_step.ensures in
+    filled_step _ n (2 * n) (none_filled c.requires.size) (omega arith) (omega arith) (omega arith)
+    c.fill_step.ensures in
     filled_whole first (omega arith)
 
 pub returns-then-bytes : goal.returns-then-bytes
 returns-then-bytes g c =
     let n = g.row.N in
     let first : IsFilled c.args.upper c.args.bytes.now _ n =
-    filled_step _ n (2 * n) (none_filled c.requires.size) (omega arith) (omega arith) (omega arith) c.fill_step.ensures in
+    filled_step _ n (2 * n) (none_filled c.requires.size) (omega arith) (omega arith) (omega arith)
+    c.fill_step.ensures in
     filled_rest _ (filled_less (length c.args.bytes.now - n) first (omega arith)) c.fill_step-then-bytes.ensures

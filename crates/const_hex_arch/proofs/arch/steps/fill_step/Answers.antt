@@ -15,5 +15,6 @@ returns g c =
     let whole : take n bytes ≡ bytes = take_all n bytes (omega arith) in
     let mid = put_chunk 0 old (get_or vs 0 []) in
     let new = put_chunk n mid (get_or vs 1 []) in
-    let all = take_all (2 * n) new (omega (arith, length-put_chunk 0 old (get_or vs 0 []), length-put_chunk n mid (get_or vs 1 []))) in
+    let all = take_all (2 * n) new
+    (omega (arith, length-put_chunk 0 old (get_or vs 0 []), length-put_chunk n mid (get_or vs 1 []))) in
     sym all ∙ stored_pair n vs old digits.lanes (omega arith) ∙ rw whole at digits.text

@@ -10,4 +10,5 @@ returns g c =
     let halves = c.split_at.ensures in
     let first = c.split_at.result.0.now in
     let second = c.split_at.result.1.now in
-    rw (c.fill_step.ensures, c.fill_step-2.ensures) (sym (hex_text-append up first second) ∙ ap (hex_text up) (parts _ halves.front halves.back))
+    rw (c.fill_step.ensures, c.fill_step-2.ensures)
+    (sym (hex_text-append up first second) ∙ ap (hex_text up) (parts _ halves.front halves.back))

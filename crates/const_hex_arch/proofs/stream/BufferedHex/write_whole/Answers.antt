@@ -5,7 +5,8 @@ use Rattle.const_hex_arch.proofs.stream.BufferedHex.write_whole.Goals as goal
 
 pub returns-then-is_empty : goal.returns-then-is_empty
 returns-then-is_empty g c =
-    StreamsWhole-of g.S.Sink.step g.S.Sink.is_refused g.S.Sink.reported g.met.S.Sink.reports _ _ _ _ (Streams-none _ _ _ _ (nil_from_length _ (search rules)))
+    StreamsWhole-of g.S.Sink.step g.S.Sink.is_refused g.S.Sink.reported g.met.S.Sink.reports _ _ _ _
+    (Streams-none _ _ _ _ (nil_from_length _ (search rules)))
     (search rules)
 
 pub returns : goal.returns

@@ -63,9 +63,9 @@ loop-byte-preserved c =
       decoded = λ x y has.
           let out = c.loop-byte.output in
           let new = c.decode_byte.new.output in
-          let room = c.loop-byte.auto.output in
-          let put = take_put end _ c.in-Ok-decode_byte.count out new (omega (arith, room))
-          (omega (arith, told.length, told.within, room)) in
+          let space = c.loop-byte.auto.output in
+          let put = take_put end _ c.in-Ok-decode_byte.count out new (omega (arith, space))
+          (omega (arith, told.length, told.within, space)) in
           rw (
             joined_one x chunk at c.loop-byte-test.true,
             append_assoc y (take end out)

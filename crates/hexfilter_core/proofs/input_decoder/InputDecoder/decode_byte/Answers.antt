@@ -23,7 +23,7 @@ returns-in-Ok-clause-ok c = λ x y has.
     }
 
 pub returns-in-Err-clause-err : goal.returns-in-Err-clause-err
-returns-in-Err-clause-err c = λ x y rest left has room soon.
+returns-in-Err-clause-err c = λ x y rest left has space soon.
     let r = c.args.reading in
     let bytes = has.text.bytes in
     let more = c.in-Some.ensures x has.scanned
@@ -36,7 +36,7 @@ returns-in-Err-clause-err c = λ x y rest left has room soon.
         soon = soon;
         bytes = pairs r c.args.self.now.decoder x bytes has.text.read;
         invalid = rw (c.from-c.ensures, more.text)
-            (c.in-Err.ensures.err (text_of r x) y has.text (omega (arith, room)));
+            (c.in-Err.ensures.err (text_of r x) y has.text (omega (arith, space)));
         position = has.count;
         stands = c.place.ensures x has.scanned has.count;
       },

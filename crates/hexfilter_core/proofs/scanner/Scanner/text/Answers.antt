@@ -9,13 +9,13 @@ runs-preserved-then-count c =
     let i = c.runs.invariant in
     let ran = c.run-count.ensures in
     let size = rest-size c.args.chunk.now c.runs.done in
-    let room = c.runs.auto.output in record {
+    let space = c.runs.auto.output in record {
       within = omega (arith, ran.within, size);
       fewer = omega arith;
       so_far = λ x is at.
           added_run _ _ _ x _ _ c.runs.end c.runs.done (i.so_far x is at) _ c.run-count.result _ i.within
-          (omega (arith, room))
-          (omega (arith, ran.length, ran.within, size, room)) ran.added;
+          (omega (arith, space))
+          (omega (arith, ran.length, ran.within, size, space)) ran.added;
     }
 
 pub runs-preserved : goal.runs-preserved
@@ -23,13 +23,13 @@ runs-preserved c =
     let i = c.runs.invariant in
     let ran = c.run-count.ensures in
     let size = rest-size c.args.chunk.now c.runs.done in
-    let room = c.runs.auto.output in record {
+    let space = c.runs.auto.output in record {
       within = omega (arith, ran.within, size);
       fewer = omega arith;
       so_far = λ x is at.
           added_run _ _ _ x _ _ c.runs.end c.runs.done (i.so_far x is at) _ c.run-count.result _ i.within
-          (omega (arith, room))
-          (omega (arith, ran.length, ran.within, size, room)) ran.added;
+          (omega (arith, space))
+          (omega (arith, ran.length, ran.within, size, space)) ran.added;
     }
 
 pub runs-preserved-then-done-chunk : goal.runs-preserved-then-done-chunk
@@ -41,12 +41,12 @@ runs-preserved-then-done-chunk c =
     let ran = c.run-count.ensures in
     let inside : done + n < length chunk = omega arith in
     let size = rest-size chunk done in
-    let room = c.runs.auto.output in record {
+    let space = c.runs.auto.output in record {
       within = omega arith;
       fewer = omega (arith, c.put-end.ensures.within);
       so_far = λ x is at.
-          let run = added_run _ _ _ x chunk _ c.runs.end done (i.so_far x is at) _ n _ i.within (omega (arith, room))
-          (omega (arith, ran.length, ran.within, size, room)) ran.added in
+          let run = added_run _ _ _ x chunk _ c.runs.end done (i.so_far x is at) _ n _ i.within (omega (arith, space))
+          (omega (arith, ran.length, ran.within, size, space)) ran.added in
           added_byte _ _ _ x chunk _ (c.runs.end + n) (done + n) run _ (listed c.next-added.result) c.put-end.result
           inside c.put-end.ensures.front
           (c.next-added.ensures _ run.scanned

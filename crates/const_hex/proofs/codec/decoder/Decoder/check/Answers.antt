@@ -11,7 +11,8 @@ returns-then-not-check c = record {
       let next = c.next_digits-waiting in
       let whole = next.ensures.whole t r.pairs r.counts r.whole (even_pairs r.pairs bs r.given) in
       let bad = c.fail.ensures.names (λ a. false_is_true (c.if-not-check.ensures.1 a)) in
-      rw bad.2 (bad_by_now _ t bs c.args.chunk.now (listed next.result.0) next.result.1.now r whole _ bad.0 refl next.ensures.shorter
+      rw bad.2 (bad_by_now _ t bs c.args.chunk.now (listed next.result.0) next.result.1.now r whole _ bad.0 refl
+      next.ensures.shorter
       (next.ensures.waits r.waits) bad.1);
   ended = search rules;
   kept_error = search rules;
@@ -22,13 +23,15 @@ returns c = record {
   ok = λ t bs r.
       let next = c.next_digits-waiting in
       let whole = next.ensures.whole t r.pairs r.counts r.whole (even_pairs r.pairs bs r.given) in
-      goes_on_unwritten _ t bs c.args.chunk.now (listed next.result.0) next.result.1.now r whole c.advance.new.self c.count_pairs-pairs.result
+      goes_on_unwritten _ t bs c.args.chunk.now (listed next.result.0) next.result.1.now r whole c.advance.new.self
+      c.count_pairs-pairs.result
       c.count_pairs-pairs.ensures (next.ensures.waits r.waits) (c.if-not-check.ensures.0 refl)
       c.advance.ensures.no_error c.advance.ensures.index (c.advance.ensures.waiting ∙ c.left_over.ensures);
   answer = λ t bs r.
       let next = c.next_digits-waiting in
       let whole = next.ensures.whole t r.pairs r.counts r.whole (even_pairs r.pairs bs r.given) in
-      digits_by_now _ t bs c.args.chunk.now (listed next.result.0) next.result.1.now r whole (next.ensures.waits r.waits)
+      digits_by_now _ t bs c.args.chunk.now (listed next.result.0) next.result.1.now r whole
+      (next.ensures.waits r.waits)
       (c.if-not-check.ensures.0 refl);
   ended = search rules;
   kept_error = search rules;

@@ -6,4 +6,5 @@ pub to_digits-requires : goal.to_digits-requires
 to_digits-requires c = (omega arith, rw c.split_lanes.ensures (halves_are_values c.args.v c.fits-v.1))
 
 pub returns-clause-text : goal.returns-clause-text
-returns-clause-text c = rw (c.in_two.ensures.parts, c.to_digits.ensures, c.split_lanes.ensures) (digits_of_halves c.args.upper c.args.v)
+returns-clause-text c =
+    rw (c.in_two.ensures.parts, c.to_digits.ensures, c.split_lanes.ensures) (digits_of_halves c.args.upper c.args.v)

@@ -3,4 +3,5 @@ use Rattle.const_hex_arch.proofs.lemmas.Spelling.{digits_more}
 use Rattle.const_hex_arch.proofs.arch.plain.PlainKernel.check.Goals as goal
 
 pub loop-b-preserved : goal.loop-b-preserved
-loop-b-preserved c = digits_more c.args.input.now c.loop-b.b-index c.loop-b.invariant c.loop-b-test.true (λ e. omega (arith, e))
+loop-b-preserved c =
+    digits_more c.args.input.now c.loop-b.b-index c.loop-b.invariant c.loop-b-test.true (λ e. omega (arith, e))

@@ -6,14 +6,21 @@ use Rattle.const_hex_arch.proofs.arch.plain.PlainKernel.decode_checked.Goals as 
 
 pub returns-then-high-low-ge16-clause-refused : goal.returns-then-high-low-ge16-clause-refused
 returns-then-high-low-ge16-clause-refused c = λ _.
-    refused_joint c.args.output.now c.args.input.now c.loop-i.output c.loop-i.i _ _ c.loop-i.invariant.front c.loop-i.invariant.rest (omega arith)
+    refused_joint c.args.output.now c.args.input.now c.loop-i.output c.loop-i.i _ _ c.loop-i.invariant.front
+    c.loop-i.invariant.rest (omega arith)
     (omega arith) c.value_at-high.ensures c.value_at-low.ensures c.if-high-low-ge16.true
 
 pub overflow_mul-output : goal.overflow_mul-output
 overflow_mul-output c = omega (arith, le_or_l c.value_at-high.result c.value_at-low.result)
 
 pub overflow_add-output : goal.overflow_add-output
-overflow_add-output c = omega (arith, le_or_l c.value_at-high.result c.value_at-low.result, le_or_r c.value_at-high.result c.value_at-low.result)
+overflow_add-output c =
+    omega (
+      arith,
+      le_or_l c.value_at-high.result c.value_at-low.result,
+      le_or_r c.value_at-high.result
+          c.value_at-low.result,
+    )
 
 pub loop-i-preserved : goal.loop-i-preserved
 loop-i-preserved c =
@@ -21,7 +28,8 @@ loop-i-preserved c =
     let high = le_or_l c.value_at-high.result c.value_at-low.result in
     let low = le_or_r c.value_at-high.result c.value_at-low.result in record {
       front =
-          pair_more c.args.input.now c.loop-i.output i c.value_at-high.result c.value_at-low.result c.loop-i.invariant.front (omega arith) (omega arith)
+          pair_more c.args.input.now c.loop-i.output i c.value_at-high.result c.value_at-low.result
+          c.loop-i.invariant.front (omega arith) (omega arith)
           c.value_at-high.ensures c.value_at-low.ensures (λ e. omega (arith, high, e)) (λ e. omega (arith, low, e));
       rest = grind (arith, common_steps);
     }

@@ -8,6 +8,7 @@ loop-i-preserved c =
     let u = c.args.input.now in
     let high = c.value_at.ensures in
     let low = c.value_at-in-loop-i.ensures in
-    pair_more u c.loop-i.output i c.value_at.result c.value_at-in-loop-i.result c.loop-i.invariant (omega arith) (omega arith) high low
+    pair_more u c.loop-i.output i c.value_at.result c.value_at-in-loop-i.result c.loop-i.invariant (omega arith)
+    (omega arith) high low
     (λ e. digit_values u (2 * i) c.requires.digits (omega arith) (sym high ∙ e))
     (λ e. digit_values u (2 * i + 1) c.requires.digits (omega arith) (sym low ∙ e))

@@ -8,7 +8,8 @@ loop-i-init c = none_filled c.requires
 
 pub loop-i-preserved : goal.loop-i-preserved
 loop-i-preserved c =
-    let text = c.copy_from_slice.ensures.after ∙ c.pair_at.ensures ∙ sym (hex_text-one c.args.upper c.args.input.now c.loop-i.i c.loop-i-test.true) in
+    let text = c.copy_from_slice.ensures.after ∙ c.pair_at.ensures
+    ∙ sym (hex_text-one c.args.upper c.args.input.now c.loop-i.i c.loop-i-test.true) in
     filled_step _ 1 _ c.loop-i.invariant (omega arith) (omega arith) (omega arith) text
 
 pub returns : goal.returns

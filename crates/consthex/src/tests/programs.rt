@@ -2,7 +2,7 @@
 
 use crate::mode::USAGE;
 use crate::process::program;
-use const_hex_vectors::{Endless, Fault, Source, Target, Testing, Text, same, same_bytes};
+use const_hex_testing::{Endless, Fault, Source, Target, Testing, Text, same, same_bytes};
 use std::cell::Cell;
 use std::env::{Env, FillError};
 use std::fmt::{self, Debug, Display};
@@ -53,9 +53,9 @@ impl Env for Host<'_> {
 impl Eprint for Host<'_> {
     fn eprint<D: Display + Drop>(&self, value: D) -> io::Result<()> {
         let (mut bytes, count) = self.printed.get();
-        let mut room = &mut bytes[count.min(128)..];
-        let _ = write!(room, "{value}");
-        let left = room.len();
+        let mut space = &mut bytes[count.min(128)..];
+        let _ = write!(space, "{value}");
+        let left = space.len();
         self.printed.set((bytes, 128usize.saturating_sub(left)));
         if self.can_print {
             return Ok(());

@@ -1,4 +1,4 @@
-//! The program `const_hex_test_vectors`: compares `const_hex` with each line of `vectors.tsv`, and prints
+//! The program `const_hex_vectors`: compares `const_hex` with each line of `vectors.tsv`, and prints
 //! the lines for which some function returns something else, with what it returns, and their
 //! number. The exit status is 1 if there is one.
 #![tactic(auto)]

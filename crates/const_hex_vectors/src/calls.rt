@@ -3,8 +3,8 @@
 use crate::kernels::column;
 use crate::line::{Cell, Line};
 use const_hex::{BufferedHex, Kernel, SinkError, SinkOutput, serialize_inner};
-use const_hex_vectors::texts::{make_bytes, print};
-use const_hex_vectors::{KernelCase, Noting, by_each_kernel};
+use const_hex_testing::texts::{make_bytes, print};
+use const_hex_testing::{KernelCase, Noting, by_each_kernel};
 use std::alloc::{AllocError, Global};
 use std::fmt::Write;
 

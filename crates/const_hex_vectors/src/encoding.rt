@@ -9,7 +9,7 @@ use const_hex::{
     Buffer, decode, decode_to_array, display, encode, encode_full_to_slice, encode_prefixed,
     encode_to_slice, encode_upper, encode_upper_prefixed,
 };
-use const_hex_vectors::{InHex, by_each_kernel};
+use const_hex_testing::{InHex, by_each_kernel};
 use std::alloc::{AllocError, Global};
 use std::fmt::Display;
 

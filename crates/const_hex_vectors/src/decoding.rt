@@ -6,7 +6,7 @@ use const_hex::{
     Decoder, FromHex, FromHexError, Kernel, check, check_raw, decode, decode_to_array,
     decode_to_front, decode_to_slice, deserialize,
 };
-use const_hex_vectors::{KernelCase, by_each_kernel};
+use const_hex_testing::{KernelCase, by_each_kernel};
 use serde_json::Value;
 use std::alloc::{AllocError, Global};
 
