@@ -6,12 +6,12 @@
 
 enum { LINE = 1 << 16 };
 
-/* A line of the table: the operation, its size if it has one, the input, and the expected output or error. */
+/* A line of the table: the question, its number if it has one, the input, and the result: bytes or an error. */
 struct line {
-    char *operation, *wanted_cell;
-    bool is_sized;
-    size_t size, length, wanted_length;
-    char input[LINE], wanted[LINE];
+    char *question, *result_cell;
+    bool has_number;
+    size_t number, length, result_length;
+    char input[LINE], result[LINE];
 };
 
 /* Reads a cell, in which "" is nothing and \xHH a byte. Returns the length. */
@@ -29,15 +29,15 @@ static size_t read_cell(const char *cell, char *bytes) {
 static bool read_line(FILE *file, struct line *line) {
     static char text[LINE];
     while (fgets(text, LINE, file) != NULL) {
-        char *operation = strtok(text, "\t\n"), *input = strtok(NULL, "\t\n"), *wanted = strtok(NULL, "\t\n");
-        if (wanted != NULL && operation[0] != '#') {
-            char *name = strtok(operation, " "), *size = strtok(NULL, " ");
-            line->operation = name;
-            line->wanted_cell = wanted;
-            line->is_sized = size != NULL;
-            line->size = size == NULL ? 0 : strtoul(size, NULL, 10);
+        char *question = strtok(text, "\t\n"), *input = strtok(NULL, "\t\n"), *result = strtok(NULL, "\t\n");
+        if (result != NULL && question[0] != '#') {
+            char *name = strtok(question, " "), *number = strtok(NULL, " ");
+            line->question = name;
+            line->result_cell = result;
+            line->has_number = number != NULL;
+            line->number = number == NULL ? 0 : strtoul(number, NULL, 10);
             line->length = read_cell(input, line->input);
-            line->wanted_length = read_cell(wanted, line->wanted);
+            line->result_length = read_cell(result, line->result);
             return true;
         }
     }
@@ -53,8 +53,8 @@ static bool is_wanted(const struct line *line, const struct model *model, struct
         snprintf(cell + length, sizeof cell - (size_t)length, " 0x%02x %zu", error.byte, error.index);
     }
     return error.kind != 0
-               ? strcmp(line->wanted_cell, cell) == 0
-               : model->count == line->wanted_length && memcmp(model->bytes, line->wanted, model->count) == 0;
+               ? strcmp(line->result_cell, cell) == 0
+               : model->count == line->result_length && memcmp(model->bytes, line->result, model->count) == 0;
 }
 
 static bool read_text(const struct line *line) {
@@ -65,8 +65,8 @@ static bool read_text(const struct line *line) {
 
 static bool read_into(const struct line *line) {
     const struct model *model = model_of(line->input, line->length, false);
-    judge_decoding(model, line->input, line->length, line->size, 0);
-    return is_wanted(line, model, model_error(model, line->size, line->size));
+    judge_decoding(model, line->input, line->length, line->number, 0);
+    return is_wanted(line, model, model_error(model, line->number, line->number));
 }
 
 static bool read_pieces(const struct line *line) {
@@ -83,39 +83,39 @@ static bool write_text(const struct line *line) {
     const unsigned char *bytes = (const unsigned char *)line->input;
     size_t length = model_text(bytes, line->length, CONST_HEX_NO_NUL, text);
     judge_bytes(bytes, line->length, 0);
-    return length == line->wanted_length && memcmp(text, line->wanted, length) == 0;
+    return length == line->result_length && memcmp(text, line->result, length) == 0;
 }
 
-/* Where the table wants an error for an output that is too large, this library uses only its front. */
+/* Where the result is an error for an output that is too large, this library uses only its front. */
 static bool write_into(const struct line *line) {
-    struct buffer text = marked(areas.text, line->size, 0);
-    bool fits = build->encode(line->input, line->length, text.bytes, line->size, CONST_HEX_NO_NUL);
-    if (strcmp(line->wanted_cell, "!InvalidStringLength") == 0) {
-        return fits == (line->size > 2 * line->length);
+    struct buffer text = marked(areas.text, line->number, 0);
+    bool fits = build->encode(line->input, line->length, text.bytes, line->number, CONST_HEX_NO_NUL);
+    if (strcmp(line->result_cell, "!InvalidStringLength") == 0) {
+        return fits == (line->number > 2 * line->length);
     }
-    return fits && line->size == line->wanted_length && memcmp(text.bytes, line->wanted, line->size) == 0;
+    return fits && line->number == line->result_length && memcmp(text.bytes, line->result, line->number) == 0;
 }
 
 static bool digits(const struct line *line) {
-    return build->check_raw(line->input, line->length) == (strcmp(line->wanted_cell, "true") == 0);
+    return build->check_raw(line->input, line->length) == (strcmp(line->result_cell, "true") == 0);
 }
 
 static bool message(const struct line *line) {
     struct const_hex_error error = UNSET;
     char text[CONST_HEX_MESSAGE_SIZE];
-    bool result = line->is_sized
-                      ? build->decode_exact(line->input, line->length, areas.decoded, line->size, &error)
+    bool result = line->has_number
+                      ? build->decode_exact(line->input, line->length, areas.decoded, line->number, &error)
                       : build->check(line->input, line->length, &error);
     size_t length = build->error_message(&error, text, sizeof text);
-    return !result && length == line->wanted_length && memcmp(text, line->wanted, length) == 0;
+    return !result && length == line->result_length && memcmp(text, line->result, length) == 0;
 }
 
-/* What asks the functions for a line's operation. NULL is for what this library does not have (JSON, sinks, and the
+/* What asks the functions for a line's question. NULL is for what this library does not have (JSON, sinks, and the
  * functions of a kernel), and for texts that are longer than a line may be here. */
 static const struct {
-    const char *operation;
+    const char *question;
     bool (*agrees)(const struct line *line);
-} OPERATIONS[] = {
+} QUESTIONS[] = {
     {"read", read_text},   {"read-into", read_into},   {"read-pieces", read_pieces}, {"digits", digits},
     {"write", write_text}, {"write-into", write_into}, {"message", message},         {"read-times", NULL},
     {"json", NULL},        {"json-into", NULL},        {"json-message", NULL},       {"write-times", NULL},
@@ -129,15 +129,15 @@ TEST(table) {
     size_t lines = 0;
     while (file != NULL && read_line(file, &line)) {
         bool is_known = false;
-        for (size_t which = 0; which < sizeof OPERATIONS / sizeof *OPERATIONS; which++) {
-            if (strcmp(line.operation, OPERATIONS[which].operation) == 0) {
+        for (size_t which = 0; which < sizeof QUESTIONS / sizeof *QUESTIONS; which++) {
+            if (strcmp(line.question, QUESTIONS[which].question) == 0) {
                 is_known = true;
-                if (OPERATIONS[which].agrees != NULL) {
-                    holds(OPERATIONS[which].agrees(&line), line.operation, line.length, ++lines);
+                if (QUESTIONS[which].agrees != NULL) {
+                    holds(QUESTIONS[which].agrees(&line), line.question, line.length, ++lines);
                 }
             }
         }
-        holds(is_known, line.operation, lines, 0);
+        holds(is_known, line.question, lines, 0);
     }
     holds(lines >= 300 && feof(file) && fclose(file) == 0, "the whole table", lines, 0);
 }

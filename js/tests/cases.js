@@ -104,17 +104,17 @@ async function tableOfTestVectors() {
     const table = await read(TABLE, 'utf8');
     const count = { write: 0, read: 0, 'read-into': 0, 'read-pieces': 0, message: 0 };
     for (const line of table.split('\n')) {
-        const [question, asked, cell] = line.split('\t');
-        const [kind, size] = question.split(' ');
-        if (cell === undefined || OTHER_QUESTIONS.includes(kind)) continue;
-        const [bytes, answer] = [asked, cell].map(cellBytes);
-        const wanted = kind.startsWith('read') && !cell.startsWith('!') ? digitsOf(answer) : stringOf(answer);
-        const isText = kind !== 'write' && digitsOf(utf8(stringOf(bytes))) === digitsOf(bytes);
+        const [asked, input, result] = line.split('\t');
+        const [question, number] = asked.split(' ');
+        if (result === undefined || OTHER_QUESTIONS.includes(question)) continue;
+        const [bytes, answer] = [input, result].map(cellBytes);
+        const wanted = question.startsWith('read') && !result.startsWith('!') ? digitsOf(answer) : stringOf(answer);
+        const isText = question !== 'write' && digitsOf(utf8(stringOf(bytes))) === digitsOf(bytes);
         const forms = isText ? [bytes, stringOf(bytes)] : [bytes];
-        for (const form of forms) questions[kind](form, wanted, size && Number(size));
-        count[kind] += 1;
+        for (const form of forms) questions[question](form, wanted, number && Number(number));
+        count[question] += 1;
     }
-    for (const [kind, lines] of Object.entries(count)) equal(lines > 20, true, kind);
+    for (const [question, lines] of Object.entries(count)) equal(lines > 20, true, question);
 }
 
 function eachLength() {

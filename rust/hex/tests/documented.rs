@@ -1,8 +1,8 @@
 //! What only this package decides, with the results that the documentation and the tests of the crate `hex` name.
 #![cfg(feature = "std")]
 
-use hex::FromHexError::{InvalidHexCharacter, InvalidStringLength, OddLength};
 use hex::FromHex;
+use hex::FromHexError::{InvalidHexCharacter, InvalidStringLength, OddLength};
 
 /// No line of these names the type of the elements.
 #[test]

@@ -35,8 +35,8 @@ pub fn signed<T: AsRef<[i8]>>(answer: Result<T, FromHexError>) -> String {
 /// The answer of a check, which returns no bytes: the line's, if that has no error either.
 pub fn checked(line: &Line, answer: Result<(), FromHexError>) -> String {
     match answer {
-        Ok(()) if line.answer.starts_with('!') => "accepted".to_string(),
-        Ok(()) => line.answer.clone(),
+        Ok(()) if line.result.starts_with('!') => "accepted".to_string(),
+        Ok(()) => line.result.clone(),
         Err(refused) => error(refused),
     }
 }
@@ -101,22 +101,22 @@ const OTHER_QUESTIONS: [&str; 11] = [
 
 /// The answer of each call that can answer the line.
 pub fn answers(line: &Line) -> Answers {
-    let asked = &line.asked[..];
-    match (&*line.kind, line.number) {
+    let input = &line.input[..];
+    match (&*line.question, line.number) {
         ("write", None) => written(line),
-        ("write-into", Some(length)) => written_into(asked, length),
+        ("write-into", Some(length)) => written_into(input, length),
         ("read", None) => vec![
-            ("decode", bytes(decode(asked))),
-            ("from_hex", bytes(Vec::<u8>::from_hex(asked))),
-            ("from_hex", signed(<Vec<i8> as signed::FromHex>::from_hex(asked))),
-            ("from_hex", bytes(<Box<[u8]>>::from_hex(asked))),
-            ("check", checked(line, check(asked))),
+            ("decode", bytes(decode(input))),
+            ("from_hex", bytes(Vec::<u8>::from_hex(input))),
+            ("from_hex", signed(<Vec<i8> as signed::FromHex>::from_hex(input))),
+            ("from_hex", bytes(<Box<[u8]>>::from_hex(input))),
+            ("check", checked(line, check(input))),
         ],
-        ("read-into", Some(length)) => read_into(asked, length),
-        ("digits", None) => vec![("check_raw", check_raw(asked).to_string())],
-        ("message", None) => vec![("decode", message(decode(asked))), ("check", message(check(asked)))],
+        ("read-into", Some(length)) => read_into(input, length),
+        ("digits", None) => vec![("check_raw", check_raw(input).to_string())],
+        ("message", None) => vec![("decode", message(decode(input))), ("check", message(check(input)))],
         ("message", Some(length)) => {
-            let answer = decode_to_slice(asked, &mut vec![0; length]);
+            let answer = decode_to_slice(input, &mut vec![0; length]);
             vec![("decode_to_slice", message(answer))]
         }
         ("json" | "read-pieces", None) => Vec::new(),
@@ -127,14 +127,14 @@ pub fn answers(line: &Line) -> Answers {
 
 /// The text of bytes in its four forms, and whether each reads back.
 fn written(line: &Line) -> Answers {
-    let asked = &line.asked[..];
+    let input = &line.input[..];
     let texts = [
-        encode(asked),
-        encode_upper(asked),
-        encode_prefixed(asked),
-        encode_upper_prefixed(asked),
+        encode(input),
+        encode_upper(input),
+        encode_prefixed(input),
+        encode_upper_prefixed(input),
     ];
-    let reads_back = |text: &String| decode(text).as_deref() == Ok(asked);
+    let reads_back = |text: &String| decode(text).as_deref() == Ok(input);
     let unread = texts.iter().find(|text| !reads_back(text));
     let [lower, upper, prefixed, upper_prefixed] = &texts;
     vec![
@@ -142,24 +142,24 @@ fn written(line: &Line) -> Answers {
         ("encode_upper", formed(upper, "", true)),
         ("encode_prefixed", formed(prefixed, "0x", false)),
         ("encode_upper_prefixed", formed(upper_prefixed, "0x", true)),
-        ("encode_hex", formed(ToHex::encode_hex::<String>(&asked), "", false)),
+        ("encode_hex", formed(ToHex::encode_hex::<String>(&input), "", false)),
         (
             "encode_hex_upper",
-            formed(ToHex::encode_hex_upper::<String>(&asked), "", true),
+            formed(ToHex::encode_hex_upper::<String>(&input), "", true),
         ),
         (
             "decode",
-            unread.map_or(line.answer.clone(), |text| format!("{text} is not read")),
+            unread.map_or(line.result.clone(), |text| format!("{text} is not read")),
         ),
     ]
 }
 
-fn written_into(asked: &[u8], length: usize) -> Answers {
-    let lower = filled(length, |output| encode_to_slice(asked, output));
-    let upper = filled(length, |output| encode_to_slice_upper(asked, output));
+fn written_into(input: &[u8], length: usize) -> Answers {
+    let lower = filled(length, |output| encode_to_slice(input, output));
+    let upper = filled(length, |output| encode_to_slice_upper(input, output));
     let mut output = vec![0xEE; length];
-    let lent = encode_to_str(asked, &mut output).map(|text| text.to_string());
-    let lent_upper = encode_to_str_upper(asked, &mut output).map(|text| text.to_string());
+    let lent = encode_to_str(input, &mut output).map(|text| text.to_string());
+    let lent_upper = encode_to_str_upper(input, &mut output).map(|text| text.to_string());
     vec![
         ("encode_to_slice", formed_answer(lower, false)),
         ("encode_to_slice_upper", formed_answer(upper, true)),
@@ -168,12 +168,12 @@ fn written_into(asked: &[u8], length: usize) -> Answers {
     ]
 }
 
-fn read_into(asked: &[u8], length: usize) -> Answers {
-    let slice = filled(length, |output| decode_to_slice(asked, output));
+fn read_into(input: &[u8], length: usize) -> Answers {
+    let slice = filled(length, |output| decode_to_slice(input, output));
     let arrays = at!(length, N => [
-        ("decode_to_array", bytes(decode_to_array::<_, N>(asked))),
-        ("from_hex", bytes(<[u8; N]>::from_hex(asked))),
-        ("from_hex", signed(<[i8; N] as signed::FromHex>::from_hex(asked))),
+        ("decode_to_array", bytes(decode_to_array::<_, N>(input))),
+        ("from_hex", bytes(<[u8; N]>::from_hex(input))),
+        ("from_hex", signed(<[i8; N] as signed::FromHex>::from_hex(input))),
     ]);
     let arrays = arrays.into_iter().flatten();
     Some(("decode_to_slice", slice)).into_iter().chain(arrays).collect()

@@ -7,25 +7,25 @@ use std::io::Read;
 
 /// Whether a line asks for a text in chunks, or its answer is the same: of any whole text but an odd one.
 fn is_asked(line: &Line) -> bool {
-    match &*line.kind {
-        "read" => line.answer != "!OddLength",
+    match &*line.question {
+        "read" => line.result != "!OddLength",
         kind => kind == "read-pieces",
     }
 }
 
 /// The answer at each cut of a text of less than 200 bytes, and of a longer one at so many cuts.
 pub fn answers(line: &Line) -> Answers {
-    let asked = &line.asked[..];
+    let input = &line.input[..];
     if !is_asked(line) {
         return Vec::new();
     }
-    let cuts = (0..=asked.len()).step_by(1 + asked.len() / 200);
-    let cuts = cuts.map(|cut| decoded(&[&asked[..cut], &asked[cut..]]));
-    let single: Vec<&[u8]> = asked.chunks(1).collect();
+    let cuts = (0..=input.len()).step_by(1 + input.len() / 200);
+    let cuts = cuts.map(|cut| decoded(&[&input[..cut], &input[cut..]]));
+    let single: Vec<&[u8]> = input.chunks(1).collect();
     let answers = cuts.chain([decoded(&single)]);
     answers
         .map(|answer| ("Decoder", bytes(answer)))
-        .chain([("DecodeReader", read(asked))])
+        .chain([("DecodeReader", read(input))])
         .collect()
 }
 

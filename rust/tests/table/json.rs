@@ -8,24 +8,24 @@ use serde_json::value::{Serializer, Value};
 
 /// The answer of each call that can answer the line.
 pub fn answers(line: &Line) -> Answers {
-    let asked = &line.asked[..];
+    let input = &line.input[..];
     let text = |value: Result<Value, serde_json::Error>, prefix, is_upper| {
         formed(value.unwrap().as_str().unwrap(), prefix, is_upper)
     };
-    match &*line.kind {
+    match &*line.question {
         "write" => vec![
-            ("serialize", text(serialize(asked, Serializer), "0x", false)),
-            ("serialize_upper", text(serialize_upper(asked, Serializer), "0x", true)),
+            ("serialize", text(serialize(input, Serializer), "0x", false)),
+            ("serialize_upper", text(serialize_upper(input, Serializer), "0x", true)),
             (
                 "no_prefix::serialize",
-                text(no_prefix::serialize(asked, Serializer), "", false),
+                text(no_prefix::serialize(input, Serializer), "", false),
             ),
             (
                 "no_prefix::serialize_upper",
-                text(no_prefix::serialize_upper(asked, Serializer), "", true),
+                text(no_prefix::serialize_upper(input, Serializer), "", true),
             ),
         ],
-        "json" => vec![("deserialize", read(asked))],
+        "json" => vec![("deserialize", read(input))],
         _ => Vec::new(),
     }
 }

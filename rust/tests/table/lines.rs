@@ -5,13 +5,13 @@ use std::io::{stderr, Write};
 /// A line that asks something.
 pub struct Line {
     /// What is asked.
-    pub kind: String,
-    /// The length of the output, if the kind has one.
+    pub question: String,
+    /// The length of the output, if the question has one.
     pub number: Option<usize>,
     /// The bytes or the text that it is asked of.
-    pub asked: Vec<u8>,
-    /// The answer, as the table shows it.
-    pub answer: String,
+    pub input: Vec<u8>,
+    /// The result, as the table shows it.
+    pub result: String,
 }
 
 impl Line {
@@ -22,16 +22,16 @@ impl Line {
         }
         let mut cells = text.split('\t');
         let mut cell = || cells.next().unwrap_or_else(|| panic!("a cell is missing: {text}"));
-        let (question, asked, answer) = (cell(), cell(), cell());
-        let (kind, number) = match question.split_once(' ') {
-            Some((kind, number)) => (kind, Some(number.parse().unwrap())),
+        let (question, input, result) = (cell(), cell(), cell());
+        let (question, number) = match question.split_once(' ') {
+            Some((question, number)) => (question, Some(number.parse().unwrap())),
             None => (question, None),
         };
         Some(Line {
-            kind: kind.to_string(),
+            question: question.to_string(),
             number,
-            asked: bytes_of(asked),
-            answer: answer.to_string(),
+            input: bytes_of(input),
+            result: result.to_string(),
         })
     }
 }
@@ -51,7 +51,7 @@ pub fn ask(folder: &str, calls: impl Fn(&Line) -> Vec<(&'static str, String)>) {
     };
     let mut asked = 0;
     for (number, text) in table.lines().enumerate() {
-        let answers = Line::read(text).map(|line| (calls(&line), line.answer));
+        let answers = Line::read(text).map(|line| (calls(&line), line.result));
         let (answers, wanted) = answers.unwrap_or_default();
         for (call, answer) in &answers {
             assert_eq!(*answer, wanted, "{call}, line {}: {text}", number + 1);

@@ -6,23 +6,23 @@ use super::lines::Line;
 
 /// The answer of each call that can answer the line.
 pub fn answers(line: &Line) -> Answers {
-    let asked = &line.asked[..];
-    match (&*line.kind, line.number) {
+    let input = &line.input[..];
+    match (&*line.question, line.number) {
         ("write", None) => {
-            let buffers = at!(asked.len(), N => buffered::<N>(asked.try_into().unwrap()));
+            let buffers = at!(input.len(), N => buffered::<N>(input.try_into().unwrap()));
             let buffers = buffers.unwrap_or_default();
-            buffers.into_iter().chain(printed(asked)).collect()
+            buffers.into_iter().chain(printed(input)).collect()
         }
-        ("read", None) => vec![("const_check", checked(line, const_check(asked)))],
+        ("read", None) => vec![("const_check", checked(line, const_check(input)))],
         ("read-into", Some(length)) => {
-            let array = at!(length, N => bytes(const_decode_to_array::<N>(asked)));
+            let array = at!(length, N => bytes(const_decode_to_array::<N>(input)));
             array
                 .map(|array| ("const_decode_to_array", array))
                 .into_iter()
                 .collect()
         }
-        ("digits", None) => vec![("const_check_raw", const_check_raw(asked).to_string())],
-        ("message", None) => vec![("const_check", message(const_check(asked)))],
+        ("digits", None) => vec![("const_check_raw", const_check_raw(input).to_string())],
+        ("message", None) => vec![("const_check", message(const_check(input)))],
         _ => Vec::new(),
     }
 }
@@ -59,8 +59,8 @@ fn buffered<const N: usize>(array: &[u8; N]) -> Answers {
 }
 
 /// The text of bytes, by printing and by a trait.
-fn printed(asked: &[u8]) -> Answers {
-    let shown = display(asked);
+fn printed(input: &[u8]) -> Answers {
+    let shown = display(input);
     vec![
         ("display", formed(format!("{shown}"), "", false)),
         ("display", formed(format!("{shown:#}"), "0x", false)),
@@ -68,9 +68,9 @@ fn printed(asked: &[u8]) -> Answers {
         ("display", formed(format!("{shown:#x}"), "0x", false)),
         ("display", formed(format!("{shown:X}"), "", true)),
         ("display", formed(format!("{shown:#X}"), "0x", true)),
-        ("ToHexExt", formed(ToHexExt::encode_hex(&asked), "", false)),
-        ("ToHexExt", formed(ToHexExt::encode_hex_upper(&asked), "", true)),
-        ("ToHexExt", formed(asked.encode_hex_with_prefix(), "0x", false)),
-        ("ToHexExt", formed(asked.encode_hex_upper_with_prefix(), "0x", true)),
+        ("ToHexExt", formed(ToHexExt::encode_hex(&input), "", false)),
+        ("ToHexExt", formed(ToHexExt::encode_hex_upper(&input), "", true)),
+        ("ToHexExt", formed(input.encode_hex_with_prefix(), "0x", false)),
+        ("ToHexExt", formed(input.encode_hex_upper_with_prefix(), "0x", true)),
     ]
 }
