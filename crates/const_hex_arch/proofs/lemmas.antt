@@ -1,11 +1,17 @@
+pub mod DigitTexts
+pub mod Digits
 pub mod Ends
+pub mod FirstInvalid
 pub mod LaneBytes
 pub mod LaneLookups
 pub mod LaneMarks
 pub mod LaneText
 pub mod LaneValues
+pub mod LeftOutputs
+pub mod MorePairs
 pub mod Runs
 pub mod Spelling
+pub mod Standard
 pub mod Steps
 pub mod Streams
 pub mod Tables

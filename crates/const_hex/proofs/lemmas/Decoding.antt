@@ -9,7 +9,10 @@ use Rattle.const_hex.specs.TypeLaws.{body-parity}
 use Rattle.const_hex.specs.declared.codec.decoder.Decoder.{Decoder}
 use Rattle.const_hex_arch.specs.Texts.{IsDigit, AllDigits, FirstBad, Partial, Spells}
 use Rattle.std.proofs.lemmas.List.Elements.{All-drop, All-take}
-use Rattle.const_hex_arch.proofs.lemmas.Spelling.{FirstBad-after, Partial-after, Spells-append, Spells-digits, Spells-length, Spells-some, digits_append, digits_no_bad, first_bad}
+use Rattle.const_hex_arch.proofs.lemmas.DigitTexts.{digits_append}
+use Rattle.const_hex_arch.proofs.lemmas.FirstInvalid.{FirstBad-after, Spells-some, digits_no_bad, first_bad}
+use Rattle.const_hex_arch.proofs.lemmas.LeftOutputs.{Partial-after}
+use Rattle.const_hex_arch.proofs.lemmas.Spelling.{Spells-append, Spells-digits, Spells-length}
 
 -- ---- an invalid character, whatever follows
 

@@ -3,7 +3,8 @@ use Rattle.std.proofs.Common.{◌≡◌, ℕ, ◌+◌, ◌/◌, ◌%◌, nat_le,
 use Rattle.std.specs.Prelude.{◌↔◌}
 use Rattle.std.proofs.lemmas.Bool.Decides.{nat_tests}
 use Rattle.const_hex_arch.specs.Texts.{hex_value, hex_digit, hex_text, Spells}
-use Rattle.const_hex_arch.proofs.lemmas.Spelling.{Spells-same, Spells-bytes, hex_value-small}
+use Rattle.const_hex_arch.proofs.lemmas.Digits.{hex_value-small}
+use Rattle.const_hex_arch.proofs.lemmas.Spelling.{Spells-same, Spells-bytes}
 use Rattle.const_hex_arch.proofs.lemmas.Texts.{Spells-hex_text}
 use Rattle.const_hex.specs.Results.{lowered, AreBytes}
 

@@ -4,7 +4,8 @@ use Rattle.std.proofs.lemmas.Bool.{and_parts, and_from}
 use Rattle.std.proofs.lemmas.List.Sums.{AllPass-from_list_all, list_all-from_AllPass}
 use Rattle.std.specs.Prelude.{IsOk, IsTrue, ◌↔◌}
 use Rattle.const_hex_arch.specs.Texts.{Spells, AllDigits, FirstBad}
-use Rattle.const_hex_arch.proofs.lemmas.Spelling.{Spells-same, Spells-digits, Spells-some, FirstBad-same, digits_no_bad}
+use Rattle.const_hex_arch.proofs.lemmas.FirstInvalid.{Spells-some, FirstBad-same, digits_no_bad}
+use Rattle.const_hex_arch.proofs.lemmas.Spelling.{Spells-same, Spells-digits}
 use Rattle.const_hex.specs.Results.{body_of, Reads, ReadsSized, Checks, ChecksText, IsEven, is_text_of}
 use Rattle.const_hex.specs.TypeLaws.{body-parity}
 use Rattle.const_hex.specs.declared.error.FromHexError.{FromHexError}

@@ -3,7 +3,7 @@ use Rattle.std.proofs.Common.{◌≡◌, ◌≢◌, ◌-◌, ◌+◌, ◌<◌, �
 use Rattle.std.specs.Prelude.{IsNone}
 use Rattle.std.proofs.lemmas.List.{get_or-drop, take_all}
 use Rattle.const_hex_arch.specs.Texts.{AllDigits, FirstBad, value_or_nil, hex_value}
-use Rattle.const_hex_arch.proofs.lemmas.Spelling.{digits_more}
+use Rattle.const_hex_arch.proofs.lemmas.DigitTexts.{digits_more}
 
 -- the byte at i, counted from the start
 pub from_start : (u : List ℕ) (start i : ℕ) → start ≤ i → get_or (drop start u) (i - start) 0 ≡ get_or u i 0

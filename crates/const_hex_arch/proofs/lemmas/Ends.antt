@@ -9,7 +9,8 @@ use lib.Lanes.{put_chunk}
 use borrow.Rule.Slice.PartMut.{put_mid}
 use Rattle.std.proofs.lemmas.Slice.{take-put_mid}
 use Rattle.const_hex_arch.specs.Texts.{IsDigit, hex_text, AllDigits, Spells}
-use Rattle.const_hex_arch.proofs.lemmas.Spelling.{digits_append, Spells-append, Spells-parts}
+use Rattle.const_hex_arch.proofs.lemmas.DigitTexts.{digits_append}
+use Rattle.const_hex_arch.proofs.lemmas.Spelling.{Spells-append, Spells-parts}
 use Rattle.const_hex_arch.proofs.lemmas.Steps.{digits_last}
 use Rattle.const_hex_arch.proofs.lemmas.Texts.{hex_text-nil, hex_text-append, length-hex_text}
 

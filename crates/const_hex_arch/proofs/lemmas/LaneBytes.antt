@@ -9,7 +9,8 @@ use Rattle.const_hex_arch.specs.Texts.{hex_value, AllDigits, Spells}
 use Rattle.const_hex_arch.specs.Lanes.{AllNibbles, byte_pairs, as_value, IsValueOf}
 use Rattle.const_hex_arch.proofs.lemmas.Tables.{every_pair}
 use Rattle.const_hex_arch.proofs.lemmas.LaneValues.{values_of_digits, small_values}
-use Rattle.const_hex_arch.proofs.lemmas.Spelling.{digits_append, IsPair-of}
+use Rattle.const_hex_arch.proofs.lemmas.DigitTexts.{digits_append}
+use Rattle.const_hex_arch.proofs.lemmas.Spelling.{IsPair-of}
 
 -- ---- two values in a lane of twice the width
 

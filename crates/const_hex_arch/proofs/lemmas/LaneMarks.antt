@@ -1,5 +1,6 @@
--- Digits in a vector: their values and the test of each lane by one look-up, and the test of all
--- lanes.
+-- Digits in a vector: their values and the test of each lane by one look-up, and the test of all lanes. The numbers
+-- are those of lanes16.rt and lanes.rt, which docs/DESIGN.md explains under "Checking and decoding one vector": adding
+-- 208 subtracts `0`, 143 (0x8F) is the part of a byte that looks up its limit, and 216 (0xD8) are the bits of a mark.
 use Rattle.std.proofs.Common.{◌≡◌, ℕ, zero, suc, ◌+◌, ◌-◌, ◌*◌, ◌/◌, ◌%◌, ◌<◌, ◌≤◌, ◌↔◌, Bool, true, eqb, cond, ltb, ◌||◌, T, List, [], ◌∷◌, ◌++◌, length, replicate, get_or, bit_and, bit_or, refl, sym, subst, ◌∙◌, arith, w8, Fits, eqb-true, eq-eqb, IsTrue, Some, None, ap, map, drop}
 use Rattle.std.specs.List.{AllZip}
 use Rattle.std.specs.Int.{bit_at}
@@ -16,7 +17,7 @@ use Rattle.const_hex_arch.specs.Texts.{hex_value, IsDigit, AllDigits}
 use Rattle.const_hex_arch.specs.Lanes.{IsUnmarked, AllUnmarked, as_value, IsValueOf, IsPartOf, IsLimitOf}
 use Rattle.const_hex_arch.proofs.lemmas.Tables.{all_below, every_below}
 use Rattle.const_hex_arch.proofs.lemmas.LaneValues.{same_value, is_none, same_if_some, sub8, min_l, below_mask}
-use Rattle.const_hex_arch.proofs.lemmas.Spelling.{digits_append}
+use Rattle.const_hex_arch.proofs.lemmas.DigitTexts.{digits_append}
 
 -- the bits that mark a lane
 abbrev mark_bits : ℕ → ℕ
@@ -200,8 +201,3 @@ beyond_all (b ∷ v) (n ∷ ns) e =
 pub beyond_are : (n : ℕ) (v ns : List ℕ) → length v ≡ n → map as_value ns ≡ map hex_value v
     → AllUnmarked (beyond_l n ns) ↔ AllDigits v
 beyond_are n v ns long e = subst (λ n. AllUnmarked (beyond_l n ns) ↔ AllDigits v) long (beyond_all v ns e)
-
--- ---- one condition through another
-
-pub through : {A B C : Type 0} → A ↔ B → B ↔ C → A ↔ C
-through p q = (λ a. q.0 (p.0 a), λ c. p.1 (q.1 c))

@@ -7,7 +7,8 @@ use lib.Lanes.{zip2, sel_l, top, Each1}
 use Rattle.const_hex_arch.specs.Texts.{hex_digit, hex_value, IsDigit, AllDigits}
 use Rattle.const_hex_arch.specs.Lanes.{AllNibbles, as_value, IsValueOf}
 use Rattle.const_hex_arch.proofs.lemmas.Tables.{every_below}
-use Rattle.const_hex_arch.proofs.lemmas.Spelling.{false_is_true, hex_value-small}
+use Rattle.const_hex_arch.proofs.lemmas.Digits.{hex_value-small}
+use Rattle.const_hex_arch.proofs.lemmas.Standard.{false_is_true}
 
 -- ---- values that are compared by computing
 

@@ -9,7 +9,9 @@ use borrow.Rule.Slice.PartMut.{put_mid}
 use Rattle.const_hex_arch.specs.Texts.{IsDigit, hex_text, AllDigits, Spells, Partial}
 use Rattle.const_hex_arch.specs.Outputs.{HasSpace, less_space, Writes}
 use Rattle.const_hex_arch.proofs.lemmas.Runs.{Writes_space, Writes-none, Writes-append}
-use Rattle.const_hex_arch.proofs.lemmas.Spelling.{Spells-append, Spells-parts, Spells-digits, digits_append, none_decoded, Partial-after}
+use Rattle.const_hex_arch.proofs.lemmas.DigitTexts.{digits_append}
+use Rattle.const_hex_arch.proofs.lemmas.LeftOutputs.{none_decoded, Partial-after}
+use Rattle.const_hex_arch.proofs.lemmas.Spelling.{Spells-append, Spells-parts, Spells-digits}
 
 pub parts : (n : ℕ) {u front back : List ℕ} → front ≡ take n u → back ≡ drop n u → front ++ back ≡ u
 parts n {u} f b = rw (f, b) (take-append-drop n u)

@@ -6,7 +6,7 @@ use Rattle.const_hex.specs.Results.{body_of}
 use Rattle.const_hex.specs.Texts.{AllDigits}
 use Rattle.const_hex.specs.declared.error.FromHexError.{FromHexError}
 use Rattle.const_hex.specs.declared.error.FromHexError.TheVariants.{OddLength, InvalidStringLength, InvalidHexCharacter, NoMemory}
-use Rattle.const_hex_arch.proofs.lemmas.Spelling.{digits_no_bad}
+use Rattle.const_hex_arch.proofs.lemmas.FirstInvalid.{digits_no_bad}
 use Rattle.hexfilter_core.specs.Errors.{IsNotInterrupted}
 use Rattle.hexfilter_core.specs.Outcome.{IsErrorOf}
 use Rattle.hexfilter_core.specs.declared.error.RunError.{RunError}

@@ -9,7 +9,8 @@ use Rattle.const_hex.specs.Results.{AreBytes, IsEven, IsOdd, body_of}
 use Rattle.const_hex.specs.Texts.{AllDigits, IsDigit, full_text, hex_text, prefix_of}
 use Rattle.const_hex.specs.declared.error.FromHexError.{FromHexError}
 use Rattle.const_hex.specs.declared.error.FromHexError.TheVariants.{InvalidHexCharacter, InvalidStringLength, NoMemory, OddLength}
-use Rattle.const_hex_arch.proofs.lemmas.Spelling.{Spells-digits, digits_append}
+use Rattle.const_hex_arch.proofs.lemmas.DigitTexts.{digits_append}
+use Rattle.const_hex_arch.proofs.lemmas.Spelling.{Spells-digits}
 use Rattle.const_hex_arch.proofs.lemmas.Texts.{Spells-hex_text}
 use Rattle.hexfilter_core.specs.Groups.{encoded, groups_from, laid_out, mirror}
 use Rattle.hexfilter_core.specs.Inputs.{is_whitespace, text_from, text_of}

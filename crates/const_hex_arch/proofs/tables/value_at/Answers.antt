@@ -1,5 +1,5 @@
 use Rattle.std.proofs.Common.{arith}
-use Rattle.const_hex_arch.proofs.lemmas.Spelling.{in_table}
+use Rattle.const_hex_arch.proofs.lemmas.Digits.{in_table}
 use Rattle.const_hex_arch.proofs.tables.value_at.Goals as goal
 
 pub returns : goal.returns

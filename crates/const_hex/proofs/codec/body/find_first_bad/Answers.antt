@@ -1,6 +1,7 @@
 use Rattle.std.proofs.Common.{◌∙◌, ◌-◌, drop, get_or, refl, arith}
 use Rattle.const_hex_arch.specs.Texts.{FirstBad}
-use Rattle.const_hex_arch.proofs.lemmas.Spelling.{value_not_found, digits_no_bad}
+use Rattle.const_hex_arch.proofs.lemmas.Digits.{value_not_found}
+use Rattle.const_hex_arch.proofs.lemmas.FirstInvalid.{digits_no_bad}
 use Rattle.const_hex.proofs.lemmas.Searching.{digit_on, found, none_left}
 use Rattle.const_hex.proofs.codec.body.find_first_bad.Goals as goal
 

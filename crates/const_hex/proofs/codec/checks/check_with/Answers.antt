@@ -1,5 +1,5 @@
 use Rattle.std.proofs.Common.{Ok, sym, ◌∙◌, rules}
-use Rattle.const_hex_arch.proofs.lemmas.Spelling.{false_is_true}
+use Rattle.const_hex_arch.proofs.lemmas.Standard.{false_is_true}
 use Rattle.const_hex.proofs.lemmas.Reading.{Reads-digits, ChecksText-from_Checks}
 use Rattle.const_hex.proofs.codec.checks.check_with.Goals as goal
 

@@ -1,5 +1,5 @@
 use Rattle.std.proofs.Common.{refl, arith, length, ◌*◌, sym, ◌∙◌}
-use Rattle.const_hex_arch.proofs.lemmas.Spelling.{false_is_true}
+use Rattle.const_hex_arch.proofs.lemmas.Standard.{false_is_true}
 use Rattle.const_hex.proofs.lemmas.Decoding.{digits_whole, last_refused, pairs_refused}
 use Rattle.const_hex.proofs.codec.decoder.decode_digits.Goals as goal
 

@@ -1,7 +1,7 @@
 use Rattle.std.proofs.Common.{◌*◌, arith, rules}
 use Rattle.std.proofs.lemmas.Grind.{common_steps}
 use Rattle.std.proofs.lemmas.List.{take_all}
-use Rattle.const_hex_arch.proofs.lemmas.Spelling.{pair_more}
+use Rattle.const_hex_arch.proofs.lemmas.MorePairs.{pair_more}
 use Rattle.const_hex.proofs.lemmas.RoundTrip.{DecodesToArray-from_ReadsSized}
 use Rattle.const_hex.proofs.codec.decoders.const_decode_to_array.Goals as goal
 

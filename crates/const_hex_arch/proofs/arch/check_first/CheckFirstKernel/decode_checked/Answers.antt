@@ -1,5 +1,6 @@
 use Rattle.std.proofs.Common.{refl, sym, ◌∙◌}
-use Rattle.const_hex_arch.proofs.lemmas.Spelling.{false_is_true, none_decoded}
+use Rattle.const_hex_arch.proofs.lemmas.LeftOutputs.{none_decoded}
+use Rattle.const_hex_arch.proofs.lemmas.Standard.{false_is_true}
 use Rattle.const_hex_arch.proofs.arch.check_first.CheckFirstKernel.decode_checked.Goals as goal
 
 pub returns-then-not-check-clause-refused : goal.returns-then-not-check-clause-refused

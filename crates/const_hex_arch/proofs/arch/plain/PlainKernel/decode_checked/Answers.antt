@@ -1,7 +1,8 @@
 use Rattle.std.proofs.Common.{arith, ◌*◌, ◌+◌, get_or, bit_or}
 use Rattle.std.proofs.lemmas.Grind.{common_steps}
 use Rattle.std.proofs.lemmas.Nat.{le_or_l, le_or_r}
-use Rattle.const_hex_arch.proofs.lemmas.Spelling.{pair_more, refused_joint}
+use Rattle.const_hex_arch.proofs.lemmas.LeftOutputs.{refused_joint}
+use Rattle.const_hex_arch.proofs.lemmas.MorePairs.{pair_more}
 use Rattle.const_hex_arch.proofs.arch.plain.PlainKernel.decode_checked.Goals as goal
 
 pub returns-then-high-low-ge16-clause-refused : goal.returns-then-high-low-ge16-clause-refused

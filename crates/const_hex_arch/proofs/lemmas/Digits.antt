@@ -1,0 +1,38 @@
+-- Digits and their values.
+use Rattle.std.proofs.Common.{◌≡◌, ℕ, ◌-◌, ◌<◌, ◌≢◌, eqb, eqb→eq, get_or, ◌⊎◌, Option, Some, None, IsSome, IsNone, inl, inr, refl, arith}
+use Rattle.std.proofs.lemmas.Bool.Decides.{nat_tests}
+use Rattle.const_hex_arch.specs.declared.tables.TheConstants.{HEX_DECODE_LUT}
+use Rattle.const_hex_arch.specs.Texts.{hex_value, value_or_nil, IsDigit}
+use Rattle.const_hex_arch.proofs.lemmas.Tables.{every_below}
+
+-- a byte that has a value is a digit
+pub IsDigit-from_value : (b v : ℕ) → hex_value b ≡ Some v → IsDigit b
+IsDigit-from_value b v h = rw h refl
+
+-- a digit's value is below 16
+pub hex_value-small : (b v : ℕ) → hex_value b ≡ Some v → v < 16
+hex_value-small b v h = grind (arith, nat_tests)
+
+-- what the look-up says of a byte
+pub value_found : (b r : ℕ) → r ≡ value_or_nil (hex_value b) → r ≢ 255 → hex_value b ≡ Some r
+value_found b r e n = grind (arith, nat_tests)
+
+pub value_not_found : (b r : ℕ) → r ≡ value_or_nil (hex_value b) → r ≡ 255 → IsNone (hex_value b)
+value_not_found b r e n = grind (arith, nat_tests)
+
+-- the table of the look-up
+pub in_table : (b : ℕ) → b < 256 → get_or HEX_DECODE_LUT.now b 0 ≡ value_or_nil (hex_value b)
+in_table b h =
+    eqb→eq _ _ (every_below (λ b. eqb (get_or HEX_DECODE_LUT.now b 0) (value_or_nil (hex_value b))) 256 tt b h)
+
+pub digit_found : (b r : ℕ) → r ≡ value_or_nil (hex_value b) → IsDigit b → hex_value b ≡ Some r
+digit_found b r e n = grind (arith, nat_tests)
+
+-- a byte has a value or none
+pub value_cases : (o : Option ℕ) → ((v : ℕ) × (o ≡ Some v)) ⊎ IsNone o
+value_cases (Some v) = inl (v, refl)
+value_cases None = inr refl
+
+pub no_value : (o : Option ℕ) → IsNone o → IsSome o → ⊥
+no_value (Some v) n s = cc
+no_value None n s = cc

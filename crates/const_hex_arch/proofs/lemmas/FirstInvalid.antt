@@ -1,0 +1,71 @@
+-- The first invalid character of a text.
+use Rattle.std.proofs.Common.{◌≡◌, ℕ, zero, suc, ◌+◌, ◌-◌, ◌%◌, ◌<◌, ◌≤◌, List, [], ◌∷◌, length, take, drop, get_or, slice_index, ◌⊎◌, inl, inr, refl, arith, take-add, length-take}
+use Rattle.std.proofs.lemmas.Grind.{common_steps}
+use Rattle.std.proofs.lemmas.List.{get_or-take}
+use Rattle.std.proofs.lemmas.List.Elements.{All-nil, All-cons, All-head, All-tail, All-get_or}
+use Rattle.const_hex_arch.specs.Texts.{hex_value, IsDigit, Spells, AllDigits, FirstBad}
+use Rattle.const_hex_arch.proofs.lemmas.DigitTexts.{digits_append}
+use Rattle.const_hex_arch.proofs.lemmas.Digits.{IsDigit-from_value, digit_found, no_value, value_cases}
+use Rattle.const_hex_arch.proofs.lemmas.Spelling.{IsPair-of}
+
+-- no text of digits has an invalid character
+pub digits_no_bad : (u : List ℕ) (p : ℕ) → AllDigits u → FirstBad u p → ⊥
+digits_no_bad u p a f = no_value (hex_value (slice_index u p)) f.here (All-get_or IsDigit u p 0 f.within a)
+
+-- a text has one first invalid character
+not_before : (u : List ℕ) (p q : ℕ) → p < q → FirstBad u p → FirstBad u q → ⊥
+not_before u p q h f g =
+    let len : p < length (take q u) = simp length-take (omega arith) in
+    no_value _ f.here (rw (get_or-take q u p 0 h) at (All-get_or IsDigit (take q u) p 0 len g.before))
+
+pub FirstBad-same : (u : List ℕ) (p q : ℕ) → FirstBad u p → FirstBad u q → p ≡ q
+FirstBad-same u p q f g =
+    let below = λ (h : p < q). not_before u p q h f g in
+    let above = λ (h : q < p). not_before u q p h g f in
+    omega (arith, below, above)
+
+-- an invalid character after k digits
+pub FirstBad-after : (k : ℕ) (u : List ℕ) (p : ℕ) → AllDigits (take k u) → k ≤ length u → FirstBad (drop k u) p
+    → FirstBad u (k + p)
+FirstBad-after k u p a h f =
+    record {
+      within = grind (arith, common_steps);
+      before = rw (take-add k p u) ((digits_append _ _).1 (a, f.before));
+      here = let e : get_or (drop k u) p 0 ≡ get_or u (k + p) 0 = grind (arith, common_steps) in rw e at f.here;
+    }
+
+-- a text has only digits, or it has a first invalid character
+pub digits_or_bad : (u : List ℕ) → AllDigits u ⊎ ((p : ℕ) × FirstBad u p)
+digits_or_bad [] = inl (All-nil IsDigit)
+digits_or_bad (b ∷ u) =
+    elim (value_cases (hex_value b)) [
+      | inl v ↦
+          let here = IsDigit-from_value b v.0 v.1 in
+          elim (digits_or_bad u) [
+            | inl a ↦ inl (All-cons IsDigit b u here a)
+            | inr f ↦ inr (
+              suc f.0,
+              record {
+                within = omega arith;
+                before = All-cons IsDigit b (take f.0 u) here f.1.before;
+                here = f.1.here;
+              },
+            )
+          ]
+      | inr n ↦ inr (zero, record { within = omega arith; before = All-nil IsDigit; here = n })
+    ]
+
+-- if not every byte is a digit, there is a first invalid character
+pub first_bad : (u : List ℕ) → (AllDigits u → ⊥) → (p : ℕ) × FirstBad u p
+first_bad u n = elim (digits_or_bad u) [ inl a ↦ absurd (n a) | inr f ↦ f ]
+
+-- digits, two for each byte, decode to bytes
+pub Spells-some : (u : List ℕ) → length u % 2 ≡ 0 → AllDigits u → (bs : List ℕ) × Spells u bs
+Spells-some [] e a = ([], tt)
+Spells-some (c ∷ []) e a = absurd (omega arith)
+Spells-some (c ∷ d ∷ u) e a =
+    let rest = All-tail IsDigit c (d ∷ u) a in
+    let high = digit_found c _ refl (All-head IsDigit c (d ∷ u) a) in
+    let low = digit_found d _ refl (All-head IsDigit d u rest) in
+    let more = Spells-some u (omega arith) (All-tail IsDigit d u rest) in
+    (_ ∷ more.0, (IsPair-of c d _ _ _ high low refl, more.1))
