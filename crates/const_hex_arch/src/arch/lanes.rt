@@ -117,7 +117,7 @@ pub(crate) fn to_digits<const N: usize>(values: Simd<u8, N>, upper: bool) -> Sim
 
 /// Whether every lane is a digit.
 #[inline(always)]
-#[tactic(auto, using(crate::proofs::lemmas::LaneMarks::through))]
+#[tactic(auto, using(crate::proofs::lemmas::Standard::through))]
 pub(crate) fn are_digits<const N: usize, V: LaneOps<N>>(v: Simd<u8, N>) -> bool
     ensures { IsTrue result ↔ AllDigits v.entry }
 {

@@ -188,7 +188,7 @@ fn look_up_limits(v: u8x32) -> u8x32
 /// Decodes the lanes of a text, and says whether each of these lanes is a digit. If one is not, the
 /// bytes are unspecified.
 #[inline(always)]
-#[tactic(auto, using(crate::proofs::lemmas::LaneMarks::through, crate::proofs::lemmas::LaneText::concat_pair))]
+#[tactic(auto, using(crate::proofs::lemmas::Standard::through, crate::proofs::lemmas::LaneText::concat_pair))]
 fn decode_flagged(text: [u8x32; 2]) -> (u8x32, bool)
     ensures digits { IsTrue result.1 ↔ AllDigits (concat text) }
     ensures spells { IsTrue result.1 → Spells (concat text) result.0 }

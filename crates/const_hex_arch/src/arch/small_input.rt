@@ -100,7 +100,7 @@ pub(crate) fn check<W: LaneOps<16>>(text: &[u8]) -> bool
 
 /// As `check`, for `H` to `2 * H` bytes.
 #[inline(always)]
-#[tactic(auto, using(crate::proofs::lemmas::LaneMarks::through, crate::proofs::lemmas::Ends::digits_ends))]
+#[tactic(auto, using(crate::proofs::lemmas::Standard::through, crate::proofs::lemmas::Ends::digits_ends))]
 fn check_ends<const H: usize, W: LaneOps<16>>(text: &[u8]) -> bool
     requires half { H ≤ 8 }
     requires least { H ≤ length text.now }
@@ -147,7 +147,7 @@ pub(crate) fn decode_pairs(text: &[u8], output: &mut [u8]) -> bool
 /// Decodes a text to `H` to `2 * H` bytes and returns true. If some byte is not a digit, returns
 /// false, and the output is unchanged. `D` is `2 * H`, the number of digits of `H` bytes.
 #[inline(always)]
-#[tactic(auto, using(crate::proofs::lemmas::LaneMarks::through, crate::proofs::lemmas::Ends::digits_ends))]
+#[tactic(auto, using(crate::proofs::lemmas::Standard::through, crate::proofs::lemmas::Ends::digits_ends))]
 fn decode_ends<const H: usize, const D: usize, W: LaneOps<16>>(
     text: &[u8],
     output: &mut [u8],

@@ -73,7 +73,7 @@ pub(crate) fn check_step<const N: usize, V: LaneOps<N>>(text: &[u8]) -> bool
 
 /// As `check_step`, for two steps that need not follow one another, by one test.
 #[inline(always)]
-#[tactic(auto, using(crate::proofs::lemmas::LaneMarks::through, std::proofs::lemmas::List::take_all))]
+#[tactic(auto, using(crate::proofs::lemmas::Standard::through, std::proofs::lemmas::List::take_all))]
 pub(crate) fn check_pair<const N: usize, V: LaneOps<N>>(first: &[u8], second: &[u8]) -> bool
     requires first { length first.now ≡ N }
     requires second { length second.now ≡ N }
@@ -85,7 +85,7 @@ pub(crate) fn check_pair<const N: usize, V: LaneOps<N>>(first: &[u8], second: &[
 
 /// As `check_step`, for the text of two steps, by one test.
 #[inline(always)]
-#[tactic(auto, using(crate::proofs::lemmas::LaneMarks::through))]
+#[tactic(auto, using(crate::proofs::lemmas::Standard::through))]
 pub(crate) fn check_two_steps<const N: usize, V: LaneOps<N>>(text: &[u8]) -> bool
     requires { length text.now ≡ 2 * N }
     ensures { IsTrue result ↔ AllDigits text.now }

@@ -1,10 +1,11 @@
 -- Pairs of characters with a colon between two of them are groups.
-use Rattle.std.proofs.Common.{◌≡◌, ◌≢◌, ◌∙◌, ◌∷◌, ◌&&◌, ◌||◌, ◌==◌, [], Bool, List, ap, arith, false, if◌then◌else◌, refl, sym, true, ℕ}
+use Rattle.std.proofs.Common.{◌≡◌, ◌≢◌, ◌∙◌, ◌∷◌, ◌++◌, ◌&&◌, ◌||◌, ◌==◌, [], Bool, List, ap, arith, false, if◌then◌else◌, refl, sym, true, ℕ}
 use Rattle.std.proofs.lemmas.Bool.Decides.{nat_tests}
 use Rattle.std.proofs.lemmas.List.Elements.{All-cons, All-head, All-nil, All-tail, All-weaker}
 use Rattle.std.specs.List.{All}
 use Rattle.const_hex.specs.Results.{body_of}
 use Rattle.const_hex.specs.Texts.{AllDigits, IsDigit}
+use Rattle.const_hex_arch.proofs.lemmas.Standard.{false_is_true}
 use Rattle.hexfilter_core.specs.Inputs.{kept, next, text_from, text_of}
 use Rattle.hexfilter_core.specs.Pairs.{HasColons, without_thirds}
 use Rattle.hexfilter_core.specs.declared.mode.Reading.{Reading}
@@ -29,7 +30,7 @@ text-colons (a ∷ b ∷ c ∷ x) (is, more) =
     rw (at.0, at.1) (ap (λ t. a ∷ b ∷ t) (text-colons x more))
 
 digit_not_nul : (b : ℕ) → IsDigit b → b ≢ 0
-digit_not_nul b h e = rw e at h
+digit_not_nul b h e = false_is_true (rw e at h)
 
 no_nul_in : (c d : ℕ) (u : List ℕ) (is : Bool) → ((c == 48) && (d == 120 || d == 88)) ≡ is
     → AllDigits (if is then u else c ∷ d ∷ u) → All (λ b. b ≢ 0) (c ∷ d ∷ u)

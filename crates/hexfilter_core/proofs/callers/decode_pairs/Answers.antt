@@ -24,7 +24,7 @@ returns-clause-invalid g c = λ b i place is.
     let found = has_colons fails.front fails.bytes.0 in
     let digits = rw (text-colons fails.front found) at fails.bytes.0 in
     let none : ArePairs (fails.front ++ b ∷ []) → ⊥ = λ more.
-    fails.invalid (rw sym (text-colons (fails.front ++ b ∷ []) more.0) at more.1) in
+    fails.invalid (rw (← text-colons (fails.front ++ b ∷ []) more.0) at more.1) in
     let (p, lines, line, at, cut, place) = stands_in_line fails.front place fails.stands in
     let all = rw fails.cut at read in
     let all_pairs : ArePairs fails.front = (found, digits) in (
