@@ -140,9 +140,10 @@ abbrev pub flag : Bool → List ℕ → List (List ℕ)
 flag wanted name = if wanted then name ∷ [] else []
 
 -- those of a mode, and then the words of its groups
-abbrev pub written : Mode → List (List ℕ) → List (List ℕ)
-written (Encode prefix upper groups) words = flag prefix (codes "--prefix") ++ (flag upper (codes "--upper") ++ words)
-written (Decode r) words =
+abbrev pub arguments_of : Mode → List (List ℕ) → List (List ℕ)
+arguments_of (Encode prefix upper groups) words =
+    flag prefix (codes "--prefix") ++ (flag upper (codes "--upper") ++ words)
+arguments_of (Decode r) words =
     (if r.is_check then codes "--check" else codes "--decode") ∷ flag r.ignore_whitespace
     (codes "--ignore-whitespace") ++ words
 
