@@ -69,7 +69,7 @@ static bool read_into(const struct line *line) {
     return is_wanted(line, model, model_error(model, line->number, line->number));
 }
 
-static bool read_pieces(const struct line *line) {
+static bool read_chunks(const struct line *line) {
     for (size_t cut = 0; cut <= line->length; cut++) {
         size_t ends[] = {cut, line->length};
         judge_chunks(line->input, line->length, ends, 2);
@@ -116,7 +116,7 @@ static const struct {
     const char *question;
     bool (*agrees)(const struct line *line);
 } QUESTIONS[] = {
-    {"read", read_text},   {"read-into", read_into},   {"read-pieces", read_pieces}, {"digits", digits},
+    {"read", read_text},   {"read-into", read_into},   {"read-chunks", read_chunks}, {"digits", digits},
     {"write", write_text}, {"write-into", write_into}, {"message", message},         {"read-times", NULL},
     {"json", NULL},        {"json-into", NULL},        {"json-message", NULL},       {"write-times", NULL},
     {"fronts", NULL},      {"each-byte", NULL},        {"pieces", NULL},             {"calls", NULL},

@@ -82,7 +82,7 @@ const questions = {
     },
     read: compare,
     'read-into': (text, wanted, size) => compareInto(text, size, wanted),
-    'read-pieces'(text, wanted) {
+    'read-chunks'(text, wanted) {
         if (typeof text === 'string' && /[\ud800-\udfff]/.test(text)) return; // Half of a pair has no UTF-8.
         for (let cut = 0; cut <= text.length; cut++) {
             equal(resultOf(() => decodeInChunks(text, cut)), wanted, text);
@@ -102,7 +102,7 @@ async function tableOfTestVectors() {
     const isFile = TABLE.protocol === 'file:';
     const read = isFile ? (await import('node:fs')).readFileSync : async (url) => (await fetch(url)).text();
     const table = await read(TABLE, 'utf8');
-    const count = { write: 0, read: 0, 'read-into': 0, 'read-pieces': 0, message: 0 };
+    const count = { write: 0, read: 0, 'read-into': 0, 'read-chunks': 0, message: 0 };
     for (const line of table.split('\n')) {
         const [asked, input, result] = line.split('\t');
         const [question, number] = asked.split(' ');

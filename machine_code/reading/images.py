@@ -16,6 +16,8 @@ Piece = namedtuple("Piece", "name is_code is_writable address content")
 X86_64, AARCH64 = 62, 183
 PAGE_SIZE, FAR, APART = 4096, 1 << 26, 1 << 12
 FUNCTION, UNDEFINED = 2, 0
+# A local symbol that names a file of the source. Nothing is found by it, and rustc's begins with the crate's name.
+SOURCE_FILE = 4
 
 
 class Image:
@@ -149,7 +151,7 @@ def _count(image, dynamic):
 def _add_symbols(image, table, strings):
     for name, info, _, index, value, _ in struct.iter_unpack("<IBBHQQ", table):
         name = strings[name : strings.index(b"\0", name)].decode()
-        if index != UNDEFINED:
+        if index != UNDEFINED and info != SOURCE_FILE:
             _refuse_other_kinds([(name, objects.KINDS.get(info & 15, info & 15))])
             image.add_place(name, value)
 

@@ -3,13 +3,13 @@
 //! one of them; the kernels.
 #![tactic(auto)]
 
-pub mod chunks;
 mod counting;
 mod devices;
 mod formatted;
 mod kernels;
 mod noting;
 mod rows;
+pub mod steps;
 pub mod texts;
 
 pub use crate::counting::Counting;

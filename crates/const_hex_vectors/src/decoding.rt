@@ -44,7 +44,7 @@ pub(crate) fn read(line: &mut Line<'_>) -> Result<(), AllocError> {
     read_into(line, size)?;
     by_each_kernel!(read_by(line, size)?);
     if line.result != "!OddLength" || check_raw(text) {
-        read_pieces(line);
+        read_chunks(line);
     }
     Ok(())
 }
@@ -92,11 +92,11 @@ fn ask_arrays<const N: usize>(line: &mut Line<'_>, _array: [u8; N]) {
 /// The sizes into which a text is cut.
 const SIZES: [usize; 7] = [1, 2, 3, 7, 31, 64, 200];
 
-pub(crate) fn read_pieces(line: &mut Line<'_>) {
-    by_each_kernel!(read_pieces_by(line));
+pub(crate) fn read_chunks(line: &mut Line<'_>) {
+    by_each_kernel!(read_chunks_by(line));
 }
 
-fn read_pieces_by<K: Kernel>(line: &mut Line<'_>, kernel: KernelCase) {
+fn read_chunks_by<K: Kernel>(line: &mut Line<'_>, kernel: KernelCase) {
     for size in SIZES {
         line.reads(kernel.name, in_pieces::<K>(line.alloc, line.input, size));
     }

@@ -2,7 +2,7 @@
 
 use crate::line::{Line, show};
 use const_hex::{Lanes16, Lanes32, lanes16, lanes32};
-use const_hex_testing::chunks::decoded_or;
+use const_hex_testing::steps::decoded_or;
 use std::alloc::AllocError;
 use std::simd::prelude::*;
 

@@ -70,7 +70,7 @@ fn ask(line: &mut Line<'_>, question: &str, number: usize) -> Result<(), AllocEr
         "write-into" => encoding::write_into(line, number),
         "read" => decoding::read(line),
         "read-into" => decoding::read_into(line, number),
-        "read-pieces" => Ok(decoding::read_pieces(line)),
+        "read-chunks" => Ok(decoding::read_chunks(line)),
         "digits" => Ok(decoding::read_digits(line)),
         "message" => decoding::read_message(line, number),
         "json" => Ok(decoding::read_json(line)),

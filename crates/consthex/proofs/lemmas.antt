@@ -1,3 +1,3 @@
 pub mod Modes
-pub mod Pieces
+pub mod Chunks
 pub mod Statuses

@@ -1,6 +1,6 @@
 //! The arguments, and the file that standard output goes to.
 
-use hexfilter_core::Output;
+use hexfilter_core::OutputFile;
 use std::env::{self, Env, FillError};
 use std::fs::metadata;
 use std::io::{Eprint, Error, ErrorKind};
@@ -17,7 +17,7 @@ pub(crate) struct Host<'a, F> {
     pub(crate) files: &'a F,
 }
 
-impl<F: Files> Output for Host<'_, F> {
+impl<F: Files> OutputFile for Host<'_, F> {
     fn is_output(&self, name: Option<&str>) -> bool {
         let input = metadata(self.files, name.unwrap_or("/dev/stdin"));
         match (input, metadata(self.files, "/dev/stdout")) {

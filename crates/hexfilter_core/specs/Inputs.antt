@@ -44,10 +44,12 @@ next r k b =
     else if r.ignore_whitespace && is_whitespace b then k
     else min (k + 1) r.groups.size
 
+-- the text of an input, if k characters came since the last separator
 unfoldable pub text_from : Reading → ℕ → List ℕ → List ℕ
 text_from r k [] = []
 text_from r k (b ∷ x) = kept r k b ++ text_from r (next r k b) x
 
+-- how many characters came since the last separator, after the input
 unfoldable pub next_from : Reading → ℕ → List ℕ → ℕ
 next_from r k [] = k
 next_from r k (b ∷ x) = next_from r (next r k b) x

@@ -47,13 +47,16 @@ abbrev pub number : List ℕ → Result ℕ Fault
 number v = if nat_lt 0 (length v) && all_ascii_digits v && nat_lt (digits_value 10 v) (2 ^ 64) then Ok
     (digits_value 10 v) else Err InvalidNumber
 
+-- a character of ASCII that is neither a digit nor a newline
 unfoldable pub is_separator : ℕ → Bool
 is_separator b = nat_lt b 128 && not (b == 10) && not (is_ascii_hexdigit b)
 
+-- f of the value, or the error
 abbrev pub and_then : {A : Type 0} → Result A Fault → (A → Result Options Fault) → Result Options Fault
 and_then (Ok a) f = f a
 and_then (Err e) f = Err e
 
+-- the options, with v as the value of the option that waits for one
 abbrev pub with_value : Option Value → Options → List ℕ → Result Options Fault
 with_value None o v = Err UnknownOption
 with_value (Some Size) o v = and_then (number v) (λ n. Ok (record o { size = Some n; value = None }))
@@ -83,6 +86,7 @@ dashed o file (c ∷ d ∷ t) =
     else if position_or_len is_equals key == length key then find key (table o)
     else and_then (find (before_first is_equals key) (table o)) (λ p. with_value p.value p (after_first is_equals key))
 
+-- the options after the argument a, which has the number i
 abbrev pub with_word : Options → ℕ → List ℕ → Result Options Fault
 with_word o i a =
     let file : Result Options Fault = if is_some o.file then Err SecondFile else Ok (record o { file = Some i }) in
@@ -103,6 +107,7 @@ request o count =
     if is_some o.value then Err (record { fault = MissingValue; index = count - 1 })
     else if o.help then Ok Help else if o.version then Ok Version else Ok (Run m o.file)
 
+-- f of the options, or the fault of the argument i
 abbrev pub at : ℕ → Result Options Fault → (Options → Result Request UsageError) → Result Request UsageError
 at i (Ok o) f = f o
 at i (Err e) f = Err (record { fault = e; index = i })
@@ -131,11 +136,13 @@ start = record {
   only_files = false;
 }
 
+-- what the arguments ask for
 abbrev pub request_for : List (List ℕ) → Result Request UsageError
 request_for arguments = with_arguments start 0 arguments
 
 -- ---- the arguments that ask for a mode
 
+-- the name, if it is wanted
 abbrev pub flag : Bool → List ℕ → List (List ℕ)
 flag wanted name = if wanted then name ∷ [] else []
 
@@ -147,6 +154,7 @@ arguments_of (Decode r) words =
     (if r.is_check then codes "--check" else codes "--decode") ∷ flag r.ignore_whitespace
     (codes "--ignore-whitespace") ++ words
 
+-- the words write the groups, by their bytes and separator
 abbrev pub WritesGroups : Groups → List (List ℕ) → Type 0
 WritesGroups g words =
     (v : List ℕ) × (n : ℕ) × (number v ≡ Ok n) × (g.size ≡ min (n * 2) (2 ^ 64 - 1))
@@ -155,8 +163,8 @@ WritesGroups g words =
 
 -- the words write the groups of a mode: lines, if they are written, by their columns, other groups by their bytes and
 -- the separator
-abbrev pub Writes : Mode → List (List ℕ) → Type 0
-Writes (Encode prefix upper g) words =
+abbrev pub AsksFor : Mode → List (List ℕ) → Type 0
+AsksFor (Encode prefix upper g) words =
     ((v : List ℕ) × (number v ≡ Ok g.size) × (g.separator ≡ 10) × (words ≡ codes "--wrap" ∷ v ∷ [])) ⊎ WritesGroups g
     words
-Writes (Decode r) words = WritesGroups r.groups words
+AsksFor (Decode r) words = WritesGroups r.groups words

@@ -36,5 +36,6 @@ abbrev pub IsPlaceIf : Bool → List ℕ → Option Place → Type 0
 IsPlaceIf true x place = (p : Place) × (place ≡ Some p) × IsPlace x p
 IsPlaceIf false x place = place ≡ None
 
+-- the place after x, if bytes may be left out, or none
 abbrev pub StandsAfter : Reading → List ℕ → Option Place → Type 0
 StandsAfter r x place = IsPlaceIf (leaves_out r) x place

@@ -23,7 +23,7 @@ ghost use Rattle.hexfilter_core.specs.declared.place.Place.{Place};
 use crate::error::RunError;
 use crate::mode::{Groups, Mode, Reading};
 use crate::options::{Request, UsageError, request_of};
-use crate::process::{Output, program};
+use crate::process::{OutputFile, program};
 use crate::runs::run;
 use std::io::{Eprint, Read, Write};
 use std::process::ExitCode;
@@ -193,7 +193,7 @@ fn mirror(groups: Groups) -> Reading
 /// Runs the program with `--decode` alone.
 fn decode_standard_input<R: Read, W: Write>(
     rt: &(impl Files + Eprint),
-    host: &impl Output,
+    host: &impl OutputFile,
     arguments: &[String],
     input: &mut R,
     output: &mut W,
@@ -215,7 +215,7 @@ fn decode_standard_input<R: Read, W: Write>(
 /// Runs the program with `--version` alone.
 fn print_version<R: Read, W: Write>(
     rt: &(impl Files + Eprint),
-    host: &impl Output,
+    host: &impl OutputFile,
     arguments: &[String],
     input: &mut R,
     output: &mut W,

@@ -1,7 +1,7 @@
 //! What the arguments of the program ask for.
 
 ghost use Rattle.std.specs.Prelude.{◌≡◌, ℕ, List, None, Ok, map, string_bytes};
-ghost use Rattle.hexfilter_core.specs.Options.{Writes, find, is_separator, number, request, request_for, table, with_argument, with_letters, with_value, with_word, arguments_of};
+ghost use Rattle.hexfilter_core.specs.Options.{AsksFor, find, is_separator, number, request, request_for, table, with_argument, with_letters, with_value, with_word, arguments_of};
 ghost use Rattle.hexfilter_core.specs.declared.mode.Mode.{Mode};
 ghost use Rattle.hexfilter_core.specs.declared.options.Request.TheVariants.{Run};
 
@@ -87,7 +87,7 @@ pub(crate) struct Options {
 pub fn request_of(arguments: &[String]) -> Result<Request, UsageError>
     ensures grammar { result ≡ request_for (map string_bytes arguments.now) }
     // What is written as arguments is read back.
-    ensures read_back { (m : Mode) (words : List (List ℕ)) → Writes m words
+    ensures read_back { (m : Mode) (words : List (List ℕ)) → AsksFor m words
         → map string_bytes arguments.now ≡ arguments_of m words → result ≡ Ok (Run m None) }
 {
     let mut options = Options::default();

@@ -39,7 +39,7 @@ fn main() -> ExitCode {
     }
 }
 
-impl proved::Output for Host {
+impl proved::OutputFile for Host {
     #[cfg(unix)]
     fn is_output(&self, name: Option<&str>) -> bool {
         use std::os::unix::fs::MetadataExt;

@@ -119,7 +119,7 @@ pub fn answers(line: &Line) -> Answers {
             let answer = decode_to_slice(input, &mut vec![0; length]);
             vec![("decode_to_slice", message(answer))]
         }
-        ("json" | "read-pieces", None) => Vec::new(),
+        ("json" | "read-chunks", None) => Vec::new(),
         (kind, _) if OTHER_QUESTIONS.contains(&kind) => Vec::new(),
         (kind, number) => panic!("no such question: {kind} {number:?}"),
     }

@@ -9,7 +9,7 @@ use std::io::Read;
 fn is_asked(line: &Line) -> bool {
     match &*line.question {
         "read" => line.result != "!OddLength",
-        kind => kind == "read-pieces",
+        kind => kind == "read-chunks",
     }
 }
 

@@ -1,4 +1,4 @@
-//! The table of test vectors, input of each function that can answer a line.
+//! The table of test vectors, asked of each function that can answer a line.
 #![cfg(feature = "std")]
 
 use const_hex_proved as codec;

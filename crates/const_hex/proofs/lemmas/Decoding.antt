@@ -1,4 +1,4 @@
--- Digits that come in pieces.
+-- A text in chunks: what a `Decoder` has read after one more, with or without an error.
 use Rattle.std.proofs.Common.{◌≡◌, ℕ, suc, ◌+◌, ◌-◌, ◌*◌, ◌/◌, ◌%◌, ◌<◌, ◌≤◌, List, [], ◌∷◌, ◌++◌, length, take, drop, get_or, slice_index, Bool, true, false, if◌then◌else◌, ◌==◌, ◌&&◌, ◌||◌, None, Ok, refl, sym, ap, ◌∙◌, arith, length-append, length-drop}
 use Rattle.std.proofs.lemmas.Grind.{common_steps}
 use Rattle.std.proofs.lemmas.List.{append_assoc, append-nil, length-take-le, take-append-le, take-append-drop, take_all, take_at, drop_all, drop_at}
@@ -19,6 +19,7 @@ use Rattle.const_hex_arch.proofs.lemmas.Spelling.{Spells-append, Spells-digits, 
 within_front : (u v : List ℕ) (p : ℕ) → p < length u → slice_index u p ≡ slice_index (u ++ v) p
 within_front u v p h = grind (arith, common_steps)
 
+-- w stands after either branch
 longer : (b : Bool) (u v w : List ℕ) → (if b then u ++ w else v ++ w) ≡ (if b then u else v) ++ w
 longer true u v w = refl
 longer false u v w = refl
@@ -112,37 +113,40 @@ even_pairs pairs bs s = let twice = Spells-length pairs bs s in omega (arith, tw
 body-shorter : (t : List ℕ) → length (body_of t) ≤ length t
 body-shorter t = grind arith
 
+-- byte p of u is byte length v + p of v ++ u
 behind : (v u : List ℕ) (p : ℕ) → slice_index u p ≡ slice_index (v ++ u) (length v + p)
 behind [] u p = let e : p ≡ 0 + p = omega arith in ap (slice_index u) e
 behind (c ∷ v) u p = let e : suc (length v + p) ≡ suc (length v) + p =
     omega arith in behind v u p ∙ ap (slice_index (c ∷ (v ++ u))) e
 
-module _ (d : Decoder) (t bs piece w digits : List ℕ) (r : HasRead d t bs)
-    (whole : body_of (t ++ piece) ≡ r.pairs ++ (w ++ digits)) where
+-- d has read t and has written bs; then w, the waiting digit if there is one, and the digits of the chunk follow the
+-- pairs that were read
+module _ (d : Decoder) (t bs chunk w digits : List ℕ) (r : HasRead d t bs)
+    (whole : body_of (t ++ chunk) ≡ r.pairs ++ (w ++ digits)) where
   -- how many bytes are decoded by now
   pub spelled_by_now : (count : ℕ) → count ≡ length (w ++ digits) / 2
-      → length (body_of (t ++ piece)) / 2 ≡ length bs + count
+      → length (body_of (t ++ chunk)) / 2 ≡ length bs + count
   spelled_by_now count e =
       let twice = Spells-length r.pairs bs r.given in
-      let size : length (body_of (t ++ piece)) ≡ length r.pairs + length (w ++ digits) =
+      let size : length (body_of (t ++ chunk)) ≡ length r.pairs + length (w ++ digits) =
       rw whole (length-append r.pairs (w ++ digits)) in
       omega (arith, e, twice, size)
 
   -- all of it is digits
-  pub digits_by_now : AllDigits w → AllDigits digits → AllDigits (body_of (t ++ piece))
+  pub digits_by_now : AllDigits w → AllDigits digits → AllDigits (body_of (t ++ chunk))
   digits_by_now a b =
       rw whole ((digits_append r.pairs (w ++ digits)).1 (Spells-digits _ _ r.given, (digits_append w digits).1 (a, b)))
 
   -- the decoder goes on
   pub goes_on : (e : Decoder) (out : List ℕ) (count : ℕ) → AllDigits w → AllDigits digits
       → Spells (take (2 * count) (w ++ digits)) out
-      → error_of e ≡ None → position_of e ≡ counted (position_of d + length piece)
+      → error_of e ≡ None → position_of e ≡ counted (position_of d + length chunk)
       → waiting_digit e ≡ drop (2 * count) (w ++ digits)
-      → HasRead e (t ++ piece) (bs ++ out)
+      → HasRead e (t ++ chunk) (bs ++ out)
   goes_on e out count a b s none index waits =
       let u = w ++ digits in
       let parts = take-append-drop (2 * count) u in
-      let size = length-append t piece in
+      let size = length-append t chunk in
       let before = r.counts in record {
         no_error = none;
         counts = omega (arith, index, before, size);
@@ -154,9 +158,9 @@ module _ (d : Decoder) (t bs piece w digits : List ℕ) (r : HasRead d t bs)
 
   -- and it does so if no byte is written
   pub goes_on_unwritten : (e : Decoder) (count : ℕ) → count ≡ length (w ++ digits) / 2 → AllDigits w → AllDigits digits
-      → error_of e ≡ None → position_of e ≡ counted (position_of d + length piece)
+      → error_of e ≡ None → position_of e ≡ counted (position_of d + length chunk)
       → waiting_digit e ≡ drop (2 * count) (w ++ digits)
-      → (more : List ℕ) × HasRead e (t ++ piece) (bs ++ more)
+      → (more : List ℕ) × HasRead e (t ++ chunk) (bs ++ more)
   goes_on_unwritten e count half a b none index waits =
       let u = w ++ digits in
       let even : length (take (2 * count) u) % 2 ≡ 0 =
@@ -165,27 +169,28 @@ module _ (d : Decoder) (t bs piece w digits : List ℕ) (r : HasRead d t bs)
       (All-take IsDigit (2 * count) u ((digits_append w digits).1 (a, b))) in
       (bytes.0, goes_on e bytes.0 count a b bytes.1 none index waits)
 
-  -- what the piece adds
-  pub added : drop (2 * length bs) (body_of (t ++ piece)) ≡ w ++ digits
+  -- what the chunk adds
+  pub added : drop (2 * length bs) (body_of (t ++ chunk)) ≡ w ++ digits
   added = rw whole (drop_at r.pairs (w ++ digits) (2 * length bs) (Spells-length r.pairs bs r.given))
 
-  -- the first invalid character is in the piece
-  pub bad_by_now : (skipped p : ℕ) → skipped ≡ length piece - length digits → length digits ≤ length piece → AllDigits w
+  -- the first invalid character is in the chunk
+  -- `fail` names it, since only skipped bytes of the chunk stand before the digits
+  pub bad_by_now : (skipped p : ℕ) → skipped ≡ length chunk - length digits → length digits ≤ length chunk → AllDigits w
       → FirstBad digits p
-      → NamesCounted (t ++ piece) (slice_index digits p) (counted (position_of d + skipped + p))
+      → NamesCounted (t ++ chunk) (slice_index digits p) (counted (position_of d + skipped + p))
   bad_by_now skipped p e shorter a f =
       let v = r.pairs ++ w in
-      let body : body_of (t ++ piece) ≡ v ++ digits = whole ∙ sym (append_assoc r.pairs w digits) in
+      let body : body_of (t ++ chunk) ≡ v ++ digits = whole ∙ sym (append_assoc r.pairs w digits) in
       let fine = (digits_append r.pairs w).1 (Spells-digits _ _ r.given, a) in
       let before = r.counts in
-      let size = length-append t piece in
-      let parts : length (body_of (t ++ piece)) ≡ length v + length digits = rw body (length-append v digits) in
-      let bound = body-shorter (t ++ piece) in
+      let size = length-append t chunk in
+      let parts : length (body_of (t ++ chunk)) ≡ length v + length digits = rw body (length-append v digits) in
+      let bound = body-shorter (t ++ chunk) in
       let named : FirstBad (v ++ digits) (length v + p) =
       FirstBad-after (length v) (v ++ digits) p (rw (take_at v digits (length v) refl) fine)
       (omega (arith, length-append v digits))
       (rw (drop_at v digits (length v) refl) f) in (
-        length v + p + (length (t ++ piece) - length (body_of (t ++ piece))),
+        length v + p + (length (t ++ chunk) - length (body_of (t ++ chunk))),
         (length v + p, rw body named, rw body (behind v digits p), refl),
         omega (arith, e, before, size, parts, bound),
       )
@@ -219,6 +224,7 @@ read_front d (c ∷ e ∷ t) (b ∷ bs) u r =
 
 -- ---- digits alone have no invalid character
 
+-- a rejected text does not have digits alone
 pub not_all : (w digits old new : List ℕ) → Partial old (w ++ digits) new → AllDigits w → AllDigits digits → ⊥
 not_all w digits old new p a b = digits_no_bad (w ++ digits) p.bad ((digits_append w digits).1 (a, b)) p.first_bad
 

@@ -161,7 +161,8 @@ impl Decoder {
     /// [`decode`](crate::decode) accepts.
     ///
     /// Returns [`FromHexError::OddLength`] if the text has an odd number of bytes and no invalid
-    /// character, so also for a lone `0`. If a chunk had an invalid character, returns its error again. Does not allocate.
+    /// character, so also for a lone `0`. If a chunk had an invalid character, returns its error again.
+    /// Does not allocate.
     ///
     /// ```rust
     /// let mut decoder = Decoder::new();

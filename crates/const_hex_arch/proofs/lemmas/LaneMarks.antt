@@ -25,10 +25,12 @@ mark_bits z = bit_at z 7 + bit_at z 6 + bit_at z 4 + bit_at z 3
 
 -- ---- the limits of 16 lanes, by a table of the low halves
 
-abbrev less : ℕ → ℕ
-less b = (b + 208) % 256
+-- the byte minus 48, in 8 bits: 208 is 256 - 48
+abbrev minus_48 : ℕ → ℕ
+minus_48 b = (b + 208) % 256
 
 module _ (table : List ℕ) where
+  -- entry j of block q of the table, or 0 if j is 128 or more
   abbrev read : ℕ → ℕ → ℕ
   read q j = cond (zeroes 16 w8 j) zero (get_or table (16 * q + j) zero)
 
@@ -36,15 +38,16 @@ module _ (table : List ℕ) where
   limit b = read 0 (bit_and b 143)
 
   abbrev value_of : ℕ → ℕ
-  value_of b = cond (ltb (less b) (limit b)) (less b) (limit b)
+  value_of b = cond (ltb (minus_48 b) (limit b)) (minus_48 b) (limit b)
 
   abbrev mark_of : ℕ → ℕ
-  mark_of b = (less b + (256 - value_of b)) % 256
+  mark_of b = (minus_48 b + (256 - value_of b)) % 256
 
-  -- each of the 256 bytes
+  -- of the 256 bytes, just the digits leave no mark
   abbrev pub marks_are_right : Type 0
   marks_are_right = agree_below (λ b. eqb (mark_bits (mark_of b)) 0) (λ b. is_some (hex_value b)) 256 ≡ true
 
+  -- the value of each digit is right
   abbrev pub values_are_right : Bool
   values_are_right = all_below (λ b. is_none (hex_value b) || same_value (hex_value b) (Some (value_of b))) 256
 
@@ -69,6 +72,7 @@ module _ (table : List ℕ) where
               (omega arith) f.1,
         )
 
+    -- what the shuffle reads is the limit of each lane
     pub limits_are : (v : List ℕ) → (length v ≡ 16) × Each1 (Fits w8) v
         → AllZip IsLimitOf v (swz_l w8 16 table 0 (zip2 bit_and v (replicate 16 143)))
     limits_are v f =
@@ -83,14 +87,15 @@ within x y = get_or (min_l (x ∷ []) (y ∷ [])) 0 0
 within_is : (x y : ℕ) → cond (ltb x y) x y ≡ within x y
 within_is x y = grind (arith, nat_tests)
 
-abbrev less_l : ℕ → List ℕ → List ℕ
-less_l n v = zip2 sub8 v (replicate n 48)
+abbrev minus_48_l : ℕ → List ℕ → List ℕ
+minus_48_l n v = zip2 sub8 v (replicate n 48)
 
-pub parts_are : (v t : List ℕ) → AllZip IsLimitOf v t → AllZip IsPartOf v (min_l (less_l (length v) v) t)
+-- the lesser of a lane minus 48 and its limit is such a part
+pub parts_are : (v t : List ℕ) → AllZip IsLimitOf v t → AllZip IsPartOf v (min_l (minus_48_l (length v) v) t)
 parts_are [] [] z = tt
 parts_are [] (y ∷ t) z = absurd z
 parts_are (x ∷ v) [] z = absurd z
-parts_are (x ∷ v) (y ∷ t) z = (subst (IsPartOf x) (within_is (less x) y) z.0, parts_are v t z.1)
+parts_are (x ∷ v) (y ∷ t) z = (subst (IsPartOf x) (within_is (minus_48 x) y) z.0, parts_are v t z.1)
 
 pub values_of_parts : (v ns : List ℕ) → AllZip IsPartOf v ns → AllZip IsValueOf v ns
 values_of_parts [] [] z = tt
@@ -100,7 +105,7 @@ values_of_parts (x ∷ v) (n ∷ ns) z = (z.0.0, values_of_parts v ns z.1)
 
 -- the marks of lanes: there are none if and only if all lanes are digits
 pub unmarked_are_digits : (v ns : List ℕ) → AllZip IsPartOf v ns
-    → AllUnmarked (zip2 sub8 (less_l (length v) v) ns) ↔ AllDigits v
+    → AllUnmarked (zip2 sub8 (minus_48_l (length v) v) ns) ↔ AllDigits v
 unmarked_are_digits [] [] z = (λ _. All-nil IsDigit, λ _. tt)
 unmarked_are_digits [] (n ∷ ns) z = absurd z
 unmarked_are_digits (b ∷ v) [] z = absurd z
@@ -171,6 +176,7 @@ unmarked_fold a (x ∷ xs) f =
       λ h. let none : marked x ≡ 0 = one.1 h.1.0 in more.1 (rw (none, h.0) refl, h.1.1),
     )
 
+-- no lane has a mark if and only if all lanes AND 216, joined by OR, are 0
 pub are_unmarked : (n : ℕ) (xs : List ℕ) → (length xs ≡ n) × Each1 (Fits w8) xs
     → IsTrue (eqb (fold_l bit_or 0 (zip2 bit_and xs (replicate n 216))) 0) ↔ AllUnmarked xs
 are_unmarked n xs f =
@@ -180,6 +186,7 @@ are_unmarked n xs f =
 
 -- ---- the marks of what `nibbles` makes
 
+-- 255 for each lane above 15, otherwise 0
 abbrev pub beyond_l : ℕ → List ℕ → List ℕ
 beyond_l n ns = sel_l (map (top 7) (zip2 below_mask (replicate n 15) ns)) (replicate n 255) (replicate n 0)
 

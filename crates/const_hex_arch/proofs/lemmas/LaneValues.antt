@@ -123,7 +123,7 @@ values_are (b ∷ v) (n ∷ ns) e = (value_of_one n b (ap (λ l. get_or l 0 None
 abbrev pub gap_of : Bool → ℕ
 gap_of up = if up then 7 else 39
 
--- what `digits` computes of n lanes
+-- what `to_digits` computes of n lanes
 abbrev pub digits_of_l : ℕ → ℕ → List ℕ → List ℕ
 digits_of_l gap n v =
     zip2 add8 (zip2 add8 v (replicate n 48))

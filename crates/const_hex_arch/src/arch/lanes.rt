@@ -10,7 +10,7 @@ ghost use Rattle.const_hex_arch.specs.Lanes.{AllNibbles, AllUnmarked, byte_pairs
 use std::simd::prelude::*;
 
 /// The operations that depend on the number of lanes `N`, or on whether the target has a byte
-/// shuffle. Everything else in a kernel is written once, over this trait. The argument `copy` never
+/// shuffle. Everything else in a kernel is written once, over this trait. The argument `row_copy` never
 /// changes a result: it selects one of two equal rows, as
 /// [`lanes16::select_row`](super::lanes16::select_row) explains.
 pub(crate) trait LaneOps<const N: usize> {

@@ -8,7 +8,7 @@ use Rattle.std.specs.Str.Parse.{ParsesUnsigned, digits_value}
 use Rattle.std.proofs.lemmas.List.{drop_all, drop_more, get_or-map, length-map}
 use Rattle.std.proofs.lemmas.Str.{IsCharBoundary-after_ascii}
 use Rattle.std.proofs.lemmas.Str.Parse.{numerals_by_value, parse_plain, tells_all_ascii_digits}
-use Rattle.hexfilter_core.specs.Options.{Writes, WritesGroups, at, find, number, request, request_for, arguments_of, with_argument, with_arguments, and_then, with_letters, table, with_value}
+use Rattle.hexfilter_core.specs.Options.{AsksFor, WritesGroups, at, find, number, request, request_for, arguments_of, with_argument, with_arguments, and_then, with_letters, table, with_value}
 use Rattle.hexfilter_core.specs.declared.mode.Groups.{Groups}
 use Rattle.hexfilter_core.specs.declared.mode.Mode.{Mode}
 use Rattle.hexfilter_core.specs.declared.mode.Mode.TheVariants.{Decode, Encode}
@@ -106,7 +106,8 @@ reading_read true false g words (v, n, h, size, character, is) = rw (is, h, char
 reading_read false true g words (v, n, h, size, character, is) = rw (is, h, character, ← size) refl
 reading_read false false g words (v, n, h, size, character, is) = rw (is, h, character, ← size) refl
 
-pub read_back : (m : Mode) (words : List (List ℕ)) → Writes m words → request_for (arguments_of m words) ≡ Ok (Run m None)
+pub read_back : (m : Mode) (words : List (List ℕ)) → AsksFor m words
+    → request_for (arguments_of m words) ≡ Ok (Run m None)
 unfolding with_arguments
 read_back (Encode true true g) words (inl (v, h, newline, is)) = rw (is, h, ← newline) refl
 read_back (Encode true false g) words (inl (v, h, newline, is)) = rw (is, h, ← newline) refl

@@ -6,6 +6,7 @@ use Rattle.std.specs.List.{All}
 use Rattle.const_hex.specs.Results.{body_of}
 use Rattle.const_hex.specs.Texts.{AllDigits, IsDigit}
 use Rattle.const_hex_arch.proofs.lemmas.Standard.{false_is_true}
+use Rattle.const_hex_arch.proofs.lemmas.Standard.{false_is_true}
 use Rattle.hexfilter_core.specs.Inputs.{kept, next, text_from, text_of}
 use Rattle.hexfilter_core.specs.Pairs.{HasColons, without_thirds}
 use Rattle.hexfilter_core.specs.declared.mode.Reading.{Reading}
@@ -52,6 +53,9 @@ colon_first : (c : ℕ) (x : List ℕ) (is : Bool) → (c == 58) ≡ is
 colon_first c x true e h = (grind (arith, nat_tests, e), h)
 colon_first c x false e h = absurd (All-head (λ b. b ≢ 0) 0 (text_from pairs 2 x) h refl)
 
+after_pair : (a b : ℕ) (u : List ℕ) → All (λ b. b ≢ 0) (a ∷ b ∷ u) → All (λ b. b ≢ 0) u
+after_pair a b u h = All-tail (λ b. b ≢ 0) b u (All-tail (λ b. b ≢ 0) a (b ∷ u) h)
+
 colons : (x : List ℕ) → All (λ b. b ≢ 0) (text_of pairs x) → HasColons x
 unfolding text_from
 colons [] h = tt
@@ -59,7 +63,7 @@ colons (a ∷ []) h = tt
 colons (a ∷ b ∷ []) h = tt
 colons (a ∷ b ∷ c ∷ x) h =
     let at = third c (c == 58) refl in
-    let rest = All-tail (λ b. b ≢ 0) b _ (All-tail (λ b. b ≢ 0) a _ h) in
+    let rest = after_pair a b (kept pairs 2 c ++ text_from pairs (next pairs 2 c) x) h in
     let (is, more) = colon_first c x (c == 58) refl (rw (at.0, at.1) at rest) in (is, colons x more)
 
 -- and what is read has colons

@@ -24,7 +24,7 @@ pub use crate::proved::error::RunError;
 pub use crate::proved::mode::{Groups, Mode, Reading};
 pub use crate::proved::options::{Fault, Request, UsageError, request_of};
 pub use crate::proved::place::Place;
-pub use crate::proved::process::{Output, program};
+pub use crate::proved::process::{OutputFile, program};
 pub use crate::proved::runs::run;
 
 #[cfg(test)]

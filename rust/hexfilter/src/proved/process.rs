@@ -46,7 +46,7 @@ Examples:
 const VERSION: &str = "hexfilter 1.0.0\n";
 
 /// What a host knows of its standard output.
-pub trait Output {
+pub trait OutputFile {
     /// Whether standard output goes to the file with that name or, without a name, to the file that is standard input,
     /// and this file has bytes.
     fn is_output(&self, name: Option<&str>) -> bool;
@@ -58,7 +58,7 @@ pub trait Output {
 /// standard error, but none if the reader of standard output is gone.
 pub fn program<R: Read, W: Write>(
     rt: &(impl Files + Eprint),
-    host: &impl Output,
+    host: &impl OutputFile,
     arguments: &[String],
     input: &mut R,
     output: &mut W,
@@ -104,7 +104,7 @@ fn misused(rt: &impl Eprint, arguments: &[String], error: UsageError) -> ExitCod
 /// Runs on standard input.
 fn run_standard_input<R: Read, W: Write>(
     rt: &impl Eprint,
-    host: &impl Output,
+    host: &impl OutputFile,
     mode: Mode,
     input: &mut R,
     output: &mut W,
@@ -118,7 +118,7 @@ fn run_standard_input<R: Read, W: Write>(
 /// Runs on the file with that name.
 fn run_file<W: Write>(
     rt: &(impl Files + Eprint),
-    host: &impl Output,
+    host: &impl OutputFile,
     mode: Mode,
     name: &str,
     output: &mut W,
@@ -137,7 +137,7 @@ fn same_file() -> RunError {
     RunError::Read(Error::new(ErrorKind::InvalidInput, "input file is output file"))
 }
 
-/// Writes a text, and flushes.
+/// AsksFor a text, and flushes.
 fn print<W: Write>(text: &str, output: &mut W) -> Result<(), RunError> {
     write_piece(output, text.as_bytes())?;
     flush(output)

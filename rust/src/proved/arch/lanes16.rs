@@ -39,7 +39,7 @@ const FACTORS: [u8; 16] = [1, 16, 1, 16, 1, 16, 1, 16, 1, 16, 1, 16, 1, 16, 1, 1
 type Row = [[u8; 16]; 2];
 
 /// The row of a case, from the first copy or the second. Both are equal, so no result depends on
-/// `copy`. The comment at [`ROWS`] says why there are two.
+/// `row_copy`. The comment at [`ROWS`] says why there are two.
 #[inline(always)]
 pub(crate) fn select_row(upper: bool, row_copy: bool) -> &'static Row {
     let cases = &ROWS[if row_copy { 1 } else { 0 }];

@@ -1,16 +1,19 @@
--- A function that makes an `Option` of a vector, from a call that gives the vector beside a flag. One walk serves any number of lanes.
+-- A function that makes an `Option` of a vector, from a call that returns the vector beside a flag: `decode_chunk` from
+-- `decode_flagged`, for any number of lanes. ../Walks.antt says what a walk is.
 use Rattle.const_hex_arch.specs.Texts.{AllDigits, Spells}
 use Rattle.const_hex_arch.proofs.lemmas.Walks.LaneOptions.{ℕ, List, [], ◌∷◌, Bool, refl, lit<, w8, IsTrue, ◌↔◌, proved, Some-of, none_of, concat, Some, None, ftrue, id⊢, emp, fact, fact_i, tables, Array-Tells, Array-Lawful, u8, yes, shows, uint_Makes, uint_Lawful, nothing, owned, facts, heard, only, as_fields, calls_at, lasts, triple_of, framed, Stays, walk_of, stay_dropped, Goes-dropped, ends_at, Simd-Lawful, Simd-Makes, ty_array, ty_int, ty_bool, vbool, of_list, alloc_all, pass_all, free_all, look_at, get, get_in, sets, sets_last, lands_as, env, ‵, raw, ◌⊛◌, some, later, at_ret, ◌$◌, ◌∵◌, !, qed, done, drop, use0, use1, split, join, pick, await, suffices, group, live, agg, whole, sub, enter, of_opd, lit, fld, stop, no_more, and_then, first, branches, exec, returns, and_true, NoneClause, SpellsClause, some_is, none_is, Lanes, Pair, pair_vals, lanes_vals, lanes_Tells, Flagged, flagged_is, flagged_lanes, Answer, sep, Ura, Fn, Body, Callee, local, value_local, field, place, copy, int, rv_opd, aggregate, assign, call, cond, seq, Running, Model, Closed, Logic, plain, Clauses, Ended, closing, Meets}
 use mir.Syntax.{return as end}
 use denote.Param.{layout}
 
 module _ (n : ℕ) where
+  -- what `decode_chunk` takes and returns
   abbrev pub Chunks : Ended
   Chunks = record {
     signature = record { lifetimes = 0; outlives = []; params = Pair n ∷ []; result = plain (λ κs. Answer n) };
     kept = (yes, tt);
   }
 
+  -- what `decode_flagged` takes and returns
   abbrev pub Flags : Ended
   Flags = record {
     signature = record { lifetimes = 0; outlives = []; params = Pair n ∷ []; result = plain (λ κs. Flagged n) };
@@ -20,6 +23,7 @@ module _ (n : ℕ) where
   abbrev answered : Body
   answered = seq (assign (place 0 []) (rv_opd (copy (place 6 [])))) end
 
+  -- local variables: 0 is the result, 1 the text, 2 the bytes, 3 and 5 the flag, 4 what the call returns, 6 the Option
   abbrev code_of : Callee → Fn
   code_of flags = record {
     lifetimes = 0;
@@ -60,6 +64,7 @@ module _ (n : ℕ) where
           sep 𝓤 (fact 𝓤 (IsTrue r.1 ↔ AllDigits (concat a.0))) (fact 𝓤 (IsTrue r.1 → Spells (concat a.0) r.0));
     }
 
+    -- if the call meets its clauses, so does the function
     pub some_or_none : (self flags : Callee)
         → Closed 𝓤 𝓛.H (tables 𝓤 𝓛.H 𝓜 𝓡 𝓡.env).C (tables 𝓤 𝓛.H 𝓜 𝓡 𝓡.env).Λ self (code_of flags)
         → Meets 𝓛 Flags.signature (𝓡.run (𝓡.env flags)) (closing 𝓛 Flags flagged)

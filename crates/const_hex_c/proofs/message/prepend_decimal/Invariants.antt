@@ -1,6 +1,7 @@
 use Rattle.std.proofs.Common.{◌≡◌, ◌+◌, ◌≤◌, ◌++◌, length, drop, decimal}
 use Rattle.const_hex_c.proofs.message.prepend_decimal.Given as goal
 
+-- 59 is `LONGEST`, and left is what is left of the number
 abbrev pub invariant-digits : goal.invariant-digits
 invariant-digits l = record {
   within : l.start ≤ 59;

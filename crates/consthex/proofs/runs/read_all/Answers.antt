@@ -1,7 +1,7 @@
 use Rattle.std.proofs.Common.{◌≤◌, length, arith}
 use Rattle.std.proofs.lemmas.Grind.{common_steps}
 use Rattle.const_hex.proofs.lemmas.WriteSinks.{step_within}
-use Rattle.consthex.proofs.lemmas.Pieces.{read_step}
+use Rattle.consthex.proofs.lemmas.Chunks.{read_step}
 use Rattle.consthex.proofs.runs.read_all.Goals as goal
 
 pub reads-preserved : goal.reads-preserved

@@ -6,6 +6,7 @@ use Rattle.hexfilter_core.proofs.lemmas.Errors.{same_value, text_not_interrupted
 use Rattle.hexfilter_core.proofs.lemmas.Texts.{fewer_made, so_far_made}
 use Rattle.hexfilter_core.proofs.runs.run.Goals as goal
 
+-- x was read and y written so far; has, read and wrote are the facts of the invariant
 pub returns-in_err-count-clause-begun : goal.returns-in_err-count-clause-begun
 returns-in_err-count-clause-begun g c =
     let (x, y, has, read, wrote) = c.chunks.invariant in

@@ -1,9 +1,9 @@
 -- One call, whose result is returned.
-use Rattle.const_hex_testing.proofs.chunks.PassedOn.{passes_on}
-use Rattle.const_hex_testing.specs.contracts.chunks.Lanes16DecodeChunkU8x16.decode_chunk.Key.{name}
+use Rattle.const_hex_testing.proofs.steps.PassedOn.{passes_on}
+use Rattle.const_hex_testing.specs.contracts.steps.Lanes16DecodeChunkU8x16.decode_chunk.Key.{name}
 use Rattle.const_hex_arch.specs.contracts.arch.lanes16.decode_chunk.Key.{name as called}
-use Rattle.const_hex_testing.proofs.chunks.Lanes16DecodeChunkU8x16.decode_chunk.Statement.{statement}
-use Rattle.const_hex_testing.proofs.chunks.Lanes16DecodeChunkU8x16.decode_chunk.Code as code
+use Rattle.const_hex_testing.proofs.steps.Lanes16DecodeChunkU8x16.decode_chunk.Statement.{statement}
+use Rattle.const_hex_testing.proofs.steps.Lanes16DecodeChunkU8x16.decode_chunk.Code as code
 use Rattle.const_hex_arch.proofs.arch.lanes16.decode_chunk.Met.{met}
 
 pub decode_chunk_spec : {M : Type 1} → statement M

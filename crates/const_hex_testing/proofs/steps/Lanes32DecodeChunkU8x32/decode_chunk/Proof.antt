@@ -1,9 +1,9 @@
 -- One call, whose result is returned.
-use Rattle.const_hex_testing.proofs.chunks.PassedOn.{passes_on}
-use Rattle.const_hex_testing.specs.contracts.chunks.Lanes32DecodeChunkU8x32.decode_chunk.Key.{name}
+use Rattle.const_hex_testing.proofs.steps.PassedOn.{passes_on}
+use Rattle.const_hex_testing.specs.contracts.steps.Lanes32DecodeChunkU8x32.decode_chunk.Key.{name}
 use Rattle.const_hex_arch.specs.contracts.arch.lanes32.decode_chunk.Key.{name as called}
-use Rattle.const_hex_testing.proofs.chunks.Lanes32DecodeChunkU8x32.decode_chunk.Statement.{statement}
-use Rattle.const_hex_testing.proofs.chunks.Lanes32DecodeChunkU8x32.decode_chunk.Code as code
+use Rattle.const_hex_testing.proofs.steps.Lanes32DecodeChunkU8x32.decode_chunk.Statement.{statement}
+use Rattle.const_hex_testing.proofs.steps.Lanes32DecodeChunkU8x32.decode_chunk.Code as code
 use Rattle.const_hex_arch.proofs.arch.lanes32.decode_chunk.Met.{met}
 
 pub decode_chunk_spec : {M : Type 1} → statement M
