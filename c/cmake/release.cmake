@@ -15,7 +15,9 @@ set(CPACK_INSTALL_CMAKE_PROJECTS ${PROJECT_BINARY_DIR} const_hex ALL / ${PROJECT
 set(CPACK_CONST_HEX_ARCHIVE ${PROJECT_BINARY_DIR}/libconst_hex.a)
 set(CPACK_VERBATIM_VARIABLES ON)
 # `cpack -G DEB` makes a Debian package of what is installed, with its copyright and changelog as Debian wants them. It is
-# for a build with the prefix /usr.
+# for a build with the prefix /usr. What lintian still says has reasons: the library is not stripped, since
+# `machine_code/prove --sums` finds its code by names; it needs no other, not even that of C; and one package has the
+# library, its link and its header, so it is not named after the library's version.
 set(CPACK_PROJECT_CONFIG_FILE ${PROJECT_SOURCE_DIR}/cmake/debian.cmake)
 set(CPACK_DEBIAN_PACKAGE_NAME libconst-hex-dev)
 # PUBLISHER: write the address here to which users of the package write.
@@ -28,6 +30,11 @@ if(CMAKE_SYSTEM_PROCESSOR MATCHES "aarch64|arm64")
   set(CPACK_DEBIAN_PACKAGE_DEPENDS "")
 endif()
 set(CPACK_DEBIAN_PACKAGE_SECTION libdevel)
+set(CPACK_PACKAGE_DESCRIPTION "The machine code of the library is formally verified, and constant-time
+for valid input. The package has the header, and both libraries.")
+file(WRITE ${PROJECT_BINARY_DIR}/triggers "activate-noawait ldconfig\n")
+file(WRITE ${PROJECT_BINARY_DIR}/shlibs "libconst_hex ${PROJECT_VERSION_MAJOR} libconst-hex-dev (>= ${PROJECT_VERSION})\n")
+set(CPACK_DEBIAN_PACKAGE_CONTROL_EXTRA ${PROJECT_BINARY_DIR}/triggers ${PROJECT_BINARY_DIR}/shlibs)
 set(CPACK_DEBIAN_FILE_NAME DEB-DEFAULT)
 file(READ ../LICENSE-MIT text)
 string(REGEX REPLACE ".*Copyright .c. ([^\n]*).*" "\\1" copyright "${text}")
@@ -47,6 +54,8 @@ License: Apache-2.0
 file(READ ../CHANGELOG.md text)
 string(REGEX MATCH "\n## ${PROJECT_VERSION}\n\n([^#]*)" text "${text}")
 string(REGEX REPLACE "(^|\n)- " "\\1  * " text "${CMAKE_MATCH_1}")
+file(WRITE ${PROJECT_BINARY_DIR}/changelog "${text}")
+execute_process(COMMAND fold -s -w 76 ${PROJECT_BINARY_DIR}/changelog COMMAND sed "s/^[^ ]/    &/" OUTPUT_VARIABLE text)
 string(TIMESTAMP date "%a, %d %b %Y %H:%M:%S +0000" UTC)
 file(WRITE ${PROJECT_BINARY_DIR}/changelog "libconst-hex-dev (${PROJECT_VERSION}) unstable; urgency=medium
 

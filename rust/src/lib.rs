@@ -186,7 +186,7 @@ fn owned(data: &[u8], prefix: bool, upper: bool) -> String {
 #[allow(unsafe_code)]
 #[inline]
 fn append(data: &[u8], prefix: bool, upper: bool, output: &mut String) {
-    // SAFETY: the kernel, of which this is proved, appends ASCII.
+    // SAFETY: what is appended is ASCII: `0x`, and digits, of which this is proved.
     kernel::encode_append(data, prefix, upper, unsafe { output.as_mut_vec() });
 }
 
