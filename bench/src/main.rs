@@ -2,12 +2,9 @@
 //!
 //!     cargo run --release                            # every library
 //!     cargo run --release -- const-hex               # these libraries alone
-//!     cargo run --release -- --figure                # a figure in SVG
 //!     MOST=2048 cargo run                            # without optimization, up to so many bytes
 //!
 //! Each cell is the difference of two runs of this program, by the number of calls between them.
-
-mod figure;
 
 use const_hex_bench::{cases, CALLS, SIZES};
 use std::collections::BTreeMap;
@@ -59,14 +56,8 @@ fn repeat(call: &str, library: &str, size: &str, count: &str) -> ExitCode {
     ExitCode::SUCCESS
 }
 
-/// Prints a figure, or a table for each call, with a row for each size and a column for each library.
+/// Prints a table for each call, with a row for each size and a column for each library.
 fn print(only: &[String]) -> io::Result<()> {
-    if only == ["--figure"] {
-        let mut cells = cells(&[]);
-        cells.retain(|(call, _, _)| figure::CALLS.contains(call));
-        print!("{}", figure::figure(&count_all(&cells)?));
-        return Ok(());
-    }
     let cells = cells(only);
     let counted = count_all(&cells)?;
     for call in CALLS {
