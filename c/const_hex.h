@@ -64,17 +64,17 @@
  * function meets its contract: it is memory-safe, terminates, and returns and writes what the contract
  * says, for all inputs. The contracts are in crates/const_hex_c; this header states them in prose.
  *
- * The machine code, which the folder c/asm contains as assembly, is verified too, against this header, by the
- * separate tool in machine_code: every function, on x86-64 in both builds, for every length and position of a
- * decoder within limits that real inputs do not reach, which machine_code/README.md names. This is a proof about
- * libconst_hex.a; a test compares the shared library's code with it. That this header agrees with the contracts of
- * crates/const_hex_c and of machine_code was reviewed.
+ * The machine code, which the folders c/asm and rust/src/asm contain as assembly, is verified too, against this
+ * header, by the separate tool in machine_code: every function, on x86-64 with both kernels that it may call (for
+ * SSE4.2 and for AVX2), for every length and position of a decoder within limits that real inputs do not reach,
+ * which machine_code/README.md names. This is a proof about libconst_hex.a; a test compares the shared library's code
+ * with it. That this header agrees with the contracts of crates/const_hex_c and of machine_code was reviewed.
  *
  * CONSTANT TIME
  *
  * For valid input, branches and memory addresses do not depend on the bytes or digits, but only on lengths,
  * sizes, flags and pointers, on whether a text has a prefix, and on where the chunks of a text are split.
- * This is verified in the machine code, on x86-64 in both builds and on AArch64. It does not hold for
+ * This is verified in the machine code, on x86-64 with both kernels and on AArch64. It does not hold for
  * const_hex_error_message, nor for invalid text: the error states the position of the invalid character, and
  * timing reveals it too. How long an instruction takes is up to the CPU. No memory is wiped. libsodium has
  * sodium_bin2hex and sodium_hex2bin, which are made for secrets.

@@ -22,7 +22,7 @@
 	.endm
 	.macro function name
 	.text
-	.p2align 4, 0x90
+	.p2align 5, 0x90
 \name:
 	.endm
 	.macro end name
@@ -61,7 +61,7 @@
 	/* Each function is a section, so that a linker can leave out those that a program does not use. */
 	.macro function name
 	.section .text.\name, "ax", %progbits
-	.p2align 4
+	.p2align 5
 	.type \name, %function
 \name:
 	.endm

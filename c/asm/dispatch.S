@@ -1,10 +1,10 @@
-/* The functions of const_hex.h over those in the other files, which are generated. machine_code verifies this file,
- * too.
+/* The functions of const_hex.h whose error may be NULL, and the kernel's, over those in the other files, which are
+ * generated. machine_code verifies this file, too.
  *
  * A function of const_hex.h whose error may be NULL passes its arguments to the one whose name ends in _nonnull, and a
  * local error in place of NULL.
  *
- * On x86-64 there are two of each, for x86-64-v2 and x86-64-v3. The first call asks the CPU which of them it can run,
+ * On x86-64 there are two kernels, for x86-64-v2 and x86-64-v3. The first call asks the CPU which of them it can run,
  * and stores the answer in the byte `choice`. There is no lock: threads that ask at the same time get the same answer,
  * and store the same byte. No address of code is stored where a program can write.
  */
@@ -63,8 +63,10 @@
 	ret
 	end ask
 
-	/* Jumps to the function for this CPU. */
-	.macro choose name
+	/* A function of the kernel, which jumps to that for this CPU. */
+	.macro kernel name
+	hidden \name
+	function \name
 	cmp	BYTE PTR [rip + choice], 2
 	je	\name\()_v3
 	cmp	BYTE PTR [rip + choice], 1
@@ -73,12 +75,6 @@
 	cmp	al, 2
 	je	\name\()_v3
 	jmp	\name\()_v2
-	.endm
-
-	.macro plain name
-	exported \name
-	function \name
-	choose \name
 	end \name
 	.endm
 
@@ -86,40 +82,32 @@
 	exported \name
 	function \name
 	test	\error, \error
-	je	3f
-2:
-	choose \name\()_nonnull
-3:
+	jne	\name\()_nonnull
 	sub	rsp, 24
 	mov	\error, rsp
-	call	2b
+	call	\name\()_nonnull
 	add	rsp, 24
 	ret
 	end \name
 	.endm
 
-	plain SYMBOL(const_hex_encoded_size)
-	plain SYMBOL(const_hex_encode)
+	kernel SYMBOL(const_hex_kernel_check)
+	kernel SYMBOL(const_hex_kernel_fill)
+	kernel SYMBOL(const_hex_kernel_read)
 	or_null SYMBOL(const_hex_decode), r9
 	or_null SYMBOL(const_hex_decode_exact), r8
 	or_null SYMBOL(const_hex_decoder_finish), rsi
 	or_null SYMBOL(const_hex_check), rdx
-	plain SYMBOL(const_hex_check_raw)
-	plain SYMBOL(const_hex_error_message)
-	plain SYMBOL(const_hex_version)
 
 	/* The seventh argument is the error, and lies on the stack. */
 	exported SYMBOL(const_hex_decoder_update)
 	function SYMBOL(const_hex_decoder_update)
 	cmp	QWORD PTR [rsp + 8], 0
-	je	3f
-2:
-	choose SYMBOL(const_hex_decoder_update_nonnull)
-3:
+	jne	SYMBOL(const_hex_decoder_update_nonnull)
 	sub	rsp, 24
 	lea	rax, [rsp + 8]
 	mov	QWORD PTR [rsp], rax
-	call	2b
+	call	SYMBOL(const_hex_decoder_update_nonnull)
 	add	rsp, 24
 	ret
 	end SYMBOL(const_hex_decoder_update)

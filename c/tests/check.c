@@ -16,13 +16,13 @@ TEST(sizes_and_version) {
         {1, 1u << 31, SIZE_MAX},
     };
     for (size_t row = 0; row < sizeof rows / sizeof *rows; row++) {
-        size_t size = build->encoded_size(rows[row][0], (unsigned)rows[row][1]);
+        size_t size = const_hex_encoded_size(rows[row][0], (unsigned)rows[row][1]);
         holds(size == rows[row][2], "encoded_size", row, 0);
     }
     holds(CONST_HEX_ENCODED_SIZE(3 + 1, 0) == 9 && CONST_HEX_ENCODED_SIZE(20, CONST_HEX_PREFIX) == 43 &&
               CONST_HEX_ENCODED_SIZE(32, CONST_HEX_UPPER | CONST_HEX_NO_NUL) == 64,
           "CONST_HEX_ENCODED_SIZE", 0, 0);
-    holds(CONST_HEX_VERSION == 10000 && build->version() == CONST_HEX_VERSION, "the version", 0, 0);
+    holds(CONST_HEX_VERSION == 10000 && const_hex_version() == CONST_HEX_VERSION, "the version", 0, 0);
 }
 
 TEST(messages) {
@@ -47,7 +47,7 @@ TEST(messages) {
     for (size_t row = 0; row < sizeof rows / sizeof *rows; row++) {
         for (size_t size = 0; size <= CONST_HEX_MESSAGE_SIZE; size++) {
             struct buffer message = marked(areas.text, size, 0);
-            size_t length = build->error_message(&rows[row].error, message.bytes, size), nul = least(size, 1);
+            size_t length = const_hex_error_message(&rows[row].error, message.bytes, size), nul = least(size, 1);
             size_t wanted = least(strlen(rows[row].message), size - nul);
             holds(length == wanted && memcmp(message.bytes, rows[row].message, wanted) == 0 &&
                       memcmp(message.bytes + wanted, "", nul) == 0 && is_rest_marked(message, wanted + nul),
@@ -72,7 +72,7 @@ TEST(sizes_that_no_buffer_has) {
         struct buffer text = marked(areas.text, 20, 0);
         unsigned flags = (unsigned)rows[row][2];
         size_t written = flags & CONST_HEX_NO_NUL ? 0 : 1;
-        holds(!build->encode("kiwi", rows[row][0], text.bytes, rows[row][1], flags) &&
+        holds(!const_hex_encode("kiwi", rows[row][0], text.bytes, rows[row][1], flags) &&
                   memcmp(text.bytes, "", written) == 0 && is_rest_marked(text, written),
               "encode", row, 0);
     }
@@ -83,18 +83,18 @@ TEST(null_buffers) {
     struct const_hex_error error = UNSET;
     struct const_hex_decoder decoder = {{0, 0}};
     size_t written = 99, newly_written = 99;
-    holds(!build->encode(NULL, 0, NULL, 0, 0) && build->encode(NULL, 0, NULL, 0, CONST_HEX_NO_NUL), "encode",
+    holds(!const_hex_encode(NULL, 0, NULL, 0, 0) && const_hex_encode(NULL, 0, NULL, 0, CONST_HEX_NO_NUL), "encode",
           0, 0);
-    holds(build->decode(NULL, 0, NULL, 0, &written, &error) && written == 0, "decode", 0, 0);
-    holds(build->decode_exact(NULL, 0, NULL, 0, &error) && build->decode_exact("0X", 2, NULL, 0, &error),
+    holds(const_hex_decode(NULL, 0, NULL, 0, &written, &error) && written == 0, "decode", 0, 0);
+    holds(const_hex_decode_exact(NULL, 0, NULL, 0, &error) && const_hex_decode_exact("0X", 2, NULL, 0, &error),
           "decode_exact", 0, 0);
-    holds(build->check(NULL, 0, &error) && build->check_raw(NULL, 0), "check", 0, 0);
-    holds(build->decoder_update(&decoder, NULL, 0, NULL, 0, &newly_written, &error) && newly_written == 0 &&
-              build->decoder_finish(&decoder, &error) && error.kind == UNSET.kind,
+    holds(const_hex_check(NULL, 0, &error) && const_hex_check_raw(NULL, 0), "check", 0, 0);
+    holds(const_hex_decoder_update(&decoder, NULL, 0, NULL, 0, &newly_written, &error) && newly_written == 0 &&
+              const_hex_decoder_finish(&decoder, &error) && error.kind == UNSET.kind,
           "a decoder", 0, 0);
-    holds(!build->decode_exact("6b", 2, NULL, 0, &error) && error.kind == CONST_HEX_INVALID_LENGTH,
+    holds(!const_hex_decode_exact("6b", 2, NULL, 0, &error) && error.kind == CONST_HEX_INVALID_LENGTH,
           "no space", 0, 0);
-    holds(build->error_message(&error, NULL, 0) == 0, "error_message", 0, 0);
+    holds(const_hex_error_message(&error, NULL, 0) == 0, "error_message", 0, 0);
 }
 
 /* Without an error a function of the library returns and writes the same. */
@@ -107,14 +107,14 @@ TEST(null_errors) {
         bool is_text = model->error.kind == 0;
         struct const_hex_decoder decoder = {{0, 0}};
         struct output output = new_output(4, 0);
-        output.result = build->decode(text, length, output.buffer.bytes, 4, &output.written, NULL);
+        output.result = const_hex_decode(text, length, output.buffer.bytes, 4, &output.written, NULL);
         output.error = is_text ? UNSET : model->error;
         judge(output, model, 0, length, model->error, "decode");
-        holds(build->decode_exact(text, length, areas.decoded, 4, NULL) == (is_text && model->count == 4) &&
-                  build->check(text, length, NULL) == is_text,
+        holds(const_hex_decode_exact(text, length, areas.decoded, 4, NULL) == (is_text && model->count == 4) &&
+                  const_hex_check(text, length, NULL) == is_text,
               "decode_exact or check", which, 0);
-        holds((build->decoder_update(&decoder, text, length, areas.decoded, 4, &output.written, NULL) &&
-               build->decoder_finish(&decoder, NULL)) == is_text,
+        holds((const_hex_decoder_update(&decoder, text, length, areas.decoded, 4, &output.written, NULL) &&
+               const_hex_decoder_finish(&decoder, NULL)) == is_text,
               "a decoder", which, 0);
     }
 }
@@ -125,7 +125,7 @@ TEST(unknown_flags) {
         for (unsigned known = 0; known < 8; known++) {
             struct buffer text = marked(areas.text, 20, 0);
             size_t written = known & CONST_HEX_NO_NUL ? 0 : 1;
-            holds(!build->encode("kiwi", 4, text.bytes, 20, 1u << bit | known) &&
+            holds(!const_hex_encode("kiwi", 4, text.bytes, 20, 1u << bit | known) &&
                       memcmp(text.bytes, "", written) == 0 && is_rest_marked(text, written),
                   "encode", bit, known);
         }
@@ -229,31 +229,32 @@ TEST(any_contents_of_a_decoder) {
                             : output.written == 0 && (output.error.kind == CONST_HEX_INVALID_LENGTH ||
                                                       output.error.kind == CONST_HEX_INVALID_CHARACTER),
               "decoder_update", length, size);
-        bool result = build->decoder_finish(&decoder, &output.error);
+        bool result = const_hex_decoder_finish(&decoder, &output.error);
         holds(result || output.error.kind == CONST_HEX_ODD_LENGTH ||
                   output.error.kind == CONST_HEX_INVALID_CHARACTER,
               "decoder_finish", length, size);
     }
 }
 
-/* Lengths that no buffer has, as from a failed read(): an error, before a byte is read or written. */
+/* Lengths that no buffer has, as from a failed read(): an error, before a byte is read or written. A compiler that knew
+ * them would warn. */
 TEST(lengths_that_wrap) {
-    const size_t half = SIZE_MAX / 2 + 1, most = SIZE_MAX;
+    const volatile size_t half = SIZE_MAX / 2 + 1, most = SIZE_MAX;
     const char *text = memset(position(areas.text, 4096, 0), '1', 4096);
     for (size_t more = 0; more <= 40; more++) {
         struct output output = new_output(4096, 0);
         char *buffer = output.buffer.bytes;
         for (unsigned flags = 4; flags < 8; flags++) {
             size_t beside = flags & CONST_HEX_PREFIX ? 2 : 0;
-            holds(!build->encode(text, half + more, buffer, 2 * more + beside, flags) &&
-                      !build->encode(text, most - more, buffer, 4096, flags),
+            holds(!const_hex_encode(text, half + more, buffer, 2 * more + beside, flags) &&
+                      !const_hex_encode(text, most - more, buffer, 4096, flags),
                   "encode", more, flags);
         }
         struct const_hex_error errors[4] = {UNSET, UNSET, UNSET, UNSET};
-        holds(!build->decode_exact(text, 2 * more, buffer, half, &errors[0]) &&
-                  !build->decode_exact(text, most - 1 - 2 * more, buffer, 4096, &errors[1]) &&
-                  !build->decode(text, most - 1 - 2 * more, buffer, 4096, &output.written, &errors[2]) &&
-                  !build->check(text, most - 2 * more, &errors[3]) && output.written == 0,
+        holds(!const_hex_decode_exact(text, 2 * more, buffer, half, &errors[0]) &&
+                  !const_hex_decode_exact(text, most - 1 - 2 * more, buffer, 4096, &errors[1]) &&
+                  !const_hex_decode(text, most - 1 - 2 * more, buffer, 4096, &output.written, &errors[2]) &&
+                  !const_hex_check(text, most - 2 * more, &errors[3]) && output.written == 0,
               "a decoding function", more, 0);
         for (size_t which = 0; which < 4; which++) {
             uint32_t wanted = which == 3 ? CONST_HEX_ODD_LENGTH : CONST_HEX_INVALID_LENGTH;

@@ -11,7 +11,6 @@
 #define _GNU_SOURCE
 
 #include "const_hex.h"
-#include "functions.h"
 #include <stdio.h>
 #include <stdlib.h>
 #include <string.h>
@@ -23,29 +22,44 @@
 
 /* ---- The builds ---- */
 
-#define DECLARED(suffix, result, name, parameters, arguments) result const_hex_##name##suffix parameters;
-#define MEMBER(suffix, result, name, parameters, arguments) result(*name) parameters;
-#define POINTER(suffix, result, name, parameters, arguments) const_hex_##name##suffix,
-#define DECLARED_NONNULL(suffix, result, name, parameters, arguments) \
-    result const_hex_##name##_nonnull##suffix parameters;
-#define POINTER_NONNULL(suffix, result, name, parameters, arguments) const_hex_##name##_nonnull##suffix,
-
-struct build {
+#ifdef CONST_HEX_ONE_BUILD
+static const struct build {
     const char *label;
-    FUNCTIONS(MEMBER, MEMBER, )
+} BUILDS[] = {{"the library"}};
+static const struct build *build = BUILDS;
+#else
+typedef bool check_function(const char *text, size_t text_length);
+typedef void fill_function(const char *bytes, size_t bytes_length, char *text, unsigned is_upper);
+typedef bool read_function(const char *text, size_t text_length, char *bytes, size_t bytes_size);
+check_function __real_const_hex_kernel_check, const_hex_kernel_check_v2, const_hex_kernel_check_v3;
+fill_function __real_const_hex_kernel_fill, const_hex_kernel_fill_v2, const_hex_kernel_fill_v3;
+read_function __real_const_hex_kernel_read, const_hex_kernel_read_v2, const_hex_kernel_read_v3;
+
+/* The kernels: the one that the library picks for this CPU, and each. */
+static const struct build {
+    const char *label;
+    check_function *check;
+    fill_function *fill;
+    read_function *read;
+} BUILDS[] = {
+    {"the library", __real_const_hex_kernel_check, __real_const_hex_kernel_fill, __real_const_hex_kernel_read},
+    {"the kernel for x86-64-v2", const_hex_kernel_check_v2, const_hex_kernel_fill_v2, const_hex_kernel_read_v2},
+    {"the kernel for x86-64-v3", const_hex_kernel_check_v3, const_hex_kernel_fill_v3, const_hex_kernel_read_v3},
 };
-#ifndef CONST_HEX_ONE_BUILD
-FUNCTIONS(DECLARED, DECLARED_NONNULL, _v2)
-FUNCTIONS(DECLARED, DECLARED_NONNULL, _v3)
+static const struct build *build = BUILDS;
+
+/* By ld's option --wrap, the library calls these. */
+check_function __wrap_const_hex_kernel_check;
+fill_function __wrap_const_hex_kernel_fill;
+read_function __wrap_const_hex_kernel_read;
+bool __wrap_const_hex_kernel_check(const char *text, size_t text_length) { return build->check(text, text_length); }
+void __wrap_const_hex_kernel_fill(const char *bytes, size_t bytes_length, char *text, unsigned is_upper) {
+    build->fill(bytes, bytes_length, text, is_upper);
+}
+bool __wrap_const_hex_kernel_read(const char *text, size_t text_length, char *bytes, size_t bytes_size) {
+    return build->read(text, text_length, bytes, bytes_size);
+}
 #endif
-static const struct build BUILDS[] = {
-    {"the library", FUNCTIONS(POINTER, POINTER, )},
-#ifndef CONST_HEX_ONE_BUILD
-    {"the build for x86-64-v2", FUNCTIONS(POINTER, POINTER_NONNULL, _v2)},
-    {"the build for x86-64-v3", FUNCTIONS(POINTER, POINTER_NONNULL, _v3)},
-#endif
-};
-static const struct build *build;
 
 /* After the last build that this CPU can run. */
 static const struct build *builds_end(void) {
@@ -54,7 +68,7 @@ static const struct build *builds_end(void) {
     __builtin_cpu_init();
     /* Old compilers do not know the name "x86-64-v3". A CPU with these two features has all of it. */
     if (!__builtin_cpu_supports("avx2") || !__builtin_cpu_supports("bmi2")) {
-        puts("This CPU does not support x86-64-v3, so that build is not run.");
+        puts("This CPU does not support x86-64-v3, so its kernel is not run.");
         end--;
     }
 #endif

@@ -13,8 +13,8 @@ static void *work(void *number) {
     for (size_t turn = 0; turn < 2000; turn++) {
         size_t count = turn % COUNT;
         memset(bytes, (int)(turn + (size_t)number), count);
-        if (!build->encode(bytes, count, text, sizeof text, CONST_HEX_PREFIX) ||
-            !build->decode_exact(text, 2 * count + 2, back, count, NULL) || memcmp(bytes, back, count) != 0) {
+        if (!const_hex_encode(bytes, count, text, sizeof text, CONST_HEX_PREFIX) ||
+            !const_hex_decode_exact(text, 2 * count + 2, back, count, NULL) || memcmp(bytes, back, count) != 0) {
             return number;
         }
     }
@@ -49,16 +49,16 @@ static bool read_once(size_t turn, struct output *output) {
     struct const_hex_decoder decoder = {{0, 0}};
     switch (turn % 5) {
     case 0:
-        return build->decode(text, LENGTH, output->buffer.bytes, COUNT, &output->written, &output->error);
+        return const_hex_decode(text, LENGTH, output->buffer.bytes, COUNT, &output->written, &output->error);
     case 1:
-        return build->decode_exact(text, LENGTH, output->buffer.bytes, COUNT, &output->error);
+        return const_hex_decode_exact(text, LENGTH, output->buffer.bytes, COUNT, &output->error);
     case 2:
-        return build->check(text, LENGTH, &output->error);
+        return const_hex_check(text, LENGTH, &output->error);
     case 3:
         update(output, &decoder, text, LENGTH);
-        return build->decoder_finish(&decoder, &output->error);
+        return const_hex_decoder_finish(&decoder, &output->error);
     default:
-        return build->check_raw(text, LENGTH);
+        return const_hex_check_raw(text, LENGTH);
     }
 }
 

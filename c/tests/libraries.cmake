@@ -1,7 +1,7 @@
 # Tests of the files of both libraries.
 set(SHARED $<TARGET_FILE:const_hex>)
 test(library.names_of_parameters NEEDS python3 COMMAND python3 -E ${SOURCE}/names.py
-  ${PROJECT_SOURCE_DIR}/const_hex.h ${SOURCE}/functions.h ${PROJECT_SOURCE_DIR}/../crates/const_hex_c/src/lib.rt)
+  ${PROJECT_SOURCE_DIR}/const_hex.h ${PROJECT_SOURCE_DIR}/../crates/const_hex_c/src/lib.rt)
 # The loader binds all at once, and then closes what it has filled in.
 foreach(row "soname=SONAME.*\\[libconst_hex.so.1\\]" bind_now=BIND_NOW relro=GNU_RELRO
     "stack_is_not_executable=GNU_STACK.* RW ")
@@ -34,21 +34,20 @@ if(NOT CONST_HEX_CARGO)
   test(library.shared_code NEEDS python3 COMMAND ${PROVED} ${SHARED})
   test(library.linked_code NEEDS python3 COMMAND ${PROVED} $<TARGET_FILE:linked_static>)
   # So has what clang makes of the files, for ELF and for Mach-O.
-  set(files dispatch x86_64_v2 x86_64_v3)
+  set(files dispatch functions_x86_64 kernel_x86_64_v2 kernel_x86_64_v3)
   if(NOT processors MATCHES "x86_64|amd64")
-    set(files dispatch aarch64)
+    set(files dispatch functions_aarch64 kernel_aarch64)
   endif()
-  # Each build works on whole vectors. A loop over bytes would return the same.
-  foreach(row "x86_64_v2=pshufb.*xmm=check_nonnull check_raw" "x86_64_v3=vpshufb.*ymm=check_nonnull check_raw"
-      "aarch64=[.]16b=lanes32kernel_check")
-    string(REGEX MATCH "^(.*)=(.*)=(.*)" row "${row}")
+  # Each kernel works on whole vectors. A loop over bytes would return the same.
+  foreach(row "kernel_x86_64_v2=pshufb.*xmm" "kernel_x86_64_v3=vpshufb.*ymm" "kernel_aarch64=[.]16b")
+    string(REGEX MATCH "^(.*)=(.*)" row "${row}")
     set(file ${CMAKE_MATCH_1})
     if(file IN_LIST files)
       test(library.vectors_in_${file} COMMAND sh -ec
         "ar p '$<TARGET_FILE:const_hex_static>' ${file}.S.o > ${file}.o
          '${CMAKE_OBJDUMP}' -d --no-show-raw-insn ${file}.o > ${file}.code
-         for name in encode decode_nonnull decode_exact_nonnull decoder_update_nonnull ${CMAKE_MATCH_3}; do
-           sed -n \"/<const_hex_$name\\(_v[23]\\)\\{0,1\\}>:/,/^$/p\" ${file}.code | grep -q '${CMAKE_MATCH_2}'
+         for name in check fill read; do
+           sed -n \"/<const_hex_kernel_$name\\(_v[23]\\)\\{0,1\\}>:/,/^$/p\" ${file}.code | grep -q '${CMAKE_MATCH_2}'
          done")
     endif()
   endforeach()

@@ -109,7 +109,7 @@ static inline struct output new_output(size_t size, size_t by) {
 
 static inline void update(struct output *output, struct const_hex_decoder *decoder, const char *text,
                           size_t length) {
-    output->result = build->decoder_update(decoder, text, length, output->buffer.bytes, output->buffer.size,
+    output->result = const_hex_decoder_update(decoder, text, length, output->buffer.bytes, output->buffer.size,
                                            &output->written, &output->error);
 }
 
@@ -138,10 +138,10 @@ static inline void judge_bytes(const unsigned char *bytes, size_t count, size_t 
     const void *input = memmove(position(areas.bytes, count, by), bytes, count);
     for (unsigned flags = 0; flags < 8; flags++) {
         size_t size = model_text(bytes, count, flags, wanted), cleared = flags & CONST_HEX_NO_NUL ? 0 : 1;
-        holds(build->encoded_size(count, flags) == size, "encoded_size", count, flags);
+        holds(const_hex_encoded_size(count, flags) == size, "encoded_size", count, flags);
         for (size_t text_size = size > 0 ? size - 1 : 0; text_size <= size + 2; text_size++) {
             struct buffer text = marked(areas.text, text_size, by);
-            bool fits = build->encode(input, count, text.bytes, text_size, flags);
+            bool fits = const_hex_encode(input, count, text.bytes, text_size, flags);
             size_t written = fits ? size : least(cleared, text_size);
             holds(fits == (text_size >= size) && memcmp(text.bytes, fits ? wanted : "", written) == 0 &&
                       is_rest_marked(text, written),
@@ -154,10 +154,10 @@ static inline void judge_bytes(const unsigned char *bytes, size_t count, size_t 
 static inline void judge_decoding(const struct model *model, const char *text, size_t length, size_t size,
                                   size_t by) {
     struct output output = new_output(size, by);
-    output.result = build->decode(text, length, output.buffer.bytes, size, &output.written, &output.error);
+    output.result = const_hex_decode(text, length, output.buffer.bytes, size, &output.written, &output.error);
     judge(output, model, 0, length, model_error(model, 0, size), "decode");
     output = new_output(size, by);
-    output.result = build->decode_exact(text, length, output.buffer.bytes, size, &output.error);
+    output.result = const_hex_decode_exact(text, length, output.buffer.bytes, size, &output.error);
     output.written = output.result ? size : 0;
     judge(output, model, 0, length, model_error(model, size, size), "decode_exact");
 }
@@ -167,9 +167,9 @@ static inline void judge_text(const char *text, size_t length, size_t by) {
     const struct model *model = model_of(text, length, false);
     const char *input = memmove(position(areas.text, length, by), text, length);
     struct const_hex_error error = UNSET;
-    bool result = build->check(input, length, &error);
+    bool result = const_hex_check(input, length, &error);
     holds(agrees(result, error, model->error), "check", length, by);
-    holds(build->check_raw(input, length) == model->is_raw, "check_raw", length, by);
+    holds(const_hex_check_raw(input, length) == model->is_raw, "check_raw", length, by);
     for (size_t size = model->count > 0 ? model->count - 1 : 0; size <= model->count + 2; size++) {
         judge_decoding(model, input, length, size, by);
     }
@@ -210,7 +210,7 @@ static inline void judge_chunks(const char *text, size_t length, const size_t *e
         judge(output, model, model->error.index, length, model->error, "a chunk after an error");
     }
     old = decoder;
-    bool result = build->decoder_finish(&decoder, &error);
+    bool result = const_hex_decoder_finish(&decoder, &error);
     holds(agrees(result, error, model->error), "decoder_finish", length, from);
     holds(memcmp(&decoder, &old, sizeof old) == 0, "an unchanged decoder", length, from);
 }

@@ -1,6 +1,6 @@
-"""Whether the header and functions.h name the parameters of each function as its source in Rattle does.
+"""Whether the header names the parameters of each function as its source in Rattle does.
 
-    names.py HEADER FUNCTIONS SOURCE
+    names.py HEADER SOURCE
 
 No compiler sees if two parameters of one type change places. A slice of the source is two parameters of the
 header, a pointer and its length or size.
@@ -24,9 +24,8 @@ def wanted(parameters):
 
 
 header = functions(sys.argv[1], r"\n\w+ const_hex_(\w+)\(([^)]*)\);")
-macros = functions(sys.argv[2], r"suffix, \w+, (\w+),[\s\\]*\(([^)]*)\),[\s\\]*\(([^)]*)\)")
-source = functions(sys.argv[3], r'extern "C" fn const_hex_(\w+?)(?:_nonnull)?\(([^)]*)\)')
-assert header.keys() == macros.keys() == source.keys() and len(source) == 10, (header, macros, source)
+source = functions(sys.argv[2], r'extern "C" fn const_hex_(\w+?)(?:_nonnull)?\(([^)]*)\)')
+assert header.keys() == source.keys() and len(source) == 10, (header, source)
 for name, (parameters,) in source.items():
-    for found in map(names, header[name] + macros[name]):
-        assert re.fullmatch(wanted(parameters), found), f"{name}: {found}, not {wanted(parameters)}"
+    [found] = map(names, header[name])
+    assert re.fullmatch(wanted(parameters), found), f"{name}: {found}, not {wanted(parameters)}"

@@ -89,7 +89,7 @@ static bool write_text(const struct line *line) {
 /* Where the result is an error for an output that is too large, this library uses only its front. */
 static bool write_into(const struct line *line) {
     struct buffer text = marked(areas.text, line->number, 0);
-    bool fits = build->encode(line->input, line->length, text.bytes, line->number, CONST_HEX_NO_NUL);
+    bool fits = const_hex_encode(line->input, line->length, text.bytes, line->number, CONST_HEX_NO_NUL);
     if (strcmp(line->result_cell, "!InvalidStringLength") == 0) {
         return fits == (line->number > 2 * line->length);
     }
@@ -97,16 +97,16 @@ static bool write_into(const struct line *line) {
 }
 
 static bool digits(const struct line *line) {
-    return build->check_raw(line->input, line->length) == (strcmp(line->result_cell, "true") == 0);
+    return const_hex_check_raw(line->input, line->length) == (strcmp(line->result_cell, "true") == 0);
 }
 
 static bool message(const struct line *line) {
     struct const_hex_error error = UNSET;
     char text[CONST_HEX_MESSAGE_SIZE];
     bool result = line->has_number
-                      ? build->decode_exact(line->input, line->length, areas.decoded, line->number, &error)
-                      : build->check(line->input, line->length, &error);
-    size_t length = build->error_message(&error, text, sizeof text);
+                      ? const_hex_decode_exact(line->input, line->length, areas.decoded, line->number, &error)
+                      : const_hex_check(line->input, line->length, &error);
+    size_t length = const_hex_error_message(&error, text, sizeof text);
     return !result && length == line->result_length && memcmp(text, line->result, length) == 0;
 }
 

@@ -28,14 +28,16 @@ class FrontEnd:
     they change; it tells what `is_jump`, and has the `return_address` of a call, and how to `set_return` to it.
 
     The header promises at most 2,048 bytes of stack. A function of c/asm/dispatch.S and the one that it calls use at
-    most DISPATCH_STACK bytes, and the latter alone STACK.
+    most DISPATCH_STACK bytes, the latter alone STACK, and a kernel KERNEL_STACK of these.
     """
 
     # The registers of arguments, that of the result, and how many of the lowest bytes of others are restored.
     ARGUMENTS, RESULT, KEPT = (), None, {}
     # How many bytes the call itself puts on the stack.
     PUSHED = 0
-    STACK = DISPATCH_STACK = 0
+    STACK = DISPATCH_STACK = KERNEL_STACK = 0
+    # How many bytes of its result's register a bool of a kernel has.
+    BOOL = 1
     # The regions for which NULL is passed.
     ABSENT = ()
     # Lower limits of symbols, and others of them in the search for an invalid character.

@@ -17,7 +17,7 @@ from proof.contracts import (
     require_number, require_value, unchanged, written_region,
 )
 from proof.exploration import named, outcomes, require, require_one_path
-from proof.functions import WITH_ERROR
+from proof.functions import KERNELS
 from proof.induction import prove_class, prove_length, with_nulls
 from proof.linear import lower, symbol
 from proof.memory import Pointer, Region, as_lane, as_value
@@ -294,26 +294,25 @@ class Call:
 
 CALLS = {
     "encoded_size": Call([], _encoded_size_cases()),
-    "encode": Call([Encode(flags) for flags in range(8)], encode_failures(), 128),
-    "decode": Call([Decode(0), Decode(2)], _text_failures("decode"), 128, 2),
-    "decode_exact": Call([DecodeExact(0), DecodeExact(2)], _text_failures("decode_exact"), 128, 2),
-    "decoder_update": Call(updates(8), update_failures(8), 128),
+    "encode": Call([Encode(flags) for flags in range(8)], encode_failures(), 4),
+    "decode": Call([Decode(0), Decode(2)], _text_failures("decode"), 4, 2),
+    "decode_exact": Call([DecodeExact(0), DecodeExact(2)], _text_failures("decode_exact"), 4, 2),
+    "decoder_update": Call(updates(8), update_failures(8), 4),
     "decoder_finish": Call([], finishes(8)),
-    "check": Call([Check(0), Check(2)], _text_failures("check"), 128, 2),
-    "check_raw": Call([CheckRaw()], [], 128),
+    "check": Call([Check(0), Check(2)], _text_failures("check"), 4, 2),
+    "check_raw": Call([CheckRaw()], [], 4),
     "error_message": Call([], messages(Case)),
     "version": Call([], _version()),
 }
 
 
 def function_of(code, call, build):
-    """The name of a function in a build. It says if c/asm/dispatch.S handles a NULL error, and ends in the name of the
-    build if there are two."""
+    """The name of a function in a build. It says if c/asm/dispatch.S handles a NULL error. That of a kernel ends in its
+    level, if there are two, and has the version of the crate for Rust."""
     stem = f"const_hex_{call}"
-    nonnull = f"{stem}_nonnull" if call in WITH_ERROR else stem
-    found = {stem, nonnull, f"{nonnull}_{build}"} & code.object.exported
-    if build.startswith("rust_"):
-        # The name has the version of the crate.
-        found = {name for name in code.object.exported if re.fullmatch(rf"const_hex(_\d+)+_{call}(_v\d)?", name)}
+    found = {stem, f"{stem}_nonnull"} & code.object.exported
+    if call in KERNELS:
+        form = call.replace("kernel_", r"(kernel_|(\d+_)+)")
+        found = {name for name in code.object.exported if re.fullmatch(rf"const_hex_{form}(_v\d)?", name)}
     require(len(found) == 1, f"{stem} is exported as {sorted(found)}")
     return found.pop()

@@ -180,6 +180,7 @@ class Encode(Form):
         arguments = [Pointer("bytes", 0), length, Pointer("text", 0), size, constants(self.flags, 4)]
         state = code.front_end.start(code, symbol, arguments, regions)
         state.ghost |= {"length": length, "read": 0, "written": len(self.begin)}
+        state.contract = self
         return state
 
     def set_aside(self, state):
@@ -205,11 +206,13 @@ class Encode(Form):
 
 
 class CheckRaw(Form):
-    name = "any text"
+    name, is_kernel = "any text", False
 
     def start(self, code, symbol, length):
-        state = code.front_end.start(code, symbol, [Pointer("text", 0), length], [Region("text", length)])
+        stack = code.front_end.KERNEL_STACK if self.is_kernel else None
+        state = code.front_end.start(code, symbol, [Pointer("text", 0), length], [Region("text", length)], stack)
         state.ghost |= {"length": length, "read": 0, "written": 0}
+        state.contract = self
         return state
 
     def are_digits(self, first, count):
@@ -229,7 +232,8 @@ class CheckRaw(Form):
         """Whether one of the next bytes, of which there are at least so many, is surely no digit."""
         left = state.ghost["length"] - state.ghost["read"]
         require(all(factor > 0 for _, factor in terms_of(left)), "it reads beyond the input")
-        return state.path.decide(self.are_digits(state.ghost["read"], constant_of(left))) is False
+        known = state.path.decide(self.are_digits(state.ghost["read"], constant_of(left)))
+        return bool(state.ghost.get("bad")) or known is False
 
     def after_round(self, state, count, written):
         super().after_round(state, count, written)

@@ -28,13 +28,23 @@ class Fork(Exception):
         self.condition = condition
 
 
+class Branch(Exception):
+    """A call has more than one outcome."""
+
+    def __init__(self, states):
+        super().__init__("a call that unknown bytes decide")
+        self.states = states
+
+
 class Code:
     """The instructions of an object, by a front end for its processor, and the addresses of those that were
-    run."""
+    run. Of functions that are not in the object, `callees` has the contracts of some, by their names: each gives the
+    states after a call."""
 
-    def __init__(self, obj, front_end):
+    def __init__(self, obj, front_end, callees={}):
         self.object = obj
         self.front_end = front_end
+        self.callees = {at: callees[name] for at, name in obj.undefined.items() if name in callees}
         self.known = {}
         self.read_sections = set()
         self.run = set()
@@ -51,7 +61,14 @@ class Code:
         return found
 
     def step(self, state):
-        """Runs one instruction. It raises `Fork` or `Split` before it changes anything."""
+        """Runs one instruction, or a call that has a contract. It raises `Branch`, `Fork` or `Split` before it changes
+        anything."""
+        if state.at in self.callees:
+            states = self.callees[state.at](self, state)
+            if len(states) > 1:
+                raise Branch(states)
+            state.__dict__ |= states[0].__dict__
+            return
         instruction = self.at(state.at)
         handler = self.front_end.HANDLERS.get(instruction.mnemonic)
         if handler is None:
@@ -123,6 +140,8 @@ def outcomes(code, state, places=(), may_stay=False):
             waiting += [(other, must_move) for other in split_states(state, split)]
         except Fork as fork:
             waiting += [(other, must_move) for other in sides(code, state, fork.condition)]
+        except Branch as branch:
+            waiting += [(other, False) for other in branch.states]
         except (Fault, TooWide, Unknown) as fault:
             raise Refused(f"{code.shown(state.at)}: {fault}")
 

@@ -1,5 +1,5 @@
 """The functions of const_hex.h, without const_hex_ before their names. This is the one table of them: docs/check
-compares it with the header, c/asm/dispatch.S, the tests for C, rust/capi, the JavaScript, and the pages."""
+compares it with the header, c/asm/dispatch.S, rust/capi, the JavaScript, and the pages."""
 
 from collections import namedtuple
 
@@ -15,5 +15,11 @@ FUNCTIONS = {
     "check_raw": Function("text text_length", False, True, False),
     "error_message": Function("error message message_size", False, False, False),
     "version": Function("", False, True, False),
+}
+# The kernels' functions, which are called with these.
+KERNELS = {
+    "kernel_check": "text text_length",
+    "kernel_fill": "bytes bytes_length text upper",
+    "kernel_read": "text text_length bytes bytes_size",
 }
 WITH_ERROR = {name for name, function in FUNCTIONS.items() if function.error_may_be_null}

@@ -11,7 +11,7 @@ import itertools
 from proof.contracts import KEEPS, SELECTS, cases_of_answer
 from proof.digits import IS_DIGIT
 from proof.exploration import RETURNED, named, outcomes, require, require_one_path
-from proof.linear import DONE, LEFT, Linear, in_terms_of, lower
+from proof.linear import DONE, FIXED, LEFT, Linear, in_terms_of, lower, symbol
 from proof.memory import Pointer, as_lane, as_value
 from proof.values import TooWide, WholeByte, constants, parts_of, unknown
 from untrusted.heads import heads_of
@@ -30,6 +30,10 @@ def _rest(head, form, rest):
 def _forgotten(name, size):
     """Any value at all. If it is used, it is an unknown one."""
     return tuple([unknown("forgotten", name, at) for at in range(size)])
+
+
+def _bytes(state, name):
+    return as_lane(state.registers[name])[: state.size_of(name)]
 
 
 def _depends_on_round(lane):
@@ -154,13 +158,16 @@ class Loop:
         return state
 
     def differences(self, general, state, done):
-        """The registers and cells in which a state at the head is no instance of the general one."""
+        """The cells, and bytes of registers, in which a state at the head is no instance of the general one."""
         wanted = general.replaced("done", done).replaced("left", state.ghost["left"])
         is_open = wanted.frames, wanted.operands
         require(is_open == (state.frames, state.operands), "the calls that are open at the head")
-        for name, value in wanted.registers.items():
-            if state.registers[name] != value and value != _forgotten(name, state.size_of(name)):
-                yield name
+        for name in wanted.registers:
+            ours, theirs = _bytes(wanted, name), _bytes(state, name)
+            require(len(ours) == len(theirs), "registers of another size at the head")
+            for at, byte in enumerate(ours) if ours != theirs else ():
+                if byte is not unknown("forgotten", name, at) and byte != theirs[at]:
+                    yield name, at
         ours, theirs = wanted.memory.written("stack"), state.memory.written("stack")
         for at in {*ours, *theirs}:
             if ours.get(at) is not unknown("forgotten", "stack", at) and ours.get(at) != theirs.get(at):
@@ -177,7 +184,9 @@ class Loop:
             if type(name) is int:
                 state.memory.store(Pointer("stack", name), (unknown("forgotten", "stack", name),))
             else:
-                state.registers[name] = _forgotten(name, state.size_of(name))
+                name, at = name
+                lane = _bytes(state, name)
+                state.registers[name] = (*lane[:at], unknown("forgotten", name, at), *lane[at + 1 :])
 
     def met(self, arrivals):
         """The first arrival, without what is different in others."""
@@ -236,22 +245,26 @@ def judged(code, form, end):
 
 def prove_class(code, function, form, size, rest):
     """Proves a form for all lengths that leave this rest by rounds of `size` bytes. Gives how many states are
-    judged."""
-    begin = form.start(code, function, LEFT * size + rest)
+    judged. Where a kernel is called, the input has no rounds but those of the search."""
+    begin = form.start(code, function, (symbol(FIXED) if code.callees else LEFT) * size + rest)
     begin.ghost["left"] = LEFT
     heads = {head.at: head for head in heads_of(code, function, form, size)}
     for head in heads.values():
         # The limits of symbols are for rounds of this size, and front ends have others for searches.
         is_size = head.size == size or head.is_search and head.size > 0 and size % head.size == 0
         require(is_size and head.visits > 0, "a loop whose rounds are not those of the class, or a part of them")
-    arrivals, judged_states = collections.defaultdict(list), 0
+    arrivals, accepted, judged_states = collections.defaultdict(list), [], 0
     for state in outcomes(code, begin.copy(), heads):
-        require(state.at is not RETURNED, "it returns before the first round")
-        arrivals[state.at].append(state)
+        if state.at is RETURNED:
+            require(code.callees, "it returns before the first round")
+            accepted += judged(code, form, state)
+            judged_states += 1
+        else:
+            arrivals[state.at].append(state)
     loops = [head for head in heads.values() if not head.is_search]
     with named(code, "on the way from", begin.at):
         first = [state for head in loops for state in arrivals[head.at]]
-        require_one_path(first)
+        require_one_path([*first, *accepted])
         require(not any(state.selects for state in first), SELECTS)
     for at, states in arrivals.items():
         with named(code, "on the way to the loop at", at):

@@ -1,9 +1,9 @@
-"""The functions that the Rust crate calls, and what has to be proved of each.
+"""The functions of a kernel, which the Rust crate calls and the functions for C do, and what has to be proved of each.
 
 They are those of crates/const_hex_rust, whose lengths the caller has compared. Which register has which argument is
 what rust/src/kernel/machine_code.rs declares: a slice is a pointer and a length, and `upper` a number of 32 bits. The
 output may not be initialized, since Rust passes the spare capacity of a vector: no byte of it is read unless this call
-has written it.
+has written it. What callees.py relies on, for the functions for C, is this contract.
 """
 
 from proof.cases import Call
@@ -15,7 +15,7 @@ from proof.values import constants
 
 def require_bool(code, state):
     """Rust takes the result on x86-64 from al, and on AArch64 from all of w0."""
-    size = 4 if code.front_end.RESULT == "x0" else 1
+    size = code.front_end.BOOL
     found = code.front_end.result(state, size)
     is_bool = any(is_same(state.path, found, constants(wanted, size)) for wanted in (0, 1))
     require(is_bool, "the result is neither true nor false")
@@ -33,7 +33,7 @@ class Fill(Encode):
     def start(self, code, symbol, length):
         arguments = [Pointer("bytes", 0), length, Pointer("text", 0), constants(self.upper, 4)]
         regions = [Region("bytes", length), Region("text", length * 2, True, is_new=True)]
-        state = code.front_end.start(code, symbol, arguments, regions)
+        state = code.front_end.start(code, symbol, arguments, regions, code.front_end.KERNEL_STACK)
         state.ghost |= {"length": length, "read": 0, "written": 0}
         return state
 
@@ -43,6 +43,8 @@ class Fill(Encode):
 
 
 class Check(CheckRaw):
+    is_kernel = True
+
     def ends(self, code, state):
         require_bool(code, state)
         return super().ends(code, state)
@@ -60,7 +62,7 @@ class Read(DecodeExact):
     def start(self, code, symbol, length):
         arguments, (text, output) = self.arguments(length)
         output.is_new = True
-        state = code.front_end.start(code, symbol, arguments, [text, output])
+        state = code.front_end.start(code, symbol, arguments, [text, output], code.front_end.KERNEL_STACK)
         state.ghost |= {"length": length, "read": 0, "written": 0}
         return state
 
@@ -77,7 +79,7 @@ class Read(DecodeExact):
 
 
 CALLS = {
-    "fill": Call([Fill(0), Fill(1)], [], 128),
-    "check": Call([Check()], [], 128),
-    "read": Call([Read()], [], 128, 2),
+    "kernel_fill": Call([Fill(0), Fill(1)], [], 128),
+    "kernel_check": Call([Check()], [], 128),
+    "kernel_read": Call([Read()], [], 128, 2),
 }

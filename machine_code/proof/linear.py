@@ -16,8 +16,9 @@ from proof.values import CONSTANTS, WholeByte, tabulate, unknown
 MOST_TURNS = 1 << 53
 GREATEST = (1 << 64) - 1
 GREATEST_SIGNED = (1 << 63) - 1
-# The names of decimal digits begin with this (messages.py). They stay what they are.
-DIGIT = "digit "
+# The names of decimal digits begin with this (messages.py). They stay what they are, and so does FIXED, by which the
+# length of an input grows.
+DIGIT, FIXED = "digit ", "fixed"
 _limits = {}
 _lower_limits = {}
 _count = itertools.count()
@@ -32,7 +33,7 @@ class Split(Exception):
     odd."""
 
     def __init__(self, *symbols, by_parity=False):
-        if any(name.startswith(DIGIT) for name in symbols):
+        if any(name.startswith((DIGIT, FIXED)) for name in symbols):
             raise Unknown(f"a question of {' and '.join(symbols)}")
         super().__init__(f"a question of {' and '.join(symbols)}")
         self.symbols = symbols

@@ -9,7 +9,9 @@ import copy
 import itertools
 from collections import namedtuple
 
-from proof.linear import Linear, Unknown, constant_of, is_surely_below, linear, most_of, most_value, replaced, terms_of
+from proof.linear import (
+    FIXED, Linear, Unknown, constant_of, is_surely_below, linear, most_of, most_value, replaced, terms_of,
+)
 from proof.values import CONSTANTS, WholeByte, constants, unknown
 
 _count = itertools.count(1)
@@ -93,13 +95,13 @@ class Region:
         return other
 
     def old(self, offset):
-        """The byte at the start: its own unknown. A name may contain `done` alone, and so means one byte for
+        """The byte at the start: its own unknown. A name may contain `done` and FIXED alone, and so means one byte for
         good."""
         if self.is_new:
             raise Fault(f"{self.name}[{offset}] is read before it is written")
         if self.content:
             return self.content[offset]
-        if any(name != "done" for name, _ in terms_of(offset)):
+        if any(name not in ("done", FIXED) for name, _ in terms_of(offset)):
             raise Fault(f"{self.name}[{offset}] is counted from a place that is still unknown")
         if self.calls and offset < self.changed_below:
             return unknown("after the call", self.calls, offset)

@@ -8,14 +8,15 @@ binding, its visibility and its section; each name that the object leaves to oth
 import re
 import struct
 
-from proof.functions import FUNCTIONS, WITH_ERROR
+from proof.functions import FUNCTIONS, KERNELS, WITH_ERROR
 from reading.objects import ADDENDS, ALLOCATED, EMPTY, EXECUTABLE, SYMBOLS, WRITABLE, Symbol, whole
 
 X86_64, AARCH64 = 62, 183
 CONTENT, STRINGS = 1, 3
 DISPATCH, RUST = "dispatch", "rust_"
 # Of each processor: the builds of the archive for C, and those of the Rust crate.
-BUILDS = {X86_64: ({DISPATCH, "v2", "v3"}, {"rust_v2", "rust_v3"}), AARCH64: ({DISPATCH, "aarch64"}, {"rust_aarch64"})}
+BUILDS = {X86_64: ({DISPATCH, "functions_x86_64", "kernel_v2", "kernel_v3"}, {"rust_v2", "rust_v3"}),
+          AARCH64: ({DISPATCH, "functions_aarch64", "kernel_aarch64"}, {"rust_aarch64"})}
 # A section that is loaded, by its type and its flags, is named after what it has.
 NAME = r"const_hex_\w+"
 LOADED = {
@@ -44,27 +45,25 @@ def _undefined(name):
     return name, Symbol("no kind", "global", "default", None)
 
 
-def _names(stem):
-    """The functions of the header in the objects that a dispatcher calls."""
-    return [f"const_hex_{name}{'_nonnull' * (name in WITH_ERROR)}{stem}" for name in FUNCTIONS]
-
-
 def symbols_of(build, machine, seen):
     """The symbols of a build that others see. The names of the Rust crate's have its version, which is taken from
     those that are seen."""
-    if build.startswith(RUST):
-        end = {"v2": "_v2", "v3": "_v3"}.get(build.removeprefix(RUST), "")
-        prefix = next((match[0] for match in map(re.compile(r"const_hex_(\d+_)+").match, seen) if match), "const_hex_0_")
-        return dict(_function(f"{prefix}{name}{end}", "hidden") for name in ("check", "fill", "read"))
+    nonnull = [f"const_hex_{name}_nonnull" for name in FUNCTIONS if name in WITH_ERROR]
+    called = [f"const_hex_{name}" for name in KERNELS]
+    if build.startswith("functions_"):
+        names = [_function(f"const_hex_{name}") for name in FUNCTIONS if name not in WITH_ERROR]
+        return dict([*names, *(_function(name, "hidden") for name in nonnull), *map(_undefined, called)])
     if build != DISPATCH:
-        names = _names("" if build == "aarch64" else f"_{build}")
-        is_open = {name for name in names if build == "aarch64" and not name.endswith("_nonnull")}
-        return dict(_function(name, "default" if name in is_open else "hidden") for name in names)
-    if machine == AARCH64:
-        own, others = WITH_ERROR, [f"const_hex_{name}_nonnull" for name in WITH_ERROR]
-    else:
-        own, others = FUNCTIONS, _names("_v2") + _names("_v3")
-    return dict([*(_function(f"const_hex_{name}") for name in own), *map(_undefined, others)])
+        kind, _, level = build.partition("_")
+        versions = filter(None, map(re.compile(r"const_hex_(\d+_)+").match, seen))
+        prefix = next((match[0] for match in versions), "") if f"{kind}_" == RUST else "const_hex_kernel_"
+        end = "" if level == "aarch64" else f"_{level}"
+        return dict(_function(f"{prefix}{name.removeprefix('kernel_')}{end}", "hidden") for name in KERNELS)
+    own, others = [_function(f"const_hex_{name}") for name in WITH_ERROR], nonnull
+    if machine == X86_64:
+        own += [_function(name, "hidden") for name in called]
+        others = others + [f"{name}{end}" for name in called for end in ("_v2", "_v3")]
+    return dict([*own, *map(_undefined, others)])
 
 
 def _refuse(what):

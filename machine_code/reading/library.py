@@ -7,7 +7,7 @@ import pathlib
 import re
 
 from isa.wasm import cases as of_module, front_end
-from proof import kernels
+from proof import callees, kernels
 from proof.cases import CALLS
 from proof.exploration import Code
 from reading import archive as archives, expected, linked, module, objects
@@ -15,10 +15,11 @@ from reading.expected import DISPATCH
 
 PROCESSORS = {62: "x86_64", 183: "aarch64"}  # by their number in ELF
 WASM = "wasm"
-# The builds by the names of the files in c/asm. CMake keeps the end of a name, and compilers replace it. Those of the
+# The builds by the names of the files in c/asm. CMake keeps the end of a name, and compilers replace it. Kernels of the
 # Rust crate are in rust/src/asm.
-BUILDS = {"x86_64_v2": "v2", "x86_64_v3": "v3", "aarch64": "aarch64", "dispatch": DISPATCH}
-BUILDS |= {f"rust_{name}": f"rust_{build}" for name, build in BUILDS.items() if build != DISPATCH}
+BUILDS = {DISPATCH: DISPATCH, "functions_x86_64": "functions_x86_64", "functions_aarch64": "functions_aarch64"}
+BUILDS |= {f"{kind}_{name}": f"{kind}_{build}" for kind in ("kernel", "rust")
+           for name, build in (("x86_64_v2", "v2"), ("x86_64_v3", "v3"), ("aarch64", "aarch64"))}
 MEMBER = re.compile(r"(.*?)(\.S)?\.o")
 
 
@@ -64,7 +65,7 @@ def builds_of(archive):
 
 
 def calls_of(build):
-    return of_module.CALLS if build == WASM else kernels.CALLS if build.startswith("rust_") else CALLS
+    return of_module.CALLS if build == WASM else kernels.CALLS if build.startswith(("kernel_", "rust_")) else CALLS
 
 
 def processor_of(obj):
@@ -76,8 +77,9 @@ def code_from(content, build):
     """The code of a build, or that of the dispatcher, from the bytes of an object; or that of a module."""
     if build == WASM:
         return Code(module.parse(content, "memory"), front_end)
-    obj = objects.read(content)
-    return Code(obj, importlib.import_module(f"isa.{PROCESSORS[obj.machine]}.front_end").front_end_of(build))
+    obj, contracts = objects.read(content), callees.CONTRACTS if build.startswith("functions_") else {}
+    return Code(obj, importlib.import_module(f"isa.{PROCESSORS[obj.machine]}.front_end").front_end_of(build),
+                contracts)
 
 
 def code_of(archive, build):

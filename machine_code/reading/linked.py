@@ -20,19 +20,22 @@ from reading.objects import PAGE
 TOP = pathlib.Path(__file__).resolve().parents[2]
 ASM, RUST = TOP / "c" / "asm", TOP / "rust" / "src" / "asm"
 X86_64, AARCH64 = 62, 183
-# Of each processor: its name for the preprocessor, its assembler, the files of the library for C, which are one, and
-# those of the Rust crate, with their builds.
+# Of each processor: its name for the preprocessor, its assembler, and the files of the library for C, which are one, or
+# of the kernels of the Rust crate, by their builds.
 ASSEMBLERS = {X86_64: ("__x86_64__", ["as", "--64"]), AARCH64: ("__aarch64__", ["aarch64-linux-gnu-as"])}
-FILES = {X86_64: {"dispatch": "dispatch", "v2": "x86_64_v2", "v3": "x86_64_v3"},
-         AARCH64: {"dispatch": "dispatch", "aarch64": "aarch64"}}
-NAME = re.compile(r"const_hex_(\d+_)*|(_nonnull)?(_v[23])?$")  # what a symbol has beside the name of a call
+FILES = {X86_64: {"dispatch": "dispatch", "functions_x86_64": "functions_x86_64", "kernel_v2": "kernel_x86_64_v2",
+                  "kernel_v3": "kernel_x86_64_v3", "rust_v2": "x86_64_v2", "rust_v3": "x86_64_v3"},
+         AARCH64: {"dispatch": "dispatch", "functions_aarch64": "functions_aarch64",
+                   "kernel_aarch64": "kernel_aarch64", "rust_aarch64": "aarch64"}}
+# A symbol of a kernel for Rust, and what others have beside the name of a call.
+OF_RUST, NAME = re.compile(r"const_hex_(\d+_)+"), re.compile(r"^const_hex_|(_nonnull)?(_v[23])?$")
 
 
 @functools.lru_cache
 def assembled(machine, build):
     """The object of a build, from the files of this repository."""
     name, command = ASSEMBLERS[machine]
-    file = FILES[machine][build.removeprefix("rust_")]
+    file = FILES[machine][build]
     if build.startswith("rust_"):
         text = b"".join((RUST / f"{part}.s").read_bytes() for part in ("elf", file, "end"))
     else:
@@ -44,7 +47,7 @@ def assembled(machine, build):
 
 
 def builds_of(machine, is_rust):
-    return [f"rust_{build}" for build in FILES[machine] if build != "dispatch"] if is_rust else [*FILES[machine]]
+    return [build for build in FILES[machine] if build.startswith("rust_") == is_rust]
 
 
 def functions_in(image):
@@ -52,7 +55,7 @@ def functions_in(image):
     for is_rust in (False, True):
         for build in builds_of(image.machine, is_rust) if image.machine in FILES else ():
             for symbol in sorted(assembled(image.machine, build).exported & image.places.keys()):
-                yield NAME.sub("", symbol), build, symbol
+                yield NAME.sub("", OF_RUST.sub("const_hex_kernel_", symbol)), build, symbol
 
 
 class Comparison:

@@ -29,12 +29,12 @@ needs_module = unittest.skipUnless(HAS_MODULE, "node or wat2wasm is missing")
 
 def code_of(build, archive=None):
     """The code of a build, or that of the dispatcher."""
-    own = KERNELS if build.startswith("rust_") else ARCHIVE
-    return library.code_of(archive or {"aarch64": AARCH64, library.WASM: MODULE}.get(build, own), build)
+    own = KERNELS if build.startswith("rust_") else AARCH64 if build.endswith("aarch64") else ARCHIVE
+    return library.code_of(archive or {library.WASM: MODULE}.get(build, own), build)
 
 
-NEEDS = {"aarch64": needs_aarch64, "rust_aarch64": needs_aarch64, "dispatch for AArch64": needs_aarch64,
-         library.WASM: needs_module}
+NEEDS = dict.fromkeys(("functions_aarch64", "kernel_aarch64", "rust_aarch64", "dispatch for AArch64"), needs_aarch64)
+NEEDS[library.WASM] = needs_module
 
 
 def add_tests(case, check, rows):

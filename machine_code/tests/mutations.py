@@ -12,10 +12,10 @@ from tests.library import MODULE, TOP, code_of
 ASM, RUST = TOP / "c" / "asm", TOP / "rust" / "src" / "asm"
 COMPILERS = {62: "cc", 183: "aarch64-linux-gnu-gcc"}
 # The files of a build, and its processor.
-FILES = {"v2": ([ASM / "x86_64_v2.S"], 62), "v3": ([ASM / "x86_64_v3.S"], 62), "aarch64": ([ASM / "aarch64.S"], 183)}
-FILES |= {"dispatch": ([ASM / "dispatch.S"], 62), "dispatch for AArch64": ([ASM / "dispatch.S"], 183)}
-FILES |= {f"rust_{build}": ([RUST / "elf.s", *[RUST / f"{path.stem}.s" for path in paths], RUST / "end.s"], processor)
-          for build, (paths, processor) in FILES.items() if "dispatch" not in build}
+FILES = {build: ([ASM / f"{build.split()[0]}.S"], processor) for build, processor in (
+    ("functions_x86_64", 62), ("functions_aarch64", 183), ("dispatch", 62), ("dispatch for AArch64", 183))}
+FILES |= {build: ([RUST / f"{part}.s" for part in ("elf", name, "end")], processor) for build, name, processor in (
+    ("rust_v2", "x86_64_v2", 62), ("rust_v3", "x86_64_v3", 62), ("rust_aarch64", "aarch64", 183))}
 
 
 def assembled_object(machine, text):
@@ -50,7 +50,7 @@ def edited(build, call, old, new, function=None):
     if build == library.WASM:
         return _edited_module(function or f"const_hex_{call}", old, new)
     text, machine = _source(build), FILES[build][1]
-    function = function or rf"const_hex(_\d+)*_{call}(_nonnull)?(_v\d)?"
+    function = function or rf"const_hex(_\d+)*_{call.replace('kernel_', '')}(_nonnull)?(_v\d)?"
     starts = re.finditer(rf"^(function|constant|\.macro) (SYMBOL\()?{function}\b.*\n", text, re.M)
     found = [text.find(old, start.end(), text.index("\n\n", start.end())) for start in starts]
     at = next(at for at in found if at >= 0)

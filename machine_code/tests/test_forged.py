@@ -12,10 +12,11 @@ from reading import library
 from tests.library import ARCHIVE, MODULE, add_tests, needs_module
 from tests.mutations import ASM, COMPILERS
 
-V2, V3, ARM, DISPATCH = "x86_64_v2", "x86_64_v3", "aarch64", "dispatch"
-MEMBERS = DISPATCH, V2, V3, ARM
+C, V2, V3, DISPATCH = "functions_x86_64", "kernel_x86_64_v2", "kernel_x86_64_v3", "dispatch"
+ARM = "functions_aarch64"
+MEMBERS = DISPATCH, C, V2, V3, ARM, "kernel_aarch64"
 FALSE = "mov eax, 1; ret"
-HIDDEN, SECTION = "hidden SYMBOL(const_hex_version_v2)", "the section '{}' of type"
+HIDDEN, SECTION = "hidden SYMBOL(const_hex_check_nonnull)", "the section '{}' of type"
 
 
 def symbol(name, found):
@@ -48,26 +49,31 @@ FORGED = [
     ("a variable of libc", V2, "", ".globl stdout; .bss; stdout: .quad 0", symbol("stdout", "global")),
     ("a common symbol", V2, "", ".comm environ, 8", symbol("environ", "global")),
     ("a number that is a symbol", V2, "", ".globl _start; _start = 0", symbol("_start", "global")),
-    ("a weak function of a build", V3, "hidden SYMBOL(const_hex_encode_v3)", ".weak const_hex_encode_v3",
-     symbol("const_hex_encode_v3", "weak, default, function")),
+    ("a weak function", C, "exported SYMBOL(const_hex_encode)", ".weak const_hex_encode",
+     symbol("const_hex_encode", "weak, default, function")),
     ("a weak function of the dispatcher", DISPATCH, "exported \\name", ".weak \\name",
      symbol("const_hex_check", "weak, default, function")),
-    ("a function of a build that others may replace", V2, HIDDEN, "exported SYMBOL(const_hex_version_v2)",
-     symbol("const_hex_version_v2", "global, default, function")),
-    ("a protected function", V2, HIDDEN, f"{HIDDEN}; .protected const_hex_version_v2",
-     symbol("const_hex_version_v2", "global, protected, function")),
+    ("a function that others may replace", C, HIDDEN, "exported SYMBOL(const_hex_check_nonnull)",
+     symbol("const_hex_check_nonnull", "global, default, function")),
+    ("a kernel's function that others may replace", DISPATCH, "hidden \\name", "exported \\name",
+     symbol("const_hex_kernel_check", "global, default, function")),
+    ("a protected function", C, HIDDEN, f"{HIDDEN}; .protected const_hex_check_nonnull",
+     symbol("const_hex_check_nonnull", "global, protected, function")),
     ("a hidden function of the dispatcher", DISPATCH, "exported \\name", "hidden \\name",
      symbol("const_hex_check", "global, hidden, function")),
-    ("a function that is missing", V2, HIDDEN, "", symbol("const_hex_version_v2", "nothing")),
-    ("a function that is data", V2, "end SYMBOL(const_hex_version_v2)", ".type const_hex_version_v2, @object",
-     symbol("const_hex_version_v2", "global, hidden, object")),
-    ("another function by a name", V2, "function SYMBOL(const_hex_version_v2)",
-     ".purgem end; .macro end name; .endm; .set const_hex_version_v2, const_hex_check_raw_v2; function const_hex_other",
-     symbol("const_hex_version_v2", "global, hidden, function in .text.const_hex_check_raw_v2")),
-    ("a function that begins later", V2, "function SYMBOL(const_hex_version_v2)",
-     ".section .text.const_hex_version_v2, "
-     "\"ax\", %progbits; nop; .type const_hex_version_v2, %function; const_hex_version_v2:",
-     symbol("const_hex_version_v2", "global, hidden, function in .text.const_hex_version_v2 at 0x1")),
+    ("a function that is missing", C, HIDDEN, "", symbol("const_hex_check_nonnull", "nothing")),
+    ("a kernel of another version", V2, "#define const_hex_1_0_0_fill_v2 SYMBOL(const_hex_kernel_fill_v2)", "",
+     symbol("const_hex_1_0_0_fill_v2", "global, hidden, function")),
+    ("a function that is data", C, "end SYMBOL(const_hex_version)", ".type const_hex_version, @object",
+     symbol("const_hex_version", "global, default, object")),
+    ("another function by a name", C, "function SYMBOL(const_hex_version)",
+     ".purgem end; .macro end name; .endm; .set const_hex_version, const_hex_check_raw; function const_hex_other",
+     symbol("const_hex_version", "global, default, function in .text.const_hex_check_raw")),
+    ("a function that begins later", C, "function SYMBOL(const_hex_version)",
+     ".section .text.const_hex_version, \"ax\", %progbits; nop; .type const_hex_version, %function; const_hex_version:",
+     symbol("const_hex_version", "global, default, function in .text.const_hex_version at 0x1")),
+    ("another function that is called", C, "call SYMBOL(const_hex_kernel_fill)", "call SYMBOL(puts)",
+     symbol("const_hex_kernel_fill", "nothing")),
     ("a name of another object", V2, "", ".section .rodata.const_hex_constant_99_v2, \"a\"; .quad memcpy",
      symbol("memcpy", "global, default, no kind that is not defined")),
     ("a weak name of another object", V2, "",
@@ -115,13 +121,14 @@ FORGED = [
 
 def _assembled(folder, member, old="", new=""):
     text, new = (ASM / f"{member}.S").read_text(), new.replace("; ", "\n")
+    text = re.sub("  +", " ", text)
     if old:
         assert old in text, old
         text = re.sub(re.escape(old) + r"$", lambda found: new, text, flags=re.M)
     else:
         text += f"\n.intel_syntax noprefix\n.text\n{new}\n"
     command = [COMPILERS[62], "-c", "-x", "assembler-with-cpp", "-I", ASM, "-o", folder / f"{member}.o", "-"]
-    subprocess.run(command, input=text.encode(), check=True, capture_output=True)
+    subprocess.run(command, input=text.encode(), check=True, capture_output=True, cwd=ASM)
 
 
 def _archive(folder, *rest, command="rcs", members=MEMBERS):
@@ -310,7 +317,7 @@ class TestForged(unittest.TestCase):
 
     def test_right_archives(self):
         folder = self.folder()
-        builds = ["dispatch", "v2", "v3"]
+        builds = ["dispatch", "functions_x86_64", "kernel_v2", "kernel_v3"]
         self.assertEqual(library.builds_of(ARCHIVE), builds)
         self.assertEqual(library.builds_of(_archive(folder)), builds)
         for command in (["clang", "-g"], ["cc", "-g", "-gz"], ["cc", "-Wa,-mx86-used-note=yes"]):

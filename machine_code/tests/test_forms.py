@@ -37,7 +37,7 @@ def is_start(state, text, decoder):
 class TestForms(unittest.TestCase):
     @classmethod
     def setUpClass(cls):
-        cls.code, cls.library, cls.some = code_of("v2"), library(), random.Random(1)
+        cls.code, cls.library, cls.some = code_of("functions_x86_64"), library(), random.Random(1)
 
     def text(self):
         start = self.some.choice(["", "0", "0x", "0X", "x", "00", "0x0x"])
@@ -45,7 +45,7 @@ class TestForms(unittest.TestCase):
 
     def assert_one_form(self, call, text, decoder=b""):
         forms = [form for form in CALLS[call].forms if form.shortest <= len(text)]
-        states = [form.start(self.code, f"const_hex_{call}_nonnull_v2", len(text)) for form in forms]
+        states = [form.start(self.code, f"const_hex_{call}_nonnull", len(text)) for form in forms]
         self.assertEqual(sum(is_start(state, text, decoder) for state in states), 1, (text, decoder))
 
     def test_texts(self):

@@ -18,8 +18,9 @@ HAS_CLANG = shutil.which("clang") is not None
 SYSTEMS = [("x86_64", system, directives) for system, directives in (
     ("linux-gnu", "elf"), ("unknown-freebsd", "elf"), ("apple-macos", "mach_o"), ("pc-windows-msvc", "coff"))]
 SYSTEMS += [*(("aarch64", *row) for _, *row in SYSTEMS), ("aarch64", "apple-ios", "mach_o")]
-FILES = {"x86_64": ("x86_64_v2", "x86_64_v3"), "aarch64": ("aarch64",)}
-CHANGES = 200
+KERNELS = {"x86_64": ("x86_64_v2", "x86_64_v3"), "aarch64": ("aarch64",)}
+# How many functions there are for C, with those that others do not see.
+COUNTS, CHANGES = {"x86_64": 24, "aarch64": 18}, 200
 
 
 def shared_library(folder, file, machine, *options, sources=()):
@@ -55,13 +56,14 @@ class TestFormats(Linked):
         if not HAS_CLANG:
             self.skipTest("clang is missing")
         found = {}
-        for name in FILES[processor] if is_rust else (*FILES[processor], "dispatch"):
+        of_c = "dispatch", f"functions_{processor}", *(f"kernel_{name}" for name in KERNELS[processor])
+        for name in KERNELS[processor] if is_rust else of_c:
             parts = [RUST / f"{part}.s" for part in (directives, name, "end")] if is_rust else [ASM / f"{name}.S"]
             command = ["clang", f"--target={processor}-{system}", "-Werror", "-c", "-I", ASM]
             command += ["-o", self.folder / "object.o", "-x", "assembler" if is_rust else "assembler-with-cpp", "-"]
-            subprocess.run(command, input=b"".join(part.read_bytes() for part in parts), check=True)
+            subprocess.run(command, input=b"".join(part.read_bytes() for part in parts), check=True, cwd=ASM)
             found |= faults(self.folder / "object.o")
-        count = 3 * len(FILES[processor]) if is_rust else 30 if processor == "x86_64" else 15
+        count = 3 * len(KERNELS[processor]) if is_rust else COUNTS[processor]
         self.assertEqual((len(found), set(found.values())), (count, {None}))
 
 
@@ -100,7 +102,7 @@ add_tests(TestFormats, TestFormats.accept, [
 
 class TestFiles(Linked):
     def test_shared_libraries(self):
-        for file, machine, count in ((ARCHIVE, 62, 30), (AARCH64, 183, 15)):
+        for file, machine, count in ((ARCHIVE, 62, COUNTS["x86_64"]), (AARCH64, 183, COUNTS["aarch64"])):
             if pathlib.Path(file).exists():
                 found = faults(shared_library(self.folder, file, machine))
                 self.assertEqual((len(found), set(found.values())), (count, {None}))
@@ -110,12 +112,12 @@ class TestFiles(Linked):
         file = shared_library(self.folder, ARCHIVE, 62, "-s")
         self.assertEqual((len(faults(file)), fault(file)), (10, None))
         data = bytearray(file.read_bytes())
-        image, obj = images.read(bytes(data)), linked.assembled(62, "v3")
-        content = bytes(obj.section_at(obj.symbols["const_hex_encode_v3"]).content[:40])
+        image, obj = images.read(bytes(data)), linked.assembled(62, "functions_x86_64")
+        content = bytes(obj.section_at(obj.symbols["const_hex_decode_nonnull"]).content[:40])
         data[data.rindex(content) + 20] ^= 1
         file.write_bytes(data)
         self.assertEqual(image.is_library, True)
-        self.assertRegex(fault(file), r"\.text\.const_hex_encode_v3 at 0x\w+: another byte at 0x14")
+        self.assertRegex(fault(file), r"\.text\.const_hex_decode_nonnull at 0x\w+: another byte at 0x14")
 
     def test_program(self):
         """One that leaves out what it does not use, and one in which another object has a function of the name."""
@@ -125,7 +127,7 @@ class TestFiles(Linked):
         command = ["cc", "-I", TOP / "c", "-o", program, source]
         subprocess.run([*command, ARCHIVE, "-Wl,--gc-sections"], check=True)
         found = faults(program)
-        self.assertEqual(({call for call, _ in found}, set(found.values())), ({"encode"}, {None}))
+        self.assertEqual(({call for call, _ in found}, set(found.values())), ({"encode", "kernel_fill"}, {None}))
         other = self.folder / "other.c"
         other.write_text("int const_hex_encode(void) { return 1; }")
         subprocess.run([*command, other, ARCHIVE], check=True)
@@ -148,7 +150,7 @@ class TestFiles(Linked):
 
     def test_archive_of_rust(self):
         """The functions in its members count, but not those for C, of which nothing says that a program takes them."""
-        objects = [TOP / "build" / "rust" / f"rust_{name}.o" for name in FILES["x86_64"]]
+        objects = [TOP / "build" / "rust" / f"rust_{name}.o" for name in KERNELS["x86_64"]]
         rlib, metadata = self.folder / "libconst_hex.rlib", self.folder / "lib.rmeta"
         metadata.write_bytes(b"")
         subprocess.run(["ar", "rcs", rlib, metadata, *objects], check=True)
@@ -160,7 +162,7 @@ class TestFiles(Linked):
 
     def test_archives_of_rust_with_other_functions(self):
         """A member that is read as an object, in which a function would be taken; and an index that names another."""
-        objects = [TOP / "build" / "rust" / f"rust_{name}.o" for name in FILES["x86_64"]]
+        objects = [TOP / "build" / "rust" / f"rust_{name}.o" for name in KERNELS["x86_64"]]
         name = next(name for name in linked.assembled(62, "rust_v2").exported if "check" in name)
         rlib, metadata, member = (self.folder / file for file in ("libconst_hex.rlib", "lib.rmeta", "member.o"))
         metadata.write_bytes(b"")
@@ -289,7 +291,7 @@ def _is_indirect(data, entry):
 
 
 def _lies_later(data, entry):
-    data[entry + 8] += 16
+    data[entry + 8] += 32
 
 
 def _is_elsewhere(data, entry):
@@ -307,7 +309,7 @@ def _for_the_loader_alone(change):
         table = next(header for header in headers if header[2] == 11)
         for entry in range(table[5], table[5] + table[6], 24):
             name = headers[table[7]][5] + struct.unpack_from("<I", data, entry)[0]
-            data[entry + 8] += 16 * data[name:].startswith(b"const_hex_decode\0")
+            data[entry + 8] += 32 * data[name:].startswith(b"const_hex_decode\0")
         [offset] = [header[2] for header in segments(data) if header[0] == 2]
         change(data, table[0], offset)
         return bytes(data)
@@ -345,19 +347,18 @@ def _constants_that_end_early(header):
 
 def _other_call(data):
     """A call of a function goes to another one."""
-    image, obj = images.read(data), linked.assembled(62, "v3")
-    section = obj.section_at(obj.symbols["const_hex_decode_exact_nonnull_v3"])
-    [address] = image.places["const_hex_decode_exact_nonnull_v3"]
-    calls = [(offset, symbol) for offset, _, symbol, _ in section.references if obj.section_at(symbol).is_code]
-    names = [name for _, symbol in calls for name, place in obj.symbols.items() if place == symbol and name[0] != "."]
-    offset, _ = calls[names.index("const_hex_small_input_decode_pairs_v3")]
-    [target] = image.places["const_hex_small_input_decode_small_v3"]
+    image, obj = images.read(data), linked.assembled(62, "functions_x86_64")
+    section = obj.section_at(obj.symbols["const_hex_decode_exact_nonnull"])
+    [address] = image.places["const_hex_decode_exact_nonnull"]
+    [offset] = [offset for offset, _, symbol, _ in section.references
+                if obj.undefined.get(symbol) == "const_hex_kernel_read"]
+    [target] = image.places["const_hex_kernel_check"]
     piece, _ = image.read(address, 1)
     start = in_file(data, piece, address) + offset
     return data[:start] + struct.pack("<i", target - address - offset - 4) + data[start + 4 :]
 
 
-LATER = r"\.text\.const_hex_decode at 0x\w+: another byte at 0x0"
+LATER = r"\.text\.const_hex_decode at 0x\w+: another byte at 0x"
 WRITTEN = "is not aligned, or cannot be run, or can be written"
 # What is changed in a shared library, how, and what the tool says.
 ROWS = [
@@ -368,11 +369,10 @@ ROWS = [
     ("a function that the loader picks", _with_symbol(_is_indirect),
      "const_hex_decode is a symbol of another kind: indirect"),
     ("a function that begins later", _with_symbol(_lies_later),
-     r"\.text\.const_hex_decode at 0x\w+: another byte at 0x0"),
+     r"\.text\.const_hex_decode at 0x\w+: another byte at 0x"),
     ("a function that is missing", _with_symbol(_is_elsewhere), "of the functions for C it has only"),
     ("a call of another function", _other_call,
-     r"decode_exact_nonnull_v3 at 0x\w+: the reference at 0x\w+ points to another|"
-     r"small_input_decode_\w+ at 0x\w+: another byte"),
+     r"kernel_\w+ at 0x\w+: (the reference at 0x\w+ points to another|another byte)"),
     ("a table of names that no section has", _for_the_loader_alone(_no_section), LATER),
     ("a tag after the end of the loader's table", _for_the_loader_alone(_tag_after_the_end), LATER),
     ("a table of the loader elsewhere in the file", _for_the_loader_alone(_other_place_in_the_file), LATER),
@@ -391,14 +391,14 @@ class TestLibraries(Linked):
 
     def test_constants_that_are_not_aligned(self):
         (self.folder / "other.S").write_text('.section .rodata.a, "a"\n.byte 1\n')
-        names = ["dispatch.S.o", "x86_64_v2.S.o", "x86_64_v3.S.o"]
+        names = [f"{name}.S.o" for name in ("dispatch", "kernel_x86_64_v2", "kernel_x86_64_v3", "functions_x86_64")]
         for name in names:
             (self.folder / name).write_bytes(archive.member(ARCHIVE, name))
-        subprocess.run(["objcopy", "--set-section-alignment", ".rodata.const_hex_constant_1_v2=1", names[1]],
+        subprocess.run(["objcopy", "--set-section-alignment", ".rodata.const_hex_1_0_0_constant_1_v2=1", names[1]],
                        check=True, cwd=self.folder)
         command = ["cc", "-shared", "-nostdlib", "-o", "library.so", "other.S", *names]
         subprocess.run(command, check=True, cwd=self.folder)
-        self.assertRegex(fault(self.folder / "library.so"), rf"const_hex_constant_1_v2 at 0x\w+ {WRITTEN}")
+        self.assertRegex(fault(self.folder / "library.so"), rf"constant_1_v2 at 0x\w+ {WRITTEN}")
 
     def test_code_that_the_loader_changes(self):
         """A relocation in the code."""

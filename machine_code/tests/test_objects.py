@@ -7,8 +7,8 @@ import tempfile
 import unittest
 from unittest import mock
 
-from proof.cases import CALLS
 from proof.exploration import Refused
+from proof.kernels import CALLS
 from reading import archive, expected, library, objects
 from tests.library import AARCH64, ARCHIVE, add_tests, needs_aarch64
 from tests.mutations import assembled_object
@@ -48,11 +48,11 @@ class TestObjects(unittest.TestCase):
 
     def test_layout(self):
         """Each run has another one, with small gaps and with large ones."""
-        data, distances, gaps = archive.member(ARCHIVE, "x86_64_v3.S.o"), set(), set()
+        data, distances, gaps = archive.member(ARCHIVE, "kernel_x86_64_v3.S.o"), set(), set()
         for seed in range(4):
             with mock.patch.object(objects, "SEED", seed):
                 obj = objects.read(data)
-            distances.add(obj.symbols["const_hex_check_raw_v3"] - obj.symbols["const_hex_encode_v3"])
+            distances.add(obj.symbols["const_hex_kernel_check_v3"] - obj.symbols["const_hex_kernel_fill_v3"])
             sections = sorted(obj.sections, key=lambda section: section.address)
             gaps |= {after.address - before.end for before, after in zip(sections, sections[1:])}
         self.assertEqual(len(distances), 4)
@@ -93,15 +93,17 @@ class TestObjects(unittest.TestCase):
         """What has one is named where it is used."""
         with mock.patch.dict(objects.RELOCATIONS[183]):
             del objects.RELOCATIONS[183][299]
-            data = archive.member(AARCH64, "aarch64.S.o")
-            code = library.code_from(data, "aarch64")
+            data = archive.member(AARCH64, "kernel_aarch64.S.o")
+            code = library.code_from(data, "kernel_aarch64")
             with self.assertRaisesRegex(ValueError, "'.text.const_hex_.*', which has a relocation of the unknown kind"):
-                expected.check(code.object, "aarch64", False)
+                expected.check(code.object, "kernel_aarch64", False)
         with self.assertRaisesRegex(Refused, r"check\S*, which has a relocation of the unknown kind 299"):
-            CALLS["check_raw"].prove(code, "const_hex_check_raw", ("length", 0, 20))
+            CALLS["kernel_check"].prove(code, "const_hex_kernel_check", ("length", 0, 20))
 
 
 add_tests(TestObjects, TestObjects.assert_linked, [
-    ("as linked", "v3", ARCHIVE, "x86_64_v3.S.o", ""),
-    ("as linked", "aarch64", AARCH64, "aarch64.S.o", "aarch64-linux-gnu-"),
+    ("as linked", "functions_x86_64", ARCHIVE, "functions_x86_64.S.o", ""),
+    ("as linked", "kernel_v3", ARCHIVE, "kernel_x86_64_v3.S.o", ""),
+    ("as linked", "functions_aarch64", AARCH64, "functions_aarch64.S.o", "aarch64-linux-gnu-"),
+    ("as linked", "kernel_aarch64", AARCH64, "kernel_aarch64.S.o", "aarch64-linux-gnu-"),
 ])

@@ -58,16 +58,17 @@ class ChecksOfProcessors(Checks):
 
 
 class TestX86_64(ChecksOfProcessors, unittest.TestCase):
-    runner, wrong, builds = X86_64, wrong_meanings.X86_64, ("v2", "v3") if HAS_AVX2 else ("v2",)
+    runner, wrong = X86_64, wrong_meanings.X86_64
+    builds = ("functions_x86_64", "kernel_v2", *["kernel_v3"] * HAS_AVX2)
 
     @unittest.skipUnless(HAS_AVX2, "this processor has no AVX2")
     def test_v3_runs_here(self):
-        self.assertEqual(len(self.processors), 2)
+        self.assertEqual(len(self.processors), 3)
 
 
 @needs_aarch64
 class TestAArch64(ChecksOfProcessors, unittest.TestCase):
-    runner, wrong, builds = AArch64, wrong_meanings.AARCH64, ("aarch64",)
+    runner, wrong, builds = AArch64, wrong_meanings.AARCH64, ("functions_aarch64", "kernel_aarch64")
 
 
 @needs_module

@@ -20,7 +20,7 @@ from tests.library import AARCH64, ARCHIVE, add_tests, code_of
 from tests.mutations import ASM, FILES, assembled_object, edited, instructions
 from untrusted.reached import not_reached
 
-FUNCTION = "const_hex_check_raw_v3"
+FUNCTION, KERNEL, C = "const_hex_check_raw", "const_hex_kernel_check_v3", "functions_x86_64"
 FRONT_ENDS = ("x86_64", "aarch64", "wasm")
 # The form of `encode` with this flag alone, that of a decoder which has read 2 or more characters, and a position in a
 # message.
@@ -28,14 +28,16 @@ NO_NUL, LATER, POSITION = 4, 4, 8
 # What one part shows that is not for all lengths: the build, the call, the lines before and after, the part, what the
 # tool says, and the function if it is not that of the call.
 WRONG_IN_ONE_PART = [
-    ("v3", "encode", "cmp rsi,0x3f", "cmp rsi,0x3e", ("length", NO_NUL, 63), "read of 16 bytes outside"),
-    ("v2", "check_raw", "cmp rsi,0x20", "cmp rsi,0x1f", ("length", 0, 31), r"outside .*: text\[-1\]"),
-    ("v2", "check_raw", "cmp rsi,0x10", "cmp rsi,0x11", ("length", 0, 17), "not a digit is accepted"),
-    ("v2", "decoder_update", "cmp r14,0x80", "cmp r14,0x7f", ("length", LATER, 127), "read of 16 bytes outside"),
-    ("v3", "error_message", "cmp rax,rcx; je 4f", "", ("case", POSITION), "write of 1 bytes outside",
-     "const_hex_message_write_ended_v3"),
-    ("aarch64", "decode_exact", "cmp x3, #0x40", "cmp x3, #0x3f", ("length", 0, 126), "read of 32 bytes outside"),
-    ("aarch64", "encode", "cmp x1, #0x10", "cmp x1, #0x12", ("length", NO_NUL, 17), "is written before 16"),
+    ("rust_v3", "kernel_fill", "cmp rsi,0x3f", "cmp rsi,0x3e", ("length", 0, 63), "read of 16 bytes outside"),
+    ("rust_v2", "kernel_check", "cmp rsi,0x20", "cmp rsi,0x1f", ("length", 0, 31), r"outside .*: text\[-1\]"),
+    ("rust_v2", "kernel_check", "cmp rsi,0x10", "cmp rsi,0x11", ("length", 0, 17), "not a digit is accepted"),
+    (C, "encode", "cmp r11,rcx; jae 2b", "cmp r11,rcx", ("case", 0), "outside its region"),
+    (C, "decoder_update", "mov r13,r15; and r13,0xfffffffffffffffe", "mov r13,r15; and r13,0xfffffffffffffffc",
+     ("length", LATER, 3), "another length than that of what it writes"),
+    (C, "error_message", "cmp rax,rcx; je 4f", "", ("case", POSITION), "write of 1 bytes outside",
+     "const_hex_message_write_ended"),
+    ("rust_aarch64", "kernel_read", "cmp x3, #0x40", "cmp x3, #0x3f", ("length", 0, 126), "read of 32 bytes outside"),
+    ("rust_aarch64", "kernel_fill", "cmp x1, #0x10", "cmp x1, #0x12", ("length", 0, 17), "is written before 16"),
     (library.WASM, "encode", "local.get 1; i32.const 7; i32.gt_u", "local.get 1; i32.const 6; i32.gt_u",
      ("length", 0, 7), "the module traps", "i16x8.extend_high_i8x16_u"),
 ]
@@ -57,7 +59,7 @@ class TestProve(unittest.TestCase):
             patch.start()
             self.addCleanup(patch.stop)
 
-    def accepts(self, code, call, build="v3"):
+    def accepts(self, code, call, build=C):
         """What `prove --sums` says, where this is the code of the build. Its last line is no proof's."""
         argv = ["prove", str(ARCHIVE), "--build", build, "--call", call, "--jobs", "1", "--sums"]
         with mock.patch.object(self.script, "code_of", lambda *_: code), mock.patch.object(sys, "argv", argv):
@@ -68,48 +70,58 @@ class TestProve(unittest.TestCase):
         return is_accepted
 
     def test_code_that_is_not_reached(self):
-        code = code_of("v3")
+        code = code_of(C)
         every, start = set(instructions(code)), code.object.symbols[FUNCTION]
         self.assertEqual(not_reached(code, every), ([], 0))
         [line], count = not_reached(code, every - {start})
         self.assertEqual((line.split("+")[0], count), (FUNCTION, 1))
-        self.assertEqual(not_reached(code, every - {start, code.object.symbols["const_hex_encode_v3"]})[1], 2)
+        self.assertEqual(not_reached(code, every - {start, code.object.symbols["const_hex_encode"]})[1], 2)
 
     def test_function_that_is_called(self):
         """One of the same name that is not exported, or that is for another error, is not it."""
-        code = code_of("v3")
-        code.object.symbols["const_hex_encode_nonnull"] = code.object.symbols.pop("const_hex_encode_v3")
-        self.assertEqual(function_of(code, "encode", "v3"), "const_hex_encode_v3")
-        code.object.exported.add("const_hex_encode")
+        code = code_of(C)
+        code.object.symbols["const_hex_encode_nonnull"] = code.object.symbols.pop("const_hex_encode")
+        self.assertEqual(function_of(code, "encode", C), "const_hex_encode")
+        code.object.exported.add("const_hex_encode_nonnull")
         with self.assertRaisesRegex(Refused, "const_hex_encode is exported as"):
-            function_of(code, "encode", "v3")
+            function_of(code, "encode", C)
 
     def test_one_byte_of_what_rust_includes(self):
-        """The sum of `fill` is recorded of the files that the Rust crate includes."""
+        """The sum of `fill` is recorded of the files that the Rust crate includes. That for C has the same."""
         text = "".join(path.read_text() for path in FILES["rust_v3"][0])
         same, other = (library.code_from(assembled_object(62, text.replace("0x64, 0x65, 0x66", new, 1)), "rust_v3")
                        for new in ("0x64, 0x65, 0x66", "0x64, 0x65, 0x67"))
-        sums.write({("fill", "rust_v3"): sums_of(code_of("rust_v3"), function_of(same, "fill", "rust_v3"))})
-        self.assertTrue(self.accepts(same, "fill", "rust_v3"))
-        self.assertFalse(self.accepts(other, "fill", "rust_v3"))
+        of_c = code_of("kernel_v3")
+        sums.write({("kernel_fill", "kernel_v3"): sums_of(of_c, function_of(of_c, "kernel_fill", "kernel_v3"))})
+        self.assertTrue(self.accepts(same, "kernel_fill", "rust_v3"))
+        self.assertFalse(self.accepts(other, "kernel_fill", "rust_v3"))
 
     def test_sum_of_other_code(self):
-        obj = code_of("v3").object
-        before = sums.sum_of(obj, FUNCTION)
-        obj.section_at(obj.symbols["const_hex_encode_v3"]).bytes += b"\x90"
-        self.assertEqual(sums.sum_of(obj, FUNCTION), before)
-        [constants] = [section for section in obj.sections if section.name == ".rodata.const_hex_constant_1_v3"]
+        obj = code_of("kernel_v3").object
+        before = sums.sum_of(obj, KERNEL)
+        obj.section_at(obj.symbols["const_hex_kernel_fill_v3"]).bytes += b"\x90"
+        self.assertEqual(sums.sum_of(obj, KERNEL), before)
+        [constants] = [section for section in obj.sections if section.name.endswith("_constant_1_v3")]
         constants.is_writable = True
-        self.assertNotEqual(sums.sum_of(obj, FUNCTION), before)
+        self.assertNotEqual(sums.sum_of(obj, KERNEL), before)
         constants.is_writable, constants.bytes = False, bytes([constants.bytes[0] ^ 1]) + constants.bytes[1:]
+        self.assertNotEqual(sums.sum_of(obj, KERNEL), before)
+
+    def test_sum_of_a_function_that_calls_another(self):
+        """The name of what it calls counts."""
+        obj = code_of(C).object
+        before = sums.sum_of(obj, FUNCTION)
+        obj.undefined = {place: name.replace("check", "fill") for place, name in obj.undefined.items()}
         self.assertNotEqual(sums.sum_of(obj, FUNCTION), before)
 
     def test_sums_of_clang(self):
         """Another assembler has other kinds and another order of relocations, and may have a file's own numbers in the
         fields."""
-        for build, name, processor in (("v3", "x86_64_v3", "x86_64"), ("dispatch", "dispatch", "x86_64"),
-                                       ("aarch64", "aarch64", "aarch64")):
-            if not shutil.which("clang") or build == "aarch64" and not pathlib.Path(AARCH64).exists():
+        for build, name, processor in (
+            (C, C, "x86_64"), ("kernel_v3", "kernel_x86_64_v3", "x86_64"), ("dispatch", "dispatch", "x86_64"),
+            ("functions_aarch64", "functions_aarch64", "aarch64"), ("kernel_aarch64", "kernel_aarch64", "aarch64"),
+        ):
+            if not shutil.which("clang") or processor == "aarch64" and not pathlib.Path(AARCH64).exists():
                 self.skipTest("clang or the archive for AArch64 is missing")
             file = self.folder / "object.o"
             command = ["clang", f"--target={processor}-linux-gnu", "-c", ASM / f"{name}.S", "-o", file]
@@ -117,7 +129,7 @@ class TestProve(unittest.TestCase):
             ours, theirs = code_of(build).object, objects.read(file.read_bytes())
             for section in theirs.sections:
                 section.references.reverse()
-                for offset, *_ in section.references if section.is_code and build != "aarch64" else ():
+                for offset, *_ in section.references if section.is_code and processor != "aarch64" else ():
                     section.bytes = section.bytes[:offset] + b"\1" + section.bytes[offset + 1 :]
             for function in sorted(ours.exported):
                 self.assertEqual(sums.sum_of(theirs, function), sums.sum_of(ours, function), function)
@@ -136,34 +148,34 @@ class TestProve(unittest.TestCase):
 
     def test_sums(self):
         """With --sums nothing is accepted but the code and the tool of which the sums stand there."""
-        code = code_of("v3")
+        code = code_of(C)
         self.assertFalse(self.accepts(code, "check_raw"))
         of_code, of_tool = sums_of(code, FUNCTION)
-        sums.write({("check_raw", "v3"): (of_code, of_tool)})
+        sums.write({("check_raw", C): (of_code, of_tool)})
         self.assertTrue(self.accepts(code, "check_raw"))
-        self.assertFalse(self.accepts(edited("v3", "check_raw", "sete al", "setne al")[0], "check_raw"))
-        sums.write({("check_raw", "v3"): (of_code, of_tool[::-1])})
+        self.assertFalse(self.accepts(edited(C, "check_raw", "sete al", "setne al")[0], "check_raw"))
+        sums.write({("check_raw", C): (of_code, of_tool[::-1])})
         self.assertFalse(self.accepts(code, "check_raw"))
 
     def test_what_is_kept(self):
         """Another code that this tool has proved is kept, and what another tool has proved is not."""
         first, second, other = ("code-1", "tool"), ("code-2", "tool"), ("code-2", "another-tool")
         for row in first, other, second, first:
-            sums.write({("check", "v3"): row, ("unreached", "v3"): (row[0][-1],)})
-        self.assertEqual(sums.recorded(), {("check", "v3"): [first, second], ("unreached", "v3"): [("1",)]})
-        sums.write({("check", "v3"): other, ("read", "v3"): first})
-        self.assertEqual(sums.recorded()["check", "v3"], [other])
+            sums.write({("check", C): row, ("unreached", C): (row[0][-1],)})
+        self.assertEqual(sums.recorded(), {("check", C): [first, second], ("unreached", C): [("1",)]})
+        sums.write({("check", C): other, ("read", C): first})
+        self.assertEqual(sums.recorded()["check", C], [other])
 
     def test_last_lines(self):
         """Those of a proof say what was proved in this run, and a file that is refused ends in one of them."""
         for argv, wanted in (
-            (["--build", "v3", "--call", "version"], "1 passed, 0 failed; every length was proved in this run"),
-            (["--build", "v3", "--call", "version", "--sums"],
+            (["--build", C, "--call", "version"], "1 passed, 0 failed; every length was proved in this run"),
+            (["--build", C, "--call", "version", "--sums"],
              "1 recorded, 0 not recorded; nothing was proved in this"),
             (["/dev/null"], "0 passed, 1 failed"), (["/dev/null", "--sums"], "0 recorded, 1 not recorded; nothing"),
         ):
             argv = ["prove", *([str(ARCHIVE)] if argv[0] != "/dev/null" else []), *argv, "--jobs", "1"]
-            sums.write({("version", "v3"): sums_of(code_of("v3"), "const_hex_version_v3")})
+            sums.write({("version", C): sums_of(code_of(C), "const_hex_version")})
             with mock.patch.object(sys, "argv", argv), contextlib.redirect_stdout(io.StringIO()) as output:
                 self.assertEqual(self.script.main(), "/dev/null" in argv)
             self.assertTrue(output.getvalue().splitlines()[-1].startswith(wanted), output.getvalue())
@@ -171,7 +183,8 @@ class TestProve(unittest.TestCase):
     def refuse(self, build, call, old, new, part, wanted, function=None):
         """The sum of wrong code was written. The part that shows what is wrong is run without --all."""
         code, _ = edited(build, call, old, new, function)
-        sums.write({(call, build): sums_of(code, function_of(code, call, build))})
+        name, found = self.script.sums_of(code.object, build, function_of(code, call, build))
+        sums.write({(call, name): found})
         with mock.patch.object(self.script, "code_of", lambda *_: code):
             row = self.script.Row(ARCHIVE, call, build, types.SimpleNamespace(all=False))
             self.assertTrue(row.is_recorded and row.is_proved)
@@ -184,12 +197,12 @@ class TestProve(unittest.TestCase):
 
     def test_what_is_run(self):
         """Each part, if it is not recorded, and then each single length; with --all each part again."""
-        every, rows = list(library.calls_of("v3")["check_raw"].parts()), []
+        every, rows = list(library.calls_of(C)["check_raw"].parts()), []
         for is_all, is_recorded in ((False, False), (False, True), (True, True)):
             if is_recorded:
-                sums.write({("check_raw", "v3"): sums_of(code_of("v3"), FUNCTION)})
+                sums.write({("check_raw", C): sums_of(code_of(C), FUNCTION)})
             options = types.SimpleNamespace(all=is_all)
-            rows.append(self.script.Row(ARCHIVE, "check_raw", "v3", options).parts)
+            rows.append(self.script.Row(ARCHIVE, "check_raw", C, options).parts)
         self.assertEqual(rows, [every, [part for part in every if part[0] == "length"], every])
 
 

@@ -11,10 +11,11 @@ from isa.x86_64 import front_end as x86_64
 from isa.x86_64.decoding import REGISTERS
 from proof import induction
 from proof.arithmetic import logic, subtracted
-from proof.cases import CALLS
+from proof.cases import function_of
 from proof.conditions import Condition, Path, are_equal, are_zero
 from proof.exploration import Fork, Refused, require_one_path, sides
 from proof.flags import Flags
+from proof.kernels import CALLS
 from proof.linear import DONE, GREATEST, LEFT, Linear, Split, Unknown, in_terms_of, is_zero, symbol
 from proof.memory import Fault, Image, Memory, Pointer, Region, as_lane, with_replaced
 from proof.values import CONSTANTS, TooWide, constants, each, joined, kept, masked, tabulate, unknown, variable
@@ -89,7 +90,8 @@ def two_places_that_may_be_one():
 
 def both_sides(name):
     """The states after a jump by an unknown byte."""
-    states = list(sides(code_of("v3"), state_with(), are_equal((unknown(name, 1, "rax", 0),), constants(0, 1))))
+    condition = are_equal((unknown(name, 1, "rax", 0),), constants(0, 1))
+    states = list(sides(code_of("functions_x86_64"), state_with(), condition))
     assert len(states) == 2
     return states
 
@@ -251,18 +253,18 @@ LENGTHS = [
 
 class TestLengths(unittest.TestCase):
     def prove(self, text, rest):
-        code, _ = edited("v3", "check_raw", "", text)
-        CALLS["check_raw"].prove(code, "const_hex_check_raw_v3", ("class", 0, rest))
+        code, _ = edited("rust_v3", "kernel_check", "", text)
+        CALLS["kernel_check"].prove(code, function_of(code, "kernel_check", "rust_v3"), ("class", 0, rest))
 
     def test_detour_that_changes_nothing(self):
         self.prove("nop", 150)
 
     def test_byte_that_is_kept(self):
         """A round writes a byte of the object in the place of one of its stores."""
-        store = "vmovdqu YMMWORD PTR [rcx+r8*2+0x60],ymm3"
-        code, _ = edited("v3", "encode", store, "mov [rip + kept], al; .lcomm kept, 1")
+        store = "vmovdqu YMMWORD PTR [rdx+rcx*2+0x60],ymm3"
+        code, _ = edited("rust_v3", "kernel_fill", store, "mov [rip + kept], al; .lcomm kept, 1")
         with self.assertRaisesRegex(Refused, "something is kept between calls, in the loop at"):
-            CALLS["encode"].prove(code, "const_hex_encode_v3", ("class", 0, 150))
+            CALLS["kernel_fill"].prove(code, function_of(code, "kernel_fill", "rust_v3"), ("class", 0, 150))
 
 
 add_tests(TestLengths, lambda case, text, rest, wanted: assert_refused(
@@ -276,16 +278,17 @@ GUESSES = [
     ("rounds without a visit", "heads_of", {"visits": 0}, ROUNDS),
     ("a loop at another place", "heads_of", {"at": 0}, "too many cases"),
     ("numbers for pointers", "guessed", DONE, "that is no pointer"),
-    ("registers of another size", "guessed", (unknown("forgotten", "rax", 0),), "that is no pointer"),
+    ("registers of another size", "guessed", (unknown("forgotten", "rax", 0),), "another size at the head"),
 ]
 
 
 class TestGuesses(unittest.TestCase):
     def refuse(self, name, change, wanted):
         guesses = {"heads_of": lambda *given: [head._replace(**change) for head in heads_of(*given)],
-                   "guessed": lambda loop, first: dict.fromkeys(first.registers, change)}
+                   "guessed": lambda loop, first: {name: change for name in first.registers if first.size_of(name) == 8}}
         with mock.patch.object(induction, name, guesses[name]), self.assertRaisesRegex(Refused, wanted):
-            CALLS["check_raw"].prove(code_of("v3"), "const_hex_check_raw_v3", ("class", 0, 150))
+            code = code_of("rust_v3")
+            CALLS["kernel_check"].prove(code, function_of(code, "kernel_check", "rust_v3"), ("class", 0, 150))
 
 
 add_tests(TestGuesses, TestGuesses.refuse, GUESSES)

@@ -28,6 +28,8 @@ def _visits(code, state):
             continue
         except (Fault, Split, TooWide, Unknown) as fault:
             raise Refused(f"{code.shown(before)}: {fault}")
+        if before in code.callees:
+            continue
         if state.at is not RETURNED and state.at <= before and code.front_end.is_jump(code.at(before)):
             if code.object.section_at(before) is code.object.section_at(state.at):
                 found[state.at] += 1

@@ -12,7 +12,8 @@ class AArch64(FrontEnd):
     ARGUMENTS, RESULT = tuple(f"x{at}" for at in range(8)), "x0"
     KEPT = {f"x{at}": 8 for at in range(19, 30)} | {f"v{at}": 8 for at in range(8, 16)}
     # At a call, the stack pointer is a multiple of 16.
-    STACK, DISPATCH_STACK = 2000, 2032
+    STACK, DISPATCH_STACK, KERNEL_STACK = 2000, 2032, 64
+    BOOL = 4
     instructions = staticmethod(instructions)
 
     def set_return(self, state, place):

@@ -1,6 +1,6 @@
-"""Which of the two builds a function of c/asm/dispatch.S has to call.
+"""Which of the two kernels a function of c/asm/dispatch.S has to call.
 
-It is the one that the stored byte names. If it names none, the CPU is asked, and the build for x86-64-v3 is
+It is the one that the stored byte names. If it names none, the CPU is asked, and the kernel for x86-64-v3 is
 called if and only if the CPU has all that this level needs. The byte may be anything at the start, and another
 thread may store it at any time. All that `cpuid` and `xgetbv` return may be anything, too.
 """

@@ -12,7 +12,7 @@ BASE = "generic64+xsave"
 V2 = f"{BASE}+cx16+popcnt+sse3+ssse3+sse4.1+sse4.2"
 V3 = f"{V2}+avx+avx2+bmi+bmi2+f16c+fma+lzcnt+movbe"
 # For each build the level that the CPU has at least. Any other one is for x86-64-v2.
-LEVELS = {"dispatch": BASE, "v3": V3, "rust_v3": V3}
+LEVELS = {"dispatch": BASE, "kernel_v3": V3, "rust_v3": V3}
 
 
 class X86_64(FrontEnd):
@@ -21,7 +21,7 @@ class X86_64(FrontEnd):
     KEPT = dict.fromkeys(("rbx", "rbp", "r12", "r13", "r14", "r15"), 8)
     PUSHED = 8
     # At a call, the stack pointer is 8 bytes from a multiple of 16.
-    STACK, DISPATCH_STACK = 1912, 2040
+    STACK, DISPATCH_STACK, KERNEL_STACK = 1912, 2040, 72
     judge_choice = staticmethod(cpu_choice.judge)
 
     def __init__(self, features):

@@ -20,8 +20,9 @@ mod message;
 pub use crate::proved::c::error::HexError;
 use crate::proved::c::error::{INVALID_LENGTH, NO_MEMORY, ODD_LENGTH};
 use crate::proved::c::flags::{are_flags, clear, end_text, has_prefix, is_upper, length_of, size_beside};
+use crate::proved::FixedKernel;
 use crate::proved::c::message::{LONGEST, write_ended, write_known};
-use crate::proved::{Decoder, FixedKernel, Kernel};
+use crate::proved::{Decoder, Kernel};
 
 /// Returns the size of the buffer that [`const_hex_encode`] needs: the text, and a NUL unless the flags
 /// leave it out. The greatest number is an error: the size is that or greater, which no buffer has, or a

@@ -44,7 +44,7 @@ pub use self::formatting::text::*;
 //   26  a formatter has a lifetime in place of its writer's type
 //   10  a function for C takes slices, which capi makes of pointers and lengths, and is compiled there alone
 //    2  a vector of zeros is made by a call
-//   90  all crates are one module
+//   91  all crates are one module
 //    5  an allocation never fails: without memory the program ends
 //    0  an argument's copy takes no allocator
 //  115  an assertion names no runtime
@@ -52,6 +52,7 @@ pub use self::formatting::text::*;
 //    4  an example of hexfilter uses no allocator
 //    1  and a constant converts by a cast
 //    1  and an error is borrowed
+//    5  and is a module of const_hex
 //    5  and kernels over vectors are there for WebAssembly alone
 //    2  and makes the vectors that are returned
 //   22  and panics instead of returning an error
@@ -62,10 +63,10 @@ pub use self::formatting::text::*;
 //  206  deleted: ghost item
 //    4  deleted: model
 //    1  each value may be dropped
-//    5  kernels that no target uses are left out, and callers that nothing exports
+//    6  kernels that no target uses are left out, and callers that nothing exports
 //   22  the allocator is a value
 //    1  the kernel is chosen for the processor
 //   12  what a constant calls is constant
 //   15  what allocates is there with the feature alloc
 //    3  what hexfilter uses of const_hex is a module of std_shim
-//    5  what is for C is a module of const_hex
+//    7  what is for C calls the kernel for the processor
