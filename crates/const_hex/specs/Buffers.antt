@@ -1,6 +1,6 @@
 -- What buffers, slices and vectors hold after a write.
-use Rattle.std.specs.Prelude.{ℕ, ◌*◌, Bool, List, ◌++◌, replicate, ◌≡◌, Result, MatchResult, ◌+◌, ◌-◌, ◌≤◌, length, take, vec_len, vec_capacity}
-use Rattle.const_hex_arch.specs.Texts.{prefix_of, hex_text, Spells}
+use Rattle.std.specs.Prelude.{ℕ, ◌*◌, Bool, List, ◌++◌, replicate, ◌≡◌, Result, MatchResult}
+use Rattle.const_hex_arch.specs.Texts.{prefix_of, hex_text}
 use Rattle.const_hex.specs.declared.buffer.Buffer.{Buffer}
 use Rattle.std.specs.Borrow.{Fml, MutBor, RattleType, Array, u8}
 use Rattle.std.specs.Io.BufRead.{Rests}
