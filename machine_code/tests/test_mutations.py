@@ -56,7 +56,8 @@ MUTATIONS = [
      r"decoder\[8\] is not what"),
     ("the decoder forgets an error", C, UPDATE, "PTR [rsi+0x9],0x2", "PTR [rsi+0x9],0x0",
      "the decoder does not keep its error", FAIL),
-    ("a failed decoder goes on", C, ("decoder_update",), "cmp al,0x2", "cmp al,0x80", "too many cases|though no input"),
+    ("a failed decoder goes on", C, ("decoder_update",), "cmp al,0x2", "cmp al,0x80",
+     "a kernel is called though no input"),
     # Calls of a kernel.
     ("a kernel writes a byte too many", C, ENCODE, "call SYMBOL(const_hex_kernel_fill)",
      "inc rsi; call SYMBOL(const_hex_kernel_fill)", "read by a kernel of 17 bytes outside its region"),
@@ -102,6 +103,16 @@ MUTATIONS = [
      "mov QWORD PTR [r13+0x0],rdx", r"written\[0\] is not"),
     ("what a kernel has written is read", C, ENCODE, "call SYMBOL(const_hex_kernel_fill)", "push rdx; push rax; "
      "call SYMBOL(const_hex_kernel_fill); pop rcx; pop rdx; mov al,[rdx]", r"text\[0\] is read before it is written"),
+    ("what a kernel has left after an invalid character is read", C, ("decode_exact", 0, 6),
+     "call SYMBOL(const_hex_kernel_read)", "push rdx; push rdx; call SYMBOL(const_hex_kernel_read); pop rdx; pop rdx; "
+     "cmp al,0; jne 1f; mov cl,[rdx]; 1:", r"read of 1 bytes outside its region: bytes\[0\]"),
+    ("a kernel that decodes in place of one that encodes", C, ENCODE, "call SYMBOL(const_hex_kernel_fill)",
+     "mov rcx,rsi; shr rcx,1; call SYMBOL(const_hex_kernel_read)", "another kernel"),
+    ("a byte decides a jump in a function", C, ENCODE, "", "cmp byte ptr [rdi],0x61; jb 1f; nop; 1:", ONE_PATH),
+    ("one length of a function", C, RAW, "", "movabs rax,1 << 40; cmp rsi,rax; jne 1f; mov eax,1; ret; 1:",
+     "a question of fixed"),
+    ("one half of the lengths of a function", C, RAW, "", "mov rax,rsi; and rax,4; je 1f; mov eax,1; ret; 1:",
+     "it ends before all is read"),
     ("a letter of a message", C, ("error_message",), "[rdx+0x10],0x73746967", "[rdx+0x10],0x73746966",
      r"message\[16\] is not what"),
     ("a digit of a position", C, POSITION, "or dil,0x30", "or dil,0x10", r"message\[\d+\] is not what"),
