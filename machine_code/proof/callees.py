@@ -41,12 +41,14 @@ def _load(state, pointer, count):
 
 
 def _returned(code, state, count, result=None):
-    """The state after the call. The bool of a kernel is 1 byte on x86-64, and 4 on AArch64."""
+    """The state after the call. The bool of a kernel is 1 byte on x86-64, and 4 on AArch64. If it is false, the time that
+    the kernel took depends on where the invalid character is."""
     front_end, top = code.front_end, state.registers[state.top].offset
     require(top >= front_end.KERNEL_STACK and (top - front_end.STACK) % 16 == 0, "the stack of a kernel")
     other, call = state.copy(), next(_count)
     front_end.return_from_call(other, count, tuple([unknown("result", call, at) for at in range(8)]))
     if result is not None:
+        other.leaks += () if result else (state.at,)
         known = (CONSTANTS[int(result)], *[CONSTANTS[0]] * (front_end.BOOL - 1))
         other.registers[front_end.RESULT] = known + other.registers[front_end.RESULT][front_end.BOOL :]
     return other

@@ -171,7 +171,7 @@ def sides(code, state, condition):
 def require_one_path(states):
     """Of these inputs, only how long they are decides the path, and no byte decides an address."""
     for state in states:
-        require(not state.leaks, "an address depends on an unknown byte")
+        require(not state.leaks, "an address depends on an unknown byte, or how long a kernel takes")
     for at, first in enumerate(states):
         for second in states[at + 1 :]:
             kind = next((a[0] for a, b in zip(first.trail, second.trail) if a != b), "bytes")

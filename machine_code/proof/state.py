@@ -9,8 +9,8 @@ from proof.values import CONSTANTS, are_constant, constants, tabulate, unknown
 
 
 class State:
-    """`trail` has the decisions of the path, `leaks` where an address depended on an unknown byte, and
-    `ghost` numbers that only the proof has: how long the input is, and how much of it is read and of the
+    """`trail` has the decisions of the path, `leaks` where an address, or the time of a call, depended on an unknown
+    byte, and `ghost` numbers that only the proof has: how long the input is, and how much of it is read and of the
     output written."""
 
     # The names of the registers and their sizes, and which of them is the stack pointer.

@@ -87,6 +87,10 @@ MUTATIONS = [
      "const_hex_decoder_decode_after"),
     ("a text that is checked in place of decoded", C, ("decode_exact", 0, 6), "call SYMBOL(const_hex_kernel_read)",
      "call SYMBOL(const_hex_kernel_check)", "a text is checked, and not decoded"),
+    ("how long a kernel takes depends on a byte", C, ("check_raw", 0, 2), "call SYMBOL(const_hex_kernel_check)",
+     "mov al,[rdi]; sub rsp,16; mov [rsp],al; mov byte ptr [rsp+1],0x7a; push rdi; push rsi; lea rdi,[rsp+16]; "
+     "mov esi,2; call SYMBOL(const_hex_kernel_check); pop rsi; pop rdi; add rsp,16; "
+     "call SYMBOL(const_hex_kernel_check)", "or how long a kernel takes"),
     ("a case that is no bool", C, ENCODE, "and r8d,0x1; mov ecx,r8d", "mov ecx,4", "the case of a kernel is neither"),
     ("the other case", C, ENCODE, "and r8d,0x1; mov ecx,r8d", "mov ecx,1", "another case"),
     ("the other case of a short text", C, ("encode", 0, 2), "and r8d,0x1; mov ecx,r8d", "mov ecx,1",
