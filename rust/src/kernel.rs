@@ -23,9 +23,18 @@ compiled! {
     ) {
         mod machine_code;
         mod native;
-        pub use native::*;
+        #[cfg(feature = "alloc")]
+        use machine_code as unchecked;
+        pub use native::Native;
     } else {
-        mod portable;
-        pub use portable::*;
+        #[cfg(feature = "alloc")]
+        use portable as unchecked;
+        pub use portable::Native;
     }
 }
+#[cfg(feature = "alloc")]
+mod owned;
+#[allow(dead_code)] // No target needs all of it.
+mod portable;
+#[cfg(feature = "alloc")]
+pub use owned::*;

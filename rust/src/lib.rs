@@ -39,7 +39,7 @@ mod display;
 #[cfg(feature = "std")]
 mod io;
 // Rust before 1.86 knows no cygwin.
-#[allow(unknown_lints, unexpected_cfgs, unsafe_code, clippy::extra_unused_type_parameters)]
+#[allow(unknown_lints, unexpected_cfgs, unsafe_code)]
 mod kernel;
 // The source is a library, of which this crate calls and exports a part. Its labels name loops for the proofs.
 // Anything else that is unused may show that the eraser has deleted code. It is an error in the tests alone, so that

@@ -67,7 +67,7 @@ macro_rules! functions {
                     match choice::ask() {
                         3 => $v3($($argument),*),
                         2 => $v2($($argument),*),
-                        _ => portable::$name($($argument),*),
+                        _ => super::portable::$name($($argument),*),
                     }
                 }
             }
@@ -184,42 +184,5 @@ mod choice {
         let is_v3 = is_v2 && detected!("avx" "avx2" "bmi1" "bmi2" "f16c" "fma" "lzcnt");
         assert_eq!(ask(), 1 + u8::from(is_v2) + u8::from(is_v3));
         assert_eq!(known(), ask());
-    }
-}
-
-/// For x86-64 without SSE4.2: by the portable kernel, a byte at a time, since the output may not be initialized.
-#[cfg(target_arch = "x86_64")]
-mod portable {
-    use crate::proved::{Kernel, Plain};
-
-    pub unsafe fn fill(bytes: *const u8, length: usize, text: *mut u8, upper: u32) {
-        for index in 0..length {
-            let mut digits = [0; 2];
-            // SAFETY: the caller promises so many bytes, and space for two digits for each.
-            unsafe {
-                Plain::fill(&[*bytes.add(index)], upper != 0, &mut digits);
-                text.cast::<[u8; 2]>().add(index).write(digits);
-            }
-        }
-    }
-
-    pub unsafe fn check(text: *const u8, length: usize) -> bool {
-        // SAFETY: the caller promises so many bytes.
-        Plain::check(unsafe { core::slice::from_raw_parts(text, length) })
-    }
-
-    pub unsafe fn read(text: *const u8, _: usize, bytes: *mut u8, count: usize) -> bool {
-        (0..count).all(|index| {
-            let mut byte = [0];
-            // SAFETY: the caller promises space for so many bytes, and two bytes of the text for each.
-            unsafe {
-                let is_valid =
-                    Plain::decode_checked(&*text.cast::<[u8; 2]>().add(index), &mut byte);
-                if is_valid {
-                    bytes.add(index).write(byte[0]);
-                }
-                is_valid
-            }
-        })
     }
 }

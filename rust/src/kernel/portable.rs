@@ -1,11 +1,7 @@
-//! The kernel of the proved source, and the vectors that it fills.
+//! The kernel of the proved source, and the functions of `machine_code` by it.
 
-#[cfg(feature = "alloc")]
-pub(crate) use crate::proved::owned::{decode_to_vec, encode_to_vec};
-#[cfg(feature = "alloc")]
-use crate::proved::{codec::body::decode_body, fill_text, text_length};
-#[cfg(feature = "alloc")]
-use alloc::vec::Vec;
+use crate::proved::Kernel;
+use core::{ptr, slice};
 
 compiled! {
     if all(target_arch = "wasm32", target_feature = "simd128", not(feature = "force-generic")) {
@@ -15,22 +11,46 @@ compiled! {
     }
 }
 
-/// Appends the text of bytes to a vector, over zeros, with `0x` before it if `prefix` is true.
-#[cfg(feature = "alloc")]
-pub fn encode_append(input: &[u8], prefix: bool, upper: bool, text: &mut Vec<u8>) {
-    let start = text.len();
-    // A length that overflows is `usize::MAX`, for which this panics.
-    text.resize(start.saturating_add(text_length(prefix, input.len())), 0);
-    fill_text::<Native>(input, prefix, upper, &mut text[start..]);
+/// How many bytes the kernel takes at once where the output may not be initialized.
+const BLOCK: usize = Native::PIECE;
+
+#[inline(always)]
+pub unsafe fn fill(bytes: *const u8, length: usize, text: *mut u8, upper: u32) {
+    let mut block = [0; 2 * BLOCK];
+    let mut at = 0;
+    while at < length {
+        let size = BLOCK.min(length - at);
+        let digits = &mut block[..2 * size];
+        // SAFETY: the caller promises so many bytes, and space for two digits for each.
+        unsafe {
+            Native::fill(slice::from_raw_parts(bytes.add(at), size), upper != 0, digits);
+            ptr::copy_nonoverlapping(digits.as_ptr(), text.add(2 * at), 2 * size);
+        }
+        at += size;
+    }
 }
 
-/// Appends the bytes of an even number of digits to a vector, over zeros, and returns true. Returns false if some byte
-/// is not a digit. The vector has the same bytes as before then.
-#[cfg(feature = "alloc")]
-pub fn decode_append(digits: &[u8], bytes: &mut Vec<u8>) -> bool {
-    let start = bytes.len();
-    bytes.resize(start + digits.len() / 2, 0);
-    let is_valid = decode_body::<Native>(digits, &mut bytes[start..]);
-    bytes.truncate(if is_valid { bytes.len() } else { start });
-    is_valid
+#[inline(always)]
+pub unsafe fn check(text: *const u8, length: usize) -> bool {
+    // SAFETY: the caller promises so many bytes.
+    Native::check(unsafe { slice::from_raw_parts(text, length) })
+}
+
+#[inline(always)]
+pub unsafe fn read(text: *const u8, _: usize, bytes: *mut u8, count: usize) -> bool {
+    let mut block = [0; BLOCK];
+    let mut at = 0;
+    while at < count {
+        let size = BLOCK.min(count - at);
+        let decoded = &mut block[..size];
+        // SAFETY: the caller promises space for so many bytes, and two bytes of the text for each.
+        unsafe {
+            if !Native::decode_checked(slice::from_raw_parts(text.add(2 * at), 2 * size), decoded) {
+                return false;
+            }
+            ptr::copy_nonoverlapping(decoded.as_ptr(), bytes.add(at), size);
+        }
+        at += size;
+    }
+    true
 }

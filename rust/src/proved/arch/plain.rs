@@ -32,9 +32,11 @@ impl Kernel for Plain {
 
     #[inline(always)]
     fn decode_checked(input: &[u8], output: &mut [u8]) -> bool {
+        // By this length, which cannot overflow, LLVM needs no test of an index in Rust.
+        let text = &input[..output.len().saturating_mul(2)];
         for i in 0..output.len() {
-            let high = value_at(input[2 * i]);
-            let low = value_at(input[2 * i + 1]);
+            let high = value_at(text[2 * i]);
+            let low = value_at(text[2 * i + 1]);
             // NIL has bits that no value has.
             if high | low >= 16 {
                 return false;

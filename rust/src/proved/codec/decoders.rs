@@ -34,7 +34,7 @@ pub fn decode_with<K: Kernel>(alloc: Global, input: &[u8]) -> Result<Vec<u8>, Fr
 #[inline(always)]
 #[cfg(feature = "alloc")]
 fn decode_owned<K: Kernel>(alloc: Global, input: &[u8]) -> Result<Vec<u8>, FromHexError> {
-    match decode_to_vec::<K>(alloc, strip_even(input)?)? {
+    match decode_to_vec(alloc, strip_even(input)?)? {
         Some(bytes) => Ok(bytes),
         None => Err(find_invalid_character(input)),
     }

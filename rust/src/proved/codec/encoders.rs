@@ -17,7 +17,7 @@ pub(crate) fn encode_owned<K: Kernel>(
     prefix: bool,
     upper: bool,
 ) -> Result<String, AllocError> {
-    let text = encode_to_vec::<K>(alloc, input, prefix, upper)?;
+    let text = encode_to_vec(alloc, input, prefix, upper)?;
     // SAFETY: the text is ASCII.
     Ok(unsafe { String::from_utf8_unchecked(text) })
 }
