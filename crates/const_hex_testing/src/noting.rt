@@ -9,6 +9,7 @@ use std::alloc::{AllocError, Global};
 #[derive(Drop)]
 pub struct Noting {
     alloc: Global,
+    /// The pieces, in the order of the calls.
     pub pieces: Vec<String>,
     refuse_at: usize,
     refused: bool,
