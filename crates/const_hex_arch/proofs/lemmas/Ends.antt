@@ -1,9 +1,8 @@
 -- Texts and pieces by their first and their last bytes.
-use Rattle.std.proofs.Common.{◌≡◌, ℕ, ◌+◌, ◌-◌, ◌*◌, ◌<◌, ◌≤◌, ◌↔◌, Bool, set, List, [], ◌∷◌, ◌++◌, length, take, drop, refl, sym, ap, ◌∙◌, arith, take-append-drop, take-add, drop-drop, length-take, length-drop, length-append}
+use Rattle.std.proofs.Common.{◌≡◌, ℕ, ◌+◌, ◌-◌, ◌*◌, ◌≤◌, ◌↔◌, Bool, List, ◌++◌, length, take, drop, refl, sym, ap, ◌∙◌, arith, take-append-drop, take-add, length-take, length-drop}
 use Rattle.std.proofs.lemmas.Grind.{common_steps}
-use Rattle.std.proofs.lemmas.List.{append_assoc, take_all, take_at, take_rest, drop_at, drop-take, take-append-le}
+use Rattle.std.proofs.lemmas.List.{append_assoc, take_all, take_at, take_rest, drop_at, drop-take}
 use Rattle.std.proofs.lemmas.List.Elements.{All-take, All-drop}
-use Rattle.std.proofs.Math.Seq.{take-append-add, drop-append-add}
 use Rattle.std.proofs.lemmas.Simd.{length-put_chunk, take_more_put_chunk}
 use lib.Lanes.{put_chunk}
 use borrow.Rule.Slice.PartMut.{put_mid}

@@ -3,8 +3,7 @@ use Rattle.std.proofs.Common.{◌≡◌, ℕ, zero, suc, ◌+◌, ◌*◌, ◌%�
 use Rattle.std.specs.List.{AllZip}
 use Rattle.std.proofs.lemmas.Grind.{common_steps}
 use Rattle.std.proofs.lemmas.List.{map-append}
-use Rattle.std.proofs.lemmas.Simd.{put_chunk_whole}
-use lib.Lanes.{number_l, digits_l, put_chunk}
+use lib.Lanes.{number_l, digits_l}
 use Rattle.const_hex_arch.specs.Texts.{hex_value, AllDigits, Spells}
 use Rattle.const_hex_arch.specs.Lanes.{AllNibbles, byte_pairs, as_value, IsValueOf}
 use Rattle.const_hex_arch.proofs.lemmas.Tables.{every_pair}

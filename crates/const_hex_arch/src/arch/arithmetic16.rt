@@ -1,6 +1,6 @@
 //! The kernel of 16 lanes that looks up no digit of a valid text.
 
-ghost use Rattle.std.specs.Prelude.{◌≡◌, ◌*◌, ◌↔◌, [], ◌∷◌, ◌++◌, length, map, IsTrue, false};
+ghost use Rattle.std.specs.Prelude.{◌≡◌, ◌↔◌, [], ◌∷◌, ◌++◌, length, map, false};
 ghost use Rattle.std.specs.List.{AllZip, concat};
 ghost use Rattle.const_hex_arch.specs.Lanes.{AllNibbles, AllUnmarked, byte_pairs, IsValueOf};
 ghost use Rattle.const_hex_arch.specs.Texts.{hex_text, AllDigits};

@@ -1,6 +1,6 @@
 //! A kernel that checks all of a text before it decodes it.
 
-ghost use Rattle.std.specs.Prelude.{true, false};
+ghost use Rattle.std.specs.Prelude.{true};
 
 use crate::arch::Kernel;
 use std::marker::PhantomData;

@@ -3,7 +3,7 @@
 //! Each of these calls has a contract for every vector: [`encode_chunk`], [`check_chunk`],
 //! [`decode_chunk`], [`nibbles`] and [`unhex`].
 
-ghost use Rattle.std.specs.Prelude.{◌≡◌, ◌*◌, ◌↔◌, [], ◌∷◌, ◌++◌, length, map, IsTrue, false, IsNone, IfSome};
+ghost use Rattle.std.specs.Prelude.{◌≡◌, ◌↔◌, [], ◌∷◌, ◌++◌, length, map, IsTrue, false, IsNone, IfSome};
 ghost use Rattle.std.specs.List.{AllZip, concat};
 ghost use Rattle.const_hex_arch.specs.Texts.{hex_value, hex_text, AllDigits, Spells};
 ghost use Rattle.const_hex_arch.specs.Lanes.{AllNibbles, AllUnmarked, byte_pairs, bytes_of_4097, halves_of, row_of, as_value, IsValueOf, IsLimitOf};

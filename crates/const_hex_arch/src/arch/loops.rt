@@ -5,7 +5,7 @@
 //! "Steps and remainders" in docs/DESIGN.md. The code was reviewed against that table, step by step;
 //! only the remainders differ from the steps of const-hex (docs/DECISIONS.md).
 
-ghost use Rattle.std.specs.Prelude.{◌≡◌, ◌+◌, ◌*◌, ◌<◌, ◌≤◌, ◌↔◌, IsTrue, false, length, take, drop};
+ghost use Rattle.std.specs.Prelude.{◌≡◌, ◌*◌, ◌≤◌, ◌↔◌, IsTrue, false, length};
 ghost use Rattle.const_hex_arch.specs.Texts.{hex_text, AllDigits, Spells, Partial};
 
 use crate::arch::lanes::LaneOps;

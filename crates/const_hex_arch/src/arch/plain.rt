@@ -1,6 +1,6 @@
 //! The kernel that goes byte by byte.
 
-ghost use Rattle.std.specs.Prelude.{◌<◌, List, false};
+ghost use Rattle.std.specs.Prelude.{false};
 
 use crate::arch::Kernel;
 use crate::tables::{NIL, pair_at, value_at};

@@ -1,5 +1,4 @@
-use Rattle.std.proofs.Common.{◌≡◌, ℕ, ◌+◌, ◌*◌, ◌/◌, ◌%◌, ◌<◌, true, false, [], ◌∷◌, get_or, ◌&&◌, eqb, eqb→eq, arith}
-use lib.Ieee.Fits.{and_l, and_r}
+use Rattle.std.proofs.Common.{◌≡◌, ℕ, ◌+◌, ◌*◌, ◌/◌, ◌%◌, ◌<◌, true, false, get_or, eqb, eqb→eq, arith}
 use Rattle.const_hex_arch.specs.Texts.{hex_digit}
 use Rattle.const_hex_arch.specs.declared.tables.TheConstants.{PAIRS_LOWER, PAIRS_UPPER}
 use Rattle.const_hex_arch.proofs.lemmas.Tables.{every_below}

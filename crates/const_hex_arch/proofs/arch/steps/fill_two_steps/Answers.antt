@@ -1,4 +1,4 @@
-use Rattle.std.proofs.Common.{◌++◌, sym, ap, ◌∙◌}
+use Rattle.std.proofs.Common.{sym, ap, ◌∙◌}
 use Rattle.const_hex_arch.specs.Texts.{hex_text}
 use Rattle.const_hex_arch.proofs.lemmas.Steps.{parts}
 use Rattle.const_hex_arch.proofs.lemmas.Texts.{hex_text-append}
