@@ -1,5 +1,5 @@
 -- Texts of digits alone.
-use Rattle.std.proofs.Common.{ℕ, ◌+◌, ◌-◌, ◌<◌, ◌≢◌, ◌↔◌, List, ◌++◌, length, take, drop, get_or, refl, sym, arith}
+use Rattle.std.proofs.Common.{ℕ, ◌+◌, ◌<◌, ◌≢◌, ◌↔◌, List, ◌++◌, length, take, drop, get_or, refl, sym, arith}
 use Rattle.std.proofs.lemmas.Bool.Decides.{nat_tests}
 use Rattle.std.proofs.lemmas.List.{take_at, drop_at}
 use Rattle.std.proofs.lemmas.List.Elements.{All-append, All-take, All-drop, All-get_or, All-more, All-same}

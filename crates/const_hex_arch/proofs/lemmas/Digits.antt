@@ -1,5 +1,5 @@
 -- Digits and their values.
-use Rattle.std.proofs.Common.{◌≡◌, ℕ, ◌-◌, ◌<◌, ◌≢◌, eqb, eqb→eq, get_or, ◌⊎◌, Option, Some, None, IsSome, IsNone, inl, inr, refl, arith}
+use Rattle.std.proofs.Common.{◌≡◌, ℕ, ◌<◌, ◌≢◌, eqb, eqb→eq, get_or, ◌⊎◌, Option, Some, None, IsSome, IsNone, inl, inr, refl, arith}
 use Rattle.std.proofs.lemmas.Bool.Decides.{nat_tests}
 use Rattle.const_hex_arch.specs.declared.tables.TheConstants.{HEX_DECODE_LUT}
 use Rattle.const_hex_arch.specs.Texts.{hex_value, value_or_nil, IsDigit}

@@ -1,5 +1,5 @@
 -- What an output holds after a text was rejected.
-use Rattle.std.proofs.Common.{◌≡◌, ℕ, ◌+◌, ◌-◌, ◌*◌, ◌/◌, ◌<◌, ◌≤◌, List, length, take, drop, get_or, bit_or, Some, IsNone, inl, inr, refl, sym, ap, ◌∙◌, arith, take-add, drop-drop}
+use Rattle.std.proofs.Common.{◌≡◌, ℕ, ◌+◌, ◌*◌, ◌/◌, ◌<◌, ◌≤◌, List, length, take, drop, get_or, bit_or, Some, IsNone, inl, inr, refl, sym, ap, ◌∙◌, arith, take-add, drop-drop}
 use Rattle.std.proofs.lemmas.Nat.{or_lt}
 use Rattle.std.proofs.lemmas.List.Elements.{All-more}
 use Rattle.const_hex_arch.specs.Texts.{hex_value, value_or_nil, IsDigit, Spells, AllDigits, FirstBad, Partial}
