@@ -7,7 +7,7 @@ use core::fmt;
 /// Decodes a text that arrives in chunks, as from a file or a socket. Does not allocate.
 ///
 /// The text may be split anywhere, even between the two digits of a byte or within the prefix. A prefix is removed only
-/// at the start of the whole text, while [`decode_to_front`](crate::decode_to_front) would remove one of every chunk.
+/// at the start of the whole text, while [`decode_to_front`](crate::decode_to_front) would remove one from every chunk.
 ///
 /// ```
 /// # use const_hex_proved::{Decoder, FromHexError};

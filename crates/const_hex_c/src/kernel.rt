@@ -1,7 +1,7 @@
 //! The kernel that the functions for C call.
 //!
-//! Its functions are those of `const_hex_rust`. `c/asm/freeze` leaves their code out of what it writes for C: there
-//! `c/asm/dispatch.S` has functions of these names, which choose the machine code for the processor.
+//! `c/asm/freeze` leaves the code of its functions out of what it writes for C. There they are those of
+//! `const_hex_rust`, among which `c/asm/dispatch.S` chooses on x86-64.
 
 ghost use Rattle.std.specs.Prelude.{◌≡◌, ◌*◌, ◌↔◌, IsTrue, false, length};
 ghost use Rattle.const_hex.specs.Texts.{hex_text, AllDigits, Spells, Partial};
