@@ -69,6 +69,8 @@ def _goes_on(form, state, pointer, output=None):
     if output:
         here = Pointer(form.output, state.ghost["written"])
         require(output == here, "a kernel does not write on where the last one ended")
+        is_begun = form.body == form.digits or 0 in state.memory.written(form.output)
+        require(is_begun, "a kernel decodes before the byte that the waiting digit begins")
 
 
 def fill(code, state):

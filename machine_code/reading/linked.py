@@ -51,11 +51,11 @@ def builds_of(machine, is_rust):
 
 
 def functions_in(image):
-    """The functions of the library that a file has, by their names: triples of a call, a build and the symbol."""
+    """The functions of the library that a file has, by their names: pairs of a build and the symbol."""
     for is_rust in (False, True):
         for build in builds_of(image.machine, is_rust) if image.machine in FILES else ():
             for symbol in sorted(assembled(image.machine, build).exported & image.places.keys()):
-                yield NAME.sub("", OF_RUST.sub("const_hex_kernel_", symbol)), build, symbol
+                yield build, symbol
 
 
 class Comparison:
@@ -63,9 +63,16 @@ class Comparison:
     references of one section."""
 
     def __init__(self, image, is_rust):
-        self.image = image
-        self.objects = [assembled(image.machine, build) for build in builds_of(image.machine, is_rust)]
+        self.image, self.builds = image, builds_of(image.machine, is_rust)
+        self.objects = [assembled(image.machine, build) for build in self.builds]
         self.found, self.waiting = set(), []
+
+    def reached(self):
+        """The functions that were found, by their builds and symbols, also those that the file has no name for."""
+        for obj, section, _ in self.found:
+            for symbol in obj.exported:
+                if obj.section_at(obj.symbols[symbol]) is section:
+                    yield self.builds[self.objects.index(obj)], symbol
 
     def compare(self, symbol):
         """Refuses a function that is not the same, with all that it uses and that the file has."""
@@ -146,7 +153,7 @@ def _images(file):
              if name != METADATA or content[:4] not in (b"", b"rust")}
     for image in found.values():
         _require_names(image, ())
-    defined = {(symbol, at) for at, image in found.items() for _, _, symbol in functions_in(image)}
+    defined = {(symbol, at) for at, image in found.items() for _, symbol in functions_in(image)}
     if index and {(name, at) for name, at in index if name.startswith("const_hex_")} != defined:
         raise ValueError("the index of the archive names other members than those that have the symbols")
     return list(found.values())
@@ -161,20 +168,20 @@ def _require_names(image, wanted):
 def compared(file):
     """The functions of the library that a file has: of each its call, its build, the object that was proved, its symbol
     there, and why the file has another one, or None. A shared library that has one for C has all of them."""
-    result = []
-    for image in _images(file):
+    result = {}
+    for at, image in enumerate(_images(file)):
         if image.is_library and any(f"const_hex_{name}" in image.places for name in FUNCTIONS):
             _require_names(image, FUNCTIONS)
-        result += [(call, build, assembled(image.machine, build), symbol, _fault(image, build, symbol))
-                   for call, build, symbol in functions_in(image)]
+        for build, symbol in functions_in(image):
+            comparison, fault = Comparison(image, build.startswith("rust_")), None
+            try:
+                comparison.compare(symbol)
+            except ValueError as error:
+                fault = str(error)
+            for it in comparison.reached():
+                result.setdefault((at, image.machine, *it))
+            result[at, image.machine, build, symbol] = fault
     if not result:
         raise ValueError("it has no function of the library, or not the name of one")
-    return result
-
-
-def _fault(image, build, symbol):
-    try:
-        Comparison(image, build.startswith("rust_")).compare(symbol)
-    except ValueError as error:
-        return str(error)
-    return None
+    return [(NAME.sub("", OF_RUST.sub("const_hex_kernel_", symbol)), build, assembled(machine, build), symbol, fault)
+            for (_, machine, build, symbol), fault in result.items()]

@@ -14,7 +14,7 @@ import struct
 from collections import namedtuple
 
 FIRST = 0x10000
-GAP, LEAST_GAP = 0x1000, 64
+GAP, GREATEST_GAP, LEAST_GAP = 0x1000, 1 << 22, 64
 SEED = random.getrandbits(64)
 # As ELF has them: the header of a section, flags of sections, and their types.
 Header = namedtuple("Header", "name type flags address offset size link info alignment entry_size")
@@ -130,7 +130,8 @@ class Object:
 
     def add_symbols(self, table, names, placed, end, first):
         """Adds the symbols of a table, and yields where each lies. Those that the object does not have lie after its
-        end. Local ones stand before the first of the others."""
+        end, at unknown distances. Local ones stand before the first of the others."""
+        drawn = random.Random(SEED)
         for at, (name, kind, other, index, value, _) in enumerate(struct.iter_unpack("<IBBHQQ", table)):
             name, binding, kind = _text(names, name), kind >> 4, kind & 15
             if (at < first) != (binding == 0):
@@ -149,7 +150,7 @@ class Object:
                 self.exported |= {name} if binding == GLOBAL else set()
                 yield section.address + value
             else:
-                end += GAP - end % GAP
+                end += drawn.randrange(GAP, GREATEST_GAP, 16) - end % 16
                 self.undefined |= {end: name} if index == 0 and binding == GLOBAL else {}
                 yield end
 

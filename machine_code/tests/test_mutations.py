@@ -85,6 +85,13 @@ MUTATIONS = [
     ("a kernel that writes where it reads", C, ("decoder_update", 3, 2), "call SYMBOL(const_hex_kernel_read)",
      "mov rdx,rdi; call SYMBOL(const_hex_kernel_read)", "writes to the region that it reads",
      "const_hex_decoder_decode_after"),
+    ("a kernel that decodes before the byte of the waiting digit", C, ("decoder_update", 3, 7), "lea rdi,[rsp+0x6] | "
+     "mov rcx,r12; call SYMBOL(const_hex_kernel_read)", "cmp r12,4; jb 8f; lea rdi,[r14+1]; lea rsi,[r12*2-2]; "
+     "lea rdx,[r13+1]; lea rcx,[r12-1]; call SYMBOL(const_hex_kernel_read); test al,al; je 2f; 8: lea rdi,[rsp+0x6] | "
+     "mov rcx,r12; cmp r12,3; jae 8f; call SYMBOL(const_hex_kernel_read); 8:", "before the byte that the waiting digit",
+     "const_hex_decoder_decode_after"),
+    ("a place after a kernel is called", C, ("decode_exact", 0, 6), "call SYMBOL(const_hex_kernel_read)",
+     "call SYMBOL(const_hex_kernel_check)+0x1000", "where no instruction is"),
     ("a text that is checked in place of decoded", C, ("decode_exact", 0, 6), "call SYMBOL(const_hex_kernel_read)",
      "call SYMBOL(const_hex_kernel_check)", "a text is checked, and not decoded"),
     ("how long a kernel takes depends on a byte", C, ("check_raw", 0, 2), "call SYMBOL(const_hex_kernel_check)",
