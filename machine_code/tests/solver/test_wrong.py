@@ -83,7 +83,7 @@ WRONG = [
     ("a vector beyond constants", "v3", "check", {"start": "movdqu xmm0, [rip+table+17]"}, OUTSIDE),
     ("an address without a relocation", "v3", "check", {"start": "mov al, [rip+0x40]"}, "an address without its reloc"),
     ("a call of another library", "v3", "check", {"start": "call memcpy"}, "it leaves the code"),
-    ("code that ends", "v3", "check", {"start": "jmp helper", "helper": "nop; .byte 0xf4;"}, "without a meaning"),
+    ("code that ends", "v3", "check", {"start": "call helper", "helper": "nop; .byte 0xf4;"}, "without a meaning"),
     ("a length of 32 bits", "v3", "check", {"start": "mov esi, esi"}, PASSES),
     ("a length by a shift", "v3", "check",
      {"start": "mov rax, rsi; shr rax, 7; cmp rax, 1000; jne 1f; mov eax, 1; ret"},
