@@ -1,4 +1,4 @@
-//! The program `const_hex_memory`: makes each call of the libraries, and judges what it returns.
+//! The program `const_hex_memory`: makes each call that gets an allocator, and judges what it returns.
 //!
 //! A call has to return what it returns with ample memory, or, if it may allocate, its error for that.
 //! The program prints each call that does not, and at last how many were out of memory. `run`, in this
