@@ -63,7 +63,7 @@ pub(crate) fn in_both_halves(lanes: [u8; 16]) -> u8x32 {
 /// Two digits for each lane, in order: the text of the first 8 lanes, and the text of the last 8.
 #[inline(always)]
 pub fn encode_chunk<const UPPER: bool>(v: u8x16) -> [u8x16; 2] {
-    in_two(encode_lanes(v, UPPER, false))
+    Lanes16::digits_of(v, UPPER, false)
 }
 
 /// Whether every lane is a digit.
@@ -136,30 +136,19 @@ impl LaneOps<16> for Lanes16 {
         in_two(encode_lanes(v, upper, row_copy))
     }
 
+    // Constant time: this is a shuffle within a register, so no byte selects a memory address.
+    // `swizzle_dyn` takes indices from 0 to 15, and from 128 on, for which it returns 0. The mask
+    // leaves only such indices. On x86-64 it costs nothing, since `pshufb` looks at exactly these five
+    // bits.
     #[inline(always)]
-    fn values(v: u8x16) -> u8x16 {
-        lanes::values_within(v, look_up_limits(v))
-    }
-
-    #[inline(always)]
-    fn marks(v: u8x16) -> u8x16 {
-        lanes::marks_beyond(v, lanes::values_within(v, look_up_limits(v)))
+    fn look_up_limits(v: u8x16) -> u8x16 {
+        u8x16::from_array(LIMITS).swizzle_dyn(v & u8x16::splat(0x8F))
     }
 
     #[inline(always)]
     fn merge(first: u8x16, second: u8x16, row_copy: bool) -> u8x16 {
         pack(join(first, second), row_copy)
     }
-}
-
-/// The limit of each lane. If the lane is a digit, its value is at most the limit.
-// Constant time: this is a shuffle within a register, so no byte selects a memory address.
-// `swizzle_dyn` takes indices from 0 to 15, and from 128 on, for which it returns 0. The mask
-// leaves only such indices. On x86-64 it costs nothing, since `pshufb` looks at exactly these five
-// bits.
-#[inline(always)]
-pub(crate) fn look_up_limits(v: u8x16) -> u8x16 {
-    u8x16::from_array(LIMITS).swizzle_dyn(v & u8x16::splat(0x8F))
 }
 
 /// A vector in its halves.
