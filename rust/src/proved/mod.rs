@@ -41,7 +41,7 @@ pub use self::formatting::text::*;
 //    1  Rust's errors are not copied
 //   26  a formatter has a lifetime in place of its writer's type
 //   10  a function for C takes slices, which capi makes of pointers and lengths, and is compiled there alone
-//   88  all crates are one module
+//   90  all crates are one module
 //    5  an allocation never fails: without memory the program ends
 //  110  an assertion names no runtime
 //    3  an example names a kernel that each target has
@@ -55,7 +55,7 @@ pub use self::formatting::text::*;
 //    1  and the crate's decoder is cloned
 //    1  before it reads a chunk
 //   43  deleted: attribute
-//  228  deleted: contract
+//  227  deleted: contract
 //  203  deleted: ghost item
 //    4  deleted: model
 //    1  each value may be dropped

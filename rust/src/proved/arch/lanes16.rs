@@ -106,7 +106,7 @@ impl Kernel for Lanes16 {
 
     #[inline(always)]
     fn fill(input: &[u8], upper: bool, output: &mut [u8]) {
-        loops::fill_in_steps::<16, Lanes16, Lanes16>(input, upper, output);
+        loops::fill_in_steps::<16, Lanes16>(input, upper, output);
     }
 
     // Not `always`: `decode_body` calls `CheckFirst::<K>` in a branch that is never taken for this
@@ -114,19 +114,19 @@ impl Kernel for Lanes16 {
     #[inline]
     fn check(input: &[u8]) -> bool {
         if input.len() < 16 {
-            return small_input::check::<Lanes16>(input);
+            return small_input::check(input);
         }
         loops::check_in_steps::<16, Lanes16>(input)
     }
 
     #[inline(always)]
     fn decode_checked(input: &[u8], output: &mut [u8]) -> bool {
-        loops::decode_in_steps::<16, true, Lanes16, Lanes16>(input, output)
+        loops::decode_in_steps::<16, true, Lanes16>(input, output)
     }
 
     #[inline(always)]
     fn decode_unchecked(input: &[u8], output: &mut [u8]) {
-        loops::decode_digits_in_steps::<16, Lanes16, Lanes16>(input, output);
+        loops::decode_digits_in_steps::<16, Lanes16>(input, output);
     }
 }
 
