@@ -287,15 +287,308 @@
 /* const_hex_rust::fill */
 	hidden const_hex_1_0_0_fill
 	function const_hex_1_0_0_fill
-	mov x8, x2
-	cbz w3, 2f
-	mov w2, #0x1
-	mov x3, x8
-	b const_hex_1_0_0_loops_fill_in_steps
+	cmp x1, #0x3f
+	b.hi 2f
+	cmp x1, #0x20
+	b.cc 5f
+	ldp q0, q1, [x0]
+	cmp w3, #0x0
+	mov w8, #0x20
+	adrp_label x9, const_hex_1_0_0_constant_2
+	add_label x9, x9, const_hex_1_0_0_constant_2
+	csel x8, x8, xzr, ne
+	add x8, x9, x8
+	uxtl2 v2.8h, v0.16b
+	uxtl v3.8h, v0.8b
+	uxtl2 v4.8h, v1.16b
+	uxtl v1.8h, v1.8b
+	ldr q0, [x8, #16]
+	mul v2.8h, v0.8h, v2.8h
+	mul v3.8h, v0.8h, v3.8h
+	mul v4.8h, v0.8h, v4.8h
+	mul v5.8h, v0.8h, v1.8h
+	ldr q1, [x8]
+	subs x8, x1, #0x20
+	ushr v2.8h, v2.8h, #4
+	ushr v3.8h, v3.8h, #4
+	ushr v4.8h, v4.8h, #4
+	ushr v5.8h, v5.8h, #4
+	tbl v2.16b, {v1.16b}, v2.16b
+	tbl v3.16b, {v1.16b}, v3.16b
+	tbl v4.16b, {v1.16b}, v4.16b
+	tbl v5.16b, {v1.16b}, v5.16b
+	stp q3, q2, [x2]
+	stp q5, q4, [x2, #32]
+	b.eq 6f
+	add x9, x0, x8
+	add x8, x2, x8, lsl #1
+	ldp q2, q3, [x9]
+	uxtl2 v4.8h, v2.16b
+	uxtl v2.8h, v2.8b
+	uxtl2 v5.8h, v3.16b
+	uxtl v3.8h, v3.8b
+	mul v4.8h, v0.8h, v4.8h
+	mul v2.8h, v0.8h, v2.8h
+	mul v5.8h, v0.8h, v5.8h
+	mul v0.8h, v0.8h, v3.8h
+	ushr v3.8h, v4.8h, #4
+	ushr v2.8h, v2.8h, #4
+	ushr v4.8h, v5.8h, #4
+	ushr v0.8h, v0.8h, #4
+	tbl v3.16b, {v1.16b}, v3.16b
+	tbl v2.16b, {v1.16b}, v2.16b
+	tbl v4.16b, {v1.16b}, v4.16b
+	tbl v0.16b, {v1.16b}, v0.16b
+	stp q2, q3, [x8]
+	stp q0, q4, [x8, #32]
+	ret
 2:
-	mov w2, wzr
-	mov x3, x8
-	b const_hex_1_0_0_loops_fill_in_steps
+	cmp w3, #0x0
+	mov w8, #0x20
+	and x9, x1, #0x40
+	adrp_label x10, const_hex_1_0_0_constant_2
+	add_label x10, x10, const_hex_1_0_0_constant_2
+	csel x8, x8, xzr, ne
+	add x9, x10, x9
+	mov x10, x1
+	add x8, x9, x8
+	mov x9, x0
+	ldp q0, q1, [x8]
+	mov x8, x2
+3:
+	ldp q2, q3, [x9]
+	sub x10, x10, #0x40
+	cmp x10, #0x3f
+	uxtl2 v4.8h, v2.16b
+	uxtl v2.8h, v2.8b
+	uxtl2 v5.8h, v3.16b
+	uxtl v3.8h, v3.8b
+	mul v4.8h, v1.8h, v4.8h
+	mul v2.8h, v1.8h, v2.8h
+	mul v5.8h, v1.8h, v5.8h
+	mul v3.8h, v1.8h, v3.8h
+	ushr v4.8h, v4.8h, #4
+	ushr v2.8h, v2.8h, #4
+	ushr v5.8h, v5.8h, #4
+	ushr v3.8h, v3.8h, #4
+	tbl v4.16b, {v0.16b}, v4.16b
+	tbl v2.16b, {v0.16b}, v2.16b
+	tbl v5.16b, {v0.16b}, v5.16b
+	tbl v3.16b, {v0.16b}, v3.16b
+	stp q2, q4, [x8]
+	stp q3, q5, [x8, #32]
+	ldp q2, q3, [x9, #32]
+	add x9, x9, #0x40
+	uxtl2 v4.8h, v2.16b
+	uxtl v2.8h, v2.8b
+	uxtl2 v5.8h, v3.16b
+	uxtl v3.8h, v3.8b
+	mul v4.8h, v1.8h, v4.8h
+	mul v2.8h, v1.8h, v2.8h
+	mul v5.8h, v1.8h, v5.8h
+	mul v3.8h, v1.8h, v3.8h
+	ushr v4.8h, v4.8h, #4
+	ushr v2.8h, v2.8h, #4
+	ushr v5.8h, v5.8h, #4
+	ushr v3.8h, v3.8h, #4
+	tbl v4.16b, {v0.16b}, v4.16b
+	tbl v2.16b, {v0.16b}, v2.16b
+	tbl v5.16b, {v0.16b}, v5.16b
+	tbl v3.16b, {v0.16b}, v3.16b
+	stp q2, q4, [x8, #64]
+	stp q3, q5, [x8, #96]
+	add x8, x8, #0x80
+	b.hi 3b
+	cbz x10, 6f
+	cmp x10, #0x21
+	b.cc 4f
+	ldp q2, q3, [x9]
+	uxtl2 v4.8h, v2.16b
+	uxtl v2.8h, v2.8b
+	uxtl2 v5.8h, v3.16b
+	uxtl v3.8h, v3.8b
+	mul v4.8h, v1.8h, v4.8h
+	mul v2.8h, v1.8h, v2.8h
+	mul v5.8h, v1.8h, v5.8h
+	mul v3.8h, v1.8h, v3.8h
+	ushr v4.8h, v4.8h, #4
+	ushr v2.8h, v2.8h, #4
+	ushr v5.8h, v5.8h, #4
+	ushr v3.8h, v3.8h, #4
+	tbl v4.16b, {v0.16b}, v4.16b
+	tbl v2.16b, {v0.16b}, v2.16b
+	tbl v5.16b, {v0.16b}, v5.16b
+	tbl v3.16b, {v0.16b}, v3.16b
+	stp q2, q4, [x8]
+	stp q3, q5, [x8, #32]
+4:
+	sub x8, x1, #0x20
+	add x9, x0, x8
+	add x8, x2, x8, lsl #1
+	ldp q2, q3, [x9]
+	uxtl2 v4.8h, v2.16b
+	uxtl v2.8h, v2.8b
+	uxtl2 v5.8h, v3.16b
+	uxtl v3.8h, v3.8b
+	mul v4.8h, v1.8h, v4.8h
+	mul v2.8h, v1.8h, v2.8h
+	mul v5.8h, v1.8h, v5.8h
+	mul v1.8h, v1.8h, v3.8h
+	ushr v3.8h, v4.8h, #4
+	ushr v2.8h, v2.8h, #4
+	ushr v4.8h, v5.8h, #4
+	ushr v1.8h, v1.8h, #4
+	tbl v3.16b, {v0.16b}, v3.16b
+	tbl v2.16b, {v0.16b}, v2.16b
+	tbl v4.16b, {v0.16b}, v4.16b
+	tbl v0.16b, {v0.16b}, v1.16b
+	stp q2, q3, [x8]
+	stp q0, q4, [x8, #32]
+	ret
+5:
+	cmp x1, #0x10
+	b.cc 7f
+	ldr q0, [x0]
+	cmp w3, #0x0
+	mov w8, #0x20
+	adrp_label x9, const_hex_1_0_0_constant_2
+	add_label x9, x9, const_hex_1_0_0_constant_2
+	csel x8, x8, xzr, ne
+	add x8, x9, x8
+	uxtl v2.8h, v0.8b
+	uxtl2 v0.8h, v0.16b
+	ldr q1, [x8, #16]
+	mul v2.8h, v1.8h, v2.8h
+	mul v3.8h, v1.8h, v0.8h
+	ldr q0, [x8]
+	subs x8, x1, #0x10
+	ushr v2.8h, v2.8h, #4
+	ushr v3.8h, v3.8h, #4
+	tbl v2.16b, {v0.16b}, v2.16b
+	tbl v3.16b, {v0.16b}, v3.16b
+	stp q2, q3, [x2]
+	b.ne 8f
+6:
+	ret
+7:
+	cmp x1, #0x1
+	b.ne 9f
+	movi v0.16b, #0x0
+	ldrb w8, [x0]
+	cmp w3, #0x0
+	adrp_label x9, const_hex_1_0_0_constant_2
+	add_label x9, x9, const_hex_1_0_0_constant_2
+	mov v0.b[0], w8
+	mov v0.b[1], w8
+	mov w8, #0x20
+	csel x8, x8, xzr, ne
+	add x8, x9, x8
+	ldr q1, [x8, #16]
+	uxtl v0.8h, v0.8b
+	mul v0.8h, v1.8h, v0.8h
+	ldr q1, [x8]
+	ushr v0.8h, v0.8h, #4
+	tbl v0.16b, {v1.16b}, v0.16b
+	mov b1, v0.b[3]
+	st1 {v0.b}[2], [x2]
+	stur b1, [x2, #1]
+	ret
+8:
+	ldr q2, [x0, x8]
+	add x8, x2, x8, lsl #1
+	uxtl v3.8h, v2.8b
+	uxtl2 v2.8h, v2.16b
+	mul v3.8h, v1.8h, v3.8h
+	mul v1.8h, v1.8h, v2.8h
+	ushr v2.8h, v3.8h, #4
+	ushr v1.8h, v1.8h, #4
+	tbl v2.16b, {v0.16b}, v2.16b
+	tbl v0.16b, {v0.16b}, v1.16b
+	stp q2, q0, [x8]
+	ret
+9:
+	cmp x1, #0x8
+	b.cc 12f
+	add x8, x0, x1
+	cmp w3, #0x0
+	mov w9, #0x20
+	ldr d0, [x0]
+	ldur d1, [x8, #-8]
+	csel x8, x9, xzr, ne
+	adrp_label x9, const_hex_1_0_0_constant_2
+	add_label x9, x9, const_hex_1_0_0_constant_2
+	add x8, x9, x8
+	uxtl v0.8h, v0.8b
+	uxtl v1.8h, v1.8b
+	ldr q2, [x8, #16]
+	mul v0.8h, v2.8h, v0.8h
+	mul v1.8h, v2.8h, v1.8h
+	ldr q2, [x8]
+	add x8, x2, x1, lsl #1
+	ushr v0.8h, v0.8h, #4
+	ushr v1.8h, v1.8h, #4
+	tbl v0.16b, {v2.16b}, v0.16b
+	tbl v1.16b, {v2.16b}, v1.16b
+	str q0, [x2]
+	stur q1, [x8, #-16]
+	ret
+12:
+	cmp x1, #0x4
+	b.cc 13f
+	add x8, x0, x1
+	ldr s0, [x0]
+	cmp w3, #0x0
+	sub x8, x8, #0x4
+	adrp_label x9, const_hex_1_0_0_constant_2
+	add_label x9, x9, const_hex_1_0_0_constant_2
+	ld1 {v0.s}[1], [x8]
+	mov w8, #0x20
+	csel x8, x8, xzr, ne
+	add x8, x9, x8
+	uxtl v0.8h, v0.8b
+	ldr q1, [x8, #16]
+	mul v0.8h, v1.8h, v0.8h
+	ldr q1, [x8]
+	add x8, x2, x1, lsl #1
+	ushr v0.8h, v0.8h, #4
+	tbl v0.16b, {v1.16b}, v0.16b
+	ext v1.16b, v0.16b, v0.16b, #8
+	str d0, [x2]
+	stur d1, [x8, #-8]
+	ret
+13:
+	cbz x1, 6b
+	add x8, x0, x1
+	ldr h0, [x0]
+	cmp w3, #0x0
+	sub x8, x8, #0x2
+	adrp_label x9, const_hex_1_0_0_constant_2
+	add_label x9, x9, const_hex_1_0_0_constant_2
+	ld1 {v0.h}[1], [x8]
+	mov w8, #0x20
+	csel x8, x8, xzr, ne
+	add x8, x9, x8
+	uxtl v0.8h, v0.8b
+	ldr q1, [x8, #16]
+	mul v0.8h, v1.8h, v0.8h
+	ldr q1, [x8]
+	ushr v0.8h, v0.8h, #4
+	tbl v0.16b, {v1.16b}, v0.16b
+	umov w8, v0.b[4]
+	umov w9, v0.b[5]
+	fmov s1, w8
+	umov w8, v0.b[6]
+	mov v1.h[1], w9
+	umov w9, v0.b[7]
+	zip1 v0.16b, v0.16b, v0.16b
+	mov v1.h[2], w8
+	xtn v0.8b, v0.8h
+	add x8, x2, x1, lsl #1
+	mov v1.h[3], w9
+	str s0, [x2]
+	xtn v1.8b, v1.8h
+	stur s1, [x8, #-4]
+	ret
 	end const_hex_1_0_0_fill
 
 /* const_hex_rust::read */
@@ -550,310 +843,6 @@
 	ldp x29, x30, [sp], #16
 	ret
 	end const_hex_1_0_0_read
-
-/* const_hex_arch::arch::loops::fill_in_steps */
-	function const_hex_1_0_0_loops_fill_in_steps
-	cmp x1, #0x40
-	b.cs 2f
-	cmp x1, #0x20
-	b.cc 5f
-	ldp q0, q1, [x0]
-	cmp w2, #0x0
-	mov w8, #0x20
-	adrp_label x9, const_hex_1_0_0_constant_2
-	add_label x9, x9, const_hex_1_0_0_constant_2
-	csel x8, x8, xzr, ne
-	add x8, x9, x8
-	uxtl2 v2.8h, v0.16b
-	uxtl v3.8h, v0.8b
-	uxtl2 v4.8h, v1.16b
-	uxtl v1.8h, v1.8b
-	ldr q0, [x8, #16]
-	mul v2.8h, v0.8h, v2.8h
-	mul v3.8h, v0.8h, v3.8h
-	mul v4.8h, v0.8h, v4.8h
-	mul v5.8h, v0.8h, v1.8h
-	ldr q1, [x8]
-	subs x8, x1, #0x20
-	ushr v2.8h, v2.8h, #4
-	ushr v3.8h, v3.8h, #4
-	ushr v4.8h, v4.8h, #4
-	ushr v5.8h, v5.8h, #4
-	tbl v2.16b, {v1.16b}, v2.16b
-	tbl v3.16b, {v1.16b}, v3.16b
-	tbl v4.16b, {v1.16b}, v4.16b
-	tbl v5.16b, {v1.16b}, v5.16b
-	stp q3, q2, [x3]
-	stp q5, q4, [x3, #32]
-	b.eq 6f
-	add x9, x0, x8
-	add x8, x3, x8, lsl #1
-	ldp q2, q3, [x9]
-	uxtl2 v4.8h, v2.16b
-	uxtl v2.8h, v2.8b
-	uxtl2 v5.8h, v3.16b
-	uxtl v3.8h, v3.8b
-	mul v4.8h, v0.8h, v4.8h
-	mul v2.8h, v0.8h, v2.8h
-	mul v5.8h, v0.8h, v5.8h
-	mul v0.8h, v0.8h, v3.8h
-	ushr v3.8h, v4.8h, #4
-	ushr v2.8h, v2.8h, #4
-	ushr v4.8h, v5.8h, #4
-	ushr v0.8h, v0.8h, #4
-	tbl v3.16b, {v1.16b}, v3.16b
-	tbl v2.16b, {v1.16b}, v2.16b
-	tbl v4.16b, {v1.16b}, v4.16b
-	tbl v0.16b, {v1.16b}, v0.16b
-	stp q2, q3, [x8]
-	stp q0, q4, [x8, #32]
-	ret
-2:
-	cmp w2, #0x0
-	mov w8, #0x20
-	adrp_label x9, const_hex_1_0_0_constant_2
-	add_label x9, x9, const_hex_1_0_0_constant_2
-	csel x8, x8, xzr, ne
-	mov x10, x1
-	add x8, x9, x8
-	mov x9, x0
-	ldp q0, q1, [x8]
-	mov x8, x3
-3:
-	ldp q2, q3, [x9]
-	sub x10, x10, #0x40
-	cmp x10, #0x3f
-	uxtl2 v4.8h, v2.16b
-	uxtl v2.8h, v2.8b
-	uxtl2 v5.8h, v3.16b
-	uxtl v3.8h, v3.8b
-	mul v4.8h, v1.8h, v4.8h
-	mul v2.8h, v1.8h, v2.8h
-	mul v5.8h, v1.8h, v5.8h
-	mul v3.8h, v1.8h, v3.8h
-	ushr v4.8h, v4.8h, #4
-	ushr v2.8h, v2.8h, #4
-	ushr v5.8h, v5.8h, #4
-	ushr v3.8h, v3.8h, #4
-	tbl v4.16b, {v0.16b}, v4.16b
-	tbl v2.16b, {v0.16b}, v2.16b
-	tbl v5.16b, {v0.16b}, v5.16b
-	tbl v3.16b, {v0.16b}, v3.16b
-	stp q2, q4, [x8]
-	stp q3, q5, [x8, #32]
-	ldp q2, q3, [x9, #32]
-	add x9, x9, #0x40
-	uxtl2 v4.8h, v2.16b
-	uxtl v2.8h, v2.8b
-	uxtl2 v5.8h, v3.16b
-	uxtl v3.8h, v3.8b
-	mul v4.8h, v1.8h, v4.8h
-	mul v2.8h, v1.8h, v2.8h
-	mul v5.8h, v1.8h, v5.8h
-	mul v3.8h, v1.8h, v3.8h
-	ushr v4.8h, v4.8h, #4
-	ushr v2.8h, v2.8h, #4
-	ushr v5.8h, v5.8h, #4
-	ushr v3.8h, v3.8h, #4
-	tbl v4.16b, {v0.16b}, v4.16b
-	tbl v2.16b, {v0.16b}, v2.16b
-	tbl v5.16b, {v0.16b}, v5.16b
-	tbl v3.16b, {v0.16b}, v3.16b
-	stp q2, q4, [x8, #64]
-	stp q3, q5, [x8, #96]
-	add x8, x8, #0x80
-	b.hi 3b
-	cbz x10, 6f
-	cmp x10, #0x21
-	b.cc 4f
-	ldp q2, q3, [x9]
-	uxtl2 v4.8h, v2.16b
-	uxtl v2.8h, v2.8b
-	uxtl2 v5.8h, v3.16b
-	uxtl v3.8h, v3.8b
-	mul v4.8h, v1.8h, v4.8h
-	mul v2.8h, v1.8h, v2.8h
-	mul v5.8h, v1.8h, v5.8h
-	mul v3.8h, v1.8h, v3.8h
-	ushr v4.8h, v4.8h, #4
-	ushr v2.8h, v2.8h, #4
-	ushr v5.8h, v5.8h, #4
-	ushr v3.8h, v3.8h, #4
-	tbl v4.16b, {v0.16b}, v4.16b
-	tbl v2.16b, {v0.16b}, v2.16b
-	tbl v5.16b, {v0.16b}, v5.16b
-	tbl v3.16b, {v0.16b}, v3.16b
-	stp q2, q4, [x8]
-	stp q3, q5, [x8, #32]
-4:
-	sub x8, x1, #0x20
-	add x9, x0, x8
-	add x8, x3, x8, lsl #1
-	ldp q2, q3, [x9]
-	uxtl2 v4.8h, v2.16b
-	uxtl v2.8h, v2.8b
-	uxtl2 v5.8h, v3.16b
-	uxtl v3.8h, v3.8b
-	mul v4.8h, v1.8h, v4.8h
-	mul v2.8h, v1.8h, v2.8h
-	mul v5.8h, v1.8h, v5.8h
-	mul v1.8h, v1.8h, v3.8h
-	ushr v3.8h, v4.8h, #4
-	ushr v2.8h, v2.8h, #4
-	ushr v4.8h, v5.8h, #4
-	ushr v1.8h, v1.8h, #4
-	tbl v3.16b, {v0.16b}, v3.16b
-	tbl v2.16b, {v0.16b}, v2.16b
-	tbl v4.16b, {v0.16b}, v4.16b
-	tbl v0.16b, {v0.16b}, v1.16b
-	stp q2, q3, [x8]
-	stp q0, q4, [x8, #32]
-	ret
-5:
-	cmp x1, #0x10
-	b.cc 7f
-	ldr q0, [x0]
-	cmp w2, #0x0
-	mov w8, #0x20
-	adrp_label x9, const_hex_1_0_0_constant_2
-	add_label x9, x9, const_hex_1_0_0_constant_2
-	csel x8, x8, xzr, ne
-	add x8, x9, x8
-	uxtl v2.8h, v0.8b
-	uxtl2 v0.8h, v0.16b
-	ldr q1, [x8, #16]
-	mul v2.8h, v1.8h, v2.8h
-	mul v3.8h, v1.8h, v0.8h
-	ldr q0, [x8]
-	subs x8, x1, #0x10
-	ushr v2.8h, v2.8h, #4
-	ushr v3.8h, v3.8h, #4
-	tbl v2.16b, {v0.16b}, v2.16b
-	tbl v3.16b, {v0.16b}, v3.16b
-	stp q2, q3, [x3]
-	b.ne 8f
-6:
-	ret
-7:
-	cmp x1, #0x1
-	b.ne 9f
-	movi v0.16b, #0x0
-	ldrb w8, [x0]
-	cmp w2, #0x0
-	adrp_label x9, const_hex_1_0_0_constant_2
-	add_label x9, x9, const_hex_1_0_0_constant_2
-	mov v0.b[0], w8
-	mov v0.b[1], w8
-	mov w8, #0x20
-	csel x8, x8, xzr, ne
-	add x8, x9, x8
-	ldr q1, [x8, #16]
-	uxtl v0.8h, v0.8b
-	mul v0.8h, v1.8h, v0.8h
-	ldr q1, [x8]
-	ushr v0.8h, v0.8h, #4
-	tbl v0.16b, {v1.16b}, v0.16b
-	mov b1, v0.b[3]
-	st1 {v0.b}[2], [x3]
-	stur b1, [x3, #1]
-	ret
-8:
-	ldr q2, [x0, x8]
-	add x8, x3, x8, lsl #1
-	uxtl v3.8h, v2.8b
-	uxtl2 v2.8h, v2.16b
-	mul v3.8h, v1.8h, v3.8h
-	mul v1.8h, v1.8h, v2.8h
-	ushr v2.8h, v3.8h, #4
-	ushr v1.8h, v1.8h, #4
-	tbl v2.16b, {v0.16b}, v2.16b
-	tbl v0.16b, {v0.16b}, v1.16b
-	stp q2, q0, [x8]
-	ret
-9:
-	cmp x1, #0x8
-	b.cc 12f
-	add x8, x0, x1
-	cmp w2, #0x0
-	mov w9, #0x20
-	ldr d0, [x0]
-	ldur d1, [x8, #-8]
-	csel x8, x9, xzr, ne
-	adrp_label x9, const_hex_1_0_0_constant_2
-	add_label x9, x9, const_hex_1_0_0_constant_2
-	add x8, x9, x8
-	uxtl v0.8h, v0.8b
-	uxtl v1.8h, v1.8b
-	ldr q2, [x8, #16]
-	mul v0.8h, v2.8h, v0.8h
-	mul v1.8h, v2.8h, v1.8h
-	ldr q2, [x8]
-	add x8, x3, x1, lsl #1
-	ushr v0.8h, v0.8h, #4
-	ushr v1.8h, v1.8h, #4
-	tbl v0.16b, {v2.16b}, v0.16b
-	tbl v1.16b, {v2.16b}, v1.16b
-	str q0, [x3]
-	stur q1, [x8, #-16]
-	ret
-12:
-	cmp x1, #0x4
-	b.cc 13f
-	add x8, x0, x1
-	ldr s0, [x0]
-	cmp w2, #0x0
-	sub x8, x8, #0x4
-	adrp_label x9, const_hex_1_0_0_constant_2
-	add_label x9, x9, const_hex_1_0_0_constant_2
-	ld1 {v0.s}[1], [x8]
-	mov w8, #0x20
-	csel x8, x8, xzr, ne
-	add x8, x9, x8
-	uxtl v0.8h, v0.8b
-	ldr q1, [x8, #16]
-	mul v0.8h, v1.8h, v0.8h
-	ldr q1, [x8]
-	add x8, x3, x1, lsl #1
-	ushr v0.8h, v0.8h, #4
-	tbl v0.16b, {v1.16b}, v0.16b
-	ext v1.16b, v0.16b, v0.16b, #8
-	str d0, [x3]
-	stur d1, [x8, #-8]
-	ret
-13:
-	cbz x1, 6b
-	add x8, x0, x1
-	ldr h0, [x0]
-	cmp w2, #0x0
-	sub x8, x8, #0x2
-	adrp_label x9, const_hex_1_0_0_constant_2
-	add_label x9, x9, const_hex_1_0_0_constant_2
-	ld1 {v0.h}[1], [x8]
-	mov w8, #0x20
-	csel x8, x8, xzr, ne
-	add x8, x9, x8
-	uxtl v0.8h, v0.8b
-	ldr q1, [x8, #16]
-	mul v0.8h, v1.8h, v0.8h
-	ldr q1, [x8]
-	ushr v0.8h, v0.8h, #4
-	tbl v0.16b, {v1.16b}, v0.16b
-	umov w8, v0.b[4]
-	umov w9, v0.b[5]
-	fmov s1, w8
-	umov w8, v0.b[6]
-	mov v1.h[1], w9
-	umov w9, v0.b[7]
-	zip1 v0.16b, v0.16b, v0.16b
-	mov v1.h[2], w8
-	xtn v0.8b, v0.8h
-	add x8, x3, x1, lsl #1
-	mov v1.h[3], w9
-	str s0, [x3]
-	xtn v1.8b, v1.8h
-	stur s1, [x8, #-4]
-	ret
-	end const_hex_1_0_0_loops_fill_in_steps
 
 /* const_hex_arch::arch::small_input::decode_small */
 	function const_hex_1_0_0_small_input_decode_small

@@ -246,15 +246,265 @@
 /* const_hex_rust::fill */
 	hidden const_hex_1_0_0_fill_v2
 	function const_hex_1_0_0_fill_v2
-	mov    eax,ecx
-	mov    rcx,rdx
-	test   eax,eax
-	je     2f
-	mov    edx,0x1
-	jmp    const_hex_1_0_0_loops_fill_in_steps_v2
+	cmp    rsi,0x3f
+	ja     3f
+	cmp    rsi,0x20
+	jb     6f
+	pmovzxbw xmm2,QWORD PTR [rdi+0x8]
+	pmovzxbw xmm3,QWORD PTR [rdi]
+	movzx  eax,cl
+	shl    eax,0x5
+	lea    rcx,[rip + const_hex_1_0_0_constant_4_v2]
+	movdqu xmm0,XMMWORD PTR [rax+rcx*1]
+	movdqu xmm1,XMMWORD PTR [rax+rcx*1+0x10]
+	pmullw xmm3,xmm1
+	pmullw xmm2,xmm1
+	psrlw  xmm2,0x4
+	psrlw  xmm3,0x4
+	movdqa xmm4,xmm0
+	pshufb xmm4,xmm3
+	movdqa xmm3,xmm0
+	pmovzxbw xmm5,QWORD PTR [rdi+0x18]
+	pshufb xmm3,xmm2
+	pmovzxbw xmm2,QWORD PTR [rdi+0x10]
+	pmullw xmm2,xmm1
+	pmullw xmm5,xmm1
+	psrlw  xmm5,0x4
+	psrlw  xmm2,0x4
+	movdqa xmm6,xmm0
+	pshufb xmm6,xmm2
+	movdqa xmm2,xmm0
+	pshufb xmm2,xmm5
+	movdqu XMMWORD PTR [rdx+0x10],xmm3
+	movdqu XMMWORD PTR [rdx],xmm4
+	movdqu XMMWORD PTR [rdx+0x30],xmm2
+	movdqu XMMWORD PTR [rdx+0x20],xmm6
+	cmp    rsi,0x20
+	jne    5f
 2:
-	xor    edx,edx
-	jmp    const_hex_1_0_0_loops_fill_in_steps_v2
+	ret
+3:
+	mov    eax,esi
+	and    eax,0x40
+	movzx  ecx,cl
+	shl    ecx,0x5
+	lea    r8,[rip + const_hex_1_0_0_constant_4_v2]
+	add    r8,rax
+	movdqu xmm0,XMMWORD PTR [rcx+r8*1]
+	movdqu xmm1,XMMWORD PTR [rcx+r8*1+0x10]
+	xor    ecx,ecx
+	mov    rax,rsi
+4:
+	pmovzxbw xmm2,QWORD PTR [rdi+rcx*1+0x8]
+	pmovzxbw xmm3,QWORD PTR [rdi+rcx*1]
+	pmullw xmm3,xmm1
+	pmullw xmm2,xmm1
+	psrlw  xmm2,0x4
+	psrlw  xmm3,0x4
+	movdqa xmm4,xmm0
+	pshufb xmm4,xmm3
+	movdqa xmm3,xmm0
+	pshufb xmm3,xmm2
+	pmovzxbw xmm2,QWORD PTR [rdi+rcx*1+0x18]
+	pmovzxbw xmm5,QWORD PTR [rdi+rcx*1+0x10]
+	pmullw xmm5,xmm1
+	pmullw xmm2,xmm1
+	psrlw  xmm2,0x4
+	psrlw  xmm5,0x4
+	movdqa xmm6,xmm0
+	pshufb xmm6,xmm5
+	movdqa xmm5,xmm0
+	pshufb xmm5,xmm2
+	movdqu XMMWORD PTR [rdx+rcx*2+0x10],xmm3
+	movdqu XMMWORD PTR [rdx+rcx*2],xmm4
+	movdqu XMMWORD PTR [rdx+rcx*2+0x30],xmm5
+	movdqu XMMWORD PTR [rdx+rcx*2+0x20],xmm6
+	pmovzxbw xmm2,QWORD PTR [rdi+rcx*1+0x28]
+	pmovzxbw xmm3,QWORD PTR [rdi+rcx*1+0x20]
+	pmullw xmm3,xmm1
+	pmullw xmm2,xmm1
+	psrlw  xmm2,0x4
+	psrlw  xmm3,0x4
+	movdqa xmm4,xmm0
+	pshufb xmm4,xmm3
+	movdqa xmm3,xmm0
+	pmovzxbw xmm5,QWORD PTR [rdi+rcx*1+0x38]
+	pmovzxbw xmm6,QWORD PTR [rdi+rcx*1+0x30]
+	pshufb xmm3,xmm2
+	pmullw xmm6,xmm1
+	pmullw xmm5,xmm1
+	psrlw  xmm5,0x4
+	psrlw  xmm6,0x4
+	movdqa xmm2,xmm0
+	pshufb xmm2,xmm6
+	movdqa xmm6,xmm0
+	pshufb xmm6,xmm5
+	movdqu XMMWORD PTR [rdx+rcx*2+0x50],xmm3
+	movdqu XMMWORD PTR [rdx+rcx*2+0x40],xmm4
+	movdqu XMMWORD PTR [rdx+rcx*2+0x70],xmm6
+	movdqu XMMWORD PTR [rdx+rcx*2+0x60],xmm2
+	add    rcx,0x40
+	add    rax,0xffffffffffffffc0
+	cmp    rax,0x3f
+	ja     4b
+	cmp    rcx,rsi
+	je     2b
+	cmp    rax,0x21
+	jb     5f
+	pmovzxbw xmm2,QWORD PTR [rdi+rcx*1+0x8]
+	pmovzxbw xmm3,QWORD PTR [rdi+rcx*1]
+	pmullw xmm3,xmm1
+	pmullw xmm2,xmm1
+	psrlw  xmm2,0x4
+	psrlw  xmm3,0x4
+	movdqa xmm4,xmm0
+	pshufb xmm4,xmm3
+	movdqa xmm3,xmm0
+	pshufb xmm3,xmm2
+	pmovzxbw xmm2,QWORD PTR [rdi+rcx*1+0x18]
+	pmovzxbw xmm5,QWORD PTR [rdi+rcx*1+0x10]
+	pmullw xmm5,xmm1
+	pmullw xmm2,xmm1
+	psrlw  xmm2,0x4
+	psrlw  xmm5,0x4
+	movdqa xmm6,xmm0
+	pshufb xmm6,xmm5
+	movdqa xmm5,xmm0
+	pshufb xmm5,xmm2
+	movdqu XMMWORD PTR [rdx+rcx*2+0x10],xmm3
+	movdqu XMMWORD PTR [rdx+rcx*2],xmm4
+	movdqu XMMWORD PTR [rdx+rcx*2+0x30],xmm5
+	movdqu XMMWORD PTR [rdx+rcx*2+0x20],xmm6
+5:
+	pmovzxbw xmm2,QWORD PTR [rdi+rsi*1-0x18]
+	pmovzxbw xmm3,QWORD PTR [rdi+rsi*1-0x20]
+	pmullw xmm3,xmm1
+	pmullw xmm2,xmm1
+	psrlw  xmm2,0x4
+	psrlw  xmm3,0x4
+	movdqa xmm4,xmm0
+	pshufb xmm4,xmm3
+	movdqa xmm3,xmm0
+	pmovzxbw xmm5,QWORD PTR [rdi+rsi*1-0x8]
+	pmovzxbw xmm6,QWORD PTR [rdi+rsi*1-0x10]
+	pshufb xmm3,xmm2
+	pmullw xmm6,xmm1
+	pmullw xmm5,xmm1
+	psrlw  xmm5,0x4
+	psrlw  xmm6,0x4
+	movdqa xmm1,xmm0
+	pshufb xmm1,xmm6
+	pshufb xmm0,xmm5
+	movdqu XMMWORD PTR [rdx+rsi*2-0x30],xmm3
+	movdqu XMMWORD PTR [rdx+rsi*2-0x40],xmm4
+	movdqu XMMWORD PTR [rdx+rsi*2-0x10],xmm0
+	movdqu XMMWORD PTR [rdx+rsi*2-0x20],xmm1
+	ret
+6:
+	cmp    rsi,0x10
+	jb     7f
+	pmovzxbw xmm2,QWORD PTR [rdi+0x8]
+	pmovzxbw xmm3,QWORD PTR [rdi]
+	movzx  eax,cl
+	shl    eax,0x5
+	lea    rcx,[rip + const_hex_1_0_0_constant_4_v2]
+	movdqu xmm0,XMMWORD PTR [rax+rcx*1]
+	movdqu xmm1,XMMWORD PTR [rax+rcx*1+0x10]
+	pmullw xmm3,xmm1
+	pmullw xmm2,xmm1
+	psrlw  xmm2,0x4
+	psrlw  xmm3,0x4
+	movdqa xmm4,xmm0
+	pshufb xmm4,xmm3
+	movdqa xmm3,xmm0
+	pshufb xmm3,xmm2
+	movdqu XMMWORD PTR [rdx],xmm4
+	movdqu XMMWORD PTR [rdx+0x10],xmm3
+	cmp    rsi,0x10
+	je     2b
+	pmovzxbw xmm2,QWORD PTR [rdi+rsi*1-0x8]
+	pmovzxbw xmm3,QWORD PTR [rdi+rsi*1-0x10]
+	pmullw xmm3,xmm1
+	pmullw xmm2,xmm1
+	psrlw  xmm2,0x4
+	psrlw  xmm3,0x4
+	movdqa xmm1,xmm0
+	pshufb xmm1,xmm3
+	pshufb xmm0,xmm2
+	movdqu XMMWORD PTR [rdx+rsi*2-0x20],xmm1
+	movdqu XMMWORD PTR [rdx+rsi*2-0x10],xmm0
+	ret
+7:
+	cmp    rsi,0x1
+	jne    8f
+	movzx  eax,BYTE PTR [rdi]
+	movzx  ecx,cl
+	shl    ecx,0x5
+	lea    rsi,[rip + const_hex_1_0_0_constant_4_v2]
+	movdqu xmm0,XMMWORD PTR [rcx+rsi*1]
+	movdqu xmm1,XMMWORD PTR [rcx+rsi*1+0x10]
+	movd   xmm2,eax
+	pinsrb xmm2,eax,0x2
+	pmullw xmm2,xmm1
+	psrlw  xmm2,0x4
+	pshufb xmm0,xmm2
+	pextrw WORD PTR [rdx],xmm0,0x1
+	ret
+8:
+	cmp    rsi,0x8
+	jb     9f
+	movzx  eax,cl
+	shl    eax,0x5
+	lea    rcx,[rip + const_hex_1_0_0_constant_4_v2]
+	movdqu xmm0,XMMWORD PTR [rax+rcx*1]
+	pmovzxbw xmm1,QWORD PTR [rdi+rsi*1-0x8]
+	movdqu xmm2,XMMWORD PTR [rax+rcx*1+0x10]
+	pmovzxbw xmm3,QWORD PTR [rdi]
+	pmullw xmm1,xmm2
+	pmullw xmm3,xmm2
+	psrlw  xmm1,0x4
+	psrlw  xmm3,0x4
+	movdqa xmm2,xmm0
+	pshufb xmm2,xmm3
+	pshufb xmm0,xmm1
+	movdqu XMMWORD PTR [rdx],xmm2
+	movdqu XMMWORD PTR [rdx+rsi*2-0x10],xmm0
+	ret
+9:
+	cmp    rsi,0x4
+	jb     12f
+	movd   xmm0,DWORD PTR [rdi]
+	pinsrd xmm0,DWORD PTR [rdi+rsi*1-0x4],0x1
+	movzx  eax,cl
+	shl    eax,0x5
+	lea    rcx,[rip + const_hex_1_0_0_constant_4_v2]
+	movdqu xmm1,XMMWORD PTR [rax+rcx*1]
+	movdqu xmm2,XMMWORD PTR [rax+rcx*1+0x10]
+	pmovzxbw xmm0,xmm0
+	pmullw xmm0,xmm2
+	psrlw  xmm0,0x4
+	pshufb xmm1,xmm0
+	movq   QWORD PTR [rdx],xmm1
+	pextrq QWORD PTR [rdx+rsi*2-0x8],xmm1,0x1
+	ret
+12:
+	test   rsi,rsi
+	je     2b
+	movzx  eax,WORD PTR [rdi]
+	movd   xmm0,eax
+	pinsrw xmm0,WORD PTR [rdi+rsi*1-0x2],0x1
+	movzx  eax,cl
+	shl    eax,0x5
+	lea    rcx,[rip + const_hex_1_0_0_constant_4_v2]
+	movdqu xmm1,XMMWORD PTR [rax+rcx*1]
+	movdqu xmm2,XMMWORD PTR [rax+rcx*1+0x10]
+	pmovzxbw xmm0,xmm0
+	pmullw xmm0,xmm2
+	psrlw  xmm0,0x4
+	pshufb xmm1,xmm0
+	movd   DWORD PTR [rdx],xmm1
+	pextrd DWORD PTR [rdx+rsi*2-0x4],xmm1,0x1
+	ret
 	end const_hex_1_0_0_fill_v2
 
 /* const_hex_rust::read */
@@ -498,267 +748,6 @@
 13:
 	ret
 	end const_hex_1_0_0_read_v2
-
-/* const_hex_arch::arch::loops::fill_in_steps */
-	function const_hex_1_0_0_loops_fill_in_steps_v2
-	cmp    rsi,0x40
-	jae    3f
-	cmp    rsi,0x20
-	jb     6f
-	pmovzxbw xmm2,QWORD PTR [rdi+0x8]
-	pmovzxbw xmm3,QWORD PTR [rdi]
-	movzx  eax,dl
-	shl    eax,0x5
-	lea    rdx,[rip + const_hex_1_0_0_constant_4_v2]
-	movdqu xmm0,XMMWORD PTR [rax+rdx*1]
-	movdqu xmm1,XMMWORD PTR [rax+rdx*1+0x10]
-	pmullw xmm3,xmm1
-	pmullw xmm2,xmm1
-	psrlw  xmm2,0x4
-	psrlw  xmm3,0x4
-	movdqa xmm4,xmm0
-	pshufb xmm4,xmm3
-	movdqa xmm3,xmm0
-	pmovzxbw xmm5,QWORD PTR [rdi+0x18]
-	pshufb xmm3,xmm2
-	pmovzxbw xmm2,QWORD PTR [rdi+0x10]
-	pmullw xmm2,xmm1
-	pmullw xmm5,xmm1
-	psrlw  xmm5,0x4
-	psrlw  xmm2,0x4
-	movdqa xmm6,xmm0
-	pshufb xmm6,xmm2
-	movdqa xmm2,xmm0
-	pshufb xmm2,xmm5
-	movdqu XMMWORD PTR [rcx+0x10],xmm3
-	movdqu XMMWORD PTR [rcx],xmm4
-	movdqu XMMWORD PTR [rcx+0x30],xmm2
-	movdqu XMMWORD PTR [rcx+0x20],xmm6
-	cmp    rsi,0x20
-	jne    5f
-2:
-	ret
-3:
-	movzx  eax,dl
-	shl    eax,0x5
-	lea    rdx,[rip + const_hex_1_0_0_constant_4_v2]
-	movdqu xmm0,XMMWORD PTR [rax+rdx*1]
-	movdqu xmm1,XMMWORD PTR [rax+rdx*1+0x10]
-	xor    edx,edx
-	mov    rax,rsi
-	.byte 0x66, 0x2e, 0xf, 0x1f, 0x84, 0x0, 0x0, 0x0, 0x0, 0x0  /* cs nop WORD PTR [rax+rax*1+0x0] */
-4:
-	pmovzxbw xmm2,QWORD PTR [rdi+rdx*1+0x8]
-	pmovzxbw xmm3,QWORD PTR [rdi+rdx*1]
-	pmullw xmm3,xmm1
-	pmullw xmm2,xmm1
-	psrlw  xmm2,0x4
-	psrlw  xmm3,0x4
-	movdqa xmm4,xmm0
-	pshufb xmm4,xmm3
-	movdqa xmm3,xmm0
-	pshufb xmm3,xmm2
-	pmovzxbw xmm2,QWORD PTR [rdi+rdx*1+0x18]
-	pmovzxbw xmm5,QWORD PTR [rdi+rdx*1+0x10]
-	pmullw xmm5,xmm1
-	pmullw xmm2,xmm1
-	psrlw  xmm2,0x4
-	psrlw  xmm5,0x4
-	movdqa xmm6,xmm0
-	pshufb xmm6,xmm5
-	movdqa xmm5,xmm0
-	pshufb xmm5,xmm2
-	movdqu XMMWORD PTR [rcx+rdx*2+0x10],xmm3
-	movdqu XMMWORD PTR [rcx+rdx*2],xmm4
-	movdqu XMMWORD PTR [rcx+rdx*2+0x30],xmm5
-	movdqu XMMWORD PTR [rcx+rdx*2+0x20],xmm6
-	pmovzxbw xmm2,QWORD PTR [rdi+rdx*1+0x28]
-	pmovzxbw xmm3,QWORD PTR [rdi+rdx*1+0x20]
-	pmullw xmm3,xmm1
-	pmullw xmm2,xmm1
-	psrlw  xmm2,0x4
-	psrlw  xmm3,0x4
-	movdqa xmm4,xmm0
-	pshufb xmm4,xmm3
-	movdqa xmm3,xmm0
-	pmovzxbw xmm5,QWORD PTR [rdi+rdx*1+0x38]
-	pmovzxbw xmm6,QWORD PTR [rdi+rdx*1+0x30]
-	pshufb xmm3,xmm2
-	pmullw xmm6,xmm1
-	pmullw xmm5,xmm1
-	psrlw  xmm5,0x4
-	psrlw  xmm6,0x4
-	movdqa xmm2,xmm0
-	pshufb xmm2,xmm6
-	movdqa xmm6,xmm0
-	pshufb xmm6,xmm5
-	movdqu XMMWORD PTR [rcx+rdx*2+0x50],xmm3
-	movdqu XMMWORD PTR [rcx+rdx*2+0x40],xmm4
-	movdqu XMMWORD PTR [rcx+rdx*2+0x70],xmm6
-	movdqu XMMWORD PTR [rcx+rdx*2+0x60],xmm2
-	add    rdx,0x40
-	add    rax,0xffffffffffffffc0
-	cmp    rax,0x3f
-	ja     4b
-	cmp    rdx,rsi
-	je     2b
-	cmp    rax,0x21
-	jb     5f
-	pmovzxbw xmm2,QWORD PTR [rdi+rdx*1+0x8]
-	pmovzxbw xmm3,QWORD PTR [rdi+rdx*1]
-	pmullw xmm3,xmm1
-	pmullw xmm2,xmm1
-	psrlw  xmm2,0x4
-	psrlw  xmm3,0x4
-	movdqa xmm4,xmm0
-	pshufb xmm4,xmm3
-	movdqa xmm3,xmm0
-	pshufb xmm3,xmm2
-	pmovzxbw xmm2,QWORD PTR [rdi+rdx*1+0x18]
-	pmovzxbw xmm5,QWORD PTR [rdi+rdx*1+0x10]
-	pmullw xmm5,xmm1
-	pmullw xmm2,xmm1
-	psrlw  xmm2,0x4
-	psrlw  xmm5,0x4
-	movdqa xmm6,xmm0
-	pshufb xmm6,xmm5
-	movdqa xmm5,xmm0
-	pshufb xmm5,xmm2
-	movdqu XMMWORD PTR [rcx+rdx*2+0x10],xmm3
-	movdqu XMMWORD PTR [rcx+rdx*2],xmm4
-	movdqu XMMWORD PTR [rcx+rdx*2+0x30],xmm5
-	movdqu XMMWORD PTR [rcx+rdx*2+0x20],xmm6
-5:
-	pmovzxbw xmm2,QWORD PTR [rdi+rsi*1-0x18]
-	pmovzxbw xmm3,QWORD PTR [rdi+rsi*1-0x20]
-	pmullw xmm3,xmm1
-	pmullw xmm2,xmm1
-	psrlw  xmm2,0x4
-	psrlw  xmm3,0x4
-	movdqa xmm4,xmm0
-	pshufb xmm4,xmm3
-	movdqa xmm3,xmm0
-	pmovzxbw xmm5,QWORD PTR [rdi+rsi*1-0x8]
-	pmovzxbw xmm6,QWORD PTR [rdi+rsi*1-0x10]
-	pshufb xmm3,xmm2
-	pmullw xmm6,xmm1
-	pmullw xmm5,xmm1
-	psrlw  xmm5,0x4
-	psrlw  xmm6,0x4
-	movdqa xmm1,xmm0
-	pshufb xmm1,xmm6
-	pshufb xmm0,xmm5
-	movdqu XMMWORD PTR [rcx+rsi*2-0x30],xmm3
-	movdqu XMMWORD PTR [rcx+rsi*2-0x40],xmm4
-	movdqu XMMWORD PTR [rcx+rsi*2-0x10],xmm0
-	movdqu XMMWORD PTR [rcx+rsi*2-0x20],xmm1
-	ret
-6:
-	cmp    rsi,0x10
-	jb     7f
-	pmovzxbw xmm2,QWORD PTR [rdi+0x8]
-	pmovzxbw xmm3,QWORD PTR [rdi]
-	movzx  eax,dl
-	shl    eax,0x5
-	lea    rdx,[rip + const_hex_1_0_0_constant_4_v2]
-	movdqu xmm0,XMMWORD PTR [rax+rdx*1]
-	movdqu xmm1,XMMWORD PTR [rax+rdx*1+0x10]
-	pmullw xmm3,xmm1
-	pmullw xmm2,xmm1
-	psrlw  xmm2,0x4
-	psrlw  xmm3,0x4
-	movdqa xmm4,xmm0
-	pshufb xmm4,xmm3
-	movdqa xmm3,xmm0
-	pshufb xmm3,xmm2
-	movdqu XMMWORD PTR [rcx],xmm4
-	movdqu XMMWORD PTR [rcx+0x10],xmm3
-	cmp    rsi,0x10
-	je     2b
-	pmovzxbw xmm2,QWORD PTR [rdi+rsi*1-0x8]
-	pmovzxbw xmm3,QWORD PTR [rdi+rsi*1-0x10]
-	pmullw xmm3,xmm1
-	pmullw xmm2,xmm1
-	psrlw  xmm2,0x4
-	psrlw  xmm3,0x4
-	movdqa xmm1,xmm0
-	pshufb xmm1,xmm3
-	pshufb xmm0,xmm2
-	movdqu XMMWORD PTR [rcx+rsi*2-0x20],xmm1
-	movdqu XMMWORD PTR [rcx+rsi*2-0x10],xmm0
-	ret
-7:
-	cmp    rsi,0x1
-	jne    8f
-	movzx  eax,BYTE PTR [rdi]
-	movzx  edx,dl
-	shl    edx,0x5
-	lea    rsi,[rip + const_hex_1_0_0_constant_4_v2]
-	movdqu xmm0,XMMWORD PTR [rdx+rsi*1]
-	movdqu xmm1,XMMWORD PTR [rdx+rsi*1+0x10]
-	movd   xmm2,eax
-	pinsrb xmm2,eax,0x2
-	pmullw xmm2,xmm1
-	psrlw  xmm2,0x4
-	pshufb xmm0,xmm2
-	pextrw WORD PTR [rcx],xmm0,0x1
-	ret
-8:
-	cmp    rsi,0x8
-	jb     9f
-	movzx  eax,dl
-	shl    eax,0x5
-	lea    rdx,[rip + const_hex_1_0_0_constant_4_v2]
-	movdqu xmm0,XMMWORD PTR [rax+rdx*1]
-	pmovzxbw xmm1,QWORD PTR [rdi+rsi*1-0x8]
-	movdqu xmm2,XMMWORD PTR [rax+rdx*1+0x10]
-	pmovzxbw xmm3,QWORD PTR [rdi]
-	pmullw xmm1,xmm2
-	pmullw xmm3,xmm2
-	psrlw  xmm1,0x4
-	psrlw  xmm3,0x4
-	movdqa xmm2,xmm0
-	pshufb xmm2,xmm3
-	pshufb xmm0,xmm1
-	movdqu XMMWORD PTR [rcx],xmm2
-	movdqu XMMWORD PTR [rcx+rsi*2-0x10],xmm0
-	ret
-9:
-	cmp    rsi,0x4
-	jb     12f
-	movd   xmm0,DWORD PTR [rdi]
-	pinsrd xmm0,DWORD PTR [rdi+rsi*1-0x4],0x1
-	movzx  eax,dl
-	shl    eax,0x5
-	lea    rdx,[rip + const_hex_1_0_0_constant_4_v2]
-	movdqu xmm1,XMMWORD PTR [rax+rdx*1]
-	movdqu xmm2,XMMWORD PTR [rax+rdx*1+0x10]
-	pmovzxbw xmm0,xmm0
-	pmullw xmm0,xmm2
-	psrlw  xmm0,0x4
-	pshufb xmm1,xmm0
-	movq   QWORD PTR [rcx],xmm1
-	pextrq QWORD PTR [rcx+rsi*2-0x8],xmm1,0x1
-	ret
-12:
-	test   rsi,rsi
-	je     2b
-	movzx  eax,WORD PTR [rdi]
-	movd   xmm0,eax
-	pinsrw xmm0,WORD PTR [rdi+rsi*1-0x2],0x1
-	movzx  eax,dl
-	shl    eax,0x5
-	lea    rdx,[rip + const_hex_1_0_0_constant_4_v2]
-	movdqu xmm1,XMMWORD PTR [rax+rdx*1]
-	movdqu xmm2,XMMWORD PTR [rax+rdx*1+0x10]
-	pmovzxbw xmm0,xmm0
-	pmullw xmm0,xmm2
-	psrlw  xmm0,0x4
-	pshufb xmm1,xmm0
-	movd   DWORD PTR [rcx],xmm1
-	pextrd DWORD PTR [rcx+rsi*2-0x4],xmm1,0x1
-	ret
-	end const_hex_1_0_0_loops_fill_in_steps_v2
 
 /* const_hex_arch::arch::small_input::decode_small */
 	function const_hex_1_0_0_small_input_decode_small_v2

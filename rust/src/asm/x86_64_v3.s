@@ -185,15 +185,185 @@
 /* const_hex_rust::fill */
 	hidden const_hex_1_0_0_fill_v3
 	function const_hex_1_0_0_fill_v3
-	mov    eax,ecx
-	mov    rcx,rdx
-	test   eax,eax
-	je     2f
-	mov    edx,0x1
-	jmp    const_hex_1_0_0_loops_fill_in_steps_v3
+	cmp    rsi,0x3f
+	ja     3f
+	cmp    rsi,0x20
+	jb     6f
+	vpmovzxbw ymm2,XMMWORD PTR [rdi]
+	movzx  eax,cl
+	shl    eax,0x5
+	lea    rcx,[rip + const_hex_1_0_0_constant_7_v3]
+	vbroadcasti128 ymm0,XMMWORD PTR [rax+rcx*1]
+	vbroadcasti128 ymm1,XMMWORD PTR [rax+rcx*1+0x10]
+	vpmullw ymm2,ymm1,ymm2
+	vpsrlw ymm2,ymm2,0x4
+	vpshufb ymm2,ymm0,ymm2
+	vpmovzxbw ymm3,XMMWORD PTR [rdi+0x10]
+	vpmullw ymm3,ymm1,ymm3
+	vpsrlw ymm3,ymm3,0x4
+	vmovdqu YMMWORD PTR [rdx],ymm2
+	vpshufb ymm2,ymm0,ymm3
+	vmovdqu YMMWORD PTR [rdx+0x20],ymm2
+	cmp    rsi,0x20
+	jne    5f
 2:
-	xor    edx,edx
-	jmp    const_hex_1_0_0_loops_fill_in_steps_v3
+	vzeroupper
+	ret
+3:
+	mov    eax,esi
+	and    eax,0x40
+	movzx  ecx,cl
+	shl    ecx,0x5
+	lea    r8,[rip + const_hex_1_0_0_constant_7_v3]
+	add    r8,rax
+	vbroadcasti128 ymm0,XMMWORD PTR [rcx+r8*1]
+	vbroadcasti128 ymm1,XMMWORD PTR [rcx+r8*1+0x10]
+	xor    ecx,ecx
+	mov    rax,rsi
+	nop
+4:
+	vpmovzxbw ymm2,XMMWORD PTR [rdi+rcx*1]
+	vpmullw ymm2,ymm1,ymm2
+	vpsrlw ymm2,ymm2,0x4
+	vpshufb ymm2,ymm0,ymm2
+	vpmovzxbw ymm3,XMMWORD PTR [rdi+rcx*1+0x10]
+	vpmullw ymm3,ymm1,ymm3
+	vpsrlw ymm3,ymm3,0x4
+	vpshufb ymm3,ymm0,ymm3
+	vmovdqu YMMWORD PTR [rdx+rcx*2],ymm2
+	vmovdqu YMMWORD PTR [rdx+rcx*2+0x20],ymm3
+	vpmovzxbw ymm2,XMMWORD PTR [rdi+rcx*1+0x20]
+	vpmullw ymm2,ymm1,ymm2
+	vpsrlw ymm2,ymm2,0x4
+	vpmovzxbw ymm3,XMMWORD PTR [rdi+rcx*1+0x30]
+	vpshufb ymm2,ymm0,ymm2
+	vpmullw ymm3,ymm1,ymm3
+	vpsrlw ymm3,ymm3,0x4
+	vpshufb ymm3,ymm0,ymm3
+	vmovdqu YMMWORD PTR [rdx+rcx*2+0x40],ymm2
+	vmovdqu YMMWORD PTR [rdx+rcx*2+0x60],ymm3
+	add    rcx,0x40
+	add    rax,0xffffffffffffffc0
+	cmp    rax,0x3f
+	ja     4b
+	cmp    rcx,rsi
+	je     2b
+	cmp    rax,0x21
+	jb     5f
+	vpmovzxbw ymm2,XMMWORD PTR [rdi+rcx*1]
+	vpmullw ymm2,ymm1,ymm2
+	vpsrlw ymm2,ymm2,0x4
+	vpmovzxbw ymm3,XMMWORD PTR [rdi+rcx*1+0x10]
+	vpshufb ymm2,ymm0,ymm2
+	vpmullw ymm3,ymm1,ymm3
+	vpsrlw ymm3,ymm3,0x4
+	vpshufb ymm3,ymm0,ymm3
+	vmovdqu YMMWORD PTR [rdx+rcx*2],ymm2
+	vmovdqu YMMWORD PTR [rdx+rcx*2+0x20],ymm3
+5:
+	vpmovzxbw ymm2,XMMWORD PTR [rdi+rsi*1-0x20]
+	vpmullw ymm2,ymm1,ymm2
+	vpsrlw ymm2,ymm2,0x4
+	vpmovzxbw ymm3,XMMWORD PTR [rdi+rsi*1-0x10]
+	vpshufb ymm2,ymm0,ymm2
+	vpmullw ymm1,ymm1,ymm3
+	vpsrlw ymm1,ymm1,0x4
+	vpshufb ymm0,ymm0,ymm1
+	vmovdqu YMMWORD PTR [rdx+rsi*2-0x40],ymm2
+	vmovdqu YMMWORD PTR [rdx+rsi*2-0x20],ymm0
+	vzeroupper
+	ret
+6:
+	cmp    rsi,0x10
+	jb     7f
+	vpmovzxbw ymm2,XMMWORD PTR [rdi]
+	movzx  eax,cl
+	shl    eax,0x5
+	lea    rcx,[rip + const_hex_1_0_0_constant_7_v3]
+	vbroadcasti128 ymm0,XMMWORD PTR [rax+rcx*1]
+	vbroadcasti128 ymm1,XMMWORD PTR [rax+rcx*1+0x10]
+	vpmullw ymm2,ymm1,ymm2
+	vpsrlw ymm2,ymm2,0x4
+	vpshufb ymm2,ymm0,ymm2
+	vmovdqu YMMWORD PTR [rdx],ymm2
+	cmp    rsi,0x10
+	je     2b
+	vpmovzxbw ymm2,XMMWORD PTR [rdi+rsi*1-0x10]
+	vpmullw ymm1,ymm1,ymm2
+	vpsrlw ymm1,ymm1,0x4
+	vpshufb ymm0,ymm0,ymm1
+	vmovdqu YMMWORD PTR [rdx+rsi*2-0x20],ymm0
+	vzeroupper
+	ret
+7:
+	cmp    rsi,0x1
+	jne    8f
+	movzx  eax,BYTE PTR [rdi]
+	vmovd  xmm0,eax
+	vpinsrb xmm0,xmm0,eax,0x1
+	movzx  eax,cl
+	shl    eax,0x5
+	lea    rcx,[rip + const_hex_1_0_0_constant_7_v3]
+	vmovdqu xmm1,XMMWORD PTR [rax+rcx*1]
+	vpmovzxbw xmm0,xmm0
+	vpmullw xmm0,xmm0,XMMWORD PTR [rax+rcx*1+0x10]
+	vpsrlw xmm0,xmm0,0x4
+	vpshufb xmm0,xmm1,xmm0
+	vpextrw WORD PTR [rdx],xmm0,0x1
+	ret
+8:
+	cmp    rsi,0x8
+	jb     9f
+	vmovq  xmm0,QWORD PTR [rdi+rsi*1-0x8]
+	vmovq  xmm1,QWORD PTR [rdi]
+	vpunpcklqdq xmm0,xmm1,xmm0
+	movzx  eax,cl
+	shl    eax,0x5
+	lea    rcx,[rip + const_hex_1_0_0_constant_7_v3]
+	vbroadcasti128 ymm1,XMMWORD PTR [rax+rcx*1]
+	vpmovzxbw ymm0,xmm0
+	vbroadcasti128 ymm2,XMMWORD PTR [rax+rcx*1+0x10]
+	vpmullw ymm0,ymm2,ymm0
+	vpsrlw ymm0,ymm0,0x4
+	vpshufb ymm0,ymm1,ymm0
+	vmovdqu XMMWORD PTR [rdx],xmm0
+	vextracti128 XMMWORD PTR [rdx+rsi*2-0x10],ymm0,0x1
+	vzeroupper
+	ret
+9:
+	cmp    rsi,0x4
+	jb     12f
+	vmovd  xmm0,DWORD PTR [rdi+rsi*1-0x4]
+	vmovd  xmm1,DWORD PTR [rdi]
+	vpunpckldq xmm0,xmm1,xmm0
+	movzx  eax,cl
+	shl    eax,0x5
+	lea    rcx,[rip + const_hex_1_0_0_constant_7_v3]
+	vmovdqu xmm1,XMMWORD PTR [rax+rcx*1]
+	vpmovzxbw xmm0,xmm0
+	vpmullw xmm0,xmm0,XMMWORD PTR [rax+rcx*1+0x10]
+	vpsrlw xmm0,xmm0,0x4
+	vpshufb xmm0,xmm1,xmm0
+	vmovq  QWORD PTR [rdx],xmm0
+	vpextrq QWORD PTR [rdx+rsi*2-0x8],xmm0,0x1
+	ret
+12:
+	test   rsi,rsi
+	je     2b
+	movzx  eax,WORD PTR [rdi]
+	vmovd  xmm0,eax
+	vpinsrw xmm0,xmm0,WORD PTR [rdi+rsi*1-0x2],0x1
+	movzx  eax,cl
+	shl    eax,0x5
+	lea    rcx,[rip + const_hex_1_0_0_constant_7_v3]
+	vmovdqu xmm1,XMMWORD PTR [rax+rcx*1]
+	vpmovzxbw xmm0,xmm0
+	vpmullw xmm0,xmm0,XMMWORD PTR [rax+rcx*1+0x10]
+	vpsrlw xmm0,xmm0,0x4
+	vpshufb xmm0,xmm1,xmm0
+	vmovd  DWORD PTR [rdx],xmm0
+	vpextrd DWORD PTR [rdx+rsi*2-0x4],xmm0,0x1
+	ret
 	end const_hex_1_0_0_fill_v3
 
 /* const_hex_rust::read */
@@ -366,186 +536,6 @@
 	vzeroupper
 	ret
 	end const_hex_1_0_0_read_v3
-
-/* const_hex_arch::arch::loops::fill_in_steps */
-	function const_hex_1_0_0_loops_fill_in_steps_v3
-	cmp    rsi,0x40
-	jae    3f
-	cmp    rsi,0x20
-	jb     6f
-	vpmovzxbw ymm2,XMMWORD PTR [rdi]
-	movzx  eax,dl
-	shl    eax,0x5
-	lea    rdx,[rip + const_hex_1_0_0_constant_7_v3]
-	vbroadcasti128 ymm0,XMMWORD PTR [rax+rdx*1]
-	vbroadcasti128 ymm1,XMMWORD PTR [rax+rdx*1+0x10]
-	vpmullw ymm2,ymm1,ymm2
-	vpsrlw ymm2,ymm2,0x4
-	vpshufb ymm2,ymm0,ymm2
-	vpmovzxbw ymm3,XMMWORD PTR [rdi+0x10]
-	vpmullw ymm3,ymm1,ymm3
-	vpsrlw ymm3,ymm3,0x4
-	vmovdqu YMMWORD PTR [rcx],ymm2
-	vpshufb ymm2,ymm0,ymm3
-	vmovdqu YMMWORD PTR [rcx+0x20],ymm2
-	cmp    rsi,0x20
-	jne    5f
-2:
-	vzeroupper
-	ret
-3:
-	movzx  eax,dl
-	shl    eax,0x5
-	lea    rdx,[rip + const_hex_1_0_0_constant_7_v3]
-	vbroadcasti128 ymm0,XMMWORD PTR [rax+rdx*1]
-	vbroadcasti128 ymm1,XMMWORD PTR [rax+rdx*1+0x10]
-	xor    edx,edx
-	mov    rax,rsi
-	.byte 0x66, 0xf, 0x1f, 0x84, 0x0, 0x0, 0x0, 0x0, 0x0  /* nop    WORD PTR [rax+rax*1+0x0] */
-4:
-	vpmovzxbw ymm2,XMMWORD PTR [rdi+rdx*1]
-	vpmullw ymm2,ymm1,ymm2
-	vpsrlw ymm2,ymm2,0x4
-	vpshufb ymm2,ymm0,ymm2
-	vpmovzxbw ymm3,XMMWORD PTR [rdi+rdx*1+0x10]
-	vpmullw ymm3,ymm1,ymm3
-	vpsrlw ymm3,ymm3,0x4
-	vpshufb ymm3,ymm0,ymm3
-	vmovdqu YMMWORD PTR [rcx+rdx*2],ymm2
-	vmovdqu YMMWORD PTR [rcx+rdx*2+0x20],ymm3
-	vpmovzxbw ymm2,XMMWORD PTR [rdi+rdx*1+0x20]
-	vpmullw ymm2,ymm1,ymm2
-	vpsrlw ymm2,ymm2,0x4
-	vpmovzxbw ymm3,XMMWORD PTR [rdi+rdx*1+0x30]
-	vpshufb ymm2,ymm0,ymm2
-	vpmullw ymm3,ymm1,ymm3
-	vpsrlw ymm3,ymm3,0x4
-	vpshufb ymm3,ymm0,ymm3
-	vmovdqu YMMWORD PTR [rcx+rdx*2+0x40],ymm2
-	vmovdqu YMMWORD PTR [rcx+rdx*2+0x60],ymm3
-	add    rdx,0x40
-	add    rax,0xffffffffffffffc0
-	cmp    rax,0x3f
-	ja     4b
-	cmp    rdx,rsi
-	je     2b
-	cmp    rax,0x21
-	jb     5f
-	vpmovzxbw ymm2,XMMWORD PTR [rdi+rdx*1]
-	vpmullw ymm2,ymm1,ymm2
-	vpsrlw ymm2,ymm2,0x4
-	vpmovzxbw ymm3,XMMWORD PTR [rdi+rdx*1+0x10]
-	vpshufb ymm2,ymm0,ymm2
-	vpmullw ymm3,ymm1,ymm3
-	vpsrlw ymm3,ymm3,0x4
-	vpshufb ymm3,ymm0,ymm3
-	vmovdqu YMMWORD PTR [rcx+rdx*2],ymm2
-	vmovdqu YMMWORD PTR [rcx+rdx*2+0x20],ymm3
-5:
-	vpmovzxbw ymm2,XMMWORD PTR [rdi+rsi*1-0x20]
-	vpmullw ymm2,ymm1,ymm2
-	vpsrlw ymm2,ymm2,0x4
-	vpmovzxbw ymm3,XMMWORD PTR [rdi+rsi*1-0x10]
-	vpshufb ymm2,ymm0,ymm2
-	vpmullw ymm1,ymm1,ymm3
-	vpsrlw ymm1,ymm1,0x4
-	vpshufb ymm0,ymm0,ymm1
-	vmovdqu YMMWORD PTR [rcx+rsi*2-0x40],ymm2
-	vmovdqu YMMWORD PTR [rcx+rsi*2-0x20],ymm0
-	vzeroupper
-	ret
-6:
-	cmp    rsi,0x10
-	jb     7f
-	vpmovzxbw ymm2,XMMWORD PTR [rdi]
-	movzx  eax,dl
-	shl    eax,0x5
-	lea    rdx,[rip + const_hex_1_0_0_constant_7_v3]
-	vbroadcasti128 ymm0,XMMWORD PTR [rax+rdx*1]
-	vbroadcasti128 ymm1,XMMWORD PTR [rax+rdx*1+0x10]
-	vpmullw ymm2,ymm1,ymm2
-	vpsrlw ymm2,ymm2,0x4
-	vpshufb ymm2,ymm0,ymm2
-	vmovdqu YMMWORD PTR [rcx],ymm2
-	cmp    rsi,0x10
-	je     2b
-	vpmovzxbw ymm2,XMMWORD PTR [rdi+rsi*1-0x10]
-	vpmullw ymm1,ymm1,ymm2
-	vpsrlw ymm1,ymm1,0x4
-	vpshufb ymm0,ymm0,ymm1
-	vmovdqu YMMWORD PTR [rcx+rsi*2-0x20],ymm0
-	vzeroupper
-	ret
-7:
-	cmp    rsi,0x1
-	jne    8f
-	movzx  eax,BYTE PTR [rdi]
-	vmovd  xmm0,eax
-	vpinsrb xmm0,xmm0,eax,0x1
-	movzx  eax,dl
-	shl    eax,0x5
-	lea    rdx,[rip + const_hex_1_0_0_constant_7_v3]
-	vmovdqu xmm1,XMMWORD PTR [rax+rdx*1]
-	vpmovzxbw xmm0,xmm0
-	vpmullw xmm0,xmm0,XMMWORD PTR [rax+rdx*1+0x10]
-	vpsrlw xmm0,xmm0,0x4
-	vpshufb xmm0,xmm1,xmm0
-	vpextrw WORD PTR [rcx],xmm0,0x1
-	ret
-8:
-	cmp    rsi,0x8
-	jb     9f
-	vmovq  xmm0,QWORD PTR [rdi+rsi*1-0x8]
-	vmovq  xmm1,QWORD PTR [rdi]
-	vpunpcklqdq xmm0,xmm1,xmm0
-	movzx  eax,dl
-	shl    eax,0x5
-	lea    rdx,[rip + const_hex_1_0_0_constant_7_v3]
-	vbroadcasti128 ymm1,XMMWORD PTR [rax+rdx*1]
-	vpmovzxbw ymm0,xmm0
-	vbroadcasti128 ymm2,XMMWORD PTR [rax+rdx*1+0x10]
-	vpmullw ymm0,ymm2,ymm0
-	vpsrlw ymm0,ymm0,0x4
-	vpshufb ymm0,ymm1,ymm0
-	vmovdqu XMMWORD PTR [rcx],xmm0
-	vextracti128 XMMWORD PTR [rcx+rsi*2-0x10],ymm0,0x1
-	vzeroupper
-	ret
-9:
-	cmp    rsi,0x4
-	jb     12f
-	vmovd  xmm0,DWORD PTR [rdi+rsi*1-0x4]
-	vmovd  xmm1,DWORD PTR [rdi]
-	vpunpckldq xmm0,xmm1,xmm0
-	movzx  eax,dl
-	shl    eax,0x5
-	lea    rdx,[rip + const_hex_1_0_0_constant_7_v3]
-	vmovdqu xmm1,XMMWORD PTR [rax+rdx*1]
-	vpmovzxbw xmm0,xmm0
-	vpmullw xmm0,xmm0,XMMWORD PTR [rax+rdx*1+0x10]
-	vpsrlw xmm0,xmm0,0x4
-	vpshufb xmm0,xmm1,xmm0
-	vmovq  QWORD PTR [rcx],xmm0
-	vpextrq QWORD PTR [rcx+rsi*2-0x8],xmm0,0x1
-	ret
-12:
-	test   rsi,rsi
-	je     2b
-	movzx  eax,WORD PTR [rdi]
-	vmovd  xmm0,eax
-	vpinsrw xmm0,xmm0,WORD PTR [rdi+rsi*1-0x2],0x1
-	movzx  eax,dl
-	shl    eax,0x5
-	lea    rdx,[rip + const_hex_1_0_0_constant_7_v3]
-	vmovdqu xmm1,XMMWORD PTR [rax+rdx*1]
-	vpmovzxbw xmm0,xmm0
-	vpmullw xmm0,xmm0,XMMWORD PTR [rax+rdx*1+0x10]
-	vpsrlw xmm0,xmm0,0x4
-	vpshufb xmm0,xmm1,xmm0
-	vmovd  DWORD PTR [rcx],xmm0
-	vpextrd DWORD PTR [rcx+rsi*2-0x4],xmm0,0x1
-	ret
-	end const_hex_1_0_0_loops_fill_in_steps_v3
 
 /* const_hex_arch::arch::small_input::decode_small */
 	function const_hex_1_0_0_small_input_decode_small_v3
