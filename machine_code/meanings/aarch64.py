@@ -146,7 +146,8 @@ class State(state.State):
         value = self.number(operands[0], size)
         if len(operands) == 1:
             return value
-        require(len(operands) == 2 and operands[1].kind == "shift" and operands[1].how in SHIFTS and operands[1].count < 8 * size, "a shift")
+        require(len(operands) == 2 and operands[1].kind == "shift", "a shift")
+        require(operands[1].how in SHIFTS and operands[1].count < 8 * size, "a shift")
         return simple(SHIFTS[operands[1].how](value, operands[1].count))
 
     def lane(self, o):
