@@ -245,7 +245,7 @@ def invert(s, i):
 def insert_bits(s, i):
     """The lowest bits come from anywhere in another register, and the others are kept."""
     to, by, low, count = i.operands
-    require(0 < count.value < count.value + low.value <= 8 * to.size, "bits")
+    require(0 < count.value < 8 * to.size and 0 <= low.value <= 8 * to.size - count.value, "bits")
     kept = z3.Extract(8 * to.size - 1, count.value, s.number(to))
     s.put(to, simple(z3.Concat(kept, z3.Extract(low.value + count.value - 1, low.value, s.number(by, to.size)))))
 
