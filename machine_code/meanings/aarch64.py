@@ -11,9 +11,9 @@ import z3
 
 from execution import state
 from execution.paths import Branch
-from execution.state import byte, fresh, joined, simple, split, word
+from execution.state import byte, chosen, fresh, joined, simple, split, word
 from meanings.lanes import (ADD, AND, AND_NOT, MAXIMUM, MINIMUM, MULTIPLY, OR, SUBTRACT, SUBTRACT_SATURATED, XOR,
-                            bytes_of, chosen, each, units)
+                            bytes_of, each, units)
 from reading import disassembly
 from reading.assembled import checked, with_distance
 from solver.questions import require
@@ -47,8 +47,8 @@ class Operand:
             self.kind, self.base, self.offset, self.index = "memory", found[1], int(found[2] or 0), found[3]
             self.count, self.is_moved, self.after = int(found[4] or 0), bool(found[5]), None
             require("x18" not in found.groups(), "x18, which belongs to the platform")
-        elif found := re.fullmatch(r"(lsl|lsr) #(\d+)", text):
-            self.kind, self.how, self.count = "shift", found[1], int(found[2])
+        elif found := re.fullmatch(r"(lsl|lsr) #(\d+)|(uxtw)", text):
+            self.kind, self.how, self.count = "shift", found[1] or found[3], int(found[2] or 0)
         elif text in CONDITIONS:
             self.kind = "condition"
         else:
@@ -76,7 +76,7 @@ def _is_page(i, old, new):
 
 
 def _is_target(i):
-    return i.mnemonic in ("b", "bl", "cbz", "cbnz") or i.mnemonic.startswith("b.")
+    return i.mnemonic in ("b", "bl", "cbz", "cbnz", "tbz", "tbnz") or i.mnemonic.startswith("b.")
 
 
 def instructions(code, section, level):
@@ -107,20 +107,22 @@ def follows(i):
 class State(state.State):
     """The arguments are in these registers, and a call has left the address to return to in x30."""
 
-    TOP, STACK, RETURN, VECTORS, WIDTH = "sp", 2000, 0, 32, 16
+    TOP, STACK, STACK_OF_CALLED, RETURN, VECTORS, WIDTH = "sp", 2000, 64, 0, 32, 16
     GENERAL = tuple(f"x{at}" for at in range(31)) + ("sp",)
     ARGUMENTS, RESULT = tuple(f"x{at}" for at in range(8)), ("x0", 32)
-    KEPT = ("sp", *(f"x{at}" for at in range(19, 30)))
+    KEPT, KEPT_VECTORS = ("sp", *(f"x{at}" for at in range(19, 30))), dict.fromkeys(range(8, 16), 8)
 
     def enter(self):
         self.general |= {"sp": simple(self.regions["stack"].base + self.STACK), "x30": z3.BitVec("p_return", 64)}
-        self.first, self.first_vectors = self.general.copy(), self.vectors.copy()
+
+    def return_address(self):
+        return self.general["x30"]
 
     def returned(self):
         for name in self.KEPT:
             self.must(self.general[name] == self.first[name], f"{name} is not as before")
-        for at in range(8, 16):
-            for new, old in zip(self.vectors[at][:8], self.first_vectors[at]):
+        for at, count in self.KEPT_VECTORS.items():
+            for new, old in zip(self.vectors[at][:count], self.first_vectors[at]):
                 self.must(new == old, f"v{at} is not as before")
 
     def arrive(self, is_clean):
@@ -138,11 +140,14 @@ class State(state.State):
         return whole if o.size == 8 else simple(z3.Extract(31, 0, whole))
 
     def last(self, operands, size):
-        """The last operand, which may be shifted."""
+        """The last operand, which may be shifted, or extended from 32 bits."""
+        if size == 8 and operands[0].size == 4 and operands[1:] and operands[1].how == "uxtw":
+            return simple(z3.ZeroExt(32, self.number(operands[0])))
         value = self.number(operands[0], size)
         if len(operands) == 1:
             return value
-        require(len(operands) == 2 and operands[1].kind == "shift" and operands[1].count < 8 * size, "a shift")
+        require(len(operands) == 2 and operands[1].kind == "shift", "a shift")
+        require(operands[1].how in SHIFTS and operands[1].count < 8 * size, "a shift")
         return simple(SHIFTS[operands[1].how](value, operands[1].count))
 
     def lane(self, o):
@@ -237,6 +242,14 @@ def invert(s, i):
     s.put(i.operands[0], simple(~s.last(i.operands[1:], i.operands[0].size)))
 
 
+def insert_bits(s, i):
+    """The lowest bits come from anywhere in another register, and the others are kept."""
+    to, by, low, count = i.operands
+    require(0 < count.value < 8 * to.size and 0 <= low.value <= 8 * to.size - count.value, "bits")
+    kept = z3.Extract(8 * to.size - 1, count.value, s.number(to))
+    s.put(to, simple(z3.Concat(kept, z3.Extract(low.value + count.value - 1, low.value, s.number(by, to.size)))))
+
+
 def shift(s, i):
     to, by, count = i.operands
     require(count.kind == "number" and 0 <= count.value < 8 * to.size, "a shift")
@@ -247,13 +260,13 @@ def select(function):
     def handler(s, i):
         to, one, other, name = i.operands
         a, b = s.number(one, to.size), s.number(other, to.size)
-        s.put(to, simple(z3.If(condition(s, name.text), a, function(b))))
+        s.put(to, s.either(condition(s, name.text), a, simple(function(b))))
     return handler
 
 
 def set_if(s, i):
     to, name = i.operands
-    s.put(to, simple(z3.If(condition(s, name.text), z3.BitVecVal(1, 8 * to.size), z3.BitVecVal(0, 8 * to.size))))
+    s.put(to, s.either(condition(s, name.text), z3.BitVecVal(1, 8 * to.size), z3.BitVecVal(0, 8 * to.size)))
 
 
 def compare_if(s, i):
@@ -282,6 +295,12 @@ def ret(s, i):
 
 def jump_if(s, i):
     return Branch(condition(s, i.mnemonic[2:]), i.operands[0].value)
+
+
+def jump_if_bit(s, i):
+    by, at, to = i.operands
+    require(0 <= at.value < 8 * by.size, "a bit")
+    return Branch(simple(z3.Extract(at.value, at.value, s.number(by)) == int(i.mnemonic == "tbnz")), to.value)
 
 
 def jump_if_zero(s, i):
@@ -458,6 +477,7 @@ HANDLERS = {
     "neg": negate, "mvn": invert, "lsl": shift, "lsr": shift, "adrp": adrp, "csel": select(lambda b: b),
     "csinc": select(lambda b: b + 1), "csinv": select(lambda b: ~b), "cset": set_if, "ccmp": compare_if,
     "nop": lambda s, i: None, "b": jump, "bl": jump, "ret": ret, "cbz": jump_if_zero, "cbnz": jump_if_zero,
+    "tbz": jump_if_bit, "tbnz": jump_if_bit, "bfxil": insert_bits,
     "mul": by_units(MULTIPLY), "umin": by_units(MINIMUM), "umax": by_units(MAXIMUM),
     "uqsub": by_units(SUBTRACT_SATURATED), "cmhi": by_units(lambda a, b: all_bits(z3.UGT(a, b), a)),
     "cmhs": by_units(lambda a, b: all_bits(z3.UGE(a, b), a)), "ushr": shift_right, "movi": constant, "mov": move,

@@ -1,0 +1,383 @@
+"""The functions of the C library, and what c/const_hex.h says of each. A NULL `error` is a matter of c/asm/dispatch.S.
+
+If a claim were weaker than what the header says, a library could be accepted that does something else. A text has less
+than 2^63 characters, and so have the bytes whose text fits into a buffer; a size that is passed has no limit.
+"""
+
+import pathlib
+import re
+
+import z3
+
+from contracts.functions import (FAILED, FOUND, INVALID_CHARACTER, INVALID_LENGTH, N, ODD_LENGTH, SIZE_MAX, Function,
+                                 base, by_prefix, first_invalid, is_digit, is_prefix, moved, must_be, must_be_digits,
+                                 must_be_unchanged, must_cover, must_find_first_invalid, of_32_bits)
+from contracts.kernels import Check as CheckKernel, must_be_decoded, must_be_digits_of
+from execution.state import Region, byte, joined, simple, split, word
+from solver.questions import require
+
+HEADER = pathlib.Path(__file__).resolve().parents[2] / "c" / "const_hex.h"
+FLAGS, SIZE = z3.BitVec("p_flags", 32), z3.BitVec("p_size", 64)
+UPPER, PREFIX, NO_NUL = 1, 2, 4
+TEXT, ERROR, WRITTEN = Region("input", N), Region("error", word(16), 8), Region("written", word(8), 8)
+
+
+class Exported(Function):
+    """A function of the header, which handles an error that is not NULL."""
+
+    @property
+    def symbol(self):
+        return f"const_hex_{self.function}(_nonnull)?"
+
+
+class Version(Exported):
+    """version(): that of the header."""
+
+    function, arguments = "version", ()
+
+    def returns(self, state):
+        wanted = int(re.search(r"#define CONST_HEX_VERSION (\d+)", HEADER.read_text())[1])
+        state.must(state.result(32) == wanted, f"the version is not {wanted}")
+
+
+def needed(flags):
+    """The size that a text needs, in as many bits as it takes: two digits for each byte, the prefix, and a NUL."""
+    prefix, no_nul = [z3.ZeroExt(65, z3.Extract(at, at, flags)) for at in (1, 2)]
+    return simple(2 * z3.ZeroExt(2, N) + 2 * prefix + 1 - no_nul)
+
+
+class EncodedSize(Exported):
+    """encoded_size(bytes_length, flags): what is needed, or SIZE_MAX if that is no size, or for unknown flags."""
+
+    function, arguments = "encoded_size", (N, of_32_bits(FLAGS))
+
+    def returns(self, state):
+        size = needed(FLAGS)
+        is_size = z3.And(z3.ULT(FLAGS, 8), z3.ULT(size, SIZE_MAX))
+        state.must(state.result(64) == z3.If(is_size, z3.Extract(63, 0, size), SIZE_MAX), "another size")
+
+
+class Encode(Exported):
+    """encode(bytes, bytes_length, text, text_size, flags), for some flags, or all unknown ones."""
+
+    function, regions = "encode", (Region("input", N), Region("output", SIZE))
+    empty = ("input", N), ("output", SIZE)
+
+    def __init__(self, flags):
+        self.name = "unknown flags" if flags is None else f"flags {flags}"
+        self.flags = FLAGS if flags is None else z3.BitVecVal(flags, 32)
+        self.arguments = base("input"), N, base("output"), SIZE, simple(of_32_bits(self.flags))
+        self.fits = simple(z3.And(z3.ULT(self.flags, 8), z3.ULE(needed(self.flags), z3.ZeroExt(2, SIZE))))
+        self.has_nul = simple(self.flags & NO_NUL == 0)
+        # Where the digits begin, and where they end.
+        self.begin = 2 if flags and flags & PREFIX else 0
+        self.end = simple(2 * N + self.begin)
+        self.requires = (z3.Implies(self.fits, z3.ULT(N, 1 << 62)), *([z3.UGE(FLAGS, 8)] if flags is None else []))
+
+    def valid(self, state):
+        """Every input is valid."""
+        return []
+
+    def store(self, state, offset, lane):
+        """A text that fits: the prefix, the digits and a NUL. Otherwise a NUL at the start."""
+        if state.holds(z3.Not(self.fits)):
+            return self.must_be_nul(state, offset, lane, word(0))
+        state.must(self.fits, "written though the text may not fit")
+        if z3.is_bv_value(offset) and offset.as_long() + len(lane) <= self.begin:
+            require(all(map(z3.is_bv_value, lane)), "a prefix that is not known")
+            written = bytes(character.as_long() for character in lane)
+            return require(written == b"0x"[offset.as_long() :][: len(lane)], "a wrong prefix")
+        if state.holds(offset == self.end):
+            return self.must_be_nul(state, offset, lane, self.end)
+        is_inside = z3.And(z3.UGE(offset, self.begin), z3.ULE(offset + len(lane), self.end))
+        state.must(is_inside, "written beside the digits")
+        must_be_digits_of(state, simple(offset - self.begin), lane, bool(self.flags.as_long() & UPPER))
+
+    def must_be_nul(self, state, offset, lane, wanted):
+        state.must(z3.And(self.has_nul, offset == wanted), "another place than that of a NUL")
+        require(len(lane) == 1 and lane[0].eq(byte(0)), "no NUL")
+
+    def returns(self, state):
+        result = state.result(8)
+        state.must(result == z3.If(self.fits, byte(1), byte(0)), "whether the text fits")
+        if fits := state.when(self.fits, None):
+            limit = self.end + z3.If(self.has_nul, word(1), word(0))
+            must_cover(fits, word(0), simple(limit), fits.writes, "a character of the text is left out")
+        if failed := state.when(z3.And(z3.Not(self.fits), self.has_nul, SIZE != 0), None):
+            must_cover(failed, word(0), word(1), failed.writes, "the text is not the empty string")
+
+
+class CheckRaw(CheckKernel):
+    """check_raw(text, length): whether all characters are digits."""
+
+    is_called, function, symbol, empty = False, "check_raw", "const_hex_check_raw", (("input", N),)
+    regions = TEXT,
+
+    def result(self, state):
+        return state.result(8)
+
+
+class FirstInvalid(Function):
+    """The search for the first invalid character of a text: its kind, the character, and its index; or, if all are
+    digits, the length. It is called for invalid texts alone."""
+
+    is_called = is_local = may_leak = True
+    symbol, function, name = "const_hex_body_find_invalid_character", "find_invalid_character", "any text"
+    regions, arguments = (Region("found", word(16)), TEXT), (base("found"), base("input"), N)
+    requires = z3.ULT(N, 1 << 63),
+
+    def cases(self, state):
+        return by_prefix(state, 4)
+
+    def returns(self, state):
+        must_be(state, "found", 0, 4, FOUND)
+        character, index = state.cell("found", 4, 4), state.cell("found", 8, 8)
+        if not state.holds(index == N):
+            return must_find_first_invalid(state, character, index)
+        must_be_digits(state, N)
+        state.must(character == 0, "a character that is not in the text")
+
+
+class Text(Exported):
+    """A function that rejects a text whose length is odd, or that has an invalid character."""
+
+    name, empty, requires = "any text", (("input", N),), (z3.ULT(N, 1 << 63),)
+
+    def cases(self, state):
+        return by_prefix(state)
+
+    def count(self, state):
+        """How many bytes the text decodes to."""
+        return simple(z3.LShR(N - state.body, 1))
+
+    def returns(self, state):
+        result = state.result(8)
+        if state.holds(result == 1):
+            state.must(N & 1 == 0, "an odd length is accepted")
+            must_be_digits(state, N)
+            return self.accepts(state)
+        state.must(result == 0, "the result is neither true nor false")
+        self.rejects(state)
+        if state.holds(N & 1 == 1):
+            return must_fail(state, ODD_LENGTH)
+        state.must(N & 1 == 0, "whether the length is odd")
+        if state.holds(z3.Not(self.fits_in(state))):
+            return must_fail(state, INVALID_LENGTH)
+        state.must(self.fits_in(state), "whether the bytes fit")
+        must_be(state, "error", 0, 4, INVALID_CHARACTER)
+        must_find_first_invalid(state, state.cell("error", 4, 4), state.cell("error", 8, 8))
+
+
+def must_fail(state, kind):
+    """An error without a character."""
+    for offset, count, wanted in ((0, 4, kind), (4, 4, 0), (8, 8, 0)):
+        must_be(state, "error", offset, count, wanted)
+
+
+class Check(Text):
+    """check(text, length, error): whether a text can be decoded."""
+
+    function, regions, arguments = "check", (TEXT, ERROR), (base("input"), N, base("error"))
+
+    def fits_in(self, state):
+        return z3.BoolVal(True)
+
+    def accepts(self, state):
+        must_be_unchanged(state, "error")
+
+    def rejects(self, state):
+        """Beside the error, nothing is written."""
+
+
+class DecodeExact(Text):
+    """decode_exact(text, length, bytes, bytes_length, error): the bytes that the text decodes to, which are as many."""
+
+    function, regions = "decode_exact", (TEXT, Region("output", SIZE), ERROR)
+    arguments = base("input"), N, base("output"), SIZE, base("error")
+    empty = ("input", N), ("output", SIZE)
+
+    def fits_in(self, state):
+        return self.count(state) == SIZE
+
+    def store(self, state, offset, lane):
+        state.must(z3.And(N & 1 == 0, self.fits_in(state)), "written though the text has another length")
+        state.must(z3.ULE(offset + len(lane), self.count(state)), "written after the bytes")
+        must_be_decoded(state, offset, lane)
+
+    def accepts(self, state):
+        state.must(self.fits_in(state), "another length is accepted")
+        must_cover(state, word(0), self.count(state), state.writes, "a byte is left out")
+        must_be_unchanged(state, "error")
+
+    def rejects(self, state):
+        """Beside the error, nothing is written."""
+
+
+class Decode(DecodeExact):
+    """decode(text, length, bytes, bytes_size, written, error): the same, in a buffer that may be larger."""
+
+    function, regions = "decode", (*DecodeExact.regions, WRITTEN)
+    arguments = base("input"), N, base("output"), SIZE, base("written"), base("error")
+
+    def fits_in(self, state):
+        return z3.ULE(self.count(state), SIZE)
+
+    def accepts(self, state):
+        super().accepts(state)
+        must_be(state, "written", 0, 8, self.count(state))
+
+    def rejects(self, state):
+        must_be(state, "written", 0, 8, 0)
+
+
+DECODER = Region("decoder", word(16), 8)
+
+
+class DecoderFinish(Exported):
+    """decoder_finish(decoder, error): whether no digit waits for its second half, and there was no error."""
+
+    function, name, arguments = "decoder_finish", "any decoder", (base("decoder"), base("error"))
+    regions = Region("decoder", word(16), 8, is_writable=False), ERROR
+
+    def cases(self, state):
+        return [with_decoder(state)]
+
+    def returns(self, state):
+        result, index, character, kind = state.result(8), *decoder_of(state.first_cells)
+        state.must(result == z3.If(kind == 0, byte(1), byte(0)), "whether the text is complete")
+        if state.holds(kind == 0):
+            must_be_unchanged(state, "error")
+        elif state.holds(kind == 1):
+            must_fail(state, ODD_LENGTH)
+        else:
+            state.must(z3.UGT(kind, 1), "whether there was an error")
+            must_repeat(state, index, character)
+
+
+def with_decoder(state):
+    """A decoder has the position in the text, a character, and what it waits for: 0 for any digit, 1 for the second
+    digit of a byte, more for nothing after an error. Only the character is secret."""
+    state.put_cells("decoder", 0, split(z3.BitVec("p_position", 64)))
+    state.put_cells("decoder", 9, [z3.BitVec("p_kind", 8)])
+    state.first_cells = state.cells.copy()
+    return state
+
+
+def decoder_of(cells):
+    position = joined([cells["decoder", at] for at in range(8)])
+    return position, cells["decoder", 8], cells["decoder", 9]
+
+
+def must_repeat(state, index, character):
+    """The error of an earlier chunk."""
+    must_be(state, "error", 0, 4, INVALID_CHARACTER)
+    must_be(state, "error", 4, 4, z3.ZeroExt(24, character))
+    must_be(state, "error", 8, 8, index)
+
+
+class DecoderUpdate(Exported):
+    """decoder_update(decoder, text, length, bytes, bytes_size, written, error): the bytes of a chunk's digits, with the
+    one before that waits for its second half."""
+
+    function, name = "decoder_update", "every decoder and chunk"
+    regions = Region("decoder", word(16), 8), TEXT, Region("output", SIZE), WRITTEN, ERROR
+    arguments = (base("decoder"), base("input"), N, base("output"), SIZE, base("written"), base("error"))
+    empty, requires = (("input", N), ("output", SIZE)), (z3.ULT(N, 1 << 63),)
+
+    def cases(self, state):
+        """What a decoder may be: at the start; after one digit, which may be the first half of a prefix; later, where a
+        digit waits or none; after an error."""
+        position, character, kind = decoder_of(with_decoder(state).cells)
+        waits = z3.And(kind == 1, is_digit(character))
+        start, one = z3.And(position == 0, kind == 0), z3.And(position == 1, waits)
+        later = z3.UGE(position, 2)
+        x = state.byte_of_input(word(0))
+        is_rest = z3.And(z3.UGE(N, 1), is_prefix(character, x))
+        failed = state.when(z3.UGT(kind, 1), state.at)
+        # How many digits wait that belong to the first byte.
+        ways = [(way, 0) for way in by_prefix(state.when(start, state.at))]
+        ways += [(state.when(z3.And(*conditions), state.at), waiting) for *conditions, waiting in (
+            (one, is_rest, 0), (one, z3.Not(is_rest), 1), (later, kind == 0, 0), (later, waits, 1))]
+        for way, waiting in ways:
+            if way:
+                way.waiting = waiting
+                way.body = word(1) if way.holds(is_rest) and way.holds(one) else way.body
+                yield way
+        yield failed
+
+    def count(self, state):
+        """How many bytes the digits make."""
+        return simple(z3.LShR(N - state.body + state.waiting, 1))
+
+    def store(self, state, offset, lane):
+        state.must(z3.ULE(decoder_of(state.first_cells)[2], 1), "written after an error")
+        state.must(z3.ULE(self.count(state), SIZE), "written though the bytes may not fit")
+        state.must(z3.ULE(offset + len(lane), self.count(state)), "written after the bytes")
+        if not state.waiting:
+            return must_be_decoded(state, offset, lane)
+        if state.holds(offset == 0):
+            return must_be_decoded(state, offset, lane, decoder_of(state.first_cells)[1])
+        state.must(offset != 0, "whether it is the first byte")
+        must_be_decoded(state, offset, lane)
+
+    def returns(self, state):
+        result = state.result(8)
+        position, character, kind = decoder_of(state.first_cells)
+        if state.holds(result == 1):
+            return self.accepts(state, position, character, kind)
+        state.must(result == 0, "the result is neither true nor false")
+        must_be(state, "written", 0, 8, 0)
+        if state.holds(z3.UGT(kind, 1)):
+            must_be_unchanged(state, "decoder")
+            return must_repeat(state, position, character)
+        if state.holds(z3.UGT(self.count(state), SIZE)):
+            must_be_unchanged(state, "decoder")
+            return must_fail(state, INVALID_LENGTH)
+        state.must(z3.ULE(self.count(state), SIZE), "whether the bytes fit")
+        index, character = first_invalid(state)
+        state.must(z3.ULT(index, N), "digits are rejected")
+        must_repeat(state, moved(position, index), character)
+        must_be(state, "decoder", 0, 8, moved(position, index))
+        must_be(state, "decoder", 8, 1, character)
+        state.must(z3.UGT(state.cell("decoder", 9, 1), 1), "the decoder does not keep its error")
+
+    def accepts(self, state, position, character, kind):
+        state.must(z3.And(z3.ULE(kind, 1), z3.ULE(self.count(state), SIZE)), "what does not fit is accepted")
+        must_be_digits(state, N)
+        must_cover(state, word(0), self.count(state), state.writes, "a byte is left out")
+        must_be_unchanged(state, "error")
+        must_be(state, "written", 0, 8, self.count(state))
+        must_be(state, "decoder", 0, 8, moved(position, N))
+        waits = z3.Extract(0, 0, N - state.body + state.waiting)
+        must_be(state, "decoder", 9, 1, z3.ZeroExt(7, waits))
+        if other := state.when(z3.And(waits == 1, N == 0), None):
+            must_be(other, "decoder", 8, 1, character)
+        if other := state.when(z3.And(waits == 1, N != 0), None):
+            must_be(other, "decoder", 8, 1, other.byte_of_input(N - 1))
+
+
+class DecoderFail(Function):
+    """The search for the first invalid character of a chunk, of which some characters come before: the decoder moves
+    there, and keeps the error, which is found as by FirstInvalid. It is called for invalid chunks alone."""
+
+    is_called = is_local = may_leak = True
+    symbol, function, name = "const_hex_decoder_fail", "decoder_fail", "every decoder and chunk"
+    before = z3.BitVec("p_before", 64)
+    regions = Region("found", word(16)), Region("decoder", word(16)), TEXT
+    arguments = base("found"), base("decoder"), before, base("input"), N
+    requires = z3.ULT(N, 1 << 63),
+
+    def cases(self, state):
+        return [with_decoder(state)]
+
+    def returns(self, state):
+        index, character = first_invalid(state)
+        index = moved(moved(decoder_of(state.first_cells)[0], self.before), index)
+        for name, offset, count, wanted in (
+                ("found", 0, 4, FOUND), ("found", 4, 4, z3.ZeroExt(24, character)), ("found", 8, 8, index),
+                ("decoder", 0, 8, index), ("decoder", 8, 1, character), ("decoder", 9, 1, FAILED)):
+            must_be(state, name, offset, count, wanted)
+
+
+FUNCTIONS = (Version(), EncodedSize(), *[Encode(flags) for flags in (*range(8), None)], CheckRaw(), FirstInvalid(),
+             Check(), DecodeExact(), Decode(), DecoderFinish(), DecoderFail(), DecoderUpdate())
