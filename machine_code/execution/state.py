@@ -10,6 +10,7 @@ import itertools
 
 import z3
 
+from solver import tenths
 from solver.questions import Refused, conjuncts, facts_of, holds, names, require, values
 
 simple = z3.simplify
@@ -65,6 +66,8 @@ class State:
                         for at in range(self.VECTORS)}
         # The stack by offsets, the input's bytes by the terms of their offsets, and where a call returns to.
         self.stack, self.input, self.calls = {}, {}, {}
+        # The parts of products that have a tenth, by their factors.
+        self.tenths = {}
         # Offset and count of what was read of the input and written to the output, and which reads are of digits.
         self.reads, self.writes, self.digits = [], [], {}
         # The loops that were entered, and the instructions since the last head. Whether the input is surely invalid.
@@ -110,6 +113,25 @@ class State:
             if holds(facts, condition):
                 return truth
         raise Refused("a branch depends on bytes that are secret")
+
+    # Products
+    def _parts(self, number):
+        """A tenth of a number, and the bits below it in a product. What is known of them is assumed once."""
+        number = simple(number)
+        if number.get_id() not in self.tenths:
+            *self.tenths[number.get_id()], known = tenths.parts(number)
+            self.assume(known)
+        return self.tenths[number.get_id()]
+
+    def tenth(self, number):
+        """A tenth of a number of 64 bits, rounded down."""
+        return simple(z3.ZeroExt(3, self._parts(number)[0]))
+
+    def product(self, a, b):
+        """The product of two numbers of 64 bits, which has 128."""
+        if z3.is_bv_value(b) and b.as_long() == tenths.FACTOR and not z3.is_bv_value(simple(a)):
+            return simple(z3.Concat(*self._parts(a), a * b))
+        return simple(z3.ZeroExt(64, a) * z3.ZeroExt(64, b))
 
     # Memory
     def _place(self, address, count, aligned):

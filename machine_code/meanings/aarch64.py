@@ -237,6 +237,28 @@ def invert(s, i):
     s.put(i.operands[0], simple(~s.last(i.operands[1:], i.operands[0].size)))
 
 
+def upper_product(s, i):
+    to, one, other = i.operands
+    require(to.size == 8, "another size")
+    s.put(to, simple(z3.Extract(127, 64, s.product(s.number(one, 8), s.number(other, 8)))))
+
+
+def less_product(s, i):
+    to, one, other, by = i.operands
+    a, b, c = [s.number(o, to.size) for o in (one, other, by)]
+    s.put(to, simple(c - a * b))
+
+
+def move_part(s, i):
+    """Writes 16 bits, and keeps the others."""
+    to, number, *by = i.operands
+    at = by[0].count if by else 0
+    require(0 <= number.value < 1 << 16 and at in range(0, 8 * to.size, 16), "a part of a register")
+    require(not by or by[0].how == "lsl", "a shift")
+    kept = s.number(to) & ~(0xFFFF << at)
+    s.put(to, simple(kept | number.value << at))
+
+
 def shift(s, i):
     to, by, count = i.operands
     require(count.kind == "number" and 0 <= count.value < 8 * to.size, "a shift")
@@ -455,6 +477,7 @@ HANDLERS = {
     "orr": either(general(OR), by_units(OR)), "eor": either(general(XOR), by_units(XOR)),
     "bic": either(general(lambda a, b: a & ~b), by_units(lambda a, b: a & ~b)),
     "orn": either(general(lambda a, b: a | ~b), by_units(lambda a, b: a | ~b)),
+    "umulh": upper_product, "msub": less_product, "movk": move_part,
     "neg": negate, "mvn": invert, "lsl": shift, "lsr": shift, "adrp": adrp, "csel": select(lambda b: b),
     "csinc": select(lambda b: b + 1), "csinv": select(lambda b: ~b), "cset": set_if, "ccmp": compare_if,
     "nop": lambda s, i: None, "b": jump, "bl": jump, "ret": ret, "cbz": jump_if_zero, "cbnz": jump_if_zero,

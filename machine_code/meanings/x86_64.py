@@ -234,6 +234,14 @@ def shift(function):
     return handler
 
 
+def multiply(s, i):
+    by, = i.operands
+    require(by.size == 8, "another size")
+    product = s.product(s.general["rax"], s.number(by, i))
+    s.general |= {"rax": simple(z3.Extract(63, 0, product)), "rdx": simple(z3.Extract(127, 64, product))}
+    s.flags = None
+
+
 def inc_dec(by):
     def handler(s, i):
         to, = i.operands
@@ -454,9 +462,10 @@ def vzeroupper(s, i):
 HANDLERS = {
     "add": arithmetic(ADD, sum_flags), "sub": arithmetic(SUBTRACT, difference_flags),
     "cmp": arithmetic(SUBTRACT, difference_flags, is_kept=False), "and": logic(AND), "or": logic(OR), "xor": logic(XOR),
-    "test": logic(AND, is_kept=False), "inc": inc_dec(1), "dec": inc_dec(-1), "mov": mov, "movzx": movzx, "lea": lea,
+    "test": logic(AND, is_kept=False), "inc": inc_dec(1), "dec": inc_dec(-1), "mov": mov, "movabs": mov, "movzx": movzx,
+    "lea": lea,
     "shl": shift(lambda a, by: a * (1 << by)), "shr": shift(z3.LShR), "push": push, "pop": pop,
-    "nop": lambda s, i: None, "jmp": jump, "call": call, "ret": ret,
+    "nop": lambda s, i: None, "jmp": jump, "call": call, "ret": ret, "mul": multiply,
 }
 HANDLERS |= {f"j{name}": jump_if for name in CONDITIONS} | {f"set{name}": set_if for name in CONDITIONS}
 HANDLERS |= {f"cmov{name}": move_if for name in CONDITIONS}

@@ -127,7 +127,7 @@ def _answer(logic, conditions, limit):
     return answer
 
 
-def _is_impossible_in_integers(conditions):
+def is_impossible_in_integers(conditions):
     return _answer("QF_LIA", conditions, QUICK) == z3.unsat
 
 
@@ -135,7 +135,7 @@ def _by_integers(facts):
     """The answer by integers, if all is linear. Sums of many bits are hard in bits and easy in integers, masks are
     the other way round."""
     try:
-        known = integers.Facts(facts, _is_impossible_in_integers)
+        known = integers.Facts(facts, is_impossible_in_integers)
     except ValueError:
         return z3.unknown
     return _answer("QF_LIA", [*known.ranges.values(), *known.conditions], QUICK)

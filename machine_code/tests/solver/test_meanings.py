@@ -13,14 +13,15 @@ MORE = {
         inc rax; dec ecx; cmovb rax, rcx; cmovne eax, ecx; paddb xmm0, xmm1; paddd xmm0, xmm1; pmaxub xmm0, xmm1
         pandn xmm0, xmm1; paddusb xmm0, xmm1; pmaddubsw xmm0, xmm1; punpcklbw xmm0, xmm1; punpckhbw xmm0, xmm1
         punpcklwd xmm0, xmm1; punpckldq xmm0, xmm1; pextrb eax, xmm0, 3; por xmm0, xmm1; pand xmm0, xmm1
-        psubw xmm0, xmm1; pinsrq xmm0, rax, 1; shr eax, 3""",
+        psubw xmm0, xmm1; pinsrq xmm0, rax, 1; shr eax, 3; mul rcx; mul rax""",
     "x86_64_v3": """.intel_syntax noprefix
         vpaddd ymm0, ymm1, ymm2; vpsubw ymm0, ymm1, ymm2; vpmaddubsw ymm0, ymm1, ymm2; vpbroadcastq ymm0, xmm1
         vpbroadcastd ymm0, xmm1; vpbroadcastb ymm0, xmm1; vpbroadcastw ymm0, xmm1; vpmaxub ymm0, ymm1, ymm2
         vpandn ymm0, ymm1, ymm2; vpaddusb ymm0, ymm1, ymm2; vpunpckhbw ymm0, ymm1, ymm2; vpunpcklbw ymm0, ymm1, ymm2
         vpunpcklwd ymm0, ymm1, ymm2; vpunpckldq ymm0, ymm1, ymm2; vpunpcklqdq ymm0, ymm1, ymm2; vpermq ymm0, ymm1, 0x8d
         vpxor ymm0, ymm1, ymm2; vpand ymm0, ymm1, ymm2; vpinsrq xmm0, xmm1, rax, 1; shr eax, 3; inc rax; dec ecx
-        vinserti128 ymm0, ymm1, xmm2, 1; vpextrb eax, xmm1, 3; vpinsrd xmm0, xmm1, eax, 2""",
+        vinserti128 ymm0, ymm1, xmm2, 1; vpextrb eax, xmm1, 3; vpinsrd xmm0, xmm1, eax, 2
+        mul rcx""",
     "aarch64": """
         adds x0, x1, x2; cmn w1, w2; subs x0, x1, x2; ands x0, x1, x2; bic x0, x1, x2; orn x0, x1, x2; eor w0, w1, w2
         bic v0.16b, v1.16b, v2.16b; orn v0.16b, v1.16b, v2.16b; eor v0.16b, v1.16b, v2.16b; mvn x0, x1
@@ -28,7 +29,8 @@ MORE = {
         cmhi v0.16b, v1.16b, v2.16b; cmhs v0.8h, v1.8h, v2.8h; umaxv b0, v1.16b; uminv h0, v1.8h
         uzp1 v0.16b, v1.16b, v2.16b; zip2 v0.8h, v1.8h, v2.8h; neg x0, x1; lsl x0, x1, #3; cbnz w0, 1f; nop; nop; 1: nop
         st1 {v0.b}[2], [x1]; ldrh w0, [x1]; strh w0, [x1]; ldurh w0, [x1, #1]; sturh w0, [x1, #1]
-        ldurb w0, [x1, #-1]; sturb w0, [x1, #-1]""",
+        ldurb w0, [x1, #-1]; sturb w0, [x1, #-1]; umulh x0, x1, x2; msub x0, x1, x2, x3; msub w0, w1, w2, wzr
+        movk x0, #0xcccd; movk x0, #0x1234, lsl #48; movk w0, #0x7374, lsl #16""",
 }
 
 

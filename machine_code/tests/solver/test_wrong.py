@@ -17,6 +17,9 @@ CHECKS = ("require", "must", "must_cover", "must_equal")
 PASSES, SECRET = "a character is passed that may be no digit", "a branch depends on bytes"
 BELOW, UNWRITTEN = "an access below the stack pointer", "a byte of the stack that was not written"
 OUTSIDE, NOT_IN_STACK, AT_HEAD = "may lie outside", "the stack pointer is not in the stack", "at the head of a loop: "
+# Goes on if and only if ten times a tenth of a length is at most the length, and returns true otherwise.
+TENTH = ("mov rax, rsi; movabs r8, {}; mul r8; shr rdx, {}; lea rax, [rdx+rdx*4]; add rax, rax; cmp rax, rsi; jbe 5f; "
+         "mov eax, 1; ret; 5: ")
 # What is wrong, the processor's level, the function, what is changed, and what is said of it.
 WRONG = [
     ("the OR of three characters compared by the carry", "v3", "check",
@@ -94,6 +97,8 @@ WRONG = [
     ("an address in the upper half", "v3", "check",
      {"start": "mov rax, rdi; shr rax, 63; test rax, rax; je 1f; mov eax, 1; ret"}, PASSES),
     ("the flag of a shift", "v3", "check", {"start": "mov rax, rdi; shr rax, 63; jb 1f"}, "a flag that is not known"),
+    ("a quotient by another factor", "v3", "check", {"start": TENTH.format("0xdccccccccccccccd", 3)}, PASSES),
+    ("a quotient by another shift", "v3", "check", {"start": TENTH.format("0xcccccccccccccccd", 2)}, PASSES),
     ("2 for true", "v3", "check", {"end": "add al, al"}, "neither true nor false"),
     ("false for digits", "v3", "check", {"end": "xor eax, eax"}, "digits are rejected"),
     ("true for what is no digit", "v3", "check", {"character": "or eax, 0x20"}, PASSES),
@@ -149,6 +154,7 @@ WRONG = [
 ]
 RIGHT = [("a loop over bytes", "v3", call, {}) for call in ("check", "fill", "read")] + [
     ("a loop over bytes", "v2", "check", {}), ("a loop over bytes", "aarch64", "check", {}),
+    ("a quotient by ten", "v3", "check", {"start": TENTH.format("0xcccccccccccccccd", 3)}),
     ("a stack that is used", "v3", "check", {"start": "push rbx; mov rbx, rsi; mov rsi, rbx; pop rbx"}),
     ("a wide register that is cleared", "v3", "check", {"start": "vpxor ymm0, ymm0, ymm0; vzeroupper"}),
     ("a call", "v3", "check", {"start": "call helper"}),
