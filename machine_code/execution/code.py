@@ -13,28 +13,43 @@ from solver.questions import require
 
 
 class Code:
-    def __init__(self, content, processors):
+    def __init__(self, content, processors, imported=None, local=None):
+        """With what functions do that are called by their contracts: those of other objects, and local ones."""
         self.object = objects.read(content)
+        self._imported, self._local = imported or {}, local or {}
         self.processor = processors[self.object.machine]
         self.constants, self.instructions, self._references = {}, {}, {}
         for at, section in enumerate(self.object.sections):
             if section.is_code:
                 for offset, kind, symbol, addend in section.references:
                     self._references[section.address + offset] = kind, symbol + addend
-            elif not section.is_writable and not section.references:
+            elif not section.is_writable:
                 # An access beyond the end of a section is one to what is not known.
-                region = Region(f"constants_{at}", word(len(section.content)), section.alignment, section.content)
+                region = Region(f"constants_{at}", word(len(section.content)), section.alignment, section.content,
+                                self._targets(section))
                 self.constants[section.address] = section, region
 
-    def function(self, name):
-        """The address of the function with this name and any version of the crate; its instructions are read for the
-        processor that its name says."""
-        pattern = rf"const_hex_\d+_\d+_\d+_{name}(_v[23])?"
-        found = [symbol for symbol in sorted(self.object.exported) if re.fullmatch(pattern, symbol)]
-        require(len(found) == 1, f"{len(found)} functions {name}")
+    def _targets(self, section):
+        """Where a table of jumps leads, if it is one: each entry is the distance of 32 bits from the table."""
+        if not section.references:
+            return None
+        targets = {offset: symbol + addend - offset for offset, kind, symbol, addend in section.references}
+        is_table = sorted(targets) == list(range(0, len(section.content), 4))
+        require(is_table and all(kind == 2 for _, kind, _, _ in section.references), "addresses among constants")
+        return targets
+
+    def function(self, pattern, is_local=False):
+        """The address of the function with such a name; its instructions are read for the processor that its name says.
+        The others that are called by their contracts are known then."""
+        names = self.object.symbols.keys() - self.object.exported if is_local else self.object.exported
+        found = [symbol for symbol in sorted(names) if re.fullmatch(pattern, symbol)]
+        require(len(found) == 1, f"{len(found)} functions {pattern}")
         for section in self.object.sections:
             if section.is_code:
                 self.instructions |= self.processor.instructions(self, section, found[0].rpartition("_")[2])
+        self.callees = {at: self._imported[name] for at, name in self.object.undefined.items() if name in self._imported}
+        self.callees |= {self.object.symbols[name]: effect for name, effect in self._local.items()
+                         if name in self.object.symbols.keys() - self.object.exported - {found[0]}}
         return self.object.symbols[found[0]]
 
     def references_in(self, address, size):

@@ -50,8 +50,8 @@ class Loop:
         for at in self.kept:
             same = all(state.holds(a == b) for a, b in zip(state.vectors[at], self.entry.vectors[at]))
             require(same, f"at the head of a loop: vector {at}")
-        same = state.stack.keys() == self.entry.stack.keys()
-        require(same and all(state.stack[at].eq(value) for at, value in self.entry.stack.items()),
+        same = state.cells.keys() == self.entry.cells.keys()
+        require(same and all(state.cells[at].eq(value) for at, value in self.entry.cells.items()),
                 "at the head of a loop: the stack")
         require(state.calls == self.entry.calls, "at the head of a loop: where calls return to")
         state.arrive(self.is_clean)
@@ -66,8 +66,8 @@ class Loop:
                          for at, lane in state.vectors.items()}
         for claim in self.claims:
             state.assume(claim)
-        state.reads, state.writes = [(word(0), self.read)], [(word(0), self.written)]
-        state.digits = {(state.reads[0][0].get_id(), str(self.read)): True}
+        state.reads, state.writes = [(state.body, simple(self.read - state.body))], [(word(0), self.written)]
+        state.digits = {(state.body.get_id(), str(state.reads[0][1])): True}
         state.flags, state.steps, state.loops = None, 0, state.loops | {state.at: self}
         state.leave(self.is_clean)
         return state
@@ -75,6 +75,8 @@ class Loop:
 
 def step(code, state):
     """Runs one instruction, and gives the states after it; none after a return."""
+    if state.at in code.callees:
+        return called(state, code.callees[state.at])
     require(state.at in code.instructions, "it leaves the code")
     state.steps += 1
     require(state.steps < STEPS, "a loop without a hint")
@@ -85,28 +87,53 @@ def step(code, state):
     to = code.processor.HANDLERS[instruction.mnemonic](state, instruction)
     state.drop_below()
     if isinstance(to, Branch):
-        certain = state.choose(to.choice)
-        ways = {True: state.when(to.choice, to.target), False: state.when(z3.Not(to.choice), state.next)}
-        for truth, way in ways.items():
-            if way and certain is not None and truth is not certain:
-                way.is_invalid = True
-        return [way for way in ways.values() if way]
+        return branches(state, to)
+    if isinstance(to, list):
+        return [way for way in (state.when(condition, target) for condition, target in to) if way]
     if z3.is_expr(to):
-        # A return goes back to a call, or out of the function.
-        name = to.decl().name()
-        if name not in state.calls:
-            require(name == "p_return", "a return to another place")
-            state.returned()
-            state.contract.returns(state)
-            return []
-        to = state.calls.pop(name)
+        return returned(state, to)
     state.at = state.next if to is None else to
     return [state]
 
 
-def run(code, start, heads, guess, ran=None):
-    """Runs a function from its start. Gives how many paths have ended."""
-    count, work, state = 0, [start], start
+def branches(state, to):
+    certain = state.choose(to.choice)
+    ways = {True: state.when(to.choice, to.target), False: state.when(z3.Not(to.choice), state.next)}
+    for truth, way in ways.items():
+        if way and certain is not None and truth is not certain:
+            way.may_leak = True
+    return [way for way in ways.values() if way]
+
+
+def returned(state, to):
+    """A return goes back to a call, or out of the function."""
+    name = to.decl().name()
+    if name in state.calls:
+        state.at = state.calls.pop(name)
+        return [state]
+    require(name == "p_return", "a return to another place")
+    state.returned()
+    state.contract.returns(state)
+    return []
+
+
+def called(state, effect):
+    """A function of which its contract is known: the states after it, each with what may be its result."""
+    state.must_call()
+    after = []
+    for other, result in effect(state):
+        to = other.return_address()
+        other.forget()
+        if result is not None:
+            other.put_result(result)
+        other.drop_below()
+        after += returned(other, to)
+    return after
+
+
+def run(code, starts, heads, guess, ran=None):
+    """Runs a function from each of some states. Gives how many paths have ended."""
+    count, work, state = 0, list(starts), starts[0]
     try:
         while work:
             state = work.pop()

@@ -1,9 +1,9 @@
 """What a machine holds: registers, memory, and what is known of them.
 
-Memory is regions at unknown bases: the input, the output, the stack, and each section of constants. An address is a
-term of 64 bits; an access has to lie inside of one region, whatever the bases are. The bytes of the stack are kept by
-their offsets, those of the input have names, and the output is never read. If `_place` or `load` were wrong, an access
-outside of a buffer or a wrong byte could be accepted.
+Memory is regions at unknown bases: the input, the output, objects such as the stack or an error, and each section of
+constants. An address is a term of 64 bits; an access has to lie inside of one region, whatever the bases are. The bytes
+of objects are kept by their offsets, those of the input have names, and the output is never read. If `_place` or `load`
+were wrong, an access outside of a buffer or a wrong byte could be accepted.
 """
 
 import itertools
@@ -35,43 +35,93 @@ def is_secret(term):
     return any(not name.startswith("p_") for name in names(term))
 
 
+_wholes = {}
+
+
 def joined(lane):
     """The number that bytes make, of which the first is the lowest."""
+    if len(lane) == 8 and (whole := _wholes.get(tuple(part.get_id() for part in lane))):
+        return whole[0]
     return simple(z3.Concat(*reversed(lane))) if len(lane) > 1 else lane[0]
 
 
 def split(term):
-    return [simple(z3.Extract(at + 7, at, term)) for at in range(0, term.size(), 8)]
+    """The bytes of a number. One of 64 bits is kept for `joined`, which would not find the same sum again."""
+    lane = [simple(z3.Extract(at + 7, at, term)) for at in range(0, term.size(), 8)]
+    if len(lane) == 8:
+        _wholes[tuple(part.get_id() for part in lane)] = simple(term), lane
+    return lane
+
+
+_INDEX, _trees = z3.BitVec("g_index_of_a_table", 8), {}
+
+
+def chosen(table, index):
+    """The entry that the lowest bits of an index choose, of a table whose length is a power of two up to 256."""
+    def among(low, bit):
+        if bit < 0:
+            return table[low]
+        one, other = among(low, bit - 1), among(low + (1 << bit), bit - 1)
+        return one if one.eq(other) else z3.If(z3.Extract(bit, bit, _INDEX) == 1, other, one)
+
+    # Made once for each table, which is kept, so that the numbers of its entries are not used again.
+    key = tuple(entry.get_id() for entry in table)
+    if key not in _trees:
+        _trees[key] = among(0, len(table).bit_length() - 2), table
+    return z3.substitute(_trees[key][0], (_INDEX, index))
 
 
 class Region:
-    """So many bytes of memory at an unknown base that is a multiple of `align`. Constants have their bytes."""
+    """So many bytes of memory at an unknown base that is a multiple of `align`. Constants have their bytes, and a table
+    of jumps where they lead. The "input" and the "output" have these names; each other region is an object."""
 
-    def __init__(self, name, size, align=1, data=None):
-        self.name, self.size, self.align, self.data = name, size, align, data
+    def __init__(self, name, size, align=1, data=None, targets=None, is_writable=True):
+        self.name, self.size, self.align, self.data, self.targets = name, size, align, data, targets
         self.base = z3.BitVec(f"p_{name}", 64)
+        self.is_writable = is_writable and data is None and name != "input"
+        self.is_object = data is None and name not in ("input", "output")
 
 
 class State:
     """A processor adds its registers, which of them have the stack pointer, arguments and the result, and which of
     them a function keeps: see `meanings`."""
 
-    def start(self, code, contract, at, regions):
-        """Before the first instruction of a function, nothing is known of registers."""
+    # How many of the lowest bytes of a vector a function keeps.
+    KEPT_VECTORS = {}
+
+    def start(self, code, contract, at, regions, arguments):
+        """Before the first instruction of a function, nothing is known of registers but the arguments. A function that
+        others call by its contract has less of the stack."""
         self.code, self.contract, self.at = code, contract, at
+        self.STACK = self.STACK_OF_CALLED if contract.is_called else self.STACK
+        on_stack = arguments[len(self.ARGUMENTS) :]
+        regions = [*regions, Region("stack", word(self.STACK + self.RETURN + 8 * len(on_stack)), 16)]
+        regions += [region for _, region in code.constants.values()]
         self.regions = {region.name: region for region in regions}
         self.facts = [fact for region in regions for fact in facts_of(region.base & region.align - 1 == 0)]
         self.general = {name: z3.BitVec(f"g_{name}", 64) for name in self.GENERAL}
         self.vectors = {at: [z3.BitVec(f"g_v{at}_{lane}", 8) for lane in range(self.WIDTH)]
                         for at in range(self.VECTORS)}
-        # The stack by offsets, the input's bytes by the terms of their offsets, and where a call returns to.
-        self.stack, self.input, self.calls = {}, {}, {}
+        self.general |= dict(zip(self.ARGUMENTS, arguments))
+        # Bytes of objects by their names and offsets, the input's by the terms of their offsets, entries of tables of
+        # jumps, and where a call returns to.
+        self.cells = {(region.name, at): z3.BitVec(f"g_{region.name}_{at}", 8) for region in regions
+                      if region.is_object and region.name != "stack" for at in range(region.size.as_long())}
+        for at, argument in enumerate(on_stack):
+            self.put_cells("stack", self.STACK + self.RETURN + 8 * at, split(argument))
+        self.input, self.entries, self.calls = {}, {}, {}
         # The parts of products that have a tenth, by their factors.
         self.tenths = {}
         # Offset and count of what was read of the input and written to the output, and which reads are of digits.
         self.reads, self.writes, self.digits = [], [], {}
-        # The loops that were entered, and the instructions since the last head. Whether the input is surely invalid.
-        self.loops, self.steps, self.is_invalid, self.flags = {}, 0, False, None
+        # The loops that were entered, and the instructions since the last head. Whether time may depend on the input,
+        # which is surely invalid.
+        self.loops, self.steps, self.may_leak, self.flags = {}, 0, contract.may_leak, None
+        # Where the digits of the input begin.
+        self.body = word(0)
+        self.enter()
+        self.first, self.first_vectors = self.general.copy(), self.vectors.copy()
+        self.first_cells = self.cells.copy()
 
     def copy(self):
         other = object.__new__(type(self))
@@ -84,7 +134,7 @@ class State:
         self.facts += facts_of(condition)
 
     def holds(self, goal):
-        return holds(self.facts, goal)
+        return holds(self.facts, goal, self.contract.steps)
 
     def must(self, goal, message):
         require(self.holds(goal), message)
@@ -100,12 +150,19 @@ class State:
 
     def is_valid(self):
         """That the input is valid, as far as it was read."""
-        valid = self.contract.valid([name for _, name in self.input.values()])
-        return [fact for condition in valid for fact in facts_of(condition)]
+        return [fact for condition in self.contract.valid(self) for fact in facts_of(condition)]
+
+    def either(self, condition, one, other):
+        """The first of two terms where a condition holds, else the second: just that one, if it is known which."""
+        if not is_secret(condition):
+            known = [term for term, way in ((one, condition), (other, z3.Not(condition))) if self.holds(way)]
+            if known:
+                return known[0]
+        return simple(z3.If(condition, one, other))
 
     def choose(self, choice):
         """Whether a condition holds for all valid inputs, or for none; None where it is public."""
-        if self.is_invalid or not is_secret(choice):
+        if self.may_leak or not is_secret(choice):
             return None
         facts = self.facts + self.is_valid()
         ways = (True, choice), (False, z3.Not(choice))
@@ -137,7 +194,8 @@ class State:
     def _place(self, address, count, aligned):
         """The region of an access, and its offset."""
         address = simple(address)
-        require(not is_secret(address), "an address depends on bytes that are secret, or on what is unknown")
+        is_public = self.may_leak or not is_secret(address)
+        require(is_public, "an address depends on bytes that are secret, or on what is unknown")
         found = [region for region in self.regions.values() if region.base.decl().name() in names(address)]
         require(len(found) == 1, f"an address in {[region.name for region in found]}: {address}")
         region, offset = found[0], simple(address - found[0].base)
@@ -148,32 +206,63 @@ class State:
 
     def load(self, address, count, aligned=False):
         region, offset = self._place(address, count, aligned)
+        if region.targets:
+            return self._entry(region, offset, count)
         if region.data is not None:
             return self._constants(region, offset, count)
         if region.name == "input":
             self.reads.append((offset, count))
             return [self.byte_of_input(offset + at) for at in range(count)]
-        require(region.name == "stack", f"{region.name} is read")
-        first = self._on_stack(offset)
-        require(all(first + at in self.stack for at in range(count)), "a byte of the stack that was not written")
-        return [self.stack[first + at] for at in range(count)]
+        require(region.is_object, f"{region.name} is read")
+        first = self._offset_in(region, offset)
+        known = [self.cells.get((region.name, first + at)) for at in range(count)]
+        require(None not in known, "a byte of the stack that was not written")
+        return known
 
     def _constants(self, region, offset, count):
+        if is_secret(offset):
+            require(count == 1 and len(region.data) <= 256, "a table that is not one of bytes")
+            return [simple(chosen([*map(byte, region.data.ljust(256, b"\0"))], z3.Extract(7, 0, offset)))]
         first, *others = values(self.facts, offset, 8)
         lane = [byte(region.data[first + at]) for at in range(count)]
         for value in others:
             lane = [z3.If(offset == value, byte(region.data[value + at]), old) for at, old in enumerate(lane)]
         return list(map(simple, lane))
 
+    def _entry(self, region, offset, count):
+        """The distance of 32 bits from a table of jumps to where one leads: a number of which nothing else is known."""
+        require(count == 4, "a part of an entry")
+        entry = fresh("g" if is_secret(offset) else "p", 32)
+        self.entries |= {entry.decl().name(): (region, offset, entry)}
+        return split(entry)
+
+    def jumps(self, address):
+        """The conditions under which a jump leads to places that a table has, and these places."""
+        found = [self.entries[name] for name in names(address) if name in self.entries]
+        require(len(found) == 1, "a jump to a place that is not fixed")
+        region, offset, entry = found[0]
+        self.must(address == region.base + z3.SignExt(32, entry), "a jump to a place that no table has")
+        require(self.may_leak or not is_secret(offset), "a jump depends on bytes that are secret")
+        self.must(z3.Or(*[offset == at for at in region.targets]), "a jump by a part of an entry")
+        places = {target: [offset == at for at in region.targets if region.targets[at] == target]
+                  for target in region.targets.values()}
+        return [(z3.Or(*conditions), target) for target, conditions in places.items()]
+
     def store(self, address, lane, aligned=False):
         region, offset = self._place(address, len(lane), aligned)
-        if region.name == "stack":
-            first = self._on_stack(offset)
-            self.stack |= {first + at: value for at, value in enumerate(lane)}
+        require(region.is_writable, f"{region.name} is written")
+        if region.is_object:
+            self.put_cells(region.name, self._offset_in(region, offset), lane)
         else:
-            require(region.name == "output", f"{region.name} is written")
             self.contract.store(self, offset, lane)
             self.writes.append((offset, len(lane)))
+
+    def put_cells(self, name, offset, lane):
+        self.cells |= {(name, offset + at): value for at, value in enumerate(lane)}
+
+    def cell(self, name, offset, count):
+        """The number that some bytes of an object make."""
+        return joined([self.cells[name, offset + at] for at in range(count)])
 
     def top(self):
         """The offset of the stack pointer in the stack."""
@@ -182,15 +271,15 @@ class State:
         require(is_inside, "the stack pointer is not in the stack")
         return top.as_long()
 
-    def _on_stack(self, offset):
-        require(z3.is_bv_value(offset), "an offset in the stack is not known")
-        require(offset.as_long() >= self.top(), "an access below the stack pointer")
+    def _offset_in(self, region, offset):
+        require(z3.is_bv_value(offset), f"an offset in the {region.name} is not known")
+        require(region.name != "stack" or offset.as_long() >= self.top(), "an access below the stack pointer")
         return offset.as_long()
 
     def drop_below(self):
         """A signal handler may change what lies below the stack pointer."""
         top = self.top()
-        self.stack = {at: value for at, value in self.stack.items() if at >= top}
+        self.cells = {(name, at): value for (name, at), value in self.cells.items() if name != "stack" or at >= top}
 
     # Bytes of the input. Two names may stand for one byte.
     def byte_of_input(self, offset):
@@ -201,10 +290,11 @@ class State:
 
     def must_equal(self, value, wanted, message):
         """That two values are the same, where bytes of the input are the same that have the same offset."""
-        used = [(offset, name) for offset, name in self.input.values() if name.decl().name() in names(value == wanted)]
+        about = names(value == wanted)
+        used = [(offset, name) for offset, name in self.input.values() if name.decl().name() in about]
         same = [fact for at, (first, one) in enumerate(used) for second, other in used[:at]
                 if self.holds(first == second) for fact in facts_of(one == other)]
-        require(holds(self.facts + same, value == wanted), message)
+        require(holds(self.facts + same, value == wanted, self.contract.steps), message)
 
     def known_digits(self):
         """The parts of the input, by offset and count, that are digits."""
@@ -216,9 +306,45 @@ class State:
             if self.digits[key]:
                 yield offset, count
 
+    def with_digits(self, offset, count):
+        """This state where a part of the input has digits alone, or None if it can't."""
+        other, offset, count = self.copy(), simple(offset), simple(count)
+        other.reads.append((offset, count))
+        other.digits[offset.get_id(), str(count)] = True
+        for at, name in self.input.values():
+            if other and other.holds(z3.ULT(at - offset, count)):
+                other = other.when(self.contract.is_digit(name), other.at)
+        return other
+
+    # Calls
     def return_to(self, at):
         """A number that stands for the address of an instruction, to which a return will go."""
         token = z3.BitVec(f"p_return_{at:x}", 64)
         self.calls |= {token.decl().name(): at}
         return token
 
+    def arguments(self, count):
+        return [self.general[name] for name in self.ARGUMENTS[:count]]
+
+    def result(self, bits):
+        return simple(z3.Extract(bits - 1, 0, self.general[self.RESULT[0]]))
+
+    def must_call(self):
+        """What a function needs that is called by its contract: its stack, which is aligned."""
+        top = self.top()
+        require(top >= self.STACK_OF_CALLED and (top - self.STACK) % 16 == 0, "the stack of a function that is called")
+
+    def forget(self):
+        """A function that was called has changed all registers that it need not keep."""
+        kept = (*self.KEPT, self.TOP)
+        self.general = {name: value if name in kept else fresh("g", 64) for name, value in self.general.items()}
+        self.vectors = {at: lane[: self.KEPT_VECTORS.get(at, 0)] + [fresh("g", 8) for _ in
+                                                                    lane[self.KEPT_VECTORS.get(at, 0) :]]
+                        for at, lane in self.vectors.items()}
+        self.flags = None
+
+    def put_result(self, result):
+        """A result has as many bits as a kernel's, and nothing is known of the others."""
+        register, bits = self.RESULT
+        result = result if z3.is_expr(result) else z3.Concat(fresh("g", 64 - bits), z3.BitVecVal(result, bits))
+        self.general[register] = simple(result)

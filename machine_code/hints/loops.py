@@ -60,12 +60,26 @@ class Hint:
         return self._at(self.first_written, k)
 
     def bound(self, entry):
-        """How many rounds a register allows that counts down."""
+        """How many rounds a register allows that counts down, or how many a comparison of two terms."""
         guarded = {name for fact in self.facts for name in names(fact)}
         for name, step in self.steps.items():
             if step < 0 and self.added[name].decl().name() in guarded:
                 return simple(z3.UDiv(entry.general[name], word(-step)))
+        for one, other in [pair for fact in self.facts for pair in _compared(fact)]:
+            first, second = [simple(self._at(one - other, word(k))) for k in (-1, 0)]
+            step = simple(second - first)
+            if z3.is_bv_value(step) and step.as_long():
+                step = step.as_signed_long()
+                return simple(z3.UDiv(first if step < 0 else -first, word(abs(step))))
         raise Refused("nothing counts down")
+
+
+def _compared(fact):
+    """The pairs of terms of 64 bits that a condition compares."""
+    children = fact.children()
+    if len(children) == 2 and z3.is_bv(children[0]) and children[0].size() == 64:
+        return [children]
+    return [pair for child in children for pair in _compared(child)]
 
 
 def _least(parts):

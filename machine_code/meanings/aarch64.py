@@ -11,9 +11,9 @@ import z3
 
 from execution import state
 from execution.paths import Branch
-from execution.state import byte, fresh, joined, simple, split, word
+from execution.state import byte, chosen, fresh, joined, simple, split, word
 from meanings.lanes import (ADD, AND, AND_NOT, MAXIMUM, MINIMUM, MULTIPLY, OR, SUBTRACT, SUBTRACT_SATURATED, XOR,
-                            bytes_of, chosen, each, units)
+                            bytes_of, each, units)
 from reading import disassembly
 from reading.assembled import checked, with_distance
 from solver.questions import require
@@ -107,20 +107,22 @@ def follows(i):
 class State(state.State):
     """The arguments are in these registers, and a call has left the address to return to in x30."""
 
-    TOP, STACK, RETURN, VECTORS, WIDTH = "sp", 2000, 0, 32, 16
+    TOP, STACK, STACK_OF_CALLED, RETURN, VECTORS, WIDTH = "sp", 2000, 64, 0, 32, 16
     GENERAL = tuple(f"x{at}" for at in range(31)) + ("sp",)
     ARGUMENTS, RESULT = tuple(f"x{at}" for at in range(8)), ("x0", 32)
-    KEPT = ("sp", *(f"x{at}" for at in range(19, 30)))
+    KEPT, KEPT_VECTORS = ("sp", *(f"x{at}" for at in range(19, 30))), dict.fromkeys(range(8, 16), 8)
 
     def enter(self):
         self.general |= {"sp": simple(self.regions["stack"].base + self.STACK), "x30": z3.BitVec("p_return", 64)}
-        self.first, self.first_vectors = self.general.copy(), self.vectors.copy()
+
+    def return_address(self):
+        return self.general["x30"]
 
     def returned(self):
         for name in self.KEPT:
             self.must(self.general[name] == self.first[name], f"{name} is not as before")
-        for at in range(8, 16):
-            for new, old in zip(self.vectors[at][:8], self.first_vectors[at]):
+        for at, count in self.KEPT_VECTORS.items():
+            for new, old in zip(self.vectors[at][:count], self.first_vectors[at]):
                 self.must(new == old, f"v{at} is not as before")
 
     def arrive(self, is_clean):
@@ -269,13 +271,13 @@ def select(function):
     def handler(s, i):
         to, one, other, name = i.operands
         a, b = s.number(one, to.size), s.number(other, to.size)
-        s.put(to, simple(z3.If(condition(s, name.text), a, function(b))))
+        s.put(to, s.either(condition(s, name.text), a, simple(function(b))))
     return handler
 
 
 def set_if(s, i):
     to, name = i.operands
-    s.put(to, simple(z3.If(condition(s, name.text), z3.BitVecVal(1, 8 * to.size), z3.BitVecVal(0, 8 * to.size))))
+    s.put(to, s.either(condition(s, name.text), z3.BitVecVal(1, 8 * to.size), z3.BitVecVal(0, 8 * to.size)))
 
 
 def compare_if(s, i):

@@ -20,24 +20,6 @@ def each(function, size, *lanes):
     return bytes_of(map(function, *[units(lane, size) for lane in lanes]))
 
 
-_INDEX, _trees = z3.BitVec("g_index_of_a_table", 8), {}
-
-
-def chosen(table, index):
-    """The entry of a table of 16 that the lowest bits of an index choose."""
-    def among(low, bit):
-        if bit < 0:
-            return table[low]
-        one, other = among(low, bit - 1), among(low + (1 << bit), bit - 1)
-        return one if one.eq(other) else z3.If(z3.Extract(bit, bit, _INDEX) == 1, other, one)
-
-    # Made once for each table, which is kept, so that the numbers of its entries are not used again.
-    key = tuple(entry.get_id() for entry in table)
-    if key not in _trees:
-        _trees[key] = among(0, 3), table
-    return z3.substitute(_trees[key][0], (_INDEX, index))
-
-
 def saturated(number, most, size):
     """A signed number, or the nearest one from 0 to a greatest one, in so many bits."""
     kept = z3.If(number < 0, 0, z3.If(number > most, most, number))

@@ -11,9 +11,9 @@ import z3
 
 from execution import state
 from execution.paths import Branch
-from execution.state import byte, joined, simple, split, word
+from execution.state import byte, chosen, joined, simple, split, word
 from meanings.lanes import (ADD, ADD_SATURATED, AND, AND_NOT, MAXIMUM, MINIMUM, MULTIPLY, OR, SUBTRACT,
-                            SUBTRACT_SATURATED, XOR, bytes_of, chosen, each, saturated, units)
+                            SUBTRACT_SATURATED, XOR, bytes_of, each, saturated, units)
 from reading import disassembly
 from reading.assembled import checked, with_distance
 from solver.questions import require
@@ -99,15 +99,18 @@ def follows(i):
 class State(state.State):
     """The arguments are in these registers, and a call has left the address to return to on the stack."""
 
-    TOP, STACK, RETURN, VECTORS, WIDTH = "rsp", 1912, 8, 16, 32
+    TOP, STACK, STACK_OF_CALLED, RETURN, VECTORS, WIDTH = "rsp", 1912, 72, 8, 16, 32
     GENERAL = tuple(dict.fromkeys(name for name, _, _ in GENERAL.values()))
     ARGUMENTS, RESULT = ("rdi", "rsi", "rdx", "rcx", "r8", "r9"), ("rax", 8)
     KEPT = ("rbx", "rbp", "r12", "r13", "r14", "r15")
 
     def enter(self):
         self.general["rsp"] = simple(self.regions["stack"].base + self.STACK)
-        self.stack = dict(enumerate(split(z3.BitVec("p_return", 64)), self.STACK))
-        self.first, self.is_clean, self.is_legacy = self.general.copy(), True, False
+        self.put_cells("stack", self.STACK, split(z3.BitVec("p_return", 64)))
+        self.is_clean, self.is_legacy = True, False
+
+    def return_address(self):
+        return popped(self)
 
     def returned(self):
         require(self.top() == self.STACK + self.RETURN, "the stack pointer is not as before")
@@ -259,10 +262,16 @@ def mov(s, i):
     s.put(to, i, s.number(by, i, to.size))
 
 
-def movzx(s, i):
-    to, by = i.operands
-    require(by.size < to.size, "two sizes")
-    s.put(to, i, z3.ZeroExt(8 * (to.size - by.size), s.number(by, i)))
+def extended(extension):
+    def handler(s, i):
+        to, by = i.operands
+        require(by.size < to.size, "two sizes")
+        s.put(to, i, simple(extension(8 * (to.size - by.size), s.number(by, i))))
+    return handler
+
+
+def invert(s, i):
+    s.put(i.operands[0], i, simple(~s.number(i.operands[0], i)))
 
 
 def lea(s, i):
@@ -272,12 +281,12 @@ def lea(s, i):
 
 
 def set_if(s, i):
-    s.put(i.operands[0], i, simple(z3.If(condition(s, i.mnemonic[3:]), byte(1), byte(0))))
+    s.put(i.operands[0], i, s.either(condition(s, i.mnemonic[3:]), byte(1), byte(0)))
 
 
 def move_if(s, i):
     to, a, b = two(s, i)
-    s.put(to, i, simple(z3.If(condition(s, i.mnemonic[4:]), b, a)))
+    s.put(to, i, s.either(condition(s, i.mnemonic[4:]), b, a))
 
 
 def push(s, i):
@@ -298,19 +307,23 @@ def pop(s, i):
     s.general[i.operands[0].name] = popped(s)
 
 
-def jump(s, i):
+def target(s, i):
     require(i.operands[0].kind == "number", "a jump to a place that is not fixed")
     return i.operands[0].value
 
 
+def jump(s, i):
+    return s.jumps(s.number(i.operands[0], i)) if i.operands[0].kind == "general" else target(s, i)
+
+
 def jump_if(s, i):
-    return Branch(condition(s, i.mnemonic[1:]), jump(s, i))
+    return Branch(condition(s, i.mnemonic[1:]), target(s, i))
 
 
 def call(s, i):
     s.general["rsp"] = simple(s.general["rsp"] - 8)
     s.store(s.general["rsp"], split(s.return_to(s.next)))
-    return jump(s, i)
+    return target(s, i)
 
 
 def ret(s, i):
@@ -462,8 +475,8 @@ def vzeroupper(s, i):
 HANDLERS = {
     "add": arithmetic(ADD, sum_flags), "sub": arithmetic(SUBTRACT, difference_flags),
     "cmp": arithmetic(SUBTRACT, difference_flags, is_kept=False), "and": logic(AND), "or": logic(OR), "xor": logic(XOR),
-    "test": logic(AND, is_kept=False), "inc": inc_dec(1), "dec": inc_dec(-1), "mov": mov, "movabs": mov, "movzx": movzx,
-    "lea": lea,
+    "test": logic(AND, is_kept=False), "inc": inc_dec(1), "dec": inc_dec(-1), "mov": mov, "movabs": mov, "lea": lea, "not": invert,
+    "movzx": extended(z3.ZeroExt), "movsx": extended(z3.SignExt), "movsxd": extended(z3.SignExt),
     "shl": shift(lambda a, by: a * (1 << by)), "shr": shift(z3.LShR), "push": push, "pop": pop,
     "nop": lambda s, i: None, "jmp": jump, "call": call, "ret": ret, "mul": multiply,
 }
@@ -480,7 +493,8 @@ VECTORS = {
     "packuswb": by_halves(lambda a, b: bytes_of(saturated(w, 255, 8) for w in units(a + b, 2))),
     "punpcklbw": interleaved(1, 0), "punpcklwd": interleaved(2, 0), "punpckldq": interleaved(4, 0),
     "punpcklqdq": interleaved(8, 0), "punpckhbw": interleaved(1, 8),
-    "movdqu": move_vector(False), "movdqa": move_vector(True), "movd": move_low(4), "movq": move_low(8),
+    "movdqu": move_vector(False), "movdqa": move_vector(True), "movups": move_vector(False),
+    "movaps": move_vector(True), "xorps": by_units(1, XOR), "movd": move_low(4), "movq": move_low(8),
     "pinsrb": insert(1), "pinsrw": insert(2), "pinsrd": insert(4), "pinsrq": insert(8), "pextrb": extract(1),
     "pextrw": extract(2), "pextrd": extract(4), "pextrq": extract(8), "ptest": test_vector, "pmovzxbw": widen,
 }

@@ -13,6 +13,7 @@ from solver import questions, second
 from solver.questions import require
 
 FACTOR = 0xCCCCCCCCCCCCCCCD
+# By a number's own number in z3: the number, its tenth, what is below, and the greatest value of the tenth.
 _tenths = {}
 
 
@@ -38,10 +39,14 @@ def parts(number):
     prove()
     if number.get_id() not in _tenths:
         kind = "p" if questions.is_public(number) else "g"
-        # The number is kept, so that its own number in z3 is not used again.
-        _tenths[number.get_id()] = number, *[z3.BitVec(f"{kind}_{name}_{number.get_id()}", bits)
-                                             for name, bits in (("tenth", 61), ("more", 3))]
-    _, tenth, more = _tenths[number.get_id()]
-    whole = z3.ZeroExt(3, tenth)
-    most = z3.ULE(whole, ((1 << 64) - 1) // 10)
-    return tenth, more, z3.And(most, z3.ULE(10 * whole, number), z3.ULT(number - 10 * whole, 10))
+        tenth, more = [z3.BitVec(f"{kind}_{name}_{number.get_id()}", bits) for name, bits in (("tenth", 61), ("more", 3))]
+        most = next((most for _, other, _, most in _tenths.values() if _whole(other).eq(number)), (1 << 64) - 1)
+        # The number is kept, so that its own number is not used again.
+        _tenths[number.get_id()] = number, tenth, more, most // 10
+    _, tenth, more, most = _tenths[number.get_id()]
+    whole = _whole(tenth)
+    return tenth, more, z3.And(z3.ULE(whole, most), z3.ULE(10 * whole, number), z3.ULT(number - 10 * whole, 10))
+
+
+def _whole(tenth):
+    return z3.simplify(z3.ZeroExt(3, tenth))

@@ -4,7 +4,9 @@ import pathlib
 import subprocess
 import tempfile
 
+from contracts import callees
 from contracts.kernels import KERNELS
+from contracts.library import FUNCTIONS
 from execution.code import Code
 from execution.paths import run
 from hints.loops import guess, heads
@@ -105,7 +107,7 @@ def kernel(name, change=lambda text: text):
 
 def prove(content, call, ran=None):
     """Proves the first contract of a call."""
-    code = Code(content, PROCESSORS)
-    contract = next(kernel for kernel in KERNELS if kernel.function == call)
-    start = contract.start(code)
-    return run(code, start, heads(code, start.at), guess, ran)
+    contract = next(contract for contract in (*KERNELS, *FUNCTIONS) if contract.function == call)
+    code = Code(content, PROCESSORS, callees.IMPORTED, callees.LOCAL)
+    starts = contract.starts(code)
+    return run(code, starts, heads(code, starts[0].at), guess, ran)

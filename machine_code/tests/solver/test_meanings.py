@@ -13,7 +13,9 @@ MORE = {
         inc rax; dec ecx; cmovb rax, rcx; cmovne eax, ecx; paddb xmm0, xmm1; paddd xmm0, xmm1; pmaxub xmm0, xmm1
         pandn xmm0, xmm1; paddusb xmm0, xmm1; pmaddubsw xmm0, xmm1; punpcklbw xmm0, xmm1; punpckhbw xmm0, xmm1
         punpcklwd xmm0, xmm1; punpckldq xmm0, xmm1; pextrb eax, xmm0, 3; por xmm0, xmm1; pand xmm0, xmm1
-        psubw xmm0, xmm1; pinsrq xmm0, rax, 1; shr eax, 3; mul rcx; mul rax""",
+        psubw xmm0, xmm1; pinsrq xmm0, rax, 1; shr eax, 3; not rax; not cl; movabs rax, 0x123456789abcdef0
+        movsx eax, cl; movsxd rax, ecx; movsxd rax, dword ptr [rcx]; xorps xmm0, xmm1; movaps xmm0, xmm1
+        movups xmm0, [rax]; movups [rax], xmm0; mul rcx; mul rax""",
     "x86_64_v3": """.intel_syntax noprefix
         vpaddd ymm0, ymm1, ymm2; vpsubw ymm0, ymm1, ymm2; vpmaddubsw ymm0, ymm1, ymm2; vpbroadcastq ymm0, xmm1
         vpbroadcastd ymm0, xmm1; vpbroadcastb ymm0, xmm1; vpbroadcastw ymm0, xmm1; vpmaxub ymm0, ymm1, ymm2
@@ -21,7 +23,7 @@ MORE = {
         vpunpcklwd ymm0, ymm1, ymm2; vpunpckldq ymm0, ymm1, ymm2; vpunpcklqdq ymm0, ymm1, ymm2; vpermq ymm0, ymm1, 0x8d
         vpxor ymm0, ymm1, ymm2; vpand ymm0, ymm1, ymm2; vpinsrq xmm0, xmm1, rax, 1; shr eax, 3; inc rax; dec ecx
         vinserti128 ymm0, ymm1, xmm2, 1; vpextrb eax, xmm1, 3; vpinsrd xmm0, xmm1, eax, 2
-        mul rcx""",
+        not rax; xorps xmm0, xmm1; vxorps ymm0, ymm1, ymm2; vmovaps ymm0, ymm1; vmovups ymm0, [rax]; mul rcx""",
     "aarch64": """
         adds x0, x1, x2; cmn w1, w2; subs x0, x1, x2; ands x0, x1, x2; bic x0, x1, x2; orn x0, x1, x2; eor w0, w1, w2
         bic v0.16b, v1.16b, v2.16b; orn v0.16b, v1.16b, v2.16b; eor v0.16b, v1.16b, v2.16b; mvn x0, x1
@@ -35,9 +37,8 @@ MORE = {
 
 
 def processor(name):
-    call = "check"
     more = f"\n.section .text.more, \"ax\"\n{MORE[name]}\n"
-    return Processor(kernel(name, lambda text: text + more), call)
+    return Processor(kernel(name, lambda text: text + more), r"const_hex_.*_check(_v[23])?")
 
 
 class TestMeanings(unittest.TestCase):

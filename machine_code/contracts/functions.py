@@ -1,0 +1,126 @@
+"""What the contracts of functions have in common: digits, what covers a buffer, and the states at a call.
+
+If these were wrong, another claim would be proved than the one that the other files here state.
+"""
+
+import itertools
+
+import z3
+
+from execution.state import word
+from solver.questions import require
+
+N = z3.BitVec("p_n", 64)
+ODD_LENGTH, INVALID_LENGTH, INVALID_CHARACTER = 1, 2, 3
+# The kind of an invalid character within the library.
+FOUND = 2
+
+
+def is_digit(c):
+    """Whether a character is one of 0-9, A-F and a-f."""
+    return z3.Or(z3.And(z3.UGE(c, 0x30), z3.ULE(c, 0x39)), z3.And(z3.UGE(c, 0x41), z3.ULE(c, 0x46)),
+                 z3.And(z3.UGE(c, 0x61), z3.ULE(c, 0x66)))
+
+
+def value(c):
+    """The value of a digit."""
+    return z3.If(z3.ULE(c, 0x39), c - 0x30, z3.If(z3.ULE(c, 0x46), c - 0x41 + 10, c - 0x61 + 10))
+
+
+def digit(number, is_upper):
+    """The digit of a number below 16."""
+    return z3.If(z3.ULE(number, 9), number + 0x30, number - 10 + (0x41 if is_upper else 0x61))
+
+
+def digits_of(number, is_upper):
+    """The two digits of a byte."""
+    return [digit(half, is_upper) for half in (z3.LShR(number, 4), number & 15)]
+
+
+def is_prefix(zero, x):
+    """Whether two characters are 0x or 0X."""
+    return z3.And(zero == 0x30, x | 0x20 == 0x78)
+
+
+def base(name):
+    """The address of a region."""
+    return z3.BitVec(f"p_{name}", 64)
+
+
+def of_32_bits(term):
+    """An argument of 32 bits: what lies above may be anything."""
+    return z3.Concat(z3.BitVec("g_above", 32), term)
+
+
+def must_cover(state, first, limit, parts, message):
+    """Each index from a first one up to a limit lies in one of the parts, which have an offset and a count."""
+    index = z3.BitVec("p_index", 64)
+    is_in = z3.And(z3.ULE(first, index), z3.ULT(index, limit))
+    state.must(z3.Implies(is_in, z3.Or(*[z3.ULT(index - at, count) for at, count in parts])), message)
+
+
+def must_be_digits(state, limit, message="a character is passed that may be no digit"):
+    """The digits of the text are digits up to a limit."""
+    must_cover(state, state.body, limit, list(state.known_digits()), message)
+
+
+class Function:
+    """A function with its arguments. `symbol` is how its name looks; what others call by its contract has less stack.
+    `empty` are its buffers, with their sizes, for which NULL may be passed if they are empty."""
+
+    is_called = is_local = may_leak = is_unrolled = False
+    is_digit = staticmethod(is_digit)
+    regions = empty = requires = ()
+    name = "every call"
+    # In how many steps facts may be from what is to be proved, if that has a limit.
+    steps = None
+
+    def starts(self, code):
+        """The states at the call of the function, with any arguments."""
+        state = code.processor.State()
+        at = code.function(self.symbol, self.is_local)
+        state.start(code, self, at, list(self.regions), list(self.arguments))
+        for condition in self.requires:
+            state.assume(condition)
+        nulls = [(base(name) != 0, z3.And(base(name) == 0, size == 0)) for name, size in self.empty]
+        states = [state.when(z3.And(*choice), state.at) for choice in itertools.product(*nulls)]
+        return [way for state in states if state for way in self.cases(state)]
+
+    def cases(self, state):
+        """What is told apart from the start, such as whether a text has a prefix."""
+        return [state]
+
+    def valid(self, state):
+        """What a valid input is, for constant time: the digits of the text are digits."""
+        return [is_digit(name) for offset, name in state.input.values() if state.holds(z3.UGE(offset, state.body))]
+
+
+def by_prefix(state, least=2):
+    """The state where a text, of at least so many characters, has a prefix, and the one where it has none."""
+    pair = [state.byte_of_input(word(at)) for at in (0, 1)]
+    has_prefix = z3.And(z3.UGE(N, least), is_prefix(*pair))
+    ways = [(state.when(has_prefix, state.at), 2), (state.when(z3.Not(has_prefix), state.at), 0)]
+    for way, body in ways:
+        if way:
+            way.body = word(body)
+            yield way
+
+
+def must_be_unchanged(state, name):
+    same = all(value.eq(state.cells[key]) for key, value in state.first_cells.items() if key[0] == name)
+    require(same, f"{name} is changed")
+
+
+def must_be(state, name, offset, count, wanted):
+    """An object has a number at an offset."""
+    wanted = z3.BitVecVal(wanted, 8 * count) if isinstance(wanted, int) else wanted
+    state.must_equal(state.cell(name, offset, count), wanted, f"{name} is wrong at {offset}")
+
+
+def must_find_first_invalid(state, byte, index):
+    """A character of 32 bits is the first of the text that is no digit, and an index says where."""
+    state.must(z3.And(z3.ULE(state.body, index), z3.ULT(index, N)), "an index outside of the text")
+    must_be_digits(state, index)
+    character = state.byte_of_input(index)
+    state.must(z3.Not(is_digit(character)), "a digit is rejected")
+    state.must_equal(byte, z3.ZeroExt(24, character), "another character is rejected")

@@ -1,0 +1,282 @@
+"""The functions of the C library, and what c/const_hex.h says of each. A NULL `error` is a matter of c/asm/dispatch.S.
+
+If a claim were weaker than what the header says, a library could be accepted that does something else. A text has less
+than 2^63 characters, and so have the bytes whose text fits into a buffer; a size that is passed has no limit.
+"""
+
+import pathlib
+import re
+
+import z3
+
+from contracts.functions import (FOUND, INVALID_CHARACTER, INVALID_LENGTH, N, ODD_LENGTH, Function, base, by_prefix,
+                                 must_be, must_be_digits, must_be_unchanged, must_cover, must_find_first_invalid,
+                                 of_32_bits)
+from contracts.kernels import Check as CheckKernel, must_be_decoded, must_be_digits_of
+from execution.state import Region, byte, joined, simple, split, word
+from solver.questions import require
+
+HEADER = pathlib.Path(__file__).resolve().parents[2] / "c" / "const_hex.h"
+FLAGS, SIZE = z3.BitVec("p_flags", 32), z3.BitVec("p_size", 64)
+SIZE_MAX = (1 << 64) - 1
+UPPER, PREFIX, NO_NUL = 1, 2, 4
+TEXT, ERROR, WRITTEN = Region("input", N), Region("error", word(16), 8), Region("written", word(8), 8)
+
+
+class Exported(Function):
+    """A function of the header, which handles an error that is not NULL."""
+
+    @property
+    def symbol(self):
+        return f"const_hex_{self.function}(_nonnull)?"
+
+
+class Version(Exported):
+    """version(): that of the header."""
+
+    function, arguments = "version", ()
+
+    def returns(self, state):
+        wanted = int(re.search(r"#define CONST_HEX_VERSION (\d+)", HEADER.read_text())[1])
+        state.must(state.result(32) == wanted, f"the version is not {wanted}")
+
+
+def needed(flags):
+    """The size that a text needs, in as many bits as it takes: two digits for each byte, the prefix, and a NUL."""
+    prefix, no_nul = [z3.ZeroExt(65, z3.Extract(at, at, flags)) for at in (1, 2)]
+    return simple(2 * z3.ZeroExt(2, N) + 2 * prefix + 1 - no_nul)
+
+
+class EncodedSize(Exported):
+    """encoded_size(bytes_length, flags): what is needed, or SIZE_MAX if that is no size, or for unknown flags."""
+
+    function, arguments = "encoded_size", (N, of_32_bits(FLAGS))
+
+    def returns(self, state):
+        size = needed(FLAGS)
+        is_size = z3.And(z3.ULT(FLAGS, 8), z3.ULT(size, SIZE_MAX))
+        state.must(state.result(64) == z3.If(is_size, z3.Extract(63, 0, size), SIZE_MAX), "another size")
+
+
+class Encode(Exported):
+    """encode(bytes, bytes_length, text, text_size, flags), for some flags, or all unknown ones."""
+
+    function, regions = "encode", (Region("input", N), Region("output", SIZE))
+    empty = ("input", N), ("output", SIZE)
+
+    def __init__(self, flags):
+        self.name = "unknown flags" if flags is None else f"flags {flags}"
+        self.flags = FLAGS if flags is None else z3.BitVecVal(flags, 32)
+        self.arguments = base("input"), N, base("output"), SIZE, simple(of_32_bits(self.flags))
+        self.fits = simple(z3.And(z3.ULT(self.flags, 8), z3.ULE(needed(self.flags), z3.ZeroExt(2, SIZE))))
+        self.has_nul = simple(self.flags & NO_NUL == 0)
+        # Where the digits begin, and where they end.
+        self.begin = 2 if flags and flags & PREFIX else 0
+        self.end = simple(2 * N + self.begin)
+        self.requires = (z3.Implies(self.fits, z3.ULT(N, 1 << 62)), *([z3.UGE(FLAGS, 8)] if flags is None else []))
+
+    def valid(self, state):
+        """Every input is valid."""
+        return []
+
+    def store(self, state, offset, lane):
+        """A text that fits: the prefix, the digits and a NUL. Otherwise a NUL at the start."""
+        if state.holds(z3.Not(self.fits)):
+            return self.must_be_nul(state, offset, lane, word(0))
+        state.must(self.fits, "written though the text may not fit")
+        if z3.is_bv_value(offset) and offset.as_long() + len(lane) <= self.begin:
+            require(all(map(z3.is_bv_value, lane)), "a prefix that is not known")
+            written = bytes(character.as_long() for character in lane)
+            return require(written == b"0x"[offset.as_long() :][: len(lane)], "a wrong prefix")
+        if state.holds(offset == self.end):
+            return self.must_be_nul(state, offset, lane, self.end)
+        state.must(z3.And(z3.UGE(offset, self.begin), z3.ULE(offset + len(lane), self.end)), "written beside the digits")
+        must_be_digits_of(state, simple(offset - self.begin), lane, bool(self.flags.as_long() & UPPER))
+
+    def must_be_nul(self, state, offset, lane, wanted):
+        state.must(z3.And(self.has_nul, offset == wanted), "another place than that of a NUL")
+        require(len(lane) == 1 and lane[0].eq(byte(0)), "no NUL")
+
+    def returns(self, state):
+        result = state.result(8)
+        state.must(result == z3.If(self.fits, byte(1), byte(0)), "whether the text fits")
+        if fits := state.when(self.fits, None):
+            limit = self.end + z3.If(self.has_nul, word(1), word(0))
+            must_cover(fits, word(0), simple(limit), fits.writes, "a character of the text is left out")
+        elif failed := state.when(z3.And(self.has_nul, SIZE != 0), None):
+            must_cover(failed, word(0), word(1), failed.writes, "the text is not the empty string")
+
+
+class CheckRaw(CheckKernel):
+    """check_raw(text, length): whether all characters are digits."""
+
+    is_called, function, symbol, empty = False, "check_raw", "const_hex_check_raw", (("input", N),)
+    regions = TEXT,
+
+    def result(self, state):
+        return state.result(8)
+
+
+class FirstInvalid(Function):
+    """The search for the first invalid character of a text: its kind, the character, and its index; or, if all are
+    digits, the length. It is called for invalid texts alone."""
+
+    is_called = is_local = may_leak = True
+    symbol, function, name = "const_hex_body_find_invalid_character", "find_invalid_character", "any text"
+    regions, arguments = (Region("found", word(16)), TEXT), (base("found"), base("input"), N)
+    requires = z3.ULT(N, 1 << 63),
+
+    def cases(self, state):
+        return by_prefix(state, 4)
+
+    def reached(self, state, read, written):
+        must_be_digits(state, read)
+
+    def returns(self, state):
+        must_be(state, "found", 0, 4, FOUND)
+        character, index = state.cell("found", 4, 4), state.cell("found", 8, 8)
+        if not state.holds(index == N):
+            return must_find_first_invalid(state, character, index)
+        must_be_digits(state, N)
+        state.must(character == 0, "a character that is not in the text")
+
+
+class Text(Exported):
+    """A function that rejects a text whose length is odd, or that has an invalid character."""
+
+    name, empty, requires = "any text", (("input", N),), (z3.ULT(N, 1 << 63),)
+
+    def cases(self, state):
+        return by_prefix(state)
+
+    def count(self, state):
+        """How many bytes the text decodes to."""
+        return simple(z3.LShR(N - state.body, 1))
+
+    def returns(self, state):
+        result = state.result(8)
+        if state.holds(result == 1):
+            state.must(N & 1 == 0, "an odd length is accepted")
+            must_be_digits(state, N)
+            return self.accepts(state)
+        state.must(result == 0, "the result is neither true nor false")
+        self.rejects(state)
+        if state.holds(N & 1 == 1):
+            return must_fail(state, ODD_LENGTH)
+        state.must(N & 1 == 0, "whether the length is odd")
+        if state.holds(z3.Not(self.fits_in(state))):
+            return must_fail(state, INVALID_LENGTH)
+        state.must(self.fits_in(state), "whether the bytes fit")
+        must_be(state, "error", 0, 4, INVALID_CHARACTER)
+        must_find_first_invalid(state, state.cell("error", 4, 4), state.cell("error", 8, 8))
+
+
+def must_fail(state, kind):
+    """An error without a character."""
+    for offset, count, wanted in ((0, 4, kind), (4, 4, 0), (8, 8, 0)):
+        must_be(state, "error", offset, count, wanted)
+
+
+class Check(Text):
+    """check(text, length, error): whether a text can be decoded."""
+
+    function, regions, arguments = "check", (TEXT, ERROR), (base("input"), N, base("error"))
+
+    def fits_in(self, state):
+        return z3.BoolVal(True)
+
+    def accepts(self, state):
+        must_be_unchanged(state, "error")
+
+    def rejects(self, state):
+        """Beside the error, nothing is written."""
+
+
+class DecodeExact(Text):
+    """decode_exact(text, length, bytes, bytes_length, error): the bytes that the text decodes to, which are as many."""
+
+    function, regions = "decode_exact", (TEXT, Region("output", SIZE), ERROR)
+    arguments = base("input"), N, base("output"), SIZE, base("error")
+    empty = ("input", N), ("output", SIZE)
+
+    def fits_in(self, state):
+        return self.count(state) == SIZE
+
+    def store(self, state, offset, lane):
+        state.must(z3.And(N & 1 == 0, self.fits_in(state)), "written though the text has another length")
+        state.must(z3.ULE(offset + len(lane), self.count(state)), "written after the bytes")
+        must_be_decoded(state, offset, lane)
+
+    def accepts(self, state):
+        state.must(self.fits_in(state), "another length is accepted")
+        must_cover(state, word(0), self.count(state), state.writes, "a byte is left out")
+        must_be_unchanged(state, "error")
+
+    def rejects(self, state):
+        """Beside the error, nothing is written."""
+
+
+class Decode(DecodeExact):
+    """decode(text, length, bytes, bytes_size, written, error): the same, in a buffer that may be larger."""
+
+    function, regions = "decode", (*DecodeExact.regions, WRITTEN)
+    arguments = base("input"), N, base("output"), SIZE, base("written"), base("error")
+
+    def fits_in(self, state):
+        return z3.ULE(self.count(state), SIZE)
+
+    def accepts(self, state):
+        super().accepts(state)
+        must_be(state, "written", 0, 8, self.count(state))
+
+    def rejects(self, state):
+        must_be(state, "written", 0, 8, 0)
+
+
+DECODER = Region("decoder", word(16), 8)
+
+
+class DecoderFinish(Exported):
+    """decoder_finish(decoder, error): whether no digit waits for its second half, and there was no error."""
+
+    function, name, arguments = "decoder_finish", "any decoder", (base("decoder"), base("error"))
+    regions = Region("decoder", word(16), 8, is_writable=False), ERROR
+
+    def cases(self, state):
+        return [with_decoder(state)]
+
+    def returns(self, state):
+        result, index, character, kind = state.result(8), *decoder_of(state.first_cells)
+        state.must(result == z3.If(kind == 0, byte(1), byte(0)), "whether the text is complete")
+        if state.holds(kind == 0):
+            must_be_unchanged(state, "error")
+        elif state.holds(kind == 1):
+            must_fail(state, ODD_LENGTH)
+        else:
+            state.must(z3.UGT(kind, 1), "whether there was an error")
+            must_repeat(state, index, character)
+
+
+def with_decoder(state):
+    """A decoder has the position in the text, a character, and what it waits for: 0 for any digit, 1 for the second
+    digit of a byte, more for nothing after an error. Only the character is secret."""
+    state.put_cells("decoder", 0, split(z3.BitVec("p_position", 64)))
+    state.put_cells("decoder", 9, [z3.BitVec("p_kind", 8)])
+    state.first_cells = state.cells.copy()
+    return state
+
+
+def decoder_of(cells):
+    position = joined([cells["decoder", at] for at in range(8)])
+    return position, cells["decoder", 8], cells["decoder", 9]
+
+
+def must_repeat(state, index, character):
+    """The error of an earlier chunk."""
+    must_be(state, "error", 0, 4, INVALID_CHARACTER)
+    must_be(state, "error", 4, 4, z3.ZeroExt(24, character))
+    must_be(state, "error", 8, 8, index)
+
+
+FUNCTIONS = (Version(), EncodedSize(), *[Encode(flags) for flags in (*range(8), None)], CheckRaw(), FirstInvalid(),
+             Check(), DecodeExact(), Decode(), DecoderFinish())
