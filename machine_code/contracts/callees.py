@@ -7,9 +7,9 @@ If one said more than what is proved of the function, or asked for less, a wrong
 
 import z3
 
-from contracts.functions import FOUND, digits_of, is_digit, is_prefix, value
-from execution.state import fresh, simple, split, word
-from solver.questions import require
+from contracts.functions import FAILED, FOUND, digits_of, is_digit, is_prefix, moved, value
+from execution.state import byte, fresh, joined, simple, split, word
+from solver.questions import names, require
 
 
 def _at_any(state, count):
@@ -41,22 +41,30 @@ def check(state):
     """Whether all characters are digits."""
     text, count = state.arguments(2)
     state.must(z3.ULT(count, 1 << 63), "a length")
-    for way, result in _judged(state, text, count):
-        yield way, result
+    return _judged(state, text, count)
 
 
 def _judged(state, text, count):
-    """For a text of digits, and for one with any other character. It may be an input, or one pair in the stack."""
+    """For a text of digits, and for one with any other character. It is in the input, or a pair of characters elsewhere."""
     other, at = _at_any(state, count)
-    true = state.with_digits(_offset(state, "input", text), count) if other else state
-    if true:
-        yield true, 1
-    if other:
-        character, = other.load(simple(text + at), 1)
-        is_valid = other.choose(is_digit(character))
-        if false := other.when(z3.Not(is_digit(character)), other.at):
-            false.may_leak |= is_valid is True
-            yield false, 0
+    if not other:
+        return [(state, 1)]
+    if _is_input(state, text):
+        characters = other.load(simple(text + at), 1)
+        true = state.with_digits(_offset(state, "input", text), count)
+    else:
+        state.must(count == 2, "a text that is neither in the input nor a pair")
+        characters, other = state.load(text, 2), state
+        true = state.when(z3.And(*map(is_digit, characters)), state.at)
+    are_digits = z3.And(*map(is_digit, characters))
+    is_valid = other.choose(are_digits)
+    if false := other.when(z3.Not(are_digits), state.at):
+        false.may_leak |= is_valid is True
+    return [(way, result) for way, result in ((true, 1), (false, 0)) if way]
+
+
+def _is_input(state, address):
+    return state.regions["input"].base.decl().name() in names(address)
 
 
 def read(state):
@@ -67,7 +75,8 @@ def read(state):
     other, at = _at_any(state, count)
     if other:
         pair = other.load(simple(text + 2 * at), 2)
-        other = other.with_digits(_offset(other, "input", text), 2 * at + 2)
+        if _is_input(state, text):
+            other = other.with_digits(_offset(other, "input", text), 2 * at + 2)
         if other := other and other.when(z3.And(*map(is_digit, pair)), other.at):
             other.store(simple(data + at), [simple(value(pair[0]) * 16 + value(pair[1]))])
     for way, result in _judged(state, text, length):
@@ -80,32 +89,47 @@ def find(state):
     """Finds the first character after the prefix that is no digit. It is called for invalid texts alone, which have at
     least 4 characters if they begin with a prefix."""
     found, text, count = state.arguments(3)
+    start = _offset(state, "input", text)
+    has_prefix = z3.And(z3.UGE(count, 4), is_prefix(*[state.byte_of_input(start + at) for at in (0, 1)]))
+    for first, condition in ((2, has_prefix), (0, z3.Not(has_prefix))):
+        for way, index, character in _first_invalid(state.when(condition, state.at), text, first, count):
+            way.store(found, _invalid(character, index))
+            yield way, None
+
+
+def fail(state):
+    """Finds the first character of a chunk, of which some characters come before, that is no digit. The decoder moves
+    there, and keeps the error."""
+    found, decoder, before, text, count = state.arguments(5)
+    for way, index, character in _first_invalid(state, text, 0, count):
+        position = moved(moved(joined(way.load(decoder, 8)), before), index)
+        way.store(found, _invalid(character, position))
+        way.store(decoder, split(position) + [character, byte(FAILED)] + [fresh("g", 8) for _ in range(6)])
+        yield way, None
+
+
+def _invalid(character, index):
+    return split(z3.BitVecVal(FOUND, 32)) + [character] + [byte(0)] * 3 + split(index)
+
+
+def _first_invalid(state, text, first, count):
+    """The first character that is no digit, from one on: it may be anywhere, or there is none."""
+    if not state:
+        return
     require(state.may_leak, "a search in a text that may be valid")
     state.must(z3.ULT(count, 1 << 63), "a length")
     other, at = _at_any(state, count)
     if other:
         other.load(simple(text + at), 1)
-    start = _offset(state, "input", text)
-    has_prefix = z3.And(z3.UGE(count, 4), is_prefix(*[state.byte_of_input(start + at) for at in (0, 1)]))
-    for first, condition in ((2, has_prefix), (0, z3.Not(has_prefix))):
-        if way := state.when(condition, state.at):
-            yield from _found(way, found, start, word(first), count)
-
-
-def _found(state, found, start, first, count):
-    """There is none, or it is anywhere from the first character on."""
-    at = fresh("p", 64)
-    some = state.when(z3.And(z3.ULE(first, at), z3.ULT(at, count)), state.at)
-    if some:
-        character = some.byte_of_input(start + at)
-        some = some.when(z3.Not(is_digit(character)), some.at)
-    ways = [(state, count, word(0))] + ([(some, at, z3.ZeroExt(56, character))] if some else [])
-    for way, index, byte in ways:
-        if other := way.with_digits(start + first, index - first):
-            other.store(found, split(z3.BitVecVal(FOUND, 32)) + split(byte)[:4] + split(index))
-            yield other, None
+    start, at = _offset(state, "input", text), fresh("p", 64)
+    ways = [(state, count, byte(0))]
+    if some := state.when(z3.And(z3.ULE(first, at), z3.ULT(at, count)), state.at):
+        ways.append((some.without_digit(start + at), at, some.byte_of_input(start + at)))
+    for way, index, character in ways:
+        if other := way and way.with_digits(start + first, index - first):
+            yield other, index, character
 
 
 # Those of other objects, and local ones.
 IMPORTED = {f"const_hex_kernel_{function.__name__}": function for function in (fill, check, read)}
-LOCAL = {"const_hex_body_find_invalid_character": find}
+LOCAL = {"const_hex_body_find_invalid_character": find, "const_hex_decoder_fail": fail}

@@ -7,13 +7,14 @@ import itertools
 
 import z3
 
-from execution.state import word
+from execution.state import byte, simple, word
 from solver.questions import require
 
 N = z3.BitVec("p_n", 64)
 ODD_LENGTH, INVALID_LENGTH, INVALID_CHARACTER = 1, 2, 3
-# The kind of an invalid character within the library.
-FOUND = 2
+# The kind of an invalid character within the library, and what a decoder waits for after one.
+FOUND = FAILED = 2
+SIZE_MAX = (1 << 64) - 1
 
 
 def is_digit(c):
@@ -52,11 +53,15 @@ def of_32_bits(term):
     return z3.Concat(z3.BitVec("g_above", 32), term)
 
 
-def must_cover(state, first, limit, parts, message):
-    """Each index from a first one up to a limit lies in one of the parts, which have an offset and a count."""
+def covers(state, first, limit, parts):
+    """Whether each index from a first one up to a limit lies in one of the parts, which have an offset and a count."""
     index = z3.BitVec("p_index", 64)
     is_in = z3.And(z3.ULE(first, index), z3.ULT(index, limit))
-    state.must(z3.Implies(is_in, z3.Or(*[z3.ULT(index - at, count) for at, count in parts])), message)
+    return state.holds(z3.Implies(is_in, z3.Or(*[z3.ULT(index - at, count) for at, count in parts])))
+
+
+def must_cover(state, first, limit, parts, message):
+    require(covers(state, first, limit, parts), message)
 
 
 def must_be_digits(state, limit, message="a character is passed that may be no digit"):
@@ -124,3 +129,20 @@ def must_find_first_invalid(state, byte, index):
     character = state.byte_of_input(index)
     state.must(z3.Not(is_digit(character)), "a digit is rejected")
     state.must_equal(byte, z3.ZeroExt(24, character), "another character is rejected")
+
+
+def first_invalid(state):
+    """The index of the first character of the text that is no digit, and the character; or, if there is none, the length
+    and 0."""
+    parts = list(state.known_digits())
+    for index, character in list(state.input.values()):
+        if (state.holds(z3.Not(is_digit(character))) and state.holds(z3.And(z3.ULE(state.body, index), z3.ULT(index, N)))
+                and covers(state, state.body, index, parts)):
+            return index, character
+    must_be_digits(state, N)
+    return N, byte(0)
+
+
+def moved(position, count):
+    """A position so many characters later, or SIZE_MAX if it is greater."""
+    return simple(z3.If(z3.ULT(position + count, position), SIZE_MAX, position + count))

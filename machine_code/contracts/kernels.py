@@ -100,11 +100,14 @@ class Read(Kernel):
         must_be_decoded(state, offset, lane)
 
 
-def must_be_decoded(state, offset, lane):
-    """Bytes at an offset are what the digits of the text decode to, which have no invalid character before them."""
-    must_be_digits(state, simple(state.body + 2 * (offset + len(lane))), "written before it is known")
+def must_be_decoded(state, offset, lane, waiting=None):
+    """Bytes at an offset are what the digits of the text decode to, which have no invalid character before them. The first
+    half of the first one may be a digit that waits."""
+    begin = state.body - state.waiting
+    must_be_digits(state, simple(begin + 2 * (offset + len(lane))), "written before it is known")
     for at, number in enumerate(lane):
-        high, low = [state.byte_of_input(state.body + 2 * (offset + at) + more) for more in (0, 1)]
+        high, low = [state.byte_of_input(begin + 2 * (offset + at) + more) for more in (0, 1)]
+        high = waiting if waiting is not None and not at else high
         state.must_equal(number, value(high) * 16 + value(low), f"a wrong byte at {offset} + {at}")
 
 

@@ -9,16 +9,15 @@ import re
 
 import z3
 
-from contracts.functions import (FOUND, INVALID_CHARACTER, INVALID_LENGTH, N, ODD_LENGTH, Function, base, by_prefix,
-                                 must_be, must_be_digits, must_be_unchanged, must_cover, must_find_first_invalid,
-                                 of_32_bits)
+from contracts.functions import (FAILED, FOUND, INVALID_CHARACTER, INVALID_LENGTH, N, ODD_LENGTH, SIZE_MAX, Function,
+                                 base, by_prefix, first_invalid, is_digit, is_prefix, moved, must_be, must_be_digits,
+                                 must_be_unchanged, must_cover, must_find_first_invalid, of_32_bits)
 from contracts.kernels import Check as CheckKernel, must_be_decoded, must_be_digits_of
 from execution.state import Region, byte, joined, simple, split, word
 from solver.questions import require
 
 HEADER = pathlib.Path(__file__).resolve().parents[2] / "c" / "const_hex.h"
 FLAGS, SIZE = z3.BitVec("p_flags", 32), z3.BitVec("p_size", 64)
-SIZE_MAX = (1 << 64) - 1
 UPPER, PREFIX, NO_NUL = 1, 2, 4
 TEXT, ERROR, WRITTEN = Region("input", N), Region("error", word(16), 8), Region("written", word(8), 8)
 
@@ -278,5 +277,115 @@ def must_repeat(state, index, character):
     must_be(state, "error", 8, 8, index)
 
 
+class DecoderUpdate(Exported):
+    """decoder_update(decoder, text, length, bytes, bytes_size, written, error): the bytes of a chunk's digits, with the
+    one before that waits for its second half."""
+
+    function, name = "decoder_update", "every decoder and chunk"
+    regions = Region("decoder", word(16), 8), TEXT, Region("output", SIZE), WRITTEN, ERROR
+    arguments = (base("decoder"), base("input"), N, base("output"), SIZE, base("written"), base("error"))
+    empty, requires = (("input", N), ("output", SIZE)), (z3.ULT(N, 1 << 63),)
+
+    def cases(self, state):
+        """What a decoder may be: at the start; after one digit, which may be the first half of a prefix; later, where a
+        digit waits or none; after an error."""
+        position, character, kind = decoder_of(with_decoder(state).cells)
+        waits = z3.And(kind == 1, is_digit(character))
+        start, one = z3.And(position == 0, kind == 0), z3.And(position == 1, waits)
+        later = z3.UGE(position, 2)
+        x = state.byte_of_input(word(0))
+        is_rest = z3.And(z3.UGE(N, 1), is_prefix(character, x))
+        failed = state.when(z3.UGT(kind, 1), state.at)
+        # How many digits wait that belong to the first byte.
+        ways = [(way, 0) for way in by_prefix(state.when(start, state.at))]
+        ways += [(state.when(z3.And(one, is_rest), state.at), 0), (state.when(z3.And(one, z3.Not(is_rest)), state.at), 1)]
+        ways += [(state.when(z3.And(later, kind == 0), state.at), 0), (state.when(z3.And(later, waits), state.at), 1)]
+        for way, waiting in ways:
+            if way:
+                way.waiting = waiting
+                way.body = word(1) if way.holds(is_rest) and way.holds(one) else way.body
+                yield way
+        yield failed
+
+    def count(self, state):
+        """How many bytes the digits make."""
+        return simple(z3.LShR(N - state.body + state.waiting, 1))
+
+    def store(self, state, offset, lane):
+        state.must(z3.ULE(decoder_of(state.first_cells)[2], 1), "written after an error")
+        state.must(z3.ULE(self.count(state), SIZE), "written though the bytes may not fit")
+        state.must(z3.ULE(offset + len(lane), self.count(state)), "written after the bytes")
+        if not state.waiting:
+            return must_be_decoded(state, offset, lane)
+        waiting = decoder_of(state.first_cells)[1] if state.holds(offset == 0) else None
+        state.must(z3.BoolVal(waiting is not None) if waiting is not None else offset != 0, "whether it is the first byte")
+        must_be_decoded(state, offset, lane, waiting)
+
+    def reached(self, state, read, written):
+        must_be_digits(state, read)
+        must_cover(state, word(0), written, state.writes, "a byte is left out")
+
+    def returns(self, state):
+        result = state.result(8)
+        position, character, kind = decoder_of(state.first_cells)
+        if state.holds(result == 1):
+            return self.accepts(state, position, character, kind)
+        state.must(result == 0, "the result is neither true nor false")
+        must_be(state, "written", 0, 8, 0)
+        if state.holds(z3.UGT(kind, 1)):
+            must_be_unchanged(state, "decoder")
+            return must_repeat(state, position, character)
+        if state.holds(z3.UGT(self.count(state), SIZE)):
+            must_be_unchanged(state, "decoder")
+            return must_fail(state, INVALID_LENGTH)
+        state.must(z3.ULE(self.count(state), SIZE), "whether the bytes fit")
+        index, character = first_invalid(state)
+        state.must(z3.ULT(index, N), "digits are rejected")
+        must_repeat(state, moved(position, index), character)
+        must_be(state, "decoder", 0, 8, moved(position, index))
+        must_be(state, "decoder", 8, 1, character)
+        state.must(z3.UGT(state.cell("decoder", 9, 1), 1), "the decoder does not keep its error")
+
+    def accepts(self, state, position, character, kind):
+        state.must(z3.And(z3.ULE(kind, 1), z3.ULE(self.count(state), SIZE)), "what does not fit is accepted")
+        must_be_digits(state, N)
+        must_cover(state, word(0), self.count(state), state.writes, "a byte is left out")
+        must_be_unchanged(state, "error")
+        must_be(state, "written", 0, 8, self.count(state))
+        must_be(state, "decoder", 0, 8, moved(position, N))
+        waits = z3.Extract(0, 0, N - state.body + state.waiting)
+        must_be(state, "decoder", 9, 1, z3.ZeroExt(7, waits))
+        if other := state.when(z3.And(waits == 1, N == 0), None):
+            must_be(other, "decoder", 8, 1, character)
+        if other := state.when(z3.And(waits == 1, N != 0), None):
+            must_be(other, "decoder", 8, 1, other.byte_of_input(N - 1))
+
+
+class DecoderFail(Function):
+    """The search for the first invalid character of a chunk, of which some characters come before: the decoder moves
+    there, and keeps the error, which is found as by FirstInvalid. It is called for invalid chunks alone."""
+
+    is_called = is_local = may_leak = True
+    symbol, function, name = "const_hex_decoder_fail", "decoder_fail", "every decoder and chunk"
+    before = z3.BitVec("p_before", 64)
+    regions = Region("found", word(16)), Region("decoder", word(16)), TEXT
+    arguments = base("found"), base("decoder"), before, base("input"), N
+    requires = z3.ULT(N, 1 << 63),
+
+    def cases(self, state):
+        return [with_decoder(state)]
+
+    def reached(self, state, read, written):
+        must_be_digits(state, read)
+
+    def returns(self, state):
+        index, character = first_invalid(state)
+        index = moved(moved(decoder_of(state.first_cells)[0], self.before), index)
+        for name, offset, count, wanted in (
+                ("found", 0, 4, FOUND), ("found", 4, 4, z3.ZeroExt(24, character)), ("found", 8, 8, index),
+                ("decoder", 0, 8, index), ("decoder", 8, 1, character), ("decoder", 9, 1, FAILED)):
+            must_be(state, name, offset, count, wanted)
+
+
 FUNCTIONS = (Version(), EncodedSize(), *[Encode(flags) for flags in (*range(8), None)], CheckRaw(), FirstInvalid(),
-             Check(), DecodeExact(), Decode(), DecoderFinish())
+             Check(), DecodeExact(), Decode(), DecoderFinish(), DecoderFail(), DecoderUpdate())

@@ -117,8 +117,8 @@ class State:
         # The loops that were entered, and the instructions since the last head. Whether time may depend on the input,
         # which is surely invalid.
         self.loops, self.steps, self.may_leak, self.flags = {}, 0, contract.may_leak, None
-        # Where the digits of the input begin.
-        self.body = word(0)
+        # Where the digits of the input begin, and how many digits wait that belong before them.
+        self.body, self.waiting = word(0), 0
         self.enter()
         self.first, self.first_vectors = self.general.copy(), self.vectors.copy()
         self.first_cells = self.cells.copy()
@@ -312,8 +312,18 @@ class State:
         other.reads.append((offset, count))
         other.digits[offset.get_id(), str(count)] = True
         for at, name in self.input.values():
-            if other and other.holds(z3.ULT(at - offset, count)):
-                other = other.when(self.contract.is_digit(name), other.at)
+            is_digit, is_in = self.contract.is_digit(name), z3.ULT(at - offset, count)
+            if other and other.holds(is_in):
+                other = other.when(is_digit, other.at)
+            elif other and other.holds(z3.Not(is_digit)):
+                other = other.when(z3.Not(is_in), other.at)
+        return other
+
+    def without_digit(self, offset):
+        """This state where a character of the input is no digit, or None if it can't be."""
+        other = self.when(z3.Not(self.contract.is_digit(self.byte_of_input(offset))), self.at)
+        for at, count in list(self.known_digits()):
+            other = other and other.when(z3.Not(z3.ULT(offset - at, count)), other.at)
         return other
 
     # Calls

@@ -47,8 +47,8 @@ class Operand:
             self.kind, self.base, self.offset, self.index = "memory", found[1], int(found[2] or 0), found[3]
             self.count, self.is_moved, self.after = int(found[4] or 0), bool(found[5]), None
             require("x18" not in found.groups(), "x18, which belongs to the platform")
-        elif found := re.fullmatch(r"(lsl|lsr) #(\d+)", text):
-            self.kind, self.how, self.count = "shift", found[1], int(found[2])
+        elif found := re.fullmatch(r"(lsl|lsr) #(\d+)|(uxtw)", text):
+            self.kind, self.how, self.count = "shift", found[1] or found[3], int(found[2] or 0)
         elif text in CONDITIONS:
             self.kind = "condition"
         else:
@@ -76,7 +76,7 @@ def _is_page(i, old, new):
 
 
 def _is_target(i):
-    return i.mnemonic in ("b", "bl", "cbz", "cbnz") or i.mnemonic.startswith("b.")
+    return i.mnemonic in ("b", "bl", "cbz", "cbnz", "tbz", "tbnz") or i.mnemonic.startswith("b.")
 
 
 def instructions(code, section, level):
@@ -140,11 +140,13 @@ class State(state.State):
         return whole if o.size == 8 else simple(z3.Extract(31, 0, whole))
 
     def last(self, operands, size):
-        """The last operand, which may be shifted."""
+        """The last operand, which may be shifted, or extended from 32 bits."""
+        if size == 8 and operands[0].size == 4 and operands[1:] and operands[1].how == "uxtw":
+            return simple(z3.ZeroExt(32, self.number(operands[0])))
         value = self.number(operands[0], size)
         if len(operands) == 1:
             return value
-        require(len(operands) == 2 and operands[1].kind == "shift" and operands[1].count < 8 * size, "a shift")
+        require(len(operands) == 2 and operands[1].kind == "shift" and operands[1].how in SHIFTS and operands[1].count < 8 * size, "a shift")
         return simple(SHIFTS[operands[1].how](value, operands[1].count))
 
     def lane(self, o):
@@ -261,6 +263,14 @@ def move_part(s, i):
     s.put(to, simple(kept | number.value << at))
 
 
+def insert_bits(s, i):
+    """The lowest bits come from anywhere in another register, and the others are kept."""
+    to, by, low, count = i.operands
+    require(0 < count.value < count.value + low.value <= 8 * to.size, "bits")
+    kept = z3.Extract(8 * to.size - 1, count.value, s.number(to))
+    s.put(to, simple(z3.Concat(kept, z3.Extract(low.value + count.value - 1, low.value, s.number(by, to.size)))))
+
+
 def shift(s, i):
     to, by, count = i.operands
     require(count.kind == "number" and 0 <= count.value < 8 * to.size, "a shift")
@@ -306,6 +316,12 @@ def ret(s, i):
 
 def jump_if(s, i):
     return Branch(condition(s, i.mnemonic[2:]), i.operands[0].value)
+
+
+def jump_if_bit(s, i):
+    by, at, to = i.operands
+    require(0 <= at.value < 8 * by.size, "a bit")
+    return Branch(simple(z3.Extract(at.value, at.value, s.number(by)) == int(i.mnemonic == "tbnz")), to.value)
 
 
 def jump_if_zero(s, i):
@@ -483,6 +499,7 @@ HANDLERS = {
     "neg": negate, "mvn": invert, "lsl": shift, "lsr": shift, "adrp": adrp, "csel": select(lambda b: b),
     "csinc": select(lambda b: b + 1), "csinv": select(lambda b: ~b), "cset": set_if, "ccmp": compare_if,
     "nop": lambda s, i: None, "b": jump, "bl": jump, "ret": ret, "cbz": jump_if_zero, "cbnz": jump_if_zero,
+    "tbz": jump_if_bit, "tbnz": jump_if_bit, "bfxil": insert_bits,
     "mul": by_units(MULTIPLY), "umin": by_units(MINIMUM), "umax": by_units(MAXIMUM),
     "uqsub": by_units(SUBTRACT_SATURATED), "cmhi": by_units(lambda a, b: all_bits(z3.UGT(a, b), a)),
     "cmhs": by_units(lambda a, b: all_bits(z3.UGE(a, b), a)), "ushr": shift_right, "movi": constant, "mov": move,

@@ -48,6 +48,8 @@ class Facts:
                 total = self._sum(term)
                 self.sums[term.get_id()] = total if self.imply(0 <= total, total < 1 << size) else total % (1 << size)
             return self.sums[term.get_id()]
+        if kind == z3.Z3_OP_ITE:
+            return z3.If(self.condition(children[0]), *map(self._number, children[1:]))
         if kind == z3.Z3_OP_EXTRACT:
             high, low = term.params()
             part = self._number(children[0]) / (1 << low) if low else self._number(children[0])
