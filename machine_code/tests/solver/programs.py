@@ -7,6 +7,7 @@ import tempfile
 from contracts import callees
 from contracts.kernels import KERNELS
 from contracts.library import FUNCTIONS
+from contracts.messages import MESSAGES
 from execution.code import Code
 from execution.paths import run
 from hints.loops import guess, heads
@@ -107,7 +108,7 @@ def kernel(name, change=lambda text: text):
 
 def prove(content, call, ran=None):
     """Proves the first contract of a call."""
-    contract = next(contract for contract in (*KERNELS, *FUNCTIONS) if contract.function == call)
+    contract = next(contract for contract in (*KERNELS, *FUNCTIONS, *MESSAGES) if contract.function == call)
     code = Code(content, PROCESSORS, callees.IMPORTED, callees.LOCAL)
     starts = contract.starts(code)
-    return run(code, starts, heads(code, starts[0].at), guess, ran)
+    return run(code, starts, () if contract.is_unrolled else heads(code, starts[0].at), guess, ran)
