@@ -73,13 +73,14 @@ def chosen(table, index):
 
 class Region:
     """So many bytes of memory at an unknown base that is a multiple of `align`. Constants have their bytes, and a table
-    of jumps where they lead. The "input" and the "output" have these names; each other region is an object."""
+    of jumps where they lead. The "input", the "output" and what is "kept" between calls have these names; each other
+    region is an object."""
 
     def __init__(self, name, size, align=1, data=None, targets=None, is_writable=True):
         self.name, self.size, self.align, self.data, self.targets = name, size, align, data, targets
         self.base = z3.BitVec(f"p_{name}", 64)
         self.is_writable = is_writable and data is None and name != "input"
-        self.is_object = data is None and name not in ("input", "output")
+        self.is_object = data is None and name not in ("input", "output", "kept")
 
 
 class State:
@@ -93,7 +94,7 @@ class State:
         """Before the first instruction of a function, nothing is known of registers but the arguments. A function that
         others call by its contract has less of the stack."""
         self.code, self.contract, self.at = code, contract, at
-        self.STACK = self.STACK_OF_CALLED if contract.is_called else self.STACK
+        self.STACK, self.STACK_OF_CALLED = contract.stacks(self)
         on_stack = arguments[len(self.ARGUMENTS) :]
         regions = [*regions, Region("stack", word(self.STACK + self.RETURN + 8 * len(on_stack)), 16)]
         regions += [region for _, region in code.constants.values()]
@@ -112,6 +113,8 @@ class State:
         self.input, self.entries, self.calls = {}, {}, {}
         # The parts of products that have a tenth, by their factors.
         self.tenths = {}
+        # What was read of what is kept between calls, and what was stored there.
+        self.seen, self.kept = [], []
         # Offset and count of what was read of the input and written to the output, and which reads are of digits.
         self.reads, self.writes, self.digits = [], [], {}
         # The loops that were entered, and the instructions since the last head. Whether time may depend on the input,
@@ -213,6 +216,10 @@ class State:
         if region.name == "input":
             self.reads.append((offset, count))
             return [self.byte_of_input(offset + at) for at in range(count)]
+        if region.name == "kept":
+            # Another thread may have written it since it was read before.
+            self.seen += [fresh("p", 8) for _ in range(count)]
+            return self.seen[-count:]
         require(region.is_object, f"{region.name} is read")
         first = self._offset_in(region, offset)
         known = [self.cells.get((region.name, first + at)) for at in range(count)]
@@ -253,6 +260,8 @@ class State:
         require(region.is_writable, f"{region.name} is written")
         if region.is_object:
             self.put_cells(region.name, self._offset_in(region, offset), lane)
+        elif region.name == "kept":
+            self.kept += lane
         else:
             self.contract.store(self, offset, lane)
             self.writes.append((offset, len(lane)))
@@ -343,6 +352,21 @@ class State:
         """What a function needs that is called by its contract: its stack, which is aligned."""
         top = self.top()
         require(top >= self.STACK_OF_CALLED and (top - self.STACK) % 16 == 0, "the stack of a function that is called")
+
+    def frame(self, count):
+        """How many bytes of the stack belong to a call with so many arguments."""
+        return self.RETURN + 8 * max(0, count - len(self.ARGUMENTS))
+
+    def argument(self, at):
+        """An argument, at the first instruction of a function."""
+        if at < len(self.ARGUMENTS):
+            return self.general[self.ARGUMENTS[at]]
+        return self.cell("stack", self.top() + self.frame(at), 8)
+
+    def forget_arguments(self, count):
+        """Those in the stack belong to what was called."""
+        for at in range(self.RETURN, self.frame(count)):
+            self.put_cells("stack", self.top() + at, [fresh("g", 8)])
 
     def forget(self):
         """A function that was called has changed all registers that it need not keep."""

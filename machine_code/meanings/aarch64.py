@@ -107,7 +107,7 @@ def follows(i):
 class State(state.State):
     """The arguments are in these registers, and a call has left the address to return to in x30."""
 
-    TOP, STACK, STACK_OF_CALLED, RETURN, VECTORS, WIDTH = "sp", 2000, 64, 0, 32, 16
+    TOP, STACK, STACK_OF_CALLED, STACK_OF_DISPATCH, RETURN, VECTORS, WIDTH = "sp", 2000, 64, 2032, 0, 32, 16
     GENERAL = tuple(f"x{at}" for at in range(31)) + ("sp",)
     ARGUMENTS, RESULT = tuple(f"x{at}" for at in range(8)), ("x0", 32)
     KEPT, KEPT_VECTORS = ("sp", *(f"x{at}" for at in range(19, 30))), dict.fromkeys(range(8, 16), 8)

@@ -4,7 +4,7 @@ import pathlib
 import subprocess
 import tempfile
 
-from contracts import callees
+from contracts import callees, dispatch
 from contracts.kernels import KERNELS
 from contracts.library import FUNCTIONS
 from contracts.messages import MESSAGES
@@ -109,6 +109,6 @@ def kernel(name, change=lambda text: text):
 def prove(content, call, ran=None):
     """Proves the first contract of a call."""
     contract = next(contract for contract in (*KERNELS, *FUNCTIONS, *MESSAGES) if contract.function == call)
-    code = Code(content, PROCESSORS, callees.IMPORTED, callees.LOCAL)
+    code = Code(content, PROCESSORS, contract.imported or callees.IMPORTED, callees.LOCAL)
     starts = contract.starts(code)
     return run(code, starts, () if contract.is_unrolled else heads(code, starts[0].at), guess, ran)
