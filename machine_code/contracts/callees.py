@@ -9,7 +9,7 @@ import z3
 
 from contracts.functions import FAILED, FOUND, digits_of, is_digit, is_prefix, moved, value
 from contracts.messages import write_ended
-from execution.state import byte, fresh, joined, simple, split, word
+from execution.state import byte, fresh, is_secret, joined, simple, split, word
 from solver.questions import names, require
 
 
@@ -19,6 +19,11 @@ def _at_any(state, count):
     return state.when(z3.ULT(at, count), state.at), at
 
 
+def _must_be_public(state, *arguments):
+    """How long a kernel takes may depend on its arguments."""
+    require(state.may_leak or not any(map(is_secret, arguments)), "an argument depends on bytes that are secret")
+
+
 def _offset(state, name, address):
     return simple(address - state.regions[name].base)
 
@@ -26,14 +31,15 @@ def _offset(state, name, address):
 def fill(state):
     """Writes the two digits of each byte."""
     source, count, text, upper = state.arguments(4)
-    upper = z3.Extract(31, 0, upper)
+    upper = simple(z3.Extract(31, 0, upper))
+    _must_be_public(state, source, count, text, upper)
     state.must(z3.ULT(count, 1 << 62), "a length")
     state.must(z3.Or(upper == 0, upper == 1), "the case of digits is neither 0 nor 1")
     for is_upper in (0, 1):
         if way := state.when(upper == is_upper, state.at):
             other, at = _at_any(way, count)
             if other:
-                other.store(simple(text + 2 * at), digits_of(*other.load(simple(source + at), 1), is_upper))
+                _written(other, simple(text + 2 * at), digits_of(*other.load(simple(source + at), 1), is_upper))
                 way.writes.append((_offset(way, "output", text), simple(2 * count)))
             yield way, None
 
@@ -41,16 +47,17 @@ def fill(state):
 def check(state):
     """Whether all characters are digits."""
     text, count = state.arguments(2)
+    _must_be_public(state, text, count)
     state.must(z3.ULT(count, 1 << 63), "a length")
     return _judged(state, text, count)
 
 
 def _judged(state, text, count):
-    """For a text of digits, and for one with any other character. It is in the input, or a pair of characters elsewhere."""
+    """For a text of digits, and for one with any other character. It is in the input, or it is a pair elsewhere."""
     other, at = _at_any(state, count)
     if not other:
         return [(state, 1)]
-    if _is_input(state, text):
+    if _is_in("input", text):
         characters = other.load(simple(text + at), 1)
         true = state.with_digits(_offset(state, "input", text), count)
     else:
@@ -64,22 +71,29 @@ def _judged(state, text, count):
     return [(way, result) for way, result in ((true, 1), (false, 0)) if way]
 
 
-def _is_input(state, address):
-    return state.regions["input"].base.decl().name() in names(address)
+def _is_in(name, address):
+    return f"p_{name}" in names(address)
+
+
+def _written(state, address, lane):
+    """What a kernel writes is compared with the contract of its caller, so it has to go to the output."""
+    require(_is_in("output", address), "a kernel writes to what is no output")
+    state.store(address, lane)
 
 
 def read(state):
     """Whether all characters are digits. Then all of them are decoded, and otherwise perhaps some, before the first
     invalid one."""
     text, length, data, count = state.arguments(4)
+    _must_be_public(state, text, length, data, count)
     state.must(z3.And(z3.ULT(count, 1 << 62), length == 2 * count), "a length")
     other, at = _at_any(state, count)
     if other:
         pair = other.load(simple(text + 2 * at), 2)
-        if _is_input(state, text):
+        if _is_in("input", text):
             other = other.with_digits(_offset(other, "input", text), 2 * at + 2)
         if other := other and other.when(z3.And(*map(is_digit, pair)), other.at):
-            other.store(simple(data + at), [simple(value(pair[0]) * 16 + value(pair[1]))])
+            _written(other, simple(data + at), [simple(value(pair[0]) * 16 + value(pair[1]))])
     for way, result in _judged(state, text, length):
         if result and other:
             way.writes.append((_offset(way, "output", data), count))
@@ -121,6 +135,7 @@ def _first_invalid(state, text, first, count):
     state.must(z3.ULT(count, 1 << 63), "a length")
     other, at = _at_any(state, count)
     if other:
+        require(_is_in("input", text), "a search in what is no input")
         other.load(simple(text + at), 1)
     start, at = _offset(state, "input", text), fresh("p", 64)
     ways = [(state, count, byte(0))]

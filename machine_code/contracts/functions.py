@@ -100,6 +100,11 @@ class Function:
         """What is told apart from the start, such as whether a text has a prefix."""
         return [state]
 
+    def reached(self, state, read, written):
+        """At the head of a loop: all characters so far are digits, and the output is written so far."""
+        must_be_digits(state, read)
+        must_cover(state, word(0), written, state.writes, "a byte of the output is left out")
+
     def valid(self, state):
         """What a valid input is, for constant time: the digits of the text are digits."""
         return [is_digit(name) for offset, name in state.input.values() if state.holds(z3.UGE(offset, state.body))]
@@ -137,12 +142,12 @@ def must_find_first_invalid(state, byte, index):
 
 
 def first_invalid(state):
-    """The index of the first character of the text that is no digit, and the character; or, if there is none, the length
-    and 0."""
+    """The index of the first character of the text that is no digit, and the character; or, if there is none, the
+    length and 0."""
     parts = list(state.known_digits())
     for index, character in list(state.input.values()):
-        if (state.holds(z3.Not(is_digit(character))) and state.holds(z3.And(z3.ULE(state.body, index), z3.ULT(index, N)))
-                and covers(state, state.body, index, parts)):
+        is_invalid = z3.And(z3.Not(is_digit(character)), z3.ULE(state.body, index), z3.ULT(index, N))
+        if state.holds(is_invalid) and covers(state, state.body, index, parts):
             return index, character
     must_be_digits(state, N)
     return N, byte(0)

@@ -27,11 +27,6 @@ class Kernel(Function):
     def regions(self):
         return Region("input", self.input_size), Region("output", self.output_size)
 
-    def reached(self, state, read, written):
-        """At the head of a loop: all characters so far are digits, and the output is written so far."""
-        must_be_digits(state, read)
-        must_cover(state, word(0), written, state.writes, "a byte of the output is left out")
-
     def result(self, state):
         return state.result(state.RESULT[1])
 
@@ -101,8 +96,8 @@ class Read(Kernel):
 
 
 def must_be_decoded(state, offset, lane, waiting=None):
-    """Bytes at an offset are what the digits of the text decode to, which have no invalid character before them. The first
-    half of the first one may be a digit that waits."""
+    """Bytes at an offset are what the digits of the text decode to, which have no invalid character before them. The
+    first half of the first one may be a digit that waits."""
     begin = state.body - state.waiting
     must_be_digits(state, simple(begin + 2 * (offset + len(lane))), "written before it is known")
     for at, number in enumerate(lane):

@@ -89,7 +89,8 @@ class Encode(Exported):
             return require(written == b"0x"[offset.as_long() :][: len(lane)], "a wrong prefix")
         if state.holds(offset == self.end):
             return self.must_be_nul(state, offset, lane, self.end)
-        state.must(z3.And(z3.UGE(offset, self.begin), z3.ULE(offset + len(lane), self.end)), "written beside the digits")
+        is_inside = z3.And(z3.UGE(offset, self.begin), z3.ULE(offset + len(lane), self.end))
+        state.must(is_inside, "written beside the digits")
         must_be_digits_of(state, simple(offset - self.begin), lane, bool(self.flags.as_long() & UPPER))
 
     def must_be_nul(self, state, offset, lane, wanted):
@@ -127,9 +128,6 @@ class FirstInvalid(Function):
 
     def cases(self, state):
         return by_prefix(state, 4)
-
-    def reached(self, state, read, written):
-        must_be_digits(state, read)
 
     def returns(self, state):
         must_be(state, "found", 0, 4, FOUND)
@@ -298,8 +296,8 @@ class DecoderUpdate(Exported):
         failed = state.when(z3.UGT(kind, 1), state.at)
         # How many digits wait that belong to the first byte.
         ways = [(way, 0) for way in by_prefix(state.when(start, state.at))]
-        ways += [(state.when(z3.And(one, is_rest), state.at), 0), (state.when(z3.And(one, z3.Not(is_rest)), state.at), 1)]
-        ways += [(state.when(z3.And(later, kind == 0), state.at), 0), (state.when(z3.And(later, waits), state.at), 1)]
+        ways += [(state.when(z3.And(*conditions), state.at), waiting) for *conditions, waiting in (
+            (one, is_rest, 0), (one, z3.Not(is_rest), 1), (later, kind == 0, 0), (later, waits, 1))]
         for way, waiting in ways:
             if way:
                 way.waiting = waiting
@@ -317,13 +315,10 @@ class DecoderUpdate(Exported):
         state.must(z3.ULE(offset + len(lane), self.count(state)), "written after the bytes")
         if not state.waiting:
             return must_be_decoded(state, offset, lane)
-        waiting = decoder_of(state.first_cells)[1] if state.holds(offset == 0) else None
-        state.must(z3.BoolVal(waiting is not None) if waiting is not None else offset != 0, "whether it is the first byte")
-        must_be_decoded(state, offset, lane, waiting)
-
-    def reached(self, state, read, written):
-        must_be_digits(state, read)
-        must_cover(state, word(0), written, state.writes, "a byte is left out")
+        if state.holds(offset == 0):
+            return must_be_decoded(state, offset, lane, decoder_of(state.first_cells)[1])
+        state.must(offset != 0, "whether it is the first byte")
+        must_be_decoded(state, offset, lane)
 
     def returns(self, state):
         result = state.result(8)
@@ -374,9 +369,6 @@ class DecoderFail(Function):
 
     def cases(self, state):
         return [with_decoder(state)]
-
-    def reached(self, state, read, written):
-        must_be_digits(state, read)
 
     def returns(self, state):
         index, character = first_invalid(state)

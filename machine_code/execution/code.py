@@ -53,7 +53,8 @@ class Code:
         for section in self.object.sections:
             if section.is_code:
                 self.instructions |= self.processor.instructions(self, section, level)
-        self.callees = {at: self._imported[name] for at, name in self.object.undefined.items() if name in self._imported}
+        undefined = self.object.undefined.items()
+        self.callees = {at: self._imported[name] for at, name in undefined if name in self._imported}
         self.callees |= {self.object.symbols[name]: effect for name, effect in self._local.items()
                          if name in self.object.symbols.keys() - self.object.exported - {found[0]}}
         return self.object.symbols[found[0]]

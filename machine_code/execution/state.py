@@ -249,7 +249,6 @@ class State:
         require(len(found) == 1, "a jump to a place that is not fixed")
         region, offset, entry = found[0]
         self.must(address == region.base + z3.SignExt(32, entry), "a jump to a place that no table has")
-        require(self.may_leak or not is_secret(offset), "a jump depends on bytes that are secret")
         self.must(z3.Or(*[offset == at for at in region.targets]), "a jump by a part of an entry")
         places = {target: [offset == at for at in region.targets if region.targets[at] == target]
                   for target in region.targets.values()}

@@ -146,7 +146,8 @@ class State(state.State):
         value = self.number(operands[0], size)
         if len(operands) == 1:
             return value
-        require(len(operands) == 2 and operands[1].kind == "shift" and operands[1].how in SHIFTS and operands[1].count < 8 * size, "a shift")
+        require(len(operands) == 2 and operands[1].kind == "shift", "a shift")
+        require(operands[1].how in SHIFTS and operands[1].count < 8 * size, "a shift")
         return simple(SHIFTS[operands[1].how](value, operands[1].count))
 
     def lane(self, o):
@@ -266,7 +267,7 @@ def move_part(s, i):
 def insert_bits(s, i):
     """The lowest bits come from anywhere in another register, and the others are kept."""
     to, by, low, count = i.operands
-    require(0 < count.value < count.value + low.value <= 8 * to.size, "bits")
+    require(0 < count.value < 8 * to.size and 0 <= low.value <= 8 * to.size - count.value, "bits")
     kept = z3.Extract(8 * to.size - 1, count.value, s.number(to))
     s.put(to, simple(z3.Concat(kept, z3.Extract(low.value + count.value - 1, low.value, s.number(by, to.size)))))
 

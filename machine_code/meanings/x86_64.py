@@ -501,8 +501,9 @@ def vzeroupper(s, i):
 HANDLERS = {
     "add": arithmetic(ADD, sum_flags), "sub": arithmetic(SUBTRACT, difference_flags),
     "cmp": arithmetic(SUBTRACT, difference_flags, is_kept=False), "and": logic(AND), "or": logic(OR), "xor": logic(XOR),
-    "test": logic(AND, is_kept=False), "inc": inc_dec(1), "dec": inc_dec(-1), "mov": mov, "movabs": mov, "lea": lea, "not": invert,
-    "movzx": extended(z3.ZeroExt), "movsx": extended(z3.SignExt), "movsxd": extended(z3.SignExt),
+    "test": logic(AND, is_kept=False), "inc": inc_dec(1), "dec": inc_dec(-1), "mov": mov, "movabs": mov,
+    "lea": lea, "not": invert, "movzx": extended(z3.ZeroExt), "movsx": extended(z3.SignExt),
+    "movsxd": extended(z3.SignExt),
     "shl": shift(lambda a, by: a * (1 << by)), "shr": shift(z3.LShR), "push": push, "pop": pop,
     "nop": lambda s, i: None, "jmp": jump, "call": call, "ret": ret, "mul": multiply,
     "cpuid": cpuid, "xgetbv": xgetbv,

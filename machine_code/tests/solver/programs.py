@@ -1,19 +1,19 @@
 """Small kernels, each a loop over single bytes, which are changed to be wrong; and the objects that they make."""
 
 import pathlib
+import re
 import subprocess
 import tempfile
 
-from contracts import callees, dispatch
+from contracts import callees
 from contracts.kernels import KERNELS
-from contracts.library import FUNCTIONS
-from contracts.messages import MESSAGES
 from execution.code import Code
 from execution.paths import run
 from hints.loops import guess, heads
 from meanings import aarch64, x86_64
 
-ASSEMBLY = pathlib.Path(__file__).resolve().parents[3] / "rust" / "src" / "asm"
+ROOT = pathlib.Path(__file__).resolve().parents[3]
+ASSEMBLY, FOR_C = ROOT / "rust" / "src" / "asm", ROOT / "c" / "asm"
 PROCESSORS = {62: x86_64, 183: aarch64}
 COMPILERS = {"v2": "cc", "v3": "cc", "aarch64": "aarch64-linux-gnu-gcc"}
 # Where it begins, a character in eax, whether it is a digit, what is done in a round, and where it returns.
@@ -83,10 +83,10 @@ ON_AARCH64 = """
 PROGRAMS = {"check": CHECK, "fill": FILL, "read": READ}
 
 
-def assembled(source, compiler):
+def assembled(source, compiler, language="assembler", *options):
     """The bytes of the object that a source makes."""
     with tempfile.NamedTemporaryFile(suffix=".o") as file:
-        command = [compiler, "-x", "assembler", "-c", "-o", file.name, "-"]
+        command = [compiler, "-x", language, *options, "-c", "-o", file.name, "-"]
         subprocess.run(command, input=source, text=True, check=True)
         return pathlib.Path(file.name).read_bytes()
 
@@ -106,9 +106,21 @@ def kernel(name, change=lambda text: text):
     return assembled(change(text), COMPILERS["aarch64" if name == "aarch64" else "v3"])
 
 
-def prove(content, call, ran=None):
-    """Proves the first contract of a call."""
-    contract = next(contract for contract in (*KERNELS, *FUNCTIONS, *MESSAGES) if contract.function == call)
+def library(function, changed=None, old="", new=""):
+    """The object of a committed function of the C library, beside the local ones, with another text in one of them."""
+    begin, *blocks = re.split(r"\n(?=/\* const_hex)", (FOR_C / "functions_x86_64.S").read_text())
+    named = re.compile(r"\tfunction (SYMBOL\()?const_hex_(body_|message_)?(\w+?)(_nonnull)?\)?\n")
+    found = [(named.search(block), block) for block in blocks]
+    blocks = {match[3]: block for match, block in found if not match[1] or match[3] == function}
+    assert old in blocks[changed or function], old
+    blocks[changed or function] = blocks[changed or function].replace(old, new, 1)
+    return assembled("\n".join([begin, *blocks.values()]), "cc", "assembler-with-cpp", f"-I{FOR_C}")
+
+
+def prove(content, call, ran=None, contracts=KERNELS, name=None):
+    """Proves the first contract of a call, or that of a name."""
+    contract = next(contract for contract in contracts
+                    if contract.function == call and contract.name == (name or contract.name))
     code = Code(content, PROCESSORS, contract.imported or callees.IMPORTED, callees.LOCAL)
     starts = contract.starts(code)
     return run(code, starts, () if contract.is_unrolled else heads(code, starts[0].at), guess, ran)

@@ -2,17 +2,22 @@
 
 import ast
 import contextlib
+import functools
 import pathlib
 import re
 import traceback
 import unittest
 
-from programs import assembled, program, prove
+import wrong_for_c
+from contracts.library import FUNCTIONS
+from programs import assembled, library, program, prove
 from solver.questions import Refused
 
 ROOM = pathlib.Path(__file__).resolve().parents[2]
 # What refuses a program.
-CHECKS = ("require", "must", "must_cover", "must_equal")
+CHECKS = ("require", "must", "must_cover", "must_equal", "must_be", "must_be_unchanged", "must_fail", "must_repeat",
+          "must_be_digits", "must_be_digits_of", "must_be_decoded", "must_be_nul", "must_find_first_invalid",
+          "must_call", "_must_be_public")
 
 PASSES, SECRET = "a character is passed that may be no digit", "a branch depends on bytes"
 BELOW, UNWRITTEN = "an access below the stack pointer", "a byte of the stack that was not written"
@@ -168,10 +173,10 @@ class TestWrong(unittest.TestCase):
     # Where programs were refused, and which rows were.
     refused, rows = set(), set()
 
-    def prove(self, content, call, wanted=None):
+    def prove(self, content, call, wanted=None, **contract):
         with self.assertRaisesRegex(Refused, wanted) if wanted else contextlib.nullcontext():
             try:
-                prove(content, call)
+                prove(content, call, **contract)
             except Refused as refused:
                 # `run` says where a program is refused, of what another function has found.
                 found = refused.__context__ or refused
@@ -187,7 +192,7 @@ class TestWrong(unittest.TestCase):
 
     def test_zz_each_check_refuses_a_row(self):
         """After the rows: without a check, one that is refused by it would not be, or by another message."""
-        if len(self.rows) < len(WRONG):
+        if len(self.rows) < len(WRONG) + len(wrong_for_c.WRONG):
             self.skipTest("not all rows have run")
         checks = {(str(file), line) for folder in ("execution", "contracts") for file in (ROOM / folder).glob("*.py")
                   for line in _checks(file)}
@@ -202,16 +207,22 @@ def _checks(file):
             yield node.lineno
 
 
-def _add(what, level, call, changes, wanted=None):
-    name = re.sub(r"\W+", "_", f"test_{level}_{call}_{what}".lower())
+def _add(row, call, make, wanted=None, **contract):
+    row = re.sub(r"\W+", "_", f"test_{row}".lower())
 
     def test(self):
-        self.prove(program(level, call, **changes), call, wanted)
-        self.rows.update([name] if wanted else [])
+        self.prove(make(), call, wanted, **contract)
+        self.rows.update([row] if wanted else [])
 
-    assert not hasattr(TestWrong, name), name
-    setattr(TestWrong, name, test)
+    assert not hasattr(TestWrong, row), row
+    setattr(TestWrong, row, test)
 
 
-for row in [*WRONG, *RIGHT]:
-    _add(*row)
+for what, level, call, changes, *said in [*WRONG, *RIGHT]:
+    _add(f"{level} {call} {what}", call, functools.partial(program, level, call, **changes), *said)
+for function, what, old, new, said, *name in wrong_for_c.WRONG:
+    call = "decoder_update" if function == "decoder_decode_after" else function
+    make = functools.partial(library, call, function, old, new)
+    _add(f"for c {function} {what}", call, make, said, contracts=FUNCTIONS, name=next(iter(name), None))
+for function in wrong_for_c.RIGHT:
+    _add(f"for c {function} as it is", function, functools.partial(library, function), contracts=FUNCTIONS)
