@@ -79,15 +79,16 @@ class Dispatched(Function):
 
 
 class Kernel(Dispatched):
-    """A function of the kernel, for this CPU. It is the one that the stored byte names; another thread may store it at any
-    time. If it names none, the CPU is asked, and the byte is stored."""
+    """A function of the kernel, for this CPU. It is the one that the stored byte names; another thread may store it at
+    any time. If it names none, the CPU is asked, and the byte is stored."""
 
     is_called, ends = True, tuple(BUILDS)
 
     def must_choose(self, state, end):
         number = BUILDS[end]
         if not state.kept:
-            return state.must(z3.Or(*[read == number for read in state.seen]), "the kernel is not the one that is stored")
+            is_named = z3.Or(*[read == number for read in state.seen])
+            return state.must(is_named, "the kernel is not the one that is stored")
         for named in BUILDS.values():
             state.must(z3.Or(*[read != named for read in state.seen]), "the CPU is asked although a kernel is stored")
         for stored in state.kept:
@@ -121,5 +122,6 @@ class OrNull(Dispatched):
         state.put_cells("stack", local.as_long(), split(fresh("g", 128)))
 
 
-OR_NULL = [OrNull(name, FUNCTIONS[name].parameters, is_null) for name in sorted(WITH_ERROR) for is_null in (False, True)]
+OR_NULL = [OrNull(name, FUNCTIONS[name].parameters, is_null) for name in sorted(WITH_ERROR)
+           for is_null in (False, True)]
 CHOICES = [Kernel(name, parameters) for name, parameters in KERNELS.items()]

@@ -145,7 +145,7 @@ def _by_integers(facts):
 
 
 def is_impossible(facts):
-    """Whether facts contradict each other. A question that differs from another one by its names alone is asked once."""
+    """Whether facts contradict each other. A question that differs from another by its names alone is asked once."""
     are_public = all([is_public(fact) for fact in facts])  # which keeps all of them
     same = tuple(fact.get_id() for fact in facts)
     if same not in _answers:
@@ -161,7 +161,7 @@ def is_impossible(facts):
 
 
 def holds(facts, goal, steps=None):
-    """Whether a goal follows from facts; perhaps from those alone that are so many steps from it, or from the nearest."""
+    """Whether a goal follows from facts; perhaps from those alone that are so many steps from it, or nearer."""
     limits = (0, steps) if steps else (None,)
     return all(any(is_impossible([*relevant(facts, part, limit), z3.Not(part)]) for limit in limits)
                for part in conjuncts(goal))

@@ -39,7 +39,8 @@ def parts(number):
     prove()
     if number.get_id() not in _tenths:
         kind = "p" if questions.is_public(number) else "g"
-        tenth, more = [z3.BitVec(f"{kind}_{name}_{number.get_id()}", bits) for name, bits in (("tenth", 61), ("more", 3))]
+        tenth, more = [z3.BitVec(f"{kind}_{name}_{number.get_id()}", bits)
+                       for name, bits in (("tenth", 61), ("more", 3))]
         most = next((most for _, other, _, most in _tenths.values() if _whole(other).eq(number)), (1 << 64) - 1)
         # The number is kept, so that its own number is not used again.
         _tenths[number.get_id()] = number, tenth, more, most // 10

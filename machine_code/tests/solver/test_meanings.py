@@ -32,8 +32,9 @@ MORE = {
         uzp1 v0.16b, v1.16b, v2.16b; zip2 v0.8h, v1.8h, v2.8h; neg x0, x1; lsl x0, x1, #3; cbnz w0, 1f; nop; nop; 1: nop
         st1 {v0.b}[2], [x1]; ldrh w0, [x1]; strh w0, [x1]; ldurh w0, [x1, #1]; sturh w0, [x1, #1]
         ldurb w0, [x1, #-1]; sturb w0, [x1, #-1]; umulh x0, x1, x2; msub x0, x1, x2, x3; msub w0, w1, w2, wzr
-        movk x0, #0xcccd; movk x0, #0x1234, lsl #48; movk w0, #0x7374, lsl #16; bfxil w0, w1, #2, #1; bfxil x0, x1, #0, #9
-        adds x0, x1, w2, uxtw; cmp x0, x1, lsr #1; tbz x0, #63, 1f; nop; nop; 1: tbnz w0, #3, 1f; nop; nop; 1: nop""",
+        movk x0, #0xcccd; movk x0, #0x1234, lsl #48; movk w0, #0x7374, lsl #16; bfxil w0, w1, #2, #1
+        bfxil x0, x1, #0, #9; adds x0, x1, w2, uxtw; cmp x0, x1, lsr #1; tbz x0, #63, 1f; nop; nop; 1: nop
+        tbnz w0, #3, 1f; nop; nop; 1: nop""",
 }
 
 

@@ -9,7 +9,9 @@ import traceback
 import unittest
 
 import wrong_for_c
+import wrong_messages
 from contracts.library import FUNCTIONS
+from contracts.messages import MESSAGES
 from programs import assembled, library, program, prove
 from solver.questions import Refused
 
@@ -192,7 +194,7 @@ class TestWrong(unittest.TestCase):
 
     def test_zz_each_check_refuses_a_row(self):
         """After the rows: without a check, one that is refused by it would not be, or by another message."""
-        if len(self.rows) < len(WRONG) + len(wrong_for_c.WRONG):
+        if len(self.rows) < len(WRONG) + len(wrong_for_c.WRONG) + wrong_messages.COUNT:
             self.skipTest("not all rows have run")
         checks = {(str(file), line) for folder in ("execution", "contracts") for file in (ROOM / folder).glob("*.py")
                   for line in _checks(file)}
@@ -226,3 +228,15 @@ for function, what, old, new, said, *name in wrong_for_c.WRONG:
     _add(f"for c {function} {what}", call, make, said, contracts=FUNCTIONS, name=next(iter(name), None))
 for function in wrong_for_c.RIGHT:
     _add(f"for c {function} as it is", function, functools.partial(library, function), contracts=FUNCTIONS)
+for what, body, said in wrong_messages.OF_MESSAGES:
+    _add(f"of messages {what}", "error_message", functools.partial(wrong_messages.message, body), said,
+         contracts=wrong_messages.CONTRACTS)
+for what, old, new, said in wrong_messages.OF_WRITE_ENDED:
+    make = functools.partial(library, "error_message", "write_ended", old, new)
+    _add(f"of messages {what}", "write_ended", make, said, contracts=wrong_messages.CONTRACTS)
+for function, what, old, new, said, *name in wrong_messages.OF_DISPATCHERS:
+    _add(f"of dispatchers {function} {what}", function, functools.partial(wrong_messages.dispatcher, old, new), said,
+         contracts=wrong_messages.CONTRACTS, name=next(iter(name), None))
+for contract in wrong_messages.CONTRACTS[: -len(MESSAGES)]:
+    _add(f"of dispatchers {contract.function} {contract.name} as it is", contract.function, wrong_messages.dispatcher,
+         contracts=wrong_messages.CONTRACTS, name=contract.name)
