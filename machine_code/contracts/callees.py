@@ -116,6 +116,7 @@ def fail(state):
     """Finds the first character of a chunk, of which some characters come before, that is no digit. The decoder moves
     there, and keeps the error."""
     found, decoder, before, text, count = state.arguments(5)
+    require(set(names(found)).isdisjoint(names(decoder)), "a decoder in the place of what is found")
     for way, index, character in _first_invalid(state, text, 0, count):
         position = moved(moved(joined(way.load(decoder, 8)), before), index)
         way.store(found, _invalid(character, position))

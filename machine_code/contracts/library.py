@@ -103,7 +103,7 @@ class Encode(Exported):
         if fits := state.when(self.fits, None):
             limit = self.end + z3.If(self.has_nul, word(1), word(0))
             must_cover(fits, word(0), simple(limit), fits.writes, "a character of the text is left out")
-        elif failed := state.when(z3.And(self.has_nul, SIZE != 0), None):
+        if failed := state.when(z3.And(z3.Not(self.fits), self.has_nul, SIZE != 0), None):
             must_cover(failed, word(0), word(1), failed.writes, "the text is not the empty string")
 
 

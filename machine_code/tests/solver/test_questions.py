@@ -18,13 +18,14 @@ COMPARE = z3.ULE, z3.ULT, z3.UGE, z3.UGT, lambda a, b: a == b, lambda a, b: a !=
 
 
 def term(some, depth):
-    kind = some.randrange(7) if depth else some.randrange(2)
+    kind = some.randrange(8) if depth else some.randrange(2)
     if kind < 2:
         return some.choice(NAMES) if kind else z3.BitVecVal(some.choice(NUMBERS), BITS)
     part = term(some, depth - 1)
     return [lambda: part + term(some, depth - 1), lambda: part - term(some, depth - 1),
             lambda: some.choice((2, 3, 4, 8, 62)) * part, lambda: z3.LShR(part, some.randrange(1, 5)),
-            lambda: part & some.choice((0x38, 0x3C, 0x07, 0x20))][kind - 2]()
+            lambda: part & some.choice((0x38, 0x3C, 0x07, 0x20)),
+            lambda: z3.If(z3.ULE(part, 9), part, term(some, depth - 1))][kind - 2]()
 
 
 def condition(some):

@@ -117,6 +117,8 @@ WRONG = [
      "mov QWORD PTR [r14],0; movzx eax,BYTE PTR [rsp+0x10]", "decoder is wrong at 0"),
     ("decoder_update", "a decoder with another character", "movzx  eax,BYTE PTR [rsp+0x10]",
      "mov BYTE PTR [r14+8],0x30; movzx eax,BYTE PTR [rsp+0x10]", "decoder is wrong at 8"),
+    ("decoder_update", "a decoder that is overwritten", "lea    rdi,[rsp+0x10]", "mov rdi,r14",
+     "a decoder in the place of what is found"),
     ("decoder_update", "a decoder without its error", "movzx  eax,BYTE PTR [rsp+0x10]",
      "mov BYTE PTR [r14+9],1; movzx eax,BYTE PTR [rsp+0x10]", "does not keep its error"),
     ("decoder_update", "true after an error", "2:\n", "2: mov al,1; jmp 19f\n", "what does not fit is accepted"),
