@@ -79,7 +79,7 @@ class Function:
     name = "every call"
     # In how many steps facts may be from what is to be proved, if that has a limit; for which CPU the code is, if its
     # name does not say it; and what functions of other objects do, if not what callees.py says.
-    steps = level = imported = None
+    near = level = imported = None
 
     def starts(self, code):
         """The states at the call of the function, with any arguments."""

@@ -71,7 +71,7 @@ class Ended(Function):
     """A function that writes a text, or as much of it as fits, and a NUL to its output, and returns how many bytes
     stand before the NUL. It writes nothing to an output of size 0."""
 
-    may_leak, is_unrolled, steps = True, True, 2
+    may_leak, is_unrolled, near = True, True, 2
 
     def store(self, state, offset, lane):
         at, = values(state.facts, offset, 1)

@@ -89,11 +89,13 @@ class State:
 
     # How many of the lowest bytes of a vector a function keeps.
     KEPT_VECTORS = {}
+    # In how many steps facts may be from what is asked, if that has a limit.
+    near = None
 
     def start(self, code, contract, at, regions, arguments):
         """Before the first instruction of a function, nothing is known of registers but the arguments. A function that
         others call by its contract has less of the stack."""
-        self.code, self.contract, self.at = code, contract, at
+        self.code, self.contract, self.at, self.near = code, contract, at, contract.near
         self.STACK, self.STACK_OF_CALLED = contract.stacks(self)
         on_stack = arguments[len(self.ARGUMENTS) :]
         regions = [*regions, Region("stack", word(self.STACK + self.RETURN + 8 * len(on_stack)), 16)]
@@ -137,7 +139,7 @@ class State:
         self.facts += facts_of(condition)
 
     def holds(self, goal):
-        return holds(self.facts, goal, self.contract.steps)
+        return holds(self.facts, goal, self.near)
 
     def must(self, goal, message):
         require(self.holds(goal), message)
@@ -302,7 +304,7 @@ class State:
         used = [(offset, name) for offset, name in self.input.values() if name.decl().name() in about]
         same = [fact for at, (first, one) in enumerate(used) for second, other in used[:at]
                 if self.holds(first == second) for fact in facts_of(one == other)]
-        require(holds(self.facts + same, value == wanted, self.contract.steps), message)
+        require(holds(self.facts + same, value == wanted, self.near), message)
 
     def known_digits(self):
         """The parts of the input, by offset and count, that are digits."""

@@ -39,8 +39,8 @@ OF_MESSAGES = [
     ("a text that is passed twice", CALL.format("call const_hex_message_write_ended", ""), "too many values|before"),
     ("a byte before the text", CALL.format("cmp rcx, 9; jbe 9f; mov byte ptr [rdx], 0", ""),
      "a text is written before"),
-    ("a byte after the text", CALL.format("cmp rcx, 9; jbe 9f; mov [rsp], rdx", "mov rdx, [rsp]; mov byte ptr [rdx], 0"),
-     "something is written after the end"),
+    ("a byte after the text",
+     CALL.format("cmp rcx, 9; jbe 9f; mov [rsp], rdx", "mov rdx, [rsp]; mov byte ptr [rdx], 0"), "something is written after the end"),
     ("a part of the text", CALL.format("mov esi, 19", ""), "another text is written"),
     ("another text", CALL.format("add rdi, 1", ""), "another byte of the text at 0"),
     ("a result of its own", CALL.format("", "mov eax, 20"), "another result"),
@@ -54,6 +54,7 @@ OF_WRITE_ENDED = [
 NONNULL, CALL_IT = "\tjne\t\\name\\()_nonnull\n", "\tcall\t\\name\\()_nonnull\n"
 IS_2 = "\tcmp\tBYTE PTR [rip + choice], 2\n\tje\t\\name\\()_v3\n"
 IS_1 = "\tcmp\tBYTE PTR [rip + choice], 1\n\tje\t\\name\\()_v2\n"
+LOCAL = "mov\t\\error, rsp"
 NULL, NOT_NULL = "the error is NULL", "the error is not NULL"
 # The function, what is wrong, what is changed, and what is said of it; of which contract.
 OF_DISPATCHERS = [
@@ -66,9 +67,9 @@ OF_DISPATCHERS = [
      "a byte is stored after the call", NULL),
     ("check", "a byte before the call", CALL_IT, f"\tmov\tBYTE PTR [rip + choice], 1\n{CALL_IT}", "a byte is stored",
      NULL),
-    ("check", "an error that is not aligned", "mov\t\\error, rsp", "lea\t\\error, [rsp+4]", "at an unknown place", NULL),
-    ("check", "an error below the stack", "mov\t\\error, rsp", "lea\t\\error, [rsp-8]", "is not in the stack", NULL),
-    ("check", "an error that is too short", "mov\t\\error, rsp", "lea\t\\error, [rsp+16]", "is not in the stack", NULL),
+    ("check", "an error that is not aligned", LOCAL, "lea\t\\error, [rsp+4]", "at an unknown place", NULL),
+    ("check", "an error below the stack", LOCAL, "lea\t\\error, [rsp-8]", "is not in the stack", NULL),
+    ("check", "an error that is too short", LOCAL, "lea\t\\error, [rsp+16]", "is not in the stack", NULL),
     ("check", "a stack that is not aligned", "sub\trsp, 24", "sub\trsp, 16", "the stack of a function", NULL),
     ("check", "NULL", NONNULL, NONNULL.replace("jne", "jmp"), "the local error is at an unknown place", NULL),
     ("decoder_update", "another argument in the stack", "QWORD PTR [rsp], rax", "QWORD PTR [rsp], rsp",
