@@ -590,278 +590,204 @@
 	exported SYMBOL(const_hex_error_message)
 	function SYMBOL(const_hex_error_message)
 	ldr w8, [x0]
-	cmp x1, #0x0
 	mov w9, #0x1000
+	cmp x1, #0x0
 	csel x9, x9, xzr, eq
 	mov x3, x2
 	cmp w8, #0x4
-	add x2, x1, x9
 	b.eq 3f
 	cmp w8, #0x2
 	b.eq 2f
 	cmp w8, #0x1
 	b.ne 4f
-	cmp x3, #0x14
-	b.hi 9f
 	adrp_label x0, const_hex_constant_2
 	add_label x0, x0, const_hex_constant_2
+	add x2, x1, x9
 	mov w1, #0x14
 	b const_hex_message_write_ended
 2:
-	cmp x3, #0x15
-	b.hi 6f
 	adrp_label x0, const_hex_constant_3
 	add_label x0, x0, const_hex_constant_3
+	add x2, x1, x9
 	mov w1, #0x15
 	b const_hex_message_write_ended
 3:
-	cmp x3, #0xd
-	b.hi 7f
 	adrp_label x0, const_hex_constant_4
 	add_label x0, x0, const_hex_constant_4
+	add x2, x1, x9
 	mov w1, #0xd
 	b const_hex_message_write_ended
 4:
 	sub sp, sp, #0x50
 	movi v0.16b, #0x0
-	ldr w9, [x0, #4]
-	mov w10, #0x100
+	ldr w10, [x0, #4]
+	mov w11, #0x100
 	stp x29, x30, [sp, #64]
 	add x29, sp, #0x40
-	cmp w9, #0x100
-	csel w10, w9, w10, cc
+	cmp w10, #0x100
+	csel w11, w10, w11, cc
 	cmp w8, #0x3
 	stur q0, [sp, #43]
 	stp q0, q0, [sp, #16]
 	str q0, [sp]
-	b.ne 8f
-	cmp w9, #0xff
-	b.hi 8f
-	ldr x11, [x0, #8]
-	and w8, w10, #0xff
-	cmp x11, #0xa
-	b.cc 15f
-	mov w9, #0x3a
+	b.ne 6f
+	cmp w10, #0xff
+	b.hi 6f
+	ldr x12, [x0, #8]
+	and w8, w11, #0xff
+	cmp x12, #0xa
+	b.cc 7f
+	mov w10, #0x3a
 5:
-	mov x12, x11
-	mov x11, #0xcccccccccccccccc
-	mov w13, #0xa
-	movk x11, #0xcccd
-	mov x14, sp
-	cmp x12, #0x63
-	umulh x11, x12, x11
-	lsr x11, x11, #3
-	msub w13, w11, w13, w12
-	orr w12, w13, #0x30
-	strb w12, [x14, x9]
-	sub x9, x9, #0x1
+	mov x13, x12
+	mov x12, #0xcccccccccccccccc
+	mov w14, #0xa
+	movk x12, #0xcccd
+	mov x15, sp
+	cmp x13, #0x63
+	umulh x12, x13, x12
+	lsr x12, x12, #3
+	msub w14, w12, w14, w13
+	orr w13, w14, #0x30
+	strb w13, [x15, x10]
+	sub x10, x10, #0x1
 	b.hi 5b
-	add x9, x9, #0x1
-	b 16f
+	add x10, x10, #0x1
+	b 8f
 6:
-	adrp_label x8, const_hex_constant_3
-	add_label x8, x8, const_hex_constant_3
-	sub x9, x2, x8
-	cmp x9, #0x14
-	b.hi 12f
-	adrp_label x8, const_hex_constant_5
-	adrp_label x9, const_hex_constant_6
-	ldr_label q0, x8, const_hex_constant_5
-	ldr_label d1, x9, const_hex_constant_6
-	mov w8, #0x68
-	strb w8, [x2, #20]
-	str q0, [x2]
-	str s1, [x2, #16]
-	mov w0, #0x15
-	strb wzr, [x2, #21]
+	mov x10, sp
+	mov x8, xzr
+	add x0, x10, #0x3b
+	add x2, x1, x9
+	mov x1, x8
+	bl const_hex_message_write_ended
+	ldp x29, x30, [sp, #64]
+	add sp, sp, #0x50
 	ret
 7:
-	adrp_label x8, const_hex_constant_4
-	add_label x8, x8, const_hex_constant_4
-	sub x9, x2, x8
-	cmp x9, #0xc
-	b.hi 13f
-	adrp_label x8, const_hex_constant_7
-	adrp_label x9, const_hex_constant_8
-	ldr_label d0, x8, const_hex_constant_7
-	ldr_label d1, x9, const_hex_constant_8
-	mov w8, #0x79
-	strb w8, [x2, #12]
-	str d0, [x2]
-	str s1, [x2, #8]
-	mov w0, #0xd
-	strb wzr, [x2, #13]
-	ret
+	mov w10, #0x3b
 8:
-	mov x8, sp
-	mov x1, xzr
-	add x0, x8, #0x3b
-	bl const_hex_message_write_ended
-	ldp x29, x30, [sp, #64]
-	add sp, sp, #0x50
-	ret
-9:
-	adrp_label x8, const_hex_constant_2
-	add_label x8, x8, const_hex_constant_2
-	sub x9, x2, x8
-	cmp x9, #0x13
-	b.hi 14f
-	adrp_label x8, const_hex_constant_9
-	adrp_label x9, const_hex_constant_10
-	ldr_label q0, x8, const_hex_constant_9
-	ldr_label d1, x9, const_hex_constant_10
-	str q0, [x2]
-	str s1, [x2, #16]
-	mov w0, #0x14
-	strb wzr, [x2, #20]
-	ret
-12:
-	ldr q0, [x8]
-	ldur x8, [x8, #13]
-	str q0, [x2]
-	stur x8, [x2, #13]
-	mov w0, #0x15
-	strb wzr, [x2, #21]
-	ret
-13:
-	ldr x9, [x8]
-	ldur x8, [x8, #5]
-	str x9, [x2]
-	stur x8, [x2, #5]
-	mov w0, #0xd
-	strb wzr, [x2, #13]
-	ret
-14:
-	mov w9, #0x6967
-	ldr q0, [x8]
-	movk w9, #0x7374, lsl #16
-	str w9, [x2, #16]
-	str q0, [x2]
-	mov w0, #0x14
-	strb wzr, [x2, #20]
-	ret
-15:
-	mov w9, #0x3b
-16:
-	adrp_label x13, const_hex_constant_11
-	add_label x13, x13, const_hex_constant_11
-	mov x12, sp
-	ldr x14, [x13]
-	ldur x13, [x13, #6]
-	orr w11, w11, #0x30
-	add x12, x12, x9
+	adrp_label x14, const_hex_constant_5
+	add_label x14, x14, const_hex_constant_5
+	mov x13, sp
+	ldr x15, [x14]
+	ldur x14, [x14, #6]
+	orr w12, w12, #0x30
+	add x13, x13, x10
 	cmp w8, #0xc
-	sturb w11, [x12, #-1]
-	stur x14, [x12, #-15]
-	stur x13, [x12, #-9]
-	b.le 17f
+	sturb w12, [x13, #-1]
+	stur x15, [x13, #-15]
+	stur x14, [x13, #-9]
+	b.le 9f
 	cmp w8, #0x5b
-	b.gt 18f
+	b.gt 12f
 	cmp w8, #0xd
-	b.eq 24f
+	b.eq 18f
 	cmp w8, #0x27
-	b.eq 22f
-	b 19f
-17:
-	cbz w8, 23f
+	b.eq 16f
+	b 13f
+9:
+	cbz w8, 17f
 	cmp w8, #0x9
-	b.eq 25f
+	b.eq 19f
 	cmp w8, #0xa
-	b.ne 19f
-	sub x9, x9, #0x11
+	b.ne 13f
+	sub x10, x10, #0x11
 	mov x8, sp
-	mov w10, #0x6e5c
-	b 26f
-18:
+	mov w11, #0x6e5c
+	b 20f
+12:
 	cmp w8, #0x5c
-	b.eq 22f
+	b.eq 16f
 	cmp w8, #0xad
-	b.eq 20f
-19:
+	b.eq 14f
+13:
 	cmp w8, #0x20
-	b.cs 28f
-20:
-	and x10, x8, #0xf
-	adrp_label x12, const_hex_constant_12
-	add_label x12, x12, const_hex_constant_12
-	ldrb w13, [x12, x10]
-	sub x11, x9, #0x11
-	mov w14, #0x7d00
-	mov x10, sp
+	b.cs 22f
+14:
+	and x11, x8, #0xf
+	adrp_label x13, const_hex_constant_6
+	add_label x13, x13, const_hex_constant_6
+	ldrb w14, [x13, x11]
+	sub x12, x10, #0x11
+	mov w15, #0x7d00
+	mov x11, sp
 	cmp w8, #0x10
-	orr w13, w13, w14
-	strh w13, [x10, x11]
-	b.cc 21f
+	orr w14, w14, w15
+	strh w14, [x11, x12]
+	b.cc 15f
 	lsr x8, x8, #4
-	sub x11, x9, #0x12
-	ldrb w8, [x12, x8]
-	strb w8, [x10, x11]
-21:
-	sub x9, x11, #0x3
+	sub x12, x10, #0x12
+	ldrb w8, [x13, x8]
+	strb w8, [x11, x12]
+15:
+	sub x10, x12, #0x3
 	mov w8, #0x7b
-	mov w11, #0x755c
-	add x10, x10, x9
-	strb w8, [x10, #2]
-	strh w11, [x10]
-	b 27f
-22:
+	mov w12, #0x755c
+	add x11, x11, x10
+	strb w8, [x11, #2]
+	strh w12, [x11]
+	b 21f
+16:
 	mov w8, #0x5c
-	sub x9, x9, #0x11
-	orr w8, w8, w10, lsl #8
-	mov x10, sp
-	strh w8, [x10, x9]
-	b 27f
-23:
-	sub x9, x9, #0x11
+	sub x10, x10, #0x11
+	orr w8, w8, w11, lsl #8
+	mov x11, sp
+	strh w8, [x11, x10]
+	b 21f
+17:
+	sub x10, x10, #0x11
 	mov x8, sp
-	mov w10, #0x305c
-	b 26f
-24:
-	sub x9, x9, #0x11
+	mov w11, #0x305c
+	b 20f
+18:
+	sub x10, x10, #0x11
 	mov x8, sp
-	mov w10, #0x725c
-	b 26f
-25:
-	sub x9, x9, #0x11
+	mov w11, #0x725c
+	b 20f
+19:
+	sub x10, x10, #0x11
 	mov x8, sp
-	mov w10, #0x745c
-26:
-	strh w10, [x8, x9]
-27:
-	adrp_label x10, const_hex_constant_13
-	add_label x10, x10, const_hex_constant_13
+	mov w11, #0x745c
+20:
+	strh w11, [x8, x10]
+21:
+	adrp_label x11, const_hex_constant_7
+	add_label x11, x11, const_hex_constant_7
 	mov x8, sp
-	ldr q0, [x10]
-	mov w10, #0x7265
-	add x8, x8, x9
-	movk w10, #0x2720, lsl #16
-	mov w11, #0x4e
+	ldr q0, [x11]
+	mov w11, #0x7265
+	add x8, x8, x10
+	movk w11, #0x2720, lsl #16
+	mov w12, #0x4e
 	sub x0, x8, #0x13
 	stur q0, [x8, #-19]
-	sub x1, x11, x9
-	stur w10, [x8, #-4]
+	stur w11, [x8, #-4]
+	sub x8, x12, x10
+	add x2, x1, x9
+	mov x1, x8
 	bl const_hex_message_write_ended
 	ldp x29, x30, [sp, #64]
 	add sp, sp, #0x50
 	ret
-28:
+22:
 	cmp w8, #0x7e
-	b.hi 29f
-	sub x9, x9, #0x10
-	mov x10, sp
-	strb w8, [x10, x9]
-	b 27b
-29:
+	b.hi 23f
+	sub x10, x10, #0x10
+	mov x11, sp
+	strb w8, [x11, x10]
+	b 21b
+23:
 	cmp w8, #0xa1
-	b.cc 20b
-	lsr w10, w8, #6
+	b.cc 14b
+	lsr w11, w8, #6
 	and w8, w8, #0xffffffbf
-	sub x9, x9, #0x11
-	orr w8, w10, w8, lsl #8
-	mov x10, sp
+	sub x10, x10, #0x11
+	orr w8, w11, w8, lsl #8
+	mov x11, sp
 	orr w8, w8, #0xc0
-	strh w8, [x10, x9]
-	b 27b
+	strh w8, [x11, x10]
+	b 21b
 	end SYMBOL(const_hex_error_message)
 
 /* const_hex_c::const_hex_version */
@@ -874,8 +800,8 @@
 /* const_hex::codec::body::find_invalid_character */
 	function const_hex_body_find_invalid_character
 	subs x10, x2, #0x4
-	adrp_label x8, const_hex_constant_14
-	add_label x8, x8, const_hex_constant_14
+	adrp_label x8, const_hex_constant_8
+	add_label x8, x8, const_hex_constant_8
 	b.cs 5f
 	mov x9, xzr
 2:
@@ -1003,8 +929,8 @@
 	subs x9, x4, #0x4
 	mov x8, xzr
 	csel x10, xzr, x9, cc
-	adrp_label x9, const_hex_constant_14
-	add_label x9, x9, const_hex_constant_14
+	adrp_label x9, const_hex_constant_8
+	add_label x9, x9, const_hex_constant_8
 	b.cc 3f
 	mov x8, xzr
 2:
@@ -1098,35 +1024,17 @@
 	constant const_hex_constant_4, 0
 	.byte 0x6f, 0x75, 0x74, 0x20, 0x6f, 0x66, 0x20, 0x6d, 0x65, 0x6d, 0x6f, 0x72, 0x79
 
-	constant const_hex_constant_5, 4
-	.byte 0x69, 0x6e, 0x76, 0x61, 0x6c, 0x69, 0x64, 0x20, 0x73, 0x74, 0x72, 0x69, 0x6e, 0x67, 0x20, 0x6c
-
-	constant const_hex_constant_6, 3
-	.byte 0x65, 0x6e, 0x67, 0x74, 0x00, 0x00, 0x00, 0x00
-
-	constant const_hex_constant_7, 3
-	.byte 0x6f, 0x75, 0x74, 0x20, 0x6f, 0x66, 0x20, 0x6d
-
-	constant const_hex_constant_8, 3
-	.byte 0x65, 0x6d, 0x6f, 0x72, 0x00, 0x00, 0x00, 0x00
-
-	constant const_hex_constant_9, 4
-	.byte 0x6f, 0x64, 0x64, 0x20, 0x6e, 0x75, 0x6d, 0x62, 0x65, 0x72, 0x20, 0x6f, 0x66, 0x20, 0x64, 0x69
-
-	constant const_hex_constant_10, 3
-	.byte 0x67, 0x69, 0x74, 0x73, 0x00, 0x00, 0x00, 0x00
-
-	constant const_hex_constant_11, 0
+	constant const_hex_constant_5, 0
 	.byte 0x27, 0x20, 0x61, 0x74, 0x20, 0x70, 0x6f, 0x73, 0x69, 0x74, 0x69, 0x6f, 0x6e, 0x20
 
-	constant const_hex_constant_12, 4
+	constant const_hex_constant_6, 4
 	.byte 0x30, 0x31, 0x32, 0x33, 0x34, 0x35, 0x36, 0x37, 0x38, 0x39, 0x61, 0x62, 0x63, 0x64, 0x65, 0x66
 
-	constant const_hex_constant_13, 0
+	constant const_hex_constant_7, 0
 	.byte 0x69, 0x6e, 0x76, 0x61, 0x6c, 0x69, 0x64, 0x20, 0x63, 0x68, 0x61, 0x72, 0x61, 0x63, 0x74, 0x65
 	.byte 0x72, 0x20, 0x27
 
-	constant const_hex_constant_14, 0
+	constant const_hex_constant_8, 0
 	.byte 0xff, 0xff, 0xff, 0xff, 0xff, 0xff, 0xff, 0xff, 0xff, 0xff, 0xff, 0xff, 0xff, 0xff, 0xff, 0xff
 	.byte 0xff, 0xff, 0xff, 0xff, 0xff, 0xff, 0xff, 0xff, 0xff, 0xff, 0xff, 0xff, 0xff, 0xff, 0xff, 0xff
 	.byte 0xff, 0xff, 0xff, 0xff, 0xff, 0xff, 0xff, 0xff, 0xff, 0xff, 0xff, 0xff, 0xff, 0xff, 0xff, 0xff

@@ -693,20 +693,14 @@
 	je     2f
 	cmp    eax,0x1
 	jne    4f
-	cmp    rcx,0x14
-	ja     8f
 	lea    rdi,[rip + const_hex_constant_6]
 	mov    esi,0x14
 	jmp    const_hex_message_write_ended
 2:
-	cmp    rcx,0x15
-	ja     6f
 	lea    rdi,[rip + const_hex_constant_7]
 	mov    esi,0x15
 	jmp    const_hex_message_write_ended
 3:
-	cmp    rcx,0xd
-	ja     7f
 	lea    rdi,[rip + const_hex_constant_8]
 	mov    esi,0xd
 	jmp    const_hex_message_write_ended
@@ -725,13 +719,13 @@
 	cmp    eax,0x3
 	setne  al
 	or     al,sil
-	jne    9f
+	jne    6f
 	mov    r10,rdx
 	mov    rsi,QWORD PTR [rdi+0x8]
 	mov    r8d,0x3b
 	cmp    rsi,0xa
-	jb     14f
-	.byte 0x66, 0xf, 0x1f, 0x44, 0x0, 0x0  /* nop    WORD PTR [rax+rax*1+0x0] */
+	jb     7f
+	.byte 0x66, 0x66, 0x66, 0x2e, 0xf, 0x1f, 0x84, 0x0, 0x0, 0x0, 0x0, 0x0  /* data16 data16 cs nop WORD PTR [rax+rax*1+0x0] */
 5:
 	movabs rdx,0xcccccccccccccccd
 	mov    rax,rsi
@@ -747,66 +741,16 @@
 	cmp    rsi,0x63
 	mov    rsi,rdx
 	ja     5b
-	jmp    15f
+	jmp    8f
 6:
-	lea    rax,[rip + const_hex_constant_7]
-	mov    rcx,rdx
-	sub    rcx,rax
-	cmp    rcx,0x14
-	ja     12f
-	movaps xmm0,XMMWORD PTR [rip + const_hex_constant_9]
-	movups XMMWORD PTR [rdx],xmm0
-	mov    DWORD PTR [rdx+0x10],0x74676e65
-	mov    BYTE PTR [rdx+0x14],0x68
-	mov    BYTE PTR [rdx+0x15],0x0
-	mov    eax,0x15
-	ret
-7:
-	lea    rax,[rip + const_hex_constant_8]
-	mov    rcx,rdx
-	sub    rcx,rax
-	cmp    rcx,0xc
-	ja     13f
-	movabs rax,0x6d20666f2074756f
-	mov    QWORD PTR [rdx],rax
-	mov    DWORD PTR [rdx+0x8],0x726f6d65
-	mov    BYTE PTR [rdx+0xc],0x79
-	mov    BYTE PTR [rdx+0xd],0x0
-	mov    eax,0xd
-	ret
-8:
-	lea    rax,[rip + const_hex_constant_6]
-	mov    rcx,rdx
-	sub    rcx,rax
-	cmp    rcx,0x13
-	ja     17f
-	movaps xmm0,XMMWORD PTR [rip + const_hex_constant_10]
-	jmp    18f
-9:
 	lea    rdi,[rsp+0x3b]
 	xor    esi,esi
 	call   const_hex_message_write_ended
 	add    rsp,0x48
 	ret
-12:
-	movups xmm0,XMMWORD PTR [rip + const_hex_constant_7]
-	movups XMMWORD PTR [rdx],xmm0
-	movabs rax,0x6874676e656c2067
-	mov    QWORD PTR [rdx+0xd],rax
-	mov    BYTE PTR [rdx+0x15],0x0
-	mov    eax,0x15
-	ret
-13:
-	movabs rax,0x79726f6d656d2066
-	mov    QWORD PTR [rdx+0x5],rax
-	movabs rax,0x6d20666f2074756f
-	mov    QWORD PTR [rdx],rax
-	mov    BYTE PTR [rdx+0xd],0x0
-	mov    eax,0xd
-	ret
-14:
+7:
 	mov    rdx,rsi
-15:
+8:
 	or     dl,0x30
 	mov    BYTE PTR [rsp+r8*1-0x1],dl
 	movabs rax,0x736f702074612027
@@ -815,76 +759,68 @@
 	mov    QWORD PTR [rsp+r8*1-0x9],rax
 	movzx  eax,r9b
 	cmp    al,0x27
-	ja     19f
-	lea    rdx,[rip + const_hex_constant_11]
+	ja     12f
+	lea    rdx,[rip + const_hex_constant_9]
 	movsxd rsi,DWORD PTR [rdx+rax*4]
 	add    rsi,rdx
 	mov    rdx,r10
 	jmp    rsi
-16:
+9:
 	mov    WORD PTR [rsp+r8*1-0x11],0x305c
 	add    r8,0xffffffffffffffef
-	jmp    28f
-17:
-	movups xmm0,XMMWORD PTR [rip + const_hex_constant_6]
-18:
-	movups XMMWORD PTR [rdx],xmm0
-	mov    DWORD PTR [rdx+0x10],0x73746967
-	mov    BYTE PTR [rdx+0x14],0x0
-	mov    eax,0x14
-	ret
-19:
+	jmp    21f
+12:
 	cmp    eax,0x5c
 	mov    rdx,r10
-	je     22f
+	je     15f
 	cmp    eax,0xad
-	je     21f
-20:
+	je     14f
+13:
 	cmp    r9b,0x20
-	jae    29f
-21:
+	jae    22f
+14:
 	mov    edi,eax
 	and    edi,0xf
-	lea    rsi,[rip + const_hex_constant_12]
+	lea    rsi,[rip + const_hex_constant_10]
 	movzx  edi,BYTE PTR [rdi+rsi*1]
 	or     edi,0x7d00
 	mov    WORD PTR [rsp+r8*1-0x11],di
 	cmp    r9b,0x10
-	jae    26f
+	jae    19f
 	add    r8,0xffffffffffffffef
-	jmp    27f
-22:
+	jmp    20f
+15:
 	shl    r9d,0x8
 	or     r9d,0x5c
 	mov    WORD PTR [rsp+r8*1-0x11],r9w
 	add    r8,0xffffffffffffffef
-	jmp    28f
-23:
+	jmp    21f
+16:
 	mov    WORD PTR [rsp+r8*1-0x11],0x745c
 	add    r8,0xffffffffffffffef
-	jmp    28f
-24:
+	jmp    21f
+17:
 	mov    WORD PTR [rsp+r8*1-0x11],0x6e5c
 	add    r8,0xffffffffffffffef
-	jmp    28f
-25:
+	jmp    21f
+18:
 	mov    WORD PTR [rsp+r8*1-0x11],0x725c
 	add    r8,0xffffffffffffffef
-	jmp    28f
-26:
+	jmp    21f
+19:
 	shr    eax,0x4
 	movzx  eax,BYTE PTR [rax+rsi*1]
 	mov    BYTE PTR [rsp+r8*1-0x12],al
 	add    r8,0xffffffffffffffee
-27:
+20:
 	mov    rax,r8
 	add    r8,0xfffffffffffffffd
 	mov    BYTE PTR [rsp+rax*1-0x1],0x7b
 	mov    WORD PTR [rsp+rax*1-0x3],0x755c
-28:
+21:
 	lea    rdi,[rsp+r8*1]
 	add    rdi,0xffffffffffffffed
-	movups xmm0,XMMWORD PTR [rip + const_hex_constant_13]
+	movups xmm0,XMMWORD PTR [rip + const_hex_constant_11]
 	movups XMMWORD PTR [rsp+r8*1-0x13],xmm0
 	mov    DWORD PTR [rsp+r8*1-0x4],0x27207265
 	mov    esi,0x4e
@@ -892,15 +828,15 @@
 	call   const_hex_message_write_ended
 	add    rsp,0x48
 	ret
-29:
+22:
 	cmp    r9b,0x7e
-	ja     30f
+	ja     23f
 	mov    BYTE PTR [rsp+r8*1-0x10],r9b
 	add    r8,0xfffffffffffffff0
-	jmp    28b
-30:
+	jmp    21b
+23:
 	cmp    r9b,0xa1
-	jb     21b
+	jb     14b
 	mov    eax,r9d
 	shr    al,0x6
 	and    r9b,0xbf
@@ -911,50 +847,50 @@
 	add    eax,0xc0
 	mov    WORD PTR [rsp+r8*1-0x11],ax
 	add    r8,0xffffffffffffffef
-	jmp    28b
+	jmp    21b
 	end SYMBOL(const_hex_error_message)
 
-	constant const_hex_constant_11, 2
-	.long 16b - const_hex_constant_11
-	.long 20b - const_hex_constant_11
-	.long 20b - const_hex_constant_11
-	.long 20b - const_hex_constant_11
-	.long 20b - const_hex_constant_11
-	.long 20b - const_hex_constant_11
-	.long 20b - const_hex_constant_11
-	.long 20b - const_hex_constant_11
-	.long 20b - const_hex_constant_11
-	.long 23b - const_hex_constant_11
-	.long 24b - const_hex_constant_11
-	.long 20b - const_hex_constant_11
-	.long 20b - const_hex_constant_11
-	.long 25b - const_hex_constant_11
-	.long 20b - const_hex_constant_11
-	.long 20b - const_hex_constant_11
-	.long 20b - const_hex_constant_11
-	.long 20b - const_hex_constant_11
-	.long 20b - const_hex_constant_11
-	.long 20b - const_hex_constant_11
-	.long 20b - const_hex_constant_11
-	.long 20b - const_hex_constant_11
-	.long 20b - const_hex_constant_11
-	.long 20b - const_hex_constant_11
-	.long 20b - const_hex_constant_11
-	.long 20b - const_hex_constant_11
-	.long 20b - const_hex_constant_11
-	.long 20b - const_hex_constant_11
-	.long 20b - const_hex_constant_11
-	.long 20b - const_hex_constant_11
-	.long 20b - const_hex_constant_11
-	.long 20b - const_hex_constant_11
-	.long 20b - const_hex_constant_11
-	.long 20b - const_hex_constant_11
-	.long 20b - const_hex_constant_11
-	.long 20b - const_hex_constant_11
-	.long 20b - const_hex_constant_11
-	.long 20b - const_hex_constant_11
-	.long 20b - const_hex_constant_11
-	.long 22b - const_hex_constant_11
+	constant const_hex_constant_9, 2
+	.long 9b - const_hex_constant_9
+	.long 13b - const_hex_constant_9
+	.long 13b - const_hex_constant_9
+	.long 13b - const_hex_constant_9
+	.long 13b - const_hex_constant_9
+	.long 13b - const_hex_constant_9
+	.long 13b - const_hex_constant_9
+	.long 13b - const_hex_constant_9
+	.long 13b - const_hex_constant_9
+	.long 16b - const_hex_constant_9
+	.long 17b - const_hex_constant_9
+	.long 13b - const_hex_constant_9
+	.long 13b - const_hex_constant_9
+	.long 18b - const_hex_constant_9
+	.long 13b - const_hex_constant_9
+	.long 13b - const_hex_constant_9
+	.long 13b - const_hex_constant_9
+	.long 13b - const_hex_constant_9
+	.long 13b - const_hex_constant_9
+	.long 13b - const_hex_constant_9
+	.long 13b - const_hex_constant_9
+	.long 13b - const_hex_constant_9
+	.long 13b - const_hex_constant_9
+	.long 13b - const_hex_constant_9
+	.long 13b - const_hex_constant_9
+	.long 13b - const_hex_constant_9
+	.long 13b - const_hex_constant_9
+	.long 13b - const_hex_constant_9
+	.long 13b - const_hex_constant_9
+	.long 13b - const_hex_constant_9
+	.long 13b - const_hex_constant_9
+	.long 13b - const_hex_constant_9
+	.long 13b - const_hex_constant_9
+	.long 13b - const_hex_constant_9
+	.long 13b - const_hex_constant_9
+	.long 13b - const_hex_constant_9
+	.long 13b - const_hex_constant_9
+	.long 13b - const_hex_constant_9
+	.long 13b - const_hex_constant_9
+	.long 15b - const_hex_constant_9
 
 /* const_hex_c::const_hex_version */
 	exported SYMBOL(const_hex_version)
@@ -976,7 +912,7 @@
 	.byte 0x66, 0x66, 0x66, 0x2e, 0xf, 0x1f, 0x84, 0x0, 0x0, 0x0, 0x0, 0x0  /* data16 data16 cs nop WORD PTR [rax+rax*1+0x0] */
 3:
 	movzx  eax,BYTE PTR [rsi+rcx*1]
-	lea    r8,[rip + const_hex_constant_14]
+	lea    r8,[rip + const_hex_constant_12]
 	cmp    BYTE PTR [rax+r8*1],0xff
 	je     7f
 	inc    rcx
@@ -1000,7 +936,7 @@
 	.byte 0xf, 0x1f, 0x80, 0x0, 0x0, 0x0, 0x0  /* nop    DWORD PTR [rax+0x0] */
 6:
 	movzx  r9d,BYTE PTR [rsi+rcx*1]
-	lea    r10,[rip + const_hex_constant_14]
+	lea    r10,[rip + const_hex_constant_12]
 	movzx  r11d,BYTE PTR [rsi+rcx*1+0x1]
 	movzx  r11d,BYTE PTR [r11+r10*1]
 	movzx  ebx,BYTE PTR [rsi+rcx*1+0x2]
@@ -1113,7 +1049,7 @@
 	.byte 0x66, 0x66, 0x66, 0x2e, 0xf, 0x1f, 0x84, 0x0, 0x0, 0x0, 0x0, 0x0  /* data16 data16 cs nop WORD PTR [rax+rax*1+0x0] */
 2:
 	movzx  r10d,BYTE PTR [rcx+rax*1]
-	lea    r11,[rip + const_hex_constant_14]
+	lea    r11,[rip + const_hex_constant_12]
 	movzx  ebx,BYTE PTR [rcx+rax*1+0x1]
 	movzx  ebx,BYTE PTR [rbx+r11*1]
 	movzx  r14d,BYTE PTR [rcx+rax*1+0x2]
@@ -1132,7 +1068,7 @@
 	.byte 0x66, 0x66, 0x66, 0x66, 0x66, 0x66, 0x2e, 0xf, 0x1f, 0x84, 0x0, 0x0, 0x0, 0x0, 0x0  /* data16 data16 data16 data16 data16 cs nop WORD PTR [rax+rax*1+0x0] */
 4:
 	movzx  r9d,BYTE PTR [rcx+rax*1]
-	lea    r10,[rip + const_hex_constant_14]
+	lea    r10,[rip + const_hex_constant_12]
 	cmp    BYTE PTR [r9+r10*1],0xff
 	je     6f
 	inc    rax
@@ -1205,20 +1141,14 @@
 	constant const_hex_constant_8, 0
 	.byte 0x6f, 0x75, 0x74, 0x20, 0x6f, 0x66, 0x20, 0x6d, 0x65, 0x6d, 0x6f, 0x72, 0x79
 
-	constant const_hex_constant_9, 4
-	.byte 0x69, 0x6e, 0x76, 0x61, 0x6c, 0x69, 0x64, 0x20, 0x73, 0x74, 0x72, 0x69, 0x6e, 0x67, 0x20, 0x6c
-
 	constant const_hex_constant_10, 4
-	.byte 0x6f, 0x64, 0x64, 0x20, 0x6e, 0x75, 0x6d, 0x62, 0x65, 0x72, 0x20, 0x6f, 0x66, 0x20, 0x64, 0x69
-
-	constant const_hex_constant_12, 4
 	.byte 0x30, 0x31, 0x32, 0x33, 0x34, 0x35, 0x36, 0x37, 0x38, 0x39, 0x61, 0x62, 0x63, 0x64, 0x65, 0x66
 
-	constant const_hex_constant_13, 0
+	constant const_hex_constant_11, 0
 	.byte 0x69, 0x6e, 0x76, 0x61, 0x6c, 0x69, 0x64, 0x20, 0x63, 0x68, 0x61, 0x72, 0x61, 0x63, 0x74, 0x65
 	.byte 0x72, 0x20, 0x27
 
-	constant const_hex_constant_14, 0
+	constant const_hex_constant_12, 0
 	.byte 0xff, 0xff, 0xff, 0xff, 0xff, 0xff, 0xff, 0xff, 0xff, 0xff, 0xff, 0xff, 0xff, 0xff, 0xff, 0xff
 	.byte 0xff, 0xff, 0xff, 0xff, 0xff, 0xff, 0xff, 0xff, 0xff, 0xff, 0xff, 0xff, 0xff, 0xff, 0xff, 0xff
 	.byte 0xff, 0xff, 0xff, 0xff, 0xff, 0xff, 0xff, 0xff, 0xff, 0xff, 0xff, 0xff, 0xff, 0xff, 0xff, 0xff

@@ -150,6 +150,13 @@ class Text(Exported):
         """How many bytes the text decodes to."""
         return simple(z3.LShR(N - state.body, 1))
 
+    def fits_in(self, state):
+        """Whether the text has a length that is accepted, beside that it is even."""
+        return z3.BoolVal(True)
+
+    def rejects(self, state):
+        """What is written on failure beside the error: nothing."""
+
     def returns(self, state):
         result = state.result(8)
         if state.holds(result == 1):
@@ -179,14 +186,8 @@ class Check(Text):
 
     function, regions, arguments = "check", (TEXT, ERROR), (base("input"), N, base("error"))
 
-    def fits_in(self, state):
-        return z3.BoolVal(True)
-
     def accepts(self, state):
         must_be_unchanged(state, "error")
-
-    def rejects(self, state):
-        """Beside the error, nothing is written."""
 
 
 class DecodeExact(Text):
@@ -209,9 +210,6 @@ class DecodeExact(Text):
         must_cover(state, word(0), self.count(state), state.writes, "a byte is left out")
         must_be_unchanged(state, "error")
 
-    def rejects(self, state):
-        """Beside the error, nothing is written."""
-
 
 class Decode(DecodeExact):
     """decode(text, length, bytes, bytes_size, written, error): the same, in a buffer that may be larger."""
@@ -228,9 +226,6 @@ class Decode(DecodeExact):
 
     def rejects(self, state):
         must_be(state, "written", 0, 8, 0)
-
-
-DECODER = Region("decoder", word(16), 8)
 
 
 class DecoderFinish(Exported):

@@ -2,6 +2,7 @@
 
 import os
 import random
+import signal
 import unittest
 
 from proof import dispatch
@@ -264,7 +265,13 @@ add_tests(TestMutations, TestMutations.refuse, MUTATIONS)
 # Random bits, so many for each build: these lengths of two forms of a call are enough for most of them.
 SEED = int(os.environ.get("CONST_HEX_SEED", random.getrandbits(32)))
 FLIPS = int(os.environ.get("CONST_HEX_FLIPS", 10))
+# Without an answer by then it is refused: changed code may have so many paths that memory does not suffice.
+MOST_SECONDS = 60
 LENGTHS = {0, 1, 2, 3, 5, 6, 9, 14, 16, 17, 20, 30, 32, 34, 40, 47, 64, 66, 100, 129, 150, 151, 222, 240}
+
+
+def stop(*_):
+    raise Refused("no answer")
 
 
 class TestFlips(unittest.TestCase):
@@ -281,10 +288,13 @@ class TestFlips(unittest.TestCase):
             self.assertIsNone(refusal(base, build, call, parts))
             for _ in range(FLIPS // 2):
                 code, address, *texts = flipped(build, some, base)
+                signal.alarm(MOST_SECONDS)
                 if refusal(code, build, call, parts) is None:
                     yield f"{build} {base.object.name_at(address)}: {' -> '.join(map(str, texts))}"
 
     def test_single_bits(self):
+        signal.signal(signal.SIGALRM, stop)
+        self.addCleanup(signal.alarm, 0)
         builds = [C, "rust_v2", "rust_v3", *[ARM_C] * HAS_AARCH64, *[WASM] * HAS_MODULE]
         accepted = [flip for build in builds for flip in self.accepted(build)]
         print(f"CONST_HEX_SEED={SEED}, {len(accepted)} are accepted", *accepted, sep="\n    ")

@@ -85,7 +85,7 @@ use crate::proved::codec::{checks, decoders};
 #[cfg(feature = "alloc")]
 use crate::{
     proved::codec::body::{find_invalid_character, strip_even},
-    proved::{codec::encoders, FixedKernel},
+    proved::{text_length, FixedKernel},
     std_shim::alloc::Global,
 };
 #[cfg(feature = "alloc")]
@@ -177,8 +177,9 @@ encoders! {
 #[cfg(feature = "alloc")]
 #[inline(always)]
 fn owned(data: &[u8], prefix: bool, upper: bool) -> String {
-    let text = encoders::encode_owned::<FixedKernel>(Global, data, prefix, upper);
-    text.unwrap_or_else(|error| error.never()).0
+    let mut text = String::with_capacity(text_length(prefix, data.len()));
+    append(data, prefix, upper, &mut text);
+    text
 }
 
 /// Appends the text of bytes to a string.

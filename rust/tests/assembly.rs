@@ -16,13 +16,13 @@ macro_rules! sums {
 #[test]
 fn the_assembly_is_unchanged() {
     for (file, found, wanted) in sums! {
-        "aarch64.s" 0xf3c2_7dc1_11c7_a5d8
+        "aarch64.s" 0x62d5_d5f4_6f30_9433
         "coff.s" 0x5b84_25b7_b0d1_360b
         "elf.s" 0xd057_d416_4c97_a972
         "end.s" 0x98e7_fc1e_20c1_9e86
         "mach_o.s" 0x8d5a_52d3_2515_a02d
-        "x86_64_v2.s" 0xe0b9_a966_c195_7abd
-        "x86_64_v3.s" 0xb3e6_802f_62fe_a7cd
+        "x86_64_v2.s" 0x94fe_de19_e200_ef0c
+        "x86_64_v3.s" 0xb7cf_d860_3e7a_bde3
     } {
         assert_eq!(found, wanted, "{file}: {found:#x}");
     }

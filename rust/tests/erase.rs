@@ -102,7 +102,7 @@ fn what_each_rule_changes() {
         ("stream", "use crate::sink::Sink;\nuse const_hex_arch::Kernel;", Ok("use crate::proved::sink::Sink;\nuse crate::proved::Kernel;")),
         ("sink", "use std::fmt;", Ok("use crate::std_shim::fmt;")),
         ("arch", "pub type FixedKernel = Lanes32;", Ok("pub type FixedKernel = crate::kernel::Native;")),
-        ("codec/encoders", "use crate::owned::encode_to_vec;\n\nfn f<K>() {\n    encode_to_vec::<K>();\n}", Ok("#[cfg(feature = \"alloc\")]\nuse crate::kernel::encode_to_vec;\n\nfn f<K>() {\n    encode_to_vec();\n}")),
+        ("codec/decoders", "use crate::owned::decode_to_vec;\n\nfn f<K>() {\n    decode_to_vec::<K>();\n}", Ok("#[cfg(feature = \"alloc\")]\nuse crate::kernel::decode_to_vec;\n\nfn f<K>() {\n    decode_to_vec();\n}")),
         ("error", "fn fmt<W: fmt::Write>(f: &mut fmt::Formatter<W>) {}\n\nfn g() {\n    fmt::<W, 8>(f);\n}", Ok("fn fmt<'w>(f: &mut fmt::Formatter<'w>) {}\n\nfn g() {\n    fmt::<8>(f);\n}")),
         ("sink", "struct S<T: Drop>(T);", Ok("struct S<T>(T);")),
         ("error", "enum FromHexError {\n    OddLength,\n    NoMemory,\n}", Ok("enum FromHexError {\n    OddLength,\n}")),

@@ -22,20 +22,20 @@ pub use crate::codec::decoders::{
     decode_to_front_with, decode_to_slice, decode_to_slice_with, decode_with,
 };
 pub use crate::codec::encoders::{
-    encode, encode_full_to_slice, encode_full_to_slice_with, encode_prefixed, encode_to_slice,
-    encode_to_slice_upper, encode_to_str, encode_to_str_upper, encode_upper, encode_upper_prefixed,
-    encode_with,
+    encode_full_to_slice, encode_full_to_slice_with, encode_to_slice, encode_to_slice_upper,
+    encode_to_str, encode_to_str_upper,
 };
 pub use crate::error::FromHexError;
 pub use crate::formatting::display;
 pub use crate::formatting::sink::FormatterSink;
 pub use crate::formatting::text::Display;
+pub use crate::owned::{encode, encode_prefixed, encode_upper, encode_upper_prefixed, encode_with};
 pub use crate::serde::{JsonError, deserialize, serialize, serialize_inner, serialize_upper};
 pub use crate::traits::{BytesToHexChars, FromHex, HexFault, ToHex, ToHexExt};
 pub use crate::write_sink::WriteSink;
 pub use const_hex_arch::{
-    Arithmetic16, BufferedHex, BufferedOutput, CheckFirst, FixedKernel, HEX_CHARS_LOWER,
-    HEX_CHARS_UPPER, HEX_DECODE_LUT, Kernel, Lanes16, Lanes32, NIL, Output, PieceSink, Plain, Sink,
-    SinkError, SinkOutput, SliceOutput, ascii_text, digit_at, encode_full, fill_text, lanes16,
-    lanes32, text_length, value_at,
+    BufferedHex, BufferedOutput, CheckFirst, FixedKernel, HEX_CHARS_LOWER, HEX_CHARS_UPPER,
+    HEX_DECODE_LUT, Kernel, Lanes16, Lanes32, NIL, Output, PieceSink, Plain, Sink, SinkError,
+    SinkOutput, SliceOutput, ascii_text, digit_at, encode_full, fill_text, lanes16, lanes32,
+    text_length, value_at,
 };

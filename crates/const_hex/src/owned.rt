@@ -1,27 +1,104 @@
 //! Owned text and owned bytes, over zeros that are filled.
 
-ghost use Rattle.std.specs.Prelude.{◌≡◌, length, IfOk, IfSome, IsNone};
+ghost use Rattle.std.specs.Prelude.{◌≡◌, true, false, length, IfOk, IfSome, IsNone, string_bytes};
 ghost use Rattle.const_hex_arch.specs.Texts.{AllDigits, Spells, full_text};
-ghost use Rattle.const_hex.specs.Results.{IsEven};
+ghost use Rattle.const_hex.specs.Results.{Encodes, IsEven};
 
 use crate::codec::body::decode_body;
-use const_hex_arch::{Kernel, fill_text, text_length};
+use const_hex_arch::{FixedKernel, Kernel, fill_text, text_length};
 use std::alloc::{AllocError, Global};
 
-/// The bytes of the text, with `0x` before it if `prefix` is true. Allocates once, for exactly the
-/// text; for no text, not at all.
+/// The text, with `0x` before it if `prefix` is true. Allocates once, for exactly the text; for no text,
+/// not at all.
 #[inline(always)]
-pub(crate) fn encode_to_vec<K: Kernel>(
+pub(crate) fn encode_owned<K: Kernel>(
     alloc: Global,
     input: &[u8],
     prefix: bool,
     upper: bool,
-) -> Result<Vec<u8>, AllocError>
-    ensures { IfOk result (λ v. v.items ≡ full_text prefix upper input.now) }
+) -> Result<String, AllocError>
+    ensures { IfOk result (λ s. string_bytes s ≡ full_text prefix upper input.now) }
 {
     let mut text = vec![in alloc; 0u8; text_length(prefix, input.len())]?;
     fill_text::<K>(input, prefix, upper, &mut text);
-    Ok(text)
+    // SAFETY: the text is ASCII.
+    Ok(unsafe { String::from_utf8_unchecked(text) })
+}
+
+/// Two digits for each byte, in order, in lowercase.
+///
+/// Returns `AllocError` if memory cannot be allocated.
+///
+/// ```rust
+/// let text = const_hex::encode(rt.alloc(), b"Hello world!")?;
+/// assert_eq!(rt; text.as_str(), "48656c6c6f20776f726c6421");
+/// ```
+#[tactic(auto, using(const_hex_arch::proofs::lemmas::Texts::texts))]
+pub fn encode(alloc: Global, input: &[u8]) -> Result<String, AllocError>
+    ensures { Encodes false input.now result }
+{
+    encode_owned::<FixedKernel>(alloc, input, false, false)
+}
+
+/// As [`encode`], in uppercase.
+///
+/// Returns `AllocError` if memory cannot be allocated.
+///
+/// ```rust
+/// let text = const_hex::encode_upper(rt.alloc(), b"kiwi")?;
+/// assert_eq!(rt; text.as_str(), "6B697769");
+/// ```
+#[tactic(auto, using(const_hex_arch::proofs::lemmas::Texts::texts))]
+pub fn encode_upper(alloc: Global, input: &[u8]) -> Result<String, AllocError>
+    ensures { Encodes true input.now result }
+{
+    encode_owned::<FixedKernel>(alloc, input, false, true)
+}
+
+/// `0x`, and then the text of [`encode`].
+///
+/// Returns `AllocError` if memory cannot be allocated.
+///
+/// ```rust
+/// let text = const_hex::encode_prefixed(rt.alloc(), b"kiwi")?;
+/// assert_eq!(rt; text.as_str(), "0x6b697769");
+/// ```
+pub fn encode_prefixed(alloc: Global, input: &[u8]) -> Result<String, AllocError>
+    ensures { IfOk result (λ s. string_bytes s ≡ full_text true false input.now) }
+{
+    encode_owned::<FixedKernel>(alloc, input, true, false)
+}
+
+/// `0x`, and then the text of [`encode_upper`].
+///
+/// Returns `AllocError` if memory cannot be allocated.
+///
+/// ```rust
+/// let text = const_hex::encode_upper_prefixed(rt.alloc(), b"kiwi")?;
+/// assert_eq!(rt; text.as_str(), "0x6B697769");
+/// ```
+pub fn encode_upper_prefixed(alloc: Global, input: &[u8]) -> Result<String, AllocError>
+    ensures { IfOk result (λ s. string_bytes s ≡ full_text true true input.now) }
+{
+    encode_owned::<FixedKernel>(alloc, input, true, true)
+}
+
+/// As [`encode`] or [`encode_upper`], by a kernel of the caller's choice.
+///
+/// Returns `AllocError` if memory cannot be allocated.
+///
+/// ```rust
+/// let text = const_hex::encode_with::<Plain, true>(rt.alloc(), b"kiwi")?;
+/// assert_eq!(rt; text.as_str(), "6B697769");
+/// ```
+#[inline]
+pub fn encode_with<K: Kernel, const UPPER: bool>(
+    alloc: Global,
+    input: &[u8],
+) -> Result<String, AllocError>
+    ensures { Encodes UPPER input.now result }
+{
+    encode_owned::<K>(alloc, input, false, UPPER)
 }
 
 /// Decodes digits to a vector, or returns `None` if some byte is not a digit. Allocates once, for

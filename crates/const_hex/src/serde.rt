@@ -15,7 +15,7 @@ mod error;
 mod inner;
 pub mod no_prefix;
 
-use crate::codec::encoders::{encode_prefixed, encode_upper_prefixed};
+use crate::owned::{encode_prefixed, encode_upper_prefixed};
 pub use crate::serde::error::JsonError;
 pub use crate::serde::inner::serialize_inner;
 use crate::traits::FromHex;

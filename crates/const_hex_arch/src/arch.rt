@@ -5,7 +5,6 @@ ghost use Rattle.std.specs.Str.{IsAscii};
 ghost use Rattle.const_hex_arch.specs.Outputs.{HasSpace, Writes};
 ghost use Rattle.const_hex_arch.specs.Texts.{hex_text, AllDigits, Spells, Partial};
 
-pub mod arithmetic16;
 pub mod check_first;
 mod lanes;
 pub mod lanes16;

@@ -12,7 +12,6 @@ pub mod stream;
 pub mod tables;
 pub mod text;
 
-pub use crate::arch::arithmetic16::Arithmetic16;
 pub use crate::arch::check_first::CheckFirst;
 pub use crate::arch::lanes16::Lanes16;
 pub use crate::arch::lanes32::Lanes32;

@@ -29,7 +29,7 @@ pub use crate::error::HexError;
 use crate::error::{INVALID_LENGTH, NO_MEMORY, ODD_LENGTH};
 use crate::flags::{are_flags, clear, end_text, has_prefix, is_upper, length_of, size_beside};
 use crate::kernel::Called;
-use crate::message::{LONGEST, write_ended, write_known};
+use crate::message::{LONGEST, write_ended};
 use const_hex::{Decoder, Kernel};
 
 /// Returns the size of the buffer that [`const_hex_encode`] needs: the text, and a NUL unless the flags
@@ -312,9 +312,9 @@ pub extern "C" fn const_hex_error_message(error: &HexError, message: &mut [u8]) 
     ensures rest { drop (result + 1) message.new ≡ drop (result + 1) message.old }
 {
     match error.kind {
-        ODD_LENGTH => write_known(b"odd number of digits", message),
-        INVALID_LENGTH => write_known(b"invalid string length", message),
-        NO_MEMORY => write_known(b"out of memory", message),
+        ODD_LENGTH => write_ended(b"odd number of digits", message),
+        INVALID_LENGTH => write_ended(b"invalid string length", message),
+        NO_MEMORY => write_ended(b"out of memory", message),
         _ => {
             let mut space = [0; LONGEST];
             write_ended(error.character_message(&mut space), message)

@@ -36,16 +36,12 @@ macro_rules! by_each_kernel {
                 $crate::KernelCase::new("Plain", 0, false)),
             $call::<const_hex::Lanes16 $($(, $more)*)?>($($argument,)*
                 $crate::KernelCase::new("Lanes16", 1, false)),
-            $call::<const_hex::Arithmetic16 $($(, $more)*)?>($($argument,)*
-                $crate::KernelCase::new("Arithmetic16", 1, false)),
             $call::<const_hex::Lanes32 $($(, $more)*)?>($($argument,)*
                 $crate::KernelCase::new("Lanes32", 2, false)),
             $call::<const_hex::CheckFirst<const_hex::Plain> $($(, $more)*)?>($($argument,)*
                 $crate::KernelCase::new("CheckFirst<Plain>", 0, true)),
             $call::<const_hex::CheckFirst<const_hex::Lanes16> $($(, $more)*)?>($($argument,)*
                 $crate::KernelCase::new("CheckFirst<Lanes16>", 1, true)),
-            $call::<const_hex::CheckFirst<const_hex::Arithmetic16> $($(, $more)*)?>($($argument,)*
-                $crate::KernelCase::new("CheckFirst<Arithmetic16>", 1, true)),
             $call::<const_hex::CheckFirst<const_hex::Lanes32> $($(, $more)*)?>($($argument,)*
                 $crate::KernelCase::new("CheckFirst<Lanes32>", 2, true)),
         ]
@@ -53,7 +49,7 @@ macro_rules! by_each_kernel {
 }
 
 /// The first error of some calls, if there is one.
-pub fn all_done(calls: [Result<(), AllocError>; 8]) -> Result<(), AllocError> {
+pub fn all_done(calls: [Result<(), AllocError>; 6]) -> Result<(), AllocError> {
     for done in calls {
         done?;
     }

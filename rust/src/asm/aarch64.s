@@ -26,50 +26,50 @@
 	add x9, x9, #0x80
 3:
 	movi v0.16b, #0x8f
-	ldp q2, q1, [x11, #-64]
-	ldp q4, q3, [x11, #-32]
-	movi v6.16b, #0xd0
+	ldp q1, q2, [x11, #-64]
+	ldp q3, q4, [x11, #-32]
+	movi v5.16b, #0xd0
 	ldp q16, q7, [x11]
-	ldr_label q5, x8, const_hex_1_0_0_constant_1
-	ldp q18, q17, [x11, #32]
-	and v19.16b, v2.16b, v0.16b
-	and v20.16b, v1.16b, v0.16b
-	and v21.16b, v4.16b, v0.16b
-	and v22.16b, v3.16b, v0.16b
+	ldr_label q6, x8, const_hex_1_0_0_constant_1
+	ldp q17, q18, [x11, #32]
+	and v19.16b, v1.16b, v0.16b
+	and v20.16b, v2.16b, v0.16b
+	and v21.16b, v3.16b, v0.16b
+	and v22.16b, v4.16b, v0.16b
 	and v23.16b, v16.16b, v0.16b
 	and v24.16b, v7.16b, v0.16b
-	and v25.16b, v18.16b, v0.16b
-	and v0.16b, v17.16b, v0.16b
-	add v1.16b, v1.16b, v6.16b
-	tbl v19.16b, {v5.16b}, v19.16b
-	tbl v20.16b, {v5.16b}, v20.16b
-	tbl v21.16b, {v5.16b}, v21.16b
-	tbl v22.16b, {v5.16b}, v22.16b
-	tbl v23.16b, {v5.16b}, v23.16b
-	tbl v24.16b, {v5.16b}, v24.16b
-	tbl v25.16b, {v5.16b}, v25.16b
-	tbl v0.16b, {v5.16b}, v0.16b
-	add v2.16b, v2.16b, v6.16b
-	add v3.16b, v3.16b, v6.16b
-	add v4.16b, v4.16b, v6.16b
-	add v5.16b, v7.16b, v6.16b
-	add v7.16b, v16.16b, v6.16b
-	add v16.16b, v17.16b, v6.16b
-	add v6.16b, v18.16b, v6.16b
-	uqsub v2.16b, v2.16b, v19.16b
-	uqsub v1.16b, v1.16b, v20.16b
-	uqsub v4.16b, v4.16b, v21.16b
-	uqsub v3.16b, v3.16b, v22.16b
-	uqsub v5.16b, v5.16b, v24.16b
+	and v25.16b, v17.16b, v0.16b
+	and v0.16b, v18.16b, v0.16b
+	add v2.16b, v2.16b, v5.16b
+	tbl v19.16b, {v6.16b}, v19.16b
+	tbl v20.16b, {v6.16b}, v20.16b
+	tbl v21.16b, {v6.16b}, v21.16b
+	tbl v22.16b, {v6.16b}, v22.16b
+	tbl v23.16b, {v6.16b}, v23.16b
+	tbl v24.16b, {v6.16b}, v24.16b
+	tbl v25.16b, {v6.16b}, v25.16b
+	tbl v0.16b, {v6.16b}, v0.16b
+	add v1.16b, v1.16b, v5.16b
+	add v4.16b, v4.16b, v5.16b
+	add v3.16b, v3.16b, v5.16b
+	add v6.16b, v7.16b, v5.16b
+	add v7.16b, v16.16b, v5.16b
+	add v16.16b, v18.16b, v5.16b
+	add v5.16b, v17.16b, v5.16b
+	uqsub v1.16b, v1.16b, v19.16b
+	uqsub v2.16b, v2.16b, v20.16b
+	uqsub v3.16b, v3.16b, v21.16b
+	uqsub v4.16b, v4.16b, v22.16b
+	uqsub v6.16b, v6.16b, v24.16b
 	uqsub v7.16b, v7.16b, v23.16b
-	uqsub v6.16b, v6.16b, v25.16b
+	uqsub v5.16b, v5.16b, v25.16b
 	uqsub v0.16b, v16.16b, v0.16b
-	orr v1.16b, v3.16b, v1.16b
 	orr v2.16b, v4.16b, v2.16b
-	orr v0.16b, v5.16b, v0.16b
-	orr v3.16b, v7.16b, v6.16b
-	orr v0.16b, v1.16b, v0.16b
-	orr v1.16b, v2.16b, v3.16b
+	orr v1.16b, v3.16b, v1.16b
+	orr v0.16b, v6.16b, v0.16b
+	orr v3.16b, v7.16b, v5.16b
+	orr v0.16b, v2.16b, v0.16b
+	orr v1.16b, v1.16b, v3.16b
 	movi v2.16b, #0xd8
 	orr v0.16b, v1.16b, v0.16b
 	and v0.16b, v0.16b, v2.16b
@@ -92,27 +92,27 @@
 	movi v0.16b, #0x8f
 	add x10, x0, x9
 	movi v5.16b, #0xd0
-	ldp q2, q1, [x10]
+	ldp q1, q2, [x10]
 	ldr_label q16, x8, const_hex_1_0_0_constant_1
-	ldp q4, q3, [x10, #32]
-	and v6.16b, v2.16b, v0.16b
-	and v7.16b, v1.16b, v0.16b
-	add v2.16b, v2.16b, v5.16b
-	and v17.16b, v4.16b, v0.16b
-	and v0.16b, v3.16b, v0.16b
+	ldp q3, q4, [x10, #32]
+	and v6.16b, v1.16b, v0.16b
+	and v7.16b, v2.16b, v0.16b
 	add v1.16b, v1.16b, v5.16b
-	add v3.16b, v3.16b, v5.16b
+	and v17.16b, v3.16b, v0.16b
+	and v0.16b, v4.16b, v0.16b
+	add v2.16b, v2.16b, v5.16b
 	add v4.16b, v4.16b, v5.16b
+	add v3.16b, v3.16b, v5.16b
 	tbl v6.16b, {v16.16b}, v6.16b
 	tbl v7.16b, {v16.16b}, v7.16b
 	tbl v17.16b, {v16.16b}, v17.16b
 	tbl v0.16b, {v16.16b}, v0.16b
-	uqsub v2.16b, v2.16b, v6.16b
-	uqsub v1.16b, v1.16b, v7.16b
-	uqsub v4.16b, v4.16b, v17.16b
-	uqsub v0.16b, v3.16b, v0.16b
-	orr v0.16b, v0.16b, v1.16b
-	orr v1.16b, v4.16b, v2.16b
+	uqsub v1.16b, v1.16b, v6.16b
+	uqsub v2.16b, v2.16b, v7.16b
+	uqsub v3.16b, v3.16b, v17.16b
+	uqsub v0.16b, v4.16b, v0.16b
+	orr v0.16b, v0.16b, v2.16b
+	orr v1.16b, v3.16b, v1.16b
 	movi v2.16b, #0xd8
 	orr v0.16b, v1.16b, v0.16b
 	and v0.16b, v0.16b, v2.16b
@@ -134,8 +134,8 @@
 	add x8, x0, x1
 	b.ne 13f
 	ldur q1, [x8, #-16]
-	adrp_label x8, const_hex_1_0_0_constant_1
 	movi v2.16b, #0xd0
+	adrp_label x8, const_hex_1_0_0_constant_1
 	ldr_label q3, x8, const_hex_1_0_0_constant_1
 	and v0.16b, v1.16b, v0.16b
 	add v1.16b, v1.16b, v2.16b
@@ -154,28 +154,28 @@
 	b.cc 15f
 9:
 	add x9, x0, x9
-	ldp q4, q3, [x10, #-32]
-	ldp q2, q1, [x9]
+	ldp q3, q4, [x10, #-32]
+	ldp q1, q2, [x9]
 	movi v5.16b, #0xd0
 	ldr_label q16, x8, const_hex_1_0_0_constant_1
-	and v17.16b, v4.16b, v0.16b
-	and v6.16b, v2.16b, v0.16b
-	and v7.16b, v1.16b, v0.16b
-	and v0.16b, v3.16b, v0.16b
-	add v2.16b, v2.16b, v5.16b
+	and v17.16b, v3.16b, v0.16b
+	and v6.16b, v1.16b, v0.16b
+	and v7.16b, v2.16b, v0.16b
+	and v0.16b, v4.16b, v0.16b
 	add v1.16b, v1.16b, v5.16b
-	add v3.16b, v3.16b, v5.16b
-	tbl v17.16b, {v16.16b}, v17.16b
+	add v2.16b, v2.16b, v5.16b
 	add v4.16b, v4.16b, v5.16b
+	tbl v17.16b, {v16.16b}, v17.16b
+	add v3.16b, v3.16b, v5.16b
 	tbl v6.16b, {v16.16b}, v6.16b
 	tbl v7.16b, {v16.16b}, v7.16b
 	tbl v0.16b, {v16.16b}, v0.16b
-	uqsub v4.16b, v4.16b, v17.16b
-	uqsub v2.16b, v2.16b, v6.16b
-	uqsub v1.16b, v1.16b, v7.16b
-	uqsub v0.16b, v3.16b, v0.16b
-	orr v0.16b, v0.16b, v1.16b
-	orr v1.16b, v4.16b, v2.16b
+	uqsub v3.16b, v3.16b, v17.16b
+	uqsub v1.16b, v1.16b, v6.16b
+	uqsub v2.16b, v2.16b, v7.16b
+	uqsub v0.16b, v4.16b, v0.16b
+	orr v0.16b, v0.16b, v2.16b
+	orr v1.16b, v3.16b, v1.16b
 	b 16f
 12:
 	cmp x1, #0x4
@@ -189,16 +189,16 @@
 13:
 	ldr q1, [x0]
 	ldur q2, [x8, #-16]
+	movi v3.16b, #0xd0
 	adrp_label x8, const_hex_1_0_0_constant_1
-	movi v4.16b, #0xd0
-	ldr_label q5, x8, const_hex_1_0_0_constant_1
-	and v3.16b, v1.16b, v0.16b
+	and v4.16b, v1.16b, v0.16b
 	and v0.16b, v2.16b, v0.16b
-	tbl v3.16b, {v5.16b}, v3.16b
+	ldr_label q5, x8, const_hex_1_0_0_constant_1
+	add v1.16b, v1.16b, v3.16b
+	add v2.16b, v2.16b, v3.16b
+	tbl v4.16b, {v5.16b}, v4.16b
 	tbl v0.16b, {v5.16b}, v0.16b
-	add v1.16b, v1.16b, v4.16b
-	add v2.16b, v2.16b, v4.16b
-	uqsub v1.16b, v1.16b, v3.16b
+	uqsub v1.16b, v1.16b, v4.16b
 	uqsub v0.16b, v2.16b, v0.16b
 	movi v2.16b, #0xd8
 	orr v0.16b, v0.16b, v1.16b
@@ -212,16 +212,16 @@
 	b.cs 9b
 15:
 	ldp q2, q1, [x10, #-32]
-	movi v4.16b, #0xd0
+	movi v3.16b, #0xd0
 	ldr_label q5, x8, const_hex_1_0_0_constant_1
-	and v3.16b, v2.16b, v0.16b
+	and v4.16b, v2.16b, v0.16b
 	and v0.16b, v1.16b, v0.16b
-	add v2.16b, v2.16b, v4.16b
-	add v1.16b, v1.16b, v4.16b
-	tbl v3.16b, {v5.16b}, v3.16b
+	add v2.16b, v2.16b, v3.16b
+	add v1.16b, v1.16b, v3.16b
+	tbl v4.16b, {v5.16b}, v4.16b
 	tbl v0.16b, {v5.16b}, v0.16b
 	uqsub v0.16b, v1.16b, v0.16b
-	uqsub v1.16b, v2.16b, v3.16b
+	uqsub v1.16b, v2.16b, v4.16b
 16:
 	movi v2.16b, #0xd8
 	orr v0.16b, v1.16b, v0.16b
@@ -237,9 +237,9 @@
 	sub x8, x0, #0x2
 	ld1 {v0.h}[1], [x8]
 19:
+	movi v2.16b, #0xd0
 	and v1.16b, v0.16b, v1.16b
 	adrp_label x8, const_hex_1_0_0_constant_1
-	movi v2.16b, #0xd0
 	ldr_label q3, x8, const_hex_1_0_0_constant_1
 	tbl v1.16b, {v3.16b}, v1.16b
 	add v0.16b, v0.16b, v2.16b
@@ -613,61 +613,61 @@
 	add x12, x0, #0x40
 	mov x13, x3
 3:
-	movi v0.16b, #0x8f
-	movi v1.16b, #0xd0
+	movi v0.16b, #0xd0
+	movi v1.16b, #0x8f
 	ldr_label q6, x9, const_hex_1_0_0_constant_1
 	ldp q3, q2, [x12, #-64]
 	ldp q5, q4, [x12, #-32]
-	ldp q16, q7, [x12]
+	ldp q7, q16, [x12]
 	ldp q18, q17, [x12, #32]
-	and v19.16b, v3.16b, v0.16b
-	and v20.16b, v2.16b, v0.16b
-	add v21.16b, v3.16b, v1.16b
-	add v22.16b, v2.16b, v1.16b
-	and v2.16b, v5.16b, v0.16b
-	and v3.16b, v4.16b, v0.16b
-	and v23.16b, v16.16b, v0.16b
-	and v24.16b, v7.16b, v0.16b
-	and v25.16b, v18.16b, v0.16b
-	and v0.16b, v17.16b, v0.16b
-	tbl v19.16b, {v6.16b}, v19.16b
-	tbl v20.16b, {v6.16b}, v20.16b
-	add v27.16b, v5.16b, v1.16b
-	tbl v26.16b, {v6.16b}, v2.16b
-	add v28.16b, v4.16b, v1.16b
-	tbl v4.16b, {v6.16b}, v3.16b
-	tbl v5.16b, {v6.16b}, v23.16b
-	tbl v23.16b, {v6.16b}, v24.16b
-	tbl v25.16b, {v6.16b}, v25.16b
-	tbl v29.16b, {v6.16b}, v0.16b
-	add v24.16b, v7.16b, v1.16b
-	add v16.16b, v16.16b, v1.16b
-	add v18.16b, v18.16b, v1.16b
-	add v17.16b, v17.16b, v1.16b
-	umin v3.16b, v22.16b, v20.16b
-	umin v2.16b, v21.16b, v19.16b
-	umin v7.16b, v28.16b, v4.16b
-	umin v6.16b, v27.16b, v26.16b
-	umin v1.16b, v24.16b, v23.16b
-	umin v0.16b, v16.16b, v5.16b
-	umin v5.16b, v17.16b, v29.16b
-	umin v4.16b, v18.16b, v25.16b
-	sub v20.16b, v22.16b, v3.16b
-	sub v19.16b, v21.16b, v2.16b
-	sub v21.16b, v27.16b, v6.16b
-	sub v22.16b, v28.16b, v7.16b
-	sub v23.16b, v24.16b, v1.16b
-	sub v16.16b, v16.16b, v0.16b
+	add v19.16b, v3.16b, v0.16b
+	add v20.16b, v2.16b, v0.16b
+	and v3.16b, v3.16b, v1.16b
+	and v2.16b, v2.16b, v1.16b
+	add v21.16b, v5.16b, v0.16b
+	and v5.16b, v5.16b, v1.16b
+	and v22.16b, v4.16b, v1.16b
+	and v23.16b, v7.16b, v1.16b
+	and v24.16b, v16.16b, v1.16b
+	and v25.16b, v18.16b, v1.16b
+	and v1.16b, v17.16b, v1.16b
+	tbl v26.16b, {v6.16b}, v3.16b
+	tbl v2.16b, {v6.16b}, v2.16b
+	add v27.16b, v4.16b, v0.16b
+	tbl v4.16b, {v6.16b}, v5.16b
+	tbl v5.16b, {v6.16b}, v22.16b
+	tbl v22.16b, {v6.16b}, v24.16b
+	tbl v23.16b, {v6.16b}, v23.16b
+	tbl v24.16b, {v6.16b}, v25.16b
+	tbl v25.16b, {v6.16b}, v1.16b
+	add v16.16b, v16.16b, v0.16b
+	add v28.16b, v7.16b, v0.16b
+	add v18.16b, v18.16b, v0.16b
+	add v17.16b, v17.16b, v0.16b
+	umin v3.16b, v20.16b, v2.16b
+	umin v2.16b, v19.16b, v26.16b
+	umin v7.16b, v27.16b, v5.16b
+	umin v6.16b, v21.16b, v4.16b
+	umin v1.16b, v16.16b, v22.16b
+	umin v0.16b, v28.16b, v23.16b
+	umin v5.16b, v17.16b, v25.16b
+	umin v4.16b, v18.16b, v24.16b
+	sub v20.16b, v20.16b, v3.16b
+	sub v19.16b, v19.16b, v2.16b
+	sub v21.16b, v21.16b, v6.16b
+	sub v22.16b, v27.16b, v7.16b
+	sub v16.16b, v16.16b, v1.16b
+	sub v23.16b, v28.16b, v0.16b
 	sub v18.16b, v18.16b, v4.16b
 	sub v17.16b, v17.16b, v5.16b
 	orr v20.16b, v22.16b, v20.16b
 	orr v19.16b, v21.16b, v19.16b
-	orr v17.16b, v23.16b, v17.16b
-	orr v16.16b, v16.16b, v18.16b
-	movi v18.16b, #0xd8
-	orr v17.16b, v20.16b, v17.16b
-	orr v16.16b, v19.16b, v16.16b
 	orr v16.16b, v16.16b, v17.16b
+	orr v17.16b, v23.16b, v18.16b
+	movi v18.16b, #0xd8
+	orr v16.16b, v20.16b, v16.16b
+	orr v17.16b, v19.16b, v17.16b
+	orr v16.16b, v17.16b, v16.16b
 	and v16.16b, v16.16b, v18.16b
 	ext v17.16b, v16.16b, v16.16b, #8
 	orr v16.8b, v16.8b, v17.8b
@@ -764,18 +764,18 @@
 	b.cc 7f
 	add x11, x0, x10, lsl #1
 	movi v0.16b, #0x8f
-	movi v4.16b, #0xd0
+	movi v3.16b, #0xd0
 	ldr_label q5, x9, const_hex_1_0_0_constant_1
 	ldp q1, q2, [x11]
-	and v3.16b, v1.16b, v0.16b
+	and v4.16b, v1.16b, v0.16b
 	and v0.16b, v2.16b, v0.16b
-	add v6.16b, v1.16b, v4.16b
-	add v2.16b, v2.16b, v4.16b
-	movi v4.16b, #0xd8
-	tbl v3.16b, {v5.16b}, v3.16b
+	add v6.16b, v1.16b, v3.16b
+	add v2.16b, v2.16b, v3.16b
+	tbl v4.16b, {v5.16b}, v4.16b
 	tbl v5.16b, {v5.16b}, v0.16b
-	umin v0.16b, v6.16b, v3.16b
+	umin v0.16b, v6.16b, v4.16b
 	umin v1.16b, v2.16b, v5.16b
+	movi v4.16b, #0xd8
 	sub v3.16b, v6.16b, v0.16b
 	sub v2.16b, v2.16b, v1.16b
 	orr v2.16b, v2.16b, v3.16b
@@ -802,18 +802,18 @@
 	b.eq 12f
 	add x10, x0, x8, lsl #1
 	movi v0.16b, #0x8f
-	movi v4.16b, #0xd0
+	movi v3.16b, #0xd0
 	ldr_label q5, x9, const_hex_1_0_0_constant_1
 	ldp q1, q2, [x10]
-	and v3.16b, v1.16b, v0.16b
+	and v4.16b, v1.16b, v0.16b
 	and v0.16b, v2.16b, v0.16b
-	add v6.16b, v1.16b, v4.16b
-	add v2.16b, v2.16b, v4.16b
-	movi v4.16b, #0xd8
-	tbl v3.16b, {v5.16b}, v3.16b
+	add v6.16b, v1.16b, v3.16b
+	add v2.16b, v2.16b, v3.16b
+	tbl v4.16b, {v5.16b}, v4.16b
 	tbl v5.16b, {v5.16b}, v0.16b
-	umin v0.16b, v6.16b, v3.16b
+	umin v0.16b, v6.16b, v4.16b
 	umin v1.16b, v2.16b, v5.16b
+	movi v4.16b, #0xd8
 	sub v3.16b, v6.16b, v0.16b
 	sub v2.16b, v2.16b, v1.16b
 	orr v2.16b, v2.16b, v3.16b
@@ -852,18 +852,18 @@
 	add x8, x0, x1
 	ldr q1, [x0]
 	ldur q2, [x8, #-16]
+	movi v3.16b, #0xd0
 	adrp_label x8, const_hex_1_0_0_constant_1
-	movi v4.16b, #0xd0
 	ldr_label q5, x8, const_hex_1_0_0_constant_1
-	and v3.16b, v1.16b, v0.16b
+	and v4.16b, v1.16b, v0.16b
 	and v0.16b, v2.16b, v0.16b
-	add v6.16b, v1.16b, v4.16b
-	add v2.16b, v2.16b, v4.16b
-	movi v4.16b, #0xd8
-	tbl v3.16b, {v5.16b}, v3.16b
+	add v6.16b, v1.16b, v3.16b
+	add v2.16b, v2.16b, v3.16b
+	tbl v4.16b, {v5.16b}, v4.16b
 	tbl v5.16b, {v5.16b}, v0.16b
-	umin v0.16b, v6.16b, v3.16b
+	umin v0.16b, v6.16b, v4.16b
 	umin v1.16b, v2.16b, v5.16b
+	movi v4.16b, #0xd8
 	sub v3.16b, v6.16b, v0.16b
 	sub v2.16b, v2.16b, v1.16b
 	orr v2.16b, v2.16b, v3.16b

@@ -15,10 +15,11 @@
 	movq   xmm1,QWORD PTR [rdi]
 	punpcklqdq xmm1,xmm0
 	movdqa xmm0,XMMWORD PTR [rip + const_hex_1_0_0_constant_1_v2]
-	pshufb xmm0,xmm1
-	paddb  xmm1,XMMWORD PTR [rip + const_hex_1_0_0_constant_2_v2]
-	psubusb xmm1,xmm0
-	ptest  xmm1,XMMWORD PTR [rip + const_hex_1_0_0_constant_3_v2]
+	paddb  xmm0,xmm1
+	movdqa xmm2,XMMWORD PTR [rip + const_hex_1_0_0_constant_2_v2]
+	pshufb xmm2,xmm1
+	psubusb xmm0,xmm2
+	ptest  xmm0,XMMWORD PTR [rip + const_hex_1_0_0_constant_3_v2]
 	sete   al
 	ret
 2:
@@ -26,56 +27,57 @@
 	mov    rcx,rsi
 	cmp    rsi,0x81
 	jb     4f
+	.byte 0x66, 0x66, 0x66, 0x2e, 0xf, 0x1f, 0x84, 0x0, 0x0, 0x0, 0x0, 0x0  /* data16 data16 cs nop WORD PTR [rax+rax*1+0x0] */
 3:
-	movdqa xmm2,XMMWORD PTR [rip + const_hex_1_0_0_constant_1_v2]
+	movdqa xmm0,XMMWORD PTR [rip + const_hex_1_0_0_constant_1_v2]
 	movdqu xmm4,XMMWORD PTR [rdi+rax*1]
 	movdqu xmm5,XMMWORD PTR [rdi+rax*1+0x10]
-	movdqu xmm0,XMMWORD PTR [rdi+rax*1+0x20]
+	movdqu xmm2,XMMWORD PTR [rdi+rax*1+0x20]
 	movdqu xmm1,XMMWORD PTR [rdi+rax*1+0x30]
-	movdqa xmm6,xmm2
-	pshufb xmm6,xmm4
-	movdqa xmm7,xmm2
-	pshufb xmm7,xmm5
 	movdqa xmm3,XMMWORD PTR [rip + const_hex_1_0_0_constant_2_v2]
-	paddb  xmm5,xmm3
-	psubusb xmm5,xmm7
-	paddb  xmm4,xmm3
+	movdqa xmm6,xmm3
+	pshufb xmm6,xmm4
+	paddb  xmm4,xmm0
 	psubusb xmm4,xmm6
-	movdqa xmm6,xmm2
-	pshufb xmm6,xmm0
-	movdqa xmm7,xmm2
-	pshufb xmm7,xmm1
-	paddb  xmm1,xmm3
-	psubusb xmm1,xmm7
+	movdqa xmm6,xmm3
+	pshufb xmm6,xmm5
+	paddb  xmm5,xmm0
+	psubusb xmm5,xmm6
+	movdqa xmm6,xmm3
+	pshufb xmm6,xmm2
+	paddb  xmm2,xmm0
+	psubusb xmm2,xmm6
+	por    xmm2,xmm4
+	movdqa xmm4,xmm3
+	pshufb xmm4,xmm1
+	paddb  xmm1,xmm0
+	psubusb xmm1,xmm4
 	por    xmm1,xmm5
-	paddb  xmm0,xmm3
-	psubusb xmm0,xmm6
-	por    xmm0,xmm4
-	movdqu xmm4,XMMWORD PTR [rdi+rax*1+0x40]
-	movdqa xmm5,xmm2
-	pshufb xmm5,xmm4
-	movdqu xmm6,XMMWORD PTR [rdi+rax*1+0x50]
-	movdqa xmm7,xmm2
-	pshufb xmm7,xmm6
-	paddb  xmm4,xmm3
-	psubusb xmm4,xmm5
-	paddb  xmm6,xmm3
-	psubusb xmm6,xmm7
-	movdqu xmm5,XMMWORD PTR [rdi+rax*1+0x60]
-	movdqa xmm7,xmm2
-	pshufb xmm7,xmm5
-	movdqu xmm8,XMMWORD PTR [rdi+rax*1+0x70]
-	pshufb xmm2,xmm8
-	paddb  xmm8,xmm3
-	psubusb xmm8,xmm2
-	por    xmm8,xmm6
-	por    xmm8,xmm1
-	paddb  xmm5,xmm3
-	psubusb xmm5,xmm7
-	por    xmm5,xmm4
-	por    xmm5,xmm0
-	por    xmm5,xmm8
-	ptest  xmm5,XMMWORD PTR [rip + const_hex_1_0_0_constant_3_v2]
+	movdqu xmm5,XMMWORD PTR [rdi+rax*1+0x40]
+	movdqu xmm4,XMMWORD PTR [rdi+rax*1+0x50]
+	movdqa xmm6,xmm3
+	pshufb xmm6,xmm5
+	paddb  xmm5,xmm0
+	psubusb xmm5,xmm6
+	movdqa xmm6,xmm3
+	pshufb xmm6,xmm4
+	paddb  xmm4,xmm0
+	psubusb xmm4,xmm6
+	movdqu xmm6,XMMWORD PTR [rdi+rax*1+0x70]
+	movdqa xmm7,xmm3
+	pshufb xmm3,xmm6
+	paddb  xmm6,xmm0
+	movdqu xmm8,XMMWORD PTR [rdi+rax*1+0x60]
+	paddb  xmm0,xmm8
+	pshufb xmm7,xmm8
+	psubusb xmm0,xmm7
+	por    xmm0,xmm5
+	por    xmm0,xmm2
+	psubusb xmm6,xmm3
+	por    xmm6,xmm4
+	por    xmm6,xmm1
+	por    xmm6,xmm0
+	ptest  xmm6,XMMWORD PTR [rip + const_hex_1_0_0_constant_3_v2]
 	jne    5f
 	sub    rax,0xffffffffffffff80
 	add    rcx,0xffffffffffffff80
@@ -84,31 +86,31 @@
 4:
 	cmp    rcx,0x41
 	jb     12f
-	movdqa xmm1,XMMWORD PTR [rip + const_hex_1_0_0_constant_1_v2]
+	movdqa xmm0,XMMWORD PTR [rip + const_hex_1_0_0_constant_1_v2]
 	movdqu xmm2,XMMWORD PTR [rdi+rax*1]
-	movdqu xmm3,XMMWORD PTR [rdi+rax*1+0x10]
-	movdqu xmm0,XMMWORD PTR [rdi+rax*1+0x20]
+	movdqu xmm1,XMMWORD PTR [rdi+rax*1+0x10]
+	movdqu xmm3,XMMWORD PTR [rdi+rax*1+0x20]
 	movdqu xmm4,XMMWORD PTR [rdi+rax*1+0x30]
-	movdqa xmm5,xmm1
-	pshufb xmm5,xmm2
-	movdqa xmm6,xmm1
+	movdqa xmm5,XMMWORD PTR [rip + const_hex_1_0_0_constant_2_v2]
+	movdqa xmm6,xmm5
+	pshufb xmm6,xmm2
+	paddb  xmm2,xmm0
+	psubusb xmm2,xmm6
+	movdqa xmm6,xmm5
+	pshufb xmm6,xmm1
+	paddb  xmm1,xmm0
+	psubusb xmm1,xmm6
+	movdqa xmm6,xmm5
+	pshufb xmm5,xmm4
+	paddb  xmm4,xmm0
+	paddb  xmm0,xmm3
 	pshufb xmm6,xmm3
-	movdqa xmm7,XMMWORD PTR [rip + const_hex_1_0_0_constant_2_v2]
-	paddb  xmm3,xmm7
-	psubusb xmm3,xmm6
-	paddb  xmm2,xmm7
-	psubusb xmm2,xmm5
-	movdqa xmm5,xmm1
-	pshufb xmm5,xmm0
-	pshufb xmm1,xmm4
-	paddb  xmm4,xmm7
-	psubusb xmm4,xmm1
-	por    xmm4,xmm3
-	paddb  xmm0,xmm7
-	psubusb xmm0,xmm5
+	psubusb xmm0,xmm6
 	por    xmm0,xmm2
-	por    xmm0,xmm4
-	ptest  xmm0,XMMWORD PTR [rip + const_hex_1_0_0_constant_3_v2]
+	psubusb xmm4,xmm5
+	por    xmm4,xmm1
+	por    xmm4,xmm0
+	ptest  xmm4,XMMWORD PTR [rip + const_hex_1_0_0_constant_3_v2]
 	je     9f
 5:
 	xor    eax,eax
@@ -131,16 +133,16 @@
 	movdqu xmm0,XMMWORD PTR [rdi]
 	movdqu xmm1,XMMWORD PTR [rdi+rsi*1-0x10]
 	movdqa xmm2,XMMWORD PTR [rip + const_hex_1_0_0_constant_1_v2]
-	movdqa xmm3,xmm2
-	pshufb xmm3,xmm0
-	movdqa xmm4,XMMWORD PTR [rip + const_hex_1_0_0_constant_2_v2]
-	paddb  xmm0,xmm4
-	psubusb xmm0,xmm3
-	pshufb xmm2,xmm1
-	paddb  xmm1,xmm4
-	psubusb xmm1,xmm2
-	por    xmm1,xmm0
-	ptest  xmm1,XMMWORD PTR [rip + const_hex_1_0_0_constant_3_v2]
+	movdqa xmm3,XMMWORD PTR [rip + const_hex_1_0_0_constant_2_v2]
+	movdqa xmm4,xmm3
+	pshufb xmm4,xmm0
+	paddb  xmm0,xmm2
+	psubusb xmm0,xmm4
+	paddb  xmm2,xmm1
+	pshufb xmm3,xmm1
+	psubusb xmm2,xmm3
+	por    xmm2,xmm0
+	ptest  xmm2,XMMWORD PTR [rip + const_hex_1_0_0_constant_3_v2]
 	sete   al
 	ret
 9:
@@ -151,45 +153,45 @@
 	movdqa xmm0,XMMWORD PTR [rip + const_hex_1_0_0_constant_1_v2]
 	cmp    rcx,0x21
 	jb     13f
-	movdqu xmm1,XMMWORD PTR [rdi+rax*1]
-	movdqu xmm2,XMMWORD PTR [rdi+rax*1+0x10]
-	movdqa xmm3,xmm0
-	pshufb xmm3,xmm1
-	movdqa xmm4,xmm0
+	movdqu xmm2,XMMWORD PTR [rdi+rax*1]
+	movdqu xmm1,XMMWORD PTR [rdi+rax*1+0x10]
+	movdqa xmm3,XMMWORD PTR [rip + const_hex_1_0_0_constant_2_v2]
+	movdqa xmm4,xmm3
 	pshufb xmm4,xmm2
-	movdqa xmm5,XMMWORD PTR [rip + const_hex_1_0_0_constant_2_v2]
-	paddb  xmm2,xmm5
+	paddb  xmm2,xmm0
 	psubusb xmm2,xmm4
-	paddb  xmm1,xmm5
-	psubusb xmm1,xmm3
-	movdqu xmm3,XMMWORD PTR [rdi+rsi*1-0x20]
-	movdqu xmm4,XMMWORD PTR [rdi+rsi*1-0x10]
-	movdqa xmm6,xmm0
-	pshufb xmm6,xmm3
-	pshufb xmm0,xmm4
-	paddb  xmm4,xmm5
-	psubusb xmm4,xmm0
-	por    xmm4,xmm2
-	paddb  xmm3,xmm5
-	psubusb xmm3,xmm6
-	por    xmm3,xmm1
-	por    xmm3,xmm4
-	ptest  xmm3,XMMWORD PTR [rip + const_hex_1_0_0_constant_3_v2]
+	movdqa xmm4,xmm3
+	pshufb xmm4,xmm1
+	paddb  xmm1,xmm0
+	psubusb xmm1,xmm4
+	movdqu xmm4,XMMWORD PTR [rdi+rsi*1-0x20]
+	movdqu xmm5,XMMWORD PTR [rdi+rsi*1-0x10]
+	movdqa xmm6,xmm3
+	pshufb xmm3,xmm5
+	paddb  xmm5,xmm0
+	paddb  xmm0,xmm4
+	pshufb xmm6,xmm4
+	psubusb xmm0,xmm6
+	por    xmm0,xmm2
+	psubusb xmm5,xmm3
+	por    xmm5,xmm1
+	por    xmm5,xmm0
+	ptest  xmm5,XMMWORD PTR [rip + const_hex_1_0_0_constant_3_v2]
 	sete   al
 	ret
 13:
 	movdqu xmm1,XMMWORD PTR [rdi+rsi*1-0x20]
 	movdqu xmm2,XMMWORD PTR [rdi+rsi*1-0x10]
-	movdqa xmm3,xmm0
-	pshufb xmm3,xmm1
-	pshufb xmm0,xmm2
-	movdqa xmm4,XMMWORD PTR [rip + const_hex_1_0_0_constant_2_v2]
-	paddb  xmm1,xmm4
-	psubusb xmm1,xmm3
-	paddb  xmm2,xmm4
-	psubusb xmm2,xmm0
-	por    xmm2,xmm1
-	ptest  xmm2,XMMWORD PTR [rip + const_hex_1_0_0_constant_3_v2]
+	movdqa xmm3,XMMWORD PTR [rip + const_hex_1_0_0_constant_2_v2]
+	movdqa xmm4,xmm3
+	pshufb xmm4,xmm1
+	paddb  xmm1,xmm0
+	paddb  xmm0,xmm2
+	psubusb xmm1,xmm4
+	pshufb xmm3,xmm2
+	psubusb xmm0,xmm3
+	por    xmm0,xmm1
+	ptest  xmm0,XMMWORD PTR [rip + const_hex_1_0_0_constant_3_v2]
 	sete   al
 	ret
 14:
@@ -229,10 +231,11 @@
 	pinsrb xmm0,eax,0xf
 16:
 	movdqa xmm1,XMMWORD PTR [rip + const_hex_1_0_0_constant_1_v2]
-	pshufb xmm1,xmm0
-	paddb  xmm0,XMMWORD PTR [rip + const_hex_1_0_0_constant_2_v2]
-	psubusb xmm0,xmm1
-	ptest  xmm0,XMMWORD PTR [rip + const_hex_1_0_0_constant_3_v2]
+	paddb  xmm1,xmm0
+	movdqa xmm2,XMMWORD PTR [rip + const_hex_1_0_0_constant_2_v2]
+	pshufb xmm2,xmm0
+	psubusb xmm1,xmm2
+	ptest  xmm1,XMMWORD PTR [rip + const_hex_1_0_0_constant_3_v2]
 	sete   al
 	ret
 17:
@@ -522,89 +525,89 @@
 	mov    r8,rcx
 	.byte 0x66, 0x66, 0x2e, 0xf, 0x1f, 0x84, 0x0, 0x0, 0x0, 0x0, 0x0  /* data16 cs nop WORD PTR [rax+rax*1+0x0] */
 3:
-	movdqa xmm1,XMMWORD PTR [rip + const_hex_1_0_0_constant_1_v2]
-	movdqu xmm5,XMMWORD PTR [rdi+rsi*2]
+	movdqa xmm5,XMMWORD PTR [rip + const_hex_1_0_0_constant_1_v2]
+	movdqu xmm6,XMMWORD PTR [rdi+rsi*2]
 	movdqu xmm4,XMMWORD PTR [rdi+rsi*2+0x10]
-	movdqu xmm8,XMMWORD PTR [rdi+rsi*2+0x20]
+	movdqu xmm9,XMMWORD PTR [rdi+rsi*2+0x20]
 	movdqu xmm7,XMMWORD PTR [rdi+rsi*2+0x30]
+	movdqa xmm1,XMMWORD PTR [rip + const_hex_1_0_0_constant_2_v2]
 	movdqa xmm0,xmm1
-	pshufb xmm0,xmm5
+	pshufb xmm0,xmm6
+	paddb  xmm6,xmm5
 	movdqa xmm3,xmm1
 	pshufb xmm3,xmm4
-	movdqa xmm10,XMMWORD PTR [rip + const_hex_1_0_0_constant_2_v2]
-	paddb  xmm5,xmm10
-	paddb  xmm4,xmm10
+	paddb  xmm4,xmm5
 	pminub xmm3,xmm4
-	pminub xmm0,xmm5
-	psubb  xmm5,xmm0
+	pminub xmm0,xmm6
+	psubb  xmm6,xmm0
 	psubb  xmm4,xmm3
 	movdqa xmm2,xmm1
-	pshufb xmm2,xmm8
-	movdqa xmm6,xmm1
-	pshufb xmm6,xmm7
-	paddb  xmm8,xmm10
-	paddb  xmm7,xmm10
-	pminub xmm6,xmm7
-	pminub xmm2,xmm8
-	psubb  xmm8,xmm2
-	por    xmm8,xmm5
-	psubb  xmm7,xmm6
+	pshufb xmm2,xmm9
+	paddb  xmm9,xmm5
+	movdqa xmm8,xmm1
+	pshufb xmm8,xmm7
+	paddb  xmm7,xmm5
+	pminub xmm8,xmm7
+	pminub xmm2,xmm9
+	psubb  xmm9,xmm2
+	por    xmm9,xmm6
+	psubb  xmm7,xmm8
 	por    xmm7,xmm4
+	movdqu xmm11,XMMWORD PTR [rdi+rsi*2+0x50]
 	movdqu xmm12,XMMWORD PTR [rdi+rsi*2+0x40]
 	movdqa xmm4,xmm1
 	pshufb xmm4,xmm12
-	movdqu xmm11,XMMWORD PTR [rdi+rsi*2+0x50]
-	movdqa xmm5,xmm1
-	pshufb xmm5,xmm11
-	paddb  xmm11,xmm10
-	paddb  xmm12,xmm10
+	paddb  xmm12,xmm5
+	movdqa xmm6,xmm1
+	pshufb xmm6,xmm11
+	paddb  xmm11,xmm5
 	pminub xmm4,xmm12
-	pminub xmm5,xmm11
-	psubb  xmm11,xmm5
+	pminub xmm6,xmm11
+	psubb  xmm11,xmm6
 	psubb  xmm12,xmm4
 	movdqu xmm13,XMMWORD PTR [rdi+rsi*2+0x60]
-	movdqa xmm9,xmm1
-	pshufb xmm9,xmm13
+	movdqa xmm10,xmm1
+	pshufb xmm10,xmm13
+	paddb  xmm13,xmm5
 	movdqu xmm14,XMMWORD PTR [rdi+rsi*2+0x70]
+	paddb  xmm5,xmm14
 	pshufb xmm1,xmm14
-	paddb  xmm13,xmm10
-	paddb  xmm14,xmm10
-	pminub xmm1,xmm14
-	pminub xmm9,xmm13
-	psubb  xmm13,xmm9
+	pminub xmm1,xmm5
+	pminub xmm10,xmm13
+	psubb  xmm13,xmm10
 	por    xmm13,xmm12
-	por    xmm13,xmm8
-	psubb  xmm14,xmm1
-	por    xmm14,xmm11
-	por    xmm14,xmm7
-	por    xmm14,xmm13
-	ptest  xmm14,XMMWORD PTR [rip + const_hex_1_0_0_constant_3_v2]
+	por    xmm13,xmm9
+	psubb  xmm5,xmm1
+	por    xmm5,xmm11
+	por    xmm5,xmm7
+	por    xmm5,xmm13
+	ptest  xmm5,XMMWORD PTR [rip + const_hex_1_0_0_constant_3_v2]
 	jne    4f
 	lea    r9,[rip + const_hex_1_0_0_constant_4_v2]
-	movdqu xmm7,XMMWORD PTR [rax+r9*1+0x10]
-	pmullw xmm0,xmm7
-	pmullw xmm3,xmm7
-	pmullw xmm2,xmm7
-	pmullw xmm6,xmm7
-	psrlw  xmm6,0x8
+	movdqu xmm5,XMMWORD PTR [rax+r9*1+0x10]
+	pmullw xmm0,xmm5
+	pmullw xmm3,xmm5
+	pmullw xmm2,xmm5
+	pmullw xmm8,xmm5
+	psrlw  xmm8,0x8
 	psrlw  xmm2,0x8
-	packuswb xmm2,xmm6
+	packuswb xmm2,xmm8
 	psrlw  xmm3,0x8
 	psrlw  xmm0,0x8
 	packuswb xmm0,xmm3
-	pmullw xmm4,xmm7
-	pmullw xmm5,xmm7
-	pmullw xmm9,xmm7
-	pmullw xmm1,xmm7
+	pmullw xmm4,xmm5
+	pmullw xmm6,xmm5
+	pmullw xmm10,xmm5
+	pmullw xmm1,xmm5
 	psrlw  xmm1,0x8
-	psrlw  xmm9,0x8
-	packuswb xmm9,xmm1
-	psrlw  xmm5,0x8
+	psrlw  xmm10,0x8
+	packuswb xmm10,xmm1
+	psrlw  xmm6,0x8
 	psrlw  xmm4,0x8
-	packuswb xmm4,xmm5
+	packuswb xmm4,xmm6
 	movdqu XMMWORD PTR [rdx+rsi*1+0x10],xmm2
 	movdqu XMMWORD PTR [rdx+rsi*1],xmm0
-	movdqu XMMWORD PTR [rdx+rsi*1+0x30],xmm9
+	movdqu XMMWORD PTR [rdx+rsi*1+0x30],xmm10
 	movdqu XMMWORD PTR [rdx+rsi*1+0x20],xmm4
 	add    rsi,0x40
 	add    r8,0xffffffffffffffc0
@@ -615,58 +618,58 @@
 	sub    rax,rsi
 	cmp    rax,0x20
 	jb     7f
-	.byte 0x66, 0x2e, 0xf, 0x1f, 0x84, 0x0, 0x0, 0x0, 0x0, 0x0  /* cs nop WORD PTR [rax+rax*1+0x0] */
+	.byte 0x66, 0x66, 0x2e, 0xf, 0x1f, 0x84, 0x0, 0x0, 0x0, 0x0, 0x0  /* data16 cs nop WORD PTR [rax+rax*1+0x0] */
 5:
-	movdqa xmm0,XMMWORD PTR [rip + const_hex_1_0_0_constant_1_v2]
+	movdqa xmm2,XMMWORD PTR [rip + const_hex_1_0_0_constant_1_v2]
 	movdqu xmm7,XMMWORD PTR [rdi+rsi*2]
 	movdqu xmm6,XMMWORD PTR [rdi+rsi*2+0x10]
-	movdqu xmm4,XMMWORD PTR [rdi+rsi*2+0x20]
-	movdqu xmm5,XMMWORD PTR [rdi+rsi*2+0x30]
+	movdqu xmm5,XMMWORD PTR [rdi+rsi*2+0x20]
+	movdqu xmm8,XMMWORD PTR [rdi+rsi*2+0x30]
+	movdqa xmm0,XMMWORD PTR [rip + const_hex_1_0_0_constant_2_v2]
 	movdqa xmm1,xmm0
 	pshufb xmm1,xmm7
-	movdqa xmm2,xmm0
-	pshufb xmm2,xmm6
-	movdqa xmm8,XMMWORD PTR [rip + const_hex_1_0_0_constant_2_v2]
-	paddb  xmm7,xmm8
-	paddb  xmm6,xmm8
-	pminub xmm2,xmm6
+	paddb  xmm7,xmm2
+	movdqa xmm3,xmm0
+	pshufb xmm3,xmm6
+	paddb  xmm6,xmm2
+	pminub xmm3,xmm6
 	pminub xmm1,xmm7
 	psubb  xmm7,xmm1
-	psubb  xmm6,xmm2
-	movdqa xmm3,xmm0
-	pshufb xmm3,xmm4
-	pshufb xmm0,xmm5
-	paddb  xmm4,xmm8
-	paddb  xmm5,xmm8
-	pminub xmm0,xmm5
-	pminub xmm3,xmm4
-	psubb  xmm4,xmm3
-	por    xmm4,xmm7
-	psubb  xmm5,xmm0
-	por    xmm5,xmm6
-	por    xmm5,xmm4
-	ptest  xmm5,XMMWORD PTR [rip + const_hex_1_0_0_constant_3_v2]
+	psubb  xmm6,xmm3
+	movdqa xmm4,xmm0
+	pshufb xmm4,xmm5
+	paddb  xmm5,xmm2
+	paddb  xmm2,xmm8
+	pshufb xmm0,xmm8
+	pminub xmm0,xmm2
+	pminub xmm4,xmm5
+	psubb  xmm5,xmm4
+	por    xmm5,xmm7
+	psubb  xmm2,xmm0
+	por    xmm2,xmm6
+	por    xmm2,xmm5
+	ptest  xmm2,XMMWORD PTR [rip + const_hex_1_0_0_constant_3_v2]
 	jne    9f
-	movdqa xmm4,xmm2
-	psllw  xmm4,0xc
-	paddw  xmm4,xmm2
-	movdqa xmm2,xmm1
+	movdqa xmm2,xmm3
 	psllw  xmm2,0xc
-	paddw  xmm2,xmm1
+	paddw  xmm2,xmm3
+	movdqa xmm3,xmm1
+	psllw  xmm3,0xc
+	paddw  xmm3,xmm1
 	movdqa xmm1,xmm0
 	psllw  xmm1,0xc
 	paddw  xmm1,xmm0
-	movdqa xmm0,xmm3
+	movdqa xmm0,xmm4
 	psllw  xmm0,0xc
-	paddw  xmm0,xmm3
+	paddw  xmm0,xmm4
 	psrlw  xmm0,0x8
 	psrlw  xmm1,0x8
 	packuswb xmm0,xmm1
+	psrlw  xmm3,0x8
 	psrlw  xmm2,0x8
-	psrlw  xmm4,0x8
-	packuswb xmm2,xmm4
+	packuswb xmm3,xmm2
 	movdqu XMMWORD PTR [rdx+rsi*1+0x10],xmm0
-	movdqu XMMWORD PTR [rdx+rsi*1],xmm2
+	movdqu XMMWORD PTR [rdx+rsi*1],xmm3
 	add    rsi,0x20
 	add    rax,0xffffffffffffffe0
 	cmp    rax,0x1f
@@ -683,19 +686,19 @@
 	jb     8f
 	movdqu xmm2,XMMWORD PTR [rdi+rsi*2]
 	movdqu xmm3,XMMWORD PTR [rdi+rsi*2+0x10]
-	movdqa xmm0,XMMWORD PTR [rip + const_hex_1_0_0_constant_1_v2]
+	movdqa xmm4,XMMWORD PTR [rip + const_hex_1_0_0_constant_1_v2]
+	movdqa xmm0,XMMWORD PTR [rip + const_hex_1_0_0_constant_2_v2]
 	movdqa xmm1,xmm0
 	pshufb xmm1,xmm2
-	movdqa xmm4,XMMWORD PTR [rip + const_hex_1_0_0_constant_2_v2]
 	paddb  xmm2,xmm4
 	pminub xmm1,xmm2
 	psubb  xmm2,xmm1
+	paddb  xmm4,xmm3
 	pshufb xmm0,xmm3
-	paddb  xmm3,xmm4
-	pminub xmm0,xmm3
-	psubb  xmm3,xmm0
-	por    xmm3,xmm2
-	ptest  xmm3,XMMWORD PTR [rip + const_hex_1_0_0_constant_3_v2]
+	pminub xmm0,xmm4
+	psubb  xmm4,xmm0
+	por    xmm4,xmm2
+	ptest  xmm4,XMMWORD PTR [rip + const_hex_1_0_0_constant_3_v2]
 	jne    9f
 	movdqa xmm2,xmm1
 	psllw  xmm2,0xc
@@ -714,19 +717,19 @@
 	je     13f
 	movdqu xmm2,XMMWORD PTR [rdi+rcx*2-0x20]
 	movdqu xmm3,XMMWORD PTR [rdi+rcx*2-0x10]
-	movdqa xmm0,XMMWORD PTR [rip + const_hex_1_0_0_constant_1_v2]
+	movdqa xmm4,XMMWORD PTR [rip + const_hex_1_0_0_constant_1_v2]
+	movdqa xmm0,XMMWORD PTR [rip + const_hex_1_0_0_constant_2_v2]
 	movdqa xmm1,xmm0
 	pshufb xmm1,xmm2
-	movdqa xmm4,XMMWORD PTR [rip + const_hex_1_0_0_constant_2_v2]
 	paddb  xmm2,xmm4
 	pminub xmm1,xmm2
 	psubb  xmm2,xmm1
+	paddb  xmm4,xmm3
 	pshufb xmm0,xmm3
-	paddb  xmm3,xmm4
-	pminub xmm0,xmm3
-	psubb  xmm3,xmm0
-	por    xmm3,xmm2
-	ptest  xmm3,XMMWORD PTR [rip + const_hex_1_0_0_constant_3_v2]
+	pminub xmm0,xmm4
+	psubb  xmm4,xmm0
+	por    xmm4,xmm2
+	ptest  xmm4,XMMWORD PTR [rip + const_hex_1_0_0_constant_3_v2]
 	je     12f
 9:
 	xor    eax,eax
@@ -752,19 +755,19 @@
 	jb     2f
 	movdqu xmm2,XMMWORD PTR [rdi]
 	movdqu xmm3,XMMWORD PTR [rdi+rsi*1-0x10]
-	movdqa xmm0,XMMWORD PTR [rip + const_hex_1_0_0_constant_1_v2]
+	movdqa xmm4,XMMWORD PTR [rip + const_hex_1_0_0_constant_1_v2]
+	movdqa xmm0,XMMWORD PTR [rip + const_hex_1_0_0_constant_2_v2]
 	movdqa xmm1,xmm0
 	pshufb xmm1,xmm2
-	movdqa xmm4,XMMWORD PTR [rip + const_hex_1_0_0_constant_2_v2]
 	paddb  xmm2,xmm4
 	pminub xmm1,xmm2
 	psubb  xmm2,xmm1
+	paddb  xmm4,xmm3
 	pshufb xmm0,xmm3
-	paddb  xmm3,xmm4
-	pminub xmm0,xmm3
-	psubb  xmm3,xmm0
-	por    xmm3,xmm2
-	ptest  xmm3,XMMWORD PTR [rip + const_hex_1_0_0_constant_3_v2]
+	pminub xmm0,xmm4
+	psubb  xmm4,xmm0
+	por    xmm4,xmm2
+	ptest  xmm4,XMMWORD PTR [rip + const_hex_1_0_0_constant_3_v2]
 	je     4f
 	xor    eax,eax
 	ret
@@ -774,12 +777,13 @@
 	movq   xmm0,QWORD PTR [rdi+rsi*1-0x8]
 	movq   xmm1,QWORD PTR [rdi]
 	punpcklqdq xmm1,xmm0
-	movdqa xmm0,XMMWORD PTR [rip + const_hex_1_0_0_constant_1_v2]
+	movdqa xmm2,XMMWORD PTR [rip + const_hex_1_0_0_constant_1_v2]
+	paddb  xmm2,xmm1
+	movdqa xmm0,XMMWORD PTR [rip + const_hex_1_0_0_constant_2_v2]
 	pshufb xmm0,xmm1
-	paddb  xmm1,XMMWORD PTR [rip + const_hex_1_0_0_constant_2_v2]
-	pminub xmm0,xmm1
-	psubb  xmm1,xmm0
-	ptest  xmm1,XMMWORD PTR [rip + const_hex_1_0_0_constant_3_v2]
+	pminub xmm0,xmm2
+	psubb  xmm2,xmm0
+	ptest  xmm2,XMMWORD PTR [rip + const_hex_1_0_0_constant_3_v2]
 	je     6f
 	xor    eax,eax
 	ret
@@ -791,12 +795,13 @@
 	mov    eax,0x30303030
 	pinsrd xmm1,eax,0x2
 	pinsrd xmm1,eax,0x3
-	movdqa xmm0,XMMWORD PTR [rip + const_hex_1_0_0_constant_1_v2]
+	movdqa xmm2,XMMWORD PTR [rip + const_hex_1_0_0_constant_1_v2]
+	paddb  xmm2,xmm1
+	movdqa xmm0,XMMWORD PTR [rip + const_hex_1_0_0_constant_2_v2]
 	pshufb xmm0,xmm1
-	paddb  xmm1,XMMWORD PTR [rip + const_hex_1_0_0_constant_2_v2]
-	pminub xmm0,xmm1
-	psubb  xmm1,xmm0
-	ptest  xmm1,XMMWORD PTR [rip + const_hex_1_0_0_constant_3_v2]
+	pminub xmm0,xmm2
+	psubb  xmm2,xmm0
+	ptest  xmm2,XMMWORD PTR [rip + const_hex_1_0_0_constant_3_v2]
 	je     7f
 	xor    eax,eax
 	ret
@@ -828,12 +833,13 @@
 	pinsrw xmm1,ecx,0x5
 	pinsrw xmm1,ecx,0x6
 	pinsrw xmm1,ecx,0x7
-	movdqa xmm0,XMMWORD PTR [rip + const_hex_1_0_0_constant_1_v2]
+	movdqa xmm2,XMMWORD PTR [rip + const_hex_1_0_0_constant_1_v2]
+	paddb  xmm2,xmm1
+	movdqa xmm0,XMMWORD PTR [rip + const_hex_1_0_0_constant_2_v2]
 	pshufb xmm0,xmm1
-	paddb  xmm1,XMMWORD PTR [rip + const_hex_1_0_0_constant_2_v2]
-	pminub xmm0,xmm1
-	psubb  xmm1,xmm0
-	ptest  xmm1,XMMWORD PTR [rip + const_hex_1_0_0_constant_3_v2]
+	pminub xmm0,xmm2
+	psubb  xmm2,xmm0
+	ptest  xmm2,XMMWORD PTR [rip + const_hex_1_0_0_constant_3_v2]
 	je     8f
 	xor    eax,eax
 	ret
@@ -871,10 +877,10 @@
 	end const_hex_1_0_0_small_input_decode_small_v2
 
 	constant const_hex_1_0_0_constant_1_v2, 4
-	.byte 0x01, 0x0a, 0x0b, 0x0c, 0x0d, 0x0e, 0x0f, 0x08, 0x09, 0x0a, 0x00, 0x00, 0x00, 0x00, 0x00, 0x00
+	.byte 0xd0, 0xd0, 0xd0, 0xd0, 0xd0, 0xd0, 0xd0, 0xd0, 0xd0, 0xd0, 0xd0, 0xd0, 0xd0, 0xd0, 0xd0, 0xd0
 
 	constant const_hex_1_0_0_constant_2_v2, 4
-	.byte 0xd0, 0xd0, 0xd0, 0xd0, 0xd0, 0xd0, 0xd0, 0xd0, 0xd0, 0xd0, 0xd0, 0xd0, 0xd0, 0xd0, 0xd0, 0xd0
+	.byte 0x01, 0x0a, 0x0b, 0x0c, 0x0d, 0x0e, 0x0f, 0x08, 0x09, 0x0a, 0x00, 0x00, 0x00, 0x00, 0x00, 0x00
 
 	constant const_hex_1_0_0_constant_3_v2, 4
 	.byte 0xd8, 0xd8, 0xd8, 0xd8, 0xd8, 0xd8, 0xd8, 0xd8, 0xd8, 0xd8, 0xd8, 0xd8, 0xd8, 0xd8, 0xd8, 0xd8

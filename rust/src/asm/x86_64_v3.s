@@ -22,25 +22,25 @@
 	jb     4f
 	nop
 3:
-	vbroadcasti128 ymm0,XMMWORD PTR [rip + const_hex_1_0_0_constant_1_v3]
+	vpbroadcastd ymm0,DWORD PTR [rip + const_hex_1_0_0_constant_1_v3]
 	vmovdqu ymm1,YMMWORD PTR [rdi+rax*1]
 	vmovdqu ymm2,YMMWORD PTR [rdi+rax*1+0x20]
 	vmovdqu ymm3,YMMWORD PTR [rdi+rax*1+0x40]
 	vmovdqu ymm4,YMMWORD PTR [rdi+rax*1+0x60]
-	vpshufb ymm5,ymm0,ymm1
-	vpbroadcastd ymm6,DWORD PTR [rip + const_hex_1_0_0_constant_2_v3]
-	vpaddb ymm1,ymm1,ymm6
-	vpsubusb ymm1,ymm1,ymm5
-	vpshufb ymm5,ymm0,ymm2
-	vpaddb ymm2,ymm2,ymm6
-	vpsubusb ymm2,ymm2,ymm5
+	vpaddb ymm5,ymm1,ymm0
+	vbroadcasti128 ymm6,XMMWORD PTR [rip + const_hex_1_0_0_constant_2_v3]
+	vpshufb ymm1,ymm6,ymm1
+	vpsubusb ymm1,ymm5,ymm1
+	vpaddb ymm5,ymm2,ymm0
+	vpshufb ymm2,ymm6,ymm2
+	vpsubusb ymm2,ymm5,ymm2
 	vpor   ymm1,ymm2,ymm1
-	vpshufb ymm2,ymm0,ymm3
-	vpaddb ymm3,ymm3,ymm6
-	vpsubusb ymm2,ymm3,ymm2
-	vpshufb ymm0,ymm0,ymm4
-	vpaddb ymm3,ymm4,ymm6
-	vpsubusb ymm0,ymm3,ymm0
+	vpaddb ymm2,ymm3,ymm0
+	vpshufb ymm3,ymm6,ymm3
+	vpsubusb ymm2,ymm2,ymm3
+	vpaddb ymm0,ymm4,ymm0
+	vpshufb ymm3,ymm6,ymm4
+	vpsubusb ymm0,ymm0,ymm3
 	vpor   ymm0,ymm2,ymm0
 	vpor   ymm0,ymm1,ymm0
 	vpbroadcastq ymm1,QWORD PTR [rip + const_hex_1_0_0_constant_3_v3]
@@ -55,14 +55,14 @@
 	jb     12f
 	vmovdqu ymm0,YMMWORD PTR [rdi+rax*1]
 	vmovdqu ymm1,YMMWORD PTR [rdi+rax*1+0x20]
-	vbroadcasti128 ymm2,XMMWORD PTR [rip + const_hex_1_0_0_constant_1_v3]
-	vpshufb ymm3,ymm2,ymm0
-	vpbroadcastd ymm4,DWORD PTR [rip + const_hex_1_0_0_constant_2_v3]
-	vpaddb ymm0,ymm0,ymm4
-	vpsubusb ymm0,ymm0,ymm3
-	vpshufb ymm2,ymm2,ymm1
-	vpaddb ymm1,ymm1,ymm4
-	vpsubusb ymm1,ymm1,ymm2
+	vpbroadcastd ymm2,DWORD PTR [rip + const_hex_1_0_0_constant_1_v3]
+	vpaddb ymm3,ymm0,ymm2
+	vbroadcasti128 ymm4,XMMWORD PTR [rip + const_hex_1_0_0_constant_2_v3]
+	vpshufb ymm0,ymm4,ymm0
+	vpsubusb ymm0,ymm3,ymm0
+	vpaddb ymm2,ymm1,ymm2
+	vpshufb ymm1,ymm4,ymm1
+	vpsubusb ymm1,ymm2,ymm1
 	vpor   ymm0,ymm1,ymm0
 	vpbroadcastq ymm1,QWORD PTR [rip + const_hex_1_0_0_constant_3_v3]
 	vptest ymm0,ymm1
@@ -88,14 +88,14 @@
 8:
 	vmovdqu xmm0,XMMWORD PTR [rdi]
 	vmovdqu xmm1,XMMWORD PTR [rdi+rsi*1-0x10]
-	vmovdqa xmm2,XMMWORD PTR [rip + const_hex_1_0_0_constant_1_v3]
-	vpshufb xmm3,xmm2,xmm0
-	vpbroadcastd xmm4,DWORD PTR [rip + const_hex_1_0_0_constant_2_v3]
-	vpaddb xmm0,xmm0,xmm4
-	vpsubusb xmm0,xmm0,xmm3
-	vpshufb xmm2,xmm2,xmm1
-	vpaddb xmm1,xmm1,xmm4
-	vpsubusb xmm1,xmm1,xmm2
+	vpbroadcastd xmm2,DWORD PTR [rip + const_hex_1_0_0_constant_1_v3]
+	vpaddb xmm3,xmm0,xmm2
+	vmovdqa xmm4,XMMWORD PTR [rip + const_hex_1_0_0_constant_2_v3]
+	vpshufb xmm0,xmm4,xmm0
+	vpsubusb xmm0,xmm3,xmm0
+	vpaddb xmm2,xmm1,xmm2
+	vpshufb xmm1,xmm4,xmm1
+	vpsubusb xmm1,xmm2,xmm1
 	vpor   xmm0,xmm1,xmm0
 	vptest xmm0,XMMWORD PTR [rip + const_hex_1_0_0_constant_4_v3]
 	sete   al
@@ -109,14 +109,14 @@
 	jb     13f
 	vmovdqu ymm0,YMMWORD PTR [rdi+rax*1]
 	vmovdqu ymm1,YMMWORD PTR [rdi+rsi*1-0x20]
-	vbroadcasti128 ymm2,XMMWORD PTR [rip + const_hex_1_0_0_constant_1_v3]
-	vpshufb ymm3,ymm2,ymm0
-	vpbroadcastd ymm4,DWORD PTR [rip + const_hex_1_0_0_constant_2_v3]
-	vpaddb ymm0,ymm0,ymm4
-	vpsubusb ymm0,ymm0,ymm3
-	vpshufb ymm2,ymm2,ymm1
-	vpaddb ymm1,ymm1,ymm4
-	vpsubusb ymm1,ymm1,ymm2
+	vpbroadcastd ymm2,DWORD PTR [rip + const_hex_1_0_0_constant_1_v3]
+	vpaddb ymm3,ymm0,ymm2
+	vbroadcasti128 ymm4,XMMWORD PTR [rip + const_hex_1_0_0_constant_2_v3]
+	vpshufb ymm0,ymm4,ymm0
+	vpsubusb ymm0,ymm3,ymm0
+	vpaddb ymm2,ymm1,ymm2
+	vpshufb ymm1,ymm4,ymm1
+	vpsubusb ymm1,ymm2,ymm1
 	vpor   ymm0,ymm1,ymm0
 	vpbroadcastq ymm1,QWORD PTR [rip + const_hex_1_0_0_constant_3_v3]
 	vptest ymm0,ymm1
@@ -125,10 +125,10 @@
 	ret
 13:
 	vmovdqu ymm0,YMMWORD PTR [rdi+rsi*1-0x20]
-	vbroadcasti128 ymm1,XMMWORD PTR [rip + const_hex_1_0_0_constant_1_v3]
-	vpshufb ymm1,ymm1,ymm0
-	vpaddb ymm0,ymm0,YMMWORD PTR [rip + const_hex_1_0_0_constant_5_v3]
-	vpsubusb ymm0,ymm0,ymm1
+	vpaddb ymm1,ymm0,YMMWORD PTR [rip + const_hex_1_0_0_constant_5_v3]
+	vbroadcasti128 ymm2,XMMWORD PTR [rip + const_hex_1_0_0_constant_2_v3]
+	vpshufb ymm0,ymm2,ymm0
+	vpsubusb ymm0,ymm1,ymm0
 	vpbroadcastq ymm1,QWORD PTR [rip + const_hex_1_0_0_constant_3_v3]
 	vptest ymm0,ymm1
 	sete   al
@@ -170,10 +170,10 @@
 	vpinsrb xmm0,xmm0,eax,0xe
 	vpinsrb xmm0,xmm0,eax,0xf
 16:
-	vmovdqa xmm1,XMMWORD PTR [rip + const_hex_1_0_0_constant_1_v3]
-	vpshufb xmm1,xmm1,xmm0
-	vpaddb xmm0,xmm0,XMMWORD PTR [rip + const_hex_1_0_0_constant_6_v3]
-	vpsubusb xmm0,xmm0,xmm1
+	vpaddb xmm1,xmm0,XMMWORD PTR [rip + const_hex_1_0_0_constant_6_v3]
+	vmovdqa xmm2,XMMWORD PTR [rip + const_hex_1_0_0_constant_2_v3]
+	vpshufb xmm0,xmm2,xmm0
+	vpsubusb xmm0,xmm1,xmm0
 	vptest xmm0,XMMWORD PTR [rip + const_hex_1_0_0_constant_4_v3]
 	sete   al
 	ret
@@ -384,29 +384,29 @@
 	mov    r8,rcx
 	.byte 0x66, 0x66, 0x2e, 0xf, 0x1f, 0x84, 0x0, 0x0, 0x0, 0x0, 0x0  /* data16 cs nop WORD PTR [rax+rax*1+0x0] */
 3:
-	vbroadcasti128 ymm3,XMMWORD PTR [rip + const_hex_1_0_0_constant_1_v3]
+	vpbroadcastd ymm3,DWORD PTR [rip + const_hex_1_0_0_constant_1_v3]
 	vmovdqu ymm0,YMMWORD PTR [rdi+rsi*2]
 	vmovdqu ymm1,YMMWORD PTR [rdi+rsi*2+0x20]
 	vmovdqu ymm2,YMMWORD PTR [rdi+rsi*2+0x40]
 	vmovdqu ymm4,YMMWORD PTR [rdi+rsi*2+0x60]
-	vpshufb ymm5,ymm3,ymm0
-	vpbroadcastd ymm6,DWORD PTR [rip + const_hex_1_0_0_constant_2_v3]
-	vpaddb ymm7,ymm0,ymm6
-	vpminub ymm0,ymm7,ymm5
-	vpsubb ymm5,ymm7,ymm0
-	vpshufb ymm7,ymm3,ymm1
-	vpaddb ymm8,ymm1,ymm6
-	vpminub ymm1,ymm8,ymm7
-	vpsubb ymm7,ymm8,ymm1
+	vpaddb ymm5,ymm0,ymm3
+	vbroadcasti128 ymm6,XMMWORD PTR [rip + const_hex_1_0_0_constant_2_v3]
+	vpshufb ymm0,ymm6,ymm0
+	vpminub ymm0,ymm5,ymm0
+	vpsubb ymm5,ymm5,ymm0
+	vpaddb ymm7,ymm1,ymm3
+	vpshufb ymm1,ymm6,ymm1
+	vpminub ymm1,ymm7,ymm1
+	vpsubb ymm7,ymm7,ymm1
 	vpor   ymm5,ymm7,ymm5
-	vpshufb ymm7,ymm3,ymm2
-	vpaddb ymm8,ymm2,ymm6
-	vpminub ymm2,ymm8,ymm7
-	vpsubb ymm7,ymm8,ymm2
-	vpshufb ymm3,ymm3,ymm4
-	vpaddb ymm4,ymm4,ymm6
-	vpminub ymm3,ymm4,ymm3
-	vpsubb ymm4,ymm4,ymm3
+	vpaddb ymm7,ymm2,ymm3
+	vpshufb ymm2,ymm6,ymm2
+	vpminub ymm2,ymm7,ymm2
+	vpsubb ymm7,ymm7,ymm2
+	vpaddb ymm8,ymm4,ymm3
+	vpshufb ymm3,ymm6,ymm4
+	vpminub ymm3,ymm8,ymm3
+	vpsubb ymm4,ymm8,ymm3
 	vpor   ymm4,ymm7,ymm4
 	vpor   ymm4,ymm5,ymm4
 	vpbroadcastq ymm5,QWORD PTR [rip + const_hex_1_0_0_constant_3_v3]
@@ -441,16 +441,16 @@
 5:
 	vmovdqu ymm0,YMMWORD PTR [rdi+rsi*2]
 	vmovdqu ymm1,YMMWORD PTR [rdi+rsi*2+0x20]
-	vbroadcasti128 ymm2,XMMWORD PTR [rip + const_hex_1_0_0_constant_1_v3]
-	vpshufb ymm3,ymm2,ymm0
-	vpbroadcastd ymm4,DWORD PTR [rip + const_hex_1_0_0_constant_2_v3]
-	vpaddb ymm5,ymm0,ymm4
-	vpminub ymm0,ymm5,ymm3
-	vpsubb ymm3,ymm5,ymm0
-	vpshufb ymm2,ymm2,ymm1
-	vpaddb ymm4,ymm1,ymm4
-	vpminub ymm1,ymm4,ymm2
-	vpsubb ymm2,ymm4,ymm1
+	vpbroadcastd ymm2,DWORD PTR [rip + const_hex_1_0_0_constant_1_v3]
+	vpaddb ymm3,ymm0,ymm2
+	vbroadcasti128 ymm4,XMMWORD PTR [rip + const_hex_1_0_0_constant_2_v3]
+	vpshufb ymm0,ymm4,ymm0
+	vpminub ymm0,ymm3,ymm0
+	vpsubb ymm3,ymm3,ymm0
+	vpaddb ymm2,ymm1,ymm2
+	vpshufb ymm1,ymm4,ymm1
+	vpminub ymm1,ymm2,ymm1
+	vpsubb ymm2,ymm2,ymm1
 	vpor   ymm2,ymm2,ymm3
 	vpbroadcastq ymm3,QWORD PTR [rip + const_hex_1_0_0_constant_3_v3]
 	vptest ymm2,ymm3
@@ -480,16 +480,16 @@
 	jb     8f
 	vmovdqu xmm0,XMMWORD PTR [rdi+rsi*2]
 	vmovdqu xmm1,XMMWORD PTR [rdi+rsi*2+0x10]
-	vmovdqa xmm2,XMMWORD PTR [rip + const_hex_1_0_0_constant_1_v3]
-	vpshufb xmm3,xmm2,xmm0
-	vpbroadcastd xmm4,DWORD PTR [rip + const_hex_1_0_0_constant_2_v3]
-	vpaddb xmm5,xmm0,xmm4
-	vpminub xmm0,xmm5,xmm3
-	vpsubb xmm3,xmm5,xmm0
-	vpshufb xmm2,xmm2,xmm1
-	vpaddb xmm4,xmm1,xmm4
-	vpminub xmm1,xmm4,xmm2
-	vpsubb xmm2,xmm4,xmm1
+	vpbroadcastd xmm2,DWORD PTR [rip + const_hex_1_0_0_constant_1_v3]
+	vpaddb xmm3,xmm0,xmm2
+	vmovdqa xmm4,XMMWORD PTR [rip + const_hex_1_0_0_constant_2_v3]
+	vpshufb xmm0,xmm4,xmm0
+	vpminub xmm0,xmm3,xmm0
+	vpsubb xmm3,xmm3,xmm0
+	vpaddb xmm2,xmm1,xmm2
+	vpshufb xmm1,xmm4,xmm1
+	vpminub xmm1,xmm2,xmm1
+	vpsubb xmm2,xmm2,xmm1
 	vpor   xmm2,xmm2,xmm3
 	vptest xmm2,XMMWORD PTR [rip + const_hex_1_0_0_constant_4_v3]
 	jne    9f
@@ -507,16 +507,16 @@
 	je     13f
 	vmovdqu xmm0,XMMWORD PTR [rdi+rcx*2-0x20]
 	vmovdqu xmm1,XMMWORD PTR [rdi+rcx*2-0x10]
-	vmovdqa xmm2,XMMWORD PTR [rip + const_hex_1_0_0_constant_1_v3]
-	vpshufb xmm3,xmm2,xmm0
-	vpbroadcastd xmm4,DWORD PTR [rip + const_hex_1_0_0_constant_2_v3]
-	vpaddb xmm5,xmm0,xmm4
-	vpminub xmm0,xmm5,xmm3
-	vpsubb xmm3,xmm5,xmm0
-	vpshufb xmm2,xmm2,xmm1
-	vpaddb xmm4,xmm1,xmm4
-	vpminub xmm1,xmm4,xmm2
-	vpsubb xmm2,xmm4,xmm1
+	vpbroadcastd xmm2,DWORD PTR [rip + const_hex_1_0_0_constant_1_v3]
+	vpaddb xmm3,xmm0,xmm2
+	vmovdqa xmm4,XMMWORD PTR [rip + const_hex_1_0_0_constant_2_v3]
+	vpshufb xmm0,xmm4,xmm0
+	vpminub xmm0,xmm3,xmm0
+	vpsubb xmm3,xmm3,xmm0
+	vpaddb xmm2,xmm1,xmm2
+	vpshufb xmm1,xmm4,xmm1
+	vpminub xmm1,xmm2,xmm1
+	vpsubb xmm2,xmm2,xmm1
 	vpor   xmm2,xmm2,xmm3
 	vptest xmm2,XMMWORD PTR [rip + const_hex_1_0_0_constant_4_v3]
 	je     12f
@@ -543,16 +543,16 @@
 	jb     2f
 	vmovdqu xmm0,XMMWORD PTR [rdi]
 	vmovdqu xmm1,XMMWORD PTR [rdi+rsi*1-0x10]
-	vmovdqa xmm2,XMMWORD PTR [rip + const_hex_1_0_0_constant_1_v3]
-	vpshufb xmm3,xmm2,xmm0
-	vpbroadcastd xmm4,DWORD PTR [rip + const_hex_1_0_0_constant_2_v3]
-	vpaddb xmm5,xmm0,xmm4
-	vpminub xmm0,xmm5,xmm3
-	vpsubb xmm3,xmm5,xmm0
-	vpshufb xmm2,xmm2,xmm1
-	vpaddb xmm4,xmm1,xmm4
-	vpminub xmm1,xmm4,xmm2
-	vpsubb xmm2,xmm4,xmm1
+	vpbroadcastd xmm2,DWORD PTR [rip + const_hex_1_0_0_constant_1_v3]
+	vpaddb xmm3,xmm0,xmm2
+	vmovdqa xmm4,XMMWORD PTR [rip + const_hex_1_0_0_constant_2_v3]
+	vpshufb xmm0,xmm4,xmm0
+	vpminub xmm0,xmm3,xmm0
+	vpsubb xmm3,xmm3,xmm0
+	vpaddb xmm2,xmm1,xmm2
+	vpshufb xmm1,xmm4,xmm1
+	vpminub xmm1,xmm2,xmm1
+	vpsubb xmm2,xmm2,xmm1
 	vpor   xmm2,xmm2,xmm3
 	vptest xmm2,XMMWORD PTR [rip + const_hex_1_0_0_constant_4_v3]
 	je     4f
@@ -565,11 +565,11 @@
 	vmovq  xmm0,QWORD PTR [rdi+rsi*1-0x8]
 	vmovq  xmm1,QWORD PTR [rdi]
 	vpunpcklqdq xmm0,xmm1,xmm0
-	vmovdqa xmm1,XMMWORD PTR [rip + const_hex_1_0_0_constant_1_v3]
-	vpshufb xmm1,xmm1,xmm0
-	vpaddb xmm2,xmm0,XMMWORD PTR [rip + const_hex_1_0_0_constant_6_v3]
-	vpminub xmm0,xmm2,xmm1
-	vpsubb xmm1,xmm2,xmm0
+	vpaddb xmm1,xmm0,XMMWORD PTR [rip + const_hex_1_0_0_constant_6_v3]
+	vmovdqa xmm2,XMMWORD PTR [rip + const_hex_1_0_0_constant_2_v3]
+	vpshufb xmm0,xmm2,xmm0
+	vpminub xmm0,xmm1,xmm0
+	vpsubb xmm1,xmm1,xmm0
 	vptest xmm1,XMMWORD PTR [rip + const_hex_1_0_0_constant_4_v3]
 	je     6f
 	xor    eax,eax
@@ -582,11 +582,11 @@
 	mov    eax,0x30303030
 	vpinsrd xmm0,xmm0,eax,0x2
 	vpinsrd xmm0,xmm0,eax,0x3
-	vmovdqa xmm1,XMMWORD PTR [rip + const_hex_1_0_0_constant_1_v3]
-	vpshufb xmm1,xmm1,xmm0
-	vpaddb xmm2,xmm0,XMMWORD PTR [rip + const_hex_1_0_0_constant_6_v3]
-	vpminub xmm0,xmm2,xmm1
-	vpsubb xmm1,xmm2,xmm0
+	vpaddb xmm1,xmm0,XMMWORD PTR [rip + const_hex_1_0_0_constant_6_v3]
+	vmovdqa xmm2,XMMWORD PTR [rip + const_hex_1_0_0_constant_2_v3]
+	vpshufb xmm0,xmm2,xmm0
+	vpminub xmm0,xmm1,xmm0
+	vpsubb xmm1,xmm1,xmm0
 	vptest xmm1,XMMWORD PTR [rip + const_hex_1_0_0_constant_4_v3]
 	je     7f
 	xor    eax,eax
@@ -618,11 +618,11 @@
 	vpinsrw xmm0,xmm0,ecx,0x5
 	vpinsrw xmm0,xmm0,ecx,0x6
 	vpinsrw xmm0,xmm0,ecx,0x7
-	vmovdqa xmm1,XMMWORD PTR [rip + const_hex_1_0_0_constant_1_v3]
-	vpshufb xmm1,xmm1,xmm0
-	vpaddb xmm2,xmm0,XMMWORD PTR [rip + const_hex_1_0_0_constant_6_v3]
-	vpminub xmm0,xmm2,xmm1
-	vpsubb xmm1,xmm2,xmm0
+	vpaddb xmm1,xmm0,XMMWORD PTR [rip + const_hex_1_0_0_constant_6_v3]
+	vmovdqa xmm2,XMMWORD PTR [rip + const_hex_1_0_0_constant_2_v3]
+	vpshufb xmm0,xmm2,xmm0
+	vpminub xmm0,xmm1,xmm0
+	vpsubb xmm1,xmm1,xmm0
 	vptest xmm1,XMMWORD PTR [rip + const_hex_1_0_0_constant_4_v3]
 	je     8f
 	xor    eax,eax
@@ -658,11 +658,11 @@
 	ret
 	end const_hex_1_0_0_small_input_decode_small_v3
 
-	constant const_hex_1_0_0_constant_1_v3, 4
-	.byte 0x01, 0x0a, 0x0b, 0x0c, 0x0d, 0x0e, 0x0f, 0x08, 0x09, 0x0a, 0x00, 0x00, 0x00, 0x00, 0x00, 0x00
-
-	constant const_hex_1_0_0_constant_2_v3, 2
+	constant const_hex_1_0_0_constant_1_v3, 2
 	.byte 0xd0, 0xd0, 0xd0, 0xd0
+
+	constant const_hex_1_0_0_constant_2_v3, 4
+	.byte 0x01, 0x0a, 0x0b, 0x0c, 0x0d, 0x0e, 0x0f, 0x08, 0x09, 0x0a, 0x00, 0x00, 0x00, 0x00, 0x00, 0x00
 
 	constant const_hex_1_0_0_constant_3_v3, 3
 	.byte 0xd8, 0xd8, 0xd8, 0xd8, 0xd8, 0xd8, 0xd8, 0xd8

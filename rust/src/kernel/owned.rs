@@ -40,14 +40,6 @@ pub fn decode_append(digits: &[u8], bytes: &mut alloc::vec::Vec<u8>) -> bool {
     }
 }
 
-/// Returns what `encode_to_vec` of `crates/const_hex/src/owned.rt` returns.
-#[inline]
-pub fn encode_to_vec(_: Global, input: &[u8], prefix: bool, upper: bool) -> Result<Vec<u8>, AllocError> {
-    let mut text = alloc::vec::Vec::with_capacity(text_length(prefix, input.len()));
-    encode_append(input, prefix, upper, &mut text);
-    Ok(Vec(text))
-}
-
 /// Returns what `decode_to_vec` of `crates/const_hex/src/owned.rt` returns.
 #[inline]
 pub fn decode_to_vec(_: Global, digits: &[u8]) -> Result<Option<Vec<u8>>, AllocError> {

@@ -21,7 +21,7 @@ pub use crate::proved::c::error::HexError;
 use crate::proved::c::error::{INVALID_LENGTH, NO_MEMORY, ODD_LENGTH};
 use crate::proved::c::flags::{are_flags, clear, end_text, has_prefix, is_upper, length_of, size_beside};
 use crate::proved::FixedKernel;
-use crate::proved::c::message::{LONGEST, write_ended, write_known};
+use crate::proved::c::message::{LONGEST, write_ended};
 use crate::proved::{Decoder, Kernel};
 
 /// Returns the size of the buffer that [`const_hex_encode`] needs: the text, and a NUL unless the flags
@@ -237,9 +237,9 @@ pub fn const_hex_check_raw(text: &[u8]) -> bool {
 #[cfg_attr(not(target_arch = "wasm32"), inline)]
 pub fn const_hex_error_message(error: &HexError, message: &mut [u8]) -> usize {
     match error.kind {
-        ODD_LENGTH => write_known(b"odd number of digits", message),
-        INVALID_LENGTH => write_known(b"invalid string length", message),
-        NO_MEMORY => write_known(b"out of memory", message),
+        ODD_LENGTH => write_ended(b"odd number of digits", message),
+        INVALID_LENGTH => write_ended(b"invalid string length", message),
+        NO_MEMORY => write_ended(b"out of memory", message),
         _ => {
             let mut space = [0; LONGEST];
             write_ended(error.character_message(&mut space), message)

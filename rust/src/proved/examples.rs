@@ -2,7 +2,7 @@
 
 use crate::proved::*;
 use crate::proved::{examples as const_hex, sink::pieces::PieceSink};
-use crate::std_shim::{alloc::Global, prelude::*, simd::prelude::*};
+use crate::std_shim::{alloc::Global, prelude::*};
 
 #[test]
 fn arch_check_first_checkfirst() {
@@ -433,36 +433,6 @@ fn codec_decoders_const_decode_to_array() {
 fn codec_decoders_bytes_of() {
     let bytes: [u8; 4] = const_hex::bytes_of(b"0x6b697769");
     assert_eq!(&bytes, b"kiwi");
-}
-
-#[test]
-fn codec_encoders_encode() {
-    let text = const_hex::encode(Global, b"Hello world!").unwrap();
-    assert_eq!(text.as_str(), "48656c6c6f20776f726c6421");
-}
-
-#[test]
-fn codec_encoders_encode_upper() {
-    let text = const_hex::encode_upper(Global, b"kiwi").unwrap();
-    assert_eq!(text.as_str(), "6B697769");
-}
-
-#[test]
-fn codec_encoders_encode_prefixed() {
-    let text = const_hex::encode_prefixed(Global, b"kiwi").unwrap();
-    assert_eq!(text.as_str(), "0x6b697769");
-}
-
-#[test]
-fn codec_encoders_encode_upper_prefixed() {
-    let text = const_hex::encode_upper_prefixed(Global, b"kiwi").unwrap();
-    assert_eq!(text.as_str(), "0x6B697769");
-}
-
-#[test]
-fn codec_encoders_encode_with() {
-    let text = const_hex::encode_with::<Plain, true>(Global, b"kiwi").unwrap();
-    assert_eq!(text.as_str(), "6B697769");
 }
 
 #[test]

@@ -13,8 +13,6 @@ use const_hex_arch::{CheckFirst, Kernel, NIL, value_at};
 #[inline]
 pub(crate) fn strip_prefix(text: &[u8]) -> &[u8]
     ensures body { result.now ≡ body_of text.now }
-    ensures parity { length result.now % 2 ≡ length text.now % 2 }
-    ensures shorter { length result.now ≤ length text.now }
 {
     match text {
         [first, second, rest @ ..] if is_prefix(*first, *second) => rest,

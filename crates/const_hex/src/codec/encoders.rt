@@ -1,108 +1,15 @@
-//! Encoding bytes as text.
+//! Encoding bytes as text in a slice.
 
-ghost use Rattle.std.specs.Prelude.{◌≡◌, ◌≢◌, ◌*◌, true, false, length, IsTrue, IsOk, IfOk, IfErr, Err, ◌↔◌, string_bytes};
+ghost use Rattle.std.specs.Prelude.{◌≡◌, ◌≢◌, ◌*◌, true, false, length, IsTrue, IsOk, IfOk, IfErr, Err, ◌↔◌};
 ghost use Rattle.std.specs.Borrow.{sem};
 ghost use Rattle.std.specs.Str.{IsAscii};
 ghost use Rattle.const_hex_arch.specs.Texts.{hex_text, full_text, text_length};
 ghost use Rattle.const_hex.specs.Buffers.{EndsEncoded};
-ghost use Rattle.const_hex.specs.Results.{Encodes, EncodesToSlice};
+ghost use Rattle.const_hex.specs.Results.{EncodesToSlice};
 ghost use Rattle.const_hex.specs.declared.error.FromHexError.TheVariants.{InvalidStringLength};
 
 use crate::error::FromHexError;
-use crate::owned::encode_to_vec;
 use const_hex_arch::{FixedKernel, Kernel, ascii_text, fill_text, text_length};
-use std::alloc::{AllocError, Global};
-
-/// The text, as a `String`.
-#[inline(always)]
-pub(crate) fn encode_owned<K: Kernel>(
-    alloc: Global,
-    input: &[u8],
-    prefix: bool,
-    upper: bool,
-) -> Result<String, AllocError>
-    ensures { IfOk result (λ s. string_bytes s ≡ full_text prefix upper input.now) }
-{
-    let text = encode_to_vec::<K>(alloc, input, prefix, upper)?;
-    // SAFETY: the text is ASCII.
-    Ok(unsafe { String::from_utf8_unchecked(text) })
-}
-
-/// Two digits for each byte, in order, in lowercase.
-///
-/// Returns `AllocError` if memory cannot be allocated.
-///
-/// ```rust
-/// let text = const_hex::encode(rt.alloc(), b"Hello world!")?;
-/// assert_eq!(rt; text.as_str(), "48656c6c6f20776f726c6421");
-/// ```
-#[tactic(auto, using(const_hex_arch::proofs::lemmas::Texts::texts))]
-pub fn encode(alloc: Global, input: &[u8]) -> Result<String, AllocError>
-    ensures { Encodes false input.now result }
-{
-    encode_owned::<FixedKernel>(alloc, input, false, false)
-}
-
-/// As [`encode`], in uppercase.
-///
-/// Returns `AllocError` if memory cannot be allocated.
-///
-/// ```rust
-/// let text = const_hex::encode_upper(rt.alloc(), b"kiwi")?;
-/// assert_eq!(rt; text.as_str(), "6B697769");
-/// ```
-#[tactic(auto, using(const_hex_arch::proofs::lemmas::Texts::texts))]
-pub fn encode_upper(alloc: Global, input: &[u8]) -> Result<String, AllocError>
-    ensures { Encodes true input.now result }
-{
-    encode_owned::<FixedKernel>(alloc, input, false, true)
-}
-
-/// `0x`, and then the text of [`encode`].
-///
-/// Returns `AllocError` if memory cannot be allocated.
-///
-/// ```rust
-/// let text = const_hex::encode_prefixed(rt.alloc(), b"kiwi")?;
-/// assert_eq!(rt; text.as_str(), "0x6b697769");
-/// ```
-pub fn encode_prefixed(alloc: Global, input: &[u8]) -> Result<String, AllocError>
-    ensures { IfOk result (λ s. string_bytes s ≡ full_text true false input.now) }
-{
-    encode_owned::<FixedKernel>(alloc, input, true, false)
-}
-
-/// `0x`, and then the text of [`encode_upper`].
-///
-/// Returns `AllocError` if memory cannot be allocated.
-///
-/// ```rust
-/// let text = const_hex::encode_upper_prefixed(rt.alloc(), b"kiwi")?;
-/// assert_eq!(rt; text.as_str(), "0x6B697769");
-/// ```
-pub fn encode_upper_prefixed(alloc: Global, input: &[u8]) -> Result<String, AllocError>
-    ensures { IfOk result (λ s. string_bytes s ≡ full_text true true input.now) }
-{
-    encode_owned::<FixedKernel>(alloc, input, true, true)
-}
-
-/// As [`encode`] or [`encode_upper`], by a kernel of the caller's choice.
-///
-/// Returns `AllocError` if memory cannot be allocated.
-///
-/// ```rust
-/// let text = const_hex::encode_with::<Plain, true>(rt.alloc(), b"kiwi")?;
-/// assert_eq!(rt; text.as_str(), "6B697769");
-/// ```
-#[inline]
-pub fn encode_with<K: Kernel, const UPPER: bool>(
-    alloc: Global,
-    input: &[u8],
-) -> Result<String, AllocError>
-    ensures { Encodes UPPER input.now result }
-{
-    encode_owned::<K>(alloc, input, false, UPPER)
-}
 
 /// Whether there are exactly two digits for each byte.
 #[inline(always)]

@@ -5,7 +5,7 @@ ghost use Rattle.serde_json.specs.Data.{string};
 ghost use Rattle.serde_json.specs.View.{view};
 ghost use Rattle.const_hex_arch.specs.Texts.{full_text};
 
-use crate::codec::encoders::{encode, encode_upper};
+use crate::owned::{encode, encode_upper};
 pub use crate::serde::deserialize;
 use serde_json::Value;
 use std::alloc::{AllocError, Global};

@@ -3,7 +3,7 @@
 ghost use Rattle.std.specs.Prelude.{◌≡◌, ℕ, List, true, false, IfOk, string_bytes};
 ghost use Rattle.const_hex_arch.specs.Texts.{hex_text, full_text};
 
-use crate::codec::encoders::{encode, encode_prefixed, encode_upper, encode_upper_prefixed};
+use crate::owned::{encode, encode_prefixed, encode_upper, encode_upper_prefixed};
 use std::alloc::{AllocError, Global};
 
 /// A type that holds bytes.

@@ -1,7 +1,7 @@
 -- Digits in a vector: their values and the test of each lane by one look-up, and the test of all lanes. The numbers
 -- are those of lanes16.rt and lanes.rt, which docs/DESIGN.md explains under "Checking and decoding one vector": adding
 -- 208 subtracts `0`, 143 (0x8F) is the part of a byte that looks up its limit, and 216 (0xD8) are the bits of a mark.
-use Rattle.std.proofs.Common.{◌≡◌, ℕ, zero, suc, ◌+◌, ◌-◌, ◌*◌, ◌/◌, ◌%◌, ◌<◌, ◌≤◌, ◌↔◌, Bool, true, eqb, cond, ltb, ◌||◌, T, List, [], ◌∷◌, ◌++◌, length, replicate, get_or, bit_and, bit_or, refl, sym, subst, ◌∙◌, arith, w8, Fits, eqb-true, eq-eqb, IsTrue, Some, None, ap, map, drop}
+use Rattle.std.proofs.Common.{◌≡◌, ℕ, zero, suc, ◌+◌, ◌-◌, ◌*◌, ◌/◌, ◌%◌, ◌<◌, ◌≤◌, ◌↔◌, Bool, true, eqb, cond, ltb, ◌||◌, T, List, [], ◌∷◌, ◌++◌, length, replicate, get_or, bit_and, bit_or, refl, sym, subst, ◌∙◌, arith, w8, Fits, eqb-true, eq-eqb, IsTrue, Some}
 use Rattle.std.specs.List.{AllZip}
 use Rattle.std.specs.Int.{bit_at}
 use Rattle.std.specs.Option.{is_some}
@@ -11,12 +11,12 @@ use Rattle.std.proofs.lemmas.List.Elements.{All-nil, All-head, All-tail, All-con
 use Rattle.std.proofs.lemmas.Nat.{le_or_l, le_or_r}
 use Rattle.std.proofs.lemmas.Nat.Bits.{bit_at_or}
 use Rattle.std.proofs.lemmas.Simd.{swz_l}
-use lib.Lanes.{zip2, fold_l, sel_l, top, Each1}
+use lib.Lanes.{zip2, fold_l, Each1}
 use mir.Val.{zeroes}
 use Rattle.const_hex_arch.specs.Texts.{hex_value, IsDigit, AllDigits}
-use Rattle.const_hex_arch.specs.Lanes.{IsUnmarked, AllUnmarked, as_value, IsValueOf, IsPartOf, IsLimitOf}
+use Rattle.const_hex_arch.specs.Lanes.{IsUnmarked, AllUnmarked, IsValueOf, IsPartOf, IsLimitOf}
 use Rattle.const_hex_arch.proofs.lemmas.Tables.{all_below, every_below}
-use Rattle.const_hex_arch.proofs.lemmas.LaneValues.{same_value, is_none, same_if_some, sub8, min_l, below_mask}
+use Rattle.const_hex_arch.proofs.lemmas.LaneValues.{same_value, is_none, same_if_some, sub8, min_l}
 use Rattle.const_hex_arch.proofs.lemmas.DigitTexts.{digits_append}
 
 -- the bits that mark a lane
@@ -183,28 +183,3 @@ are_unmarked n xs f =
     let all = unmarked_fold 0 xs f.1 in
     let none : zero ≡ 0 = refl in
     rw (← f.0) (λ t. (all.0 (eqb-true _ 0 t)).1, λ a. eq-eqb _ 0 (all.1 (none, a)))
-
--- ---- the marks of what `nibbles` makes
-
--- 255 for each lane above 15, otherwise 0
-abbrev pub beyond_l : ℕ → List ℕ → List ℕ
-beyond_l n ns = sel_l (map (top 7) (zip2 below_mask (replicate n 15) ns)) (replicate n 255) (replicate n 0)
-
-beyond_at : (n b : ℕ) → as_value n ≡ hex_value b → IsUnmarked (get_or (beyond_l 1 (n ∷ [])) 0 0) ↔ IsDigit b
-beyond_at n b e = rw (← e) (grind (arith, nat_tests))
-
-beyond_all : (v ns : List ℕ) → map as_value ns ≡ map hex_value v → AllUnmarked (beyond_l (length v) ns) ↔ AllDigits v
-beyond_all [] [] e = (λ _. All-nil IsDigit, λ _. tt)
-beyond_all [] (n ∷ ns) e = absurd (let q : suc (length (map as_value ns)) ≡ zero = ap length e in omega arith)
-beyond_all (b ∷ v) [] e = absurd (let q : zero ≡ suc (length (map hex_value v)) = ap length e in omega arith)
-beyond_all (b ∷ v) (n ∷ ns) e =
-    let here = beyond_at n b (ap (λ l. get_or l 0 None) e) in
-    let more = beyond_all v ns (ap (drop 1) e) in (
-      λ a. All-cons IsDigit b v (here.0 a.0) (more.0 a.1),
-      λ a.
-          (here.1 (All-head IsDigit b v a), more.1 (All-tail IsDigit b v a)),
-    )
-
-pub beyond_are : (n : ℕ) (v ns : List ℕ) → length v ≡ n → map as_value ns ≡ map hex_value v
-    → AllUnmarked (beyond_l n ns) ↔ AllDigits v
-beyond_are n v ns long e = subst (λ n. AllUnmarked (beyond_l n ns) ↔ AllDigits v) long (beyond_all v ns e)

@@ -5,7 +5,7 @@ use Rattle.std.proofs.lemmas.List.{append-nil, ext_get_or, get_or-map, length-ma
 use Rattle.std.proofs.lemmas.Simd.{Each1-get_or, SwzOk, SwzOk-from_below, length-put_chunk, take_more_put_chunk, swz_l, length-swz_l, get_or-swz_l_below}
 use lib.Lanes.{zip2, Each1, pick_l, put_chunk, number_l, digits_l}
 use Rattle.const_hex_arch.specs.Texts.{hex_digit, hex_text}
-use Rattle.const_hex_arch.specs.Lanes.{AllNibbles, halves_of}
+use Rattle.const_hex_arch.specs.Lanes.{halves_of}
 use Rattle.const_hex_arch.proofs.lemmas.Tables.{all_below, every_below, every_pair}
 use Rattle.const_hex_arch.proofs.lemmas.Texts.{hex_text-append}
 use Rattle.const_hex_arch.proofs.lemmas.LaneLookups.{halves}
@@ -51,10 +51,6 @@ length-halves_of (x ∷ v) = let rest = length-halves_of v in omega arith
 halves_below : (v : List ℕ) → Each1 (Fits w8) v → Each1 (λ j. j < 16) (halves_of v)
 halves_below [] f = tt
 halves_below (x ∷ v) f = (omega (arith, f.0.fits), (omega arith, halves_below v f.1))
-
-pub halves_are_values : (v : List ℕ) → Each1 (Fits w8) v → AllNibbles (halves_of v)
-halves_are_values [] f = tt
-halves_are_values (x ∷ v) f = (omega (arith, f.0.fits), (omega arith, halves_are_values v f.1))
 
 pub halves_ok : (v : List ℕ) → (length v ≡ 16) × Each1 (Fits w8) v → SwzOk w8 16 32 0 (halves_of v)
 halves_ok v f =

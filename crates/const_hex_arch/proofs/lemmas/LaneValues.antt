@@ -1,10 +1,10 @@
 -- The values of digits, in vectors of any number of lanes.
-use Rattle.std.proofs.Common.{◌≡◌, ℕ, zero, suc, ◌+◌, ◌-◌, ◌%◌, ◌^◌, ◌<◌, ◌≤◌, Bool, true, false, cond, eqb, ltb, T, ◌||◌, List, [], ◌∷◌, map, length, replicate, drop, get_or, bit_and, refl, ap, arith, w8, Fits, Option, Some, None, IsSome, eqb→eq, if◌then◌else◌, subst}
+use Rattle.std.proofs.Common.{◌≡◌, ℕ, zero, suc, ◌+◌, ◌-◌, ◌%◌, ◌^◌, ◌<◌, ◌≤◌, Bool, true, false, cond, eqb, ltb, T, ◌||◌, List, [], ◌∷◌, map, length, replicate, drop, get_or, bit_and, refl, ap, arith, w8, Fits, Option, Some, None, IsSome, eqb→eq}
 use Rattle.std.specs.List.{AllZip}
 use Rattle.std.proofs.lemmas.Bool.Decides.{nat_tests}
 use Rattle.std.proofs.lemmas.List.Elements.{All-head, All-tail}
 use lib.Lanes.{zip2, sel_l, top, Each1}
-use Rattle.const_hex_arch.specs.Texts.{hex_digit, hex_value, IsDigit, AllDigits}
+use Rattle.const_hex_arch.specs.Texts.{hex_value, IsDigit, AllDigits}
 use Rattle.const_hex_arch.specs.Lanes.{AllNibbles, as_value, IsValueOf}
 use Rattle.const_hex_arch.proofs.lemmas.Tables.{every_below}
 use Rattle.const_hex_arch.proofs.lemmas.Digits.{hex_value-small}
@@ -106,39 +106,3 @@ small_values (n ∷ ns) (x ∷ v) e d = (
   small_values ns v (ap (drop 1) e)
       (All-tail IsDigit x v d),
 )
-
--- ---- by what `nibbles` makes of lanes
-
-value_of_one : (n b : ℕ) → as_value n ≡ hex_value b → IsValueOf b n
-value_of_one n b e = rw (← e) (λ s. grind (arith, nat_tests))
-
-pub values_are : (v ns : List ℕ) → map as_value ns ≡ map hex_value v → AllZip IsValueOf v ns
-values_are [] [] e = tt
-values_are [] (n ∷ ns) e = absurd (let q : suc (length (map as_value ns)) ≡ zero = ap length e in omega arith)
-values_are (b ∷ v) [] e = absurd (let q : zero ≡ suc (length (map hex_value v)) = ap length e in omega arith)
-values_are (b ∷ v) (n ∷ ns) e = (value_of_one n b (ap (λ l. get_or l 0 None) e), values_are v ns (ap (drop 1) e))
-
--- ---- the digits of values
-
-abbrev pub gap_of : Bool → ℕ
-gap_of up = if up then 7 else 39
-
--- what `to_digits` computes of n lanes
-abbrev pub digits_of_l : ℕ → ℕ → List ℕ → List ℕ
-digits_of_l gap n v =
-    zip2 add8 (zip2 add8 v (replicate n 48))
-    (sel_l (map (top 7) (zip2 below_mask (replicate n 9) v)) (replicate n gap) (replicate n 0))
-
-digit_at : (up : Bool) (x : ℕ) → x < 16 → get_or (digits_of_l (gap_of up) 1 (x ∷ [])) 0 0 ≡ hex_digit up x
-digit_at true x h =
-    eqb→eq _ _ (every_below (λ x. eqb (get_or (digits_of_l 7 1 (x ∷ [])) 0 0) (hex_digit true x)) 16 tt x h)
-digit_at false x h =
-    eqb→eq _ _ (every_below (λ x. eqb (get_or (digits_of_l 39 1 (x ∷ [])) 0 0) (hex_digit false x)) 16 tt x h)
-
-digits_all : (up : Bool) (v : List ℕ) → AllNibbles v → digits_of_l (gap_of up) (length v) v ≡ map (hex_digit up) v
-digits_all up [] f = refl
-digits_all up (x ∷ xs) f = let small : x < 16 = omega (arith, f.0) in cc (digit_at up x small, digits_all up xs f.1)
-
-pub digits_are : (up : Bool) (n : ℕ) (v : List ℕ) → length v ≡ n → AllNibbles v
-    → digits_of_l (gap_of up) n v ≡ map (hex_digit up) v
-digits_are up n v long f = subst (λ n. digits_of_l (gap_of up) n v ≡ map (hex_digit up) v) long (digits_all up v f)

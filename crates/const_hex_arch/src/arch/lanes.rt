@@ -4,14 +4,13 @@
 
 ghost use Rattle.std.specs.Prelude.{◌≡◌, ◌++◌, ◌≤◌, ◌↔◌, [], ◌∷◌, length, map, IsTrue};
 ghost use Rattle.std.specs.List.{AllZip, concat};
-ghost use Rattle.const_hex_arch.specs.Texts.{hex_digit, hex_value, hex_text, AllDigits, Spells};
+ghost use Rattle.const_hex_arch.specs.Texts.{hex_value, hex_text, AllDigits, Spells};
 ghost use Rattle.const_hex_arch.specs.Lanes.{AllNibbles, AllUnmarked, byte_pairs, as_value, IsValueOf, IsPartOf, IsLimitOf};
 
 use std::simd::prelude::*;
 
-/// The operations that depend on the number of lanes `N`, or on whether the target has a byte
-/// shuffle. Everything else in a kernel is written once, over this trait. The argument `row_copy` never
-/// changes a result: it selects one of two equal rows, as
+/// The operations that depend on the number of lanes `N`. Everything else in a kernel is written once,
+/// over this trait. The argument `row_copy` never changes a result: it selects one of two equal rows, as
 /// [`lanes16::select_row`](super::lanes16::select_row) explains.
 pub(crate) trait LaneOps<const N: usize> {
     /// Two digits for each lane, in order: the text of the first half, and the text of the second.
@@ -19,15 +18,9 @@ pub(crate) trait LaneOps<const N: usize> {
         ensures text { concat result ≡ hex_text upper v.entry }
         ensures lanes { map length result ≡ N ∷ N ∷ [] };
 
-    /// The value of each lane that is a digit.
-    fn values(v: Simd<u8, N>) -> Simd<u8, N>
-        ensures { AllZip IsValueOf v.entry result };
-
-    /// A mark for each lane. The lane is a digit if and only if the bits 7, 6, 4 and 3 (the mask
-    /// `0xD8`) of its mark are clear. Marks of several vectors can be joined with `|` and tested at
-    /// once.
-    fn marks(v: Simd<u8, N>) -> Simd<u8, N>
-        ensures { AllUnmarked result ↔ AllDigits v.entry };
+    /// The limit of each lane. If the lane is a digit, its value is at most the limit.
+    fn look_up_limits(v: Simd<u8, N>) -> Simd<u8, N>
+        ensures { AllZip IsLimitOf v.entry result };
 
     /// One byte for each two values, the higher half first.
     fn merge(first: Simd<u8, N>, second: Simd<u8, N>, row_copy: bool) -> Simd<u8, N>
@@ -74,45 +67,24 @@ pub(crate) fn unhex<const N: usize>(v: Simd<u8, N>) -> Simd<u8, N>
 }
 
 /// `min(lane - 48, limit)` for each lane. If the lane is a digit, this is its value. Otherwise it
-/// is a number by which [`marks_beyond`] rejects the lane.
+/// is a number by which [`marks`] rejects the lane.
 #[inline(always)]
-pub(crate) fn values_within<const N: usize>(v: Simd<u8, N>, limits: Simd<u8, N>) -> Simd<u8, N>
-    requires { AllZip IsLimitOf v limits }
+fn values<const N: usize, V: LaneOps<N>>(v: Simd<u8, N>) -> Simd<u8, N>
     ensures { AllZip IsPartOf v.entry result }
 {
-    (v - Simd::splat(0x30)).simd_min(limits)
+    (v - Simd::splat(0x30)).simd_min(V::look_up_limits(v))
 }
 
-/// The lane less 48, less its value: the marks of [`LaneOps::marks`].
+/// A mark for each lane: the lane less 48, less its value. The lane is a digit if and only if the bits
+/// 7, 6, 4 and 3 (the mask `0xD8`) of its mark are clear. Marks of several vectors can be joined with `|`
+/// and tested at once.
 // `(v - 48).saturating_sub(limits)` is the same number. But then the limits of all vectors would
 // stay in registers beside the values until the marks are tested, and SSE has only 16 registers.
 #[inline(always)]
-pub(crate) fn marks_beyond<const N: usize>(v: Simd<u8, N>, values: Simd<u8, N>) -> Simd<u8, N>
-    requires { AllZip IsPartOf v values }
+fn marks<const N: usize, V: LaneOps<N>>(v: Simd<u8, N>) -> Simd<u8, N>
     ensures { AllUnmarked result ↔ AllDigits v.entry }
 {
-    v - Simd::splat(0x30) - values
-}
-
-/// The marks of [`LaneOps::marks`], by what [`nibbles`] makes of each lane.
-#[inline(always)]
-pub(crate) fn marks_of_nibbles<const N: usize>(v: Simd<u8, N>) -> Simd<u8, N>
-    ensures { AllUnmarked result ↔ AllDigits v.entry }
-{
-    let values = nibbles(v);
-    let marks = values.simd_gt(Simd::splat(15));
-    marks.select(Simd::splat(255), Simd::splat(0))
-}
-
-/// The digit of each lane, which must be a value.
-#[inline(always)]
-pub(crate) fn to_digits<const N: usize>(values: Simd<u8, N>, upper: bool) -> Simd<u8, N>
-    requires { AllNibbles values }
-    ensures { result ≡ map (hex_digit upper) values.entry }
-{
-    let gap = if upper { 7 } else { 39 };
-    let is_letter = values.simd_gt(Simd::splat(9));
-    values + Simd::splat(48) + is_letter.select(Simd::splat(gap), Simd::splat(0))
+    v - Simd::splat(0x30) - values::<N, V>(v)
 }
 
 /// Whether every lane is a digit.
@@ -121,7 +93,7 @@ pub(crate) fn to_digits<const N: usize>(values: Simd<u8, N>, upper: bool) -> Sim
 pub(crate) fn are_digits<const N: usize, V: LaneOps<N>>(v: Simd<u8, N>) -> bool
     ensures { IsTrue result ↔ AllDigits v.entry }
 {
-    are_unmarked(V::marks(v))
+    are_unmarked(marks::<N, V>(v))
 }
 
 /// The marks of two vectors, joined.
@@ -132,13 +104,13 @@ pub(crate) fn joint_marks<const N: usize, V: LaneOps<N>>(
 ) -> Simd<u8, N>
     ensures { AllUnmarked result ↔ AllDigits (first.entry ++ second.entry) }
 {
-    V::marks(first) | V::marks(second)
+    marks::<N, V>(first) | marks::<N, V>(second)
 }
 
 /// Decodes two vectors of digits to one vector of bytes. If some lane is not a digit, the result is
 /// unspecified: test the marks before you use it.
 #[inline(always)]
-#[tactic(auto, using(crate::proofs::lemmas::LaneBytes::merge_spells))]
+#[tactic(auto, using(crate::proofs::lemmas::LaneMarks::values_of_parts, crate::proofs::lemmas::LaneBytes::merge_spells))]
 pub(crate) fn decode<const N: usize, V: LaneOps<N>>(
     first: Simd<u8, N>,
     second: Simd<u8, N>,
@@ -146,7 +118,7 @@ pub(crate) fn decode<const N: usize, V: LaneOps<N>>(
 ) -> Simd<u8, N>
     ensures { AllDigits (first.entry ++ second.entry) → Spells (first.entry ++ second.entry) result }
 {
-    V::merge(V::values(first), V::values(second), row_copy)
+    V::merge(values::<N, V>(first), values::<N, V>(second), row_copy)
 }
 
 /// As [`decode`], by [`unhex`], for lanes that were tested before.

@@ -6,7 +6,7 @@
 ghost use Rattle.std.specs.Prelude.{◌≡◌, ◌↔◌, [], ◌∷◌, ◌++◌, length, map, IsTrue, false, IsNone, IfSome};
 ghost use Rattle.std.specs.List.{AllZip, concat};
 ghost use Rattle.const_hex_arch.specs.Texts.{hex_value, hex_text, AllDigits, Spells};
-ghost use Rattle.const_hex_arch.specs.Lanes.{AllNibbles, AllUnmarked, byte_pairs, bytes_of_4097, halves_of, row_of, as_value, IsValueOf, IsLimitOf};
+ghost use Rattle.const_hex_arch.specs.Lanes.{AllNibbles, byte_pairs, bytes_of_4097, halves_of, row_of, as_value, IsValueOf, IsLimitOf};
 
 use crate::arch::lanes::{self, LaneOps};
 use crate::arch::{Kernel, loops, small_input};
@@ -24,11 +24,12 @@ const LIMITS: [u8; 16] = [1, 10, 11, 12, 13, 14, 15, 8, 9, 10, 0, 0, 0, 0, 0, 0]
 /// A row for lowercase and one for uppercase, in two equal copies: the 16 digits, and the factor
 /// 4097 in each lane of 16 bits.
 // Why two copies: a compiler that knows a factor of 4097 multiplies by a shift and a sum (LLVM 22,
-// for x86-64). Then to decode 2048 bytes costs more instructions: in Rattle's build 3645 in place
-// of 3347, and by rustc 1.95 with AVX2 1919 in place of 1827. So the loops, and the steps after the
-// loop of `fill_in_steps`, choose a copy by a bit that is known only at run time. All else takes the
-// first one: the choice would cost up to 4 instructions a call. The last pair of rows is never read.
-// Without it all factors would be the same, and the compiler would know them.
+// for x86-64), which costs more instructions. In Rattle's build these are 2361 in place of 1823 to
+// encode 2047 bytes, and 3645 in place of 3347 to decode to 2048; by rustc 1.95 with AVX2, 1919 in
+// place of 1827 to decode. So the loops, and the steps after the loop of `fill_in_steps`, choose a
+// copy by a bit that is known only at run time. All else takes the first one: the choice would cost up
+// to 4 instructions a call. The last pair of rows is never read. Without it all factors would be the
+// same, and the compiler would know them.
 const ROWS: &[[Row; 2]; 3] = &[CASES, CASES, [[[0; 16]; 2]; 2]];
 
 const CASES: [Row; 2] = [
@@ -78,7 +79,7 @@ pub fn encode_chunk<const UPPER: bool>(v: u8x16) -> [u8x16; 2]
     ensures text { concat result ≡ hex_text UPPER v }
     ensures lanes { map length result ≡ 16 ∷ 16 ∷ [] }
 {
-    in_two(encode_lanes(v, UPPER, false))
+    Lanes16::digits_of(v, UPPER, false)
 }
 
 /// Whether every lane is a digit.
@@ -160,7 +161,7 @@ impl Kernel for Lanes16 {
 
     #[inline(always)]
     fn fill(input: &[u8], upper: bool, output: &mut [u8]) {
-        loops::fill_in_steps::<16, Lanes16, Lanes16>(input, upper, output);
+        loops::fill_in_steps::<16, Lanes16>(input, upper, output);
     }
 
     // Not `always`: `decode_body` calls `CheckFirst::<K>` in a branch that is never taken for this
@@ -168,19 +169,19 @@ impl Kernel for Lanes16 {
     #[inline]
     fn check(input: &[u8]) -> bool {
         if input.len() < 16 {
-            return small_input::check::<Lanes16>(input);
+            return small_input::check(input);
         }
         loops::check_in_steps::<16, Lanes16>(input)
     }
 
     #[inline(always)]
     fn decode_checked(input: &[u8], output: &mut [u8]) -> bool {
-        loops::decode_in_steps::<16, true, Lanes16, Lanes16>(input, output)
+        loops::decode_in_steps::<16, true, Lanes16>(input, output)
     }
 
     #[inline(always)]
     fn decode_unchecked(input: &[u8], output: &mut [u8]) {
-        loops::decode_digits_in_steps::<16, Lanes16, Lanes16>(input, output);
+        loops::decode_digits_in_steps::<16, Lanes16>(input, output);
     }
 }
 
@@ -193,19 +194,15 @@ impl LaneOps<16> for Lanes16 {
         in_two(encode_lanes(v, upper, row_copy))
     }
 
+    // Constant time: this is a shuffle within a register, so no byte selects a memory address.
+    // `swizzle_dyn` takes indices from 0 to 15, and from 128 on, for which it returns 0. The mask
+    // leaves only such indices. On x86-64 it costs nothing, since `pshufb` looks at exactly these five
+    // bits.
     #[inline(always)]
-    #[tactic(auto, using(crate::proofs::lemmas::LaneMarks::values_of_parts))]
-    fn values(v: u8x16) -> u8x16
-        ensures { AllZip IsValueOf v result }
+    fn look_up_limits(v: u8x16) -> u8x16
+        ensures { AllZip IsLimitOf v result }
     {
-        lanes::values_within(v, look_up_limits(v))
-    }
-
-    #[inline(always)]
-    fn marks(v: u8x16) -> u8x16
-        ensures { AllUnmarked result ↔ AllDigits v }
-    {
-        lanes::marks_beyond(v, lanes::values_within(v, look_up_limits(v)))
+        u8x16::from_array(LIMITS).swizzle_dyn(v & u8x16::splat(0x8F))
     }
 
     #[inline(always)]
@@ -218,18 +215,6 @@ impl LaneOps<16> for Lanes16 {
     ghost use Rattle.std.proofs.Common.{arith};
 
     ghost sizes = { (Prim.omega arith, Prim.omega arith) };
-}
-
-/// The limit of each lane. If the lane is a digit, its value is at most the limit.
-// Constant time: this is a shuffle within a register, so no byte selects a memory address.
-// `swizzle_dyn` takes indices from 0 to 15, and from 128 on, for which it returns 0. The mask
-// leaves only such indices. On x86-64 it costs nothing, since `pshufb` looks at exactly these five
-// bits.
-#[inline(always)]
-pub(crate) fn look_up_limits(v: u8x16) -> u8x16
-    ensures { AllZip IsLimitOf v result }
-{
-    u8x16::from_array(LIMITS).swizzle_dyn(v & u8x16::splat(0x8F))
 }
 
 /// A vector in its halves.

@@ -6,7 +6,7 @@
 ghost use Rattle.std.specs.Prelude.{◌≡◌, ◌↔◌, [], ◌∷◌, ◌++◌, length, map, IsTrue, false, IsNone, IfSome};
 ghost use Rattle.std.specs.List.{AllZip, concat};
 ghost use Rattle.const_hex_arch.specs.Texts.{hex_value, hex_text, AllDigits, Spells};
-ghost use Rattle.const_hex_arch.specs.Lanes.{AllNibbles, AllUnmarked, byte_pairs, as_value, IsValueOf, IsLimitOf};
+ghost use Rattle.const_hex_arch.specs.Lanes.{AllNibbles, byte_pairs, as_value, IsValueOf, IsLimitOf};
 
 use crate::arch::lanes::{self, LaneOps};
 use crate::arch::lanes16::{self, Lanes16};
@@ -106,7 +106,7 @@ impl Kernel for Lanes32 {
 
     #[inline(always)]
     fn fill(input: &[u8], upper: bool, output: &mut [u8]) {
-        loops::fill_in_steps::<32, Lanes32, Lanes16>(input, upper, output);
+        loops::fill_in_steps::<32, Lanes32>(input, upper, output);
     }
 
     // Not `always`: `decode_body` calls `CheckFirst::<K>` in a branch that is never taken for this
@@ -121,17 +121,17 @@ impl Kernel for Lanes32 {
 
     #[inline(always)]
     fn decode_checked(input: &[u8], output: &mut [u8]) -> bool {
-        loops::decode_in_steps::<32, true, Lanes32, Lanes16>(input, output)
+        loops::decode_in_steps::<32, true, Lanes32>(input, output)
     }
 
     #[inline(always)]
     fn decode_all(input: &[u8], output: &mut [u8]) -> bool {
-        loops::decode_in_steps::<32, false, Lanes32, Lanes16>(input, output)
+        loops::decode_in_steps::<32, false, Lanes32>(input, output)
     }
 
     #[inline(always)]
     fn decode_unchecked(input: &[u8], output: &mut [u8]) {
-        loops::decode_digits_in_steps::<32, Lanes32, Lanes16>(input, output);
+        loops::decode_digits_in_steps::<32, Lanes32>(input, output);
     }
 }
 
@@ -146,19 +146,15 @@ impl LaneOps<32> for Lanes32 {
         [first, second]
     }
 
+    // In halves of 16 lanes, for which the mask costs nothing. With AVX2 the compiler makes one shuffle
+    // of both. The other functions use 32 lanes, since the compiler would keep halves there.
     #[inline(always)]
-    #[tactic(auto, using(crate::proofs::lemmas::LaneMarks::values_of_parts))]
-    fn values(v: u8x32) -> u8x32
-        ensures { AllZip IsValueOf v result }
+    fn look_up_limits(v: u8x32) -> u8x32
+        ensures { AllZip IsLimitOf v result }
     {
-        lanes::values_within(v, look_up_limits(v))
-    }
-
-    #[inline(always)]
-    fn marks(v: u8x32) -> u8x32
-        ensures { AllUnmarked result ↔ AllDigits v }
-    {
-        lanes::marks_beyond(v, lanes::values_within(v, look_up_limits(v)))
+        let first = Lanes16::look_up_limits(v.extract::<0, 16>());
+        let second = Lanes16::look_up_limits(v.extract::<16, 16>());
+        lanes16::join(first, second)
     }
 
     #[inline(always)]
@@ -171,18 +167,6 @@ impl LaneOps<32> for Lanes32 {
     ghost use Rattle.std.proofs.Common.{arith};
 
     ghost sizes = { (Prim.omega arith, Prim.omega arith) };
-}
-
-/// The limit of each lane. If the lane is a digit, its value is at most the limit.
-// In halves of 16 lanes, for which the mask costs nothing. With AVX2 the compiler makes one shuffle
-// of both. The other functions use 32 lanes, since the compiler would keep halves there.
-#[inline(always)]
-fn look_up_limits(v: u8x32) -> u8x32
-    ensures { AllZip IsLimitOf v result }
-{
-    let first = lanes16::look_up_limits(v.extract::<0, 16>());
-    let second = lanes16::look_up_limits(v.extract::<16, 16>());
-    lanes16::join(first, second)
 }
 
 /// Decodes the lanes of a text, and says whether each of these lanes is a digit. If one is not, the

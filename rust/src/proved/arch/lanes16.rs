@@ -21,11 +21,12 @@ const LIMITS: [u8; 16] = [1, 10, 11, 12, 13, 14, 15, 8, 9, 10, 0, 0, 0, 0, 0, 0]
 /// A row for lowercase and one for uppercase, in two equal copies: the 16 digits, and the factor
 /// 4097 in each lane of 16 bits.
 // Why two copies: a compiler that knows a factor of 4097 multiplies by a shift and a sum (LLVM 22,
-// for x86-64). Then to decode 2048 bytes costs more instructions: in Rattle's build 3645 in place
-// of 3347, and by rustc 1.95 with AVX2 1919 in place of 1827. So the loops, and the steps after the
-// loop of `fill_in_steps`, choose a copy by a bit that is known only at run time. All else takes the
-// first one: the choice would cost up to 4 instructions a call. The last pair of rows is never read.
-// Without it all factors would be the same, and the compiler would know them.
+// for x86-64), which costs more instructions. In Rattle's build these are 2361 in place of 1823 to
+// encode 2047 bytes, and 3645 in place of 3347 to decode to 2048; by rustc 1.95 with AVX2, 1919 in
+// place of 1827 to decode. So the loops, and the steps after the loop of `fill_in_steps`, choose a
+// copy by a bit that is known only at run time. All else takes the first one: the choice would cost up
+// to 4 instructions a call. The last pair of rows is never read. Without it all factors would be the
+// same, and the compiler would know them.
 const ROWS: &[[Row; 2]; 3] = &[CASES, CASES, [[[0; 16]; 2]; 2]];
 
 const CASES: [Row; 2] = [
@@ -63,7 +64,7 @@ pub(crate) fn in_both_halves(lanes: [u8; 16]) -> u8x32 {
 /// Two digits for each lane, in order: the text of the first 8 lanes, and the text of the last 8.
 #[inline(always)]
 pub fn encode_chunk<const UPPER: bool>(v: u8x16) -> [u8x16; 2] {
-    in_two(encode_lanes(v, UPPER, false))
+    Lanes16::digits_of(v, UPPER, false)
 }
 
 /// Whether every lane is a digit.
@@ -106,7 +107,7 @@ impl Kernel for Lanes16 {
 
     #[inline(always)]
     fn fill(input: &[u8], upper: bool, output: &mut [u8]) {
-        loops::fill_in_steps::<16, Lanes16, Lanes16>(input, upper, output);
+        loops::fill_in_steps::<16, Lanes16>(input, upper, output);
     }
 
     // Not `always`: `decode_body` calls `CheckFirst::<K>` in a branch that is never taken for this
@@ -114,19 +115,19 @@ impl Kernel for Lanes16 {
     #[inline]
     fn check(input: &[u8]) -> bool {
         if input.len() < 16 {
-            return small_input::check::<Lanes16>(input);
+            return small_input::check(input);
         }
         loops::check_in_steps::<16, Lanes16>(input)
     }
 
     #[inline(always)]
     fn decode_checked(input: &[u8], output: &mut [u8]) -> bool {
-        loops::decode_in_steps::<16, true, Lanes16, Lanes16>(input, output)
+        loops::decode_in_steps::<16, true, Lanes16>(input, output)
     }
 
     #[inline(always)]
     fn decode_unchecked(input: &[u8], output: &mut [u8]) {
-        loops::decode_digits_in_steps::<16, Lanes16, Lanes16>(input, output);
+        loops::decode_digits_in_steps::<16, Lanes16>(input, output);
     }
 }
 
@@ -136,30 +137,19 @@ impl LaneOps<16> for Lanes16 {
         in_two(encode_lanes(v, upper, row_copy))
     }
 
+    // Constant time: this is a shuffle within a register, so no byte selects a memory address.
+    // `swizzle_dyn` takes indices from 0 to 15, and from 128 on, for which it returns 0. The mask
+    // leaves only such indices. On x86-64 it costs nothing, since `pshufb` looks at exactly these five
+    // bits.
     #[inline(always)]
-    fn values(v: u8x16) -> u8x16 {
-        lanes::values_within(v, look_up_limits(v))
-    }
-
-    #[inline(always)]
-    fn marks(v: u8x16) -> u8x16 {
-        lanes::marks_beyond(v, lanes::values_within(v, look_up_limits(v)))
+    fn look_up_limits(v: u8x16) -> u8x16 {
+        u8x16::from_array(LIMITS).swizzle_dyn(v & u8x16::splat(0x8F))
     }
 
     #[inline(always)]
     fn merge(first: u8x16, second: u8x16, row_copy: bool) -> u8x16 {
         pack(join(first, second), row_copy)
     }
-}
-
-/// The limit of each lane. If the lane is a digit, its value is at most the limit.
-// Constant time: this is a shuffle within a register, so no byte selects a memory address.
-// `swizzle_dyn` takes indices from 0 to 15, and from 128 on, for which it returns 0. The mask
-// leaves only such indices. On x86-64 it costs nothing, since `pshufb` looks at exactly these five
-// bits.
-#[inline(always)]
-pub(crate) fn look_up_limits(v: u8x16) -> u8x16 {
-    u8x16::from_array(LIMITS).swizzle_dyn(v & u8x16::splat(0x8F))
 }
 
 /// A vector in its halves.

@@ -1,26 +1,27 @@
 // Made by rust/erase from crates/const_hex_arch/src/arch/loops.rt. Do not edit.
 //! Loops that take the input step by step, and then the remainder.
 //!
-//! `V` has the `N` lanes of a step, and `W` the 16 lanes of what is shorter. Neither a contract nor
-//! a test notices which steps are taken where others give the same result: compare a change with
-//! "Steps and remainders" in docs/DESIGN.md. The code was reviewed against that table, step by step;
-//! only the remainders differ from the steps of const-hex (docs/DECISIONS.md).
+//! `V` has the `N` lanes of a step; what is shorter takes those of [`Lanes16`]. Neither a contract nor a
+//! test notices which steps are taken where others give the same result: compare a change with "Steps
+//! and remainders" in docs/DESIGN.md. The code was reviewed against that table, step by step; only the
+//! remainders differ from the steps of const-hex (docs/DECISIONS.md).
 
 use crate::std_shim::prelude::*;
 use crate::proved::arch::lanes::LaneOps;
-use crate::proved::arch::{lanes16, small_input, steps};
+use crate::proved::arch::lanes16::{self, Lanes16};
+use crate::proved::arch::{small_input, steps};
 
 /// Fills the output with the text of the input. While two steps are left, it takes both in one turn;
 /// then one, if more than one is left; and then the last `N` bytes, if some are left, with bytes before
 /// them that are encoded again. Less than two steps are left to `small_input::fill`.
 #[inline(always)]
-pub(crate) fn fill_in_steps<const N: usize, V: LaneOps<N>, W: LaneOps<16>>(
+pub(crate) fn fill_in_steps<const N: usize, V: LaneOps<N>>(
     input: &[u8],
     upper: bool,
     output: &mut [u8],
 ) {
     if input.len() < 2 * N {
-        small_input::fill::<N, V, W>(input, upper, output);
+        small_input::fill::<N, V>(input, upper, output);
         return;
     }
     let row_copy = lanes16::row_copy_for(input.len());
@@ -79,12 +80,12 @@ pub(crate) fn check_in_steps<const N: usize, V: LaneOps<N>>(input: &[u8]) -> boo
 /// decoded twice. A text of fewer than 16 bytes is a remainder as a whole. If the remainder has an
 /// invalid character, its pairs before that one are decoded only if `PAIRS` is true.
 #[inline(always)]
-pub(crate) fn decode_in_steps<const N: usize, const PAIRS: bool, V: LaneOps<N>, W: LaneOps<16>>(
+pub(crate) fn decode_in_steps<const N: usize, const PAIRS: bool, V: LaneOps<N>>(
     input: &[u8],
     output: &mut [u8],
 ) -> bool {
     if output.len() < 16 {
-        return small_input::decode_small::<W>(input, output)
+        return small_input::decode_small(input, output)
             || (PAIRS && small_input::decode_pairs(input, output));
     }
     let mut at = 0;
@@ -109,7 +110,11 @@ pub(crate) fn decode_in_steps<const N: usize, const PAIRS: bool, V: LaneOps<N>, 
     }
     if output.len() - at >= 16 {
         let end = at + 16;
-        if !steps::decode_step::<16, W>(&input[2 * at..2 * end], &mut output[at..end], false) {
+        if !steps::decode_step::<16, Lanes16>(
+            &input[2 * at..2 * end],
+            &mut output[at..end],
+            false,
+        ) {
             return false;
         }
         at = end;
@@ -118,19 +123,16 @@ pub(crate) fn decode_in_steps<const N: usize, const PAIRS: bool, V: LaneOps<N>, 
         return true;
     }
     let start = output.len() - 16;
-    steps::decode_step::<16, W>(&input[2 * start..], &mut output[start..], false)
+    steps::decode_step::<16, Lanes16>(&input[2 * start..], &mut output[start..], false)
         || (PAIRS && small_input::decode_pairs(&input[2 * at..], &mut output[at..]))
 }
 
 /// Decodes digits in steps, and then by the last 16 bytes, some of them again. A text of fewer than
 /// 16 bytes is left to `small_input::decode_small`.
 #[inline(always)]
-pub(crate) fn decode_digits_in_steps<const N: usize, V: LaneOps<N>, W: LaneOps<16>>(
-    input: &[u8],
-    output: &mut [u8],
-) {
+pub(crate) fn decode_digits_in_steps<const N: usize, V: LaneOps<N>>(input: &[u8], output: &mut [u8]) {
     if output.len() < 16 {
-        small_input::decode_small::<W>(input, output);
+        small_input::decode_small(input, output);
         return;
     }
     let mut at = 0;
@@ -142,11 +144,15 @@ pub(crate) fn decode_digits_in_steps<const N: usize, V: LaneOps<N>, W: LaneOps<1
     }
     if output.len() - at >= 16 {
         let end = at + 16;
-        steps::decode_digits_step::<16, W>(&input[2 * at..2 * end], &mut output[at..end], false);
+        steps::decode_digits_step::<16, Lanes16>(
+            &input[2 * at..2 * end],
+            &mut output[at..end],
+            false,
+        );
         at = end;
     }
     if at < output.len() {
         let start = output.len() - 16;
-        steps::decode_digits_step::<16, W>(&input[2 * start..], &mut output[start..], false);
+        steps::decode_digits_step::<16, Lanes16>(&input[2 * start..], &mut output[start..], false);
     }
 }

@@ -3,30 +3,27 @@
 
 use crate::std_shim::prelude::*;
 use crate::proved::arch::lanes::LaneOps;
+use crate::proved::arch::lanes16::Lanes16;
 use crate::proved::arch::plain::Plain;
 use crate::proved::arch::{Kernel, steps};
 use crate::std_shim::simd::prelude::*;
 
 /// Fills the output with two digits for each byte of less than two steps. `V` has the `N` lanes of a
-/// step, and `W` has 16.
+/// step.
 #[inline(always)]
-pub(crate) fn fill<const N: usize, V: LaneOps<N>, W: LaneOps<16>>(
-    bytes: &[u8],
-    upper: bool,
-    output: &mut [u8],
-) {
+pub(crate) fn fill<const N: usize, V: LaneOps<N>>(bytes: &[u8], upper: bool, output: &mut [u8]) {
     if bytes.len() >= N {
         fill_overlapping::<N, V>(bytes, upper, output);
     } else if bytes.len() >= 16 {
-        fill_overlapping::<16, W>(bytes, upper, output);
+        fill_overlapping::<16, Lanes16>(bytes, upper, output);
     } else if bytes.len() == 1 {
-        fill_ends::<1, 2, W>(bytes, upper, output);
+        fill_ends::<1, 2>(bytes, upper, output);
     } else if bytes.len() >= 8 {
-        fill_ends::<8, 16, W>(bytes, upper, output);
+        fill_ends::<8, 16>(bytes, upper, output);
     } else if bytes.len() >= 4 {
-        fill_ends::<4, 8, W>(bytes, upper, output);
+        fill_ends::<4, 8>(bytes, upper, output);
     } else if bytes.len() >= 2 {
-        fill_ends::<2, 4, W>(bytes, upper, output);
+        fill_ends::<2, 4>(bytes, upper, output);
     }
 }
 
@@ -42,61 +39,49 @@ fn fill_overlapping<const N: usize, V: LaneOps<N>>(bytes: &[u8], upper: bool, ou
 
 /// As `fill`, for `H` to `2 * H` bytes. `D` is `2 * H`, the number of digits of `H` bytes.
 #[inline(always)]
-fn fill_ends<const H: usize, const D: usize, W: LaneOps<16>>(
-    bytes: &[u8],
-    upper: bool,
-    output: &mut [u8],
-) {
+fn fill_ends<const H: usize, const D: usize>(bytes: &[u8], upper: bool, output: &mut [u8]) {
     let mut text = [0; 32];
-    steps::fill_step::<16, W>(
-        &steps::load_ends::<H, 16>(bytes, 0),
-        upper,
-        false,
-        &mut text,
-    );
+    let ends = steps::load_ends::<H, 16>(bytes, 0);
+    steps::fill_step::<16, Lanes16>(&ends, upper, false, &mut text);
     // Not by the output's length: so a function that is not inlined needs no register for it.
     let start = 2 * bytes.len() - D;
-    put::<D>(
-        Simd::from_slice(&text),
-        Simd::from_slice(&text[D..]),
-        start,
-        output,
-    );
+    let last = Simd::from_slice(&text[D..]);
+    put::<D>(Simd::from_slice(&text), last, start, output);
 }
 
 /// Whether every byte of a text of at most 16 bytes is a digit.
 #[inline(always)]
-pub(crate) fn check<W: LaneOps<16>>(text: &[u8]) -> bool {
+pub(crate) fn check(text: &[u8]) -> bool {
     if text.len() >= 8 {
-        check_ends::<8, W>(text)
+        check_ends::<8>(text)
     } else if text.len() >= 4 {
-        check_ends::<4, W>(text)
+        check_ends::<4>(text)
     } else if text.len() >= 2 {
-        check_ends::<2, W>(text)
+        check_ends::<2>(text)
     } else {
-        text.is_empty() || check_ends::<1, W>(text)
+        text.is_empty() || check_ends::<1>(text)
     }
 }
 
 /// As `check`, for `H` to `2 * H` bytes.
 #[inline(always)]
-fn check_ends<const H: usize, W: LaneOps<16>>(text: &[u8]) -> bool {
-    steps::check_step::<16, W>(&steps::load_ends::<H, 16>(text, b'0'))
+fn check_ends<const H: usize>(text: &[u8]) -> bool {
+    steps::check_step::<16, Lanes16>(&steps::load_ends::<H, 16>(text, b'0'))
 }
 
 /// Decodes a text to at most 16 bytes, by one vector operation on its first and last characters, and
 /// returns true. If some character is invalid, returns false, and the output is unchanged.
 // Not inlined: with this body the public decoders would be too large to be inlined.
 #[inline(never)]
-pub(crate) fn decode_small<W: LaneOps<16>>(text: &[u8], output: &mut [u8]) -> bool {
+pub(crate) fn decode_small(text: &[u8], output: &mut [u8]) -> bool {
     if output.len() >= 8 {
-        decode_ends::<8, 16, W>(text, output)
+        decode_ends::<8, 16>(text, output)
     } else if output.len() >= 4 {
-        decode_ends::<4, 8, W>(text, output)
+        decode_ends::<4, 8>(text, output)
     } else if output.len() >= 2 {
-        decode_ends::<2, 4, W>(text, output)
+        decode_ends::<2, 4>(text, output)
     } else {
-        output.is_empty() || decode_ends::<1, 2, W>(text, output)
+        output.is_empty() || decode_ends::<1, 2>(text, output)
     }
 }
 
@@ -111,21 +96,13 @@ pub(crate) fn decode_pairs(text: &[u8], output: &mut [u8]) -> bool {
 /// Decodes a text to `H` to `2 * H` bytes and returns true. If some byte is not a digit, returns
 /// false, and the output is unchanged. `D` is `2 * H`, the number of digits of `H` bytes.
 #[inline(always)]
-fn decode_ends<const H: usize, const D: usize, W: LaneOps<16>>(
-    text: &[u8],
-    output: &mut [u8],
-) -> bool {
+fn decode_ends<const H: usize, const D: usize>(text: &[u8], output: &mut [u8]) -> bool {
     let mut bytes = [0; 16];
     let step = steps::load_ends::<D, 32>(text, b'0');
-    let are_digits = steps::decode_step::<16, W>(&step, &mut bytes, false);
+    let are_digits = steps::decode_step::<16, Lanes16>(&step, &mut bytes, false);
     if are_digits {
-        let start = output.len() - H;
-        put::<H>(
-            Simd::from_slice(&bytes),
-            Simd::from_slice(&bytes[H..]),
-            start,
-            output,
-        );
+        let last = Simd::from_slice(&bytes[H..]);
+        put::<H>(Simd::from_slice(&bytes), last, output.len() - H, output);
     }
     are_digits
 }

@@ -63,17 +63,6 @@ pub(crate) fn prepend_character(byte: u8, index: usize, space: &mut [u8; LONGEST
     prepend(b"invalid character '", start, space)
 }
 
-/// Does the same as [`write_ended`]. A text whose length the compiler knows is copied at once.
-#[inline(always)]
-pub(crate) fn write_known<const N: usize>(text: &[u8; N], output: &mut [u8]) -> usize {
-    if output.len() <= N {
-        return write_ended(text, output);
-    }
-    output[..N].copy_from_slice(text);
-    output[N] = 0;
-    N
-}
-
 /// Writes the text and a NUL, and returns the number of bytes before the NUL. A text that does not fit is
 /// truncated, and an empty buffer stays empty.
 // Not inlined: LLVM keeps the buffer of a function without calls below the stack pointer, where some

@@ -1,65 +1,9 @@
 // Made by rust/erase from crates/const_hex/src/codec/encoders.rt. Do not edit.
-//! Encoding bytes as text.
+//! Encoding bytes as text in a slice.
 
 use crate::std_shim::prelude::*;
 use crate::proved::error::FromHexError;
-#[cfg(feature = "alloc")]
-use crate::kernel::encode_to_vec;
 use crate::proved::{FixedKernel, Kernel, ascii_text, fill_text, text_length};
-use crate::std_shim::alloc::{AllocError, Global};
-
-/// The text, as a `String`.
-#[inline(always)]
-#[cfg(feature = "alloc")]
-pub(crate) fn encode_owned<K: Kernel>(
-    alloc: Global,
-    input: &[u8],
-    prefix: bool,
-    upper: bool,
-) -> Result<String, AllocError> {
-    let text = encode_to_vec(alloc, input, prefix, upper)?;
-    // SAFETY: the text is ASCII.
-    Ok(unsafe { String::from_utf8_unchecked(text) })
-}
-
-/// Two digits for each byte, in order, in lowercase.
-///
-#[cfg(feature = "alloc")]
-pub fn encode(alloc: Global, input: &[u8]) -> Result<String, AllocError> {
-    encode_owned::<FixedKernel>(alloc, input, false, false)
-}
-
-/// As [`encode`], in uppercase.
-///
-#[cfg(feature = "alloc")]
-pub fn encode_upper(alloc: Global, input: &[u8]) -> Result<String, AllocError> {
-    encode_owned::<FixedKernel>(alloc, input, false, true)
-}
-
-/// `0x`, and then the text of [`encode`].
-///
-#[cfg(feature = "alloc")]
-pub fn encode_prefixed(alloc: Global, input: &[u8]) -> Result<String, AllocError> {
-    encode_owned::<FixedKernel>(alloc, input, true, false)
-}
-
-/// `0x`, and then the text of [`encode_upper`].
-///
-#[cfg(feature = "alloc")]
-pub fn encode_upper_prefixed(alloc: Global, input: &[u8]) -> Result<String, AllocError> {
-    encode_owned::<FixedKernel>(alloc, input, true, true)
-}
-
-/// As [`encode`] or [`encode_upper`], by a kernel of the caller's choice.
-///
-#[inline]
-#[cfg(feature = "alloc")]
-pub fn encode_with<K: Kernel, const UPPER: bool>(
-    alloc: Global,
-    input: &[u8],
-) -> Result<String, AllocError> {
-    encode_owned::<K>(alloc, input, false, UPPER)
-}
 
 /// Whether there are exactly two digits for each byte.
 #[inline(always)]

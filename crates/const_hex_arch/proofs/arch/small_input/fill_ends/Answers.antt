@@ -12,7 +12,7 @@ returns g c =
     take-take d (32 - d) (drop d text) (omega arith) in
     let long : length (take d (drop d text)) ≡ d = omega (arith, length-take d (drop d text), length-drop d text) in
     c.put.ensures ∙ ap (λ x. take (size - d) (take d text) ++ x) last
-    ∙ rw long at (ends_text c.args.upper g.row.H c.args.bytes.now c.load_ends.result text (take d text)
+    ∙ rw long at (ends_text c.args.upper g.row.H c.args.bytes.now c.load_ends-ends.result text (take d text)
     (take d (drop d text)) size c.requires.least c.requires.most
-    c.load_ends.ensures.ends c.fill_step.ensures (ap (λ n. take n text) c.requires.digits)
+    c.load_ends-ends.ensures.ends c.fill_step.ensures (ap (λ n. take n text) c.requires.digits)
     (ap (λ n. take n (drop n text)) c.requires.digits) refl)

@@ -1,5 +1,5 @@
 use Rattle.const_hex_arch.proofs.lemmas.Texts.{hex_text-append}
-use Rattle.const_hex.proofs.codec.encoders.encode_with.Goals as goal
+use Rattle.const_hex.proofs.owned.encode_with.Goals as goal
 
 pub returns : goal.returns
 returns g c =
