@@ -8,6 +8,7 @@ If one said more than what is proved of the function, or asked for less, a wrong
 import z3
 
 from contracts.functions import FAILED, FOUND, digits_of, is_digit, is_prefix, moved, value
+from contracts.messages import write_ended
 from execution.state import byte, fresh, is_secret, joined, simple, split, word
 from solver.questions import names, require
 
@@ -148,4 +149,5 @@ def _first_invalid(state, text, first, count):
 
 # Those of other objects, and local ones.
 IMPORTED = {f"const_hex_kernel_{function.__name__}": function for function in (fill, check, read)}
-LOCAL = {"const_hex_body_find_invalid_character": find, "const_hex_decoder_fail": fail}
+LOCAL = {"const_hex_body_find_invalid_character": find, "const_hex_decoder_fail": fail,
+         "const_hex_message_write_ended": write_ended}

@@ -73,21 +73,28 @@ class Function:
     """A function with its arguments. `symbol` is how its name looks; what others call by its contract has less stack.
     `empty` are its buffers, with their sizes, for which NULL may be passed if they are empty."""
 
-    is_called = is_local = may_leak = False
+    is_called = is_local = may_leak = is_unrolled = False
     is_digit = staticmethod(is_digit)
     regions = empty = requires = ()
     name = "every call"
+    # In how many steps facts may be from what is to be proved, if that has a limit; for which CPU the code is, if its
+    # name does not say it; and what functions of other objects do, if not what callees.py says.
+    near = level = imported = None
 
     def starts(self, code):
         """The states at the call of the function, with any arguments."""
         state = code.processor.State()
-        at = code.function(self.symbol, self.is_local)
+        at = code.function(self.symbol, self.is_local, self.level)
         state.start(code, self, at, list(self.regions), list(self.arguments))
         for condition in self.requires:
             state.assume(condition)
         nulls = [(base(name) != 0, z3.And(base(name) == 0, size == 0)) for name, size in self.empty]
         states = [state.when(z3.And(*choice), state.at) for choice in itertools.product(*nulls)]
         return [way for state in states if state for way in self.cases(state)]
+
+    def stacks(self, state):
+        """How much stack it has, and how much of it is for what it calls."""
+        return state.STACK_OF_CALLED if self.is_called else state.STACK, state.STACK_OF_CALLED
 
     def cases(self, state):
         """What is told apart from the start, such as whether a text has a prefix."""

@@ -28,6 +28,11 @@ class Code:
                 region = Region(f"constants_{at}", word(len(section.content)), section.alignment, section.content,
                                 self._targets(section))
                 self.constants[section.address] = section, region
+            else:
+                # It is kept between calls, and all threads have it.
+                require(len(section.content) == 1, "more is kept between calls than one byte")
+                self.constants[section.address] = section, Region("kept", word(1))
+        require(sum(region.name == "kept" for _, region in self.constants.values()) < 2, "two sections are kept")
 
     def _targets(self, section):
         """Where a table of jumps leads, if it is one: each entry is the distance of 32 bits from the table."""
@@ -38,15 +43,16 @@ class Code:
         require(is_table and all(kind == 2 for _, kind, _, _ in section.references), "addresses among constants")
         return targets
 
-    def function(self, pattern, is_local=False):
-        """The address of the function with such a name; its instructions are read for the processor that its name says.
-        The others that are called by their contracts are known then."""
+    def function(self, pattern, is_local=False, level=None):
+        """The address of the function with such a name; its instructions are read for the processor that its name says,
+        or of a level. The others that are called by their contracts are known then."""
         names = self.object.symbols.keys() - self.object.exported if is_local else self.object.exported
         found = [symbol for symbol in sorted(names) if re.fullmatch(pattern, symbol)]
         require(len(found) == 1, f"{len(found)} functions {pattern}")
+        level = level or found[0].rpartition("_")[2]
         for section in self.object.sections:
             if section.is_code:
-                self.instructions |= self.processor.instructions(self, section, found[0].rpartition("_")[2])
+                self.instructions |= self.processor.instructions(self, section, level)
         undefined = self.object.undefined.items()
         self.callees = {at: self._imported[name] for at, name in undefined if name in self._imported}
         self.callees |= {self.object.symbols[name]: effect for name, effect in self._local.items()

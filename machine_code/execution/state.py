@@ -10,6 +10,7 @@ import itertools
 
 import z3
 
+from solver import tenths
 from solver.questions import Refused, conjuncts, facts_of, holds, names, require, values
 
 simple = z3.simplify
@@ -72,13 +73,14 @@ def chosen(table, index):
 
 class Region:
     """So many bytes of memory at an unknown base that is a multiple of `align`. Constants have their bytes, and a table
-    of jumps where they lead. The "input" and the "output" have these names; each other region is an object."""
+    of jumps where they lead. The "input", the "output" and what is "kept" between calls have these names; each other
+    region is an object."""
 
     def __init__(self, name, size, align=1, data=None, targets=None, is_writable=True):
         self.name, self.size, self.align, self.data, self.targets = name, size, align, data, targets
         self.base = z3.BitVec(f"p_{name}", 64)
         self.is_writable = is_writable and data is None and name != "input"
-        self.is_object = data is None and name not in ("input", "output")
+        self.is_object = data is None and name not in ("input", "output", "kept")
 
 
 class State:
@@ -87,12 +89,14 @@ class State:
 
     # How many of the lowest bytes of a vector a function keeps.
     KEPT_VECTORS = {}
+    # In how many steps facts may be from what is asked, if that has a limit.
+    near = None
 
     def start(self, code, contract, at, regions, arguments):
         """Before the first instruction of a function, nothing is known of registers but the arguments. A function that
         others call by its contract has less of the stack."""
-        self.code, self.contract, self.at = code, contract, at
-        self.STACK = self.STACK_OF_CALLED if contract.is_called else self.STACK
+        self.code, self.contract, self.at, self.near = code, contract, at, contract.near
+        self.STACK, self.STACK_OF_CALLED = contract.stacks(self)
         on_stack = arguments[len(self.ARGUMENTS) :]
         regions = [*regions, Region("stack", word(self.STACK + self.RETURN + 8 * len(on_stack)), 16)]
         regions += [region for _, region in code.constants.values()]
@@ -109,6 +113,10 @@ class State:
         for at, argument in enumerate(on_stack):
             self.put_cells("stack", self.STACK + self.RETURN + 8 * at, split(argument))
         self.input, self.entries, self.calls = {}, {}, {}
+        # The parts of products that have a tenth, by their factors.
+        self.tenths = {}
+        # What was read of what is kept between calls, and what was stored there.
+        self.seen, self.kept = [], []
         # Offset and count of what was read of the input and written to the output, and which reads are of digits.
         self.reads, self.writes, self.digits = [], [], {}
         # The loops that were entered, and the instructions since the last head. Whether time may depend on the input,
@@ -131,7 +139,7 @@ class State:
         self.facts += facts_of(condition)
 
     def holds(self, goal):
-        return holds(self.facts, goal)
+        return holds(self.facts, goal, self.near)
 
     def must(self, goal, message):
         require(self.holds(goal), message)
@@ -168,6 +176,25 @@ class State:
                 return truth
         raise Refused("a branch depends on bytes that are secret")
 
+    # Products
+    def _parts(self, number):
+        """A tenth of a number, and the bits below it in a product. What is known of them is assumed once."""
+        number = simple(number)
+        if number.get_id() not in self.tenths:
+            *self.tenths[number.get_id()], known = tenths.parts(number)
+            self.assume(known)
+        return self.tenths[number.get_id()]
+
+    def tenth(self, number):
+        """A tenth of a number of 64 bits, rounded down."""
+        return simple(z3.ZeroExt(3, self._parts(number)[0]))
+
+    def product(self, a, b):
+        """The product of two numbers of 64 bits, which has 128."""
+        if z3.is_bv_value(b) and b.as_long() == tenths.FACTOR and not z3.is_bv_value(simple(a)):
+            return simple(z3.Concat(*self._parts(a), a * b))
+        return simple(z3.ZeroExt(64, a) * z3.ZeroExt(64, b))
+
     # Memory
     def _place(self, address, count, aligned):
         """The region of an access, and its offset."""
@@ -191,6 +218,10 @@ class State:
         if region.name == "input":
             self.reads.append((offset, count))
             return [self.byte_of_input(offset + at) for at in range(count)]
+        if region.name == "kept":
+            # Another thread may have written it since it was read before.
+            self.seen += [fresh("p", 8) for _ in range(count)]
+            return self.seen[-count:]
         require(region.is_object, f"{region.name} is read")
         first = self._offset_in(region, offset)
         known = [self.cells.get((region.name, first + at)) for at in range(count)]
@@ -221,13 +252,17 @@ class State:
         region, offset, entry = found[0]
         self.must(address == region.base + z3.SignExt(32, entry), "a jump to a place that no table has")
         self.must(z3.Or(*[offset == at for at in region.targets]), "a jump by a part of an entry")
-        return [(offset == at, target) for at, target in region.targets.items()]
+        places = {target: [offset == at for at in region.targets if region.targets[at] == target]
+                  for target in region.targets.values()}
+        return [(z3.Or(*conditions), target) for target, conditions in places.items()]
 
     def store(self, address, lane, aligned=False):
         region, offset = self._place(address, len(lane), aligned)
         require(region.is_writable, f"{region.name} is written")
         if region.is_object:
             self.put_cells(region.name, self._offset_in(region, offset), lane)
+        elif region.name == "kept":
+            self.kept += lane
         else:
             self.contract.store(self, offset, lane)
             self.writes.append((offset, len(lane)))
@@ -265,10 +300,11 @@ class State:
 
     def must_equal(self, value, wanted, message):
         """That two values are the same, where bytes of the input are the same that have the same offset."""
-        used = [(offset, name) for offset, name in self.input.values() if name.decl().name() in names(value == wanted)]
+        about = names(value == wanted)
+        used = [(offset, name) for offset, name in self.input.values() if name.decl().name() in about]
         same = [fact for at, (first, one) in enumerate(used) for second, other in used[:at]
                 if self.holds(first == second) for fact in facts_of(one == other)]
-        require(holds(self.facts + same, value == wanted), message)
+        require(holds(self.facts + same, value == wanted, self.near), message)
 
     def known_digits(self):
         """The parts of the input, by offset and count, that are digits."""
@@ -318,6 +354,21 @@ class State:
         top = self.top()
         require(top >= self.STACK_OF_CALLED and (top - self.STACK) % 16 == 0, "the stack of a function that is called")
 
+    def frame(self, count):
+        """How many bytes of the stack belong to a call with so many arguments."""
+        return self.RETURN + 8 * max(0, count - len(self.ARGUMENTS))
+
+    def argument(self, at):
+        """An argument, at the first instruction of a function."""
+        if at < len(self.ARGUMENTS):
+            return self.general[self.ARGUMENTS[at]]
+        return self.cell("stack", self.top() + self.frame(at), 8)
+
+    def forget_arguments(self, count):
+        """Those in the stack belong to what was called."""
+        for at in range(self.RETURN, self.frame(count)):
+            self.put_cells("stack", self.top() + at, [fresh("g", 8)])
+
     def forget(self):
         """A function that was called has changed all registers that it need not keep."""
         kept = (*self.KEPT, self.TOP)
@@ -330,4 +381,5 @@ class State:
     def put_result(self, result):
         """A result has as many bits as a kernel's, and nothing is known of the others."""
         register, bits = self.RESULT
-        self.general[register] = simple(z3.Concat(fresh("g", 64 - bits), z3.BitVecVal(result, bits)))
+        result = result if z3.is_expr(result) else z3.Concat(fresh("g", 64 - bits), z3.BitVecVal(result, bits))
+        self.general[register] = simple(result)

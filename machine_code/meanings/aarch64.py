@@ -107,7 +107,7 @@ def follows(i):
 class State(state.State):
     """The arguments are in these registers, and a call has left the address to return to in x30."""
 
-    TOP, STACK, STACK_OF_CALLED, RETURN, VECTORS, WIDTH = "sp", 2000, 64, 0, 32, 16
+    TOP, STACK, STACK_OF_CALLED, STACK_OF_DISPATCH, RETURN, VECTORS, WIDTH = "sp", 2000, 64, 2032, 0, 32, 16
     GENERAL = tuple(f"x{at}" for at in range(31)) + ("sp",)
     ARGUMENTS, RESULT = tuple(f"x{at}" for at in range(8)), ("x0", 32)
     KEPT, KEPT_VECTORS = ("sp", *(f"x{at}" for at in range(19, 30))), dict.fromkeys(range(8, 16), 8)
@@ -240,6 +240,28 @@ def negate(s, i):
 
 def invert(s, i):
     s.put(i.operands[0], simple(~s.last(i.operands[1:], i.operands[0].size)))
+
+
+def upper_product(s, i):
+    to, one, other = i.operands
+    require(to.size == 8, "another size")
+    s.put(to, simple(z3.Extract(127, 64, s.product(s.number(one, 8), s.number(other, 8)))))
+
+
+def less_product(s, i):
+    to, one, other, by = i.operands
+    a, b, c = [s.number(o, to.size) for o in (one, other, by)]
+    s.put(to, simple(c - a * b))
+
+
+def move_part(s, i):
+    """Writes 16 bits, and keeps the others."""
+    to, number, *by = i.operands
+    at = by[0].count if by else 0
+    require(0 <= number.value < 1 << 16 and at in range(0, 8 * to.size, 16), "a part of a register")
+    require(not by or by[0].how == "lsl", "a shift")
+    kept = s.number(to) & ~(0xFFFF << at)
+    s.put(to, simple(kept | number.value << at))
 
 
 def insert_bits(s, i):
@@ -474,6 +496,7 @@ HANDLERS = {
     "orr": either(general(OR), by_units(OR)), "eor": either(general(XOR), by_units(XOR)),
     "bic": either(general(lambda a, b: a & ~b), by_units(lambda a, b: a & ~b)),
     "orn": either(general(lambda a, b: a | ~b), by_units(lambda a, b: a | ~b)),
+    "umulh": upper_product, "msub": less_product, "movk": move_part,
     "neg": negate, "mvn": invert, "lsl": shift, "lsr": shift, "adrp": adrp, "csel": select(lambda b: b),
     "csinc": select(lambda b: b + 1), "csinv": select(lambda b: ~b), "cset": set_if, "ccmp": compare_if,
     "nop": lambda s, i: None, "b": jump, "bl": jump, "ret": ret, "cbz": jump_if_zero, "cbnz": jump_if_zero,

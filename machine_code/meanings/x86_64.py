@@ -20,7 +20,8 @@ from solver.questions import require
 
 # What a CPU has, by the levels of the x86-64 psABI, as GNU as names it.
 V2 = "generic64+cx16+popcnt+sse3+ssse3+sse4.1+sse4.2"
-V3 = f"{V2}+xsave+avx+avx2+bmi+bmi2+f16c+fma+lzcnt+movbe"
+# `xgetbv`, which is one of XSAVE, is known in c/asm/dispatch.S, which asks for OSXSAVE before, on every CPU.
+LEVELS = {"v3": f"{V2}+xsave+avx+avx2+bmi+bmi2+f16c+fma+lzcnt+movbe", "dispatch": "generic64+xsave"}
 # What assemblers put between instructions, and assemble otherwise from its text.
 NOPS = "0f1f4000 0f1f440000 660f1f440000 0f1f8000000000 0f1f840000000000 660f1f840000000000".split()
 NOPS += ["66" * count + "2e0f1f840000000000" for count in range(1, 7)]
@@ -74,7 +75,7 @@ def instructions(code, section, level):
     """Those of a section by their addresses, for the least CPU of a level. One with a relocation has the place that
     the linker will make of it: at its end, it is so far from there."""
     found = disassembly.read(section, ["objdump", "-m", "i386:x86-64", "-M", "intel", "-w"], _instruction)
-    command = ["as", "--64", "-msyntax=intel", "-mnaked-reg", f"-march={V3 if level == 'v3' else V2}"]
+    command = ["as", "--64", "-msyntax=intel", "-mnaked-reg", f"-march={LEVELS.get(level, V2)}"]
     text_of = lambda i: with_distance(i) if _is_jump(i) else i.text
     found = checked(section, found, command, text_of, lambda i, old, new: i.mnemonic == "nop" and old.hex() in NOPS)
     for address, i in found.items():
@@ -99,7 +100,7 @@ def follows(i):
 class State(state.State):
     """The arguments are in these registers, and a call has left the address to return to on the stack."""
 
-    TOP, STACK, STACK_OF_CALLED, RETURN, VECTORS, WIDTH = "rsp", 1912, 72, 8, 16, 32
+    TOP, STACK, STACK_OF_CALLED, STACK_OF_DISPATCH, RETURN, VECTORS, WIDTH = "rsp", 1912, 72, 2040, 8, 16, 32
     GENERAL = tuple(dict.fromkeys(name for name, _, _ in GENERAL.values()))
     ARGUMENTS, RESULT = ("rdi", "rsi", "rdx", "rcx", "r8", "r9"), ("rax", 8)
     KEPT = ("rbx", "rbp", "r12", "r13", "r14", "r15")
@@ -237,6 +238,14 @@ def shift(function):
     return handler
 
 
+def multiply(s, i):
+    by, = i.operands
+    require(by.size == 8, "another size")
+    product = s.product(s.general["rax"], s.number(by, i))
+    s.general |= {"rax": simple(z3.Extract(63, 0, product)), "rdx": simple(z3.Extract(127, 64, product))}
+    s.flags = None
+
+
 def inc_dec(by):
     def handler(s, i):
         to, = i.operands
@@ -321,6 +330,31 @@ def call(s, i):
 def ret(s, i):
     require(not i.operands, "a return that takes arguments")
     return popped(s)
+
+
+# What the CPU reports
+def reported(instruction, leaf, register):
+    return z3.BitVec(f"p_{instruction}_{leaf:x}_{register}", 32)
+
+
+def cpuid(s, i):
+    """Anything, but for the same leaf always the same, except for the number of the processor in leaf 1. Of the leaves
+    here, only 7 has parts by ecx."""
+    leaf, part = [simple(z3.Extract(31, 0, s.general[name])) for name in ("rax", "rcx")]
+    is_known = z3.is_bv_value(leaf) and leaf.as_long() in (0, 1, 7, 0x80000000, 0x80000001)
+    require(is_known and (leaf.as_long() != 7 or part.eq(z3.BitVecVal(0, 32))), "another leaf of cpuid, or part of one")
+    for name in ("rax", "rbx", "rcx", "rdx"):
+        is_number = (leaf.as_long(), name) == (1, "rbx")
+        found = state.fresh("p", 32) if is_number else reported("cpuid", leaf.as_long(), name)
+        s.general[name] = simple(z3.ZeroExt(32, found))
+
+
+def xgetbv(s, i):
+    """It traps unless the CPU reports bit 27 of leaf 1, OSXSAVE."""
+    require(simple(z3.Extract(31, 0, s.general["rcx"])).eq(z3.BitVecVal(0, 32)), "another register of xgetbv")
+    s.must(reported("cpuid", 1, "rcx") & 1 << 27 != 0, "xgetbv on a CPU that may not have it")
+    for name in ("rax", "rdx"):
+        s.general[name] = simple(z3.ZeroExt(32, reported("xgetbv", 0, name)))
 
 
 # Vectors. The old form of an instruction has its target for the first source.
@@ -471,7 +505,8 @@ HANDLERS = {
     "lea": lea, "not": invert, "movzx": extended(z3.ZeroExt), "movsx": extended(z3.SignExt),
     "movsxd": extended(z3.SignExt),
     "shl": shift(lambda a, by: a * (1 << by)), "shr": shift(z3.LShR), "push": push, "pop": pop,
-    "nop": lambda s, i: None, "jmp": jump, "call": call, "ret": ret,
+    "nop": lambda s, i: None, "jmp": jump, "call": call, "ret": ret, "mul": multiply,
+    "cpuid": cpuid, "xgetbv": xgetbv,
 }
 HANDLERS |= {f"j{name}": jump_if for name in CONDITIONS} | {f"set{name}": set_if for name in CONDITIONS}
 HANDLERS |= {f"cmov{name}": move_if for name in CONDITIONS}

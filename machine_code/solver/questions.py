@@ -93,12 +93,15 @@ def facts_of(condition):
     return [Fact(part) for part in conjuncts(condition)]
 
 
-def relevant(facts, goal):
-    """The facts that share constants with a goal, directly or by others; of a public goal those that are public."""
+def relevant(facts, goal, steps=None):
+    """The facts that share constants with a goal, directly or by others, perhaps in so many steps; in none, those that
+    are about its constants alone. Of a public goal, those that are public."""
     facts = [fact for fact in facts if fact.is_public] if is_public(goal) else facts
     seen, rest, count = set(names(goal)), facts, -1
-    while count != len(rest):
-        count, others = len(rest), []
+    if steps == 0:
+        return [fact.term for fact in facts if fact.names <= seen]
+    while count != len(rest) and steps != 0:
+        count, others, steps = len(rest), [], steps and steps - 1
         for fact in rest:
             if seen.isdisjoint(fact.names):
                 others.append(fact)
@@ -127,7 +130,7 @@ def _answer(logic, conditions, limit):
     return answer
 
 
-def _is_impossible_in_integers(conditions):
+def is_impossible_in_integers(conditions):
     return _answer("QF_LIA", conditions, QUICK) == z3.unsat
 
 
@@ -135,27 +138,33 @@ def _by_integers(facts):
     """The answer by integers, if all is linear. Sums of many bits are hard in bits and easy in integers, masks are
     the other way round."""
     try:
-        known = integers.Facts(facts, _is_impossible_in_integers)
+        known = integers.Facts(facts, is_impossible_in_integers)
     except ValueError:
         return z3.unknown
     return _answer("QF_LIA", [*known.ranges.values(), *known.conditions], QUICK)
 
 
 def is_impossible(facts):
-    """Whether facts contradict each other."""
-    terms = _renamed(facts)
-    key = tuple(term.get_id() for term in terms)
-    counts["repeated"] += key in _answers
-    if key not in _answers:
-        _kept.extend(terms)
-        answer = _by_integers(terms) if all(map(is_public, facts)) else z3.unknown
-        _answers[key] = z3.unsat in (answer, answer == z3.unknown and _answer("QF_BV", terms, LIMIT))
-    return _answers[key]
+    """Whether facts contradict each other. A question that differs from another by its names alone is asked once."""
+    are_public = all([is_public(fact) for fact in facts])  # which keeps all of them
+    same = tuple(fact.get_id() for fact in facts)
+    if same not in _answers:
+        terms = _renamed(facts)
+        key = tuple(term.get_id() for term in terms)
+        counts["repeated"] += key in _answers
+        if key not in _answers:
+            _kept.extend(terms)
+            answer = _by_integers(terms) if are_public else z3.unknown
+            _answers[key] = z3.unsat in (answer, answer == z3.unknown and _answer("QF_BV", terms, LIMIT))
+        _answers[same] = _answers[key]
+    return _answers[same]
 
 
-def holds(facts, goal):
-    """Whether a goal follows from facts."""
-    return all(is_impossible([*relevant(facts, part), z3.Not(part)]) for part in conjuncts(goal))
+def holds(facts, goal, steps=None):
+    """Whether a goal follows from facts; perhaps from those alone that are so many steps from it, or nearer."""
+    limits = (0, steps) if steps else (None,)
+    return all(any(is_impossible([*relevant(facts, part, limit), z3.Not(part)]) for limit in limits)
+               for part in conjuncts(goal))
 
 
 def values(facts, term, most):

@@ -24,7 +24,7 @@ FOLDER = pathlib.Path(__file__).resolve().parents[1]
 # As in run.c.
 SIZE, TEXT, SCRATCH = 1 << 12, 0x4000000, 0x8000000
 MIDDLE = SIZE // 2
-NOT_ALONE = ("ret", "call", "jmp", "nop", "bl", "b")
+NOT_ALONE = ("ret", "call", "jmp", "nop", "bl", "b", "cpuid", "xgetbv")
 EDGES = bytes([0, 1, 0x7F, 0x80, 0xFF, 0x30, 0x39, 0x41, 0x66, 0x0F, 0x10] * 24)[:256]
 # So many instructions of each form, and states.
 PLACES, STATES = 2, 8

@@ -121,6 +121,6 @@ def prove(content, call, ran=None, contracts=KERNELS, name=None):
     """Proves the first contract of a call, or that of a name."""
     contract = next(contract for contract in contracts
                     if contract.function == call and contract.name == (name or contract.name))
-    code = Code(content, PROCESSORS, callees.IMPORTED, callees.LOCAL)
+    code = Code(content, PROCESSORS, contract.imported or callees.IMPORTED, callees.LOCAL)
     starts = contract.starts(code)
-    return run(code, starts, heads(code, starts[0].at), guess, ran)
+    return run(code, starts, () if contract.is_unrolled else heads(code, starts[0].at), guess, ran)

@@ -15,7 +15,7 @@ MORE = {
         punpcklwd xmm0, xmm1; punpckldq xmm0, xmm1; pextrb eax, xmm0, 3; por xmm0, xmm1; pand xmm0, xmm1
         psubw xmm0, xmm1; pinsrq xmm0, rax, 1; shr eax, 3; not rax; not cl; movabs rax, 0x123456789abcdef0
         movsx eax, cl; movsxd rax, ecx; movsxd rax, dword ptr [rcx]; xorps xmm0, xmm1; movaps xmm0, xmm1
-        movups xmm0, [rax]; movups [rax], xmm0""",
+        movups xmm0, [rax]; movups [rax], xmm0; mul rcx; mul rax""",
     "x86_64_v3": """.intel_syntax noprefix
         vpaddd ymm0, ymm1, ymm2; vpsubw ymm0, ymm1, ymm2; vpmaddubsw ymm0, ymm1, ymm2; vpbroadcastq ymm0, xmm1
         vpbroadcastd ymm0, xmm1; vpbroadcastb ymm0, xmm1; vpbroadcastw ymm0, xmm1; vpmaxub ymm0, ymm1, ymm2
@@ -23,7 +23,7 @@ MORE = {
         vpunpcklwd ymm0, ymm1, ymm2; vpunpckldq ymm0, ymm1, ymm2; vpunpcklqdq ymm0, ymm1, ymm2; vpermq ymm0, ymm1, 0x8d
         vpxor ymm0, ymm1, ymm2; vpand ymm0, ymm1, ymm2; vpinsrq xmm0, xmm1, rax, 1; shr eax, 3; inc rax; dec ecx
         vinserti128 ymm0, ymm1, xmm2, 1; vpextrb eax, xmm1, 3; vpinsrd xmm0, xmm1, eax, 2
-        not rax; xorps xmm0, xmm1; vxorps ymm0, ymm1, ymm2; vmovaps ymm0, ymm1; vmovups ymm0, [rax]""",
+        not rax; xorps xmm0, xmm1; vxorps ymm0, ymm1, ymm2; vmovaps ymm0, ymm1; vmovups ymm0, [rax]; mul rcx""",
     "aarch64": """
         adds x0, x1, x2; cmn w1, w2; subs x0, x1, x2; ands x0, x1, x2; bic x0, x1, x2; orn x0, x1, x2; eor w0, w1, w2
         bic v0.16b, v1.16b, v2.16b; orn v0.16b, v1.16b, v2.16b; eor v0.16b, v1.16b, v2.16b; mvn x0, x1
@@ -31,8 +31,10 @@ MORE = {
         cmhi v0.16b, v1.16b, v2.16b; cmhs v0.8h, v1.8h, v2.8h; umaxv b0, v1.16b; uminv h0, v1.8h
         uzp1 v0.16b, v1.16b, v2.16b; zip2 v0.8h, v1.8h, v2.8h; neg x0, x1; lsl x0, x1, #3; cbnz w0, 1f; nop; nop; 1: nop
         st1 {v0.b}[2], [x1]; ldrh w0, [x1]; strh w0, [x1]; ldurh w0, [x1, #1]; sturh w0, [x1, #1]
-        ldurb w0, [x1, #-1]; sturb w0, [x1, #-1]; bfxil w0, w1, #2, #1; bfxil x0, x1, #0, #9; adds x0, x1, w2, uxtw
-        cmp x0, x1, lsr #1; tbz x0, #63, 1f; nop; nop; 1: tbnz w0, #3, 1f; nop; nop; 1: nop""",
+        ldurb w0, [x1, #-1]; sturb w0, [x1, #-1]; umulh x0, x1, x2; msub x0, x1, x2, x3; msub w0, w1, w2, wzr
+        movk x0, #0xcccd; movk x0, #0x1234, lsl #48; movk w0, #0x7374, lsl #16; bfxil w0, w1, #2, #1
+        bfxil x0, x1, #0, #9; adds x0, x1, w2, uxtw; cmp x0, x1, lsr #1; tbz x0, #63, 1f; nop; nop; 1: nop
+        tbnz w0, #3, 1f; nop; nop; 1: nop""",
 }
 
 

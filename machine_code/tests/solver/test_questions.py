@@ -9,7 +9,7 @@ from unittest import mock
 
 import z3
 
-from solver import integers, questions, second
+from solver import integers, questions, second, tenths
 
 BITS = 6
 NAMES = [z3.BitVec(f"p_test_{name}", BITS) for name in "ab"]
@@ -54,7 +54,7 @@ class TestQuestions(unittest.TestCase):
             facts = [fact for fact in (z3.simplify(condition(self.some)) for _ in range(5)) if at(fact, values)]
             goal = z3.simplify(condition(self.some))
             try:
-                known = integers.Facts(facts, questions._is_impossible_in_integers)
+                known = integers.Facts(facts, questions.is_impossible_in_integers)
                 made = known.condition(goal)
             except ValueError:
                 continue
@@ -102,6 +102,29 @@ class TestQuestions(unittest.TestCase):
         questions.names(z3.BitVec("p_test_twice", 8))
         with self.assertRaisesRegex(questions.Refused, "two constants p_test_twice"):
             questions.names(z3.BitVec("p_test_twice", 16))
+
+    def test_the_quotient_by_ten(self):
+        """What is known of a tenth is so, and the lemma is none for other factors."""
+        number = z3.BitVec("p_test_number", 64)
+        tenth, more, known = tenths.parts(number)
+        self.assertTrue(tenths.parts(number)[0].eq(tenth))
+        for value in [0, 9, 10, (1 << 64) - 1, *[self.some.getrandbits(64) for _ in range(200)]]:
+            upper = value * tenths.FACTOR >> 64
+            self.assertEqual(upper >> 3, value // 10)
+            for by, holds in (0, True), (1, False), (-1, False), (1 << 60, False):
+                values = (number, value), (tenth, (upper >> 3) + by), (more, upper & 7)
+                of = z3.substitute(known, *[(x, z3.BitVecVal(v, x.size())) for x, v in values])
+                self.assertEqual(z3.is_true(z3.simplify(of)), holds)
+        for factor in tenths.FACTOR - 1, tenths.FACTOR + 1, 1 << 63:
+            self.assertFalse(questions.is_impossible_in_integers(tenths.lemma(factor)))
+
+    def test_the_second_solver_proves_the_lemma(self):
+        with mock.patch.object(second, "disagreements", return_value=[("", "sat")]):
+            with self.assertRaisesRegex(questions.Refused, "cvc5 does not prove the quotient"):
+                tenths.prove.__wrapped__()
+        with mock.patch.object(tenths, "lemma", return_value=[]):
+            with self.assertRaisesRegex(questions.Refused, "the quotient by ten is not proved"):
+                tenths.prove.__wrapped__()
 
     def test_the_second_solver(self):
         x = z3.BitVec("x", 64)

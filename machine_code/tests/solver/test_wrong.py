@@ -9,7 +9,9 @@ import traceback
 import unittest
 
 import wrong_for_c
+import wrong_messages
 from contracts.library import FUNCTIONS
+from contracts.messages import MESSAGES
 from programs import assembled, library, program, prove
 from solver.questions import Refused
 
@@ -22,6 +24,9 @@ CHECKS = ("require", "must", "must_cover", "must_equal", "must_be", "must_be_unc
 PASSES, SECRET = "a character is passed that may be no digit", "a branch depends on bytes"
 BELOW, UNWRITTEN = "an access below the stack pointer", "a byte of the stack that was not written"
 OUTSIDE, NOT_IN_STACK, AT_HEAD = "may lie outside", "the stack pointer is not in the stack", "at the head of a loop: "
+# Goes on if and only if ten times a tenth of a length is at most the length, and returns true otherwise.
+TENTH = ("mov rax, rsi; movabs r8, {}; mul r8; shr rdx, {}; lea rax, [rdx+rdx*4]; add rax, rax; cmp rax, rsi; jbe 5f; "
+         "mov eax, 1; ret; 5: ")
 # What is wrong, the processor's level, the function, what is changed, and what is said of it.
 WRONG = [
     ("the OR of three characters compared by the carry", "v3", "check",
@@ -99,6 +104,8 @@ WRONG = [
     ("an address in the upper half", "v3", "check",
      {"start": "mov rax, rdi; shr rax, 63; test rax, rax; je 1f; mov eax, 1; ret"}, PASSES),
     ("the flag of a shift", "v3", "check", {"start": "mov rax, rdi; shr rax, 63; jb 1f"}, "a flag that is not known"),
+    ("a quotient by another factor", "v3", "check", {"start": TENTH.format("0xdccccccccccccccd", 3)}, PASSES),
+    ("a quotient by another shift", "v3", "check", {"start": TENTH.format("0xcccccccccccccccd", 2)}, PASSES),
     ("2 for true", "v3", "check", {"end": "add al, al"}, "neither true nor false"),
     ("false for digits", "v3", "check", {"end": "xor eax, eax"}, "digits are rejected"),
     ("true for what is no digit", "v3", "check", {"character": "or eax, 0x20"}, PASSES),
@@ -154,6 +161,7 @@ WRONG = [
 ]
 RIGHT = [("a loop over bytes", "v3", call, {}) for call in ("check", "fill", "read")] + [
     ("a loop over bytes", "v2", "check", {}), ("a loop over bytes", "aarch64", "check", {}),
+    ("a quotient by ten", "v3", "check", {"start": TENTH.format("0xcccccccccccccccd", 3)}),
     ("a stack that is used", "v3", "check", {"start": "push rbx; mov rbx, rsi; mov rsi, rbx; pop rbx"}),
     ("a wide register that is cleared", "v3", "check", {"start": "vpxor ymm0, ymm0, ymm0; vzeroupper"}),
     ("a call", "v3", "check", {"start": "call helper"}),
@@ -186,7 +194,7 @@ class TestWrong(unittest.TestCase):
 
     def test_zz_each_check_refuses_a_row(self):
         """After the rows: without a check, one that is refused by it would not be, or by another message."""
-        if len(self.rows) < len(WRONG) + len(wrong_for_c.WRONG):
+        if len(self.rows) < len(WRONG) + len(wrong_for_c.WRONG) + wrong_messages.COUNT:
             self.skipTest("not all rows have run")
         checks = {(str(file), line) for folder in ("execution", "contracts") for file in (ROOM / folder).glob("*.py")
                   for line in _checks(file)}
@@ -220,3 +228,15 @@ for function, what, old, new, said, *name in wrong_for_c.WRONG:
     _add(f"for c {function} {what}", call, make, said, contracts=FUNCTIONS, name=next(iter(name), None))
 for function in wrong_for_c.RIGHT:
     _add(f"for c {function} as it is", function, functools.partial(library, function), contracts=FUNCTIONS)
+for what, body, said in wrong_messages.OF_MESSAGES:
+    _add(f"of messages {what}", "error_message", functools.partial(wrong_messages.message, body), said,
+         contracts=wrong_messages.CONTRACTS)
+for what, old, new, said in wrong_messages.OF_WRITE_ENDED:
+    make = functools.partial(library, "error_message", "write_ended", old, new)
+    _add(f"of messages {what}", "write_ended", make, said, contracts=wrong_messages.CONTRACTS)
+for function, what, old, new, said, *name in wrong_messages.OF_DISPATCHERS:
+    _add(f"of dispatchers {function} {what}", function, functools.partial(wrong_messages.dispatcher, old, new), said,
+         contracts=wrong_messages.CONTRACTS, name=next(iter(name), None))
+for contract in wrong_messages.CONTRACTS[: -len(MESSAGES)]:
+    _add(f"of dispatchers {contract.function} {contract.name} as it is", contract.function, wrong_messages.dispatcher,
+         contracts=wrong_messages.CONTRACTS, name=contract.name)

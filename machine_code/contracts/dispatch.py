@@ -1,0 +1,127 @@
+"""The object of c/asm/dispatch.S: the functions of const_hex.h whose error may be NULL, which call those for which it
+may not; and on x86-64 those of the kernel, which jump to the one for the CPU.
+
+It does not look at its arguments, so what is proved holds for any: they arrive unchanged, except that a NULL error
+becomes a pointer to a local one, and the result is that of what is called. If a claim were weaker, a program could run
+a kernel that its CPU lacks, or a function with other arguments than its own.
+"""
+
+import functools
+
+import z3
+
+from contracts.functions import Function, of_32_bits
+from execution.state import fresh, simple, split, word
+from meanings.x86_64 import reported
+from proof.functions import FUNCTIONS, KERNELS, WITH_ERROR
+from solver.questions import require
+
+# The byte that stands for each kernel.
+BUILDS = {"_v2": 1, "_v3": 2}
+# What x86-64-v3 needs beyond x86-64-v2, by the x86-64 psABI: the leaf of `cpuid`, the register, and the bits.
+FEATURES = [
+    (1, "rcx", 1 << 12 | 1 << 22 | 1 << 27 | 1 << 28 | 1 << 29),  # FMA, MOVBE, OSXSAVE, AVX, F16C
+    (7, "rbx", 1 << 3 | 1 << 5 | 1 << 8),  # BMI1, AVX2, BMI2
+    (0x80000001, "rcx", 1 << 5),  # LZCNT
+]
+LEAVES = {0: 7, 0x80000000: 0x80000001}  # what `cpuid` of these leaves has to return at least, so that others exist
+SAVED_REGISTERS = 6  # of `xgetbv`: the system saves the registers of SSE and AVX
+
+
+def has_v3():
+    """Whether the CPU has all that x86-64-v3 needs, and the system saves its registers."""
+    features = [reported("cpuid", leaf, register) & bits == bits for leaf, register, bits in FEATURES]
+    leaves = [z3.UGE(reported("cpuid", leaf, "rax"), least) for leaf, least in LEAVES.items()]
+    return z3.And(*features, *leaves, reported("xgetbv", 0, "rax") & SAVED_REGISTERS == SAVED_REGISTERS)
+
+
+class Dispatched(Function):
+    """A function that calls another one, with its own arguments, and returns what that one does."""
+
+    level, is_unrolled, ends = "dispatch", True, ("_nonnull",)
+
+    def __init__(self, function, parameters):
+        self.function, self.symbol, self.parameters = function, f"const_hex_{function}", parameters.split()
+        self.arguments = [of_32_bits(z3.BitVec("g_upper", 32)) if name == "upper" else z3.BitVec(f"g_argument_{at}", 64)
+                          for at, name in enumerate(self.parameters)]
+
+    @property
+    def imported(self):
+        return {f"{self.symbol}{end}": functools.partial(self.calls, end) for end in self.ends}
+
+    def valid(self, state):
+        """Every input is valid."""
+        return []
+
+    def cases(self, state):
+        state.result_of_call = None
+        return [state]
+
+    def calls(self, end, state):
+        """The call: all arguments are the own ones. Then the result may be anything."""
+        require(state.result_of_call is None, "it calls twice")
+        self.must_choose(state, end)
+        for at, wanted in enumerate(self.arguments):
+            size = 32 if self.parameters[at] == "upper" else 64
+            self.must_pass(state, at, state.argument(at), wanted, size)
+        state.forget_arguments(len(self.arguments))
+        state.result_of_call, state.stored = fresh("g", 64), len(state.kept)
+        yield state, state.result_of_call
+
+    def must_pass(self, state, at, found, wanted, size):
+        found, wanted = [simple(z3.Extract(size - 1, 0, term)) for term in (found, wanted)]
+        state.must(found == wanted, f"argument {at} is another")
+
+    def returns(self, state):
+        require(state.result_of_call is not None, "it calls nothing")
+        state.must(state.result(64) == state.result_of_call, "the result is another")
+        require(len(state.kept) == state.stored, "a byte is stored after the call")
+
+
+class Kernel(Dispatched):
+    """A function of the kernel, for this CPU. It is the one that the stored byte names; another thread may store it at
+    any time. If it names none, the CPU is asked, and the byte is stored."""
+
+    is_called, ends = True, tuple(BUILDS)
+
+    def must_choose(self, state, end):
+        number = BUILDS[end]
+        if not state.kept:
+            is_named = z3.Or(*[read == number for read in state.seen])
+            return state.must(is_named, "the kernel is not the one that is stored")
+        for named in BUILDS.values():
+            state.must(z3.Or(*[read != named for read in state.seen]), "the CPU is asked although a kernel is stored")
+        for stored in state.kept:
+            state.must(stored == number, "another kernel is stored")
+        state.must(has_v3() == (end == "_v3"), "the kernel is not the one for this CPU")
+
+
+class OrNull(Dispatched):
+    """A function whose error may be NULL. Then the one that is called gets a local error."""
+
+    def __init__(self, function, parameters, is_null):
+        super().__init__(function, parameters)
+        self.error, self.is_null = self.parameters.index("error"), is_null
+        self.name = "the error is NULL" if is_null else "the error is not NULL"
+        self.arguments[self.error] = word(0) if is_null else z3.BitVec("p_error", 64)
+        self.requires = () if is_null else (z3.BitVec("p_error", 64) != 0,)
+
+    def stacks(self, state):
+        return state.STACK_OF_DISPATCH, state.STACK
+
+    def must_choose(self, state, end):
+        require(not state.kept, "a byte is stored")
+
+    def must_pass(self, state, at, found, wanted, size):
+        if at != self.error or not self.is_null:
+            return super().must_pass(state, at, found, wanted, size)
+        # The local error is not below what belongs to the call, and may be anything afterwards.
+        local, lowest = simple(found - state.regions["stack"].base), state.top() + state.frame(len(self.arguments))
+        require(z3.is_bv_value(local) and local.as_long() % 8 == 0, "the local error is at an unknown place")
+        require(lowest <= local.as_long() <= state.STACK - 16, "the local error is not in the stack")
+        state.put_cells("stack", local.as_long(), split(fresh("g", 128)))
+
+
+OR_NULL = [OrNull(name, FUNCTIONS[name].parameters, is_null) for name in sorted(WITH_ERROR)
+           for is_null in (False, True)]
+CHOICES = [Kernel(name, parameters) for name, parameters in KERNELS.items()]

@@ -1,0 +1,141 @@
+"""const_hex_error_message and what it calls, in the words of c/const_hex.h.
+
+If a claim were weaker than what the header says, a message could be accepted that says something else, or that is
+written beside its buffer.
+"""
+
+import z3
+
+from contracts.functions import INVALID_CHARACTER, INVALID_LENGTH, N, ODD_LENGTH, Function, base
+from execution.state import Region, byte, chosen, simple, split, word
+from solver.questions import require, values
+
+TEXTS = {ODD_LENGTH: b"odd number of digits", INVALID_LENGTH: b"invalid string length", 4: b"out of memory"}
+ESCAPES = {ord("'"): "\\'", ord("\\"): "\\\\", 0: "\\0", 9: "\\t", 10: "\\n", 13: "\\r"}
+KIND, CHARACTER, POSITION = z3.BitVec("i_kind", 32), z3.BitVec("i_character", 32), z3.BitVec("i_position", 64)
+SIZE = z3.BitVec("i_size", 64)
+# The greatest length of a text that is written.
+MOST = 64
+
+
+def shown(character):
+    """How a message shows a character."""
+    is_hidden = character < 32 or 127 <= character <= 160 or character == 173
+    return ESCAPES.get(character, f"\\u{{{character:x}}}" if is_hidden else chr(character)).encode()
+
+
+SHOWN = [shown(character) for character in range(256)]
+
+
+def shown_in(state):
+    """The bytes that show the character, which are as many for all that a path leaves."""
+    character = z3.Extract(7, 0, CHARACTER)
+    length = simple(chosen([byte(len(text)) for text in SHOWN], character))
+    count = next((count for count in range(1, 7) if state.holds(length == count)), None)
+    require(count, "characters that are shown by different numbers of bytes have one path")
+    return [simple(chosen([byte(text[at : at + 1].ljust(1, b"\0")[0]) for text in SHOWN], character))
+            for at in range(count)]
+
+
+def decimal(state, number):
+    """The digits of a number, which are as many for all that a path leaves."""
+    digits = []
+    while state.holds(z3.UGE(number, 10)):
+        tenth = state.tenth(number)
+        digits.insert(0, simple(z3.Extract(7, 0, number - 10 * tenth) + 0x30))
+        number = tenth
+    state.must(z3.ULT(number, 10), "numbers of different numbers of digits have one path")
+    return [simple(z3.Extract(7, 0, number) + 0x30), *digits]
+
+
+def text_of(state):
+    """The message for an error."""
+    for kind, text in TEXTS.items():
+        if state.holds(KIND == kind):
+            return list(map(byte, text))
+    is_character = z3.And(KIND == INVALID_CHARACTER, z3.ULT(CHARACTER, 256))
+    if not state.holds(z3.Not(is_character)):
+        state.must(is_character, "two kinds of errors have one path")
+        before, after = (list(map(byte, text)) for text in (b"invalid character '", b"' at position "))
+        return [*before, *shown_in(state), *after, *decimal(state, POSITION)]
+    state.must(z3.And(*[KIND != kind for kind in TEXTS]), "two kinds of errors have one path")
+    return []
+
+
+def ended(length):
+    """How many bytes of a text are written before a NUL: all, or as many as fit; or nothing, not even a NUL."""
+    return z3.If(SIZE == 0, word(0), z3.If(z3.ULT(length, SIZE), length, SIZE - 1))
+
+
+class Ended(Function):
+    """A function that writes a text, or as much of it as fits, and a NUL to its output, and returns how many bytes
+    stand before the NUL. It writes nothing to an output of size 0."""
+
+    may_leak, is_unrolled, near = True, True, 2
+
+    def store(self, state, offset, lane):
+        at, = values(state.facts, offset, 1)
+        state.put_cells("output", at, lane)
+
+    def must_be_ended(self, state, length, text):
+        """`text` gives so many bytes of the text."""
+        count = len([at for name, at in state.cells if name == "output"]) - 1
+        state.must(state.result(64) == ended(length), "another result")
+        state.must((SIZE == 0) == z3.BoolVal(count < 0), "whether anything is written")
+        if count >= 0:
+            state.must(ended(length) == count, "another part of the output is written")
+            for at, wanted in enumerate([*text(count), byte(0)]):
+                require(("output", at) in state.cells, "a byte is left out")
+                state.must_equal(state.cells["output", at], wanted, f"another byte at {at}")
+
+
+class WriteEnded(Ended):
+    """message_write_ended(source, length, output, size): the text is the source."""
+
+    is_called = is_local = True
+    function, name, symbol = "write_ended", "every source of up to 64 bytes", "const_hex_message_write_ended"
+    regions, arguments = (Region("input", N), Region("output", SIZE)), (base("input"), N, base("output"), SIZE)
+    requires = z3.ULE(N, MOST),
+
+    def returns(self, state):
+        self.must_be_ended(state, N, lambda count: [state.byte_of_input(word(at)) for at in range(count)])
+
+
+def write_ended(state):
+    """Writes a text of the whole output to its caller."""
+    source, length, output, size = state.arguments(4)
+    count, = values(state.facts, length, 1)
+    state.must(size == SIZE, "another size")
+    state.must(z3.Or(SIZE == 0, output == base("output")), "another output")
+    require(count <= MOST, "a text that is too long")
+    require(state.ended is None and not any(name == "output" for name, _ in state.cells), "a text is written before")
+    state.ended = state.load(source, count) if count else []
+    yield state, ended(word(count))
+
+
+class ErrorMessage(Ended):
+    """error_message(error, message, message_size): the text is the message for the error."""
+
+    function, name, symbol = "error_message", "every error", "const_hex_error_message"
+    regions = Region("error", word(16), 8, is_writable=False), Region("output", SIZE)
+    # An output of size 0 may have any address.
+    arguments = base("error"), z3.If(SIZE == 0, z3.BitVec("i_any", 64), base("output")), SIZE
+    requires = base("output") != 0,
+
+    def cases(self, state):
+        state.put_cells("error", 0, [*split(KIND), *split(CHARACTER), *split(POSITION)])
+        state.ended = None
+        return [state]
+
+    def returns(self, state):
+        text = text_of(state)
+        if state.ended is None:
+            return self.must_be_ended(state, word(len(text)), lambda count: text[:count])
+        require(not any(name == "output" for name, _ in state.cells), "something is written after the end")
+        require(len(state.ended) == len(text), "another text is written")
+        for at, (found, wanted) in enumerate(zip(state.ended, text)):
+            state.must(found == wanted, f"another byte of the text at {at}")
+        state.must(state.result(64) == ended(word(len(text))), "another result")
+
+
+MESSAGES = WriteEnded(), ErrorMessage()

@@ -1,0 +1,113 @@
+"""Wrong messages and dispatchers: small programs for const_hex_error_message, and changes of c/asm/dispatch.S."""
+
+from contracts.dispatch import CHOICES, OR_NULL
+from contracts.messages import MESSAGES
+from programs import FOR_C, assembled
+
+MESSAGE = """
+    .intel_syntax noprefix
+    .section .text.const_hex_error_message, "ax"; .globl const_hex_error_message
+    const_hex_error_message: {}; 9: ud2
+    .section .text.const_hex_message_write_ended, "ax"
+    const_hex_message_write_ended: ret
+    .section .rodata.text, "a"; text: .ascii "odd number of digits"; .skip 80
+"""
+# For the first kind, and a size; and the call that writes its text, which stands before what is done to the arguments.
+KIND = lambda number: f"cmp dword ptr [rdi], {number}; jne 9f; "
+SIZE = lambda number: f"cmp rdx, {number}; jne 9f; "
+CALL = KIND(1) + ("mov rcx, rdx; mov rdx, rsi; lea rdi, [rip+text]; mov esi, 20; sub rsp, 24; {}; "
+                  "call const_hex_message_write_ended; {}; add rsp, 24; ret")
+TWO_KINDS, END = "two kinds of errors have one path", "xor eax, eax; ret"
+OF_MESSAGES = [
+    ("no look at the kind", END, TWO_KINDS),
+    ("no look at what is no character", "cmp dword ptr [rdi], 3; je 9f; " + END, TWO_KINDS),
+    ("no look at the character", KIND(3) + "cmp dword ptr [rdi+4], 256; jae 9f; " + END,
+     "characters that are shown by different"),
+    ("no look at the position", KIND(3) + "cmp dword ptr [rdi+4], 0x7a; jne 9f; " + END,
+     "numbers of different numbers of digits"),
+    ("another result", KIND(1) + SIZE(1) + "mov byte ptr [rsi], 0; mov eax, 1; ret", "another result"),
+    ("no NUL", KIND(1) + SIZE(1) + END, "whether anything is written"),
+    ("another character for the NUL", KIND(1) + SIZE(1) + "mov byte ptr [rsi], 1; " + END, "another byte at 0"),
+    ("too short", KIND(1) + SIZE(2) + "mov byte ptr [rsi], 0; mov eax, 1; ret", "another part of the output"),
+    ("one place too far", KIND(1) + SIZE(64) + "movups [rsi+1], xmm0; movups [rsi+6], xmm0; mov eax, 20; ret",
+     "a byte is left out"),
+    ("an unknown place", KIND(1) + "cmp rdx, 3; jbe 9f; mov byte ptr [rsi+rdx-1], 0; " + END, "too many values"),
+    ("written at a size of 0", KIND(1) + SIZE(0) + "mov byte ptr [rsi], 0; " + END, "an address in|may lie outside"),
+    ("another size is passed", CALL.format("add rcx, 1", ""), "another size"),
+    ("another output is passed", CALL.format("add rdx, 1", ""), "another output"),
+    ("a long text is passed", CALL.format("mov esi, 65", ""), "a text that is too long"),
+    ("a text that is passed twice", CALL.format("call const_hex_message_write_ended", ""), "too many values|before"),
+    ("a byte before the text", CALL.format("cmp rcx, 9; jbe 9f; mov byte ptr [rdx], 0", ""),
+     "a text is written before"),
+    ("a byte after the text",
+     CALL.format("cmp rcx, 9; jbe 9f; mov [rsp], rdx", "mov rdx, [rsp]; mov byte ptr [rdx], 0"),
+     "something is written after the end"),
+    ("a part of the text", CALL.format("mov esi, 19", ""), "another text is written"),
+    ("another text", CALL.format("add rdi, 1", ""), "another byte of the text at 0"),
+    ("a result of its own", CALL.format("", "mov eax, 20"), "another result"),
+]
+# What is changed in what writes a text, and what is said of it.
+OF_WRITE_ENDED = [
+    ("a character too much", "dec    rax", "nop", "may lie outside"),
+    ("the next character", "[rdi+rcx*1]", "[rdi+rcx*1+1]", "may lie outside|another byte"),
+    ("no NUL at the end", "[rdx+rcx*1+0x1],0x0", "[rdx+rcx*1+0x1],0x1", "another byte"),
+]
+NONNULL, CALL_IT = "\tjne\t\\name\\()_nonnull\n", "\tcall\t\\name\\()_nonnull\n"
+IS_2 = "\tcmp\tBYTE PTR [rip + choice], 2\n\tje\t\\name\\()_v3\n"
+IS_1 = "\tcmp\tBYTE PTR [rip + choice], 1\n\tje\t\\name\\()_v2\n"
+LOCAL = "mov\t\\error, rsp"
+NULL, NOT_NULL = "the error is NULL", "the error is not NULL"
+# The function, what is wrong, what is changed, and what is said of it; of which contract.
+OF_DISPATCHERS = [
+    ("check", "it calls twice", CALL_IT, CALL_IT + CALL_IT, "it calls twice", NULL),
+    ("check", "it calls nothing", CALL_IT, "", "it calls nothing", NULL),
+    ("check", "another argument", NONNULL, f"\tmov\trdi, rsi\n{NONNULL}", "argument 0 is another", NOT_NULL),
+    ("check", "another error", NONNULL, f"\tadd\trdx, 8\n{NONNULL}", "argument 2 is another", NOT_NULL),
+    ("check", "another result", CALL_IT, f"{CALL_IT}\txor\teax, eax\n", "the result is another", NULL),
+    ("check", "a byte after the call", CALL_IT, f"{CALL_IT}\tmov\tBYTE PTR [rip + choice], 1\n",
+     "a byte is stored after the call", NULL),
+    ("check", "a byte before the call", CALL_IT, f"\tmov\tBYTE PTR [rip + choice], 1\n{CALL_IT}", "a byte is stored",
+     NULL),
+    ("check", "an error that is not aligned", LOCAL, "lea\t\\error, [rsp+4]", "at an unknown place", NULL),
+    ("check", "an error below the stack", LOCAL, "lea\t\\error, [rsp-8]", "is not in the stack", NULL),
+    ("check", "an error that is too short", LOCAL, "lea\t\\error, [rsp+16]", "is not in the stack", NULL),
+    ("check", "a stack that is not aligned", "sub\trsp, 24", "sub\trsp, 16", "the stack of a function", NULL),
+    ("check", "NULL", NONNULL, NONNULL.replace("jne", "jmp"), "the local error is at an unknown place", NULL),
+    ("decoder_update", "another argument in the stack", "QWORD PTR [rsp], rax", "QWORD PTR [rsp], rsp",
+     "the local error is not in the stack", NULL),
+    ("kernel_fill", "another kernel", IS_2, IS_2.replace("_v3", "_v2"), "not the one that is stored"),
+    ("kernel_fill", "the byte is read twice", IS_2,
+     "\tcmp\tBYTE PTR [rip + choice], 0\n\tje\t7f\n\tcmp\tBYTE PTR [rip + choice], 1\n\tjne\t\\name\\()_v3\n7:\n",
+     "not the one that is stored"),
+    ("kernel_fill", "asked again", IS_1, "", "asked although a kernel is stored"),
+    ("kernel_fill", "another kernel is stored", "choice], al", "choice], 1", "another kernel is stored"),
+    ("kernel_fill", "no look at AVX2", "ebx, 0x128", "ebx, 0x108", "not the one for this CPU"),
+    ("kernel_fill", "no look at LZCNT", "\tje\t2f\n", "\tnop\n", "not the one for this CPU"),
+    ("kernel_fill", "no look at the registers of AVX", "\tcmp\teax, 6\n\tjne", "\tcmp\teax, 2\n\tjb",
+     "not the one for this CPU"),
+    ("kernel_fill", "no look at the number of leaves", "cmp\teax, 7", "cmp\teax, 6", "not the one for this CPU"),
+    ("kernel_fill", "v2 for a CPU with v3", "mov\teax, 2", "mov\teax, 1", "not the one for this CPU"),
+    ("kernel_fill", "no look at OSXSAVE", "0x38401000", "0x30401000", "a CPU that may not have it"),
+    ("kernel_fill", "another leaf", "mov\teax, 7", "mov\teax, 6", "another leaf of cpuid"),
+    ("kernel_fill", "another part of a leaf", "xor\tecx, ecx\n\tcpuid", "mov\tecx, 1\n\tcpuid", "part of one"),
+    ("kernel_fill", "other registers", "xor\tecx, ecx\n\txgetbv", "mov\tecx, 1\n\txgetbv",
+     "another register of xgetbv"),
+    ("kernel_fill", "an argument is lost", "push\trdx", "push\trcx", "argument 2 is another"),
+    ("kernel_fill", "AVX in the dispatcher", "\tpush\trbx", "\tvzeroupper\n\tpush\trbx", "is not what the assembler"),
+    ("kernel_fill", "two bytes are kept", "\tvariable choice", "\tvariable choice\n\t.zero 1",
+     "more is kept between calls"),
+    ("kernel_fill", "two sections are kept", "\tvariable choice", "\tvariable choice\n\tvariable other",
+     "two sections are kept"),
+]
+COUNT = len(OF_MESSAGES) + len(OF_WRITE_ENDED) + len(OF_DISPATCHERS)
+CONTRACTS = [*OR_NULL, *CHOICES, *MESSAGES]
+
+
+def message(body):
+    return assembled(MESSAGE.format(body), "cc")
+
+
+def dispatcher(old="", new=""):
+    text = (FOR_C / "dispatch.S").read_text()
+    assert old in text, old
+    return assembled(text.replace(old, new), "cc", "assembler-with-cpp", f"-I{FOR_C}")
