@@ -2,7 +2,7 @@
 
 use crate::inputs::*;
 use crate::judge::allocates;
-use const_hex::FromHexError::{InvalidStringLength, NoMemory, OddLength};
+use const_hex::FromHexError::NoMemory;
 use const_hex::serde::no_prefix;
 use const_hex::*;
 use const_hex_testing::{KernelCase, by_each_kernel};

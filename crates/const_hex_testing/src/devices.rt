@@ -53,7 +53,7 @@ impl Read for Endless {
 
 /// What goes wrong with a [`Target`]. The other calls succeed.
 #[derive(Clone, Copy, Debug)]
-pub enum Fault {
+pub enum InjectedFault {
     Nothing,
     /// The writes from the first number to the second fail. Numbers begin at 1.
     Writes(usize, usize, ErrorKind),
@@ -68,14 +68,14 @@ pub enum Fault {
 pub struct Target {
     pub taken: Vec<u8>,
     most: usize,
-    fault: Fault,
+    fault: InjectedFault,
     pub writes: usize,
     pub flushes: usize,
 }
 
 impl Target {
     /// Keeps at most `most` bytes per call. The fault says which calls fail.
-    pub fn new(alloc: Global, most: usize, fault: Fault) -> Target {
+    pub fn new(alloc: Global, most: usize, fault: InjectedFault) -> Target {
         Target {
             taken: Vec::new(alloc),
             most,
@@ -90,10 +90,9 @@ impl Write for Target {
     fn write(&mut self, buf: &[u8]) -> io::Result<usize> {
         self.writes = self.writes.saturating_add(1);
         match self.fault {
-            Fault::Writes(first, last, kind) if first <= self.writes && self.writes <= last => {
-                Err(io::Error::from(kind))
-            }
-            Fault::Full(call) if call == self.writes => Ok(0),
+            InjectedFault::Writes(first, last, kind)
+                if first <= self.writes && self.writes <= last => { Err(io::Error::from(kind)) }
+            InjectedFault::Full(call) if call == self.writes => Ok(0),
             _ => {
                 let count = buf.len().min(self.most);
                 self.taken.extend_from_slice(&buf[..count])?;
@@ -105,7 +104,7 @@ impl Write for Target {
     fn flush(&mut self) -> io::Result<()> {
         self.flushes = self.flushes.saturating_add(1);
         match self.fault {
-            Fault::Flush(kind) if self.flushes == 1 => Err(io::Error::from(kind)),
+            InjectedFault::Flush(kind) if self.flushes == 1 => Err(io::Error::from(kind)),
             _ => Ok(()),
         }
     }

@@ -6,17 +6,17 @@ use std::alloc::AllocError;
 #[derive(Clone, Copy, Debug)]
 pub struct KernelCase {
     pub name: &'static str,
-    /// Its index in rows that have a column for `Plain`, one for 16 lanes, and one for 32.
-    pub column: usize,
+    /// Its index among the parts of a result: one for `Plain`, one for 16 lanes, and one for 32.
+    pub part: usize,
     /// Whether it checks a text before it decodes it.
     pub checks_first: bool,
 }
 
 impl KernelCase {
-    pub const fn new(name: &'static str, column: usize, checks_first: bool) -> KernelCase {
+    pub const fn new(name: &'static str, part: usize, checks_first: bool) -> KernelCase {
         KernelCase {
             name,
-            column,
+            part,
             checks_first,
         }
     }

@@ -13,7 +13,7 @@ pub mod steps;
 pub mod texts;
 
 pub use crate::counting::Counting;
-pub use crate::devices::{Endless, Fault, Source, Target};
+pub use crate::devices::{Endless, InjectedFault, Source, Target};
 pub use crate::formatted::InHex;
 pub use crate::kernels::{KernelCase, all_done};
 pub use crate::noting::Noting;

@@ -1,3 +1,3 @@
 pub mod Decoded
 pub mod Keys
-pub mod Told
+pub mod Reported

@@ -1,15 +1,15 @@
 //! The lines about what a sink is given.
 
-use crate::kernels::column;
-use crate::line::{Cell, Line};
+use crate::kernels::part;
+use crate::line::{AllocResult, Line};
 use const_hex::{BufferedHex, Kernel, SinkError, SinkOutput, serialize_inner};
 use const_hex_testing::texts::{make_bytes, print};
 use const_hex_testing::{KernelCase, Noting, by_each_kernel};
-use std::alloc::{AllocError, Global};
+use std::alloc::Global;
 use std::fmt::Write;
 
 /// Asks for the calls that the text of that many bytes makes, after `0x` if the line has that.
-pub(crate) fn calls(line: &mut Line<'_>, count: usize) -> Result<(), AllocError> {
+pub(crate) fn calls(line: &mut Line<'_>, count: usize) -> AllocResult<()> {
     let prefix = !line.input.is_empty();
     let bytes = make_bytes(line.alloc, count)?;
     let lower = print(line.alloc, &bytes, prefix, false)?;
@@ -36,7 +36,7 @@ fn each_call<K: Kernel, const UPPER: bool, const PREFIX: bool>(
     text: &str,
     kernel: KernelCase,
 ) {
-    let sizes = column(line, kernel.column);
+    let sizes = part(line, kernel.part);
     for refuse_at in 0..sizes.split(' ').count().saturating_add(2) {
         let mut sink = Noting::new(line.alloc, refuse_at);
         let done = BufferedHex::<UPPER, PREFIX>::new(bytes).write_with::<K, _>(&mut sink);
@@ -53,7 +53,7 @@ fn by_fixed<const UPPER: bool, const PREFIX: bool>(
     text: &str,
     refuse_at: usize,
 ) {
-    let (alloc, sizes) = (line.alloc, column(line, 2));
+    let (alloc, sizes) = (line.alloc, part(line, 2));
     let mut sink = Noting::new(alloc, refuse_at);
     let done = BufferedHex::<UPPER, PREFIX>::new(bytes).write_to(&mut sink);
     let want = cut(alloc, text, sizes, refuse_at);
@@ -66,7 +66,7 @@ fn by_fixed<const UPPER: bool, const PREFIX: bool>(
 }
 
 /// Asks in which pieces each kernel writes bytes.
-pub(crate) fn pieces(line: &mut Line<'_>) -> Result<(), AllocError> {
+pub(crate) fn pieces(line: &mut Line<'_>) -> AllocResult<()> {
     let text = print(line.alloc, line.input, false, false)?;
     by_each_kernel!(pieces_by(line, &text));
     Ok(())
@@ -75,12 +75,12 @@ pub(crate) fn pieces(line: &mut Line<'_>) -> Result<(), AllocError> {
 fn pieces_by<K: Kernel>(line: &mut Line<'_>, text: &str, kernel: KernelCase) {
     let mut sink = Noting::new(line.alloc, 0);
     K::encode(line.input, false, &mut SinkOutput::new(&mut sink));
-    let want = cut(line.alloc, text, column(line, kernel.column), 0);
+    let want = cut(line.alloc, text, part(line, kernel.part), 0);
     line.agrees(kernel.name, noted(line.alloc, Ok(()), &sink), want);
 }
 
 /// The pieces that a sink was given, with a `|` after each, and a `!` if it refused one.
-fn noted(alloc: Global, done: Result<(), SinkError>, sink: &Noting) -> Cell {
+fn noted(alloc: Global, done: Result<(), SinkError>, sink: &Noting) -> AllocResult<String> {
     let mut text = String::new(alloc);
     for piece in &sink.pieces {
         write!(text, "{piece}|")?;
@@ -93,7 +93,7 @@ fn noted(alloc: Global, done: Result<(), SinkError>, sink: &Noting) -> Cell {
 
 /// The same of pieces of a text of these sizes, or of `none`. That with the number `refuse_at` is refused, and
 /// is the last.
-fn cut(alloc: Global, text: &str, sizes: &str, refuse_at: usize) -> Cell {
+fn cut(alloc: Global, text: &str, sizes: &str, refuse_at: usize) -> AllocResult<String> {
     let (mut pieces, mut start, mut call) = (String::new(alloc), 0usize, 0usize);
     for size in sizes.split(' ') {
         call = call.saturating_add(1);

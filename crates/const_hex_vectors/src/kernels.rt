@@ -1,67 +1,27 @@
-//! The lines that are asked of each kernel.
+//! What each kernel accepts, and what it leaves decoded.
 
-use crate::decoding::prefix_length;
-use crate::encoding::Texts;
-use crate::line::{Cell, Line, show};
+use crate::line::{AllocResult, Line, show};
 use const_hex::{
-    FromHexError, Kernel, check_raw, check_with, decode_to_front_with, decode_to_slice,
-    decode_to_slice_with, decode_with, encode_full_to_slice_with, encode_with,
+    FromHexError, Kernel, check_raw, check_with, decode_to_slice, decode_to_slice_with, decode_with,
 };
 use const_hex_testing::texts::{invalid, read as read_by_std};
 use const_hex_testing::{KernelCase, by_each_kernel};
-use std::alloc::{AllocError, Global};
+use std::alloc::Global;
 use std::fmt::Write;
 
 /// Bytes that are no digits. They are next to a range of digits, or differ from a digit in one bit;
 /// an `x` makes a prefix only as the second character.
 const INVALID: [u8; 11] = *b"\x10/:@G`g\xc1\xe1xX";
 
-/// The part of a line's result that is for the kernels of a column.
-pub(crate) fn column<'a>(line: &Line<'a>, column: usize) -> &'a str {
-    line.result.split("; ").nth(column).unwrap_or("")
+/// A part of a line's result, which is for the kernels with this number of lanes.
+pub(crate) fn part<'a>(line: &Line<'a>, part: usize) -> &'a str {
+    line.result.split("; ").nth(part).unwrap_or("")
 }
 
-pub(crate) fn write<K: Kernel>(
-    line: &mut Line<'_>,
-    [lower, upper, _, full_upper]: Texts<'_>,
-    kernel: KernelCase,
-) -> Result<(), AllocError> {
-    let (alloc, bytes) = (line.alloc, line.input);
-    line.gives(kernel.name, encode_with::<K, false>(alloc, bytes), lower);
-    line.gives(kernel.name, encode_with::<K, true>(alloc, bytes), upper);
-    let mut output = vec![in alloc; 0xEEu8; full_upper.len()]?;
-    let done = encode_full_to_slice_with::<K>(bytes, true, true, &mut output);
-    line.fills(kernel.name, done, &output, full_upper);
-    line.reads_back(kernel.name, decode_with::<K>(alloc, full_upper.as_bytes()));
-    Ok(())
-}
-
-pub(crate) fn read<K: Kernel>(
-    line: &mut Line<'_>,
-    size: usize,
-    kernel: KernelCase,
-) -> Result<(), AllocError> {
-    line.fails(kernel.name, check_with::<K>(line.input).err());
-    line.reads(kernel.name, decode_with::<K>(line.alloc, line.input));
-    let mut output = vec![in line.alloc; 0xEEu8; size]?;
-    let done = decode_to_front_with::<K>(line.input, &mut output);
-    line.fills(kernel.name, done, &output, line.result);
-    Ok(())
-}
-
-pub(crate) fn read_into<K: Kernel>(
-    line: &mut Line<'_>,
-    size: usize,
-    kernel: KernelCase,
-) -> Result<(), AllocError> {
-    let mut output = vec![in line.alloc; 0xEEu8; size]?;
-    let done = decode_to_slice_with::<K>(line.input, &mut output);
-    line.fills(kernel.name, done, &output, line.result);
-    Ok(())
-}
-
-pub(crate) fn digits<K: Kernel>(line: &mut Line<'_>, kernel: KernelCase) {
-    line.decides(kernel.name, K::check(line.input));
+/// How many characters of a text are a prefix.
+pub(crate) fn prefix_length(text: &[u8]) -> usize {
+    let has_prefix = text.starts_with(b"0x") || text.starts_with(b"0X");
+    if has_prefix { 2 } else { 0 }
 }
 
 /// Asks which bytes may stand at each place of a text.
@@ -76,7 +36,7 @@ fn each_byte_by<K: Kernel>(line: &mut Line<'_>, kernel: KernelCase) {
     }
 }
 
-fn accepted<K: Kernel>(alloc: Global, text: &[u8], index: usize) -> Cell {
+fn accepted<K: Kernel>(alloc: Global, text: &[u8], index: usize) -> AllocResult<String> {
     let (mut text, mut bytes) = (text.to_vec(alloc)?, Vec::new(alloc));
     for byte in 0..=255u8 {
         set(&mut text, index, byte);
@@ -94,16 +54,16 @@ fn set(text: &mut [u8], index: usize, byte: u8) {
 }
 
 /// Asks how much each invalid byte at each place of a text leaves decoded.
-pub(crate) fn fronts(line: &mut Line<'_>) -> Result<(), AllocError> {
+pub(crate) fn fronts(line: &mut Line<'_>) -> AllocResult<()> {
     by_each_kernel!(fronts_by(line)?);
     Ok(())
 }
 
-fn fronts_by<K: Kernel>(line: &mut Line<'_>, kernel: KernelCase) -> Result<(), AllocError> {
+fn fronts_by<K: Kernel>(line: &mut Line<'_>, kernel: KernelCase) -> AllocResult<()> {
     let start = prefix_length(line.input);
     let bytes = read_by_std(line.alloc, line.input.get(start..).unwrap_or(&[]))?;
     let mut text = line.input.to_vec(line.alloc)?;
-    let counts = column(line, kernel.column);
+    let counts = part(line, kernel.part);
     line.holds("fronts", counts.split(' ').count() == bytes.len());
     for (pair, count) in counts.split(' ').enumerate() {
         let count = if kernel.checks_first { "0" } else { count };
@@ -124,7 +84,7 @@ fn each_invalid<K: Kernel>(
     index: usize,
     left: &[u8],
     kernel: KernelCase,
-) -> Result<(), AllocError> {
+) -> AllocResult<()> {
     let digit = text.get(index).copied().unwrap_or(0);
     let mut output = left.to_vec(line.alloc)?;
     for byte in INVALID {

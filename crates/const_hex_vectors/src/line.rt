@@ -1,13 +1,12 @@
 //! A line of the table, and what calls return for it.
 
-use const_hex::{FromHexError, JsonError};
+use const_hex::FromHexError;
 use const_hex_testing::texts::value_of;
 use std::alloc::{AllocError, Global};
 use std::convert::AsSlice;
-use std::fmt::Write;
+use std::fmt::{Display, Write};
 
-/// A result as the table shows it.
-pub(crate) type Cell = Result<String, AllocError>;
+pub(crate) type AllocResult<T> = Result<T, AllocError>;
 
 /// The bytes and the result of a line, and the calls that returned something else, one per line.
 #[derive(Drop)]
@@ -32,7 +31,7 @@ impl Line<'_> {
     }
 
     /// As `is`, for a result that needs memory.
-    pub(crate) fn gives(&mut self, call: &str, given: Cell, want: &str) {
+    pub(crate) fn gives(&mut self, call: &str, given: AllocResult<String>, want: &str) {
         match given {
             Ok(text) => self.is(call, &text, want),
             Err(AllocError) => self.is(call, "out of memory", want),
@@ -40,24 +39,20 @@ impl Line<'_> {
     }
 
     /// As `gives`, if what is wanted needs memory too.
-    pub(crate) fn agrees(&mut self, call: &str, given: Cell, want: Cell) {
+    pub(crate) fn agrees(
+        &mut self,
+        call: &str,
+        given: AllocResult<String>,
+        want: AllocResult<String>,
+    ) {
         match want {
             Ok(want) => self.gives(call, given, &want),
             Err(AllocError) => self.is(call, "out of memory", ""),
         }
     }
 
-    /// Whether a check returns the line's error, or none.
-    pub(crate) fn fails(&mut self, call: &str, error: Option<FromHexError>) {
-        match error {
-            Some(error) => self.gives(call, name(self.alloc, error), self.result),
-            None if self.result.starts_with('!') => self.is(call, "no error", self.result),
-            None => {}
-        }
-    }
-
-    /// Whether bytes, or an error, are the line's result.
-    pub(crate) fn reads<B>(&mut self, call: &str, given: Result<B, FromHexError>)
+    /// As `gives`, for bytes or an error.
+    pub(crate) fn reads<B>(&mut self, call: &str, given: Result<B, FromHexError>, want: &str)
     where
         B: AsSlice<u8> + Drop,
     {
@@ -65,47 +60,10 @@ impl Line<'_> {
             Ok(bytes) => show(self.alloc, bytes.as_slice()),
             Err(error) => name(self.alloc, error),
         };
-        self.gives(call, given, self.result);
+        self.gives(call, given, want);
     }
 
-    /// Whether what is read from a text that was written are the line's bytes.
-    pub(crate) fn reads_back<B>(&mut self, call: &str, given: Result<B, FromHexError>)
-    where
-        B: AsSlice<u8> + Drop,
-    {
-        let is_same = match given {
-            Ok(bytes) => bytes.as_slice() == self.input,
-            Err(_) => false,
-        };
-        self.holds(call, is_same);
-    }
-
-    /// As `reads`, for a JSON value.
-    pub(crate) fn reads_json<B>(&mut self, call: &str, given: Result<B, JsonError<FromHexError>>)
-    where
-        B: AsSlice<u8> + Drop,
-    {
-        match given {
-            Ok(bytes) => self.reads(call, Ok(bytes)),
-            Err(JsonError::NotText) => self.is(call, "!NotText", self.result),
-            Err(JsonError::Hex(error)) => self.fails(call, Some(error)),
-        }
-    }
-
-    /// Whether a result is the line's `true` or `false`.
-    pub(crate) fn decides(&mut self, call: &str, given: bool) {
-        self.is(call, if given { "true" } else { "false" }, self.result);
-    }
-
-    /// Whether an error prints the line's message.
-    pub(crate) fn says(&mut self, call: &str, error: Option<FromHexError>) {
-        match error {
-            Some(error) => self.gives(call, print(self.alloc, error), self.result),
-            None => self.is(call, "no error", self.result),
-        }
-    }
-
-    /// Whether an output of bytes 0xEE then holds what is wanted. An error for a length leaves it.
+    /// As `reads`, for an output of bytes 0xEE. An error for a length leaves it.
     pub(crate) fn fills<T: Drop>(
         &mut self,
         call: &str,
@@ -113,11 +71,23 @@ impl Line<'_> {
         output: &[u8],
         want: &str,
     ) {
-        let given = match done {
-            Ok(_) => show(self.alloc, output),
-            Err(error) => left(self.alloc, error, output),
-        };
-        self.gives(call, given, want);
+        let is_kept = output.iter().all(|byte| *byte == 0xEE);
+        match done {
+            Ok(_) => self.reads(call, Ok(output), want),
+            Err(error) => {
+                let is_of_character = matches!(error, FromHexError::InvalidHexCharacter { .. });
+                self.holds(call, is_kept | is_of_character);
+                self.gives(call, name(self.alloc, error), want);
+            }
+        }
+    }
+
+    /// Whether an error prints the line's message.
+    pub(crate) fn says<E: Display + Drop>(&mut self, error: Option<E>) {
+        match error {
+            Some(error) => self.gives("message", print(self.alloc, &error), self.result),
+            None => self.is("message", "no error", self.result),
+        }
     }
 }
 
@@ -131,7 +101,7 @@ pub(crate) fn read_cell(column: Option<&str>) -> &str {
 
 /// How the table shows bytes: printable ASCII as itself, and any other byte and a backslash as
 /// `\xNN`. So is a first `!`.
-pub(crate) fn show(alloc: Global, bytes: &[u8]) -> Cell {
+pub(crate) fn show(alloc: Global, bytes: &[u8]) -> AllocResult<String> {
     let mut text = String::new(alloc);
     for byte in bytes {
         let is_sign = *byte == b'\\' || text.is_empty() && *byte == b'!';
@@ -144,23 +114,8 @@ pub(crate) fn show(alloc: Global, bytes: &[u8]) -> Cell {
     Ok(text)
 }
 
-/// The bytes that have the bits of numbers.
-pub(crate) fn unsigned<B>(
-    alloc: Global,
-    numbers: Result<B, FromHexError>,
-) -> Result<Vec<u8>, FromHexError>
-where
-    B: AsSlice<i8> + Drop,
-{
-    let (numbers, mut bytes) = (numbers?, Vec::new(alloc));
-    for number in numbers.as_slice() {
-        bytes.push(number.cast_unsigned())?;
-    }
-    Ok(bytes)
-}
-
 /// The name of an error, with the number and the position of an invalid character.
-fn name(alloc: Global, error: FromHexError) -> Cell {
+fn name(alloc: Global, error: FromHexError) -> AllocResult<String> {
     match error {
         FromHexError::InvalidHexCharacter { c, index } => {
             let c = u32::from(c);
@@ -171,23 +126,13 @@ fn name(alloc: Global, error: FromHexError) -> Cell {
 }
 
 /// The message of an error, as the table shows it.
-fn print(alloc: Global, error: FromHexError) -> Cell {
+fn print<E: Display>(alloc: Global, error: &E) -> AllocResult<String> {
     let message = error.to_string(alloc)?;
     show(alloc, message.as_bytes())
 }
 
-/// As `name`, of a call with an output of bytes 0xEE. It leaves them, except before an invalid character.
-fn left(alloc: Global, error: FromHexError, output: &[u8]) -> Cell {
-    let before = vec![in alloc; 0xEEu8; output.len()]?;
-    match error {
-        FromHexError::OddLength | FromHexError::InvalidStringLength
-            if output != before.as_slice() => { "a changed output".to_string(alloc) }
-        _ => name(alloc, error),
-    }
-}
-
 /// The bytes that the table shows.
-pub(crate) fn read_bytes(alloc: Global, shown: &str) -> Result<Vec<u8>, AllocError> {
+pub(crate) fn read_bytes(alloc: Global, shown: &str) -> AllocResult<Vec<u8>> {
     let mut parts = shown.split("\\x");
     let mut bytes = parts.next().unwrap_or("").as_bytes().to_vec(alloc)?;
     for part in parts {

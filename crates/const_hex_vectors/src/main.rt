@@ -10,8 +10,8 @@ mod kernels;
 mod lanes;
 mod line;
 
-use crate::line::{Line, read_bytes, read_cell};
-use std::alloc::{AllocError, Global};
+use crate::line::{AllocResult, Line, read_bytes, read_cell};
+use std::alloc::Global;
 use std::process::ExitCode;
 use std::{fs, io};
 
@@ -38,7 +38,7 @@ fn main(rt: HostRuntime) -> io::Result<ExitCode> {
 }
 
 /// The calls that return something else than a line says, and what they return.
-fn compare(alloc: Global, line: &str) -> Result<String, AllocError> {
+fn compare(alloc: Global, line: &str) -> AllocResult<String> {
     let mut columns = line.split('\t');
     let (question, number, times) = read_question(columns.next().unwrap_or(""));
     let input = read_bytes(alloc, read_cell(columns.next()))?;
@@ -64,7 +64,7 @@ fn read_question(column: &str) -> (&str, usize, usize) {
     }
 }
 
-fn ask(line: &mut Line<'_>, question: &str, number: usize) -> Result<(), AllocError> {
+fn ask(line: &mut Line<'_>, question: &str, number: usize) -> AllocResult<()> {
     match question {
         "write" => encoding::write(line),
         "write-into" => encoding::write_into(line, number),
@@ -73,7 +73,7 @@ fn ask(line: &mut Line<'_>, question: &str, number: usize) -> Result<(), AllocEr
         "read-chunks" => Ok(decoding::read_chunks(line)),
         "digits" => Ok(decoding::read_digits(line)),
         "message" => decoding::read_message(line, number),
-        "json" => Ok(decoding::read_json(line)),
+        "json" => Ok(decoding::read_json::<Vec<u8>>(line)),
         "json-into" => Ok(decoding::read_json_into(line, number)),
         "json-message" => Ok(decoding::read_json_message(line)),
         "each-byte" => Ok(kernels::each_byte(line)),
@@ -81,7 +81,7 @@ fn ask(line: &mut Line<'_>, question: &str, number: usize) -> Result<(), AllocEr
         "pieces" => calls::pieces(line),
         "calls" => calls::calls(line, number),
         "values-of-step" => Ok(lanes::values(line)),
-        "write-step" => lanes::text(line),
+        "write-step" => Ok(lanes::text(line)),
         "read-step" => Ok(lanes::bytes(line)),
         _ => Ok(line.is("no such question", question, "")),
     }

@@ -2,7 +2,7 @@
 //! `compare_with_tools.py` tests the program.
 
 use const_hex::FromHexError;
-use const_hex_testing::{Fault, Source, Target, Testing, same, same_bytes};
+use const_hex_testing::{InjectedFault, Source, Target, Testing, same, same_bytes};
 use hexfilter_core::{Groups, Mode, Place, Reading, RunError, run};
 use std::fmt::Debug;
 use std::io::{ErrorKind, Read};
@@ -72,7 +72,7 @@ fn failed_reads(rt: HostRuntime) {
     ] {
         for call in 1..=11usize {
             let mut input = Source::new(b"0x6b697769", call, kind);
-            let mut output = Target::new(rt.alloc(), 1, Fault::Nothing);
+            let mut output = Target::new(rt.alloc(), 1, InjectedFault::Nothing);
             let end = end_of(run(DECODE, &mut input, &mut output));
             let want = match kind {
                 ErrorKind::Interrupted => (End::Done, 4, 12),
@@ -92,44 +92,68 @@ fn failed_writes(rt: HostRuntime) {
         is_check: true,
         ..READING
     });
-    let rows: [(Mode, &[u8], Fault, End, &[u8]); 10] = [
+    let rows: [(Mode, &[u8], InjectedFault, End, &[u8]); 10] = [
         (
             DECODE,
             TEXT,
-            Fault::Writes(3, 3, other),
+            InjectedFault::Writes(3, 3, other),
             End::Write(other),
             b"ki",
         ),
-        (DECODE, TEXT, Fault::Writes(3, 3, again), End::Done, b"kiwi"),
         (
             DECODE,
             TEXT,
-            Fault::Writes(3, 3, ErrorKind::TimedOut),
+            InjectedFault::Writes(3, 3, again),
+            End::Done,
+            b"kiwi",
+        ),
+        (
+            DECODE,
+            TEXT,
+            InjectedFault::Writes(3, 3, ErrorKind::TimedOut),
             End::Write(ErrorKind::TimedOut),
             b"ki",
         ),
-        (DECODE, TEXT, Fault::Full(3), full, b"ki"),
+        (DECODE, TEXT, InjectedFault::Full(3), full, b"ki"),
         (
             DECODE,
             TEXT,
-            Fault::Flush(other),
+            InjectedFault::Flush(other),
             End::Write(other),
             b"kiwi",
         ),
-        (DECODE, TEXT, Fault::Flush(again), End::Done, b"kiwi"),
-        (check, TEXT, Fault::Writes(1, 1, other), End::Done, b""),
-        (check, TEXT, Fault::Flush(other), End::Write(other), b""),
+        (
+            DECODE,
+            TEXT,
+            InjectedFault::Flush(again),
+            End::Done,
+            b"kiwi",
+        ),
+        (
+            check,
+            TEXT,
+            InjectedFault::Writes(1, 1, other),
+            End::Done,
+            b"",
+        ),
+        (
+            check,
+            TEXT,
+            InjectedFault::Flush(other),
+            End::Write(other),
+            b"",
+        ),
         (
             encode(0),
             b"ki",
-            Fault::Flush(other),
+            InjectedFault::Flush(other),
             End::Write(other),
             b"6b69",
         ),
         (
             encode(2),
             b"ki",
-            Fault::Flush(other),
+            InjectedFault::Flush(other),
             End::Write(other),
             b"6b:69",
         ),
@@ -147,7 +171,7 @@ fn failed_writes(rt: HostRuntime) {
 fn failed_writes_of_groups(rt: HostRuntime) {
     let text = b"6b:69:77:69";
     for call in 1..=text.len() {
-        let fault = Fault::Writes(call, call, ErrorKind::Other);
+        let fault = InjectedFault::Writes(call, call, ErrorKind::Other);
         let mut output = Target::new(rt.alloc(), 1, fault);
         let end = end_of(run(encode(2), &mut b"kiwi".as_slice(), &mut output));
         same!(&rt, "run", call; end, End::Write(ErrorKind::Other));
@@ -165,7 +189,7 @@ fn cuts_of_groups(rt: HostRuntime) {
     };
     let mode = Mode::Decode(Reading { groups, ..READING });
     for cut in 0..=text.len() {
-        let mut output = Target::new(rt.alloc(), 1, Fault::Nothing);
+        let mut output = Target::new(rt.alloc(), 1, InjectedFault::Nothing);
         let mut input = text[..cut].chain(&text[cut..]);
         let error = match run(mode, &mut input, &mut output) {
             Err(RunError::Text(error, place)) => Some((error, place)),
@@ -182,7 +206,7 @@ fn cuts_of_groups(rt: HostRuntime) {
     }
     let bytes = b"kiwi".as_slice();
     for cut in 0..=bytes.len() {
-        let mut output = Target::new(rt.alloc(), 1, Fault::Nothing);
+        let mut output = Target::new(rt.alloc(), 1, InjectedFault::Nothing);
         let mut input = bytes[..cut].chain(&bytes[cut..]);
         same!(&rt, "run", cut; end_of(run(encode(3), &mut input, &mut output)), End::Done);
         same_bytes!(&rt, "what the writer has", cut; output.taken, b"6b6:977:69");

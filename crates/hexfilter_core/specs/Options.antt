@@ -9,8 +9,8 @@ use Rattle.hexfilter_core.specs.declared.mode.Groups.{Groups}
 use Rattle.hexfilter_core.specs.declared.mode.Mode.{Mode}
 use Rattle.hexfilter_core.specs.declared.mode.Reading.{Reading}
 use Rattle.hexfilter_core.specs.declared.mode.Mode.TheVariants.{Encode, Decode}
-use Rattle.hexfilter_core.specs.declared.options.Fault.{Fault}
-use Rattle.hexfilter_core.specs.declared.options.Fault.TheVariants.{UnknownOption, MissingValue, InvalidNumber, InvalidSeparator, GroupsInLines, SecondFile}
+use Rattle.hexfilter_core.specs.declared.options.UsageErrorKind.{UsageErrorKind}
+use Rattle.hexfilter_core.specs.declared.options.UsageErrorKind.TheVariants.{UnknownOption, MissingValue, InvalidNumber, InvalidSeparator, GroupsInLines, SecondFile}
 use Rattle.hexfilter_core.specs.declared.options.Options.{Options}
 use Rattle.hexfilter_core.specs.declared.options.Request.{Request}
 use Rattle.hexfilter_core.specs.declared.options.Request.TheVariants.{Help, Version, Run}
@@ -38,12 +38,12 @@ table o =
     ∷ []
 
 -- the options with the one that the key names
-abbrev pub find : List ℕ → List (List (List ℕ) × Options) → Result Options Fault
+abbrev pub find : List ℕ → List (List (List ℕ) × Options) → Result Options UsageErrorKind
 find key [] = Err UnknownOption
 find key (row ∷ rows) = if list_any (λ k. bytes_eq key k) row.0 then Ok row.1 else find key rows
 
 -- a value: the number that decimal digits write, or an ASCII character that is neither a digit nor a newline
-abbrev pub number : List ℕ → Result ℕ Fault
+abbrev pub number : List ℕ → Result ℕ UsageErrorKind
 number v = if nat_lt 0 (length v) && all_ascii_digits v && nat_lt (digits_value 10 v) (2 ^ 64) then Ok
     (digits_value 10 v) else Err InvalidNumber
 
@@ -52,12 +52,13 @@ unfoldable pub is_separator : ℕ → Bool
 is_separator b = nat_lt b 128 && not (b == 10) && not (is_ascii_hexdigit b)
 
 -- f of the value, or the error
-abbrev pub and_then : {A : Type 0} → Result A Fault → (A → Result Options Fault) → Result Options Fault
+abbrev pub and_then : {A : Type 0} → Result A UsageErrorKind → (A → Result Options UsageErrorKind)
+    → Result Options UsageErrorKind
 and_then (Ok a) f = f a
 and_then (Err e) f = Err e
 
 -- the options, with v as the value of the option that waits for one
-abbrev pub with_value : Option Value → Options → List ℕ → Result Options Fault
+abbrev pub with_value : Option Value → Options → List ℕ → Result Options UsageErrorKind
 with_value None o v = Err UnknownOption
 with_value (Some Size) o v = and_then (number v) (λ n. Ok (record o { size = Some n; value = None }))
 with_value (Some Separator) o (b ∷ []) =
@@ -67,14 +68,14 @@ with_value (Some Separator) o v = Err InvalidSeparator
 -- ---- the arguments
 
 -- letters, of which one may be followed by its value
-unfoldable pub with_letters : Options → List ℕ → Result Options Fault
+unfoldable pub with_letters : Options → List ℕ → Result Options UsageErrorKind
 with_letters o [] = Ok o
 with_letters o (c ∷ t) =
     and_then (find (c ∷ []) (table o))
     (λ p. if is_some p.value && nat_lt 0 (length t) then with_value p.value p t else with_letters p t)
 
 -- letters after a dash, a name after two, which may have a value after an equals sign, or else a file
-abbrev pub dashed : Options → Result Options Fault → List ℕ → Result Options Fault
+abbrev pub dashed : Options → Result Options UsageErrorKind → List ℕ → Result Options UsageErrorKind
 dashed o file [] = file
 dashed o file (c ∷ []) = file
 dashed o file (c ∷ d ∷ t) =
@@ -87,13 +88,14 @@ dashed o file (c ∷ d ∷ t) =
     else and_then (find (before_first is_equals key) (table o)) (λ p. with_value p.value p (after_first is_equals key))
 
 -- the options after the argument a, which has the number i
-abbrev pub with_word : Options → ℕ → List ℕ → Result Options Fault
+abbrev pub with_word : Options → ℕ → List ℕ → Result Options UsageErrorKind
 with_word o i a =
-    let file : Result Options Fault = if is_some o.file then Err SecondFile else Ok (record o { file = Some i }) in
+    let file : Result Options UsageErrorKind =
+    if is_some o.file then Err SecondFile else Ok (record o { file = Some i }) in
     if is_some o.value then with_value o.value o a else if o.only_files then file else dashed o file a
 
 -- lines have no groups
-abbrev pub with_argument : Options → ℕ → List ℕ → Result Options Fault
+abbrev pub with_argument : Options → ℕ → List ℕ → Result Options UsageErrorKind
 with_argument o i a = and_then (with_word o i a) (λ p. if p.wrapped && p.grouped then Err GroupsInLines else Ok p)
 
 -- what so many arguments ask for. Lines are written, and not read
@@ -104,13 +106,13 @@ request o count =
     else record { size = if o.check || o.decode then 0 else unwrap_or o.size 0; separator = 10 } in
     let r : Reading = record { is_check = o.check; ignore_whitespace = o.ignore_whitespace; groups = groups } in
     let m : Mode = if o.check || o.decode then Decode r else Encode o.prefix o.upper groups in
-    if is_some o.value then Err (record { fault = MissingValue; index = count - 1 })
+    if is_some o.value then Err (record { kind = MissingValue; index = count - 1 })
     else if o.help then Ok Help else if o.version then Ok Version else Ok (Run m o.file)
 
--- f of the options, or the fault of the argument i
-abbrev pub at : ℕ → Result Options Fault → (Options → Result Request UsageError) → Result Request UsageError
+-- f of the options, or the error of the argument i
+abbrev pub at : ℕ → Result Options UsageErrorKind → (Options → Result Request UsageError) → Result Request UsageError
 at i (Ok o) f = f o
-at i (Err e) f = Err (record { fault = e; index = i })
+at i (Err e) f = Err (record { kind = e; index = i })
 
 -- the arguments from the number i on
 unfoldable pub with_arguments : Options → ℕ → List (List ℕ) → Result Request UsageError

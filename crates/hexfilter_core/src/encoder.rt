@@ -1,6 +1,6 @@
 //! An encoder for bytes that come in chunks.
 
-ghost use Rattle.std.specs.Prelude.{◌≡◌, ◌≢◌, ◌*◌, ◌+◌, ◌≤◌, ◌<◌, ◌++◌, [], List, ℕ, Bool, if◌then◌else◌, length, take, false};
+ghost use Rattle.std.specs.Prelude.{◌≡◌, ◌*◌, ◌+◌, ◌≤◌, ◌<◌, ◌++◌, [], List, ℕ, Bool, if◌then◌else◌, length, take, false};
 ghost use Rattle.const_hex.specs.Decoding.{listed};
 ghost use Rattle.const_hex.specs.Texts.{full_text};
 ghost use Rattle.hexfilter_core.specs.Groups.{BreaksInto, encoded, ended};

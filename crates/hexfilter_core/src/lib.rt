@@ -21,7 +21,7 @@ mod transfer;
 
 pub use crate::error::RunError;
 pub use crate::mode::{Groups, Mode, Reading};
-pub use crate::options::{Fault, Request, UsageError, request_of};
+pub use crate::options::{Request, UsageError, UsageErrorKind, request_of};
 pub use crate::place::Place;
 pub use crate::process::{OutputFile, program};
 pub use crate::runs::run;

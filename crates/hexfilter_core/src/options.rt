@@ -25,7 +25,7 @@ pub enum Request {
 
 /// Why an argument is not valid.
 #[derive(Clone, Copy, PartialEq, Eq, Debug)]
-pub enum Fault {
+pub enum UsageErrorKind {
     /// It has an option that there is not.
     UnknownOption,
     /// It ends in an option whose value is missing.
@@ -44,7 +44,7 @@ pub enum Fault {
 #[derive(Clone, Copy, PartialEq, Eq, Debug)]
 pub struct UsageError {
     /// Why it is not valid.
-    pub fault: Fault,
+    pub kind: UsageErrorKind,
     /// Its index.
     pub index: usize,
 }
@@ -94,7 +94,7 @@ pub fn request_of(arguments: &[String]) -> Result<Request, UsageError>
     for index in 0..arguments.len() {
         match options.with_argument(index, arguments[index].as_str()) {
             Ok(more) => options = more,
-            Err(fault) => return Err(UsageError { fault, index }),
+            Err(kind) => return Err(UsageError { kind, index }),
         }
     }
     options.request(arguments.len())
@@ -104,7 +104,7 @@ impl Options {
     /// The table of the options: what each of them sets, by what follows the first dash. A value follows the last
     /// three. `-u`, `-p` and `-w` are for bytes that are encoded, `-i` is for a text that is decoded, and each mode
     /// takes all of them.
-    fn with_option(mut self, key: &str) -> Result<Options, Fault>
+    fn with_option(mut self, key: &str) -> Result<Options, UsageErrorKind>
         ensures { result ≡ find key.now (table self) }
     {
         match key {
@@ -118,37 +118,37 @@ impl Options {
             "w" | "-wrap" => (self.wrapped, self.value) = (true, Some(Value::Size)),
             "g" | "-group" => (self.grouped, self.value) = (true, Some(Value::Size)),
             "s" | "-separator" => (self.grouped, self.value) = (true, Some(Value::Separator)),
-            _ => return Err(Fault::UnknownOption),
+            _ => return Err(UsageErrorKind::UnknownOption),
         }
         Ok(self)
     }
 
     /// The options with the value of the last one, which may take none.
-    fn with_value(mut self, text: &str) -> Result<Options, Fault>
+    fn with_value(mut self, text: &str) -> Result<Options, UsageErrorKind>
         ensures { result ≡ with_value self.value self text.now }
     {
         match (self.value, text.as_bytes()) {
-            (None, _) => return Err(Fault::UnknownOption),
+            (None, _) => return Err(UsageErrorKind::UnknownOption),
             (Some(Value::Size), _) => self.size = Some(number(text)?),
             (_, [byte]) if is_separator(*byte) => self.separator = Some(*byte),
-            _ => return Err(Fault::InvalidSeparator),
+            _ => return Err(UsageErrorKind::InvalidSeparator),
         }
         self.value = None;
         Ok(self)
     }
 
     /// The options with an argument.
-    fn with_argument(self, index: usize, argument: &str) -> Result<Options, Fault>
+    fn with_argument(self, index: usize, argument: &str) -> Result<Options, UsageErrorKind>
         ensures { result ≡ with_argument self index argument.now }
     {
         match self.with_word(index, argument) {
-            Ok(more) if more.wrapped && more.grouped => Err(Fault::GroupsInLines),
+            Ok(more) if more.wrapped && more.grouped => Err(UsageErrorKind::GroupsInLines),
             more => more,
         }
     }
 
     /// As `with_argument`, also if lines and groups are asked for.
-    fn with_word(mut self, index: usize, argument: &str) -> Result<Options, Fault>
+    fn with_word(mut self, index: usize, argument: &str) -> Result<Options, UsageErrorKind>
         ensures { result ≡ with_word self index argument.now }
     {
         if self.value.is_some() {
@@ -169,7 +169,7 @@ impl Options {
             }
         }
         if self.file.is_some() {
-            return Err(Fault::SecondFile);
+            return Err(UsageErrorKind::SecondFile);
         }
         self.file = Some(index);
         Ok(self)
@@ -177,13 +177,13 @@ impl Options {
 
     /// The options with letters. What follows the letter of an option that takes a value is this value.
     #[tactic(auto, using(crate::proofs::lemmas::Arguments::letter_unknown))]
-    fn with_letters(mut self, text: &str) -> Result<Options, Fault>
+    fn with_letters(mut self, text: &str) -> Result<Options, UsageErrorKind>
         ensures { result ≡ with_letters self text.now }
     {
         let mut letters = text;
         while !letters.is_empty() {
             if !letters.is_char_boundary(1) {
-                return Err(Fault::UnknownOption);
+                return Err(UsageErrorKind::UnknownOption);
             }
             let (letter, rest) = letters.split_at(1);
             self = self.with_option(letter)?;
@@ -200,8 +200,8 @@ impl Options {
         ensures { result ≡ request self count }
     {
         if self.value.is_some() {
-            let (fault, index) = (Fault::MissingValue, count.saturating_sub(1));
-            return Err(UsageError { fault, index });
+            let (kind, index) = (UsageErrorKind::MissingValue, count.saturating_sub(1));
+            return Err(UsageError { kind, index });
         }
         if self.help {
             return Ok(Request::Help);
@@ -245,14 +245,14 @@ fn is_separator(byte: u8) -> bool
 
 /// The number that decimal digits write.
 #[tactic(auto, using(crate::proofs::lemmas::Arguments::parsed))]
-fn number(text: &str) -> Result<usize, Fault>
+fn number(text: &str) -> Result<usize, UsageErrorKind>
     ensures { result ≡ number text.now }
 {
     if text.starts_with('+') {
-        return Err(Fault::InvalidNumber);
+        return Err(UsageErrorKind::InvalidNumber);
     }
     match text.parse() {
         Ok(number) => Ok(number),
-        Err(_) => Err(Fault::InvalidNumber),
+        Err(_) => Err(UsageErrorKind::InvalidNumber),
     }
 }

@@ -13,7 +13,7 @@ ghost use Rattle.hexfilter_core.specs.declared.options.UsageError.{UsageError};
 
 use crate::error::RunError;
 use crate::mode::Mode;
-use crate::options::{Fault, Request, UsageError, request_of};
+use crate::options::{Request, UsageError, UsageErrorKind, request_of};
 use crate::place::Place;
 use crate::runs::run;
 use crate::transfer::{flush, write_piece};
@@ -127,13 +127,13 @@ fn misused(rt: &impl Eprint, arguments: &[String], error: UsageError) -> ExitCod
         Some(argument) => argument.as_str(),
         None => "",
     };
-    let reason = match error.fault {
-        Fault::UnknownOption => "unknown option",
-        Fault::MissingValue => "missing value after",
-        Fault::InvalidNumber => "invalid number",
-        Fault::InvalidSeparator => "invalid separator",
-        Fault::GroupsInLines => "--wrap beside --group or --separator:",
-        Fault::SecondFile => "second file",
+    let reason = match error.kind {
+        UsageErrorKind::UnknownOption => "unknown option",
+        UsageErrorKind::MissingValue => "missing value after",
+        UsageErrorKind::InvalidNumber => "invalid number",
+        UsageErrorKind::InvalidSeparator => "invalid separator",
+        UsageErrorKind::GroupsInLines => "--wrap beside --group or --separator:",
+        UsageErrorKind::SecondFile => "second file",
     };
     // Nothing is left to be done if standard error fails.
     let _ = eprintln!(rt; "hexfilter: {reason} {argument:?}; try --help");

@@ -1,6 +1,6 @@
 //! The text of an input: the input without what is left out.
 
-ghost use Rattle.std.specs.Prelude.{◌≡◌, ◌+◌, ◌≤◌, ◌<◌, ◌++◌, ◌∷◌, [], List, ℕ, false, length, min, take, not, nat_lt};
+ghost use Rattle.std.specs.Prelude.{◌≡◌, ◌+◌, ◌≤◌, ◌<◌, ◌∷◌, [], List, ℕ, false, length, min, take, not, nat_lt};
 ghost use Rattle.std.specs.List.{All, prefix_len};
 ghost use Rattle.const_hex.specs.Decoding.{counted, listed};
 ghost use Rattle.hexfilter_core.specs.Stages.{HasAdded, HasScanned};

@@ -1,6 +1,6 @@
 //! What a run makes of its input, chunk after chunk.
 
-ghost use Rattle.std.specs.Prelude.{◌≡◌, ◌≢◌, ◌≤◌, ◌<◌, ◌+◌, ◌*◌, ◌++◌, [], ℕ, List, Option, None, Some, length, take};
+ghost use Rattle.std.specs.Prelude.{◌≡◌, ◌≤◌, ◌<◌, ◌+◌, ◌*◌, ◌++◌, [], ℕ, List, Option, None, Some, length, take};
 ghost use Rattle.std.specs.Io.KnownBytes.{IsAtEnd};
 ghost use Rattle.hexfilter_core.specs.Inputs.{chunk_size};
 ghost use Rattle.hexfilter_core.specs.Outcome.{IsErrorOf, Makes, MakesBeginning};

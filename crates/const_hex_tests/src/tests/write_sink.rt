@@ -3,7 +3,7 @@
 
 use const_hex::{BufferedHex, Plain, Sink, WriteSink};
 use const_hex_testing::texts::{make_bytes, print};
-use const_hex_testing::{Fault, Target, Testing, same, same_bytes};
+use const_hex_testing::{InjectedFault, Target, Testing, same, same_bytes};
 use std::io::{self, ErrorKind};
 
 // A text of 6002 bytes comes in pieces of 4096 and 1906. A writer that accepts 1000 per call gets
@@ -26,12 +26,12 @@ fn at_call(rt: &impl Testing, (call, taken): (usize, usize), case: (&[u8], &[u8]
     let (fails, calls) = (call < 8, call.min(7));
     for kind in [ErrorKind::Other, ErrorKind::WouldBlock] {
         let want = (fails.then_some(kind), taken, calls);
-        writes(rt, Fault::Writes(call, call, kind), case, want);
+        writes(rt, InjectedFault::Writes(call, call, kind), case, want);
     }
     let want = (fails.then_some(ErrorKind::WriteZero), taken, calls);
-    writes(rt, Fault::Full(call), case, want);
+    writes(rt, InjectedFault::Full(call), case, want);
     for more in [0, 1, 99, 9999usize] {
-        let fault = Fault::Writes(call, call.saturating_add(more), ErrorKind::Interrupted);
+        let fault = InjectedFault::Writes(call, call.saturating_add(more), ErrorKind::Interrupted);
         let calls = if fails { more.saturating_add(8) } else { 7 };
         writes(rt, fault, case, (None, 6002, calls));
     }
@@ -40,7 +40,7 @@ fn at_call(rt: &impl Testing, (call, taken): (usize, usize), case: (&[u8], &[u8]
 /// Writes the bytes, whose text is `text`. Checks the error, what the writer has, and its calls.
 fn writes(
     rt: &impl Testing,
-    fault: Fault,
+    fault: InjectedFault,
     (bytes, text): (&[u8], &[u8]),
     (kind, taken, calls): (Option<ErrorKind>, usize, usize),
 ) {
@@ -59,7 +59,7 @@ fn writes(
 // An empty piece is no call, also of a writer that would fail.
 #[test]
 fn an_empty_piece(rt: HostRuntime) {
-    let mut target = Target::new(rt.alloc(), 1, Fault::Full(1));
+    let mut target = Target::new(rt.alloc(), 1, InjectedFault::Full(1));
     same!(&rt; WriteSink::new(&mut target).write_str(""), Ok(()));
     same!(&rt; target.writes, 0);
 }

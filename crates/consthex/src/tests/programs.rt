@@ -2,7 +2,7 @@
 
 use crate::mode::USAGE;
 use crate::process::program;
-use const_hex_testing::{Endless, Fault, Source, Target, Testing, Text, same, same_bytes};
+use const_hex_testing::{Endless, InjectedFault, Source, Target, Testing, Text, same, same_bytes};
 use std::cell::Cell;
 use std::env::{Env, FillError};
 use std::fmt::{self, Debug, Display};
@@ -126,7 +126,7 @@ fn words_that_name_a_mode(rt: HostRuntime) {
         (&[b"consthex", b"check"], b"6b697769\n", b"ok\n"),
     ];
     for (arguments, input, answer) in rows {
-        let (mut input, mut output) = (input, Target::new(rt.alloc(), 1, Fault::Nothing));
+        let (mut input, mut output) = (input, Target::new(rt.alloc(), 1, InjectedFault::Nothing));
         ends(
             &rt,
             Host::new(arguments, true),
@@ -159,7 +159,7 @@ fn words_that_name_none(rt: HostRuntime) {
     ];
     for (arguments, can_print) in rows {
         let mut input = b"kiwi".as_slice();
-        let mut output = Target::new(rt.alloc(), 1, Fault::Nothing);
+        let mut output = Target::new(rt.alloc(), 1, InjectedFault::Nothing);
         let host = Host::new(arguments, can_print);
         ends(&rt, host, &mut input, &mut output, (2, USAGE));
         same_bytes!(&rt, "what is left to read", Shown(arguments); input, "kiwi");
@@ -170,7 +170,7 @@ fn words_that_name_none(rt: HostRuntime) {
 // A text that is rejected, a failed read, and too long an input.
 #[test]
 fn statuses_and_lines(rt: HostRuntime) {
-    let mut output = Target::new(rt.alloc(), 1, Fault::Nothing);
+    let mut output = Target::new(rt.alloc(), 1, InjectedFault::Nothing);
     let (host, line) = (Host::new(DECODE, false), (1, "odd number of digits"));
     ends(&rt, host, &mut b"0x1\n".as_slice(), &mut output, line);
     let (host, line) = (Host::new(ENCODE, true), (3, "read failed"));
@@ -186,10 +186,10 @@ fn statuses_and_lines(rt: HostRuntime) {
 fn statuses_of_failed_writes(rt: HostRuntime) {
     let kind = ErrorKind::BrokenPipe;
     for fault in [
-        Fault::Writes(1, 1, kind),
-        Fault::Writes(2, 2, kind),
-        Fault::Full(2),
-        Fault::Flush(kind),
+        InjectedFault::Writes(1, 1, kind),
+        InjectedFault::Writes(2, 2, kind),
+        InjectedFault::Full(2),
+        InjectedFault::Flush(kind),
     ] {
         let (host, line) = (Host::new(ENCODE, true), (3, "write failed"));
         let mut output = Target::new(rt.alloc(), 1, fault);

@@ -5,7 +5,7 @@ use crate::mode::Mode;
 use crate::runs::run;
 use const_hex::FromHexError::OddLength;
 use const_hex_testing::texts::invalid;
-use const_hex_testing::{Endless, Fault, Source, Target, Testing, Text, same, same_bytes};
+use const_hex_testing::{Endless, InjectedFault, Source, Target, Testing, Text, same, same_bytes};
 use std::io::{self, ErrorKind, Read};
 
 /// A mode, an input, and the result.
@@ -99,7 +99,7 @@ fn names_a_failed_read(rt: HostRuntime) {
 fn reads(rt: &impl Testing, kind: ErrorKind, call: usize) {
     let row = (kind, call);
     let mut input = Source::new(b"6b697769\n", call, kind);
-    let mut output = Target::new(rt.alloc(), 1, Fault::Nothing);
+    let mut output = Target::new(rt.alloc(), 1, InjectedFault::Nothing);
     let outcome = run(rt.alloc(), Mode::Decode, &mut input, &mut output);
     let (want, written, calls) = match call {
         11 => (Ok(()), "kiwi", (4, 1)),
@@ -113,7 +113,7 @@ fn reads(rt: &impl Testing, kind: ErrorKind, call: usize) {
 
 #[test]
 fn stops_an_endless_reader(rt: HostRuntime) {
-    let mut output = Target::new(rt.alloc(), 1, Fault::Nothing);
+    let mut output = Target::new(rt.alloc(), 1, InjectedFault::Nothing);
     let outcome = run(rt.alloc(), Mode::Encode, &mut Endless, &mut output);
     same!(&rt, "run", "an endless reader"; outcome, Err(RunError::TooLong));
     same!(&rt; (output.writes, output.flushes), (0, 0));
@@ -123,24 +123,28 @@ fn stops_an_endless_reader(rt: HostRuntime) {
 #[test]
 fn answers_and_names_a_failed_write(rt: HostRuntime) {
     for row in ANSWERS {
-        writes(&rt, row, Fault::Nothing);
+        writes(&rt, row, InjectedFault::Nothing);
         for kind in KINDS {
-            writes(&rt, row, Fault::Flush(kind));
+            writes(&rt, row, InjectedFault::Flush(kind));
             for call in 1..=row.2.len() {
-                writes(&rt, row, Fault::Full(call));
-                writes(&rt, row, Fault::Writes(call, call, kind));
+                writes(&rt, row, InjectedFault::Full(call));
+                writes(&rt, row, InjectedFault::Writes(call, call, kind));
             }
         }
     }
 }
 
 /// A run with that fault.
-fn writes(rt: &impl Testing, (mode, input, answer): Answered<'_>, fault: Fault) {
+fn writes(rt: &impl Testing, (mode, input, answer): Answered<'_>, fault: InjectedFault) {
     let (row, failed) = ((mode, Text(input), fault), Err(RunError::WriteFailed));
     let (outcome, taken, calls) = match fault {
-        Fault::Nothing => (Ok(()), answer.len(), (answer.len(), 1)),
-        Fault::Flush(_) => (failed, answer.len(), (answer.len(), 1)),
-        Fault::Full(at) | Fault::Writes(at, _, _) => (failed, at.saturating_sub(1), (at, 0)),
+        InjectedFault::Nothing => (Ok(()), answer.len(), (answer.len(), 1)),
+        InjectedFault::Flush(_) => (failed, answer.len(), (answer.len(), 1)),
+        InjectedFault::Full(at) | InjectedFault::Writes(at, _, _) => (
+            failed,
+            at.saturating_sub(1),
+            (at, 0),
+        ),
     };
     let (mut input, mut output) = (input, Target::new(rt.alloc(), 1, fault));
     same!(rt, "run", row; run(rt.alloc(), mode, &mut input, &mut output), outcome);

@@ -13,12 +13,12 @@ use Rattle.hexfilter_core.specs.declared.mode.Groups.{Groups}
 use Rattle.hexfilter_core.specs.declared.mode.Mode.{Mode}
 use Rattle.hexfilter_core.specs.declared.mode.Mode.TheVariants.{Decode, Encode}
 use Rattle.hexfilter_core.specs.declared.mode.Reading.{Reading}
-use Rattle.hexfilter_core.specs.declared.options.Fault.{Fault}
-use Rattle.hexfilter_core.specs.declared.options.Fault.TheVariants.{InvalidNumber, UnknownOption}
+use Rattle.hexfilter_core.specs.declared.options.UsageErrorKind.{UsageErrorKind}
+use Rattle.hexfilter_core.specs.declared.options.UsageErrorKind.TheVariants.{InvalidNumber, UnknownOption}
 use Rattle.hexfilter_core.specs.declared.options.Options.{Options}
 use Rattle.hexfilter_core.specs.declared.options.Request.TheVariants.{Run}
 
-abbrev pub as_number : {E : Type 0} → Result ℕ E → Result ℕ Fault
+abbrev pub as_number : {E : Type 0} → Result ℕ E → Result ℕ UsageErrorKind
 as_number (Ok n) = Ok n
 as_number (Err e) = Err InvalidNumber
 
@@ -37,7 +37,7 @@ parsed v r h plain =
     (parse_plain own 64 v r h (grind (arith, nat_tests)))
 
 -- the first letter, and the rest
-letter : (o : Options) (t first rest : List ℕ) (found : Result Options Fault) → 0 < length t → first ≡ take 1 t
+letter : (o : Options) (t first rest : List ℕ) (found : Result Options UsageErrorKind) → 0 < length t → first ≡ take 1 t
     → rest ≡ drop 1 t → found ≡ find first (table o)
     → with_letters o t ≡ and_then found
     (λ p. if is_some p.value && nat_lt 0 (length rest) then with_value p.value p rest else with_letters p rest)
@@ -53,7 +53,7 @@ letter_read o p t first rest b h front back is given =
     letter o t first rest (Ok p) h front back is
     ∙ ap (λ x. if x then with_value p.value p rest else with_letters p rest) given
 
-pub letter_fails : (o : Options) (t first : List ℕ) (e : Fault) → 0 < length t → first ≡ take 1 t
+pub letter_fails : (o : Options) (t first : List ℕ) (e : UsageErrorKind) → 0 < length t → first ≡ take 1 t
     → Err e ≡ find first (table o) → with_letters o t ≡ Err e
 letter_fails o t first e h front is = letter o t first (drop 1 t) (Err e) h front refl is
 
@@ -75,8 +75,8 @@ letters_end o [] h = refl
 letters_end o (c ∷ t) h = absurd (omega arith)
 
 -- the argument x
-pub argument_read : {X : Type 0} (bytes : X → List ℕ) (xs : List X) (i : ℕ) (o : Options) (found : Result Options Fault)
-    (x : X) (a : List ℕ)
+pub argument_read : {X : Type 0} (bytes : X → List ℕ) (xs : List X) (i : ℕ) (o : Options)
+    (found : Result Options UsageErrorKind) (x : X) (a : List ℕ)
     → i < length xs → x ≡ get_or xs i x → a ≡ bytes x → found ≡ with_argument o i a
     → with_arguments o i (drop i (map bytes xs)) ≡ at i found
     (λ p. with_arguments p (i + 1) (drop (i + 1) (map bytes xs)))
@@ -84,16 +84,15 @@ unfolding with_arguments
 argument_read bytes xs i o found x a h here text is =
     rw (
       drop_more (map bytes xs) i a (rw (length-map xs bytes) h),
-      get_or-map bytes xs i x a h ∙ ap bytes (sym here)
-          ∙ sym text,
+      get_or-map bytes xs i x a h ∙ ap bytes (sym here) ∙ sym text,
       is,
     ) refl
 
 pub arguments_end : {X : Type 0} (bytes : X → List ℕ) (xs : List X) (i : ℕ) (o : Options) → length xs ≤ i
     → with_arguments o i (drop i (map bytes xs)) ≡ request o i
 unfolding with_arguments
-arguments_end bytes xs i o h = let all : length (map bytes xs) ≤ i =
-    rw (length-map xs bytes) h in rw (drop_all i (map bytes xs) all) refl
+arguments_end bytes xs i o h =
+    let all : length (map bytes xs) ≤ i = rw (length-map xs bytes) h in rw (drop_all i (map bytes xs) all) refl
 
 -- ---- what is written as arguments is read back
 

@@ -1,5 +1,5 @@
 -- Pairs of characters with a colon between two of them are groups.
-use Rattle.std.proofs.Common.{◌≡◌, ◌≢◌, ◌∙◌, ◌∷◌, ◌++◌, ◌&&◌, ◌||◌, ◌==◌, [], Bool, List, ap, arith, false, if◌then◌else◌, refl, sym, true, ℕ}
+use Rattle.std.proofs.Common.{◌≡◌, ◌≢◌, ◌∷◌, ◌++◌, ◌&&◌, ◌||◌, ◌==◌, [], Bool, List, ap, arith, false, if◌then◌else◌, refl, true, ℕ}
 use Rattle.std.proofs.lemmas.Bool.Decides.{nat_tests}
 use Rattle.std.proofs.lemmas.List.Elements.{All-cons, All-head, All-nil, All-tail, All-weaker}
 use Rattle.std.specs.List.{All}

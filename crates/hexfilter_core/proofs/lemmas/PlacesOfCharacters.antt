@@ -98,8 +98,7 @@ split_more o p b x q true e f h (lines, line, cut, plain, number, inl (none, col
       rw (newline, cut, none) refl,
       plain,
       omega (arith, f, number, newlines_more b x _ e),
-      inr
-          ([], refl, omega (arith, h, column)),
+      inr ([], refl, omega (arith, h, column)),
     )
 split_more o p b x q true e f h (lines, line, cut, plain, number, inr (l, ends, column)) = (
   b ∷ lines,
@@ -107,8 +106,7 @@ split_more o p b x q true e f h (lines, line, cut, plain, number, inr (l, ends, 
   ap (λ l. b ∷ l) cut,
   plain,
   omega (arith, f, number, newlines_more b x _ e),
-  inr
-      (b ∷ l, ap (λ l. b ∷ l) ends, column),
+  inr (b ∷ l, ap (λ l. b ∷ l) ends, column),
 )
 split_more o p b x q false e f h (lines, line, cut, plain, number, inl (none, column)) =
     let other : b ≢ 10 = λ is. grind (arith, nat_tests, e, is) in (
@@ -116,8 +114,7 @@ split_more o p b x q false e f h (lines, line, cut, plain, number, inl (none, co
       b ∷ line,
       rw (cut, none) refl,
       All-cons (λ b. b ≢ 10) b line other plain,
-      omega
-          (arith, f, number, newlines_more b x _ e),
+      omega (arith, f, number, newlines_more b x _ e),
       inl (refl, omega (arith, h, column)),
     )
 split_more o p b x q false e f h (lines, line, cut, plain, number, inr (l, ends, column)) = (
@@ -126,8 +123,7 @@ split_more o p b x q false e f h (lines, line, cut, plain, number, inr (l, ends,
   ap (λ l. b ∷ l) cut,
   plain,
   omega (arith, f, number, newlines_more b x _ e),
-  inr
-      (b ∷ l, ap (λ l. b ∷ l) ends, column),
+  inr (b ∷ l, ap (λ l. b ∷ l) ends, column),
 )
 
 split : (p : Place) (x : List ℕ) → Splits p x (place_after p x)

@@ -27,8 +27,7 @@ ends m had left old new (Ok v) s zero status done text begun =
 ends m had left old new (Err (Text e place)) s zero status done text begun = (
   λ h. absurd (omega (arith, status, h)),
   λ h. (e, place, text e place refl),
-  λ h.
-      absurd (omega (arith, status, h)),
+  λ h. absurd (omega (arith, status, h)),
   inr (inl status),
 )
 ends m had left old new (Err (Read e)) s zero status done text begun =

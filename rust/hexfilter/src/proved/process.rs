@@ -4,7 +4,7 @@
 use crate::std_shim::prelude::*;
 use crate::proved::error::RunError;
 use crate::proved::mode::Mode;
-use crate::proved::options::{Fault, Request, UsageError, request_of};
+use crate::proved::options::{Request, UsageError, UsageErrorKind, request_of};
 use crate::proved::place::Place;
 use crate::proved::runs::run;
 use crate::proved::transfer::{flush, write_piece};
@@ -88,13 +88,13 @@ fn misused(rt: &impl Eprint, arguments: &[String], error: UsageError) -> ExitCod
         Some(argument) => argument.as_str(),
         None => "",
     };
-    let reason = match &error.fault {
-        Fault::UnknownOption => "unknown option",
-        Fault::MissingValue => "missing value after",
-        Fault::InvalidNumber => "invalid number",
-        Fault::InvalidSeparator => "invalid separator",
-        Fault::GroupsInLines => "--wrap beside --group or --separator:",
-        Fault::SecondFile => "second file",
+    let reason = match &error.kind {
+        UsageErrorKind::UnknownOption => "unknown option",
+        UsageErrorKind::MissingValue => "missing value after",
+        UsageErrorKind::InvalidNumber => "invalid number",
+        UsageErrorKind::InvalidSeparator => "invalid separator",
+        UsageErrorKind::GroupsInLines => "--wrap beside --group or --separator:",
+        UsageErrorKind::SecondFile => "second file",
     };
     // Nothing is left to be done if standard error fails.
     let _ = eprintln!(rt; "hexfilter: {reason} {argument:?}; try --help");

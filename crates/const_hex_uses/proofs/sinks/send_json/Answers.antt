@@ -1,8 +1,8 @@
-use Rattle.const_hex_uses.proofs.lemmas.Told.{told_text}
+use Rattle.const_hex_uses.proofs.lemmas.Reported.{reported_text}
 use Rattle.const_hex_uses.proofs.sinks.send_json.Goals as goal
 
 -- by the clause `reported`, whatever the sink's steps are
 pub returns : goal.returns
 returns g c = λ reported is.
-    told_text c.serialize_inner.result _ reported _ _ _ c.serialize_inner.ensures.flag
+    reported_text c.serialize_inner.result _ reported _ _ _ c.serialize_inner.ensures.flag
     c.serialize_inner.ensures.reported is

@@ -1,4 +1,4 @@
-use Rattle.std.proofs.Common.{◌≡◌, ◌/◌, [], ℕ, List, Result, Ok, Err, length, arith, sym}
+use Rattle.std.proofs.Common.{◌≡◌, ◌/◌, [], ℕ, List, Result, Ok, Err, length, arith}
 use Rattle.std.specs.Prelude.{IfOk}
 use Rattle.const_hex.specs.Decoding.{ReadsOn}
 use Rattle.const_hex.specs.Results.{body_of}

@@ -1,7 +1,6 @@
-use Rattle.std.proofs.Common.{◌∷◌, ◌++◌, [], Ok, ℕ, refl, sym}
+use Rattle.std.proofs.Common.{◌∷◌, ◌++◌, [], Ok}
 use Rattle.std.proofs.lemmas.Result.{on_ok_weaker}
 use Rattle.const_hex.specs.Results.{Reads, body_of}
-use Rattle.const_hex.specs.Texts.{AllDigits}
 use Rattle.const_hex.specs.declared.error.FromHexError.TheVariants.{InvalidHexCharacter}
 use Rattle.const_hex_arch.proofs.lemmas.Spelling.{Spells-digits}
 use Rattle.hexfilter_core.proofs.lemmas.Colons.{has_colons, pairs, text-colons}

@@ -6,7 +6,7 @@ use Rattle.hexfilter_core.proofs.options.request_of.Goals as goal
 pub returns-in-Err : goal.returns-in-Err
 returns-in-Err c =
     let is = sym
-    (argument_read string_bytes c.args.arguments.now c.loop-index.index c.loop-index.options (Err c.in-Err.fault)
+    (argument_read string_bytes c.args.arguments.now c.loop-index.index c.loop-index.options (Err c.in-Err.kind)
     c.index-arguments-index.result
     c.as_str.result.now c.loop-index-test.true c.index-arguments-index.is c.as_str.ensures.value
     (sym c.in-Err.is ∙ c.with_argument.ensures)) ∙ c.loop-index.invariant in

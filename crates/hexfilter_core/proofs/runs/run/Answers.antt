@@ -82,8 +82,7 @@ returns-then-count-eq0-clause-ok g c =
       _,
       (all, got.end c.if-count-eq0.true (omega (arith, c.read_chunk.auto.buffer))),
       makes,
-      Appends-kept _ _ _ _
-          more c.flush.ensures.bytes,
+      Appends-kept _ _ _ _ more c.flush.ensures.bytes,
     )
 
 pub returns-then-count-eq0-clause-begun : goal.returns-then-count-eq0-clause-begun
@@ -95,6 +94,5 @@ returns-then-count-eq0-clause-begun g c =
       _,
       Consumes-trans _ _ _ x _ read c.in_ok-count.ensures.bytes,
       c.next-end.ensures.begun x y has,
-      Appends-kept _ _
-          _ _ more c.flush.ensures.bytes,
+      Appends-kept _ _ _ _ more c.flush.ensures.bytes,
     )

@@ -12,16 +12,16 @@ last false found front newline out e f = (λ h. cc, λ h. f ∙ ap (λ l. front 
 
 pub returns-clause-more : goal.returns-clause-more
 returns-clause-more c = λ prefix x y some has.
-    let told = c.put_text-end.ensures in
+    let ensured = c.put_text-end.ensures in
     let is = (last c.is_empty.result _ _ _ _ c.newline.ensures c.put.ensures.front).1
     (grind (arith, nat_tests, some)) in
     rw is (encoded_more prefix c.args.upper c.args.groups _ c.put_text-end.new.self x y c.args.chunk.now _ has
-    (told.text has.fits) told.prefix (told.column has.fits))
+    (ensured.text has.fits) ensured.prefix (ensured.column has.fits))
 
 pub returns-clause-end : goal.returns-clause-end
 returns-clause-end c = λ prefix x y none has.
-    let told = c.put_text-end.ensures in
+    let ensured = c.put_text-end.ensures in
     let is = (last c.is_empty.result _ _ _ _ c.newline.ensures c.put.ensures.front).0
     (grind (arith, nat_tests, none)) in
     rw is (encoded_last prefix c.args.upper c.args.groups _ c.put_text-end.new.self x y c.args.chunk.now _ none has
-    (told.text has.fits) told.prefix (told.column has.fits))
+    (ensured.text has.fits) ensured.prefix (ensured.column has.fits))

@@ -36,12 +36,13 @@ returns-in-Err-clause-err c = λ e is x y has left end.
     let i = c.loop-byte.invariant in
     let out = c.loop-byte.output in
     let read = i.decoded x y has in
-    let told = c.in-Err.ensures.err (x ++ take at chunk) (y ++ take c.loop-byte.end out) (drop (at + 1) chunk) left read
+    let ensured =
+    c.in-Err.ensures.err (x ++ take at chunk) (y ++ take c.loop-byte.end out) (drop (at + 1) chunk) left read
     (omega (arith, c.loop-byte.auto.output))
     (omega (arith, length-drop (at + 1) chunk, c.requires.chunk, c.loop-byte-test.true)) in
     rw (take-put_mid_below c.loop-byte.end _ c.loop-byte.output c.decode_byte.new.output c.loop-byte.end (omega arith)
     (omega (arith, c.loop-byte.auto.output)))
-    (rw (cut_at x chunk at c.loop-byte-test.true, same_error c.in-Err.error e is) at told)
+    (rw (cut_at x chunk at c.loop-byte-test.true, same_error c.in-Err.error e is) at ensured)
 
 pub returns-in-Err-clause-begun : goal.returns-in-Err-clause-begun
 returns-in-Err-clause-begun c = λ x y has.
@@ -58,21 +59,17 @@ loop-byte-preserved c =
     let at = c.loop-byte.byte-index in
     let end = c.loop-byte.end in
     let i = c.loop-byte.invariant in
-    let told = c.in-Ok-decode_byte.ensures in record {
-      fewer = omega (arith, told.most);
+    let ensured = c.in-Ok-decode_byte.ensures in record {
+      fewer = omega (arith, ensured.most);
       decoded = λ x y has.
           let out = c.loop-byte.output in
           let new = c.decode_byte.new.output in
           let space = c.loop-byte.auto.output in
-          let put = take_put end _ c.in-Ok-decode_byte.count out new (omega (arith, space))
-          (omega (arith, told.length, told.within, space)) in
-          rw (
-            joined_one x chunk at c.loop-byte-test.true,
-            append_assoc y (take end out)
-                (take c.in-Ok-decode_byte.count new),
-            sym put,
-          ) at
-          (told.ok (x ++ take at chunk) (y ++ take end out) (i.decoded x y has));
+          let count = c.in-Ok-decode_byte.count in
+          let put = take_put end _ count out new (omega (arith, space))
+          (omega (arith, ensured.length, ensured.within, space)) in
+          rw (joined_one x chunk at c.loop-byte-test.true, append_assoc y (take end out) (take count new), sym put) at
+          (ensured.ok (x ++ take at chunk) (y ++ take end out) (i.decoded x y has));
     }
 
 pub returns-clause-begun : goal.returns-clause-begun

@@ -12,8 +12,7 @@ returns-then-leaves_out-clause-ok c = λ x y has.
     record {
       text = rw more.text wrote;
       scanned = more.scanned;
-      count =
-          omega (arith, has.count, c.saturating_add-self.ensures, size);
+      count = omega (arith, has.count, c.saturating_add-self.ensures, size);
     })
     (c.decode_text.ensures.ok (text_of c.args.reading x) y has.text)
 
@@ -26,7 +25,6 @@ returns-clause-ok c = λ x y has.
     record {
       text = rw more.text wrote;
       scanned = more.scanned;
-      count =
-          omega (arith, has.count, c.saturating_add-self.ensures, size);
+      count = omega (arith, has.count, c.saturating_add-self.ensures, size);
     })
     (c.decode_text-2.ensures.ok (text_of c.args.reading x) y has.text)

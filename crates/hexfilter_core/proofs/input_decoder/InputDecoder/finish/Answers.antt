@@ -11,7 +11,7 @@ returns-in-Ok-clause-ok c = λ r x y has none.
 pub returns-in-Err-clause-err : goal.returns-in-Err-clause-err
 returns-in-Err-clause-err c = λ r x y left has end.
     let bytes = has.text.bytes in
-    let told = c.in-Err.ensures.err (text_of r x) bytes has.text.read in
-    let odd = (c.in-Err.ensures.odd (text_of r x) bytes has.text.read).0 told in
-    rw (same_value _ _ told)
+    let ensured = c.in-Err.ensures.err (text_of r x) bytes has.text.read in
+    let odd = (c.in-Err.ensures.odd (text_of r x) bytes has.text.read).0 ensured in
+    rw (same_value _ _ ensured)
     (bytes, (refl, end, odd, pairs r c.args.self.decoder x bytes has.text.read), has.text.given)

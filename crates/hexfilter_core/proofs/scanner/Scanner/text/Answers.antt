@@ -14,8 +14,7 @@ runs-preserved-then-count c =
       fewer = omega arith;
       so_far = λ x is at.
           added_run _ _ _ x _ _ c.runs.end c.runs.done (i.so_far x is at) _ c.run-count.result _ i.within
-          (omega (arith, space))
-          (omega (arith, ran.length, ran.within, size, space)) ran.added;
+          (omega (arith, space)) (omega (arith, ran.length, ran.within, size, space)) ran.added;
     }
 
 pub runs-preserved : goal.runs-preserved
@@ -28,8 +27,7 @@ runs-preserved c =
       fewer = omega arith;
       so_far = λ x is at.
           added_run _ _ _ x _ _ c.runs.end c.runs.done (i.so_far x is at) _ c.run-count.result _ i.within
-          (omega (arith, space))
-          (omega (arith, ran.length, ran.within, size, space)) ran.added;
+          (omega (arith, space)) (omega (arith, ran.length, ran.within, size, space)) ran.added;
     }
 
 pub runs-preserved-then-done-chunk : goal.runs-preserved-then-done-chunk

@@ -15,7 +15,7 @@ returns-in-Encode-clause-end c = λ none empty x y has.
 pub returns-in-Encode-clause-begun : goal.returns-in-Encode-clause-begun
 returns-in-Encode-clause-begun c = λ x y has.
     let made = rw c.in-Encode.is at has in
-    let told = c.encode.ensures in
+    let ensured = c.encode.ensures in
     rw c.in-Encode.is
     (encoded_begun c.in-Encode.prefix c.in-Encode.upper c.in-Encode.groups c.encode.new.self x _ c.args.chunk.now
-    (λ some. told.more c.in-Encode.prefix x y some made) (λ empty. told.end c.in-Encode.prefix x y empty made))
+    (λ some. ensured.more c.in-Encode.prefix x y some made) (λ empty. ensured.end c.in-Encode.prefix x y empty made))

@@ -5,11 +5,11 @@ use Rattle.const_hex_arch.specs.Sinks.{reported_after}
 use Rattle.const_hex.specs.Writers.{ReportsWhole}
 
 -- the new ones are together the text
-pub told_text : {E : Type 0} (r : Result Unit E) (refused : Bool) (reported : List (List ℕ))
+pub reported_text : {E : Type 0} (r : Result Unit E) (refused : Bool) (reported : List (List ℕ))
     (old new : Option (List (List ℕ))) (text : List ℕ)
     → is_ok r ≡ not refused → (refused ≡ false → ReportsWhole old text new) → old ≡ Some reported
     → OnOk r ((pieces : List (List ℕ)) × (concat pieces ≡ text) × (new ≡ Some (reported ++ pieces)))
-told_text (Ok _) false reported old new text flag reports is =
+reported_text (Ok _) false reported old new text flag reports is =
     let t = reports refl in (t.pieces, t.whole, t.reported ∙ ap (λ o. reported_after o t.pieces) is)
-told_text (Ok _) true reported old new text flag reports is = absurd (true≢false flag)
-told_text (Err _) refused reported old new text flag reports is = tt
+reported_text (Ok _) true reported old new text flag reports is = absurd (true≢false flag)
+reported_text (Err _) refused reported old new text flag reports is = tt
