@@ -135,7 +135,7 @@ mod choice {
         }
     }
 
-    /// Asks the CPU, and stores the answer. The operating system has to keep the registers of AVX, too.
+    /// Returns the build, after the CPU was asked once. The operating system has to keep the registers of AVX, too.
     #[cold]
     pub fn ask() -> u8 {
         use core::arch::x86_64::{__cpuid, __cpuid_count, _xgetbv};
@@ -144,6 +144,9 @@ mod choice {
         unsafe fn kept_registers() -> u64 {
             // SAFETY: the caller promises that the CPU has this instruction.
             unsafe { _xgetbv(0) }
+        }
+        if known() != 0 {
+            return known();
         }
         // SSE3, SSSE3, CMPXCHG16B, SSE4.1, SSE4.2 and POPCNT; then FMA, MOVBE, OSXSAVE, AVX and F16C; then BMI1, AVX2
         // and BMI2; and LZCNT.

@@ -3,8 +3,8 @@
 use super::machine_code;
 use crate::proved::{Kernel, Output};
 
-/// The kernel by machine code. It is proved of each caller that the lengths fit, and tested again. No length overflows
-/// when it is doubled: a slice has at most `isize::MAX` bytes.
+/// The kernel by machine code. Callers in `proved` are proved to pass lengths that fit; they are tested all the same. No
+/// length overflows when it is doubled: a slice has at most `isize::MAX` bytes.
 pub struct Native;
 
 impl Kernel for Native {

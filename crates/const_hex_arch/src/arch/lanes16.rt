@@ -26,9 +26,9 @@ const LIMITS: [u8; 16] = [1, 10, 11, 12, 13, 14, 15, 8, 9, 10, 0, 0, 0, 0, 0, 0]
 // Why two copies: a compiler that knows a factor of 4097 multiplies by a shift and a sum (LLVM 22,
 // for x86-64), which costs more instructions. In Rattle's build these are 2361 in place of 1823 to
 // encode 2047 bytes, and 3645 in place of 3347 to decode to 2048; by rustc 1.95 with AVX2, 1919 in
-// place of 1827 to decode. So the loops, and the steps after the loop of `fill_in_steps`, choose a
-// copy by a bit that is known only at run time. All else takes the first one: the choice would cost up
-// to 4 instructions a call. The last pair of rows is never read. Without it all factors would be the
+// place of 1827 to decode. So `fill_in_steps`, and the loops of the decoders that take most of a long
+// text, choose a copy by a bit that is known only at run time. All else takes the first one: the choice
+// would cost up to 4 instructions a call. The last pair of rows is never read. Without it all factors would be the
 // same, and the compiler would know them.
 const ROWS: &[[Row; 2]; 3] = &[CASES, CASES, [[[0; 16]; 2]; 2]];
 

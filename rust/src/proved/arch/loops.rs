@@ -77,7 +77,7 @@ pub(crate) fn check_in_steps<const N: usize, V: LaneOps<N>>(input: &[u8]) -> boo
 /// of the output may already be decoded. Two steps share one test. If it fails, single steps take
 /// over, so that the first of the two is decoded if it is valid. A step with an invalid character
 /// writes nothing. The remainder is covered by the last 16 bytes of the output, some of which are
-/// decoded twice. A text of fewer than 16 bytes is a remainder as a whole. If the remainder has an
+/// decoded twice. Fewer than 16 bytes are a remainder as a whole. If the remainder has an
 /// invalid character, its pairs before that one are decoded only if `PAIRS` is true.
 #[inline(always)]
 pub(crate) fn decode_in_steps<const N: usize, const PAIRS: bool, V: LaneOps<N>>(

@@ -36,7 +36,7 @@ pub(crate) const fn is_prefix(first: u8, second: u8) -> bool {
 
 /// The error that names the first byte after the prefix that is not a digit, and its position in the
 /// whole text. The text must have such a byte, and an even length.
-// A text of two characters, of which one is invalid, has no prefix.
+// A text of two characters, of which one is invalid, has no prefix: none is looked for.
 #[cold]
 pub(crate) const fn find_invalid_character(text: &[u8]) -> FromHexError {
     let start = if text.len() < 4 {
