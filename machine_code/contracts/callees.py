@@ -118,7 +118,7 @@ def fail(state):
     found, decoder, before, text, count = state.arguments(5)
     require(set(names(found)).isdisjoint(names(decoder)), "a decoder in the place of what is found")
     for way, index, character in _first_invalid(state, text, 0, count):
-        position = moved(moved(joined(way.load(decoder, 8)), before), index)
+        position = moved(way, moved(way, joined(way.load(decoder, 8)), before), index)
         way.store(found, _invalid(character, position))
         way.store(decoder, split(position) + [character, byte(FAILED)] + [fresh("g", 8) for _ in range(6)])
         yield way, None

@@ -7,14 +7,18 @@ import itertools
 
 import z3
 
-from execution.state import byte, simple, word
+from execution.state import Region, byte, simple, word
 from solver.questions import require
 
 N = z3.BitVec("p_n", 64)
 ODD_LENGTH, INVALID_LENGTH, INVALID_CHARACTER = 1, 2, 3
 # The kind of an invalid character within the library, and what a decoder waits for after one.
 FOUND = FAILED = 2
-SIZE_MAX = (1 << 64) - 1
+
+
+def size_max(state):
+    """The greatest size_t."""
+    return (1 << 8 * state.WORD) - 1
 
 
 def is_digit(c):
@@ -69,6 +73,16 @@ def must_be_digits(state, limit, message="a character is passed that may be no d
     must_cover(state, state.body, limit, list(state.known_digits()), message)
 
 
+class Object:
+    """A region that has numbers. Its size depends on that of a size_t, in bytes."""
+
+    def __init__(self, name, size, is_writable=True):
+        self.name, self.size, self.is_writable = name, size, is_writable
+
+    def region(self, state):
+        return Region(self.name, word(self.size(state.WORD)), state.WORD, is_writable=self.is_writable)
+
+
 class Function:
     """A function with its arguments. `symbol` is how its name looks; what others call by its contract has less stack.
     `empty` are its buffers, with their sizes, for which NULL may be passed if they are empty."""
@@ -85,7 +99,8 @@ class Function:
         """The states at the call of the function, with any arguments."""
         state = code.processor.State()
         at = code.function(self.symbol, self.is_local, self.level)
-        state.start(code, self, at, list(self.regions), list(self.arguments))
+        regions = [part.region(state) if isinstance(part, Object) else part for part in self.regions]
+        state.start(code, self, at, regions, list(self.arguments))
         for condition in self.requires:
             state.assume(condition)
         nulls = [(base(name) != 0, z3.And(base(name) == 0, size == 0)) for name, size in self.empty]
@@ -132,6 +147,12 @@ def must_be(state, name, offset, count, wanted):
     state.must_equal(state.cell(name, offset, count), wanted, f"{name} is wrong at {offset}")
 
 
+def must_be_size(state, name, offset, wanted):
+    """An object has a size_t at an offset."""
+    wanted = z3.Extract(8 * state.WORD - 1, 0, wanted) if z3.is_expr(wanted) else wanted
+    must_be(state, name, offset, state.WORD, wanted)
+
+
 def must_find_first_invalid(state, byte, index):
     """A character of 32 bits is the first of the text that is no digit, and an index says where."""
     state.must(z3.And(z3.ULE(state.body, index), z3.ULT(index, N)), "an index outside of the text")
@@ -153,6 +174,7 @@ def first_invalid(state):
     return N, byte(0)
 
 
-def moved(position, count):
+def moved(state, position, count):
     """A position so many characters later, or SIZE_MAX if it is greater."""
-    return simple(z3.If(z3.ULT(position + count, position), SIZE_MAX, position + count))
+    most, later = size_max(state), simple(position + count)
+    return simple(z3.If(z3.Or(z3.ULT(later, position), z3.UGT(later, most)), most, later))

@@ -9,9 +9,10 @@ import re
 
 import z3
 
-from contracts.functions import (FAILED, FOUND, INVALID_CHARACTER, INVALID_LENGTH, N, ODD_LENGTH, SIZE_MAX, Function,
-                                 base, by_prefix, first_invalid, is_digit, is_prefix, moved, must_be, must_be_digits,
-                                 must_be_unchanged, must_cover, must_find_first_invalid, of_32_bits)
+from contracts.functions import (FAILED, FOUND, INVALID_CHARACTER, INVALID_LENGTH, N, ODD_LENGTH, Function, Object,
+                                 base, by_prefix, first_invalid, is_digit, is_prefix, moved, must_be,
+                                 must_be_digits, must_be_size, must_be_unchanged, must_cover, must_find_first_invalid,
+                                 of_32_bits, size_max)
 from contracts.kernels import Check as CheckKernel, must_be_decoded, must_be_digits_of
 from execution.state import Region, byte, joined, simple, split, word
 from solver.questions import require
@@ -19,7 +20,8 @@ from solver.questions import require
 HEADER = pathlib.Path(__file__).resolve().parents[2] / "c" / "const_hex.h"
 FLAGS, SIZE = z3.BitVec("p_flags", 32), z3.BitVec("p_size", 64)
 UPPER, PREFIX, NO_NUL = 1, 2, 4
-TEXT, ERROR, WRITTEN = Region("input", N), Region("error", word(16), 8), Region("written", word(8), 8)
+TEXT, ERROR = Region("input", N), Object("error", lambda size: 8 + size)
+WRITTEN, DECODER = Object("written", lambda size: size), Object("decoder", lambda size: 2 * size)
 
 
 class Exported(Function):
@@ -53,8 +55,8 @@ class EncodedSize(Exported):
 
     def returns(self, state):
         size = needed(FLAGS)
-        is_size = z3.And(z3.ULT(FLAGS, 8), z3.ULT(size, SIZE_MAX))
-        state.must(state.result(64) == z3.If(is_size, z3.Extract(63, 0, size), SIZE_MAX), "another size")
+        is_size = z3.And(z3.ULT(FLAGS, 8), z3.ULT(size, size_max(state)))
+        state.must(state.result(64) == z3.If(is_size, z3.Extract(63, 0, size), size_max(state)), "another size")
 
 
 class Encode(Exported):
@@ -77,6 +79,9 @@ class Encode(Exported):
     def valid(self, state):
         """Every input is valid."""
         return []
+
+    def reached(self, state, read, written):
+        must_cover(state, word(0), written, state.writes, "a character of the text is left out")
 
     def store(self, state, offset, lane):
         """A text that fits: the prefix, the digits and a NUL. Otherwise a NUL at the start."""
@@ -177,7 +182,7 @@ class Text(Exported):
 
 def must_fail(state, kind):
     """An error without a character."""
-    for offset, count, wanted in ((0, 4, kind), (4, 4, 0), (8, 8, 0)):
+    for offset, count, wanted in ((0, 4, kind), (4, 4, 0), (8, state.WORD, 0)):
         must_be(state, "error", offset, count, wanted)
 
 
@@ -232,13 +237,13 @@ class DecoderFinish(Exported):
     """decoder_finish(decoder, error): whether no digit waits for its second half, and there was no error."""
 
     function, name, arguments = "decoder_finish", "any decoder", (base("decoder"), base("error"))
-    regions = Region("decoder", word(16), 8, is_writable=False), ERROR
+    regions = Object("decoder", DECODER.size, is_writable=False), ERROR
 
     def cases(self, state):
         return [with_decoder(state)]
 
     def returns(self, state):
-        result, index, character, kind = state.result(8), *decoder_of(state.first_cells)
+        result, index, character, kind = state.result(8), *decoder_of(state)
         state.must(result == z3.If(kind == 0, byte(1), byte(0)), "whether the text is complete")
         if state.holds(kind == 0):
             must_be_unchanged(state, "error")
@@ -252,22 +257,23 @@ class DecoderFinish(Exported):
 def with_decoder(state):
     """A decoder has the position in the text, a character, and what it waits for: 0 for any digit, 1 for the second
     digit of a byte, more for nothing after an error. Only the character is secret."""
-    state.put_cells("decoder", 0, split(z3.BitVec("p_position", 64)))
-    state.put_cells("decoder", 9, [z3.BitVec("p_kind", 8)])
+    state.put_cells("decoder", 0, split(z3.BitVec("p_position", 8 * state.WORD)))
+    state.put_cells("decoder", state.WORD + 1, [z3.BitVec("p_kind", 8)])
     state.first_cells = state.cells.copy()
     return state
 
 
-def decoder_of(cells):
-    position = joined([cells["decoder", at] for at in range(8)])
-    return position, cells["decoder", 8], cells["decoder", 9]
+def decoder_of(state):
+    """What a decoder had at the call."""
+    *position, character, kind = [state.first_cells["decoder", at] for at in range(state.WORD + 2)]
+    return simple(z3.ZeroExt(64 - 8 * state.WORD, joined(position))), character, kind
 
 
 def must_repeat(state, index, character):
     """The error of an earlier chunk."""
     must_be(state, "error", 0, 4, INVALID_CHARACTER)
     must_be(state, "error", 4, 4, z3.ZeroExt(24, character))
-    must_be(state, "error", 8, 8, index)
+    must_be_size(state, "error", 8, index)
 
 
 class DecoderUpdate(Exported):
@@ -275,14 +281,14 @@ class DecoderUpdate(Exported):
     one before that waits for its second half."""
 
     function, name = "decoder_update", "every decoder and chunk"
-    regions = Region("decoder", word(16), 8), TEXT, Region("output", SIZE), WRITTEN, ERROR
+    regions = DECODER, TEXT, Region("output", SIZE), WRITTEN, ERROR
     arguments = (base("decoder"), base("input"), N, base("output"), SIZE, base("written"), base("error"))
     empty, requires = (("input", N), ("output", SIZE)), (z3.ULT(N, 1 << 63),)
 
     def cases(self, state):
         """What a decoder may be: at the start; after one digit, which may be the first half of a prefix; later, where a
         digit waits or none; after an error."""
-        position, character, kind = decoder_of(with_decoder(state).cells)
+        position, character, kind = decoder_of(with_decoder(state))
         waits = z3.And(kind == 1, is_digit(character))
         start, one = z3.And(position == 0, kind == 0), z3.And(position == 1, waits)
         later = z3.UGE(position, 2)
@@ -305,23 +311,23 @@ class DecoderUpdate(Exported):
         return simple(z3.LShR(N - state.body + state.waiting, 1))
 
     def store(self, state, offset, lane):
-        state.must(z3.ULE(decoder_of(state.first_cells)[2], 1), "written after an error")
+        state.must(z3.ULE(decoder_of(state)[2], 1), "written after an error")
         state.must(z3.ULE(self.count(state), SIZE), "written though the bytes may not fit")
         state.must(z3.ULE(offset + len(lane), self.count(state)), "written after the bytes")
         if not state.waiting:
             return must_be_decoded(state, offset, lane)
         if state.holds(offset == 0):
-            return must_be_decoded(state, offset, lane, decoder_of(state.first_cells)[1])
+            return must_be_decoded(state, offset, lane, decoder_of(state)[1])
         state.must(offset != 0, "whether it is the first byte")
         must_be_decoded(state, offset, lane)
 
     def returns(self, state):
         result = state.result(8)
-        position, character, kind = decoder_of(state.first_cells)
+        position, character, kind = decoder_of(state)
         if state.holds(result == 1):
             return self.accepts(state, position, character, kind)
         state.must(result == 0, "the result is neither true nor false")
-        must_be(state, "written", 0, 8, 0)
+        must_be_size(state, "written", 0, 0)
         if state.holds(z3.UGT(kind, 1)):
             must_be_unchanged(state, "decoder")
             return must_repeat(state, position, character)
@@ -331,24 +337,24 @@ class DecoderUpdate(Exported):
         state.must(z3.ULE(self.count(state), SIZE), "whether the bytes fit")
         index, character = first_invalid(state)
         state.must(z3.ULT(index, N), "digits are rejected")
-        must_repeat(state, moved(position, index), character)
-        must_be(state, "decoder", 0, 8, moved(position, index))
-        must_be(state, "decoder", 8, 1, character)
-        state.must(z3.UGT(state.cell("decoder", 9, 1), 1), "the decoder does not keep its error")
+        must_repeat(state, moved(state, position, index), character)
+        must_be_size(state, "decoder", 0, moved(state, position, index))
+        must_be(state, "decoder", state.WORD, 1, character)
+        state.must(z3.UGT(state.cell("decoder", state.WORD + 1, 1), 1), "the decoder does not keep its error")
 
     def accepts(self, state, position, character, kind):
         state.must(z3.And(z3.ULE(kind, 1), z3.ULE(self.count(state), SIZE)), "what does not fit is accepted")
         must_be_digits(state, N)
         must_cover(state, word(0), self.count(state), state.writes, "a byte is left out")
         must_be_unchanged(state, "error")
-        must_be(state, "written", 0, 8, self.count(state))
-        must_be(state, "decoder", 0, 8, moved(position, N))
+        must_be_size(state, "written", 0, self.count(state))
+        must_be_size(state, "decoder", 0, moved(state, position, N))
         waits = z3.Extract(0, 0, N - state.body + state.waiting)
-        must_be(state, "decoder", 9, 1, z3.ZeroExt(7, waits))
+        must_be(state, "decoder", state.WORD + 1, 1, z3.ZeroExt(7, waits))
         if other := state.when(z3.And(waits == 1, N == 0), None):
-            must_be(other, "decoder", 8, 1, character)
+            must_be(other, "decoder", state.WORD, 1, character)
         if other := state.when(z3.And(waits == 1, N != 0), None):
-            must_be(other, "decoder", 8, 1, other.byte_of_input(N - 1))
+            must_be(other, "decoder", state.WORD, 1, other.byte_of_input(N - 1))
 
 
 class DecoderFail(Function):
@@ -367,7 +373,7 @@ class DecoderFail(Function):
 
     def returns(self, state):
         index, character = first_invalid(state)
-        index = moved(moved(decoder_of(state.first_cells)[0], self.before), index)
+        index = moved(state, moved(state, decoder_of(state)[0], self.before), index)
         for name, offset, count, wanted in (
                 ("found", 0, 4, FOUND), ("found", 4, 4, z3.ZeroExt(24, character)), ("found", 8, 8, index),
                 ("decoder", 0, 8, index), ("decoder", 8, 1, character), ("decoder", 9, 1, FAILED)):

@@ -87,8 +87,8 @@ class State:
     """A processor adds its registers, which of them have the stack pointer, arguments and the result, and which of
     them a function keeps: see `meanings`."""
 
-    # How many of the lowest bytes of a vector a function keeps.
-    KEPT_VECTORS = {}
+    # How many of the lowest bytes of a vector a function keeps, and the bytes of an address.
+    KEPT_VECTORS, WORD = {}, 8
     # In how many steps facts may be from what is asked, if that has a limit.
     near = None
 
@@ -230,8 +230,14 @@ class State:
 
     def _constants(self, region, offset, count):
         if is_secret(offset):
-            require(count == 1 and len(region.data) <= 256, "a table that is not one of bytes")
-            return [simple(chosen([*map(byte, region.data.ljust(256, b"\0"))], z3.Extract(7, 0, offset)))]
+            # Where the table begins, unless that is at 0, and an index.
+            is_sum = z3.is_app_of(offset, z3.Z3_OP_BADD) and z3.is_bv_value(offset.arg(0))
+            first = offset.arg(0).as_long() if is_sum else 0
+            index = simple(offset - first)
+            is_table = count == 1 and first < len(region.data) and self.holds(z3.ULT(index, 256))
+            require(is_table, "a table that is not one of bytes")
+            table = region.data[first:][:256].ljust(256, b"\0")
+            return [simple(chosen([*map(byte, table)], z3.Extract(7, 0, index)))]
         first, *others = values(self.facts, offset, 8)
         lane = [byte(region.data[first + at]) for at in range(count)]
         for value in others:
