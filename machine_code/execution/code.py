@@ -8,14 +8,18 @@ proved than that which runs.
 import re
 
 from execution.state import Region, word
-from reading import objects
+from reading import module, objects
 from solver.questions import require
+
+
+def is_module(content):
+    return content.startswith(b"\0asm")
 
 
 class Code:
     def __init__(self, content, processors, imported=None, local=None):
         """With what functions do that are called by their contracts: those of other objects, and local ones."""
-        self.object = objects.read(content)
+        self.object = module.parse(content, "memory") if is_module(content) else objects.read(content)
         self._imported, self._local = imported or {}, local or {}
         self.processor = processors[self.object.machine]
         self.constants, self.instructions, self._references = {}, {}, {}

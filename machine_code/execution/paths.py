@@ -66,7 +66,9 @@ class Loop:
                          for at, lane in state.vectors.items()}
         for claim in self.claims:
             state.assume(claim)
-        state.reads, state.writes = [(state.body, simple(self.read - state.body))], [(word(0), self.written)]
+        state.reads = [(state.body, simple(self.read - state.body))]
+        # What was written before the loop stays written.
+        state.writes = [*state.writes, (word(0), self.written)]
         state.digits = {(state.body.get_id(), str(state.reads[0][1])): True}
         state.flags, state.steps, state.loops = None, 0, state.loops | {state.at: self}
         state.leave(self.is_clean)

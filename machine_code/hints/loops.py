@@ -24,6 +24,20 @@ def heads(code, start):
     return found
 
 
+def leading_to(code, at):
+    """The instructions from which one leads to a place, if no call has to return before."""
+    before = {}
+    for i in code.instructions.values():
+        for to in code.processor.follows(i) if i.mnemonic in code.processor.HANDLERS else ():
+            before.setdefault(to, []).append(i.address)
+    found, work = set(), [at]
+    while work:
+        for address in before.get(work.pop(), ()):
+            work += [] if address in found else [address]
+            found.add(address)
+    return found
+
+
 class Hint:
     """By k, which is how many rounds are done: registers, guards, and how much was read and written.
 
@@ -63,7 +77,7 @@ class Hint:
         """How many rounds a register allows that counts down, or how many a comparison of two terms."""
         guarded = {name for fact in self.facts for name in names(fact)}
         for name, step in self.steps.items():
-            if step < 0 and self.added[name].decl().name() in guarded:
+            if step < 0 and self.added[name].decl().name() in guarded and not entry.general[name].eq(word(0)):
                 return simple(z3.UDiv(entry.general[name], word(-step)))
         for one, other in [pair for fact in self.facts for pair in _compared(fact)]:
             first, second = [simple(self._at(one - other, word(k))) for k in (-1, 0)]
@@ -100,6 +114,9 @@ def guess(code, entry):
         def choose(self, choice):
             return None
 
+        def fits(self, term):
+            return True
+
         def store(self, address, lane, aligned=False):
             if "p_output" in names(simple(address)):
                 self.writes.append((simple(address - self.regions["output"].base), len(lane)))
@@ -125,7 +142,10 @@ def guess(code, entry):
         return paths.step(code, state)
 
     work, end = [(state, (state.at,)) for state in begin(Quiet, {name: word(0) for name in entry.general})], None
+    near = leading_to(code, entry.at)
     while work and end is None:
+        # Those that lead back come first.
+        work.sort(key=lambda part: part[0].at in near)
         state, way = work.pop()
         if state.at == entry.at:
             end = state
@@ -140,6 +160,6 @@ def guess(code, entry):
              for name, value in entry.general.items()}
     states = begin(Follower, added)
     for at in way:
-        state, = [state for state in states if state.at == at]
+        state = next(state for state in states if state.at == at)
         states = paths.step(code, state) if at != entry.at else []
     return Hint(entry, state, added)

@@ -1,0 +1,381 @@
+"""WebAssembly: the instructions of a module as `wasm2wat` writes them, what each does, and how a function is called.
+
+An operand on the stack is a register whose name says how many lie below it, since that is known of each instruction; so
+are a function's parameters and locals. An i32 is a number of 64 bits of which the lowest 32 count. If a meaning were
+wrong, code would be proved that does something else. test_webassembly.py compares each form that occurs with Node.
+"""
+
+import re
+from collections import namedtuple
+
+import z3
+
+from execution import state
+from execution.paths import Branch
+from execution.state import byte, chosen, is_secret, joined, simple, split, word
+from meanings.lanes import (ADD, AND, MAXIMUM, MINIMUM, MULTIPLY, OR, SUBTRACT, XOR, bytes_of, each, saturated, units)
+from reading.disassembly import Instruction
+from reading.module import SIZES, SPACE
+from solver.questions import names, require
+
+# How many operands there are before an instruction, the numbers in it, and where it leads.
+Operands = namedtuple("Operands", "height numbers targets")
+MEMORY = 1 << 16
+ENDS = ("br", "br_table", "return", "unreachable")
+
+
+class Block:
+    """Where a branch leads: to the start of a loop, or to the end of a block."""
+
+    def __init__(self, target, height):
+        self.target, self.height, self.is_loop, self.is_used = target, height, target is not None, False
+
+
+class Reader:
+    """The instructions of a function. Blocks become branches, and what is not reached is left out."""
+
+    def __init__(self, code, function):
+        self.code, self.function, self.found = code, function, []
+        whole = Block(None, len(function.results))
+        self.blocks, self.height, self.is_reached = [whole], 0, True
+        *content, end = function.content
+        for text in content:
+            self.read(text, *text.split())
+        require(self.blocks == [whole], "a block of a kind that is not known")
+        self.height, whole.target, self.is_reached = whole.height, self.place(), self.is_reached or whole.is_used
+        self.read(end, end)
+
+    def place(self):
+        return self.function.address + len(self.found)
+
+    def read(self, text, mnemonic, *words):
+        if mnemonic == "end":
+            block = self.blocks.pop()
+            self.is_reached |= block.is_used and not block.is_loop
+            self.height, block.target = block.height, block.target or self.place()
+        elif mnemonic in ("block", "loop"):
+            require(not words, "a block with a result")
+            self.blocks.append(Block(self.place() if mnemonic == "loop" and self.is_reached else None, self.height))
+        elif self.is_reached:
+            self.add(text, mnemonic, words)
+
+    def add(self, text, mnemonic, words):
+        numbers, targets = _numbers(mnemonic, words), []
+        takes, gives = self.effect(mnemonic, numbers)
+        if mnemonic.startswith("br"):
+            targets = [self.blocks[-1 - depth] for depth in numbers]
+        for block in targets:
+            require(self.height - takes == block.height, "operands that a branch drops")
+            block.is_used = True
+        self.found.append((mnemonic, Operands(self.height, numbers, targets), text))
+        self.height += gives - takes
+        if mnemonic == "call" and gives:
+            self.found.append(("result", Operands(self.height - 1, (), []), "result"))
+        self.is_reached = mnemonic not in ENDS
+
+    def effect(self, mnemonic, numbers):
+        """How many operands an instruction takes and gives."""
+        if mnemonic == "call":
+            called = self.code.object.functions[numbers[0]]
+            return len(called.parameters), len(called.results)
+        if mnemonic == "return":
+            return len(self.function.results), 0
+        return EFFECTS.get(mnemonic, (0, 0))
+
+    def instructions(self):
+        for at, (mnemonic, operands, text) in enumerate(self.found, self.function.address):
+            operands = operands._replace(targets=[block.target for block in operands.targets])
+            yield at, Instruction(at, 1, mnemonic, operands, text)
+
+
+def _numbers(mnemonic, words):
+    """Numbers, of which the first of an access is its offset; or the bytes of a vector."""
+    if words[:1] == ("i32x4",):
+        return [part for number in words[1:] for part in split(z3.BitVecVal(int(number, 16), 32))]
+    named = dict(text.split("=") for text in words if "=" in text)
+    numbers = [int(text, 0) for text in words if "=" not in text]
+    return [int(named.get("offset", 0)), *numbers] if re.search(r"\.(load|store)", mnemonic) else numbers
+
+
+def instructions(code, section, level):
+    """Those of a function by their addresses."""
+    return dict(Reader(code, section).instructions())
+
+
+def follows(i):
+    """Where an instruction leads: to the next one, and to a branch's targets. Not trusted."""
+    called = [SPACE * (i.operands.numbers[0] + 1)] if i.mnemonic == "call" else []
+    return ([] if i.mnemonic in ENDS else [i.address + 1]) + i.operands.targets + called
+
+
+def globals_of(module):
+    """The numbers that the globals have at first."""
+    return [int.from_bytes(bytes(part.value for part in value), "little") for value in module.globals]
+
+
+def _operand(i, at):
+    """The name of the register for the operand above so many others."""
+    return f"operand {i.address // SPACE}.{at}"
+
+
+def _local(i, at):
+    return f"local {i.address // SPACE}.{at}"
+
+
+class State(state.State):
+    """The arguments are put into the locals of the function. A function that is called has others."""
+
+    TOP, STACK, STACK_OF_CALLED, RETURN, VECTORS, WIDTH, WORD = "global 0", 4096, 4096, 0, 0, 16, 4
+    GENERAL, ARGUMENTS, RESULT = (), tuple(f"argument {at}" for at in range(7)), ("result", 32)
+    KEPT = "global 0",
+
+    def enter(self):
+        module, given = self.code.object, len(self.contract.arguments)
+        arguments = [self.general[name] for name in self.ARGUMENTS[:given]]
+        self._lay_out(module)
+        function = module.function_at(self.at)
+        require((function.parameters, function.results) == ([4] * len(arguments), [4]), "a function of another type")
+        self.general = {f"global {at}": word(number) for at, number in enumerate(globals_of(module))}
+        self.general["global 0"] = simple(self.regions["stack"].base + self.STACK)
+        self.begin(function, arguments, z3.BitVec("p_return", 64))
+
+    def _lay_out(self, module):
+        """The stack, the data, and what the caller may use follow each other."""
+        data = sorted((section.address, section.end) for section in module.sections if not section.is_code)
+        places = [globals_of(module)[0], *sum(data, ())]
+        places += [module.places.get(name, -1) for name in ("__data_end", "__heap_base")]
+        is_right = len(data) == 1 and places[0] == self.STACK and places == sorted(places) and places[-1] <= MEMORY
+        require(is_right, f"the stack, the data and `__heap_base` lie at {places}")
+        for region in self.regions.values():
+            self.assume(z3.And(z3.ULE(region.size, MEMORY), z3.ULE(region.base, MEMORY - region.size)))
+            if region.data is None and region.name != "stack":
+                self.assume(z3.Or(region.size == 0, z3.UGE(region.base, places[-1])))
+        self.assume(self.regions["stack"].base == 0)
+
+    def begin(self, function, arguments, back):
+        """The locals are 0 at first."""
+        number = function.address // SPACE
+        require(f"return {number}" not in self.general, "a function that calls itself")
+        values = [*arguments, *[[byte(0)] * 16 if size == 16 else word(0) for size in function.locals]]
+        for at, value in enumerate(values):
+            self.put(f"local {number}.{at}", value)
+        self.general[f"return {number}"] = back
+
+    def leave_function(self, number):
+        """Gives where a function returns to."""
+        back = self.general.pop(f"return {number}")
+        for registers in (self.general, self.vectors):
+            for name in [name for name in registers if name.startswith((f"local {number}.", f"operand {number}."))]:
+                del registers[name]
+        return back
+
+    def returned(self):
+        self.must(self.general["global 0"] == self.first["global 0"], "global 0 is not as before")
+        self.must(z3.ULT(self.exact(self.general["result"]), 256), "a result with more bytes")
+
+    def arrive(self, is_clean):
+        """All that a loop head says is said of any processor."""
+
+    leave = arrive
+
+    # Registers
+    def put(self, name, value):
+        own, other = (self.vectors, self.general) if isinstance(value, list) else (self.general, self.vectors)
+        own[name] = value if isinstance(value, list) else simple(value)
+        other.pop(name, None)
+
+    def get(self, name):
+        return self.vectors[name] if name in self.vectors else self.general[name]
+
+    def take(self, name):
+        return (self.vectors if name in self.vectors else self.general).pop(name)
+
+    def exact(self, term):
+        """The number that the lowest 32 bits of a term are."""
+        cut = simple(z3.ZeroExt(32, z3.Extract(31, 0, term)))
+        return term if cut.eq(term) or self.fits(term) else cut
+
+    def fits(self, term):
+        return self.holds(z3.ULT(term, 1 << 32))
+
+    # Memory
+    def _place(self, address, count, aligned):
+        """An address without a base is one of data, which lie where the module says."""
+        if not any(region.base.decl().name() in names(address) for region in self.regions.values()):
+            (section, region), = self.code.constants.values()
+            address = address - section.address + region.base
+        return super()._place(address, count, aligned)
+
+
+# What each does, and how many operands it takes and gives.
+HANDLERS = {}
+EFFECTS = {"br_if": (1, 0), "br_table": (1, 0), "select": (3, 1), "local.get": (0, 1), "local.set": (1, 0),
+           "local.tee": (1, 1), "global.get": (0, 1), "global.set": (1, 0)}
+
+
+def computes(name, takes, function, gives=1):
+    """Adds an instruction that takes operands: i is an i32 of which the lowest 32 bits count, n one that is a number, l
+    an i64, and v a vector. The function also takes the state and the numbers in the instruction."""
+    def handler(s, i):
+        first = i.operands.height - len(takes)
+        values = [s.take(_operand(i, first + at)) for at in range(len(takes))]
+        values = [s.exact(value) if kind == "n" else value for kind, value in zip(takes, values)]
+        result = function(s, i.operands.numbers, *values)
+        if gives:
+            s.put(_operand(i, first), result)
+    HANDLERS[name], EFFECTS[name] = handler, (len(takes), gives)
+
+
+# Numbers
+def _if(s, condition):
+    """1 if a condition holds, else 0."""
+    return z3.ZeroExt(63, s.either(condition, z3.BitVecVal(1, 1), z3.BitVecVal(0, 1)))
+
+
+def _is_true(term):
+    """Whether a number is not 0."""
+    return simple(term != 0)
+
+
+def _count(term, bits):
+    require(z3.is_bv_value(term), "a shift by what is unknown")
+    return term.as_long() % bits
+
+
+for _name, _function in {"add": ADD, "sub": SUBTRACT, "and": AND, "or": OR, "xor": XOR}.items():
+    computes(f"i32.{_name}", "ii", lambda s, numbers, a, b, function=_function: function(a, b))
+for _name, _function in {"eq": lambda a, b: a == b, "ne": lambda a, b: a != b, "lt_u": z3.ULT, "le_u": z3.ULE,
+                         "gt_u": z3.UGT, "ge_u": z3.UGE}.items():
+    computes(f"i32.{_name}", "nn", lambda s, numbers, a, b, function=_function: _if(s, function(a, b)))
+computes("i32.eqz", "n", lambda s, numbers, a: _if(s, simple(z3.Not(_is_true(a)))))
+computes("i32.shl", "in", lambda s, numbers, a, b: a * (1 << _count(b, 32)))
+computes("i32.shr_u", "nn", lambda s, numbers, a, b: z3.LShR(a, _count(b, 32)))
+computes("i64.shr_u", "ll", lambda s, numbers, a, b: z3.LShR(a, _count(b, 64)))
+computes("i32.wrap_i64", "l", lambda s, numbers, a: a)
+for _name in ("i32.const", "i64.const"):
+    computes(_name, "", lambda s, numbers: word(numbers[0]))
+computes("v128.const", "", lambda s, numbers: numbers)
+
+
+# Registers
+def get(s, i):
+    name = f"global {i.operands.numbers[0]}" if "global" in i.mnemonic else _local(i, i.operands.numbers[0])
+    s.put(_operand(i, i.operands.height), s.get(name))
+
+
+def put(s, i):
+    name = f"global {i.operands.numbers[0]}" if "global" in i.mnemonic else _local(i, i.operands.numbers[0])
+    top = _operand(i, i.operands.height - 1)
+    s.put(name, s.get(top) if i.mnemonic.endswith("tee") else s.take(top))
+
+
+# Control
+def branch(s, i):
+    return i.operands.targets[0]
+
+
+def branch_if(s, i):
+    return Branch(_is_true(s.exact(s.take(_operand(i, i.operands.height - 1)))), i.operands.targets[0])
+
+
+def branch_by(s, i):
+    """The last target is that of each index from its own on."""
+    index, targets = s.exact(s.take(_operand(i, i.operands.height - 1))), i.operands.targets
+    require(s.may_leak or not is_secret(index), "a branch depends on bytes that are secret")
+    ways = [(index == at, target) for at, target in enumerate(targets[:-1])]
+    return [*ways, (z3.UGE(index, len(targets) - 1), targets[-1])]
+
+
+def select(s, i):
+    """Counts as a branch: it is run again in the states where it is known which operand is taken."""
+    first = i.operands.height - 3
+    one, other, choice = [_operand(i, first + at) for at in range(3)]
+    condition = _is_true(s.exact(s.get(choice)))
+    truth = next((truth for truth in (True, False) if s.holds(condition == truth)), None)
+    if truth is None:
+        s.next = i.address
+        return Branch(condition, i.address)
+    s.take(choice)
+    values = s.take(one), s.take(other)
+    s.put(_operand(i, first), values[0 if truth else 1])
+
+
+def call(s, i):
+    function = s.code.object.functions[i.operands.numbers[0]]
+    first = i.operands.height - len(function.parameters)
+    arguments = [s.take(_operand(i, first + at)) for at in range(len(function.parameters))]
+    s.begin(function, arguments, s.return_to(s.next))
+    return function.address
+
+
+def leave(s, i):
+    """A function leaves its result, if there is one, for the caller."""
+    function = s.code.object.function_at(i.address // SPACE * SPACE)
+    if function.results:
+        s.put("result", s.take(_operand(i, i.operands.height - 1)))
+    return s.leave_function(i.address // SPACE)
+
+
+def result(s, i):
+    s.put(_operand(i, i.operands.height), s.take("result"))
+
+
+def trap(s, i):
+    require(False, "the module traps")
+
+
+HANDLERS |= {"local.get": get, "global.get": get, "local.set": put, "local.tee": put, "global.set": put, "br": branch,
+             "br_if": branch_if, "br_table": branch_by, "select": select, "call": call, "return": leave,
+             "result": result, "unreachable": trap}
+
+
+# Loads and stores
+def _loads(name, count, function):
+    computes(name, "n", lambda s, numbers, at: function(s.load(simple(at + numbers[0]), count)))
+
+
+def _stores(name, types, function):
+    computes(name, types, lambda s, numbers, at, value: s.store(simple(at + numbers[0]), function(numbers, value)), 0)
+
+
+def _number(lane):
+    return z3.ZeroExt(64 - 8 * len(lane), joined(lane)) if len(lane) < 8 else joined(lane)
+
+
+for _name, _size in {"i32.load": 4, "i32.load8_u": 1, "i32.load16_u": 2, "i64.load": 8}.items():
+    _loads(_name, _size, _number)
+_loads("v128.load", 16, lambda lane: lane)
+_loads("v128.load64_zero", 8, lambda lane: lane + [byte(0)] * 8)
+_loads("v128.load8x8_u", 8, lambda lane: [part for value in lane for part in (value, byte(0))])
+for _name, _size in {"i32.store": 4, "i32.store8": 1, "i32.store16": 2}.items():
+    _stores(_name, "ni", lambda numbers, value, size=_size: split(value)[:size])
+_stores("i64.store", "nl", lambda numbers, value: split(value))
+_stores("v128.store", "nv", lambda numbers, lane: lane)
+for _size in (1, 2, 4, 8):
+    _stores(f"v128.store{8 * _size}_lane", "nv",
+            lambda numbers, lane, size=_size: lane[size * numbers[1] :][:size])
+
+
+# Vectors
+def _by_units(name, function, size):
+    computes(name, "vv", lambda s, numbers, a, b: each(function, size, a, b))
+
+
+for _name, _size, _function in (
+        ("v128.and", 1, AND), ("v128.or", 1, OR), ("i8x16.add", 1, ADD), ("i8x16.sub", 1, SUBTRACT),
+        ("i8x16.min_u", 1, MINIMUM), ("i8x16.max_u", 1, MAXIMUM), ("i16x8.mul", 2, MULTIPLY)):
+    _by_units(_name, _function, _size)
+computes("i16x8.shr_u", "vn", lambda s, numbers, a, b: each(lambda part: z3.LShR(part, _count(b, 16)), 2, a))
+computes("i16x8.splat", "i", lambda s, numbers, a: split(z3.Extract(15, 0, a)) * 8)
+computes("i32x4.splat", "i", lambda s, numbers, a: split(z3.Extract(31, 0, a)) * 4)
+computes("i8x16.shuffle", "vv", lambda s, numbers, a, b: [(a + b)[at] for at in numbers])
+computes("i8x16.swizzle", "vv", lambda s, numbers, a, b: [
+    simple(z3.If(z3.ULT(at, 16), chosen(a, at), byte(0))) for at in b])
+computes("i8x16.replace_lane", "vi", lambda s, numbers, a, b: [
+    *a[: numbers[0]], simple(z3.Extract(7, 0, b)), *a[numbers[0] + 1 :]])
+computes("i8x16.narrow_i16x8_u", "vv", lambda s, numbers, a, b: bytes_of(
+    saturated(number, 255, 8) for number in units(a + b, 2)))
+for _name, _first in (("low", 0), ("high", 8)):
+    computes(f"i16x8.extend_{_name}_i8x16_u", "v", lambda s, numbers, a, first=_first: [
+        part for value in a[first:][:8] for part in (value, byte(0))])
+computes("v128.any_true", "v", lambda s, numbers, a: _if(s, simple(z3.Or(*[part != 0 for part in a]))))
