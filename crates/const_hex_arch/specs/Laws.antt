@@ -32,10 +32,10 @@ module _ {S : Type 0} (step : S → List ℕ → S → Type 0) (space : S → Op
       → Gathers step space n old pending piece new rest
       → less_space (space new) (length rest) ≡ less_space (less_space (space old) (length pending)) (length piece)
   Gathers_space n old pending piece new rest h =
-      ap (λ r. less_space r (length rest)) (run_shrinks old h.handed new h.run)
-      ∙ less_space-add (space old) (length (concat h.handed)) (length rest)
+      ap (λ r. less_space r (length rest)) (run_shrinks old h.passed new h.run)
+      ∙ less_space-add (space old) (length (concat h.passed)) (length rest)
       ∙ ap (less_space (space old))
-      (sym (length-append (concat h.handed) rest) ∙ ap length h.whole ∙ length-append pending piece)
+      (sym (length-append (concat h.passed) rest) ∙ ap length h.whole ∙ length-append pending piece)
       ∙ sym (less_space-add (space old) (length pending) (length piece))
 
 -- ---- a sink that keeps its pieces

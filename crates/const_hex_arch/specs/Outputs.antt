@@ -61,14 +61,14 @@ piece_of (b ∷ bs) = (b ∷ bs) ∷ []
 -- a piece shorter than n: nothing is passed on; or, if the pending text and the piece do not fit
 -- together, only the pending text
 abbrev pub FlushesPending : ℕ → List ℕ → List ℕ → List (List ℕ) → Type 0
-FlushesPending n pending piece handed =
-    (handed ≡ []) ⊎ ((handed ≡ pending ∷ []) × (n < length pending + length piece))
+FlushesPending n pending piece passed =
+    (passed ≡ []) ⊎ ((passed ≡ pending ∷ []) × (n < length pending + length piece))
 
 -- a piece of n bytes or more: the pending text is passed on, if there is any, and then the piece; a
 -- piece of exactly n bytes may stay pending instead
-abbrev pub HandsOnPiece : ℕ → List ℕ → List ℕ → List (List ℕ) → Type 0
-HandsOnPiece n pending piece handed =
-    (handed ≡ piece_of pending ++ piece ∷ []) ⊎ ((handed ≡ piece_of pending) × (length piece ≡ n))
+abbrev pub PassesPiece : ℕ → List ℕ → List ℕ → List (List ℕ) → Type 0
+PassesPiece n pending piece passed =
+    (passed ≡ piece_of pending ++ piece ∷ []) ⊎ ((passed ≡ piece_of pending) × (length piece ≡ n))
 
 -- a write of the piece to an output that gathers n bytes, from the pending text `pending` to the
 -- pending text `rest`: some pieces are passed on; followed by `rest`, they are `pending` and then the
@@ -76,10 +76,10 @@ HandsOnPiece n pending piece handed =
 pub record Gathers {O : Type 0} (step : O → List ℕ → O → Type 0) (space : O → Option ℕ) (n : ℕ) (old : O)
     (pending piece : List ℕ) (new : O)
     (rest : List ℕ) : Type 0 where
-  pub handed : List (List ℕ)
-  pub run : FoldsTo step old handed new
-  pub whole : concat handed ++ rest ≡ pending ++ piece
+  pub passed : List (List ℕ)
+  pub run : FoldsTo step old passed new
+  pub whole : concat passed ++ rest ≡ pending ++ piece
   pub bound : length rest ≤ n
   pub fits : HasSpace (space new) (length rest)
-  pub short : length piece < n → FlushesPending n pending piece handed
-  pub long : n ≤ length piece → HandsOnPiece n pending piece handed
+  pub short : length piece < n → FlushesPending n pending piece passed
+  pub long : n ≤ length piece → PassesPiece n pending piece passed

@@ -62,18 +62,18 @@ module _ {W : Type 0} (contents : W → Option (List ℕ)) where
   none_after m (p ∷ ps) t h u = cc (h.0)
 
   -- pieces that were offered are written as one text, with what is left, if a write failed
-  handed : (s : WriteSink W) (ps : List (List ℕ)) (t : WriteSink W) (left : List ℕ)
+  passed : (s : WriteSink W) (ps : List (List ℕ)) (t : WriteSink W) (left : List ℕ)
       → Offers (WriteStep contents) has_failed s ps t
       → (has_failed t ≡ false → left ≡ []) → WriteStep contents s (concat ps ++ left) t
-  handed s [] t left h none = record {
+  passed s [] t left h none = record {
     same_writer = cc;
     accepted = λ u. rw (none u, h) (Appends-nil (contents (sink_writer t)));
     refused = λ _. (0, rw h (Appends-nil (contents (sink_writer t))));
     nothing = λ _. sym h;
   }
-  handed s (p ∷ ps) t left (e, (m, h, k)) none =
+  passed s (p ∷ ps) t left (e, (m, h, k)) none =
       rw append_assoc
-      (joined s p m (concat ps ++ left) t (has_failed m) refl h (handed m ps t left k none) (none_after m ps t k))
+      (joined s p m (concat ps ++ left) t (has_failed m) refl h (passed m ps t left k none) (none_after m ps t k))
 
   -- a text that is passed in pieces is written as if it were one piece
   pub streamed_text : (s : WriteSink W) (text : List ℕ) (t : WriteSink W)
@@ -84,5 +84,5 @@ module _ {W : Type 0} (contents : W → Option (List ℕ)) where
       let whole : concat offered ++ concat left ≡ text =
       sym (concat-append offered left) ∙ ap (λ x. concat x) (take-append-drop h.offered h.pieces) ∙ h.cut.whole in
       subst (λ x. WriteStep contents s x t) whole
-      (handed s offered t (concat left) h.run
+      (passed s offered t (concat left) h.run
       (λ u. ap (λ x. concat x) (drop_all h.offered h.pieces (omega (arith, h.complete u)))))

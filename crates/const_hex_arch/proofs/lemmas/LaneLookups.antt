@@ -5,7 +5,7 @@ use Rattle.std.proofs.lemmas.Grind.{common_steps}
 use Rattle.std.proofs.lemmas.Simd.{SwzOk, SwzOk-from_Each1, length-zip2, length-replicate, pick_l-range_with_len}
 use lib.Lanes.{zip2, Each1, pick_l}
 use mir.Val.{zeroes}
-use Rattle.const_hex_arch.proofs.lemmas.Tables.{all_below, every_below}
+use Rattle.const_hex_arch.proofs.lemmas.Tables.{holds_below, every_below}
 use Rattle.const_hex_arch.proofs.lemmas.LaneBytes.{in_two}
 
 -- ---- the positions that lanes read
@@ -14,13 +14,13 @@ use Rattle.const_hex_arch.proofs.lemmas.LaneBytes.{in_two}
 abbrev is_position : ℕ → Bool
 is_position j = zeroes 16 w8 j || ltb j 16
 
-are_positions : (m : ℕ) → T (all_below (λ x. is_position (bit_and x m)) 256) → (v : List ℕ) → Each1 (Fits w8) v
+are_positions : (m : ℕ) → T (holds_below (λ x. is_position (bit_and x m)) 256) → (v : List ℕ) → Each1 (Fits w8) v
     → Each1 (λ j. T (is_position j)) (zip2 bit_and v (replicate (length v) m))
 are_positions m t [] f = tt
 are_positions m t (x ∷ v) f = (every_below (λ x. is_position (bit_and x m)) 256 t x f.0.fits, are_positions m t v f.1)
 
 -- the lanes that a mask leaves, in b blocks
-pub masked_ok : (m : ℕ) → T (all_below (λ x. is_position (bit_and x m)) 256) → (b n : ℕ) (v : List ℕ) → n ≡ b * 16
+pub masked_ok : (m : ℕ) → T (holds_below (λ x. is_position (bit_and x m)) 256) → (b n : ℕ) (v : List ℕ) → n ≡ b * 16
     → (length v ≡ n) × Each1 (Fits w8) v
     → SwzOk w8 16 n 0 (zip2 bit_and v (replicate n m))
 masked_ok m t b n v blocks f =

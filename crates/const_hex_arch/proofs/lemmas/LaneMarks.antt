@@ -15,7 +15,7 @@ use lib.Lanes.{zip2, fold_l, Each1}
 use mir.Val.{zeroes}
 use Rattle.const_hex_arch.specs.Texts.{hex_value, IsDigit, AllDigits}
 use Rattle.const_hex_arch.specs.Lanes.{IsUnmarked, AllUnmarked, IsValueOf, IsPartOf, IsLimitOf}
-use Rattle.const_hex_arch.proofs.lemmas.Tables.{all_below, every_below}
+use Rattle.const_hex_arch.proofs.lemmas.Tables.{holds_below, every_below}
 use Rattle.const_hex_arch.proofs.lemmas.LaneValues.{same_value, is_none, same_if_some, sub8, min_l}
 use Rattle.const_hex_arch.proofs.lemmas.DigitTexts.{digits_append}
 
@@ -49,7 +49,7 @@ module _ (table : List ℕ) where
 
   -- the value of each digit is right
   abbrev pub values_are_right : Bool
-  values_are_right = all_below (λ b. is_none (hex_value b) || same_value (hex_value b) (Some (value_of b))) 256
+  values_are_right = holds_below (λ b. is_none (hex_value b) || same_value (hex_value b) (Some (value_of b))) 256
 
   module _ (t : marks_are_right) (u : T values_are_right) where
     limit_at : (b : ℕ) → b < 256 → IsLimitOf b (limit b)

@@ -6,7 +6,7 @@ use Rattle.std.proofs.lemmas.Simd.{Each1-get_or, SwzOk, SwzOk-from_below, length
 use lib.Lanes.{zip2, Each1, pick_l, put_chunk, number_l, digits_l}
 use Rattle.const_hex_arch.specs.Texts.{hex_digit, hex_text}
 use Rattle.const_hex_arch.specs.Lanes.{halves_of}
-use Rattle.const_hex_arch.proofs.lemmas.Tables.{all_below, every_below, every_pair}
+use Rattle.const_hex_arch.proofs.lemmas.Tables.{holds_below, every_below, every_pair}
 use Rattle.const_hex_arch.proofs.lemmas.Texts.{hex_text-append}
 use Rattle.const_hex_arch.proofs.lemmas.LaneLookups.{halves}
 
@@ -60,7 +60,7 @@ halves_ok v f =
 
 -- each block of t has the digits
 abbrev pub is_table : Bool → List ℕ → ℕ → Bool
-is_table up t n = all_below (λ i. all_below (λ j. eqb (get_or t (16 * ((0 + i) / 16) + j) 0) (hex_digit up j)) 16) n
+is_table up t n = holds_below (λ i. holds_below (λ j. eqb (get_or t (16 * ((0 + i) / 16) + j) 0) (hex_digit up j)) 16) n
 
 looked_up : (up : Bool) (t js : List ℕ) (n : ℕ) → length js ≡ n → Each1 (λ j. j < 16) js → T (is_table up t n)
     → swz_l w8 16 t 0 js ≡ map (hex_digit up) js

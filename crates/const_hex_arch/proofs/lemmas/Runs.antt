@@ -72,7 +72,7 @@ module _ {O : Type 0} (step : O → List ℕ → O → Type 0) (space : O → Op
       → step mid piece new
       → n ≤ length piece → Gathers step space n old pending piece new []
   Gathers-long n old pending piece mid new h k w = record {
-    handed = piece_of pending ++ piece ∷ [];
+    passed = piece_of pending ++ piece ∷ [];
     run = run_append step old (piece_of pending) mid (piece ∷ []) new h (new, k, refl);
     whole = append-nil _ ∙ concat-append (piece_of pending) (piece ∷ [])
         ∙ ap (λ x. x ++ (piece ++ [])) (concat-piece_of pending)

@@ -14,33 +14,33 @@ use Rattle.const_hex_arch.proofs.lemmas.Runs.{run_append, concat-piece_of}
 
 -- ---- what a run of small writes to a gathering output passes on
 
-abbrev IsHandedOn : List ℕ → Type 0
-IsHandedOn p = (4033 ≤ length p) × (length p ≤ 4096)
+abbrev IsPassedOn : List ℕ → Type 0
+IsPassedOn p = (4033 ≤ length p) × (length p ≤ 4096)
 
 record Gathered {O : Type 0} (step : O → List ℕ → O → Type 0) (old : O) (pending text : List ℕ) (new : O)
     (rest : List ℕ) : Type 0 where
-  handed : List (List ℕ)
-  run : FoldsTo step old handed new
-  whole : concat handed ++ rest ≡ pending ++ text
-  sizes : All IsHandedOn handed
+  passed : List (List ℕ)
+  run : FoldsTo step old passed new
+  whole : concat passed ++ rest ≡ pending ++ text
+  sizes : All IsPassedOn passed
   bound : length rest ≤ 4096
 
-handed_sizes : (pending piece : List ℕ) (handed : List (List ℕ)) → length pending ≤ 4096 → IsKernelPiece piece
-    → FlushesPending 4096 pending piece handed
-    → All IsHandedOn handed
-handed_sizes pending piece handed f k (inl e) = All-same IsHandedOn handed [] e (All-nil IsHandedOn)
-handed_sizes pending piece handed f k (inr (e, m)) =
-    All-same IsHandedOn handed (pending ∷ []) e
-    (All-cons IsHandedOn pending [] (omega arith, omega arith) (All-nil IsHandedOn))
+passed_sizes : (pending piece : List ℕ) (passed : List (List ℕ)) → length pending ≤ 4096 → IsKernelPiece piece
+    → FlushesPending 4096 pending piece passed
+    → All IsPassedOn passed
+passed_sizes pending piece passed f k (inl e) = All-same IsPassedOn passed [] e (All-nil IsPassedOn)
+passed_sizes pending piece passed f k (inr (e, m)) =
+    All-same IsPassedOn passed (pending ∷ []) e
+    (All-cons IsPassedOn pending [] (omega arith, omega arith) (All-nil IsPassedOn))
 
 module _ {O : Type 0} (step : O → List ℕ → O → Type 0) (space : O → Option ℕ) where
   gathered_none : (o : O) (pending : List ℕ) → length pending ≤ 4096 → Gathered step o pending [] o pending
   gathered_none o pending f =
       record {
-        handed = [];
+        passed = [];
         run = refl;
         whole = sym (append-nil pending);
-        sizes = All-nil IsHandedOn;
+        sizes = All-nil IsPassedOn;
         bound =
             omega arith;
       }
@@ -50,14 +50,14 @@ module _ {O : Type 0} (step : O → List ℕ → O → Type 0) (space : O → Op
       → Gathers step space 4096 old pending piece mid kept → Gathered step mid kept text new rest
       → Gathered step old pending (piece ++ text) new rest
   gathered_more old pending piece mid kept text new rest f k g r = record {
-    handed = g.handed ++ r.handed;
-    run = run_append step old g.handed mid r.handed new g.run r.run;
-    whole = ap (λ x. x ++ rest) (concat-append g.handed r.handed)
-        ∙ append_assoc (concat g.handed) (concat r.handed) rest
-        ∙ ap (λ x. concat g.handed ++ x) r.whole
-        ∙ sym (append_assoc (concat g.handed) kept text) ∙ ap (λ x. x ++ text) g.whole
+    passed = g.passed ++ r.passed;
+    run = run_append step old g.passed mid r.passed new g.run r.run;
+    whole = ap (λ x. x ++ rest) (concat-append g.passed r.passed)
+        ∙ append_assoc (concat g.passed) (concat r.passed) rest
+        ∙ ap (λ x. concat g.passed ++ x) r.whole
+        ∙ sym (append_assoc (concat g.passed) kept text) ∙ ap (λ x. x ++ text) g.whole
         ∙ append_assoc pending piece text;
-    sizes = All-append IsHandedOn g.handed r.handed (handed_sizes pending piece g.handed f k (g.short (omega arith)))
+    sizes = All-append IsPassedOn g.passed r.passed (passed_sizes pending piece g.passed f k (g.short (omega arith)))
         r.sizes;
     bound = r.bound;
   }
@@ -76,40 +76,40 @@ module _ {O : Type 0} (step : O → List ℕ → O → Type 0) (space : O → Op
 
 -- ---- what was passed on, and then the pending text, is a cut
 
-all_but_last-append : (ps : List (List ℕ)) (rest : List ℕ) → All IsHandedOn ps
+all_but_last-append : (ps : List (List ℕ)) (rest : List ℕ) → All IsPassedOn ps
     → All IsLargePiece (all_but_last (ps ++ piece_of rest))
 all_but_last-append ps [] a =
-    rw (append-nil ps) (All-take IsLargePiece _ ps (All-weaker IsHandedOn IsLargePiece (λ p h. h.0) ps a))
+    rw (append-nil ps) (All-take IsLargePiece _ ps (All-weaker IsPassedOn IsLargePiece (λ p h. h.0) ps a))
 all_but_last-append ps (b ∷ bs) a =
     let n : length (ps ++ (b ∷ bs) ∷ []) - 1 ≡ length ps = simp length-append (omega arith) in
-    rw (n, take_at ps ((b ∷ bs) ∷ []) (length ps) refl) (All-weaker IsHandedOn IsLargePiece (λ p h. h.0) ps a)
+    rw (n, take_at ps ((b ∷ bs) ∷ []) (length ps) refl) (All-weaker IsPassedOn IsLargePiece (λ p h. h.0) ps a)
 
 piece_of-sizes : (rest : List ℕ) → length rest ≤ 4096 → All IsCallPiece (piece_of rest)
 piece_of-sizes [] f = All-nil IsCallPiece
 piece_of-sizes (b ∷ bs) f = All-cons IsCallPiece (b ∷ bs) [] (omega arith, f) (All-nil IsCallPiece)
 
-Cut-of : (text : List ℕ) (ps : List (List ℕ)) (rest : List ℕ) → concat ps ++ rest ≡ text → All IsHandedOn ps
+Cut-of : (text : List ℕ) (ps : List (List ℕ)) (rest : List ℕ) → concat ps ++ rest ≡ text → All IsPassedOn ps
     → length rest ≤ 4096
     → Cut text (ps ++ piece_of rest)
 Cut-of text ps rest w a f = record {
   whole = concat-append ps (piece_of rest) ∙ ap (λ x. concat ps ++ x) (concat-piece_of rest) ∙ w;
-  sizes = All-append IsCallPiece ps (piece_of rest) (All-weaker IsHandedOn IsCallPiece (λ p h. (omega arith, h.1)) ps a)
+  sizes = All-append IsCallPiece ps (piece_of rest) (All-weaker IsPassedOn IsCallPiece (λ p h. (omega arith, h.1)) ps a)
       (piece_of-sizes rest f);
   large = all_but_last-append ps rest a;
 }
 
 -- so many pieces have so many bytes
-many_bytes : (ps : List (List ℕ)) → All IsHandedOn ps → 4033 * length ps ≤ length (concat ps)
+many_bytes : (ps : List (List ℕ)) → All IsPassedOn ps → 4033 * length ps ≤ length (concat ps)
 many_bytes [] a = omega arith
 many_bytes (p ∷ ps) a =
-    let h = (All-head IsHandedOn p ps a).0 in
-    omega (arith, h, many_bytes ps (All-tail IsHandedOn p ps a), length-append p (concat ps))
+    let h = (All-head IsPassedOn p ps a).0 in
+    omega (arith, h, many_bytes ps (All-tail IsPassedOn p ps a), length-append p (concat ps))
 
 small_piece : (rest : List ℕ) → length (piece_of rest) ≤ 1 × length (piece_of rest) ≤ length rest
 small_piece [] = (omega arith, omega arith)
 small_piece (x ∷ rest) = (omega arith, omega arith)
 
-few_pieces : (text : List ℕ) (ps : List (List ℕ)) (rest : List ℕ) → concat ps ++ rest ≡ text → All IsHandedOn ps
+few_pieces : (text : List ℕ) (ps : List (List ℕ)) (rest : List ℕ) → concat ps ++ rest ≡ text → All IsPassedOn ps
     → length (ps ++ piece_of rest) ≤ (length text + 4032) / 4033
 few_pieces text ps rest w a =
     let few = small_piece rest in
@@ -173,16 +173,16 @@ module _ {S : Type 0} (step : S → List ℕ → S → Type 0) (is_refused : S �
   Streams-from_writes space inner pending s text t out none w k e =
       let g = gathered_run (SinkStep step is_refused) space inner pending s w.pieces t (rw none (omega arith)) w.sizes
       w.run in
-      let pieces = g.handed ++ piece_of (pending t) in
-      let whole : concat g.handed ++ pending t ≡ text = g.whole ∙ ap (λ x. x ++ concat w.pieces) none ∙ w.whole in
-      let run = run_append (SinkStep step is_refused) (inner s) g.handed (inner t) (piece_of (pending t)) out g.run k in
+      let pieces = g.passed ++ piece_of (pending t) in
+      let whole : concat g.passed ++ pending t ≡ text = g.whole ∙ ap (λ x. x ++ concat w.pieces) none ∙ w.whole in
+      let run = run_append (SinkStep step is_refused) (inner s) g.passed (inner t) (piece_of (pending t)) out g.run k in
       let o = offered_run (inner s) pieces out e run in
-      let few = few_pieces text g.handed (pending t) whole g.sizes in (
+      let few = few_pieces text g.passed (pending t) whole g.sizes in (
         sink_name-run (inner s) pieces out run,
         record {
           pieces = pieces;
           offered = o.count;
-          cut = Cut-of text g.handed (pending t) whole g.sizes g.bound;
+          cut = Cut-of text g.passed (pending t) whole g.sizes g.bound;
           within = o.within;
           run = o.run;
           complete = o.complete;

@@ -46,7 +46,7 @@ fn pieces_of_just_the_size(rt: HostRuntime) {
 }
 
 #[test]
-fn pieces_that_are_handed_on(rt: HostRuntime) {
+fn pieces_that_are_passed_on(rt: HostRuntime) {
     hands_on::<1>(&rt, &["a", "bc", "defghijk", "l"]);
     hands_on::<4>(&rt, &["abc", "defghijk", "l"]);
     hands_on::<8>(&rt, &["abc", "defghijk", "l"]);

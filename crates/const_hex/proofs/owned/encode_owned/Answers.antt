@@ -9,7 +9,8 @@ filled n new rest e = take-append-le n new rest (omega (arith, e)) ∙ take_all 
 
 pub from_utf8_unchecked-requires : goal.from_utf8_unchecked-requires
 from_utf8_unchecked-requires g c =
-    IsUtf8-from_ascii _ (rw (filled c.in_ok-text.text.len c.fill_text.new.output _ (omega arith)) c.fill_text.ensures.ascii)
+    IsUtf8-from_ascii _
+    (rw (filled c.in_ok-text.text.len c.fill_text.new.output _ (omega arith)) c.fill_text.ensures.ascii)
 
 pub returns : goal.returns
 returns g c =
