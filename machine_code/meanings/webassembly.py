@@ -15,7 +15,7 @@ from execution.paths import Branch
 from execution.state import byte, chosen, is_secret, joined, simple, split, word
 from meanings.lanes import (ADD, AND, MAXIMUM, MINIMUM, MULTIPLY, OR, SUBTRACT, XOR, bytes_of, each, saturated, units)
 from reading.disassembly import Instruction
-from reading.module import SIZES, SPACE
+from reading.module import SPACE
 from solver.questions import names, require
 
 # How many operands there are before an instruction, the numbers in it, and where it leads.
