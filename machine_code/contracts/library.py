@@ -13,7 +13,7 @@ from contracts.functions import (FAILED, FOUND, INVALID_CHARACTER, INVALID_LENGT
                                  base, by_prefix, first_invalid, is_digit, is_prefix, moved, must_be,
                                  must_be_digits, must_be_size, must_be_unchanged, must_cover, must_find_first_invalid,
                                  of_32_bits, size_max)
-from contracts.kernels import Check as CheckKernel, must_be_decoded, must_be_digits_of
+from contracts.kernels import Check as CheckKernel, Fill, must_be_decoded, must_be_digits_of
 from execution.state import Region, byte, joined, simple, split, word
 from solver.questions import require
 
@@ -80,8 +80,7 @@ class Encode(Exported):
         """Every input is valid."""
         return []
 
-    def reached(self, state, read, written):
-        must_cover(state, word(0), written, state.writes, "a character of the text is left out")
+    reached = Fill.reached
 
     def store(self, state, offset, lane):
         """A text that fits: the prefix, the digits and a NUL. Otherwise a NUL at the start."""
