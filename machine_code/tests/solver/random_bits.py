@@ -33,7 +33,9 @@ from reading import archive, expected, objects  # noqa: E402
 from solver.questions import Refused  # noqa: E402
 
 C = MACHINE_CODE.parent / "c"
-CONTRACTS = [*KERNELS, *FUNCTIONS, *MESSAGES, *dispatch.CHOICES, *dispatch.OR_NULL]
+# By how the names of builds begin.
+CONTRACTS = {"kernel": KERNELS, "functions": [*FUNCTIONS, *MESSAGES],
+             "dispatch": [*dispatch.CHOICES, *dispatch.OR_NULL]}
 WRAPPED = [f"-Wl,--wrap=const_hex_kernel_{kernel}" for kernel in ("check", "fill", "read")]
 # By the number of a processor in ELF: what links the test, which calls both kernels if there are two, and what runs it.
 TOOLS = {62: (["cc", "-pthread", *WRAPPED], []),
@@ -53,9 +55,9 @@ def change(content, some):
 def concerned(obj, build, section):
     """The contracts of the function that a section has, or of those that refer to it."""
     own, others = [], []
-    for contract in CONTRACTS:
+    for contract in CONTRACTS[build.partition("_")[0]]:
         names = obj.symbols.keys() - obj.exported if contract.is_local else obj.exported
-        for name in names if (contract in KERNELS) == build.startswith("kernel_") else ():
+        for name in names:
             if re.fullmatch(contract.symbol, name):
                 sections = [each.name for each in expected.reached(obj, [name])]
                 own += [contract] if sections[0] == section else []
