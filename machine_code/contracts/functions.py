@@ -88,6 +88,8 @@ class Function:
     `empty` are its buffers, with their sizes, for which NULL may be passed if they are empty."""
 
     is_called = is_local = may_leak = is_unrolled = False
+    # Whether it may use what is kept between calls, which is no secret then.
+    is_keeping = False
     is_digit = staticmethod(is_digit)
     regions = empty = requires = ()
     name = "every call"

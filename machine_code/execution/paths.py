@@ -55,7 +55,10 @@ class Loop:
                 "at the head of a loop: the stack")
         require(state.calls == self.entry.calls, "at the head of a loop: where calls return to")
         state.arrive(self.is_clean)
-        state.contract.reached(state, self.after(k, self.read), self.after(k, self.written))
+        read = self.after(k, self.read)
+        # The difference is a count of characters at the head.
+        state.must(z3.ULE(state.body, read), "at the head of a loop: less is read than what comes before the digits")
+        state.contract.reached(state, read, self.after(k, self.written))
 
     def head(self):
         """The state after any number of rounds."""

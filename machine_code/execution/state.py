@@ -99,7 +99,7 @@ class State:
         self.STACK, self.STACK_OF_CALLED = contract.stacks(self)
         on_stack = arguments[len(self.ARGUMENTS) :]
         regions = [*regions, Region("stack", word(self.STACK + self.RETURN + 8 * len(on_stack)), 16)]
-        regions += [region for _, region in code.constants.values()]
+        regions += [region for _, region in code.constants.values() if region.name != "kept" or contract.is_keeping]
         self.regions = {region.name: region for region in regions}
         self.facts = [fact for region in regions for fact in facts_of(region.base & region.align - 1 == 0)]
         self.general = {name: z3.BitVec(f"g_{name}", 64) for name in self.GENERAL}

@@ -40,6 +40,8 @@ WRONG = [
      "and eax,63; cmp WORD PTR [rax+r8*1],-1", "a table that is not one of bytes"),
     ("check", "an odd length", "3:\n", "3: mov r15,rdx; call SYMBOL(const_hex_kernel_check); mov rdx,r15; test al,al;"
      "mov al,1; jne 5f\n", "an odd length is accepted"),
+    ("check", "a loop that reads no digit after a prefix", "lea    rcx,[rdi+0x2]\n",
+     "lea rcx,[rdi+0x2]; mov r8,rsi; 98: dec r8; jne 98b; mov al,1; jmp 5f\n", "less is read than what comes before"),
     ("check", "half of the text", "mov    rsi,rax", "mov rsi,rax; shr rsi,1", PASSES),
     ("check", "2 for true", "mov    al,0x1", "mov al,0x2", "the result is neither true nor false"),
     ("check", "another kind for an odd length", "mov    ecx,0x1", "mov ecx,0x2", "error is wrong at 0"),
