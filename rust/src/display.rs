@@ -35,11 +35,22 @@ macro_rules! printed {
 }
 printed! { Display false LowerHex false UpperHex true }
 
-/// Prints the digits of bytes, and `0x` before them if `PREFIX` is true. The proved `Display` encodes all bytes that it
-/// has, even if the formatter returns an error, so it prints a part of them at a time.
+/// Prints the digits of bytes, and `0x` before them if `PREFIX` is true. No call follows an error of the formatter.
+#[inline]
 pub(crate) fn print<const UPPER: bool, const PREFIX: bool>(bytes: &[u8], f: &mut fmt::Formatter<'_>) -> fmt::Result {
-    const PART: usize = 1 << 14;
-    let (first, rest) = bytes.split_at(bytes.len().min(PART));
+    match bytes.len() < PART {
+        true => formatting::display(bytes).write_full::<UPPER, PREFIX>(f),
+        false => print_parts::<UPPER, PREFIX>(bytes, f),
+    }
+}
+
+/// So many bytes have 4096 digits, which one call writes.
+const PART: usize = 2048;
+
+/// Does the same for bytes of which all calls but the last write 4096 characters.
+#[inline(never)]
+fn print_parts<const UPPER: bool, const PREFIX: bool>(bytes: &[u8], f: &mut fmt::Formatter<'_>) -> fmt::Result {
+    let (first, rest) = bytes.split_at(PART - usize::from(PREFIX));
     formatting::display(first).write_full::<UPPER, PREFIX>(f)?;
     rest.chunks(PART)
         .try_for_each(|part| formatting::display(part).write_full::<UPPER, false>(f))

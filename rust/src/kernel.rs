@@ -23,11 +23,9 @@ compiled! {
     ) {
         mod machine_code;
         mod native;
-        #[cfg(feature = "alloc")]
         use machine_code as unchecked;
         pub use native::Native;
     } else {
-        #[cfg(feature = "alloc")]
         use portable as unchecked;
         pub use portable::Native;
     }
@@ -36,5 +34,7 @@ compiled! {
 mod owned;
 #[allow(dead_code)] // No target needs all of it.
 mod portable;
+mod space;
 #[cfg(feature = "alloc")]
 pub use owned::*;
+pub use space::Space;

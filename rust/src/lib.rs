@@ -85,8 +85,7 @@ use crate::proved::codec::{checks, decoders};
 #[cfg(feature = "alloc")]
 use crate::{
     proved::codec::body::{find_invalid_character, strip_even},
-    proved::{text_length, FixedKernel},
-    std_shim::alloc::Global,
+    proved::text_length,
 };
 #[cfg(feature = "alloc")]
 use alloc::{string::String, vec::Vec};
@@ -213,7 +212,21 @@ fn text_in<'a>(data: &[u8], prefix: bool, upper: bool, output: &'a mut [u8]) -> 
 #[cfg(feature = "alloc")]
 #[inline]
 pub fn decode<T: AsRef<[u8]>>(data: T) -> Result<Vec<u8>, FromHexError> {
-    decoders::decode_with::<FixedKernel>(Global, data.as_ref()).map(|bytes| bytes.0)
+    let text = data.as_ref();
+    let digits = strip_even(text)?;
+    let mut bytes = Vec::with_capacity(digits.len() / 2);
+    match kernel::decode_append(digits, &mut bytes) {
+        true => Ok(bytes),
+        false => invalid(text, bytes),
+    }
+}
+
+/// Returns the error for an invalid text, and drops the vector for its bytes.
+// A function of its own, so that the code for a valid text need not keep the text in registers.
+#[cfg(feature = "alloc")]
+#[cold]
+fn invalid(text: &[u8], _: Vec<u8>) -> Result<Vec<u8>, FromHexError> {
+    Err(find_invalid_character(text))
 }
 
 /// Appends the bytes that a text decodes to to a vector, and returns their number, or the errors of [`check`].

@@ -1,6 +1,6 @@
 //! Traits of types that are read from hexadecimal text, or written as it.
 
-use crate::proved::{FixedKernel, Kernel, Plain};
+use crate::proved::{tables::pair_at, FixedKernel, Kernel};
 use crate::FromHexError;
 #[cfg(all(feature = "alloc", target_has_atomic = "ptr"))]
 use alloc::sync::Arc;
@@ -177,35 +177,74 @@ to_hex! {
     fn encode_hex_upper_with_prefix() -> String = crate::encode_upper_prefixed;
 }
 
-/// Collects the digits of bytes. Up to three take fewer instructions by the table of `Plain` than by vectors.
-// A string that sees here that a digit is ASCII need not find out how many bytes it has.
+/// Collects the digits of bytes.
 #[inline]
 fn digits<const UPPER: bool, T: FromIterator<char>>(bytes: &[u8]) -> T {
-    match bytes.len() {
-        0..=3 => few_digits::<Plain, 8, UPPER, T>(bytes),
-        4..=31 => few_digits::<FixedKernel, 64, UPPER, T>(bytes),
-        _ => many_digits::<UPPER, T>(bytes),
+    let (text, at, end) = ([0; 64], 0, 0);
+    Digits::<UPPER> { bytes, text, at, end }.collect()
+}
+
+/// The digits of bytes, of which 32 are encoded at a time: those of the text from `at` to `end`, and those of `bytes`.
+struct Digits<'a, const UPPER: bool> {
+    bytes: &'a [u8],
+    text: [u8; 64],
+    at: usize,
+    end: usize,
+}
+
+impl<const UPPER: bool> Digits<'_, UPPER> {
+    /// Returns the digits of the next bytes, or none if there are no more.
+    #[inline]
+    fn encode(&mut self) -> &[u8] {
+        let (part, rest) = self.bytes.split_at(self.bytes.len().min(32));
+        self.bytes = rest;
+        let text = &mut self.text[..2 * part.len()];
+        FixedKernel::fill(part, UPPER, text);
+        text
     }
 }
 
-/// Collects the digits of at most `N / 2` bytes.
-fn few_digits<K: Kernel, const N: usize, const UPPER: bool, T: FromIterator<char>>(bytes: &[u8]) -> T {
-    let text = &mut [0; N][..2 * bytes.len()];
-    K::fill(bytes, UPPER, text);
-    text.iter().map(|digit| char::from(digit & 0x7F)).collect()
-}
+// A string that sees here that a digit is ASCII need not find out how many bytes it has.
+impl<const UPPER: bool> Iterator for Digits<'_, UPPER> {
+    type Item = char;
 
-/// Collects the digits of bytes, which are encoded 32 bytes at a time.
-// A slice and arrays say how many digits they have, so that a collection allocates once.
-fn many_digits<const UPPER: bool, T: FromIterator<char>>(bytes: &[u8]) -> T {
-    let text_of = |part: &[u8]| {
-        let mut text = [0; 64];
-        FixedKernel::fill(part, UPPER, &mut text);
-        text
-    };
-    let (parts, mut rest) = (bytes.chunks_exact(32), [0; 64]);
-    let rest = &mut rest[..2 * parts.remainder().len()];
-    FixedKernel::fill(parts.remainder(), UPPER, rest);
-    let text = parts.flat_map(text_of).chain(rest.iter().copied());
-    text.map(|digit| char::from(digit & 0x7F)).collect()
+    #[inline]
+    fn next(&mut self) -> Option<char> {
+        if self.at == self.end {
+            self.at = 0;
+            self.end = self.encode().len();
+        }
+        let digit = self.text[..self.end].get(self.at)?;
+        self.at += 1;
+        Some((*digit & 0x7F) as char)
+    }
+
+    #[inline]
+    fn size_hint(&self) -> (usize, Option<usize>) {
+        let count = self.end - self.at + 2 * self.bytes.len();
+        (count, Some(count))
+    }
+
+    #[inline]
+    fn fold<A, F: FnMut(A, char) -> A>(mut self, mut result: A, mut f: F) -> A {
+        while self.at < self.end {
+            result = f(result, (self.text[self.at] & 0x7F) as char);
+            self.at += 1;
+        }
+        // Up to seven bytes take fewer instructions by a table than by vectors.
+        if self.bytes.len() < 8 {
+            for byte in self.bytes {
+                let [high, low] = pair_at(UPPER, *byte);
+                result = f(result, (high & 0x7F) as char);
+                result = f(result, (low & 0x7F) as char);
+            }
+            return result;
+        }
+        while !self.bytes.is_empty() {
+            for digit in self.encode() {
+                result = f(result, (*digit & 0x7F) as char);
+            }
+        }
+        result
+    }
 }

@@ -102,7 +102,7 @@ fn what_each_rule_changes() {
         ("stream", "use crate::sink::Sink;\nuse const_hex_arch::Kernel;", Ok("use crate::proved::sink::Sink;\nuse crate::proved::Kernel;")),
         ("sink", "use std::fmt;", Ok("use crate::std_shim::fmt;")),
         ("arch", "pub type FixedKernel = Lanes32;", Ok("pub type FixedKernel = crate::kernel::Native;")),
-        ("codec/decoders", "use crate::owned::decode_to_vec;\n\nfn f<K>() {\n    decode_to_vec::<K>();\n}", Ok("#[cfg(feature = \"alloc\")]\nuse crate::kernel::decode_to_vec;\n\nfn f<K>() {\n    decode_to_vec();\n}")),
+        ("stream", "fn f(&self) {\n    let mut buffer = [0; N];\n    let text = &mut buffer[..text_length(PREFIX, self.bytes.len())];\n    fill_text::<K>(self.bytes, PREFIX, UPPER, text);\n}", Ok("fn f(&self) {\n    let mut buffer = crate::kernel::Space::<N>::new();\n    let text = buffer.text(self.bytes, PREFIX, UPPER);\n}")),
         ("error", "fn fmt<W: fmt::Write>(f: &mut fmt::Formatter<W>) {}\n\nfn g() {\n    fmt::<W, 8>(f);\n}", Ok("fn fmt<'w>(f: &mut fmt::Formatter<'w>) {}\n\nfn g() {\n    fmt::<8>(f);\n}")),
         ("sink", "struct S<T: Drop>(T);", Ok("struct S<T>(T);")),
         ("error", "enum FromHexError {\n    OddLength,\n    NoMemory,\n}", Ok("enum FromHexError {\n    OddLength,\n}")),

@@ -27,6 +27,40 @@ fn printing() {
     }
 }
 
+/// Each call of the formatter's writer but the last writes 4096 characters. Without bytes there is none.
+#[test]
+fn calls_of_a_formatter() {
+    struct Lengths(Vec<usize>);
+    impl Write for Lengths {
+        fn write_str(&mut self, text: &str) -> std::fmt::Result {
+            self.0.push(text.len());
+            Ok(())
+        }
+    }
+    let bytes = vec![0; 40_000];
+    for (length, last, last_prefixed) in [
+        (0, None, Some(2)),
+        (1, Some(2), Some(4)),
+        (2047, Some(4094), Some(4096)),
+        (2048, Some(4096), Some(2)),
+        (2049, Some(2), Some(4)),
+        (4095, Some(4094), Some(4096)),
+        (4096, Some(4096), Some(2)),
+        (40_000, Some(2176), Some(2178)),
+    ] {
+        for (is_prefixed, last) in [(false, last), (true, last_prefixed)] {
+            let mut lengths = Lengths(Vec::new());
+            match is_prefixed {
+                false => write!(lengths, "{}", display(&bytes[..length])),
+                true => write!(lengths, "{:#}", display(&bytes[..length])),
+            }
+            .unwrap();
+            assert_eq!(lengths.0.pop(), last);
+            assert!(lengths.0.iter().all(|length| *length == 4096));
+        }
+    }
+}
+
 /// A formatter's error ends the printing: no call follows it.
 #[test]
 fn a_full_formatter() {
@@ -70,6 +104,30 @@ fn collections_of_characters() {
     assert_eq!(str::encode_hex_upper::<String>("kiwi"), "6B697769");
     let unsized_bytes: &dyn AsRef<[u8]> = &bytes;
     assert_eq!(unsized_bytes.encode_hex::<String>(), text);
+}
+
+/// A collection may ask for some characters one by one, and for the others at once.
+#[test]
+fn characters_one_by_one() {
+    struct Split<const FIRST: usize>(String);
+    impl<const FIRST: usize> FromIterator<char> for Split<FIRST> {
+        fn from_iter<I: IntoIterator<Item = char>>(characters: I) -> Self {
+            let mut characters = characters.into_iter();
+            let (least, most) = characters.size_hint();
+            let mut text: String = characters.by_ref().take(FIRST).collect();
+            text.extend(characters);
+            assert_eq!((least, most), (text.len(), Some(text.len())));
+            Split(text)
+        }
+    }
+    let bytes: Vec<u8> = (0..100).collect();
+    for length in 0..100 {
+        let text: String = bytes[..length].iter().map(|byte| format!("{byte:02x}")).collect();
+        assert_eq!(bytes[..length].encode_hex::<Split<0>>().0, text);
+        assert_eq!(bytes[..length].encode_hex::<Split<1>>().0, text);
+        assert_eq!(bytes[..length].encode_hex::<Split<64>>().0, text);
+        assert_eq!(bytes[..length].encode_hex::<Split<67>>().0, text);
+    }
 }
 
 #[cfg(feature = "std")]

@@ -18,8 +18,8 @@ pub use crate::buffer::{Buffer, const_encode};
 pub use crate::codec::checks::{check, check_raw, check_with, const_check, const_check_raw};
 pub use crate::codec::decoder::Decoder;
 pub use crate::codec::decoders::{
-    bytes_of, const_decode_to_array, decode, decode_to_array, decode_to_front,
-    decode_to_front_with, decode_to_slice, decode_to_slice_with, decode_with,
+    bytes_of, const_decode_to_array, decode_to_array, decode_to_front, decode_to_front_with,
+    decode_to_slice, decode_to_slice_with,
 };
 pub use crate::codec::encoders::{
     encode_full_to_slice, encode_full_to_slice_with, encode_to_slice, encode_to_slice_upper,
@@ -29,7 +29,9 @@ pub use crate::error::FromHexError;
 pub use crate::formatting::display;
 pub use crate::formatting::sink::FormatterSink;
 pub use crate::formatting::text::Display;
-pub use crate::owned::{encode, encode_prefixed, encode_upper, encode_upper_prefixed, encode_with};
+pub use crate::owned::{
+    decode, decode_with, encode, encode_prefixed, encode_upper, encode_upper_prefixed, encode_with,
+};
 pub use crate::serde::{JsonError, deserialize, serialize, serialize_inner, serialize_upper};
 pub use crate::traits::{BytesToHexChars, FromHex, HexFault, ToHex, ToHexExt};
 pub use crate::write_sink::WriteSink;

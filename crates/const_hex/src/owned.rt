@@ -1,10 +1,12 @@
 //! Owned text and owned bytes, over zeros that are filled.
 
-ghost use Rattle.std.specs.Prelude.{◌≡◌, true, false, length, IfOk, IfSome, IsNone, string_bytes};
-ghost use Rattle.const_hex_arch.specs.Texts.{AllDigits, Spells, full_text};
-ghost use Rattle.const_hex.specs.Results.{Encodes, IsEven};
+ghost use Rattle.std.specs.Prelude.{◌≡◌, ◌≢◌, ◌↔◌, true, false, length, IfOk, IfErr, string_bytes, Ok, Err};
+ghost use Rattle.const_hex_arch.specs.Texts.{full_text};
+ghost use Rattle.const_hex.specs.Results.{Decodes, Encodes, IsOdd, Reads};
+ghost use Rattle.const_hex.specs.declared.error.FromHexError.TheVariants.{OddLength, NoMemory};
 
-use crate::codec::body::decode_body;
+use crate::codec::body::{decode_body, find_invalid_character, strip_even};
+use crate::error::FromHexError;
 use const_hex_arch::{FixedKernel, Kernel, fill_text, text_length};
 use std::alloc::{AllocError, Global};
 
@@ -101,20 +103,51 @@ pub fn encode_with<K: Kernel, const UPPER: bool>(
     encode_owned::<K>(alloc, input, false, UPPER)
 }
 
-/// Decodes digits to a vector, or returns `None` if some byte is not a digit. Allocates once, for
-/// exactly these bytes; for none, not at all.
-#[inline(always)]
-pub(crate) fn decode_to_vec<K: Kernel>(
-    alloc: Global,
-    digits: &[u8],
-) -> Result<Option<Vec<u8>>, AllocError>
-    requires { IsEven (length digits.now) }
-    ensures some { IfOk result (λ r. IfSome r (λ v. Spells digits.now v.items)) }
-    ensures none { IfOk result (λ r. IsNone r → AllDigits digits.now → ⊥) }
+/// Decodes a text, with or without a prefix, in either case, to a vector of its bytes.
+///
+/// The first of these errors is returned:
+///
+/// - [`FromHexError::OddLength`], before anything is allocated;
+/// - [`FromHexError::NoMemory`], if the allocation fails;
+/// - [`FromHexError::InvalidHexCharacter`], with the first byte after the prefix that is not a
+///   digit.
+///
+/// ```rust
+/// let bytes = const_hex::decode(rt.alloc(), b"0x6b697769")?;
+/// assert_eq!(rt; bytes.as_slice(), b"kiwi".as_slice());
+/// ```
+pub fn decode(alloc: Global, input: &[u8]) -> Result<Vec<u8>, FromHexError>
+    ensures { Decodes (λ v. v.items) input.now result }
 {
+    decode_with::<FixedKernel>(alloc, input)
+}
+
+/// As [`decode`], with the same errors, by a kernel of the caller's choice.
+///
+/// ```rust
+/// let bytes = const_hex::decode_with::<Plain>(rt.alloc(), b"6B697769")?;
+/// assert_eq!(rt; bytes.as_slice(), b"kiwi".as_slice());
+/// ```
+#[inline]
+pub fn decode_with<K: Kernel>(alloc: Global, input: &[u8]) -> Result<Vec<u8>, FromHexError>
+    ensures { Decodes (λ v. v.items) input.now result }
+{
+    decode_owned::<K>(alloc, input)
+}
+
+/// Decodes a text to a vector. Allocates once, for exactly these bytes; for none, not at all.
+// A function of its own, since the prover finds these clauses on each of its four paths by itself, and
+// `decode_with` derives three more from them.
+#[inline(always)]
+fn decode_owned<K: Kernel>(alloc: Global, input: &[u8]) -> Result<Vec<u8>, FromHexError>
+    ensures ok { IfOk result (λ v. Reads input.now (Ok v.items)) }
+    ensures err { IfErr result (λ e. e ≢ NoMemory → Reads input.now (Err e)) }
+    ensures odd { (result ≡ Err OddLength) ↔ IsOdd (length input.now) }
+{
+    let digits = strip_even(input)?;
     let mut bytes = vec![in alloc; 0u8; digits.len() / 2]?;
     if !decode_body::<K>(digits, &mut bytes) {
-        return Ok(None);
+        return Err(find_invalid_character(input));
     }
-    Ok(Some(bytes))
+    Ok(bytes)
 }

@@ -1,8 +1,7 @@
 //! Text and bytes in the spare capacity of vectors, which need not be initialized.
 
-use super::unchecked;
+use super::{space::write_text, unchecked};
 use crate::proved::text_length;
-use crate::std_shim::alloc::{AllocError, Global, Vec};
 
 /// Appends the text of bytes, with `0x` before it if `prefix` is true.
 #[inline]
@@ -10,15 +9,10 @@ pub fn encode_append(input: &[u8], prefix: bool, upper: bool, text: &mut alloc::
     // A length that overflows is `usize::MAX`, for which this panics.
     let length = text_length(prefix, input.len());
     text.reserve(length);
-    let end = text.len() + length;
-    if prefix {
-        text.extend_from_slice(b"0x");
-    }
-    // SAFETY: the vector has space for two more bytes for each byte of the input, and all of them are written.
+    // SAFETY: the vector has space for so many more bytes, and all of them are written.
     unsafe {
-        let digits = text.as_mut_ptr().add(text.len());
-        unchecked::fill(input.as_ptr(), input.len(), digits, upper.into());
-        text.set_len(end);
+        write_text(input, prefix, upper, text.as_mut_ptr().add(text.len()));
+        text.set_len(text.len() + length);
     }
 }
 
@@ -38,11 +32,4 @@ pub fn decode_append(digits: &[u8], bytes: &mut alloc::vec::Vec<u8>) -> bool {
         }
         is_valid
     }
-}
-
-/// Returns what `decode_to_vec` of `crates/const_hex/src/owned.rt` returns.
-#[inline]
-pub fn decode_to_vec(_: Global, digits: &[u8]) -> Result<Option<Vec<u8>>, AllocError> {
-    let mut bytes = alloc::vec::Vec::with_capacity(digits.len() / 2);
-    Ok(decode_append(digits, &mut bytes).then_some(Vec(bytes)))
 }

@@ -378,18 +378,6 @@ fn codec_decoder_position() {
 }
 
 #[test]
-fn codec_decoders_decode() {
-    let bytes = const_hex::decode(Global, b"0x6b697769").unwrap();
-    assert_eq!(bytes.as_slice(), b"kiwi".as_slice());
-}
-
-#[test]
-fn codec_decoders_decode_with() {
-    let bytes = const_hex::decode_with::<Plain>(Global, b"6B697769").unwrap();
-    assert_eq!(bytes.as_slice(), b"kiwi".as_slice());
-}
-
-#[test]
 fn codec_decoders_decode_to_slice() {
     let mut bytes = [0; 4];
     const_hex::decode_to_slice(b"6b697769", &mut bytes).unwrap();

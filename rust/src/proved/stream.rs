@@ -55,9 +55,8 @@ impl<'a, const UPPER: bool, const PREFIX: bool> BufferedHex<'a, UPPER, PREFIX> {
 
     /// As `write_with`, for a text of at most `N` bytes: one call, or none if the text is empty.
     fn write_whole<K: Kernel, S: Sink, const N: usize>(&self, sink: &mut S) -> Result<(), SinkError> {
-        let mut buffer = [0; N];
-        let text = &mut buffer[..text_length(PREFIX, self.bytes.len())];
-        fill_text::<K>(self.bytes, PREFIX, UPPER, text);
+        let mut buffer = crate::kernel::Space::<N>::new();
+        let text = buffer.text(self.bytes, PREFIX, UPPER);
         if text.is_empty() {
             return Ok(());
         }

@@ -1,62 +1,11 @@
 //! Decoding a whole text.
 
-ghost use Rattle.std.specs.Prelude.{◌≡◌, ◌≢◌, ◌*◌, ◌↔◌, false, length, IfOk, IfErr, IsTrue, Result, Ok, Err};
-ghost use Rattle.const_hex.specs.Results.{body_of, IsOdd, Reads, ReadsSized, all_digits, Decodes, DecodesToSlice, DecodesToFront, DecodesToArray};
-ghost use Rattle.const_hex.specs.declared.error.FromHexError.{FromHexError};
-ghost use Rattle.const_hex.specs.declared.error.FromHexError.TheVariants.{OddLength, NoMemory};
+ghost use Rattle.std.specs.Prelude.{◌≡◌, ◌*◌, false, length, IsTrue, Ok};
+ghost use Rattle.const_hex.specs.Results.{body_of, ReadsSized, all_digits, DecodesToSlice, DecodesToFront, DecodesToArray};
 
 use crate::codec::body::{decode_body, find_invalid_character, strip_even};
 use crate::error::FromHexError;
-use crate::owned::decode_to_vec;
 use const_hex_arch::{FixedKernel, Kernel, NIL, value_at};
-use std::alloc::Global;
-
-/// Decodes a text, with or without a prefix, in either case, to a vector of its bytes.
-///
-/// The first of these errors is returned:
-///
-/// - [`FromHexError::OddLength`], before anything is allocated;
-/// - [`FromHexError::NoMemory`], if the allocation fails;
-/// - [`FromHexError::InvalidHexCharacter`], with the first byte after the prefix that is not a
-///   digit.
-///
-/// ```rust
-/// let bytes = const_hex::decode(rt.alloc(), b"0x6b697769")?;
-/// assert_eq!(rt; bytes.as_slice(), b"kiwi".as_slice());
-/// ```
-pub fn decode(alloc: Global, input: &[u8]) -> Result<Vec<u8>, FromHexError>
-    ensures { Decodes (λ v. v.items) input.now result }
-{
-    decode_with::<FixedKernel>(alloc, input)
-}
-
-/// As [`decode`], with the same errors, by a kernel of the caller's choice.
-///
-/// ```rust
-/// let bytes = const_hex::decode_with::<Plain>(rt.alloc(), b"6B697769")?;
-/// assert_eq!(rt; bytes.as_slice(), b"kiwi".as_slice());
-/// ```
-#[inline]
-pub fn decode_with<K: Kernel>(alloc: Global, input: &[u8]) -> Result<Vec<u8>, FromHexError>
-    ensures { Decodes (λ v. v.items) input.now result }
-{
-    decode_owned::<K>(alloc, input)
-}
-
-/// Decodes a text to a vector. Allocates once, for exactly these bytes; for none, not at all.
-// A function of its own, since the prover finds these clauses on each of its four paths by itself, and
-// `decode_with` derives three more from them.
-#[inline(always)]
-fn decode_owned<K: Kernel>(alloc: Global, input: &[u8]) -> Result<Vec<u8>, FromHexError>
-    ensures ok { IfOk result (λ v. Reads input.now (Ok v.items)) }
-    ensures err { IfErr result (λ e. e ≢ NoMemory → Reads input.now (Err e)) }
-    ensures odd { (result ≡ Err OddLength) ↔ IsOdd (length input.now) }
-{
-    match decode_to_vec::<K>(alloc, strip_even(input)?)? {
-        Some(bytes) => Ok(bytes),
-        None => Err(find_invalid_character(input)),
-    }
-}
 
 /// Decodes a text, with or without a prefix, in either case, to exactly the bytes of the output.
 ///

@@ -4,8 +4,8 @@ ghost use Rattle.std.specs.Box.{boxed_slice_items};
 ghost use Rattle.const_hex.specs.Types.{AnyCount, ReadsOwned};
 ghost use Rattle.const_hex.specs.TypeLaws.{ReadsOwned-faithful};
 
-use crate::codec::decoders::decode;
 use crate::error::FromHexError;
+use crate::owned::decode;
 use crate::traits::reading::FromHex;
 use std::alloc::Global;
 use std::boxed::BoxedSlice;

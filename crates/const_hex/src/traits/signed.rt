@@ -6,8 +6,9 @@ ghost use Rattle.const_hex.specs.Results.{ReadsSized};
 ghost use Rattle.const_hex.specs.Types.{signed_of, byte_of, AnyCount, IsCount, ReadsOwned, ReadsSigned};
 ghost use Rattle.const_hex.specs.TypeLaws.{ReadsOwned-faithful, ReadsSized-faithful, ReadsSigned-faithful};
 
-use crate::codec::decoders::{decode, decode_to_array};
+use crate::codec::decoders::decode_to_array;
 use crate::error::FromHexError;
+use crate::owned::decode;
 use crate::traits::reading::FromHex;
 use std::alloc::Global;
 use std::boxed::BoxedSlice;

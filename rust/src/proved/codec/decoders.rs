@@ -4,41 +4,7 @@
 use crate::std_shim::prelude::*;
 use crate::proved::codec::body::{decode_body, find_invalid_character, strip_even};
 use crate::proved::error::FromHexError;
-#[cfg(feature = "alloc")]
-use crate::kernel::decode_to_vec;
 use crate::proved::{FixedKernel, Kernel, NIL, value_at};
-use crate::std_shim::alloc::Global;
-
-/// Decodes a text, with or without a prefix, in either case, to a vector of its bytes.
-///
-/// The first of these errors is returned:
-///
-/// - [`FromHexError::OddLength`], before anything is allocated;
-/// - [`FromHexError::InvalidHexCharacter`], with the first byte after the prefix that is not a
-///   digit.
-#[cfg(feature = "alloc")]
-pub fn decode(alloc: Global, input: &[u8]) -> Result<Vec<u8>, FromHexError> {
-    decode_with::<FixedKernel>(alloc, input)
-}
-
-/// As [`decode`], with the same errors, by a kernel of the caller's choice.
-#[inline]
-#[cfg(feature = "alloc")]
-pub fn decode_with<K: Kernel>(alloc: Global, input: &[u8]) -> Result<Vec<u8>, FromHexError> {
-    decode_owned::<K>(alloc, input)
-}
-
-/// Decodes a text to a vector. Allocates once, for exactly these bytes; for none, not at all.
-// A function of its own, since the prover finds these clauses on each of its four paths by itself, and
-// `decode_with` derives three more from them.
-#[inline(always)]
-#[cfg(feature = "alloc")]
-fn decode_owned<K: Kernel>(alloc: Global, input: &[u8]) -> Result<Vec<u8>, FromHexError> {
-    match decode_to_vec(alloc, strip_even(input)?)? {
-        Some(bytes) => Ok(bytes),
-        None => Err(find_invalid_character(input)),
-    }
-}
 
 /// Decodes a text, with or without a prefix, in either case, to exactly the bytes of the output.
 ///

@@ -1,5 +1,5 @@
 use Rattle.const_hex.proofs.lemmas.RoundTrip.{round_trip, canonical, agree}
-use Rattle.const_hex.proofs.codec.decoders.decode_with.Goals as goal
+use Rattle.const_hex.proofs.owned.decode_with.Goals as goal
 
 pub returns : goal.returns
 returns g c =

@@ -1,0 +1,46 @@
+//! Space for a text, which need not be initialized.
+
+use super::unchecked;
+use crate::proved::text_length;
+use core::{mem::MaybeUninit, slice};
+
+/// Space for a text of at most `N` bytes.
+pub struct Space<const N: usize>(MaybeUninit<[u8; N]>);
+
+impl<const N: usize> Space<N> {
+    /// Returns space that is not initialized.
+    #[inline]
+    pub fn new() -> Self {
+        Space(MaybeUninit::uninit())
+    }
+
+    /// Writes the text of bytes, with `0x` before it if `prefix` is true, and returns it. Panics if it has more than
+    /// `N` bytes.
+    #[inline]
+    pub fn text(&mut self, bytes: &[u8], prefix: bool, upper: bool) -> &[u8] {
+        let length = text_length(prefix, bytes.len());
+        assert!(length <= N);
+        let text = self.0.as_mut_ptr().cast();
+        // SAFETY: there is space for so many bytes, and all of them are written.
+        unsafe {
+            write_text(bytes, prefix, upper, text);
+            slice::from_raw_parts(text, length)
+        }
+    }
+}
+
+/// Writes the text of bytes, with `0x` before it if `prefix` is true.
+///
+/// Safety: `text` may be written for so many bytes as the text has. They need not be initialized, and are afterwards.
+#[inline(always)]
+pub unsafe fn write_text(bytes: &[u8], prefix: bool, upper: bool, text: *mut u8) {
+    // SAFETY: the caller promises the space for the prefix and for two digits for each byte.
+    unsafe {
+        let mut digits = text;
+        if prefix {
+            text.cast::<[u8; 2]>().write(*b"0x");
+            digits = text.add(2);
+        }
+        unchecked::fill(bytes.as_ptr(), bytes.len(), digits, upper.into());
+    }
+}
