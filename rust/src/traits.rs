@@ -180,8 +180,13 @@ to_hex! {
 /// Collects the digits of bytes.
 #[inline]
 fn digits<const UPPER: bool, T: FromIterator<char>>(bytes: &[u8]) -> T {
-    let (text, at, end) = ([0; 64], 0, 0);
-    Digits::<UPPER> { bytes, text, at, end }.collect()
+    Digits::<UPPER> {
+        bytes,
+        text: [0; 64],
+        at: 0,
+        end: 0,
+    }
+    .collect()
 }
 
 /// The digits of bytes, of which 32 are encoded at a time: those of the text from `at` to `end`, and those of `bytes`.

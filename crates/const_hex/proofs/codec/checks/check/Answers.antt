@@ -1,4 +1,4 @@
 use Rattle.const_hex.proofs.codec.checks.check.Goals as goal
 
 pub returns : goal.returns
-returns g c = c.check_with.ensures
+returns c = c.check_with.ensures
