@@ -4,9 +4,10 @@ kernels, and each other instruction that has a meaning. Each that does nothing i
 import shutil
 import unittest
 
-from processor import NOT_ALONE, Processor
+from processor import NOT_ALONE, STATES, Processor  # noqa: F401
 from programs import kernel
 
+FUNCTION = r"const_hex_.*_check(_v[23])?"
 # Instructions with a meaning that are not in the kernels of today.
 MORE = {
     "x86_64_v2": """.intel_syntax noprefix
@@ -40,7 +41,7 @@ MORE = {
 
 def processor(name):
     more = f"\n.section .text.more, \"ax\"\n{MORE[name]}\n"
-    return Processor(kernel(name, lambda text: text + more), r"const_hex_.*_check(_v[23])?")
+    return Processor(kernel(name, lambda text: text + more), FUNCTION)
 
 
 class TestMeanings(unittest.TestCase):

@@ -23,8 +23,8 @@ STATES = 24
 BYTES = [byte(value) for value in range(256)]
 
 
-class Concrete(webassembly.State):
-    """A state whose memory is known."""
+class Concrete:
+    """What a state does whose memory is known."""
 
     def load(self, address, count, aligned=False):
         at = simple(address).as_long()
@@ -46,18 +46,23 @@ class Node(node.Node):
 
     def __init__(self):
         super().__init__(code_of(MODULE, WASM))
-        self.meant = Code(self.code.object.content, {None: webassembly})
-        self.meant.function("call")
+        self.meanings, self.code = webassembly, self.read(webassembly)
+
+    def read(self, meanings):
+        """The code as these meanings read it."""
+        code = Code(self.code.object.content, {None: meanings})
+        code.function("call")
+        return code
 
     def _by_the_tool(self, name, before):
-        state = Concrete()
+        state = type("State", (Concrete, self.meanings.State), {})()
         contract = types.SimpleNamespace(returns=lambda state: None)
-        state.code, state.contract, state.calls, state.steps = self.meant, contract, {}, 0
+        state.code, state.contract, state.calls, state.steps = self.code, contract, {}, 0
         state.memory, state.vectors, state.facts, state.may_leak = [*before], {}, [], False
-        state.general = {"global 0": word(webassembly.globals_of(self.meant.object)[0])}
-        state.at = self.meant.object.symbols[name]
-        state.begin(self.meant.object.function_at(state.at), [], z3.BitVec("p_return", 64))
-        while after := step(self.meant, state):
+        state.general = {"global 0": word(self.meanings.globals_of(self.code.object)[0])}
+        state.at = self.code.object.symbols[name]
+        state.begin(self.code.object.function_at(state.at), [], z3.BitVec("p_return", 64))
+        while after := step(self.code, state):
             state, = after
             state.steps = 0
         return bytes(state.memory)
