@@ -131,7 +131,7 @@ def library(function, changed=None, old="", new=""):
 
 
 @functools.cache
-def _text_of(build):
+def text_of(build):
     """The text of a build, each line without spaces around it."""
     if build != WASM:
         text = "\n".join(path.read_text() for path in COMMITTED[build][0])
@@ -141,9 +141,9 @@ def _text_of(build):
     return re.sub(r"^ +| +$", "", re.sub(r"\(;@?\d+;\)|;; .*$", "", text, flags=re.M), flags=re.M)
 
 
-def _parts_of(build, function):
+def parts_of(build, function):
     """Where functions, constants or macros of a build with such a name begin and end."""
-    text = _text_of(build)
+    text = text_of(build)
     if build == WASM:
         number = int(re.search(rf'export "const_hex_{function}" \(func (\d+)\)', text)[1])
         body = list(re.finditer(r"^\(func .*\n(?:\(local.*\n)?((?:(?!\().*\n)*)", text, re.M))[number]
@@ -157,9 +157,9 @@ def edited(build, function, old, new):
     """The committed object or module, where in a function, a constant or a macro `new` stands in the place of the first
     `old`, or at the start if that is empty. Lines end in `; `. After ` | ` others follow in both, each after the one
     before."""
-    text = _text_of(build)
+    text = text_of(build)
     olds, news = [lines.replace("; ", "\n").split(" | ") for lines in (old, new)]
-    at = next(found for start, end in _parts_of(build, function) if (found := text.find(olds[0], start, end)) >= 0)
+    at = next(found for start, end in parts_of(build, function) if (found := text.find(olds[0], start, end)) >= 0)
     for before, after in zip(olds, news):
         at = text.index(before, at)
         text = text[:at] + after + ("" if before else "\n") + text[at + len(before) :]

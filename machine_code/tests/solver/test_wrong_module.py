@@ -10,6 +10,7 @@ from execution.code import Code
 from execution.paths import run
 from hints.loops import guess, heads
 from meanings import webassembly
+from programs import WASM, text_of
 from solver.questions import Refused
 from tests.node import assembled
 
@@ -50,6 +51,11 @@ WRONG = [
     ("a character too much", {"character": "local.get 0 i32.load8_u offset=1 local.set 2"}, "may lie outside of input"),
     ("an address beyond 32 bits", {"start": "i32.const -4 i32.load offset=4100 local.set 2"}, "may lie outside of c"),
     ("a write of data", {"start": "i32.const 4096 i32.const 0 i32.store"}, "is written"),
+    ("a write after the data", {"start": "i32.const 4696 i32.const 0 i32.store8"}, "may lie outside of constants"),
+    ("a write before the memory", {"start": "i32.const -1 i32.const 0 i32.store8"}, "may lie outside of constants"),
+    ("a write whose address wraps", {"start": "i32.const -4 i32.const 0 i32.store8 offset=4"}, "may lie outside of c"),
+    ("a pointer that may be 4", {"start": "block local.get 0 i32.const 4 i32.sub br_if 0 unreachable end"},
+     "the module traps"),
     ("a read beyond the data", {"start": "i32.const 4693 i32.load local.set 2"}, "may lie outside of constants"),
     ("half of a place", {"invalid": "local.get 3 i32.const 1 i32.shl i32.load8_u offset=4096 local.set 2"},
      "a table that is not one of bytes"),
@@ -65,6 +71,13 @@ WRONG = [
     ("data beyond the caller's", {"(i32.const 4800)": "(i32.const 4600)"}, LAYOUT),
     ("data at two places", {"part": '(data (i32.const 4790) "\\00")'}, LAYOUT),
     ("another stack", {"(mut i32) (i32.const 4096)": "(mut i32) (i32.const 4080)"}, LAYOUT),
+    ("no place where data end", {'"__data_end"': '"__other"'}, LAYOUT),
+    ("no place of the caller's", {'"__heap_base"': '"__other"'}, LAYOUT),
+    ("a place beyond the memory", {"(i32.const 4800)": "(i32.const 65537)"}, LAYOUT),
+    ("a table", {"part": "(table 1 funcref)"}, r"not known here: \(table"),
+    ("a global that the engine may change", {"part": '(export "__stack_pointer" (global 0))'},
+     "__stack_pointer, which the engine may change"),
+    ("a memory that is not exported", {'(export "memory") ': ""}, "the memory is not exported"),
     ("another type", {"(param i32 i32)": "(param i32 i64)", "local.get 1": "local.get 1 i32.wrap_i64",
                       "local.tee 1": "local.set 2 local.get 2"}, "a function of another type"),
 ]
@@ -88,7 +101,7 @@ def made(changes):
 @unittest.skipUnless(shutil.which("wat2wasm"), "wat2wasm is missing")
 class TestWrongModule(unittest.TestCase):
     def prove(self, changes, said=None):
-        with self.assertRaisesRegex(Refused, said) if said else contextlib.nullcontext():
+        with self.assertRaisesRegex((Refused, ValueError), said) if said else contextlib.nullcontext():
             code = Code(made(changes), {None: webassembly})
             starts = CheckRaw().starts(code)
             run(code, starts, heads(code, starts[0].at), guess)
@@ -102,3 +115,17 @@ class TestWrongModule(unittest.TestCase):
         for what, changes in RIGHT:
             with self.subTest(what):
                 self.prove(changes)
+
+    def test_vectors_are_used(self):
+        """Each loop of the module takes 16 bytes or more at once, but for those that search, which are three."""
+        blocks, loops = [], []
+        for line in text_of(WASM).splitlines():
+            if line in ("block", "loop"):
+                blocks.append((line, []))
+            elif line == "end":
+                kind, lines = blocks.pop()
+                (loops if kind == "loop" else blocks[-1][1] if blocks else []).append(lines)
+            elif blocks:
+                blocks[-1][1].append(line)
+        has_vectors = ["v128.load" in str(lines) for lines in loops]
+        self.assertEqual((has_vectors.count(True), has_vectors.count(False)), (5, 3))

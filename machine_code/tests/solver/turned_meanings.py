@@ -56,7 +56,7 @@ EQUAL = {}
 def alternatives(node):
     """What a node is changed to, each with what is said of the change."""
     for old, new in _changed(node):
-        text = ast.unparse(ast.fix_missing_locations(new))
+        text = ast.unparse(ast.fix_missing_locations(new.test if isinstance(node, ast.If) else new))
         yield (old if isinstance(node, ast.Dict) else f"{old} -> {text}"), new
 
 
@@ -85,7 +85,7 @@ def _changed(node):
     if isinstance(node, ast.IfExp):
         yield ast.unparse(node), _with(node, body=node.orelse, orelse=node.body)
     if isinstance(node, ast.If):
-        yield f"if {ast.unparse(node.test)}", _with(node, test=ast.UnaryOp(ast.Not(), node.test))
+        yield ast.unparse(node.test), _with(node, test=ast.UnaryOp(ast.Not(), node.test))
     if isinstance(node, (ast.List, ast.Tuple)) and isinstance(node.ctx, ast.Load) and len(node.elts) == 2:
         yield ast.unparse(node), _with(node, elts=node.elts[::-1])
     if isinstance(node, ast.Dict):
@@ -93,7 +93,8 @@ def _changed(node):
             if node.keys[at] and node.keys[at + 1]:
                 values = [*node.values[:at], node.values[at + 1], node.values[at], *node.values[at + 2 :]]
                 yield " <-> ".join(map(ast.unparse, node.keys[at : at + 2])), _with(node, values=values)
-    if isinstance(node, (ast.Assign, ast.AugAssign, ast.Expr)) and not isinstance(node.value, ast.Constant):
+    is_name = isinstance(node, ast.Assign) and isinstance(node.targets[0], (ast.Name, ast.Tuple))
+    if isinstance(node, (ast.Assign, ast.AugAssign, ast.Expr)) and not (is_name or isinstance(node.value, ast.Constant)):
         yield ast.unparse(node), ast.Pass()
 
 
