@@ -162,7 +162,8 @@ class Processor:
     def _compared(self, state, lanes, found, scratch, target, to):
         at = 0
         for name in self.names:
-            if struct.unpack_from("<Q", found, at)[0] != self._known(state.general[name]).as_long():
+            term = self._known(state.general[name])
+            if term.size() != 64 or struct.unpack_from("<Q", found, at)[0] != term.as_long():
                 yield name
             at += 8
         for name, lane in lanes.items():

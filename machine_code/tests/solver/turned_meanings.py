@@ -90,7 +90,7 @@ def _changed(node):
         yield ast.unparse(node), _with(node, elts=node.elts[::-1])
     if isinstance(node, ast.Dict):
         for at in range(len(node.values) - 1):
-            if node.keys[at] and node.keys[at + 1]:
+            if all(node.keys[at : at + 2]) and ast.unparse(node.values[at]) != ast.unparse(node.values[at + 1]):
                 values = [*node.values[:at], node.values[at + 1], node.values[at], *node.values[at + 2 :]]
                 yield " <-> ".join(map(ast.unparse, node.keys[at : at + 2])), _with(node, values=values)
     is_name = isinstance(node, ast.Assign) and isinstance(node.targets[0], (ast.Name, ast.Tuple))
@@ -128,7 +128,8 @@ class Places(ast.NodeVisitor):
         if isinstance(node, (ast.JoinedStr, ast.Import, ast.ImportFrom)) or is_function and self._is_elsewhere(name):
             return
         old = self.names, self.lines
-        named = ast.unparse(node.targets[0]) if isinstance(node, ast.Assign) and not self.names else name
+        is_set = isinstance(node, (ast.Assign, ast.AugAssign)) and not self.names
+        named = ast.unparse(getattr(node, "target", None) or node.targets[0]) if is_set else name
         self.names = [*self.names, named] if named else self.names
         self.lines = self.lines or ((node.lineno, node.end_lineno + 1) if is_function else None)
         if hasattr(node, "lineno"):
@@ -172,17 +173,24 @@ def loaded(file, at, number):
     modules, old = {}, {name: module for name, module in sys.modules.items() if name.startswith("meanings.")}
     try:
         for name in FILES:
-            places = Places(name)
+            code = compiled(name)
             if name == file:
+                places = Places(name)
                 place = places.found[at]
                 new = ast.copy_location(list(alternatives(place.node))[number][1], place.node)
                 Change().visit(places.tree)
+                code = compile(ast.fix_missing_locations(places.tree), str(MEANINGS / f"{name}.py"), "exec")
             modules[name] = sys.modules[f"meanings.{name}"] = types.ModuleType(f"meanings.{name}")
-            code = compile(ast.fix_missing_locations(places.tree), str(MEANINGS / f"{name}.py"), "exec")
             exec(code, modules[name].__dict__)
     finally:
         sys.modules |= old
     return modules, place
+
+
+@functools.cache
+def compiled(file):
+    path = MEANINGS / f"{file}.py"
+    return compile(path.read_text(), str(path), "exec")
 
 
 class Compared:
@@ -199,7 +207,7 @@ class Compared:
         meanings = sys.modules[f"meanings.{self.kind}"]
         # The lines that run when instructions are read, and those that run when each of them does.
         self.reading = traced(lambda: self._read(meanings))
-        self.lines = [traced(lambda: [self.runner.difference(i, f"{form} {seed}") for seed in range(2)])
+        self.lines = [traced(lambda form=form, i=i: self.runner.difference(i, f"{form} 0"))
                       for form, i, _ in self.parts]
 
     def _read(self, meanings):
@@ -211,14 +219,16 @@ class Compared:
         code.function(test_meanings.FUNCTION)
         return code
 
-    def notices(self, modules, file, place):
+    def notices(self, modules, file, place, said):
         """Whether a change is noticed, which is looked for first where its line runs."""
-        meanings, text = modules[self.kind], (MEANINGS / f"{file}.py").read_text().splitlines()[place.node.lineno - 1]
-        around = {(file, at) for at in range(*place.lines)} if place.lines else set()
-        is_read = not place.lines and not place.name.startswith(("HANDLERS", "VECTORS")) or around & self.reading
-        parts = [at for at in range(len(self.parts)) if is_read or not around or around & self.lines[at]]
-        parts.sort(key=lambda at: ((file, place.node.lineno) not in self.lines[at],
-                                   f'"{self.parts[at][2].removeprefix("v")}"' not in text))
+        meanings, around = modules[self.kind], {(file, at) for at in range(*place.lines or (0, 0))}
+        # In a table of instructions, one or two are concerned.
+        key = place.name.startswith(("HANDLERS", "VECTORS")) and place.name.partition(".")[2]
+        concerned = set() if around else {key} if key else {*re.findall(r"'(\w+)'", said)}
+        is_read = around & self.reading or not around and not concerned
+        parts = [at for at, (_, _, mnemonic) in enumerate(self.parts)
+                 if is_read or around & self.lines[at] or concerned & {mnemonic, mnemonic.removeprefix("v")}]
+        parts.sort(key=lambda at: (file, place.node.lineno) not in self.lines[at])
         try:
             code = self._read(meanings) if is_read else copy.copy(self.runner.code)
         except Exception:
@@ -261,23 +271,17 @@ compared = functools.cache(Compared)
 
 def is_noticed(change):
     """Whether a comparison notices a change."""
-    file, at, number, _ = change
+    file, at, number, said = change
     try:
         modules, place = loaded(file, at, number)
     except Exception:
         return True
-    return any(compared(name).notices(modules, file, place) for name in FILES[file])
-
-
-def failures(some):
-    """The changes that are not noticed and do not mean the same, and those that are noticed and should mean it."""
-    for change in some:
-        if is_noticed(change) == (change[-1] in EQUAL):
-            yield f"{'noticed' if change[-1] in EQUAL else 'not noticed'}: {change[-1]}"
+    return any(compared(name).notices(modules, file, place, said) for name in FILES[file])
 
 
 def task(change):
-    return list(failures([change]))
+    """A change, and whether it is noticed, or means the same."""
+    return change[-1], is_noticed(change) != (change[-1] in EQUAL)
 
 
 def main():
@@ -289,9 +293,9 @@ def main():
     some = random.Random(options.seed).sample(every, options.count or len(every))
     failed = 0
     with multiprocessing.Pool(options.jobs) as pool:
-        for said in pool.imap_unordered(task, some):
-            failed += len(said)
-            print(*said, sep="\n", end="\n" if said else "", flush=True)
+        for said, is_right in pool.imap_unordered(task, some):
+            failed += not is_right
+            print(f"{'' if is_right else 'FAILED '}{'equal' if said in EQUAL else 'noticed'}: {said}", flush=True)
     print(f"{len(some) - failed} passed, {failed} failed")
     return bool(failed)
 
