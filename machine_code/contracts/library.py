@@ -4,7 +4,6 @@ If a claim were weaker than what the header says, a library could be accepted th
 than 2^63 characters, and so have the bytes whose text fits into a buffer; a size that is passed has no limit.
 """
 
-import pathlib
 import re
 
 import z3
@@ -14,10 +13,10 @@ from contracts.functions import (FAILED, FOUND, INVALID_CHARACTER, INVALID_LENGT
                                  must_be_digits, must_be_size, must_be_unchanged, must_cover, must_find_first_invalid,
                                  of_32_bits, size_max)
 from contracts.kernels import Check as CheckKernel, Fill, must_be_decoded, must_be_digits_of
+from contracts.names import HEADER
 from execution.state import Region, byte, joined, simple, split, word
 from solver.questions import require
 
-HEADER = pathlib.Path(__file__).resolve().parents[2] / "c" / "const_hex.h"
 FLAGS, SIZE = z3.BitVec("p_flags", 32), z3.BitVec("p_size", 64)
 UPPER, PREFIX, NO_NUL = 1, 2, 4
 TEXT, ERROR = Region("input", N), Object("error", lambda size: 8 + size)

@@ -108,11 +108,6 @@ def follows(i):
     return ([] if i.mnemonic in ENDS else [i.address + 1]) + i.operands.targets + called
 
 
-def globals_of(module):
-    """The numbers that the globals have at first."""
-    return [int.from_bytes(bytes(part.value for part in value), "little") for value in module.globals]
-
-
 def _operand(i, at):
     """The name of the register for the operand above so many others."""
     return f"operand {i.address // SPACE}.{at}"
@@ -135,17 +130,18 @@ class State(state.State):
         self._lay_out(module)
         function = module.function_at(self.at)
         require((function.parameters, function.results) == ([4] * len(arguments), [4]), "a function of another type")
-        self.general = {f"global {at}": word(number) for at, number in enumerate(globals_of(module))}
+        self.general = {f"global {at}": word(number) for at, number in enumerate(module.globals)}
         self.general["global 0"] = simple(self.regions["stack"].base + self.STACK)
         self.begin(function, arguments, z3.BitVec("p_return", 64))
 
     def _lay_out(self, module):
         """The stack, the data, and what the caller may use follow each other."""
         data = sorted((section.address, section.end) for section in module.sections if not section.is_code)
-        places = [globals_of(module)[0], *sum(data, ())]
+        places = [module.globals[0], *sum(data, ())]
         places += [module.places.get(name, -1) for name in ("__data_end", "__heap_base")]
         is_right = len(data) == 1 and places[0] == self.STACK and places == sorted(places) and places[-1] <= MEMORY
         require(is_right, f"the stack, the data and `__heap_base` lie at {places}")
+        require(module.mutable == {0}, "a global that is kept between calls")
         for region in self.regions.values():
             self.assume(z3.And(z3.ULE(region.size, MEMORY), z3.ULE(region.base, MEMORY - region.size)))
             if region.data is None and region.name != "stack":
@@ -223,6 +219,7 @@ def computes(name, takes, function, gives=1):
         result = function(s, i.operands.numbers, *values)
         if gives:
             s.put(_operand(i, first), result)
+    handler.takes = takes
     HANDLERS[name], EFFECTS[name] = handler, (len(takes), gives)
 
 
