@@ -363,20 +363,24 @@ class DecoderFail(Function):
     is_called = is_local = may_leak = True
     symbol, function, name = "const_hex_decoder_fail", "decoder_fail", "every decoder and chunk"
     before = z3.BitVec("p_before", 64)
-    regions = Region("found", word(16)), Region("decoder", word(16)), TEXT
+    regions = *[Object(name, DECODER.size, is_aligned=False) for name in ("found", "decoder")], TEXT
     arguments = base("found"), base("decoder"), before, base("input"), N
     requires = z3.ULT(N, 1 << 63),
 
     def cases(self, state):
+        state.assume(z3.ULE(self.before, size_max(state)))
         return [with_decoder(state)]
 
     def returns(self, state):
         index, character = first_invalid(state)
-        index = moved(state, moved(state, decoder_of(state)[0], self.before), index)
-        for name, offset, count, wanted in (
-                ("found", 0, 4, FOUND), ("found", 4, 4, z3.ZeroExt(24, character)), ("found", 8, 8, index),
-                ("decoder", 0, 8, index), ("decoder", 8, 1, character), ("decoder", 9, 1, FAILED)):
-            must_be(state, name, offset, count, wanted)
+        index, size = moved(state, moved(state, decoder_of(state)[0], self.before), index), state.WORD
+        if size == 8:
+            must_be(state, "found", 0, 4, FOUND)
+        must_be(state, "found", size - 4, 4, z3.ZeroExt(24, character))
+        must_be_size(state, "found", size, index)
+        must_be_size(state, "decoder", 0, index)
+        must_be(state, "decoder", size, 1, character)
+        must_be(state, "decoder", size + 1, 1, FAILED)
 
 
 FUNCTIONS = (Version(), EncodedSize(), *[Encode(flags) for flags in (*range(8), None)], CheckRaw(), FirstInvalid(),

@@ -12,6 +12,9 @@ from reading import module, objects
 from solver.questions import require
 
 
+FAIL = "const_hex_decoder_fail"
+
+
 def is_module(content):
     return content.startswith(b"\0asm")
 
@@ -20,6 +23,9 @@ class Code:
     def __init__(self, content, processors, imported=None, local=None):
         """With what functions do that are called by their contracts: those of other objects, and local ones."""
         self.object = module.parse(content, "memory") if is_module(content) else objects.read(content)
+        # A module has no names of local functions. This one is known by its type.
+        self.object.symbols |= {FAIL: function.address for function in getattr(self.object, "functions", ())
+                                if (function.parameters, function.results) == ([4] * 5, [])}
         self._imported, self._local = imported or {}, local or {}
         self.processor = processors[self.object.machine]
         self.constants, self.instructions, self._references = {}, {}, {}
