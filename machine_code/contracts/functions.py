@@ -123,6 +123,10 @@ class Function:
         must_be_digits(state, read)
         must_cover(state, word(0), written, state.writes, "a byte of the output is left out")
 
+    def alone(self, state):
+        """The bytes of the input that may decide which value a module selects: none."""
+        return []
+
     def valid(self, state):
         """What a valid input is, for constant time: the digits of the text are digits."""
         return [is_digit(name) for offset, name in state.input.values() if state.holds(z3.UGE(offset, state.body))]
@@ -178,7 +182,7 @@ def first_invalid(state):
 
 
 def moved(state, position, count):
-    """A position so many characters later, or SIZE_MAX if it is greater. Neither number is greater."""
+    """A position so many characters later, or SIZE_MAX if it is greater. Of all numbers the bits of a size_t count."""
     later, top = simple(position + count), 8 * state.WORD - 1
     is_greater = z3.ULT(z3.Extract(top, 0, later), z3.Extract(top, 0, position))
     return state.either(is_greater, word(size_max(state)), later)

@@ -309,6 +309,15 @@ class DecoderUpdate(Exported):
         """How many bytes the digits make."""
         return simple(z3.LShR(N - state.body + state.waiting, 1))
 
+    def waits(self, state):
+        """1 if a digit waits for the next chunk, else 0."""
+        return z3.Extract(0, 0, N - state.body + state.waiting)
+
+    def alone(self, state):
+        """The digit of this chunk that waits for the next one."""
+        is_there = state.holds(self.waits(state) == 1)
+        return [name for offset, name in state.input.values() if is_there and state.holds(offset == N - 1)]
+
     def store(self, state, offset, lane):
         state.must(z3.ULE(decoder_of(state)[2], 1), "written after an error")
         state.must(z3.ULE(self.count(state), SIZE), "written though the bytes may not fit")
@@ -348,7 +357,7 @@ class DecoderUpdate(Exported):
         must_be_unchanged(state, "error")
         must_be_size(state, "written", 0, self.count(state))
         must_be_size(state, "decoder", 0, moved(state, position, N))
-        waits = z3.Extract(0, 0, N - state.body + state.waiting)
+        waits = self.waits(state)
         must_be(state, "decoder", state.WORD + 1, 1, z3.ZeroExt(7, waits))
         if other := state.when(z3.And(waits == 1, N == 0), None):
             must_be(other, "decoder", state.WORD, 1, character)
@@ -368,19 +377,18 @@ class DecoderFail(Function):
     requires = z3.ULT(N, 1 << 63),
 
     def cases(self, state):
-        state.assume(z3.ULE(self.before, size_max(state)))
         return [with_decoder(state)]
 
     def returns(self, state):
         index, character = first_invalid(state)
         index, size = moved(state, moved(state, decoder_of(state)[0], self.before), index), state.WORD
-        if size == 8:
-            must_be(state, "found", 0, 4, FOUND)
-        must_be(state, "found", size - 4, 4, z3.ZeroExt(24, character))
-        must_be_size(state, "found", size, index)
-        must_be_size(state, "decoder", 0, index)
-        must_be(state, "decoder", size, 1, character)
-        must_be(state, "decoder", size + 1, 1, FAILED)
+        index = z3.Extract(8 * size - 1, 0, index)
+        # In the module an error has no kind of its own.
+        for name, offset, count, wanted in (
+                *[("found", 0, 4, FOUND)][: size - 4], ("found", size - 4, 4, z3.ZeroExt(24, character)),
+                ("found", size, size, index), ("decoder", 0, size, index), ("decoder", size, 1, character),
+                ("decoder", size + 1, 1, FAILED)):
+            must_be(state, name, offset, count, wanted)
 
 
 FUNCTIONS = (Version(), EncodedSize(), *[Encode(flags) for flags in (*range(8), None)], CheckRaw(), FirstInvalid(),

@@ -303,17 +303,24 @@ def branch_by(s, i):
 
 
 def select(s, i):
-    """Counts as a branch: it is run again in the states where it is known which operand is taken."""
+    """Counts as a branch: it is run again in the states where it is known which operand is taken. A byte of the input
+    may decide that stands alone."""
     first = i.operands.height - 3
     one, other, choice = [_operand(i, first + at) for at in range(3)]
     condition = _is_true(s.exact(s.get(choice)))
     truth = next((truth for truth in (True, False) if s.holds(condition == truth)), None)
-    if truth is None:
+    if truth is None and not _is_alone(s, condition):
         s.next = i.address
         return Branch(condition, i.address)
     s.take(choice)
     values = s.take(one), s.take(other)
-    s.put(_operand(i, first), values[0 if truth else 1])
+    s.put(_operand(i, first), z3.If(condition, *values) if truth is None else values[0 if truth else 1])
+
+
+def _is_alone(s, condition):
+    """Whether of all that is secret only bytes of the input decide that stand alone."""
+    secrets = {name for name in names(condition) if not name.startswith("p_")}
+    return secrets and secrets <= {name.decl().name() for name in s.contract.alone(s)}
 
 
 def call(s, i):
