@@ -23,22 +23,24 @@ from solver import questions, second
 from solver.questions import Refused
 
 PROCESSORS = {X86_64: x86_64, AARCH64: aarch64, None: webassembly}
-# The functions of a module that are proved here.
-IN_MODULE = "encode", "decoder_finish"
 # So many questions of each proof go to the second solver, too.
 SAMPLE = 100
+
+
+def is_of_header(build):
+    """Whether a build has the functions of const_hex.h, and local ones that they call by contracts."""
+    return build == WASM or build.startswith("functions_")
 
 
 def contracts_of(build, content):
     """What has to be proved of a build: of each function that others see, and of the local ones that are called by
     their contracts."""
     obj, found = library.read(content), KERNELS
-    if build == WASM:
-        found = [contract for contract in FUNCTIONS if contract.function in IN_MODULE]
-    elif build == DISPATCH:
+    if build == DISPATCH:
         found = [*dispatch.OR_NULL, *(dispatch.CHOICES if obj.machine == X86_64 else [])]
-    elif build.startswith("functions_"):
-        found = [*FUNCTIONS, *MESSAGES]
+    elif is_of_header(build):
+        found = [contract for contract in (*FUNCTIONS, *MESSAGES)
+                 if any(re.fullmatch(contract.symbol, symbol) for symbol in obj.symbols)]
     for symbol in sorted(obj.exported):
         if not any(re.fullmatch(contract.symbol, symbol) and not contract.is_local for contract in found):
             raise ValueError(f"{symbol} has no contract")
@@ -46,8 +48,8 @@ def contracts_of(build, content):
 
 
 def prove(content, build, contract, ran=None):
-    """Proves a function of a build. Gives how many paths have ended. Only those for C call local ones by contracts."""
-    calls = (callees.IMPORTED, callees.LOCAL) if build.startswith("functions_") else (contract.imported,)
+    """Proves a function of a build. Gives how many paths have ended."""
+    calls = (callees.IMPORTED, callees.LOCAL) if is_of_header(build) else (contract.imported,)
     code = Code(content, PROCESSORS, *calls)
     starts = contract.starts(code)
     return run(code, starts, () if contract.is_unrolled else heads(code, starts[0].at), guess, ran)

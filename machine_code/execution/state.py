@@ -40,16 +40,17 @@ _wholes = {}
 
 def joined(lane):
     """The number that bytes make, of which the first is the lowest."""
-    if len(lane) == 8 and (whole := _wholes.get(tuple(part.get_id() for part in lane))):
+    if whole := _wholes.get(tuple(part.get_id() for part in lane)):
         return whole[0]
     return simple(z3.Concat(*reversed(lane))) if len(lane) > 1 else lane[0]
 
 
 def split(term):
-    """The bytes of a number. One of 64 bits is kept for `joined`, which would not find the same sum again."""
+    """The bytes of a number. One of 64 bits, and its lower half, are kept for `joined`, which would not find the same
+    sums again."""
     lane = [simple(z3.Extract(at + 7, at, term)) for at in range(0, term.size(), 8)]
-    if len(lane) == 8:
-        _wholes[tuple(part.get_id() for part in lane)] = simple(term), lane
+    for size in (4, 8) if len(lane) == 8 else ():
+        _wholes[tuple(part.get_id() for part in lane[:size])] = simple(z3.Extract(8 * size - 1, 0, term)), lane
     return lane
 
 

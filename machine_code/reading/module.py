@@ -10,7 +10,7 @@ import subprocess
 from reading.objects import ALLOCATED, Object, Section
 
 SIZES = {"i32": 4, "i64": 8, "v128": 16}
-SPACE = 1 << 32
+SPACE, FAIL = 1 << 32, "const_hex_decoder_fail"
 # What a module may have beside functions, data and globals.
 OTHERS = (")", "(module", "(type", '(export "memory" (memory 0))', "(memory (;0;) 1 1)")
 
@@ -52,6 +52,9 @@ def parse(content, exported=""):
     # Each part begins in a line with two spaces, and the instructions of a function follow.
     for part in re.split(r"\n  (?=\()", text.rstrip().removesuffix(")")):
         _add(module, part if part.startswith("(data") else re.sub(r" *;;.*", "", part))
+    # Local functions have no names. This one is known by its type.
+    module.symbols |= {FAIL: function.address for function in module.functions
+                       if (function.parameters, function.results) == ([4] * 5, [])}
     return module
 
 
