@@ -1,5 +1,5 @@
-"""What an object of the library has: exactly this, and nothing beside it that a linker, a loader or a program could take
-in its place, or run.
+"""What an object of the library has: exactly this, and nothing beside it that a linker, a loader or a program could
+take in its place, or run.
 
 The code itself is proved. Here is what decides that a program runs it: each symbol that others see, by its kind, its
 binding, its visibility and its section; each name that the object leaves to others; and each section that is loaded.
@@ -93,7 +93,8 @@ def _shown(symbol):
     if symbol is None:
         return "nothing"
     where = f"in {symbol.section}" if symbol.section else "that is not defined"
-    return f"{symbol.binding}, {symbol.visibility}, {symbol.kind} {where}{f' at {symbol.place:#x}' * (symbol.place > 0)}"
+    place = f" at {symbol.place:#x}" if symbol.place else ""
+    return f"{symbol.binding}, {symbol.visibility}, {symbol.kind} {where}{place}"
 
 
 def _check_sections(obj):

@@ -80,8 +80,8 @@ def _memory(some, is_access):
     return struct.pack("<I", SCRATCH + some.randrange(256)) + content[4:] if is_access else content
 
 
-class Concrete(webassembly.State):
-    """A state whose memory is known."""
+class Concrete:
+    """What a state does whose memory is known."""
 
     def load(self, address, count, aligned=False):
         at = simple(address).as_long()
@@ -111,11 +111,17 @@ class Node:
         self.names |= {name: name for name in re.findall(r'export "(\w+)"', FUNCTIONS)}
         text = f'(module (memory 1 1) (global (mut i32) (i32.const {SIZE})) (export "memory" (memory 0))'
         content = assembled(f"{text} {FUNCTIONS} {functions})")
-        self.code = Code(content, {None: webassembly})
-        self.code.function("call")
+        self.content, self.meanings = content, webassembly
+        self.code = self.read(webassembly)
         self.process = subprocess.Popen(["node", TOP / "machine_code" / "tests" / "run.mjs"], stdin=subprocess.PIPE,
                                         stdout=subprocess.PIPE)
         self.process.stdin.write(struct.pack("<Q", len(content)) + content)
+
+    def read(self, meanings):
+        """The code as these meanings read it."""
+        code = Code(self.content, {None: meanings})
+        code.function("call")
+        return code
 
     def close(self):
         self.process.communicate()
@@ -129,7 +135,7 @@ class Node:
         return "memory" if self.process.stdout.read(SIZE) != self._by_the_meanings(name, before) else None
 
     def _by_the_meanings(self, name, before):
-        state = Concrete()
+        state = type("State", (Concrete, self.meanings.State), {})()
         contract = types.SimpleNamespace(returns=lambda state: None)
         state.code, state.contract, state.calls, state.steps = self.code, contract, {}, 0
         state.memory, state.vectors, state.facts, state.may_leak = [*before], {}, [], False

@@ -11,7 +11,7 @@ from execution.state import byte, joined, simple, split
 from meanings import webassembly
 from meanings.lanes import bytes_of, units
 from meanings.webassembly import EFFECTS, HANDLERS
-from tests import node
+from tests.node import Node
 
 STATES = 24
 
@@ -69,7 +69,7 @@ WRONG = {
 class TestWebAssembly(unittest.TestCase):
     @classmethod
     def setUpClass(cls):
-        cls.node = node.Node()
+        cls.node = Node()
         cls.addClassCleanup(cls.node.close)
 
     def differences(self, mnemonic=""):

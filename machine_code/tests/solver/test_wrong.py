@@ -8,11 +8,13 @@ import re
 import traceback
 import unittest
 
+import wrong_edits
 import wrong_for_c
+import wrong_forms
 import wrong_messages
 from contracts.library import FUNCTIONS
 from contracts.messages import MESSAGES
-from programs import assembled, library, program, prove
+from programs import COMMITTED, assembled, edited, library, program, prove
 from solver.questions import Refused
 
 ROOM = pathlib.Path(__file__).resolve().parents[2]
@@ -176,8 +178,8 @@ RIGHT = [("a loop over bytes", "v3", call, {}) for call in ("check", "fill", "re
 
 
 class TestWrong(unittest.TestCase):
-    # Where programs were refused, and which rows were.
-    refused, rows = set(), set()
+    # Where programs were refused, how many were, and how many there are.
+    refused, count, most = set(), 0, 0
 
     def prove(self, content, call, wanted=None, **contract):
         with self.assertRaisesRegex(Refused, wanted) if wanted else contextlib.nullcontext():
@@ -198,7 +200,7 @@ class TestWrong(unittest.TestCase):
 
     def test_zz_each_check_refuses_a_row(self):
         """After the rows: without a check, one that is refused by it would not be, or by another message."""
-        if len(self.rows) < len(WRONG) + len(wrong_for_c.WRONG) + wrong_messages.COUNT:
+        if self.count < self.most:
             self.skipTest("not all rows have run")
         checks = {(str(file), line) for folder in ("execution", "contracts") for file in (ROOM / folder).glob("*.py")
                   for line in _checks(file)}
@@ -218,14 +220,23 @@ def _add(row, call, make, wanted=None, **contract):
 
     def test(self):
         self.prove(make(), call, wanted, **contract)
-        self.rows.update([row] if wanted else [])
+        TestWrong.count += bool(wanted)
 
     assert not hasattr(TestWrong, row), row
     setattr(TestWrong, row, test)
+    TestWrong.most += bool(wanted)
 
 
 for what, level, call, changes, *said in [*WRONG, *RIGHT]:
     _add(f"{level} {call} {what}", call, functools.partial(program, level, call, **changes), *said)
+for what, level, text, *said in [*wrong_forms.WRONG, *wrong_forms.RIGHT]:
+    _add(f"form {level} {what}", "version", functools.partial(wrong_forms.form, level, text), *said,
+         contracts=[wrong_forms.version(level)])
+for what, build, function, old, new, said, *rest in wrong_edits.WRONG:
+    name, within = [*rest, None, None][:2]
+    make = functools.partial(edited, build, within or function, old, new)
+    _add(f"edit {build} {function} {what}", function, make, said, name=name,
+         contracts=FUNCTIONS if build == "wasm" else COMMITTED[build][1])
 for function, what, old, new, said, *name in wrong_for_c.WRONG:
     call = "decoder_update" if function == "decoder_decode_after" else function
     make = functools.partial(library, call, function, old, new)

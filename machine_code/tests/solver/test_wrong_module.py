@@ -14,6 +14,7 @@ from execution.code import Code
 from execution.paths import run
 from hints.loops import guess, heads
 from meanings import webassembly
+from programs import WASM, text_of
 from solver.questions import Refused
 from tests.node import assembled
 
@@ -57,6 +58,11 @@ WRONG = [
     ("a character too much", {"character": "local.get 0 i32.load8_u offset=1 local.set 2"}, "may lie outside of input"),
     ("an address beyond 32 bits", {"start": "i32.const -4 i32.load offset=4100 local.set 2"}, "may lie outside of c"),
     ("a write of data", {"start": "i32.const 4096 i32.const 0 i32.store"}, "is written"),
+    ("a write after the data", {"start": "i32.const 4696 i32.const 0 i32.store8"}, "may lie outside of constants"),
+    ("a write before the memory", {"start": "i32.const -1 i32.const 0 i32.store8"}, "may lie outside of constants"),
+    ("a write whose address wraps", {"start": "i32.const -4 i32.const 0 i32.store8 offset=4"}, "may lie outside of c"),
+    ("a pointer that may be 4", {"start": "block local.get 0 i32.const 4 i32.sub br_if 0 unreachable end"},
+     "the module traps"),
     ("a read beyond the data", {"start": "i32.const 4693 i32.load local.set 2"}, "may lie outside of constants"),
     ("half of a place", {"invalid": "local.get 3 i32.const 1 i32.shl i32.load8_u offset=4096 local.set 2"},
      "a table that is not one of bytes"),
@@ -73,6 +79,13 @@ WRONG = [
     ("data at two places", {"part": '(data (i32.const 4790) "\\00")'}, LAYOUT),
     ("another stack", {"(mut i32) (i32.const 4096)": "(mut i32) (i32.const 4080)"}, LAYOUT),
     ("a global that is kept", {"part": "(global (mut i32) (i32.const 0))"}, "a global that is kept between calls"),
+    ("no place where data end", {'"__data_end"': '"__other"'}, LAYOUT),
+    ("no place of the caller's", {'"__heap_base"': '"__other"'}, LAYOUT),
+    ("a place beyond the memory", {"(i32.const 4800)": "(i32.const 65537)"}, LAYOUT),
+    ("a table", {"part": "(table 1 funcref)"}, r"not known here: \(table"),
+    ("a global that the engine may change", {"part": '(export "__stack_pointer" (global 0))'},
+     "__stack_pointer, which the engine may change"),
+    ("a memory that is not exported", {'(export "memory") ': ""}, "the memory is not exported"),
     ("another type", {"(param i32 i32)": "(param i32 i64)", "local.get 1": "local.get 1 i32.wrap_i64",
                       "local.tee 1": "local.set 2 local.get 2"}, "a function of another type"),
 ]
@@ -133,7 +146,7 @@ def made(changes):
 @unittest.skipUnless(shutil.which("wat2wasm"), "wat2wasm is missing")
 class TestWrongModule(unittest.TestCase):
     def prove(self, content, said=None, contract=CheckRaw, case=slice(None)):
-        with self.assertRaisesRegex(Refused, said) if said else contextlib.nullcontext():
+        with self.assertRaisesRegex((Refused, ValueError), said) if said else contextlib.nullcontext():
             code = Code(content, {None: webassembly}, callees.IMPORTED, callees.LOCAL)
             starts = contract().starts(code)
             run(code, starts[case], heads(code, starts[0].at), guess)
@@ -162,3 +175,17 @@ class TestWrongModule(unittest.TestCase):
         """A length that is passed is a number of 32 bits."""
         new = "local.get 1 local.get 12 i32.const -1 i32.add i32.const 1 i32.add call 7"
         self.prove(changed("local.get 1 local.get 12 call 7", new), None, DecoderUpdate, LATER_WITHOUT_SPACE)
+
+    def test_vectors_are_used(self):
+        """Each loop of the module takes 16 bytes or more at once, but for those that search, which are three."""
+        blocks, loops = [], []
+        for line in text_of(WASM).splitlines():
+            if line in ("block", "loop"):
+                blocks.append((line, []))
+            elif line == "end":
+                kind, lines = blocks.pop()
+                (loops if kind == "loop" else blocks[-1][1] if blocks else []).append(lines)
+            elif blocks:
+                blocks[-1][1].append(line)
+        has_vectors = ["v128.load" in str(lines) for lines in loops]
+        self.assertEqual((has_vectors.count(True), has_vectors.count(False)), (5, 3))
