@@ -184,10 +184,10 @@ class TestWrong(unittest.TestCase):
     refused, count, most = set(), 0, 0
 
     def prove(self, content, call, wanted=None, **contract):
-        with self.assertRaisesRegex(Refused, wanted) if wanted else contextlib.nullcontext():
+        with self.assertRaisesRegex((Refused, ValueError), wanted) if wanted else contextlib.nullcontext():
             try:
                 prove(content, call, **contract)
-            except Refused as refused:
+            except (Refused, ValueError) as refused:
                 # `run` says where a program is refused, of what another function has found.
                 found = refused.__context__ or refused
                 places = [(frame.filename, frame.lineno) for frame in traceback.extract_tb(found.__traceback__)]

@@ -94,7 +94,8 @@ def _changed(node):
                 values = [*node.values[:at], node.values[at + 1], node.values[at], *node.values[at + 2 :]]
                 yield " <-> ".join(map(ast.unparse, node.keys[at : at + 2])), _with(node, values=values)
     is_name = isinstance(node, ast.Assign) and isinstance(node.targets[0], (ast.Name, ast.Tuple))
-    if isinstance(node, (ast.Assign, ast.AugAssign, ast.Expr)) and not (is_name or isinstance(node.value, ast.Constant)):
+    is_statement = isinstance(node, (ast.Assign, ast.AugAssign, ast.Expr))
+    if is_statement and not is_name and not isinstance(node.value, ast.Constant):
         yield ast.unparse(node), ast.Pass()
 
 
@@ -150,7 +151,7 @@ class Places(ast.NodeVisitor):
 
 
 def _is_check(node):
-    return isinstance(node, ast.Call) and getattr(node.func, "attr", getattr(node.func, "id", "")) in ("require", "must")
+    return isinstance(node, ast.Call) and ast.unparse(node.func) in ("require", "s.must", "self.must")
 
 
 def changes():

