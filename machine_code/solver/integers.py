@@ -20,6 +20,16 @@ class Facts:
         for fact in facts:
             self.conditions.append(self.condition(fact))
 
+    def and_also(self, fact):
+        """These facts and another one, or None if that is not linear."""
+        other = Facts((), self._is_impossible)
+        other.conditions, other.ranges, other.sums = self.conditions.copy(), self.ranges.copy(), self.sums.copy()
+        try:
+            other.conditions.append(other.condition(fact))
+        except ValueError:
+            return None
+        return other
+
     def imply(self, *conditions):
         return self._is_impossible([*self.ranges.values(), *self.conditions, z3.Not(z3.And(*conditions))])
 
