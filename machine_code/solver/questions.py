@@ -137,7 +137,7 @@ def is_impossible_in_integers(conditions):
 def _in_integers(facts):
     """Facts in integers, or None if not all are linear. Most questions are about facts that were translated before."""
     if not facts:
-        return integers.Facts((), is_impossible_in_integers)
+        return integers.Facts(is_impossible_in_integers)
     key = tuple(fact.get_id() for fact in facts)
     if key not in _translated:
         known = _in_integers(facts[:-1])
