@@ -145,12 +145,12 @@ def _first_invalid(state, text, first, count):
         require(_is_in("input", text), "a search in what is no input")
         other.load(simple(text + at), 1)
     start, at = _offset(state, "input", text), fresh("p", 64)
-    ways = [(state, count, byte(0))]
-    if some := state.when(z3.And(z3.ULE(first, at), z3.ULT(at, count)), state.at):
-        ways.append((some.without_digit(start + at), at, some.byte_of_input(start + at)))
-    for way, index, character in ways:
-        if other := way and way.with_digits(start + first, index - first):
-            yield other, index, character
+    if none := state.with_digits(start + first, count - first):
+        yield none, count, byte(0)
+    some = state.when(z3.And(z3.ULE(first, at), z3.ULT(at, count)), state.at)
+    if some := some and some.without_digit(start + at):
+        some.know_digits(start + first, at - first)
+        yield some, at, some.byte_of_input(start + at)
 
 
 # Those of other objects, and local ones.

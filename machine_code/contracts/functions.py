@@ -123,9 +123,9 @@ class Function:
         must_be_digits(state, read)
         must_cover(state, word(0), written, state.writes, "a byte of the output is left out")
 
-    def alone(self, state):
-        """The bytes of the input that may decide which value a module selects: none."""
-        return []
+    def is_alone(self, state, offset):
+        """Whether a byte of the input may decide which value a module selects."""
+        return False
 
     def valid(self, state):
         """What a valid input is, for constant time: the digits of the text are digits."""

@@ -312,10 +312,9 @@ class DecoderUpdate(Exported):
         """1 if a digit waits for the next chunk, else 0."""
         return z3.Extract(0, 0, N - state.body + state.waiting)
 
-    def alone(self, state):
+    def is_alone(self, state, offset):
         """The digit of this chunk that waits for the next one."""
-        is_there = state.holds(self.waits(state) == 1)
-        return [name for offset, name in state.input.values() if is_there and state.holds(offset == N - 1)]
+        return state.holds(z3.And(self.waits(state) == 1, offset == N - 1))
 
     def store(self, state, offset, lane):
         state.must(z3.ULE(decoder_of(state)[2], 1), "written after an error")

@@ -315,8 +315,9 @@ def select(s, i):
 
 def _is_alone(s, condition):
     """Whether of all that is secret only bytes of the input decide that stand alone."""
-    secrets = {name for name in names(condition) if not name.startswith("p_")}
-    return secrets and secrets <= {name.decl().name() for name in s.contract.alone(s)}
+    offsets = {name.decl().name(): offset for offset, name in s.input.values()}
+    secrets = [name for name in names(condition) if not name.startswith("p_")]
+    return secrets and all(name in offsets and s.contract.is_alone(s, offsets[name]) for name in secrets)
 
 
 def call(s, i):
