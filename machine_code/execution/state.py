@@ -11,7 +11,7 @@ import itertools
 import z3
 
 from solver import tenths
-from solver.questions import Refused, conjuncts, facts_of, holds, names, require, values
+from solver.questions import Refused, conjuncts, facts_of, holds, is_impossible, names, relevant, require, values
 
 simple = z3.simplify
 _numbers = itertools.count()
@@ -40,16 +40,17 @@ _wholes = {}
 
 def joined(lane):
     """The number that bytes make, of which the first is the lowest."""
-    if len(lane) == 8 and (whole := _wholes.get(tuple(part.get_id() for part in lane))):
+    if whole := _wholes.get(tuple(part.get_id() for part in lane)):
         return whole[0]
     return simple(z3.Concat(*reversed(lane))) if len(lane) > 1 else lane[0]
 
 
 def split(term):
-    """The bytes of a number. One of 64 bits is kept for `joined`, which would not find the same sum again."""
+    """The bytes of a number. One of 64 bits, and its lower half, are kept for `joined`, which would not find the same
+    sums again."""
     lane = [simple(z3.Extract(at + 7, at, term)) for at in range(0, term.size(), 8)]
-    if len(lane) == 8:
-        _wholes[tuple(part.get_id() for part in lane)] = simple(term), lane
+    for size in (4, 8) if len(lane) == 8 else ():
+        _wholes[tuple(part.get_id() for part in lane[:size])] = simple(z3.Extract(8 * size - 1, 0, term)), lane
     return lane
 
 
@@ -324,16 +325,23 @@ class State:
 
     def with_digits(self, offset, count):
         """This state where a part of the input has digits alone, or None if it can't."""
-        other, offset, count = self.copy(), simple(offset), simple(count)
-        other.reads.append((offset, count))
-        other.digits[offset.get_id(), str(count)] = True
+        other, digits = self.copy(), []
+        other.know_digits(offset, count)
         for at, name in self.input.values():
             is_digit, is_in = self.contract.is_digit(name), z3.ULT(at - offset, count)
-            if other and other.holds(is_in):
-                other = other.when(is_digit, other.at)
-            elif other and other.holds(z3.Not(is_digit)):
-                other = other.when(z3.Not(is_in), other.at)
-        return other
+            about = relevant(self.facts, is_digit, 0)
+            if other and not is_impossible([*about, z3.Not(is_digit)]):
+                if other.holds(is_in):
+                    digits.append(is_digit)
+                elif is_impossible([*about, is_digit]):
+                    other = other.when(z3.Not(is_in), other.at)
+        return other and other.when(z3.And(*digits), other.at)
+
+    def know_digits(self, offset, count):
+        """Notes that a part of the input has digits alone."""
+        offset, count = simple(offset), simple(count)
+        self.reads.append((offset, count))
+        self.digits[offset.get_id(), str(count)] = True
 
     def without_digit(self, offset):
         """This state where a character of the input is no digit, or None if it can't be."""

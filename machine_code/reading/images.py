@@ -9,13 +9,12 @@ import struct
 from collections import namedtuple
 
 from reading import objects
-from reading.objects import BRANCH, PAGE, RELATIVE, place_in_page, whole
+from reading.objects import AARCH64, BRANCH, PAGE, RELATIVE, X86_64, place_in_page, whole
 
 # Bytes at an address, and whether they can run, and be written.
 Piece = namedtuple("Piece", "name is_code is_writable address content")
-X86_64, AARCH64 = 62, 183
 PAGE_SIZE, FAR, APART = 4096, 1 << 26, 1 << 12
-FUNCTION, UNDEFINED = 2, 0
+UNDEFINED = 0
 # A local symbol that names a file of the source. Nothing is found by it, and rustc's begins with the crate's name.
 SOURCE_FILE = 4
 

@@ -13,20 +13,15 @@ import struct
 import subprocess
 import tempfile
 
-from proof.functions import FUNCTIONS
+from contracts.names import FUNCTIONS
 from reading import archive, images, objects
-from reading.objects import PAGE
+from reading.expected import BUILDS, RUST, builds_of
+from reading.objects import AARCH64, PAGE, X86_64
 
 TOP = pathlib.Path(__file__).resolve().parents[2]
-ASM, RUST = TOP / "c" / "asm", TOP / "rust" / "src" / "asm"
-X86_64, AARCH64 = 62, 183
-# Of each processor: its name for the preprocessor, its assembler, and the files of the library for C, which are one, or
-# of the kernels of the Rust crate, by their builds.
+ASM, FOR_RUST = TOP / "c" / "asm", TOP / "rust" / "src" / "asm"
+# Of each processor: its name for the preprocessor, and its assembler.
 ASSEMBLERS = {X86_64: ("__x86_64__", ["as", "--64"]), AARCH64: ("__aarch64__", ["aarch64-linux-gnu-as"])}
-FILES = {X86_64: {"dispatch": "dispatch", "functions_x86_64": "functions_x86_64", "kernel_v2": "kernel_x86_64_v2",
-                  "kernel_v3": "kernel_x86_64_v3", "rust_v2": "x86_64_v2", "rust_v3": "x86_64_v3"},
-         AARCH64: {"dispatch": "dispatch", "functions_aarch64": "functions_aarch64",
-                   "kernel_aarch64": "kernel_aarch64", "rust_aarch64": "aarch64"}}
 # A symbol of a kernel for Rust, and what others have beside the name of a call.
 OF_RUST, NAME = re.compile(r"const_hex_(\d+_)+"), re.compile(r"^const_hex_|(_nonnull)?(_v[23])?$")
 
@@ -35,9 +30,9 @@ OF_RUST, NAME = re.compile(r"const_hex_(\d+_)+"), re.compile(r"^const_hex_|(_non
 def assembled(machine, build):
     """The object of a build, from the files of this repository."""
     name, command = ASSEMBLERS[machine]
-    file = FILES[machine][build]
-    if build.startswith("rust_"):
-        text = b"".join((RUST / f"{part}.s").read_bytes() for part in ("elf", file, "end"))
+    file = BUILDS[machine][build]
+    if build.startswith(RUST):
+        text = b"".join((FOR_RUST / f"{part}.s").read_bytes() for part in ("elf", file, "end"))
     else:
         cpp = ["cc", "-E", "-P", "-undef", "-nostdinc", f"-D{name}", "-x", "assembler-with-cpp", ASM / f"{file}.S"]
         text = subprocess.run(cpp, check=True, capture_output=True).stdout
@@ -46,14 +41,15 @@ def assembled(machine, build):
         return objects.read(pathlib.Path(folder, "object.o").read_bytes())
 
 
-def builds_of(machine, is_rust):
-    return [build for build in FILES[machine] if build.startswith("rust_") == is_rust]
+def call_of(symbol):
+    """The call that a function is for, by its symbol."""
+    return NAME.sub("", OF_RUST.sub("const_hex_kernel_", symbol))
 
 
 def functions_in(image):
     """The functions of the library that a file has, by their names: pairs of a build and the symbol."""
     for is_rust in (False, True):
-        for build in builds_of(image.machine, is_rust) if image.machine in FILES else ():
+        for build in builds_of(image.machine, is_rust):
             for symbol in sorted(assembled(image.machine, build).exported & image.places.keys()):
                 yield build, symbol
 
@@ -173,7 +169,7 @@ def compared(file):
         if image.is_library and any(f"const_hex_{name}" in image.places for name in FUNCTIONS):
             _require_names(image, FUNCTIONS)
         for build, symbol in functions_in(image):
-            comparison, fault = Comparison(image, build.startswith("rust_")), None
+            comparison, fault = Comparison(image, build.startswith(RUST)), None
             try:
                 comparison.compare(symbol)
             except ValueError as error:
@@ -183,5 +179,5 @@ def compared(file):
             result[at, image.machine, build, symbol] = fault
     if not result:
         raise ValueError("it has no function of the library, or not the name of one")
-    return [(NAME.sub("", OF_RUST.sub("const_hex_kernel_", symbol)), build, assembled(machine, build), symbol, fault)
+    return [(call_of(symbol), build, assembled(machine, build), symbol, fault)
             for (_, machine, build, symbol), fault in result.items()]

@@ -15,10 +15,18 @@ class Facts:
     """Facts in integers. `is_impossible` says whether integer conditions, all together, contradict each other: it
     decides, too, that a sum is so small that it need not be reduced."""
 
-    def __init__(self, facts, is_impossible):
+    def __init__(self, is_impossible):
         self.conditions, self.ranges, self.sums, self._is_impossible = [], {}, {}, is_impossible
-        for fact in facts:
-            self.conditions.append(self.condition(fact))
+
+    def and_also(self, fact):
+        """These facts and another one, or None if that is not linear."""
+        other = Facts(self._is_impossible)
+        other.conditions, other.ranges, other.sums = self.conditions.copy(), self.ranges.copy(), self.sums.copy()
+        try:
+            other.conditions.append(other.condition(fact))
+        except ValueError:
+            return None
+        return other
 
     def imply(self, *conditions):
         return self._is_impossible([*self.ranges.values(), *self.conditions, z3.Not(z3.And(*conditions))])

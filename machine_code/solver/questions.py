@@ -14,7 +14,7 @@ QUICK, LIMIT = 600_000, 40_000_000
 # Each question that was answered by "unsat", as the logic and conditions, for a second solver.
 proved = []
 counts = {"asked": 0, "repeated": 0, "given up": 0}
-_constants, _names, _answers, _kept = {}, {}, {}, []
+_constants, _names, _answers, _translated, _kept = {}, {}, {}, {}, []
 
 
 class Refused(Exception):
@@ -134,12 +134,23 @@ def is_impossible_in_integers(conditions):
     return _answer("QF_LIA", conditions, QUICK) == z3.unsat
 
 
+def _in_integers(facts):
+    """Facts in integers, or None if not all are linear. Most questions are about facts that were translated before."""
+    if not facts:
+        return integers.Facts(is_impossible_in_integers)
+    key = tuple(fact.get_id() for fact in facts)
+    if key not in _translated:
+        known = _in_integers(facts[:-1])
+        _translated[key] = known and known.and_also(facts[-1])
+    return _translated[key]
+
+
 def _by_integers(facts):
     """The answer by integers, if all is linear. Sums of many bits are hard in bits and easy in integers, masks are
     the other way round."""
-    try:
-        known = integers.Facts(facts, is_impossible_in_integers)
-    except ValueError:
+    known = _in_integers(facts[:-1])
+    known = known and known.and_also(facts[-1])
+    if not known:
         return z3.unknown
     return _answer("QF_LIA", [*known.ranges.values(), *known.conditions], QUICK)
 

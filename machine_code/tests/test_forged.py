@@ -9,8 +9,7 @@ import tempfile
 import unittest
 
 from reading import library
-from tests.library import ARCHIVE, MODULE, add_tests, needs_module
-from tests.mutations import ASM, COMPILERS
+from tests.library import ARCHIVE, ASM, COMPILERS, MODULE, add_tests, needs_module
 
 C, V2, V3, DISPATCH = "functions_x86_64", "kernel_x86_64_v2", "kernel_x86_64_v3", "dispatch"
 ARM = "functions_aarch64"
@@ -318,13 +317,12 @@ class TestForged(unittest.TestCase):
     def test_right_archives(self):
         folder = self.folder()
         builds = ["dispatch", "functions_x86_64", "kernel_v2", "kernel_v3"]
-        self.assertEqual(library.builds_of(ARCHIVE), builds)
-        self.assertEqual(library.builds_of(_archive(folder)), builds)
+        self.assertEqual([*library.builds_of(ARCHIVE)], builds)
+        self.assertEqual([*library.builds_of(_archive(folder))], builds)
         for command in (["clang", "-g"], ["cc", "-g", "-gz"], ["cc", "-Wa,-mx86-used-note=yes"]):
             for member in MEMBERS:
                 subprocess.run([*command, "-c", ASM / f"{member}.S", "-o", folder / f"{member}.o"], check=True)
-            self.assertEqual(library.builds_of(_archive(folder)), builds)
-
+            self.assertEqual([*library.builds_of(_archive(folder))], builds)
 
     @needs_module
     def refuse_module(self, change, wanted):
@@ -336,7 +334,7 @@ class TestForged(unittest.TestCase):
         text = text[:at] + new + text[at + len(old) :]
         subprocess.run(["wat2wasm", "-", f"--output={file}"], input=text.encode(), check=True)
         with self.assertRaisesRegex(ValueError, re.escape(wanted)):
-            library.code_of(file, library.WASM)
+            library.builds_of(file)
 
 
 add_tests(TestForged, TestForged.refuse, FORGED)

@@ -10,8 +10,8 @@ import tempfile
 import unittest
 
 from reading import archive, images, linked
-from tests.library import AARCH64, ARCHIVE, TOP, add_tests, needs_aarch64
-from tests.mutations import ASM, COMPILERS, RUST, assembled_object
+from tests.library import (AARCH64, ARCHIVE, ASM, COMPILERS, RUST, TOP, add_tests, assembled_object,
+                           needs_aarch64)
 
 HAS_CLANG = shutil.which("clang") is not None
 # Other objects than those of ELF that `as` makes: how clang names the system, and the directives of the Rust crate.

@@ -16,8 +16,8 @@ import z3
 
 from execution.code import Code
 from execution.paths import Branch
+from execution.proofs import PROCESSORS
 from execution.state import byte, simple, word
-from programs import PROCESSORS
 from solver.questions import require
 
 FOLDER = pathlib.Path(__file__).resolve().parents[1]

@@ -6,20 +6,15 @@ import re
 import subprocess
 import tempfile
 
-from contracts import callees
 from contracts.dispatch import CHOICES, OR_NULL
 from contracts.kernels import KERNELS
 from contracts.library import FUNCTIONS
 from contracts.messages import MESSAGES
-from execution.code import Code
-from execution.paths import run
-from hints.loops import guess, heads
-from meanings import aarch64, webassembly, x86_64
+from execution import proofs
 
 ROOT = pathlib.Path(__file__).resolve().parents[3]
 ASSEMBLY, FOR_C = ROOT / "rust" / "src" / "asm", ROOT / "c" / "asm"
 MODULE = ROOT / "js" / "src" / "const_hex.wasm"
-PROCESSORS = {62: x86_64, 183: aarch64, None: webassembly}
 COMPILERS = {"v2": "cc", "v3": "cc", "aarch64": "aarch64-linux-gnu-gcc"}
 # Where it begins, a character in eax, whether it is a digit, what is done in a round, and where it returns.
 CHECK = """
@@ -175,6 +170,4 @@ def prove(content, call, ran=None, contracts=KERNELS, name=None):
     """Proves the first contract of a call, or that of a name."""
     contract = next(contract for contract in contracts
                     if contract.function == call and contract.name == (name or contract.name))
-    code = Code(content, PROCESSORS, contract.imported or callees.IMPORTED, callees.LOCAL)
-    starts = contract.starts(code)
-    return run(code, starts, () if contract.is_unrolled else heads(code, starts[0].at), guess, ran)
+    return proofs.prove(content, "functions_" if contract in (*FUNCTIONS, *MESSAGES) else "", contract, ran)

@@ -24,24 +24,12 @@ import tempfile
 MACHINE_CODE = pathlib.Path(__file__).resolve().parents[2]
 sys.path[:0] = [str(MACHINE_CODE)]
 
-from contracts import callees, dispatch  # noqa: E402
-from contracts.kernels import KERNELS  # noqa: E402
-from contracts.library import FUNCTIONS  # noqa: E402
-from contracts.messages import MESSAGES  # noqa: E402
-from execution.code import Code, is_module  # noqa: E402
-from execution.paths import run  # noqa: E402
-from hints.loops import guess, heads  # noqa: E402
-from meanings import aarch64, webassembly, x86_64  # noqa: E402
+from execution import proofs  # noqa: E402
 from reading import archive, expected, module, objects  # noqa: E402
+from reading.library import WASM, is_module, read  # noqa: E402
 from solver.questions import Refused  # noqa: E402
 
 C, SAME = MACHINE_CODE.parent / "c", pathlib.Path(__file__).with_name("same.mjs")
-PROCESSORS = {62: x86_64, 183: aarch64, None: webassembly}
-WASM, IN_MODULE = "wasm", ("encode", "decoder_finish")
-# By how the names of builds begin.
-CONTRACTS = {"kernel": KERNELS, "functions": [*FUNCTIONS, *MESSAGES],
-             "dispatch": [*dispatch.CHOICES, *dispatch.OR_NULL],
-             WASM: [contract for contract in FUNCTIONS if contract.function in IN_MODULE]}
 # So many seconds have an answer, and what runs, which takes long by QEMU.
 MOST_SECONDS, TO_RUN = 120, 900
 WRAPPED = [f"-Wl,--wrap=const_hex_kernel_{kernel}" for kernel in ("check", "fill", "read")]
@@ -69,7 +57,7 @@ def changed_module(content, some):
         except ValueError:
             continue
         names = [name for name in before if after.get(name) != before[name]]
-        if len(names) == 1 and concerned(module.parse(content), WASM, names[0]):
+        if len(names) == 1 and concerned(content, WASM, names[0]):
             return other, names[0], at, bit
 
 
@@ -100,10 +88,10 @@ def change(content, some):
     return content[:at] + bytes([content[at] ^ 1 << bit]) + content[at + 1 :], name, at - header.offset, bit
 
 
-def concerned(obj, build, section):
+def concerned(content, build, section):
     """The contracts of the function that a section has, or of those that refer to it."""
-    own, others = [], []
-    for contract in CONTRACTS[build.partition("_")[0]]:
+    obj, own, others = read(content), [], []
+    for contract in proofs.contracts_of(build, content):
         names = obj.symbols.keys() - obj.exported if contract.is_local else obj.exported
         for name in names:
             if re.fullmatch(contract.symbol, name):
@@ -117,12 +105,9 @@ def concerned(obj, build, section):
 def reason(content, build, section):
     """Why an object is refused, or None."""
     try:
-        obj = module.parse(content, "memory") if build == WASM else objects.read(content)
-        expected.check_module(obj) if build == WASM else expected.check(obj, build, False)
-        for contract in concerned(obj, build, section):
-            code = Code(content, PROCESSORS, contract.imported or callees.IMPORTED, callees.LOCAL)
-            starts = contract.starts(code)
-            run(code, starts, () if contract.is_unrolled else heads(code, starts[0].at), guess)
+        expected.check_module(read(content)) if build == WASM else expected.check(read(content), build, False)
+        for contract in concerned(content, build, section):
+            proofs.prove(content, build, contract)
     except (Refused, ValueError) as refused:
         return str(refused)
     return None

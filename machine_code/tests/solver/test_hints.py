@@ -4,6 +4,7 @@ import unittest
 from unittest import mock
 
 import programs
+from execution import proofs
 from execution.state import word
 from hints.loops import guess
 from solver.questions import Refused
@@ -36,7 +37,7 @@ class TestHints(unittest.TestCase):
                 setattr(hint, name, old | value if isinstance(value, dict) else value)
             return hint
 
-        with mock.patch.object(programs, "guess", guessed), self.assertRaisesRegex(Refused, said):
+        with mock.patch.object(proofs, "guess", guessed), self.assertRaisesRegex(Refused, said):
             programs.prove(programs.program("v3", call, **changes), call)
 
     def test_wrong_hints_are_refused(self):
@@ -45,6 +46,6 @@ class TestHints(unittest.TestCase):
                 self.refuse(*row)
 
     def test_no_hint_is_refused(self):
-        with mock.patch.object(programs, "guess", lambda code, entry: None):
+        with mock.patch.object(proofs, "guess", lambda code, entry: None):
             with self.assertRaisesRegex(Refused, "a loop without a hint"):
                 programs.prove(programs.program("v3", "check"), "check")

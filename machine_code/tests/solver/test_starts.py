@@ -12,8 +12,9 @@ import z3
 from contracts.functions import base
 from contracts.library import FUNCTIONS
 from execution.code import Code
-from execution.state import byte, word
-from programs import FOR_C, PROCESSORS, edited
+from execution.proofs import PROCESSORS
+from execution.state import byte
+from programs import FOR_C, edited
 
 CALLS = {contract.function: contract for contract in FUNCTIONS}
 

@@ -92,6 +92,8 @@ WRONG = [
     ("one character too much", "v3", "check", {"character": "mov cl, [rdi+1]"}, OUTSIDE),
     ("a character before the text", "v3", "check", {"start": "mov cl, [rdi-1]"}, OUTSIDE),
     ("a read beyond constants", "v3", "check", {"start": "mov al, [rip+table+32]"}, "an address without a constant"),
+    ("a place beyond a section", "v3", "check", {"start": "lea rax, [rip+table+0x1000]"}, "beyond the section of its"),
+    ("a place before a section", "v3", "check", {"start": "lea rax, [rip+table-0x1000]"}, "beyond the section of its"),
     ("a vector beyond constants", "v3", "check", {"start": "movdqu xmm0, [rip+table+17]"}, OUTSIDE),
     ("an address without a relocation", "v3", "check", {"start": "mov al, [rip+0x40]"}, "an address without its reloc"),
     ("a call of another library", "v3", "check", {"start": "call memcpy"}, "it leaves the code"),
