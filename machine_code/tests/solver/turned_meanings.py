@@ -228,7 +228,8 @@ class Compared:
         is_read = around & self.reading or not around and not concerned
         parts = [at for at, (_, _, mnemonic) in enumerate(self.parts)
                  if is_read or around & self.lines[at] or concerned & {mnemonic, mnemonic.removeprefix("v")}]
-        parts.sort(key=lambda at: (file, place.node.lineno) not in self.lines[at])
+        text = (MEANINGS / f"{file}.py").read_text().splitlines()[place.node.lineno - 1]
+        parts.sort(key=lambda at: ((file, place.node.lineno) not in self.lines[at], f'{self.parts[at][2]}"' not in text))
         try:
             code = self._read(meanings) if is_read else copy.copy(self.runner.code)
         except Exception:

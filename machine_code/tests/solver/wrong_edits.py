@@ -181,7 +181,8 @@ WRONG = [
      "i32.const 1; i32.const 2; local.get 0; i32.load8_u; select; local.set 5; end", SECRET),
     ("a constant is written", "wasm", "encode", "", "i32.const 4192; i32.const 0; i32.store8", "is written"),
     ("the search counts in 12 bits", "wasm", "decoder_fail", "i32.const 4; i32.add; local.tee 6",
-     "i32.const 4; i32.add; i32.const 20; i32.shl; i32.const 20; i32.shr_u; local.tee 6", "nothing counts down", None, SEARCH),
+     "i32.const 4; i32.add; i32.const 20; i32.shl; i32.const 20; i32.shr_u; local.tee 6", "nothing counts down", None,
+     SEARCH),
     ("the stack is not restored", "wasm", "decoder_finish", "", "i32.const 4080; global.set 0",
      "the stack pointer is not in the stack"),
 ]
