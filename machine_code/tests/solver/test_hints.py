@@ -12,7 +12,8 @@ from solver.questions import Refused
 PASSES, AT_HEAD = "a character is passed that may be no digit", "at the head of a loop: "
 # What is wrong, the function, what is changed in it, how the hint is, and what is said of it.
 WRONG = [
-    ("a step that is too great", "check", {}, {"steps": {"rdi": 2}}, f"{AT_HEAD}rdi"),
+    ("a step that is too great", "check", {}, {"steps": {"rdi": 2}}, "may lie outside of input"),
+    ("a step that is none", "check", {}, {"steps": {"rdi": 0}}, f"{AT_HEAD}rdi"),
     ("a register that does not stay", "check", {}, {"steps": {"rax": 0}}, f"{AT_HEAD}rax"),
     ("a vector that does not stay", "check", {"round": "vpxor xmm1, xmm1, xmm1"}, {"kept": [1]}, f"{AT_HEAD}vector 1"),
     ("a wide register that is used", "check", {"round": "vpxor ymm1, ymm1, ymm1", "end": "vzeroupper"},
@@ -20,7 +21,6 @@ WRONG = [
     ("no rounds", "check", {}, {"bound": lambda entry: word(0)}, AT_HEAD),
     ("rounds without a bound", "check", {}, {"bound": lambda entry: word(-1)}, "the number of rounds"),
     ("what holds before the first round alone", "check", {}, {"guards": lambda k: [k == 0]}, AT_HEAD),
-    ("nothing that counts down", "check", {}, {"guards": lambda k: []}, "may lie outside of input"),
     ("more that is read", "check", {}, {"read": lambda k: k + 1}, PASSES),
     ("nothing that is read", "check", {}, {"read": lambda k: word(0)}, PASSES),
     ("more that is written", "fill", {}, {"written": lambda k: 2 * k + 2}, "a character of the text is left out"),
