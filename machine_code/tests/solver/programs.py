@@ -137,12 +137,14 @@ def text_of(build):
 
 
 def parts_of(build, function):
-    """Where functions, constants or macros of a build with such a name begin and end."""
+    """Where functions, constants or macros of a build with such a name begin and end; in the module, where a function
+    does that is exported, or has such a text."""
     text = text_of(build)
     if build == WASM:
-        number = int(re.search(rf'export "const_hex_{function}" \(func (\d+)\)', text)[1])
-        body = list(re.finditer(r"^\(func .*\n(?:\(local.*\n)?((?:(?!\().*\n)*)", text, re.M))[number]
-        return [body.span(1)]
+        bodies = list(re.finditer(r"^\(func .*\n(?:\(local.*\n)?((?:(?!\().*\n)*)", text, re.M))
+        exported = re.search(rf'export "const_hex_{function}" \(func (\d+)\)', text)
+        found = [bodies[int(exported[1])]] if exported else [body for body in bodies if function in body[1]]
+        return [body.span(1) for body in found]
     name = rf"(const_hex_([\d_]+_|body_|message_|kernel_)?)?{function}(_nonnull)?(_v\d)?"
     starts = re.finditer(rf"^(function|constant|\.macro) (SYMBOL\()?{name}\b.*\n", text, re.M)
     return [(start.end(), text.index("\n\n", start.end())) for start in starts]

@@ -37,8 +37,6 @@ WRAPPED = [f"-Wl,--wrap=const_hex_kernel_{kernel}" for kernel in ("check", "fill
 TOOLS = {62: (["cc", "-pthread", *WRAPPED], []),
          183: (["aarch64-linux-gnu-gcc", "-pthread", "-DCONST_HEX_ONE_BUILD"],
                ["qemu-aarch64", "-L", "/usr/aarch64-linux-gnu"])}
-
-
 NO_ANSWER = "no answer in time"
 
 

@@ -60,12 +60,12 @@ class TestStarts(unittest.TestCase):
         self.assertEqual(found, 1, (call, text, decoder))
 
     def test_texts(self):
-        for text in [self.text() for _ in range(60)]:
+        for text in [self.text() for _ in range(20)]:
             for call in ("check", "decode", "decode_exact"):
                 self.assert_one_start(call, text)
 
     def test_decoders(self):
-        for _ in range(60):
+        for _ in range(8):
             decoder, is_ok = ctypes.create_string_buffer(16), 1
             for chunk in [self.text()[self.some.randrange(3) :] for _ in range(5)]:
                 self.assert_one_start("decoder_update", chunk, decoder.raw)

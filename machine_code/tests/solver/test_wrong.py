@@ -29,6 +29,8 @@ OUTSIDE, NOT_IN_STACK, AT_HEAD = "may lie outside", "the stack pointer is not in
 # Goes on if and only if ten times a tenth of a length is at most the length, and returns true otherwise.
 TENTH = ("mov rax, rsi; movabs r8, {}; mul r8; shr rdx, {}; lea rax, [rdx+rdx*4]; add rax, rax; cmp rax, rsi; jbe 5f; "
          "mov eax, 1; ret; 5: ")
+# Some lengths from 130 on, and one of them in rax.
+SOME = "cmp rsi, 130; jb 1f; mov eax, esi; and eax, 127; cmp eax, 22; jne 1f; mov rax, rsi"
 # What is wrong, the processor's level, the function, what is changed, and what is said of it.
 WRONG = [
     ("the OR of three characters compared by the carry", "v3", "check",
@@ -105,6 +107,24 @@ WRONG = [
     ("a length of one kind", "v3", "check",
      {"start": "mov rax, rsi; and rax, 128; je 1f; cmp rsi, 1000; jb 1f; dec rsi"}, PASSES),
     ("a sum that carries", "v3", "check", {"start": "mov rax, rsi; add rax, -1000; jb 1f; mov eax, 1; ret"}, PASSES),
+    *((what, "v3", "check", {"start": f"{start}; mov eax, 1; ret"}, PASSES) for what, start in (
+        ("one length", "movabs rax, 0x10000000000; cmp rsi, rax; jne 1f"),
+        ("all lengths from one on", "movabs rax, 0x200000000; cmp rsi, rax; jb 1f"),
+        ("a sum that is zero", f"{SOME}; not rax; inc rax; add rax, rsi; jne 1f"),
+        ("a sum that wraps", f"{SOME}; movabs rcx, 0x8000000000000000; add rax, rcx; add rax, rcx; cmp rax, rsi; "
+                             "jne 1f"),
+        ("a difference that wraps", "lea rax, [rsi-8]; cmp rax, rsi; jb 1f"),
+        ("equal pointers", "lea rax, [rdi+rsi]; cmp rax, rdi; je 1f"),
+        ("some bits of an address", "mov eax, edi; and eax, 7; jne 1f"),
+        ("a constant that a length chooses",
+         "mov ecx, esi; and ecx, 8; lea rax, [rip+table]; cmp byte ptr [rax+rcx], 1; jne 1f"),
+    )),
+    ("some bits of a length", "v3", "check", {"start": "mov eax, esi; and eax, 15; cmp eax, 7; jne 1f; dec rsi"},
+     PASSES),
+    ("a place beyond constants that a length chooses", "v3", "check",
+     {"start": "mov ecx, esi; and ecx, 32; lea rax, [rip+table]; mov al, [rax+rcx]"}, OUTSIDE),
+    ("a pointer that is cut", "v3", "check", {"start": "mov edi, edi"}, "an address in"),
+    ("a pointer that is cut", "aarch64", "check", {"start": "mov w0, w0"}, "an address in"),
     ("an address in the upper half", "v3", "check",
      {"start": "mov rax, rdi; shr rax, 63; test rax, rax; je 1f; mov eax, 1; ret"}, PASSES),
     ("the flag of a shift", "v3", "check", {"start": "mov rax, rdi; shr rax, 63; jb 1f"}, "a flag that is not known"),
@@ -171,6 +191,7 @@ RIGHT = [("a loop over bytes", "v3", call, {}) for call in ("check", "fill", "re
     ("a loop over bytes", "v2", "check", {}), ("a loop over bytes", "aarch64", "check", {}),
     ("a quotient by ten", "v3", "check", {"start": TENTH.format("0xcccccccccccccccd", 3)}),
     ("a stack that is used", "v3", "check", {"start": "push rbx; mov rbx, rsi; mov rsi, rbx; pop rbx"}),
+    ("a pointer in a vector", "v3", "check", {"start": "vmovq xmm0, rdi; vmovq rdi, xmm0"}),
     ("a wide register that is cleared", "v3", "check", {"start": "vpxor ymm0, ymm0, ymm0; vzeroupper"}),
     ("a call", "v3", "check", {"start": "call helper"}),
     ("a call", "aarch64", "check", {"start": "mov x9, x30; bl helper; mov x30, x9"}),

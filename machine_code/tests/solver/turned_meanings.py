@@ -223,12 +223,15 @@ class Compared:
         """Whether a change is noticed, which is looked for first where its line runs."""
         meanings, around = modules[self.kind], {(file, at) for at in range(*place.lines or (0, 0))}
         # In a table of instructions, one or two are concerned.
-        key = place.name.startswith(("HANDLERS", "VECTORS")) and place.name.partition(".")[2]
-        concerned = set() if around else {key} if key else {*re.findall(r"'(\w+)'", said)}
+        table, _, key = place.name.partition(".")
+        concerned = {key} if key else {*re.findall(r"'([\w.]+)'", said)}
+        concerned = concerned if table in ("HANDLERS", "VECTORS") and not around else set()
         is_read = around & self.reading or not around and not concerned
         parts = [at for at, (_, _, mnemonic) in enumerate(self.parts)
                  if is_read or around & self.lines[at] or concerned & {mnemonic, mnemonic.removeprefix("v")}]
-        parts.sort(key=lambda at: (file, place.node.lineno) not in self.lines[at])
+        text = (MEANINGS / f"{file}.py").read_text().splitlines()[place.node.lineno - 1]
+        parts.sort(key=lambda at: ((file, place.node.lineno) not in self.lines[at],
+                                   f'{self.parts[at][2]}"' not in text))
         try:
             code = self._read(meanings) if is_read else copy.copy(self.runner.code)
         except Exception:

@@ -5,8 +5,8 @@ OUTSIDE, UNWRITTEN = "may lie outside", "output is read"
 CALL_FILL, CALL_CHECK = "call SYMBOL(const_hex_kernel_fill)", "call SYMBOL(const_hex_kernel_check)"
 CALL_READ, STACK = "call SYMBOL(const_hex_kernel_read)", "the stack of a function that is called"
 NOT_THIS_CPU, VERSION = "not the one for this CPU", "the version is not"
-# In the module, what encodes has an instruction that no other function has, and so has what searches.
-LANES, SEARCH = "i16x8.extend_high_i8x16_u", "i32.store8 offset=5"
+# An instruction that no other function of the module has than what searches in a chunk.
+SEARCH = "i32.store8 offset=5"
 C, ARM_C, ARM = "functions_x86_64", "functions_aarch64", "dispatch for AArch64"
 FIND, FAIL = "find_invalid_character", "decoder_fail"
 # What `encode` does first, to have in r9 how many bytes the buffer has beyond 2n + 4 and to keep rdx in r10.
@@ -175,14 +175,14 @@ WRONG = [
     ("the local error is too high", ARM, "decode", "sp, #16", "sp, #24", "the local error is not in the stack",
      "the error is NULL", "or_null"),
     # The module
-    ("7 bytes are encoded as 8", "wasm", "encode", "local.get 1; i32.const 7; i32.gt_u",
-     "local.get 1; i32.const 6; i32.gt_u", f"the module traps|{OUTSIDE}", "flags 4"),
-    ("a size that is too small", "wasm", "encode", "i32.le_u", "i32.ne", f"the module traps|{OUTSIDE}|not fit"),
     ("a byte decides an address", "wasm", "encode", "", "block; local.get 1; i32.eqz; br_if 0; "
      "local.get 0; i32.load8_u; i32.load8_u offset=4192; local.set 5; end", "an address depends on bytes"),
     ("a byte decides a select", "wasm", "encode", "", "block; local.get 1; i32.eqz; br_if 0; "
      "i32.const 1; i32.const 2; local.get 0; i32.load8_u; select; local.set 5; end", SECRET),
     ("a constant is written", "wasm", "encode", "", "i32.const 4192; i32.const 0; i32.store8", "is written"),
+    ("the search counts in 12 bits", "wasm", "decoder_fail", "i32.const 4; i32.add; local.tee 6",
+     "i32.const 4; i32.add; i32.const 20; i32.shl; i32.const 20; i32.shr_u; local.tee 6", "nothing counts down", None,
+     SEARCH),
     ("the stack is not restored", "wasm", "decoder_finish", "", "i32.const 4080; global.set 0",
      "the stack pointer is not in the stack"),
 ]
