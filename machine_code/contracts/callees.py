@@ -148,8 +148,8 @@ def _first_invalid(state, text, first, count):
     if none := state.with_digits(start + first, count - first):
         yield none, count, byte(0)
     some = state.when(z3.And(z3.ULE(first, at), z3.ULT(at, count)), state.at)
-    if some := some and some.without_digit(start + at):
-        some.know_digits(start + first, at - first)
+    some = some and some.without_digit(start + at)
+    if some := some and some.with_no_other(start + first, at - first):
         yield some, at, some.byte_of_input(start + at)
 
 
