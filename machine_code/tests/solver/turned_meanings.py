@@ -5,8 +5,8 @@
 
 A change is made in the syntax tree of a file in meanings/: another operation, another order, a number that is greater
 by one, a statement that is missing. The processor, QEMU and Node have to notice it by the states of test_meanings.py
-and test_webassembly.py, unless EQUAL says why it means the same. COUNT changes are drawn, or all are tried. The last
-line is "N passed, M failed".
+and test_webassembly.py, unless EQUAL says why it means the same. COUNT changes are drawn, or one for each meaning and
+each function and table that meanings share. The last line is "N passed, M failed".
 """
 
 import argparse
@@ -293,7 +293,9 @@ def main():
     parser.add_argument("--seed", type=int, default=random.getrandbits(32))
     parser.add_argument("--jobs", type=int, default=multiprocessing.cpu_count())
     options, every = parser.parse_args(), list(changes())
-    some = random.Random(options.seed).sample(every, options.count or len(every))
+    random.Random(options.seed).shuffle(every)
+    of_each = {change[-1].partition(",")[0]: change for change in every}
+    some = every[: options.count] if options.count else [*of_each.values()]
     failed = 0
     with multiprocessing.Pool(options.jobs) as pool:
         for said, is_right in pool.imap_unordered(task, some):
