@@ -30,14 +30,14 @@ import test_webassembly  # noqa: E402
 
 MEANINGS = FOLDER.parents[1] / "meanings"
 # The files in the order in which they import each other, and what compares each.
-FILES = {"lanes": ("x86_64_v2", "x86_64_v3", "aarch64", "webassembly"), "x86_64_vectors": ("x86_64_v2", "x86_64_v3"),
-         "aarch64_vectors": ("aarch64",), "x86_64": ("x86_64_v2", "x86_64_v3"), "aarch64": ("aarch64",),
-         "webassembly": ("webassembly",)}
+OF_X86_64, OF_AARCH64 = ("x86_64_v2", "x86_64_v3", "functions_x86_64"), ("aarch64", "functions_aarch64")
+FILES = {"lanes": (*OF_X86_64, *OF_AARCH64, "webassembly"), "x86_64_vectors": OF_X86_64, "aarch64_vectors": OF_AARCH64,
+         "x86_64": OF_X86_64, "aarch64": OF_AARCH64, "webassembly": ("webassembly",)}
 # What is no meaning of an instruction that runs alone: programs of test_wrong.py show it, and test_starts.py the calls.
 # What follows the first ALL does not belong to the module, where Node compares it.
 ELSEWHERE = ("instructions", "follows", "_is_jump", "_is_target", "_is_page", "enter", "return_address", "returned",
-             "arrive", "_lay_out", "leave", "call", "ret", "jump", "cpuid", "xgetbv", "reported")
-ALL = 10
+             "arrive", "_lay_out", "_is_alone", "leave", "call", "ret", "jump", "cpuid", "xgetbv", "reported")
+ALL = 11
 TURNED = {ast.Add: ast.Sub, ast.Sub: ast.Add, ast.Mult: ast.Add, ast.BitAnd: ast.BitOr, ast.BitOr: ast.BitAnd,
           ast.BitXor: ast.BitOr, ast.LShift: ast.RShift, ast.RShift: ast.LShift, ast.FloorDiv: ast.Mult,
           ast.Mod: ast.FloorDiv, ast.Eq: ast.NotEq, ast.NotEq: ast.Eq, ast.Lt: ast.LtE, ast.LtE: ast.Lt,
@@ -197,7 +197,7 @@ class Compared:
     """What compares instructions with their meanings, and which lines of meanings each of them runs."""
 
     def __init__(self, name):
-        self.name, self.kind = name, re.sub("_v[23]$", "", name)
+        self.name, self.kind = name, re.sub("^functions_|_v[23]$", "", name)
         if name == "webassembly":
             self.runner, self.states = test_webassembly.Node(), test_webassembly.STATES
             self.parts = [(text, text, text.split()[0]) for text in self.runner.names]
@@ -205,10 +205,11 @@ class Compared:
             self.runner, self.states = test_meanings.processor(name), test_meanings.STATES
             self.parts = [(form, i, form.split()[0]) for form, found in self.runner.forms.items() for i in found]
         meanings = sys.modules[f"meanings.{self.kind}"]
-        # The lines that run when instructions are read, and those that run when each of them does.
+        # The lines that run when instructions are read, and those that run when one of each form does.
         self.reading = traced(lambda: self._read(meanings))
-        self.lines = [traced(lambda form=form, i=i: self.runner.difference(i, f"{form} 0"))
-                      for form, i, _ in self.parts]
+        of_forms = {form: traced(lambda form=form, i=i: self.runner.difference(i, f"{form} 0"))
+                    for form, i in {form: i for form, i, _ in self.parts}.items()}
+        self.lines = [of_forms[form] for form, _, _ in self.parts]
 
     def _read(self, meanings):
         """The code of the runner, read by other meanings."""
