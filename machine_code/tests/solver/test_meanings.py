@@ -34,7 +34,8 @@ MORE = {
         vpandn ymm0, ymm1, ymm2; vpaddusb ymm0, ymm1, ymm2; vpunpckhbw ymm0, ymm1, ymm2; vpunpcklbw ymm0, ymm1, ymm2
         vpunpcklwd ymm0, ymm1, ymm2; vpunpckldq ymm0, ymm1, ymm2; vpunpcklqdq ymm0, ymm1, ymm2; vpermq ymm0, ymm1, 0x8d
         vpxor ymm0, ymm1, ymm2; vpand ymm0, ymm1, ymm2; vpinsrq xmm0, xmm1, rax, 1; shr eax, 3; inc rax; dec ecx
-        vinserti128 ymm0, ymm1, xmm2, 1; vextracti128 xmm0, ymm1, 0; vextracti128 [rax], ymm1, 0
+        vinserti128 ymm0, ymm1, xmm2, 1; vinserti128 ymm0, ymm1, xmm2, 0
+        vextracti128 xmm0, ymm1, 0; vextracti128 [rax], ymm1, 0
         vpextrb eax, xmm1, 3; vpinsrd xmm0, xmm1, eax, 2
         not rax; xorps xmm0, xmm1; vxorps ymm0, ymm1, ymm2; vmovaps ymm0, ymm1; vmovups ymm0, [rax]; mul rcx""",
     "aarch64": """

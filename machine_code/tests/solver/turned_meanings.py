@@ -50,7 +50,21 @@ OTHERS = {one: other for pair in PAIRS for one, other in (pair, pair[::-1])} | {
     "logic_flags": "difference_flags", "bytes_of": "list"}
 # Of these the last two operands are turned.
 LAST_TWO = ("If", "either", "Concat", "ULT", "ULE", "UGT", "UGE")
-EQUAL = {}
+# By the reason, the changes that no comparison can notice.
+REASONS = {
+    "it means the same": (
+        "aarch64 page: 4 -> 5",
+        "aarch64_vectors move: to.size < by.size -> to.size <= by.size",
+        "aarch64_vectors narrow: z3.LShR -> lambda a, by: a >> by",
+        "webassembly State.leave_function: (self.general, self.vectors) -> (self.vectors, self.general)"),
+    "less is known of the flags, which refuses more": (
+        "x86_64 inc_dec.handler: s.flags or {} -> s.flags and {}",),
+    "test_wrong.py has programs with accesses that are not aligned": (
+        "x86_64 State.lane: self.is_legacy and (size or o.size) == 16 -> self.is_legacy or (size or o.size) == 16",
+        *[f"x86_64_vectors VECTORS.{name}: {change}" for names, change in (
+            (("movdqa", "movaps"), "True -> False"), (("movdqu", "movups"), "False -> True")) for name in names]),
+}
+EQUAL = {said for changes in REASONS.values() for said in changes}
 
 
 def alternatives(node):
@@ -158,10 +172,9 @@ def _is_check(node):
 def changes():
     """All changes, as the file, the number of the node among its places, that of the change, and what it is."""
     for file in FILES:
-        lines = (MEANINGS / f"{file}.py").read_text().splitlines()
         for at, place in enumerate(Places(file).found):
             for number, (said, _) in enumerate(alternatives(place.node)):
-                yield file, at, number, f"{file} {place.name}, {lines[place.node.lineno - 1].strip()[:80]}: {said}"
+                yield file, at, number, f"{file} {place.name}: {said}"
 
 
 def loaded(file, at, number):
@@ -284,8 +297,11 @@ def is_noticed(change):
 
 
 def task(change):
-    """A change, and whether it is noticed, or means the same."""
-    return change[-1], is_noticed(change) != (change[-1] in EQUAL)
+    """What a change is, whether it is noticed, and whether that is right."""
+    file, at, _, said = change
+    noticed = is_noticed(change)
+    what = f"{'' if noticed else 'not '}noticed: {said} (line {Places(file).found[at].node.lineno})"
+    return what, noticed != (said in EQUAL)
 
 
 def main():
@@ -295,13 +311,13 @@ def main():
     parser.add_argument("--jobs", type=int, default=multiprocessing.cpu_count())
     options, every = parser.parse_args(), list(changes())
     random.Random(options.seed).shuffle(every)
-    of_each = {change[-1].partition(",")[0]: change for change in every}
+    of_each = {change[-1].partition(":")[0]: change for change in every}
     some = every[: options.count] if options.count else [*of_each.values()]
     failed = 0
     with multiprocessing.Pool(options.jobs) as pool:
-        for said, is_right in pool.imap_unordered(task, some):
+        for what, is_right in pool.imap_unordered(task, some):
             failed += not is_right
-            print(f"{'' if is_right else 'FAILED '}{'equal' if said in EQUAL else 'noticed'}: {said}", flush=True)
+            print(f"{'' if is_right else 'FAILED, '}{what}", flush=True)
     print(f"{len(some) - failed} passed, {failed} failed")
     return bool(failed)
 
