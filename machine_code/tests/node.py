@@ -45,7 +45,7 @@ FUNCTIONS = """
     i32.const 400 i32.const 7 i32.store8 end)
 (func (export "br_table")
   block block block i32.const 0 i32.load8_u i32.const 3 i32.and
-    br_table 2 0 1 2 end
+    br_table 2 0 1 0 end
     i32.const 64 i32.const 1 i32.store8 br 1 end
     i32.const 64 i32.const 2 i32.store8 end)
 (func (export "select") i32.const 64

@@ -13,7 +13,6 @@ PASSES, AT_HEAD = "a character is passed that may be no digit", "at the head of 
 # What is wrong, the function, what is changed in it, how the hint is, and what is said of it.
 WRONG = [
     ("a step that is too great", "check", {}, {"steps": {"rdi": 2}}, "may lie outside of input"),
-    ("a step that is none", "check", {}, {"steps": {"rdi": 0}}, f"{AT_HEAD}rdi"),
     ("a register that does not stay", "check", {}, {"steps": {"rax": 0}}, f"{AT_HEAD}rax"),
     ("a vector that does not stay", "check", {"round": "vpxor xmm1, xmm1, xmm1"}, {"kept": [1]}, f"{AT_HEAD}vector 1"),
     ("a wide register that is used", "check", {"round": "vpxor ymm1, ymm1, ymm1", "end": "vzeroupper"},
@@ -44,8 +43,3 @@ class TestHints(unittest.TestCase):
         for what, *row in WRONG:
             with self.subTest(what):
                 self.refuse(*row)
-
-    def test_no_hint_is_refused(self):
-        with mock.patch.object(proofs, "guess", lambda code, entry: None):
-            with self.assertRaisesRegex(Refused, "a loop without a hint"):
-                programs.prove(programs.program("v3", "check"), "check")

@@ -1,5 +1,6 @@
 """The meanings of instructions are compared with the processor, or with QEMU for AArch64: each form that occurs in the
-kernels, and each other instruction that has a meaning. Each that does nothing, or something else, is noticed."""
+kernels and in the functions for C, and each other instruction that has a meaning. Each that does nothing, or something
+else, is noticed."""
 
 import shutil
 import unittest
@@ -13,9 +14,9 @@ from meanings import aarch64, x86_64
 from meanings.lanes import SUBTRACT
 from meanings.x86_64_vectors import by_halves, by_units, legacy, shift_units
 from processor import NOT_ALONE, STATES, Processor  # noqa: F401
-from programs import kernel
+from programs import edited, kernel
 
-FUNCTION = r"const_hex_.*_check(_v[23])?"
+FUNCTION = r"const_hex_(.*_check(_v[23])?|version)"
 # Instructions with a meaning that are not in the kernels of today.
 MORE = {
     "x86_64_v2": """.intel_syntax noprefix
@@ -33,7 +34,8 @@ MORE = {
         vpandn ymm0, ymm1, ymm2; vpaddusb ymm0, ymm1, ymm2; vpunpckhbw ymm0, ymm1, ymm2; vpunpcklbw ymm0, ymm1, ymm2
         vpunpcklwd ymm0, ymm1, ymm2; vpunpckldq ymm0, ymm1, ymm2; vpunpcklqdq ymm0, ymm1, ymm2; vpermq ymm0, ymm1, 0x8d
         vpxor ymm0, ymm1, ymm2; vpand ymm0, ymm1, ymm2; vpinsrq xmm0, xmm1, rax, 1; shr eax, 3; inc rax; dec ecx
-        vinserti128 ymm0, ymm1, xmm2, 1; vextracti128 xmm0, ymm1, 0; vextracti128 [rax], ymm1, 0
+        vinserti128 ymm0, ymm1, xmm2, 1; vinserti128 ymm0, ymm1, xmm2, 0
+        vextracti128 xmm0, ymm1, 0; vextracti128 [rax], ymm1, 0
         vpextrb eax, xmm1, 3; vpinsrd xmm0, xmm1, eax, 2
         not rax; xorps xmm0, xmm1; vxorps ymm0, ymm1, ymm2; vmovaps ymm0, ymm1; vmovups ymm0, [rax]; mul rcx""",
     "aarch64": """
@@ -46,7 +48,8 @@ MORE = {
         ldurb w0, [x1, #-1]; sturb w0, [x1, #-1]; umulh x0, x1, x2; msub x0, x1, x2, x3; msub w0, w1, w2, wzr
         movk x0, #0xcccd; movk x0, #0x1234, lsl #48; movk w0, #0x7374, lsl #16; bfxil w0, w1, #2, #1
         bfxil x0, x1, #0, #9; adds x0, x1, w2, uxtw; cmp x0, x1, lsr #1; tbz x0, #63, 1f; nop; nop; 1: nop
-        tbnz w0, #3, 1f; nop; nop; 1: nop; cset w0, eq; cset w0, ne; cset w0, cs; cset w0, cc; cset w0, mi; cset w0, pl
+        tbnz w0, #3, 1f; nop; nop; 1: nop; b.ls 1f; nop; nop; 1: nop; b.gt 1f; nop; nop; 1: nop
+        cset w0, eq; cset w0, ne; cset w0, cs; cset w0, cc; cset w0, mi; cset w0, pl
         cset w0, vs; cset w0, vc; cset w0, hi; cset w0, ls; cset w0, ge; cset w0, lt; cset w0, gt; cset w0, le""",
 }
 
@@ -103,6 +106,9 @@ WRONG = {
 
 
 def processor(name):
+    """What runs the instructions of a kernel and of MORE, or those of the functions for C."""
+    if name.startswith("functions_"):
+        return Processor(edited(name, "version", "", ""), FUNCTION)
     more = f"\n.section .text.more, \"ax\"\n{MORE[name]}\n"
     return Processor(kernel(name, lambda text: text + more), FUNCTION)
 
@@ -121,6 +127,18 @@ class TestMeanings(unittest.TestCase):
         for mnemonic, wrong in [*none, *WRONG[name].items()]:
             with self.subTest(mnemonic), mock.patch.dict(found.meanings.HANDLERS, {mnemonic: wrong}):
                 self.assertTrue(next(found.differences({mnemonic}), None))
+
+    def compare_functions(self, name):
+        found = processor(name)
+        self.addCleanup(found.close)
+        self.assertEqual(list(found.differences()), [])
+
+    def test_functions_x86_64(self):
+        self.compare_functions("functions_x86_64")
+
+    @unittest.skipUnless(shutil.which("qemu-aarch64"), "qemu-aarch64 is missing")
+    def test_functions_aarch64(self):
+        self.compare_functions("functions_aarch64")
 
     def test_x86_64_v2(self):
         self.compare("x86_64_v2")

@@ -34,7 +34,7 @@ def library():
 
 def is_start(state, text, decoder):
     """Whether what is known at a start may hold with a text and a decoder, of buffers that are not NULL."""
-    solver = z3.Solver()
+    solver = z3.SolverFor("QF_BV")
     solver.add(*[fact.term for fact in state.facts], base("input") != 0, base("output") != 0)
     solver.add(z3.BitVec("p_n", 64) == len(text))
     for at, name in state.input.values():

@@ -11,4 +11,4 @@ import turned_meanings
 class TestTurned(unittest.TestCase):
     def test_changes_are_noticed(self):
         some = random.Random("some").sample(list(turned_meanings.changes()), 30)
-        self.assertEqual([said for said, is_right in map(turned_meanings.task, some) if not is_right], [])
+        self.assertEqual([what for what, is_right in map(turned_meanings.task, some) if not is_right], [])

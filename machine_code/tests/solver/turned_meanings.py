@@ -5,8 +5,8 @@
 
 A change is made in the syntax tree of a file in meanings/: another operation, another order, a number that is greater
 by one, a statement that is missing. The processor, QEMU and Node have to notice it by the states of test_meanings.py
-and test_webassembly.py, unless EQUAL says why it means the same. COUNT changes are drawn, or all are tried. The last
-line is "N passed, M failed".
+and test_webassembly.py, unless EQUAL says why it means the same. COUNT changes are drawn, or one for each meaning and
+each function and table that meanings share. The last line is "N passed, M failed".
 """
 
 import argparse
@@ -30,14 +30,14 @@ import test_webassembly  # noqa: E402
 
 MEANINGS = FOLDER.parents[1] / "meanings"
 # The files in the order in which they import each other, and what compares each.
-FILES = {"lanes": ("x86_64_v2", "x86_64_v3", "aarch64", "webassembly"), "x86_64_vectors": ("x86_64_v2", "x86_64_v3"),
-         "aarch64_vectors": ("aarch64",), "x86_64": ("x86_64_v2", "x86_64_v3"), "aarch64": ("aarch64",),
-         "webassembly": ("webassembly",)}
+OF_X86_64, OF_AARCH64 = ("x86_64_v2", "x86_64_v3", "functions_x86_64"), ("aarch64", "functions_aarch64")
+FILES = {"lanes": (*OF_X86_64, *OF_AARCH64, "webassembly"), "x86_64_vectors": OF_X86_64, "aarch64_vectors": OF_AARCH64,
+         "x86_64": OF_X86_64, "aarch64": OF_AARCH64, "webassembly": ("webassembly",)}
 # What is no meaning of an instruction that runs alone: programs of test_wrong.py show it, and test_starts.py the calls.
 # What follows the first ALL does not belong to the module, where Node compares it.
 ELSEWHERE = ("instructions", "follows", "_is_jump", "_is_target", "_is_page", "enter", "return_address", "returned",
-             "arrive", "_lay_out", "leave", "call", "ret", "jump", "cpuid", "xgetbv", "reported")
-ALL = 10
+             "arrive", "_lay_out", "_is_alone", "leave", "call", "ret", "jump", "cpuid", "xgetbv", "reported")
+ALL = 11
 TURNED = {ast.Add: ast.Sub, ast.Sub: ast.Add, ast.Mult: ast.Add, ast.BitAnd: ast.BitOr, ast.BitOr: ast.BitAnd,
           ast.BitXor: ast.BitOr, ast.LShift: ast.RShift, ast.RShift: ast.LShift, ast.FloorDiv: ast.Mult,
           ast.Mod: ast.FloorDiv, ast.Eq: ast.NotEq, ast.NotEq: ast.Eq, ast.Lt: ast.LtE, ast.LtE: ast.Lt,
@@ -50,7 +50,21 @@ OTHERS = {one: other for pair in PAIRS for one, other in (pair, pair[::-1])} | {
     "logic_flags": "difference_flags", "bytes_of": "list"}
 # Of these the last two operands are turned.
 LAST_TWO = ("If", "either", "Concat", "ULT", "ULE", "UGT", "UGE")
-EQUAL = {}
+# By the reason, the changes that no comparison can notice.
+REASONS = {
+    "it means the same": (
+        "aarch64 page: 4 -> 5",
+        "aarch64_vectors move: to.size < by.size -> to.size <= by.size",
+        "aarch64_vectors narrow: z3.LShR -> lambda a, by: a >> by",
+        "webassembly State.leave_function: (self.general, self.vectors) -> (self.vectors, self.general)"),
+    "less is known of the flags, which refuses more": (
+        "x86_64 inc_dec.handler: s.flags or {} -> s.flags and {}",),
+    "test_wrong.py has programs with accesses that are not aligned": (
+        "x86_64 State.lane: self.is_legacy and (size or o.size) == 16 -> self.is_legacy or (size or o.size) == 16",
+        *[f"x86_64_vectors VECTORS.{name}: {change}" for names, change in (
+            (("movdqa", "movaps"), "True -> False"), (("movdqu", "movups"), "False -> True")) for name in names]),
+}
+EQUAL = {said for changes in REASONS.values() for said in changes}
 
 
 def alternatives(node):
@@ -158,10 +172,9 @@ def _is_check(node):
 def changes():
     """All changes, as the file, the number of the node among its places, that of the change, and what it is."""
     for file in FILES:
-        lines = (MEANINGS / f"{file}.py").read_text().splitlines()
         for at, place in enumerate(Places(file).found):
             for number, (said, _) in enumerate(alternatives(place.node)):
-                yield file, at, number, f"{file} {place.name}, {lines[place.node.lineno - 1].strip()[:80]}: {said}"
+                yield file, at, number, f"{file} {place.name}: {said}"
 
 
 def loaded(file, at, number):
@@ -197,7 +210,7 @@ class Compared:
     """What compares instructions with their meanings, and which lines of meanings each of them runs."""
 
     def __init__(self, name):
-        self.name, self.kind = name, re.sub("_v[23]$", "", name)
+        self.name, self.kind = name, re.sub("^functions_|_v[23]$", "", name)
         if name == "webassembly":
             self.runner, self.states = test_webassembly.Node(), test_webassembly.STATES
             self.parts = [(text, text, text.split()[0]) for text in self.runner.names]
@@ -205,10 +218,11 @@ class Compared:
             self.runner, self.states = test_meanings.processor(name), test_meanings.STATES
             self.parts = [(form, i, form.split()[0]) for form, found in self.runner.forms.items() for i in found]
         meanings = sys.modules[f"meanings.{self.kind}"]
-        # The lines that run when instructions are read, and those that run when each of them does.
+        # The lines that run when instructions are read, and those that run when one of each form does.
         self.reading = traced(lambda: self._read(meanings))
-        self.lines = [traced(lambda form=form, i=i: self.runner.difference(i, f"{form} 0"))
-                      for form, i, _ in self.parts]
+        of_forms = {form: traced(lambda form=form, i=i: self.runner.difference(i, f"{form} 0"))
+                    for form, i in {form: i for form, i, _ in self.parts}.items()}
+        self.lines = [of_forms[form] for form, _, _ in self.parts]
 
     def _read(self, meanings):
         """The code of the runner, read by other meanings."""
@@ -283,8 +297,11 @@ def is_noticed(change):
 
 
 def task(change):
-    """A change, and whether it is noticed, or means the same."""
-    return change[-1], is_noticed(change) != (change[-1] in EQUAL)
+    """What a change is, whether it is noticed, and whether that is right."""
+    file, at, _, said = change
+    noticed = is_noticed(change)
+    what = f"{'' if noticed else 'not '}noticed: {said} (line {Places(file).found[at].node.lineno})"
+    return what, noticed != (said in EQUAL)
 
 
 def main():
@@ -293,12 +310,14 @@ def main():
     parser.add_argument("--seed", type=int, default=random.getrandbits(32))
     parser.add_argument("--jobs", type=int, default=multiprocessing.cpu_count())
     options, every = parser.parse_args(), list(changes())
-    some = random.Random(options.seed).sample(every, options.count or len(every))
+    random.Random(options.seed).shuffle(every)
+    of_each = {change[-1].partition(":")[0]: change for change in every}
+    some = every[: options.count] if options.count else [*of_each.values()]
     failed = 0
     with multiprocessing.Pool(options.jobs) as pool:
-        for said, is_right in pool.imap_unordered(task, some):
+        for what, is_right in pool.imap_unordered(task, some):
             failed += not is_right
-            print(f"{'' if is_right else 'FAILED '}{'equal' if said in EQUAL else 'noticed'}: {said}", flush=True)
+            print(f"{'' if is_right else 'FAILED, '}{what}", flush=True)
     print(f"{len(some) - failed} passed, {failed} failed")
     return bool(failed)
 
