@@ -66,7 +66,7 @@ def _judged(state, text, count):
         true = state.when(z3.And(*map(is_digit, characters)), state.at)
     are_digits = z3.And(*map(is_digit, characters))
     is_valid = other.choose(are_digits)
-    require(is_valid is not False, "a text that is never valid is read, and how long that takes may depend on its bytes")
+    require(is_valid is not False, "a text that is never valid is read: its bytes may decide how long that takes")
     if false := other.when(z3.Not(are_digits), state.at):
         false.may_leak |= is_valid is True
     return [(way, result) for way, result in ((true, 1), (false, 0)) if way]
