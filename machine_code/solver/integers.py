@@ -61,7 +61,10 @@ class Facts:
         if kind == z3.Z3_OP_EXTRACT:
             high, low = term.params()
             part = _divided(self._number(children[0]), 1 << low) if low else self._number(children[0])
-            return part if high == children[0].size() - 1 else self._cut(term, part)
+            if high == children[0].size() - 1:
+                return part
+            # A few bits are rarely all of a number.
+            return part % (1 << size) if size < 32 else self._cut(term, part)
         if kind == z3.Z3_OP_CONCAT:
             found = z3.IntVal(0)
             for child in children:
