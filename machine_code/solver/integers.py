@@ -55,22 +55,29 @@ class Facts:
             self.ranges[term.get_id()] = z3.And(0 <= number, number < 1 << size)
             return number
         if kind in (z3.Z3_OP_BADD, z3.Z3_OP_BMUL):
-            if term.get_id() not in self.sums:
-                total = self._sum(term)
-                self.sums[term.get_id()] = total if self.imply(0 <= total, total < 1 << size) else total % (1 << size)
-            return self.sums[term.get_id()]
+            return self._cut(term, self._sum(term))
         if kind == z3.Z3_OP_ITE:
             return z3.If(self.condition(children[0]), *map(self._number, children[1:]))
         if kind == z3.Z3_OP_EXTRACT:
             high, low = term.params()
-            part = self._number(children[0]) / (1 << low) if low else self._number(children[0])
-            return part if high == children[0].size() - 1 else part % (1 << high - low + 1)
+            part = _divided(self._number(children[0]), 1 << low) if low else self._number(children[0])
+            if high == children[0].size() - 1:
+                return part
+            # A few bits are rarely all of a number.
+            return part % (1 << size) if size < 32 else self._cut(term, part)
         if kind == z3.Z3_OP_CONCAT:
             found = z3.IntVal(0)
             for child in children:
                 found = found * (1 << child.size()) + self._number(child)
             return z3.simplify(found)
         raise ValueError(term)
+
+    def _cut(self, term, number):
+        """A number in the bits of a term, to which it is not reduced if it is that small."""
+        most = 1 << term.size()
+        if term.get_id() not in self.sums:
+            self.sums[term.get_id()] = number if self.imply(0 <= number, number < most) else number % most
+        return self.sums[term.get_id()]
 
     def _sum(self, term):
         """An integer that is the same but for a multiple of the power of two."""
@@ -84,3 +91,15 @@ class Facts:
         if kind == z3.Z3_OP_BMUL:
             raise ValueError(term)
         return self._number(term)
+
+
+def _divided(number, by):
+    """A number divided by another one and rounded down. What is a multiple in a sum is divided by itself."""
+    whole, rest = [], []
+    for part in number.children() if z3.is_add(number) else [number]:
+        factor, *others = part.children() if z3.is_mul(part) else [part]
+        if z3.is_int_value(factor) and factor.as_long() % by == 0:
+            whole.append(z3.Product(factor.as_long() // by, *others))
+        else:
+            rest.append(part)
+    return z3.Sum(*whole, (z3.Sum(rest) if rest else z3.IntVal(0)) / by)
