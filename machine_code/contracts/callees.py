@@ -66,7 +66,7 @@ def _judged(state, text, count):
         true = state.when(z3.And(*map(is_digit, characters)), state.at)
     are_digits = z3.And(*map(is_digit, characters))
     is_valid = other.choose(are_digits)
-    require(is_valid is not False, "a text that is never valid is read, and how long that takes may depend on its bytes")
+    require(is_valid is not False, "a text that is never valid is read: its bytes may decide how long that takes")
     if false := other.when(z3.Not(are_digits), state.at):
         false.may_leak |= is_valid is True
     return [(way, result) for way, result in ((true, 1), (false, 0)) if way]
@@ -148,8 +148,8 @@ def _first_invalid(state, text, first, count):
     if none := state.with_digits(start + first, count - first):
         yield none, count, byte(0)
     some = state.when(z3.And(z3.ULE(first, at), z3.ULT(at, count)), state.at)
-    if some := some and some.without_digit(start + at):
-        some.know_digits(start + first, at - first)
+    some = some and some.without_digit(start + at)
+    if some := some and some.with_no_other(start + first, at - first):
         yield some, at, some.byte_of_input(start + at)
 
 

@@ -174,8 +174,8 @@ def first_invalid(state):
     length and 0."""
     parts = list(state.known_digits())
     for index, character in list(state.input.values()):
-        is_invalid = z3.And(z3.Not(is_digit(character)), z3.ULE(state.body, index), z3.ULT(index, N))
-        if state.holds(is_invalid) and covers(state, state.body, index, parts):
+        is_in = z3.And(z3.ULE(state.body, index), z3.ULT(index, N))
+        if state.is_known(character, False) and state.holds(is_in) and covers(state, state.body, index, parts):
             return index, character
     must_be_digits(state, N)
     return N, byte(0)

@@ -309,12 +309,12 @@ class DecoderUpdate(Exported):
         return simple(z3.LShR(N - state.body + state.waiting, 1))
 
     def waits(self, state):
-        """1 if a digit waits for the next chunk, else 0."""
-        return z3.Extract(0, 0, N - state.body + state.waiting)
+        """Whether a digit waits for the next chunk."""
+        return N - state.body + state.waiting - 2 * self.count(state) == 1
 
     def is_alone(self, state, offset):
         """The digit of this chunk that waits for the next one."""
-        return state.holds(z3.And(self.waits(state) == 1, offset == N - 1))
+        return state.holds(z3.And(self.waits(state), offset == N - 1))
 
     def store(self, state, offset, lane):
         state.must(z3.ULE(decoder_of(state)[2], 1), "written after an error")
@@ -356,10 +356,10 @@ class DecoderUpdate(Exported):
         must_be_size(state, "written", 0, self.count(state))
         must_be_size(state, "decoder", 0, moved(state, position, N))
         waits = self.waits(state)
-        must_be(state, "decoder", state.WORD + 1, 1, z3.ZeroExt(7, waits))
-        if other := state.when(z3.And(waits == 1, N == 0), None):
+        must_be(state, "decoder", state.WORD + 1, 1, z3.If(waits, byte(1), byte(0)))
+        if other := state.when(z3.And(waits, N == 0), None):
             must_be(other, "decoder", state.WORD, 1, character)
-        if other := state.when(z3.And(waits == 1, N != 0), None):
+        if other := state.when(z3.And(waits, N != 0), None):
             must_be(other, "decoder", state.WORD, 1, other.byte_of_input(N - 1))
 
 

@@ -12,6 +12,10 @@ from reading import library
 from solver.questions import require
 
 
+# No loader has to keep a greater alignment.
+PAGE = 4096
+
+
 class Code:
     def __init__(self, content, processors, imported=None, local=None):
         """With what functions do that are called by their contracts: those of other objects, and local ones."""
@@ -25,8 +29,8 @@ class Code:
                     self._references[section.address + offset] = kind, self._named(symbol, addend)
             elif not section.is_writable:
                 # An access beyond the end of a section is one to what is not known.
-                region = Region(f"constants_{at}", word(len(section.content)), section.alignment, section.content,
-                                self._targets(section))
+                region = Region(f"constants_{at}", word(len(section.content)), min(section.alignment, PAGE),
+                                section.content, self._targets(section))
                 self.constants[section.address] = section, region
             else:
                 # It is kept between calls, and all threads have it.

@@ -161,9 +161,9 @@ class State:
     def either(self, condition, one, other):
         """The first of two terms where a condition holds, else the second: just that one, if it is known which."""
         if not is_secret(condition):
-            known = [term for term, way in ((one, condition), (other, z3.Not(condition))) if self.holds(way)]
-            if known:
-                return known[0]
+            for term, way in (one, condition), (other, z3.Not(condition)):
+                if self.holds(way):
+                    return term
         return simple(z3.If(condition, one, other))
 
     def choose(self, choice):
@@ -325,23 +325,25 @@ class State:
 
     def with_digits(self, offset, count):
         """This state where a part of the input has digits alone, or None if it can't."""
-        other, digits = self.copy(), []
-        other.know_digits(offset, count)
-        for at, name in self.input.values():
-            is_digit, is_in = self.contract.is_digit(name), z3.ULT(at - offset, count)
-            about = relevant(self.facts, is_digit, 0)
-            if other and not is_impossible([*about, z3.Not(is_digit)]):
-                if other.holds(is_in):
-                    digits.append(is_digit)
-                elif is_impossible([*about, is_digit]):
-                    other = other.when(z3.Not(is_in), other.at)
+        other = self.with_no_other(offset, count)
+        digits = [self.contract.is_digit(name) for at, name in self.input.values()
+                  if other and not self.is_known(name, True) and other.holds(z3.ULT(at - offset, count))]
         return other and other.when(z3.And(*digits), other.at)
 
-    def know_digits(self, offset, count):
-        """Notes that a part of the input has digits alone."""
-        offset, count = simple(offset), simple(count)
-        self.reads.append((offset, count))
-        self.digits[offset.get_id(), str(count)] = True
+    def with_no_other(self, offset, count):
+        """The same, but only what is known of each character by itself shows that it can't."""
+        other, offset, count = self.copy(), simple(offset), simple(count)
+        other.reads.append((offset, count))
+        other.digits[offset.get_id(), str(count)] = True
+        for at, name in self.input.values():
+            if other and self.is_known(name, False):
+                other = other.when(z3.Not(z3.ULT(at - offset, count)), other.at)
+        return other
+
+    def is_known(self, name, is_digit):
+        """Whether a character is known, by itself, to be a digit, or to be none."""
+        wanted = self.contract.is_digit(name) == is_digit
+        return is_impossible([*relevant(self.facts, wanted, 0), z3.Not(wanted)])
 
     def without_digit(self, offset):
         """This state where a character of the input is no digit, or None if it can't be."""

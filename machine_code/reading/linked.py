@@ -101,8 +101,18 @@ class Comparison:
         if not section.is_writable:
             fields = {offset: (objects.RELOCATIONS[obj.machine][kind], symbol, addend)
                       for offset, kind, symbol, addend in section.references}
+            self._compare_fields(address, section, fields, what)
             _compare_bytes(section, content, fields, what)
             self._compare_references(obj, address, content, fields, what)
+
+    def _compare_fields(self, address, section, fields, what):
+        """Of an object, the linker writes no other fields, and moves no part of the section alone."""
+        for at in range(-7, len(section.content)):
+            is_known = self.image.fields.get(address + at)
+            if is_known is False or is_known and at > -4 and at not in fields:
+                raise ValueError(f"{what}: a relocation at {at:#x} that is another, or not known here")
+        if any(address < start < address + len(section.content) for start in self.image.starts):
+            raise ValueError(f"{what}: a symbol within it, with which a part of it may be moved")
 
     def _compare_references(self, obj, address, content, fields, what):
         """What a section names lies where its references point to: all of those to one section agree."""
@@ -118,8 +128,11 @@ class Comparison:
                 place = field.target(words[offset], address + offset) if not field.is_in_page else 0
                 place += in_page[symbol + addend] if field is PAGE else 0
                 found[target] = place - distance
+            is_kept = not self.image.is_object or address + offset in self.image.fields
             if field.set(words[offset], address + offset, found[target] + distance) != words[offset]:
                 raise ValueError(f"{what}: the reference at {offset:#x} points to another place")
+            if not is_kept and not self.image.are_together(address, found[target]):
+                raise ValueError(f"{what}: the reference at {offset:#x} has no relocation")
         for target, place in found.items():
             self._expect(*target, place)
 

@@ -17,6 +17,8 @@ class Facts:
 
     def __init__(self, is_impossible):
         self.conditions, self.ranges, self.sums, self._is_impossible = [], {}, {}, is_impossible
+        # Values for which all of them hold, as far as some are known.
+        self.models = []
 
     def and_also(self, fact):
         """These facts and another one, or None if that is not linear."""
@@ -26,6 +28,7 @@ class Facts:
             other.conditions.append(other.condition(fact))
         except ValueError:
             return None
+        other.models = [model for model in self.models if z3.is_true(model.eval(other.conditions[-1], True))]
         return other
 
     def imply(self, *conditions):

@@ -118,7 +118,7 @@ def _renamed(facts):
     return [z3.simplify(z3.substitute(fact, *new)) for fact in facts]
 
 
-def _answer(logic, conditions, limit):
+def _answer(logic, conditions, limit, models=None):
     solver = z3.SolverFor(logic)
     solver.set("rlimit", limit)
     solver.add(*conditions)
@@ -127,6 +127,8 @@ def _answer(logic, conditions, limit):
     counts["given up"] += answer == z3.unknown
     if answer == z3.unsat:
         proved.append((logic, conditions))
+    if answer == z3.sat and models is not None:
+        models.append(solver.model())
     return answer
 
 
@@ -148,11 +150,13 @@ def _in_integers(facts):
 def _by_integers(facts):
     """The answer by integers, if all is linear. Sums of many bits are hard in bits and easy in integers, masks are
     the other way round."""
-    known = _in_integers(facts[:-1])
-    known = known and known.and_also(facts[-1])
+    before = _in_integers(facts[:-1])
+    known = before and before.and_also(facts[-1])
     if not known:
         return z3.unknown
-    return _answer("QF_LIA", [*known.ranges.values(), *known.conditions], QUICK)
+    # What holds for some values is possible.
+    return z3.sat if known.models else _answer(
+        "QF_LIA", [*known.ranges.values(), *known.conditions], QUICK, before.models)
 
 
 def is_impossible(facts):

@@ -13,7 +13,10 @@ import unittest
 from importlib.machinery import SourceFileLoader
 from unittest import mock
 
+from contracts import names
 from contracts.kernels import KERNELS, Check
+from contracts.library import FUNCTIONS
+from contracts.messages import MESSAGES
 from execution import proofs
 from reading import library, objects, sums
 from solver.questions import Refused
@@ -184,6 +187,13 @@ class TestProve(unittest.TestCase):
         for file in (ARCHIVE, OF_RUST):
             has_failed, output = self.said("--sums", file)
             self.assertFalse(has_failed, output)
+
+    def test_contracts_of_functions(self):
+        """Each function has them, with as many arguments; and those that are not constant-time are known."""
+        contracts = [contract for contract in (*FUNCTIONS, *MESSAGES) if not contract.is_local]
+        self.assertEqual({(it.function, len(it.arguments), not it.may_leak) for it in contracts},
+                         {(name, len(function.parameters.split()), function.is_constant_time)
+                          for name, function in names.FUNCTIONS.items()})
 
     def test_function_without_a_contract(self):
         with self.assertRaisesRegex(ValueError, "const_hex_check_nonnull has no contract"):
