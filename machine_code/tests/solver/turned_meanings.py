@@ -58,6 +58,8 @@ REASONS = {
         "aarch64 page: 4 -> 5",
         "aarch64_vectors move: to.size < by.size -> to.size <= by.size",
         "aarch64_vectors narrow: z3.LShR -> lambda a, by: a >> by",
+        "aarch64 _operands: 1 -> 2", "webassembly State.exact: cut.eq(term) or self.fits(term) -> "
+                                     "cut.eq(term) and self.fits(term)",
         "webassembly State.leave_function: (self.general, self.vectors) -> (self.vectors, self.general)"),
     "less is known of the flags, which refuses more": (
         "x86_64 inc_dec.handler: s.flags or {} -> s.flags and {}",),
