@@ -255,7 +255,7 @@ class DecoderFinish(Exported):
 def with_decoder(state):
     """A decoder has the position in the text, a character, and what it waits for: 0 for any digit, 1 for the second
     digit of a byte, more for nothing after an error. Only the character is secret."""
-    state.put_cells("decoder", 0, split(z3.BitVec("p_position", 8 * state.WORD)))
+    state.put_cells("decoder", 0, split(z3.BitVec(f"p_position_{state.WORD}", 8 * state.WORD)))
     state.put_cells("decoder", state.WORD + 1, [z3.BitVec("p_kind", 8)])
     state.first_cells = state.cells.copy()
     return state

@@ -38,6 +38,8 @@ FILES = {"lanes": (*OF_X86_64, *OF_AARCH64, "webassembly"), "x86_64_vectors": OF
 ELSEWHERE = ("instructions", "follows", "_is_jump", "_is_target", "_is_page", "enter", "return_address", "returned",
              "arrive", "_lay_out", "_is_alone", "leave", "call", "ret", "jump", "cpuid", "xgetbv", "reported")
 ALL = 11
+# How functions are called, what is read of an object, and which instructions a CPU has.
+CONSTANTS = "State", "(PAGE, LOW, LOW8, LOW16, JUMP, CALL)", "MEMORY", "ENDS", "V2", "LEVELS", "NOPS"
 TURNED = {ast.Add: ast.Sub, ast.Sub: ast.Add, ast.Mult: ast.Add, ast.BitAnd: ast.BitOr, ast.BitOr: ast.BitAnd,
           ast.BitXor: ast.BitOr, ast.LShift: ast.RShift, ast.RShift: ast.LShift, ast.FloorDiv: ast.Mult,
           ast.Mod: ast.FloorDiv, ast.Eq: ast.NotEq, ast.NotEq: ast.Eq, ast.Lt: ast.LtE, ast.LtE: ast.Lt,
@@ -56,6 +58,8 @@ REASONS = {
         "aarch64 page: 4 -> 5",
         "aarch64_vectors move: to.size < by.size -> to.size <= by.size",
         "aarch64_vectors narrow: z3.LShR -> lambda a, by: a >> by",
+        "aarch64 _operands: 1 -> 2", "webassembly State.exact: cut.eq(term) or self.fits(term) -> "
+                                     "cut.eq(term) and self.fits(term)",
         "webassembly State.leave_function: (self.general, self.vectors) -> (self.vectors, self.general)"),
     "less is known of the flags, which refuses more": (
         "x86_64 inc_dec.handler: s.flags or {} -> s.flags and {}",),
@@ -146,7 +150,7 @@ class Places(ast.NodeVisitor):
         named = ast.unparse(getattr(node, "target", None) or node.targets[0]) if is_set else name
         self.names = [*self.names, named] if named else self.names
         self.lines = self.lines or ((node.lineno, node.end_lineno + 1) if is_function else None)
-        if hasattr(node, "lineno"):
+        if hasattr(node, "lineno") and (self.lines or ".".join(self.names) not in CONSTANTS):
             self.found.append(Place(node, ".".join(self.names), self.lines))
         if isinstance(node, ast.Dict):
             self._visit_entries(node)
