@@ -11,8 +11,9 @@ from collections import namedtuple
 from reading import objects
 from reading.objects import AARCH64, BRANCH, PAGE, RELATIVE, X86_64, place_in_page, whole
 
-# Bytes at an address, and whether they can run, and be written.
-Piece = namedtuple("Piece", "name is_code is_writable address content")
+# Bytes at an address, which the linker or the loader moves by a multiple of `alignment`, and whether they can run, and
+# be written.
+Piece = namedtuple("Piece", "name is_code is_writable alignment address content")
 PAGE_SIZE, FAR, APART = 4096, 1 << 26, 1 << 12
 UNDEFINED = 0
 # A local symbol that names a file of the source. Nothing is found by it, and rustc's begins with the crate's name.
@@ -71,7 +72,7 @@ def _of_object(data):
     image = Image(obj.machine)
     image.is_object = True
     image.fields = {it.address + offset: True for it in obj.sections for offset, *_ in it.references}
-    image.pieces = [Piece(it.name, it.is_code, it.is_writable, it.address, it.content) for it in obj.sections]
+    image.pieces = [Piece(*[getattr(it, name) for name in Piece._fields]) for it in obj.sections]
     for name, address in obj.symbols.items():
         image.add_place(name, address)
     image.absent = obj.undefined
@@ -107,7 +108,8 @@ def _linked(data):
             raise ValueError("a segment that is not written, and larger than in the file")
         end = -(-(address + in_memory) // PAGE_SIZE) * PAGE_SIZE
         content = data[offset : offset + in_file] + bytes(in_memory - in_file)
-        image.pieces.append(Piece(f"segment at {address:#x}", bool(flags & 1), bool(flags & 2), address, content))
+        name = f"segment at {address:#x}"
+        image.pieces.append(Piece(name, bool(flags & 1), bool(flags & 2), PAGE_SIZE, address, content))
     dynamic = _dynamic(image, [(header[3], header[5]) for header in headers if header[0] == DYNAMIC])
     if WRITES_CODE in dynamic or dynamic.get(FLAGS, 0) & WRITES_CODE_FLAG:
         raise ValueError("the loader changes its code")
@@ -200,11 +202,13 @@ def _mach_o(data):
         elif command == SYMBOL_TABLE:
             table = struct.unpack_from("<IIII", data, at + 8)
         at += size
-    for name, segment, address, size, offset, _, _, _, flags in sections:
+    for name, segment, address, size, offset, alignment, _, _, flags in sections:
+        if address % (1 << alignment):
+            raise ValueError("a section that is not aligned")
         content = bytearray(size) if flags & 255 == ZEROS else bytearray(data[offset : offset + size])
         name = name.rstrip(b"\0").decode()
         is_writable = segment.startswith(b"__DATA")
-        image.pieces.append(Piece(name, bool(flags & INSTRUCTIONS), is_writable, address, content))
+        image.pieces.append(Piece(name, bool(flags & INSTRUCTIONS), is_writable, 1 << alignment, address, content))
     places = _placed(image, [(name.removeprefix("_"), address if kind & TYPE == IN_SECTION else None)
                              for name, kind, address in _mach_o_symbols(data, *table)])
     image.starts = sorted({*places} - image.absent.keys()) if file_flags & BY_SYMBOLS else ()
@@ -304,7 +308,9 @@ def _coff(data):
             raise ValueError("a section with more relocations than its header says")
         content = bytearray(data[offset : offset + size] if offset else size)
         end += -end % PAGE_SIZE
-        image.pieces.append(Piece(name.decode().rstrip("\0"), bool(flags & RUNS), bool(flags & WRITES), end, content))
+        alignment = 1 << max((flags >> 20 & 15) - 1, 0)
+        image.pieces.append(
+            Piece(name.decode().rstrip("\0"), bool(flags & RUNS), bool(flags & WRITES), alignment, end, content))
         end += size + PAGE_SIZE
     found, at, strings = [], 0, table + 18 * symbols
     while at < symbols:

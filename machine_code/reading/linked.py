@@ -96,7 +96,8 @@ class Comparison:
         what = f"{section.name} at {address:#x}"
         # Constants may lie beside code.
         is_right = piece.is_code if section.is_code else not (piece.is_code and piece.is_writable)
-        if piece.is_writable != section.is_writable or not is_right or address % section.alignment:
+        is_aligned = not any(it % section.alignment for it in (address, piece.alignment))
+        if piece.is_writable != section.is_writable or not is_right or not is_aligned:
             raise ValueError(f"{what} is not aligned, or cannot be run, or can be written")
         if not section.is_writable:
             fields = {offset: (objects.RELOCATIONS[obj.machine][kind], symbol, addend)

@@ -132,6 +132,24 @@ class TestFormats(Linked):
             (self.folder / "object.o").write_bytes(content)
             self.assertRegex(fault(self.folder / "object.o"), said)
 
+    def test_alignment(self):
+        """The linker may place a section at any multiple of what its header says, wherever it lies in the object."""
+        no_alignment = lambda text: text.replace(".p2align \\alignment", ".p2align 0")
+        file = self.made("pc-windows-msvc", no_alignment)
+        self.assertRegex(fault(file), "is not aligned, or")
+        data = bytearray(file.read_bytes())
+        for at in range(20, 20 + 40 * struct.unpack_from("<H", data, 2)[0], 40):
+            data[at + 38] &= 0x0F
+        file.write_bytes(data)
+        self.assertRegex(fault(file), "is not aligned, or")
+        file = self.made("apple-macos")
+        # Of the second section, which has the constants.
+        for alignment, said in ((0, "is not aligned, or"), (12, "a section that is not aligned")):
+            data = bytearray(file.read_bytes())
+            struct.pack_into("<I", data, 32 + 72 + 80 + 52, alignment)
+            (self.folder / "other.o").write_bytes(data)
+            self.assertRegex(fault(self.folder / "other.o"), said)
+
     def test_symbol_within_a_function(self):
         """A file of Mach-O may say that the linker can move what comes after each symbol."""
         file = self.made("apple-macos", lambda text: text + "other = const_hex_1_0_0_check_v3 + 6\n")
@@ -215,7 +233,7 @@ class TestFiles(Linked):
 
     def test_parts_that_overlap(self):
         image = images.Image(62)
-        image.pieces = [images.Piece(name, True, False, at, bytes(16)) for name, at in (("one", 16), ("other", 24))]
+        image.pieces = [images.Piece(name, True, False, 1, at, bytes(16)) for name, at in (("one", 16), ("other", 24))]
         self.assertEqual(image.read(16, 8)[1], bytes(8))
         for address in (8, 20, 24, 30, 36, 40):
             with self.subTest(address), self.assertRaisesRegex(ValueError, "not in one part of the file"):
