@@ -11,9 +11,9 @@ from collections import namedtuple
 from reading import objects
 from reading.objects import AARCH64, BRANCH, PAGE, RELATIVE, X86_64, place_in_page, whole
 
-# Bytes at an address, which the linker or the loader moves by a multiple of `alignment`, and whether they can run, and
-# be written.
-Piece = namedtuple("Piece", "name is_code is_writable alignment address content")
+# Bytes at an address, which the linker or the loader moves by a multiple of `alignment`; whether they can run, and be
+# written; and whether the linker may merge them with others, or take those of another object.
+Piece = namedtuple("Piece", "name is_code is_writable alignment address content is_shared", defaults=[False])
 PAGE_SIZE, FAR, APART = 4096, 1 << 26, 1 << 12
 UNDEFINED = 0
 # A local symbol that names a file of the source. Nothing is found by it, and rustc's begins with the crate's name.
@@ -72,7 +72,7 @@ def _of_object(data):
     image = Image(obj.machine)
     image.is_object = True
     image.fields = {it.address + offset: True for it in obj.sections for offset, *_ in it.references}
-    image.pieces = [Piece(*[getattr(it, name) for name in Piece._fields]) for it in obj.sections]
+    image.pieces = [Piece(*[getattr(it, name) for name in Piece._fields[:-1]]) for it in obj.sections]
     for name, address in obj.symbols.items():
         image.add_place(name, address)
     image.absent = obj.undefined
@@ -178,7 +178,7 @@ def _add_symbols(image, table, strings):
 
 MACH_O_MACHINES = {0x01000007: X86_64, 0x0100000C: AARCH64}
 SEGMENT, SYMBOL_TABLE, IN_SECTION, TYPE, WEAK = 0x19, 2, 0xE, 0xE, 0xC0
-INSTRUCTIONS, ZEROS, OBJECT = 0x80000400, 1, 1
+INSTRUCTIONS, REGULAR, ZEROS, OBJECT = 0x80000400, 0, 1, 1
 # Flags of a file: the linker may move each symbol with what comes after it.
 BY_SYMBOLS = 0x2000
 # Kinds of relocations that are relative on x86-64, with how many bytes follow the field.
@@ -206,9 +206,9 @@ def _mach_o(data):
         if address % (1 << alignment):
             raise ValueError("a section that is not aligned")
         content = bytearray(size) if flags & 255 == ZEROS else bytearray(data[offset : offset + size])
-        name = name.rstrip(b"\0").decode()
-        is_writable = segment.startswith(b"__DATA")
-        image.pieces.append(Piece(name, bool(flags & INSTRUCTIONS), is_writable, 1 << alignment, address, content))
+        is_writable, is_shared = segment.rstrip(b"\0") != b"__TEXT", flags & 255 not in (REGULAR, ZEROS)
+        image.pieces.append(Piece(name.rstrip(b"\0").decode(), bool(flags & INSTRUCTIONS), is_writable, 1 << alignment,
+                                  address, content, is_shared))
     places = _placed(image, [(name.removeprefix("_"), address if kind & TYPE == IN_SECTION else None)
                              for name, kind, address in _mach_o_symbols(data, *table)])
     image.starts = sorted({*places} - image.absent.keys()) if file_flags & BY_SYMBOLS else ()
@@ -293,7 +293,7 @@ def _access(word):
 # COFF
 
 COFF_MACHINES = {b"\x64\x86": X86_64, b"\x64\xaa": AARCH64}
-RUNS, WRITES, MORE_RELOCATIONS, EXTERNAL, STATIC = 0x20000000, 0x80000000, 0x1000000, 2, 3
+RUNS, WRITES, MORE_RELOCATIONS, COMDAT, EXTERNAL, STATIC = 0x20000000, 0x80000000, 0x1000000, 0x1000, 2, 3
 COFF_X86_64 = {4 + after: 4 + after for after in range(6)}
 COFF_AARCH64 = {3: BRANCH, 4: PAGE, 6: place_in_page(1), 7: None, 0x11: RELATIVE}
 
@@ -309,8 +309,8 @@ def _coff(data):
         content = bytearray(data[offset : offset + size] if offset else size)
         end += -end % PAGE_SIZE
         alignment = 1 << max((flags >> 20 & 15) - 1, 0)
-        image.pieces.append(
-            Piece(name.decode().rstrip("\0"), bool(flags & RUNS), bool(flags & WRITES), alignment, end, content))
+        image.pieces.append(Piece(name.decode().rstrip("\0"), bool(flags & RUNS), bool(flags & WRITES), alignment, end,
+                                  content, bool(flags & COMDAT)))
         end += size + PAGE_SIZE
     found, at, strings = [], 0, table + 18 * symbols
     while at < symbols:

@@ -150,6 +150,16 @@ class TestFormats(Linked):
             (self.folder / "other.o").write_bytes(data)
             self.assertRegex(fault(self.folder / "other.o"), said)
 
+    def test_sections_of_other_kinds(self):
+        constants = "__TEXT,__const"
+        for system, old, new, said in (
+            ("apple-macos", constants, "__TEXT,__literal16,16byte_literals", "the linker may merge"),
+            ("apple-macos", constants, "OTHER,__const", "or can be written"),
+            ("pc-windows-msvc", '"dr"', '"dr", discard, \\name', "or take from another object"),
+        ):
+            with self.subTest(new):
+                self.assertRegex(fault(self.made(system, lambda text: text.replace(old, new))), said)
+
     def test_symbol_within_a_function(self):
         """A file of Mach-O may say that the linker can move what comes after each symbol."""
         file = self.made("apple-macos", lambda text: text + "other = const_hex_1_0_0_check_v3 + 6\n")
