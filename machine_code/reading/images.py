@@ -266,7 +266,7 @@ def _relocate_mach_o(image, piece, table, places):
             end, word = _target(piece, offset, target + MACH_O_X86_64[kind]), word + target - place - 4
         elif machine == AARCH64:
             field = {2: BRANCH, 3: PAGE}.get(kind) or place_in_page(_access(word)) if kind in (2, 3, 4) else None
-            end, word = target, field.set(word, place, target) if field else _not_known(kind)
+            end, word = target, _set_in_instruction(field, word, place, target) if field else _not_known(kind)
         else:
             _not_known(kind)
         image.add_field(place, is_near and image.are_together(places[number], end))
@@ -277,6 +277,12 @@ def _relocate_mach_o(image, piece, table, places):
 def _target(piece, offset, start):
     """What a field of an object names, which counts from a start."""
     return start + struct.unpack_from("<i", piece.content, offset)[0]
+
+
+def _set_in_instruction(field, word, place, target):
+    if word & field.mask:
+        raise ValueError("an addend in an instruction")
+    return field.set(word, place, target)
 
 
 def _not_known(kind):
@@ -339,9 +345,6 @@ def _relocate_coff(image, piece, offset, kind, target):
     if image.machine == X86_64:
         end, word = _target(piece, offset, target), word + target - place - COFF_X86_64[kind]
     else:
-        field = COFF_AARCH64[kind] or place_in_page(_access(word))
-        if word & field.mask:
-            raise ValueError("an addend in an instruction")
-        word = field.set(word, place, target)
+        word = _set_in_instruction(COFF_AARCH64[kind] or place_in_page(_access(word)), word, place, target)
     image.add_field(place, image.are_together(target, end))
     struct.pack_into("<I", piece.content, offset, word & 0xFFFFFFFF)

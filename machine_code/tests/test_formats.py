@@ -47,12 +47,20 @@ class TestFormats(Linked):
             images.read(b"\xcf\xfa\xed\xfe" + struct.pack("<III", 0x01000007, 3, 2) + data)
 
     def test_addend_in_an_instruction(self):
-        """COFF has it there, and the linker adds it."""
+        """COFF has it there, and the linker adds it. Some add what Mach-O has there."""
         text = "".join((RUST / f"{part}.s").read_text() for part in ("coff", "aarch64", "end"))
-        old = re.search("\tadd_label .*", text)[0]
-        command = ["clang", "--target=aarch64-pc-windows-msvc", "-c", "-o", self.folder / "object.o", "-x", "assembler"]
+        old, file = re.search("\tadd_label .*", text)[0], self.folder / "object.o"
+        command = ["clang", "--target=aarch64-pc-windows-msvc", "-c", "-o", file, "-x", "assembler"]
         subprocess.run([*command, "-"], input=text.replace(old, f"{old} + 4", 1).encode(), check=True)
-        self.assertEqual(fault(self.folder / "object.o"), "an addend in an instruction")
+        self.assertEqual(fault(file), "an addend in an instruction")
+        text = "".join((RUST / f"{part}.s").read_text() for part in ("mach_o", "aarch64", "end"))
+        subprocess.run([command[0], "--target=aarch64-apple-macos", *command[2:], "-"], input=text.encode(), check=True)
+        data = bytearray(file.read_bytes())
+        [start], [table] = struct.unpack_from("<I", data, 32 + 72 + 48), struct.unpack_from("<I", data, 32 + 72 + 56)
+        # The last relocation of the code, which stands first.
+        data[start + struct.unpack_from("<I", data, table)[0] + 1] |= 4
+        file.write_bytes(data)
+        self.assertEqual(fault(file), "an addend in an instruction")
 
     def made(self, system, change=lambda text: text):
         """The object with the kernels for x86-64-v3 that another assembler makes."""
