@@ -11,8 +11,9 @@ from collections import namedtuple
 from reading import objects
 from reading.objects import AARCH64, BRANCH, PAGE, RELATIVE, X86_64, place_in_page, whole
 
-# Bytes at an address, and whether they can run, and be written.
-Piece = namedtuple("Piece", "name is_code is_writable address content")
+# Bytes at an address, which the linker or the loader moves by a multiple of `alignment`; whether they can run, and be
+# written; and whether the linker may merge them with others, or take those of another object.
+Piece = namedtuple("Piece", "name is_code is_writable alignment address content is_shared", defaults=[False])
 PAGE_SIZE, FAR, APART = 4096, 1 << 26, 1 << 12
 UNDEFINED = 0
 # A local symbol that names a file of the source. Nothing is found by it, and rustc's begins with the crate's name.
@@ -71,7 +72,7 @@ def _of_object(data):
     image = Image(obj.machine)
     image.is_object = True
     image.fields = {it.address + offset: True for it in obj.sections for offset, *_ in it.references}
-    image.pieces = [Piece(it.name, it.is_code, it.is_writable, it.address, it.content) for it in obj.sections]
+    image.pieces = [Piece(*[getattr(it, name) for name in Piece._fields[:-1]]) for it in obj.sections]
     for name, address in obj.symbols.items():
         image.add_place(name, address)
     image.absent = obj.undefined
@@ -107,7 +108,8 @@ def _linked(data):
             raise ValueError("a segment that is not written, and larger than in the file")
         end = -(-(address + in_memory) // PAGE_SIZE) * PAGE_SIZE
         content = data[offset : offset + in_file] + bytes(in_memory - in_file)
-        image.pieces.append(Piece(f"segment at {address:#x}", bool(flags & 1), bool(flags & 2), address, content))
+        name = f"segment at {address:#x}"
+        image.pieces.append(Piece(name, bool(flags & 1), bool(flags & 2), PAGE_SIZE, address, content))
     dynamic = _dynamic(image, [(header[3], header[5]) for header in headers if header[0] == DYNAMIC])
     if WRITES_CODE in dynamic or dynamic.get(FLAGS, 0) & WRITES_CODE_FLAG:
         raise ValueError("the loader changes its code")
@@ -176,7 +178,7 @@ def _add_symbols(image, table, strings):
 
 MACH_O_MACHINES = {0x01000007: X86_64, 0x0100000C: AARCH64}
 SEGMENT, SYMBOL_TABLE, IN_SECTION, TYPE, WEAK = 0x19, 2, 0xE, 0xE, 0xC0
-INSTRUCTIONS, ZEROS, OBJECT = 0x80000400, 1, 1
+INSTRUCTIONS, REGULAR, ZEROS, OBJECT = 0x80000400, 0, 1, 1
 # Flags of a file: the linker may move each symbol with what comes after it.
 BY_SYMBOLS = 0x2000
 # Kinds of relocations that are relative on x86-64, with how many bytes follow the field.
@@ -200,11 +202,13 @@ def _mach_o(data):
         elif command == SYMBOL_TABLE:
             table = struct.unpack_from("<IIII", data, at + 8)
         at += size
-    for name, segment, address, size, offset, _, _, _, flags in sections:
+    for name, segment, address, size, offset, alignment, _, _, flags in sections:
+        if address % (1 << alignment):
+            raise ValueError("a section that is not aligned")
         content = bytearray(size) if flags & 255 == ZEROS else bytearray(data[offset : offset + size])
-        name = name.rstrip(b"\0").decode()
-        is_writable = segment.startswith(b"__DATA")
-        image.pieces.append(Piece(name, bool(flags & INSTRUCTIONS), is_writable, address, content))
+        is_writable, is_shared = segment.rstrip(b"\0") != b"__TEXT", flags & 255 not in (REGULAR, ZEROS)
+        image.pieces.append(Piece(name.rstrip(b"\0").decode(), bool(flags & INSTRUCTIONS), is_writable, 1 << alignment,
+                                  address, content, is_shared))
     places = _placed(image, [(name.removeprefix("_"), address if kind & TYPE == IN_SECTION else None)
                              for name, kind, address in _mach_o_symbols(data, *table)])
     image.starts = sorted({*places} - image.absent.keys()) if file_flags & BY_SYMBOLS else ()
@@ -262,7 +266,7 @@ def _relocate_mach_o(image, piece, table, places):
             end, word = _target(piece, offset, target + MACH_O_X86_64[kind]), word + target - place - 4
         elif machine == AARCH64:
             field = {2: BRANCH, 3: PAGE}.get(kind) or place_in_page(_access(word)) if kind in (2, 3, 4) else None
-            end, word = target, field.set(word, place, target) if field else _not_known(kind)
+            end, word = target, _set_in_instruction(field, word, place, target) if field else _not_known(kind)
         else:
             _not_known(kind)
         image.add_field(place, is_near and image.are_together(places[number], end))
@@ -273,6 +277,12 @@ def _relocate_mach_o(image, piece, table, places):
 def _target(piece, offset, start):
     """What a field of an object names, which counts from a start."""
     return start + struct.unpack_from("<i", piece.content, offset)[0]
+
+
+def _set_in_instruction(field, word, place, target):
+    if word & field.mask:
+        raise ValueError("an addend in an instruction")
+    return field.set(word, place, target)
 
 
 def _not_known(kind):
@@ -289,7 +299,7 @@ def _access(word):
 # COFF
 
 COFF_MACHINES = {b"\x64\x86": X86_64, b"\x64\xaa": AARCH64}
-RUNS, WRITES, MORE_RELOCATIONS, EXTERNAL, STATIC = 0x20000000, 0x80000000, 0x1000000, 2, 3
+RUNS, WRITES, MORE_RELOCATIONS, COMDAT, EXTERNAL, STATIC = 0x20000000, 0x80000000, 0x1000000, 0x1000, 2, 3
 COFF_X86_64 = {4 + after: 4 + after for after in range(6)}
 COFF_AARCH64 = {3: BRANCH, 4: PAGE, 6: place_in_page(1), 7: None, 0x11: RELATIVE}
 
@@ -304,7 +314,9 @@ def _coff(data):
             raise ValueError("a section with more relocations than its header says")
         content = bytearray(data[offset : offset + size] if offset else size)
         end += -end % PAGE_SIZE
-        image.pieces.append(Piece(name.decode().rstrip("\0"), bool(flags & RUNS), bool(flags & WRITES), end, content))
+        alignment = 1 << max((flags >> 20 & 15) - 1, 0)
+        image.pieces.append(Piece(name.decode().rstrip("\0"), bool(flags & RUNS), bool(flags & WRITES), alignment, end,
+                                  content, bool(flags & COMDAT)))
         end += size + PAGE_SIZE
     found, at, strings = [], 0, table + 18 * symbols
     while at < symbols:
@@ -333,9 +345,6 @@ def _relocate_coff(image, piece, offset, kind, target):
     if image.machine == X86_64:
         end, word = _target(piece, offset, target), word + target - place - COFF_X86_64[kind]
     else:
-        field = COFF_AARCH64[kind] or place_in_page(_access(word))
-        if word & field.mask:
-            raise ValueError("an addend in an instruction")
-        word = field.set(word, place, target)
+        word = _set_in_instruction(COFF_AARCH64[kind] or place_in_page(_access(word)), word, place, target)
     image.add_field(place, image.are_together(target, end))
     struct.pack_into("<I", piece.content, offset, word & 0xFFFFFFFF)

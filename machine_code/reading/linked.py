@@ -96,8 +96,11 @@ class Comparison:
         what = f"{section.name} at {address:#x}"
         # Constants may lie beside code.
         is_right = piece.is_code if section.is_code else not (piece.is_code and piece.is_writable)
-        if piece.is_writable != section.is_writable or not is_right or address % section.alignment:
+        is_aligned = not any(it % section.alignment for it in (address, piece.alignment))
+        if piece.is_writable != section.is_writable or not is_right or not is_aligned:
             raise ValueError(f"{what} is not aligned, or cannot be run, or can be written")
+        if piece.is_shared:
+            raise ValueError(f"{what} is what the linker may merge, or take from another object")
         if not section.is_writable:
             fields = {offset: (objects.RELOCATIONS[obj.machine][kind], symbol, addend)
                       for offset, kind, symbol, addend in section.references}

@@ -259,4 +259,6 @@ def _relocate(machine, section, offset, kind, symbol, addend):
         return
     section.references.append((offset, kind, symbol, addend))
     [old] = struct.unpack_from("<I", section.content, offset)
+    if old & field.mask:
+        section.unknown = "a relocation of a field that is not 0, which some linkers keep"
     struct.pack_into("<I", section.content, offset, field.set(old, section.address + offset, symbol + addend))

@@ -3,21 +3,14 @@
 import pathlib
 import random
 import re
-import shutil
 import struct
 import subprocess
 import tempfile
 import unittest
 
 from reading import archive, images, linked
-from tests.library import (AARCH64, ARCHIVE, ASM, COMPILERS, RUST, TOP, add_tests, assembled_object,
-                           needs_aarch64)
+from tests.library import AARCH64, ARCHIVE, ASM, COMPILERS, TOP, add_tests, assembled_object, needs_aarch64
 
-HAS_CLANG = shutil.which("clang") is not None
-# Other objects than those of ELF that `as` makes: how clang names the system, and the directives of the Rust crate.
-SYSTEMS = [("x86_64", system, directives) for system, directives in (
-    ("linux-gnu", "elf"), ("unknown-freebsd", "elf"), ("apple-macos", "mach_o"), ("pc-windows-msvc", "coff"))]
-SYSTEMS += [*(("aarch64", *row) for _, *row in SYSTEMS), ("aarch64", "apple-ios", "mach_o")]
 KERNELS = {"x86_64": ("x86_64_v2", "x86_64_v3"), "aarch64": ("aarch64",)}
 # How many functions there are for C, with those that others do not see.
 COUNTS, CHANGES = {"x86_64": 24, "aarch64": 18}, 200
@@ -48,129 +41,6 @@ class Linked(unittest.TestCase):
         folder = tempfile.TemporaryDirectory()
         self.addCleanup(folder.cleanup)
         self.folder = pathlib.Path(folder.name)
-
-
-class TestFormats(Linked):
-    def accept(self, is_rust, processor, system, directives):
-        """Each function of each file, by its call and its build."""
-        if not HAS_CLANG:
-            self.skipTest("clang is missing")
-        found = {}
-        of_c = "dispatch", f"functions_{processor}", *(f"kernel_{name}" for name in KERNELS[processor])
-        for name in KERNELS[processor] if is_rust else of_c:
-            parts = [RUST / f"{part}.s" for part in (directives, name, "end")] if is_rust else [ASM / f"{name}.S"]
-            command = ["clang", f"--target={processor}-{system}", "-Werror", "-c", "-I", ASM]
-            command += ["-o", self.folder / "object.o", "-x", "assembler" if is_rust else "assembler-with-cpp", "-"]
-            subprocess.run(command, input=b"".join(part.read_bytes() for part in parts), check=True, cwd=ASM)
-            found |= faults(self.folder / "object.o")
-        count = 3 * len(KERNELS[processor]) if is_rust else COUNTS[processor]
-        self.assertEqual((len(found), set(found.values())), (count, {None}))
-
-
-    def test_symbols_of_other_kinds(self):
-        if not HAS_CLANG:
-            self.skipTest("clang is missing")
-        name, text = "const_hex_decode", "{0}: ret\n.globl {0}\n"
-        for system, name, text in (
-            ("apple-macos", f"_{name}", text + ".weak_definition {0}"), ("apple-macos", f"_{name}", ".globl {0}\n{0} = 9"),
-            ("pc-windows-msvc", name, text + ".weak {0}"), ("pc-windows-msvc", name, ".globl {0}\n{0} = 9"),
-        ):
-            command = ["clang", f"--target=x86_64-{system}", "-c", "-o", self.folder / "object.o", "-x", "assembler", "-"]
-            subprocess.run(command, input=f"{text.format(name)}\n".encode(), check=True, capture_output=True)
-            with self.subTest(system, text=text):
-                self.assertRegex(fault(self.folder / "object.o"), "is a symbol of another kind")
-        data = bytearray((self.folder / "object.o").read_bytes())
-        with self.assertRaisesRegex(ValueError, "Mach-O that is no object"):
-            images.read(b"\xcf\xfa\xed\xfe" + struct.pack("<III", 0x01000007, 3, 2) + data)
-
-    def test_addend_in_an_instruction(self):
-        """COFF has it there, and the linker adds it."""
-        if not HAS_CLANG:
-            self.skipTest("clang is missing")
-        text = "".join((RUST / f"{part}.s").read_text() for part in ("coff", "aarch64", "end"))
-        old = re.search("\tadd_label .*", text)[0]
-        command = ["clang", "--target=aarch64-pc-windows-msvc", "-c", "-o", self.folder / "object.o", "-x", "assembler"]
-        subprocess.run([*command, "-"], input=text.replace(old, f"{old} + 4", 1).encode(), check=True)
-        self.assertEqual(fault(self.folder / "object.o"), "an addend in an instruction")
-
-
-    def made(self, system, change=lambda text: text):
-        """The object with the kernels for x86-64-v3 that another assembler makes."""
-        if not HAS_CLANG:
-            self.skipTest("clang is missing")
-        directives, file = {"apple-macos": "mach_o", "pc-windows-msvc": "coff"}[system], self.folder / "object.o"
-        text = "".join((RUST / f"{part}.s").read_text() for part in (directives, "x86_64_v3", "end"))
-        command = ["clang", f"--target=x86_64-{system}", "-c", "-o", file, "-x", "assembler", "-"]
-        subprocess.run(command, input=change(text).encode(), check=True)
-        return file
-
-    def places(self, system):
-        """Where two functions and a constant lie."""
-        places = images.read(self.made(system).read_bytes()).places
-        return {name: min(places[f"const_hex_1_0_0_{name}_v3"]) for name in ("check", "fill", "constant_1")}
-
-    def refuse_relocation(self, system, old, new, said):
-        """The object has the same bytes where its sections lie, but the linker puts others there, or other sections.
-        In what is new, a distance stands in brackets: a place, one that is subtracted, and what is added to it."""
-        places = {"0": 0, **self.places(system)}
-        distance = lambda found: f"{places[found[1]] - places[found[2]] + int(found[3], 0):#x}"
-        new = re.sub(r"<(\w+),(\w+),(\w+)>", distance, new).replace("NAME", "const_hex_1_0_0")
-        file = self.made(system, lambda text: text.replace(old.replace("NAME", "const_hex_1_0_0"), new, 1))
-        self.assertRegex(fault(file), said)
-
-    def test_fields_of_coff(self):
-        """A field that two relocations write, and a section that says that it has more of them."""
-        data = bytearray(self.made("pc-windows-msvc").read_bytes())
-        [count] = struct.unpack_from("<H", data, 2)
-        headers = [20 + 40 * at for at in range(count)]
-        header = next(at for at in headers if struct.unpack_from("<H", data, at + 32)[0] > 2)
-        [table], first = struct.unpack_from("<I", data, header + 24), struct.unpack_from("<H", data, header + 32)
-        twice = data.copy()
-        struct.pack_into("<I", twice, table + 10, *struct.unpack_from("<I", data, table))
-        data[header + 39] |= 1
-        for content, said in ((twice, "a relocation at 0x"), (data, "more relocations than its header says")):
-            (self.folder / "object.o").write_bytes(content)
-            self.assertRegex(fault(self.folder / "object.o"), said)
-
-    def test_symbol_within_a_function(self):
-        """A file of Mach-O may say that the linker can move what comes after each symbol."""
-        file = self.made("apple-macos", lambda text: text + "other = const_hex_1_0_0_check_v3 + 6\n")
-        self.assertEqual(fault(file), None)
-        data = bytearray(file.read_bytes())
-        data[25] |= 0x20
-        file.write_bytes(data)
-        self.assertRegex(fault(file), "a symbol within it")
-
-    def test_field_of_a_section_of_mach_o(self):
-        """It has the number of the section, beside which the linker leaves it."""
-        data, places = bytearray(self.made("apple-macos").read_bytes()), self.places("apple-macos")
-        # Of the first section of the first segment: where the first relocation is, which stands last.
-        [table, count] = struct.unpack_from("<II", data, 32 + 72 + 56)
-        [start] = struct.unpack_from("<I", data, 32 + 72 + 48)
-        at = table + 8 * (count - 1)
-        [offset] = struct.unpack_from("<I", data, at)
-        struct.pack_into("<i", data, start + offset, places["constant_1"] - offset - 4)
-        for number, said in ((2, None), (1, f"a relocation at {offset:#x}")):
-            struct.pack_into("<I", data, at + 4, number | 1 << 24 | 2 << 25 | 1 << 28)
-            (self.folder / "object.o").write_bytes(data)
-            self.assertRegex(str(fault(self.folder / "object.o")), said or "None")
-
-
-COFF, MACH_O, CONSTANT = "pc-windows-msvc", "apple-macos", "[rip + NAME_constant_1_v3]"
-add_tests(TestFormats, TestFormats.refuse_relocation, [
-    ("a number by its distance to the program", COFF, "cmp    rsi,0x81",
-     ".byte 0x48,0x81,0xfe; .rva NAME_check_v3 + 0x81", "a relocation at 0x35"),
-    ("a number by its distance to a constant", COFF, "cmp    rsi,0x81",
-     ".byte 0x48,0x81,0xfe; .long NAME_constant_1_v3 - . + <check,constant_1,0xb6>", "a relocation at 0x35"),
-    *((f"{what} on {system}", system, CONSTANT, new, said) for system in (COFF, MACH_O) for what, new, said in (
-        ("a constant by its distance to the function", "[rip + NAME_check_v3 + <constant_1,check,0>]", "no relocation"),
-        ("a constant by its distance to another function", "[rip + NAME_fill_v3 + <constant_1,fill,0>]",
-         "a relocation at 0x45|no relocation"))),
-])
-# Rust has COFF, too.
-add_tests(TestFormats, TestFormats.accept, [
-    (f"{'Rust' if is_rust else 'C'} for {row[1]} on {row[0]}", is_rust, *row)
-    for is_rust in (False, True) for row in SYSTEMS if is_rust or row[2] != "coff"])
 
 
 class TestFiles(Linked):
@@ -215,7 +85,7 @@ class TestFiles(Linked):
 
     def test_parts_that_overlap(self):
         image = images.Image(62)
-        image.pieces = [images.Piece(name, True, False, at, bytes(16)) for name, at in (("one", 16), ("other", 24))]
+        image.pieces = [images.Piece(name, True, False, 1, at, bytes(16)) for name, at in (("one", 16), ("other", 24))]
         self.assertEqual(image.read(16, 8)[1], bytes(8))
         for address in (8, 20, 24, 30, 36, 40):
             with self.subTest(address), self.assertRaisesRegex(ValueError, "not in one part of the file"):

@@ -179,6 +179,8 @@ WRONG = [
      {"start": "sub sp, sp, #8; str x0, [sp]; add sp, sp, #8"}, "is not aligned"),
     ("a value from below the stack pointer", "aarch64", "check",
      {"start": "str x1, [sp, #-16]!; add sp, sp, #16; sub sp, sp, #16; ldr x1, [sp], #16"}, UNWRITTEN),
+    ("a field that some linkers keep", "aarch64", "check",
+     {"start": "adrp x8, table; .reloc ., R_AARCH64_ADD_ABS_LO12_NC, table; add x8, x8, #1"}, "a field that is not 0"),
     ("the page of another constant", "aarch64", "check", {"start": "adrp x8, table; add x8, x8, :lo12:other"},
      "the page of another constant"),
     ("a page that is no address", "aarch64", "check", {"start": "adrp x8, table; ldrb w8, [x8]"}, "an address in"),
