@@ -98,8 +98,14 @@ def _divided(number, by):
     whole, rest = [], []
     for part in number.children() if z3.is_add(number) else [number]:
         factor, *others = part.children() if z3.is_mul(part) else [part]
-        if z3.is_int_value(factor) and factor.as_long() % by == 0:
-            whole.append(z3.Product(factor.as_long() // by, *others))
+        if z3.is_int_value(factor) and factor.as_long() % by == 0 and len(others) < 2:
+            quotient = factor.as_long() // by
+            whole.append(quotient * others[0] if others else z3.IntVal(quotient))
         else:
             rest.append(part)
-    return z3.Sum(*whole, (z3.Sum(rest) if rest else z3.IntVal(0)) / by)
+    return _total([*whole, _total(rest) / by] if rest else whole)
+
+
+def _total(parts):
+    """The sum of numbers, of which there is one at least."""
+    return z3.Sum(parts) if len(parts) > 1 else parts[0]
