@@ -30,7 +30,7 @@ CONTROL = """br br_if br_table call result return unreachable select
     local.get local.set local.tee global.get global.set""".split()
 FUNCTIONS = """
 (func $sum (param i32 i32) (result i32) (local i32)
-  local.get 2 local.get 0 i32.add local.get 1 i32.add return)
+  local.get 2 local.get 0 i32.add local.get 1 i32.sub return)
 (func (export "call") i32.const 64
   i32.const 0 i32.load i32.const 16 i32.load call $sum i32.store)
 (func (export "return") (local i32)
@@ -43,11 +43,12 @@ FUNCTIONS = """
     i32.const 64 local.get 0 i32.add local.get 0 i32.store8
     local.get 0 i32.const 1 i32.sub local.tee 0 i32.const 16 i32.load8_u i32.ne br_if 0 end
     i32.const 400 i32.const 7 i32.store8 end)
-(func (export "br_table")
+(func (export "br_table") i32.const 72
   block block block i32.const 0 i32.load8_u i32.const 3 i32.and
     br_table 2 0 1 0 end
     i32.const 64 i32.const 1 i32.store8 br 1 end
-    i32.const 64 i32.const 2 i32.store8 end)
+    i32.const 64 i32.const 2 i32.store8 end
+  i32.const 7 i32.store8)
 (func (export "select") i32.const 64
   i32.const 0 i32.load i32.const 16 i32.load i32.const 32 i32.load8_u i32.const 1 i32.and select i32.store)
 (func (export "global") global.get 0 i32.const 0 i32.load i32.add global.set 0

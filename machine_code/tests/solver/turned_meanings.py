@@ -36,8 +36,8 @@ FILES = {"lanes": (*OF_X86_64, *OF_AARCH64, "webassembly"), "x86_64_vectors": OF
 # What is no meaning of an instruction that runs alone: programs of test_wrong.py show it, and test_starts.py the calls.
 # What follows the first ALL does not belong to the module, where Node compares it.
 ELSEWHERE = ("instructions", "follows", "_is_jump", "_is_target", "_is_page", "enter", "return_address", "returned",
-             "arrive", "_lay_out", "_is_alone", "leave", "call", "ret", "jump", "cpuid", "xgetbv", "reported")
-ALL = 11
+             "arrive", "_lay_out", "_is_alone", "_place", "leave", "call", "ret", "jump", "cpuid", "xgetbv", "reported")
+ALL = 12
 # How functions are called, what is read of an object, and which instructions a CPU has.
 CONSTANTS = "State", "(PAGE, LOW, LOW8, LOW16, JUMP, CALL)", "MEMORY", "ENDS", "V2", "LEVELS", "NOPS"
 TURNED = {ast.Add: ast.Sub, ast.Sub: ast.Add, ast.Mult: ast.Add, ast.BitAnd: ast.BitOr, ast.BitOr: ast.BitAnd,
@@ -60,10 +60,14 @@ REASONS = {
         "aarch64_vectors narrow: z3.LShR -> lambda a, by: a >> by",
         "aarch64 _operands: 1 -> 2", "webassembly State.exact: cut.eq(term) or self.fits(term) -> "
                                      "cut.eq(term) and self.fits(term)",
+        "aarch64 HANDLERS.tst: AND -> OR",  # whose result is not kept
+        "webassembly State.leave_function: (f'local {number}.', f'operand {number}.') -> "
+        "(f'operand {number}.', f'local {number}.')",
         "webassembly State.leave_function: (self.general, self.vectors) -> (self.vectors, self.general)"),
     "less is known of the flags, which refuses more": (
         "x86_64 inc_dec.handler: s.flags or {} -> s.flags and {}",),
     "test_wrong.py has programs with accesses that are not aligned": (
+        "x86_64_vectors VECTORS: 'movdqu' <-> 'movdqa'",
         "x86_64 State.lane: self.is_legacy and (size or o.size) == 16 -> self.is_legacy or (size or o.size) == 16",
         *[f"x86_64_vectors VECTORS.{name}: {change}" for names, change in (
             (("movdqa", "movaps"), "True -> False"), (("movdqu", "movups"), "False -> True")) for name in names]),
@@ -75,7 +79,8 @@ def alternatives(node):
     """What a node is changed to, each with what is said of the change."""
     for old, new in _changed(node):
         text = ast.unparse(ast.fix_missing_locations(new.test if isinstance(node, ast.If) else new))
-        yield (old if isinstance(node, ast.Dict) else f"{old} -> {text}"), new
+        if text != old:
+            yield (old if isinstance(node, ast.Dict) else f"{old} -> {text}"), new
 
 
 def _changed(node):
@@ -244,9 +249,11 @@ class Compared:
         table, _, key = place.name.partition(".")
         concerned = {key} if key else {*re.findall(r"'([\w.]+)'", said)}
         concerned = concerned if table in ("HANDLERS", "VECTORS") and not around else set()
-        is_read = around & self.reading or not around and not concerned
+        is_all = around & self.reading or not around and not concerned
+        # The functions that add instructions for WebAssembly run when the file is loaded, and say how they are read.
+        is_read = is_all or self.name == "webassembly"
         parts = [at for at, (_, _, mnemonic) in enumerate(self.parts)
-                 if is_read or around & self.lines[at] or concerned & {mnemonic, mnemonic.removeprefix("v")}]
+                 if is_all or around & self.lines[at] or concerned & {mnemonic, mnemonic.removeprefix("v")}]
         text = (MEANINGS / f"{file}.py").read_text().splitlines()[place.node.lineno - 1]
         parts.sort(key=lambda at: ((file, place.node.lineno) not in self.lines[at],
                                    f'{self.parts[at][2]}"' not in text))
