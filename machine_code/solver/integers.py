@@ -9,6 +9,8 @@ import z3
 JOINS = {z3.Z3_OP_AND: z3.And, z3.Z3_OP_OR: z3.Or, z3.Z3_OP_NOT: z3.Not, z3.Z3_OP_IMPLIES: z3.Implies}
 COMPARES = {z3.Z3_OP_ULEQ: lambda a, b: a <= b, z3.Z3_OP_ULT: lambda a, b: a < b, z3.Z3_OP_UGT: lambda a, b: a > b,
             z3.Z3_OP_UGEQ: lambda a, b: a >= b, z3.Z3_OP_EQ: lambda a, b: a == b}
+# In so many bits it is not asked whether a number is that small.
+FEW = 16
 
 
 class Facts:
@@ -61,10 +63,7 @@ class Facts:
         if kind == z3.Z3_OP_EXTRACT:
             high, low = term.params()
             part = _divided(self._number(children[0]), 1 << low) if low else self._number(children[0])
-            if high == children[0].size() - 1:
-                return part
-            # A few bits are rarely all of a number.
-            return part % (1 << size) if size < 32 else self._cut(term, part)
+            return part if high == children[0].size() - 1 else self._cut(term, part)
         if kind == z3.Z3_OP_CONCAT:
             found = z3.IntVal(0)
             for child in children:
@@ -76,7 +75,8 @@ class Facts:
         """A number in the bits of a term, to which it is not reduced if it is that small."""
         most = 1 << term.size()
         if term.get_id() not in self.sums:
-            self.sums[term.get_id()] = number if self.imply(0 <= number, number < most) else number % most
+            is_small = term.size() > FEW and self.imply(0 <= number, number < most)
+            self.sums[term.get_id()] = number if is_small else number % most
         return self.sums[term.get_id()]
 
     def _sum(self, term):

@@ -47,6 +47,7 @@ class TestQuestions(unittest.TestCase):
     def setUp(self):
         self.some = random.Random(self.id())
 
+    @mock.patch.object(integers, "FEW", BITS - 1)
     def test_integers(self):
         linear = 0
         for _ in range(150):
@@ -65,6 +66,7 @@ class TestQuestions(unittest.TestCase):
             self.assertTrue(all(at(fact, values, **in_integers) for fact in before.conditions), facts)
         self.assertGreater(linear, 60)
 
+    @mock.patch.object(integers, "FEW", BITS - 1)
     def test_facts_stay_as_they_are_without_another_one(self):
         known = integers.Facts(questions.is_impossible_in_integers).and_also(z3.ULT(NAMES[0], 3))
         sizes = [1, 1, 0]
