@@ -60,7 +60,13 @@ REASONS = {
         "aarch64_vectors narrow: z3.LShR -> lambda a, by: a >> by",
         "aarch64 _operands: 1 -> 2", "webassembly State.exact: cut.eq(term) or self.fits(term) -> "
                                      "cut.eq(term) and self.fits(term)",
-        "aarch64 HANDLERS.tst: AND -> OR",  # whose result is not kept
+        # whose result is not kept
+        "aarch64 HANDLERS.tst: AND -> OR", "aarch64 HANDLERS.cmn: ADD -> SUBTRACT",
+        *[f"{processor} HANDLERS.cmp: SUBTRACT -> ADD" for processor in ("aarch64", "x86_64")],
+        # bits, by one byte or by two
+        *[f"x86_64_vectors VECTORS.{name}: 1 -> 2" for name in ("pand", "pandn", "por", "pxor", "xorps")],
+        # what is never run is read, too
+        "webassembly Block.__init__: False -> True",
         "webassembly State.leave_function: (f'local {number}.', f'operand {number}.') -> "
         "(f'operand {number}.', f'local {number}.')",
         "webassembly State.leave_function: (self.general, self.vectors) -> (self.vectors, self.general)"),
