@@ -25,9 +25,9 @@ BELOW, NOT_IN_STACK = "an access below the stack pointer", "the stack pointer is
 UNWRITTEN, NOT_FIXED = "a byte of the stack that was not written", "a jump to a place that is not fixed"
 NO_MEANING, NO_RELOCATION = "an instruction without a meaning here", "an address without its relocation"
 OTHER_BYTES, WIDE = "is not what the assembler makes of it", "vzeroupper is missing"
+# Which of the two refuses a form may depend on where its sections lie.
+EITHER = f"{OTHER_BYTES}|{NO_RELOCATION}"
 OTHER, WRONG_VERSION = f"{NO_MEANING}|{OTHER_BYTES}", "the version is not"
-# Where sections lie is drawn, and so are the bits that a relocation writes.
-WRITTEN = f"{OTHER_BYTES}|{NO_RELOCATION}"
 LOWER_BITS = ".reloc ., R_AARCH64_ADD_ABS_LO12_NC, table"
 
 # What is wrong, the level, the instructions, and what is said of them.
@@ -120,9 +120,9 @@ WRONG = [
        f"adrp x8, table; .reloc {at}, R_AARCH64_{kind}_ABS_LO12_NC, table; {form}", said)
       for form, at, kind, said in (
         ("add x8, x8, #0, lsl #12", ".", "ADD", "too many values to unpack"),
-        ("sub x8, x8, #0", ".", "ADD", WRITTEN), ("add w8, w8, #0", ".", "ADD", "the page of another constant"),
+        ("sub x8, x8, #0", ".", "ADD", EITHER), ("add w8, w8, #0", ".", "ADD", "the page of another constant"),
         ("ldr d0, [x8]", ".", "LDST128", "a relocation for another size"),
-        ("add x8, x8, #0", ". + 2", "ADD", WRITTEN),
+        ("add x8, x8, #0", ". + 2", "ADD", "a field that is not 0"),
     )),
     *((f"a base that is moved by 0 and a register of {text}", "aarch64",
        f"sub sp, sp, #16; mov x10, sp; .inst {code}; add sp, sp, #16", "unpredictable") for text, code in (
