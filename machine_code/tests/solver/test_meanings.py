@@ -52,7 +52,7 @@ MORE = {
         cset w0, eq; cset w0, ne; cset w0, cs; cset w0, cc; cset w0, mi; cset w0, pl
         cset w0, vs; cset w0, vc; cset w0, hi; cset w0, ls; cset w0, ge; cset w0, lt; cset w0, gt; cset w0, le
         adrp x0, more + 16; add x0, x0, :lo12:more + 16; ldr q0, [x0, :lo12:more + 16]
-        .section .rodata.more, "a"; .balign 16; more: .skip 16; .byte 1, 2, 3, 4, 5, 6, 7, 8, 9, 10, 11, 12, 13, 14, 15, 16""",
+        .section .rodata.more, "a"; .balign 16; more: .skip 16; .ascii "0123456789abcdef" """,
 }
 
 
