@@ -77,6 +77,9 @@ class Processor:
                 target = self._target(i)
                 if not target or not i.address - self.jump < target < i.address + i.size + self.jump:
                     operands = "" if target else re.sub(self.not_form, "", i.text.partition(" ")[2])
+                    # A constant's own address, or one after it.
+                    named = [self.code.constant_at(to) for _, _, to in self.code.references_in(i.address, i.size)]
+                    operands += "".join(f" {bool(found[1])}" for found in named if found)
                     forms.setdefault(f"{i.mnemonic} {operands}", []).append(i)
         return {form: found[:: max(1, len(found) // PLACES)][:PLACES] for form, found in forms.items()}
 

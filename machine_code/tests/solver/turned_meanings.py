@@ -67,6 +67,8 @@ REASONS = {
         *[f"x86_64_vectors VECTORS.{name}: 1 -> 2" for name in ("pand", "pandn", "por", "pxor", "xorps")],
         # what is never run is read, too
         "webassembly Block.__init__: False -> True",
+        # the kind of all operands
+        "aarch64_vectors either: 0 -> 1",
         "webassembly State.leave_function: (f'local {number}.', f'operand {number}.') -> "
         "(f'operand {number}.', f'local {number}.')",
         "webassembly State.leave_function: (self.general, self.vectors) -> (self.vectors, self.general)"),
