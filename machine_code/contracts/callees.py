@@ -66,6 +66,7 @@ def _judged(state, text, count):
         true = state.when(z3.And(*map(is_digit, characters)), state.at)
     are_digits = z3.And(*map(is_digit, characters))
     is_valid = other.choose(are_digits)
+    require(is_valid is not False, "a text that is never valid is read: its bytes may decide how long that takes")
     if false := other.when(z3.Not(are_digits), state.at):
         false.may_leak |= is_valid is True
     return [(way, result) for way, result in ((true, 1), (false, 0)) if way]
@@ -108,7 +109,7 @@ def find(state):
     has_prefix = z3.And(z3.UGE(count, 4), is_prefix(*[state.byte_of_input(start + at) for at in (0, 1)]))
     for first, condition in ((2, has_prefix), (0, z3.Not(has_prefix))):
         for way, index, character in _first_invalid(state.when(condition, state.at), text, first, count):
-            way.store(found, _invalid(character, index))
+            way.store(found, _invalid(way, character, index))
             yield way, None
 
 
@@ -118,14 +119,19 @@ def fail(state):
     found, decoder, before, text, count = state.arguments(5)
     require(set(names(found)).isdisjoint(names(decoder)), "a decoder in the place of what is found")
     for way, index, character in _first_invalid(state, text, 0, count):
-        position = moved(way, moved(way, joined(way.load(decoder, 8)), before), index)
-        way.store(found, _invalid(character, position))
-        way.store(decoder, split(position) + [character, byte(FAILED)] + [fresh("g", 8) for _ in range(6)])
+        size = way.WORD
+        position = z3.ZeroExt(64 - 8 * size, joined(way.load(decoder, size)))
+        position = moved(way, moved(way, simple(position), before), index)
+        way.store(found, _invalid(way, character, position))
+        more = [fresh("g", 8) for _ in range(size - 2)]
+        way.store(decoder, [*split(position)[:size], character, byte(FAILED), *more])
         yield way, None
 
 
-def _invalid(character, index):
-    return split(z3.BitVecVal(FOUND, 32)) + [character] + [byte(0)] * 3 + split(index)
+def _invalid(state, character, index):
+    """The kind of an error, which the module has not, the character, and its index."""
+    size = state.WORD
+    return [*split(z3.BitVecVal(FOUND, 32))[: size - 4], character, *[byte(0)] * 3, *split(index)[:size]]
 
 
 def _first_invalid(state, text, first, count):
@@ -139,12 +145,12 @@ def _first_invalid(state, text, first, count):
         require(_is_in("input", text), "a search in what is no input")
         other.load(simple(text + at), 1)
     start, at = _offset(state, "input", text), fresh("p", 64)
-    ways = [(state, count, byte(0))]
-    if some := state.when(z3.And(z3.ULE(first, at), z3.ULT(at, count)), state.at):
-        ways.append((some.without_digit(start + at), at, some.byte_of_input(start + at)))
-    for way, index, character in ways:
-        if other := way and way.with_digits(start + first, index - first):
-            yield other, index, character
+    if none := state.with_digits(start + first, count - first):
+        yield none, count, byte(0)
+    some = state.when(z3.And(z3.ULE(first, at), z3.ULT(at, count)), state.at)
+    some = some and some.without_digit(start + at)
+    if some := some and some.with_no_other(start + first, at - first):
+        yield some, at, some.byte_of_input(start + at)
 
 
 # Those of other objects, and local ones.

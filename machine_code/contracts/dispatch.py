@@ -11,9 +11,9 @@ import functools
 import z3
 
 from contracts.functions import Function, of_32_bits
+from contracts.names import FUNCTIONS, KERNELS, WITH_ERROR
 from execution.state import fresh, simple, split, word
 from meanings.x86_64 import reported
-from proof.functions import FUNCTIONS, KERNELS, WITH_ERROR
 from solver.questions import require
 
 # The byte that stands for each kernel.

@@ -76,11 +76,12 @@ def must_be_digits(state, limit, message="a character is passed that may be no d
 class Object:
     """A region that has numbers. Its size depends on that of a size_t, in bytes."""
 
-    def __init__(self, name, size, is_writable=True):
-        self.name, self.size, self.is_writable = name, size, is_writable
+    def __init__(self, name, size, is_writable=True, is_aligned=True):
+        self.name, self.size, self.is_writable, self.is_aligned = name, size, is_writable, is_aligned
 
     def region(self, state):
-        return Region(self.name, word(self.size(state.WORD)), state.WORD, is_writable=self.is_writable)
+        align = state.WORD if self.is_aligned else 1
+        return Region(self.name, word(self.size(state.WORD)), align, is_writable=self.is_writable)
 
 
 class Function:
@@ -121,6 +122,10 @@ class Function:
         """At the head of a loop: all characters so far are digits, and the output is written so far."""
         must_be_digits(state, read)
         must_cover(state, word(0), written, state.writes, "a byte of the output is left out")
+
+    def is_alone(self, state, offset):
+        """Whether a byte of the input may decide which value a module selects."""
+        return False
 
     def valid(self, state):
         """What a valid input is, for constant time: the digits of the text are digits."""
@@ -169,14 +174,15 @@ def first_invalid(state):
     length and 0."""
     parts = list(state.known_digits())
     for index, character in list(state.input.values()):
-        is_invalid = z3.And(z3.Not(is_digit(character)), z3.ULE(state.body, index), z3.ULT(index, N))
-        if state.holds(is_invalid) and covers(state, state.body, index, parts):
+        is_in = z3.And(z3.ULE(state.body, index), z3.ULT(index, N))
+        if state.is_known(character, False) and state.holds(is_in) and covers(state, state.body, index, parts):
             return index, character
     must_be_digits(state, N)
     return N, byte(0)
 
 
 def moved(state, position, count):
-    """A position so many characters later, or SIZE_MAX if it is greater."""
-    most, later = size_max(state), simple(position + count)
-    return simple(z3.If(z3.Or(z3.ULT(later, position), z3.UGT(later, most)), most, later))
+    """A position so many characters later, or SIZE_MAX if it is greater. Of all numbers the bits of a size_t count."""
+    later, top = simple(position + count), 8 * state.WORD - 1
+    is_greater = z3.ULT(z3.Extract(top, 0, later), z3.Extract(top, 0, position))
+    return state.either(is_greater, word(size_max(state)), later)

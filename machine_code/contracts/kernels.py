@@ -6,7 +6,7 @@ must not call. No length has a limit but that of Rust, whose slices have at most
 
 import z3
 
-from contracts.functions import N, Function, base, digits_of, is_digit, must_be_digits, must_cover, of_32_bits, value
+from contracts.functions import N, Function, base, digits_of, must_be_digits, must_cover, of_32_bits, value
 from execution.state import Region, simple, word
 from solver.questions import holds, require
 

@@ -4,7 +4,6 @@ If a claim were weaker than what the header says, a library could be accepted th
 than 2^63 characters, and so have the bytes whose text fits into a buffer; a size that is passed has no limit.
 """
 
-import pathlib
 import re
 
 import z3
@@ -14,10 +13,10 @@ from contracts.functions import (FAILED, FOUND, INVALID_CHARACTER, INVALID_LENGT
                                  must_be_digits, must_be_size, must_be_unchanged, must_cover, must_find_first_invalid,
                                  of_32_bits, size_max)
 from contracts.kernels import Check as CheckKernel, Fill, must_be_decoded, must_be_digits_of
+from contracts.names import HEADER
 from execution.state import Region, byte, joined, simple, split, word
 from solver.questions import require
 
-HEADER = pathlib.Path(__file__).resolve().parents[2] / "c" / "const_hex.h"
 FLAGS, SIZE = z3.BitVec("p_flags", 32), z3.BitVec("p_size", 64)
 UPPER, PREFIX, NO_NUL = 1, 2, 4
 TEXT, ERROR = Region("input", N), Object("error", lambda size: 8 + size)
@@ -256,7 +255,7 @@ class DecoderFinish(Exported):
 def with_decoder(state):
     """A decoder has the position in the text, a character, and what it waits for: 0 for any digit, 1 for the second
     digit of a byte, more for nothing after an error. Only the character is secret."""
-    state.put_cells("decoder", 0, split(z3.BitVec("p_position", 8 * state.WORD)))
+    state.put_cells("decoder", 0, split(z3.BitVec(f"p_position_{state.WORD}", 8 * state.WORD)))
     state.put_cells("decoder", state.WORD + 1, [z3.BitVec("p_kind", 8)])
     state.first_cells = state.cells.copy()
     return state
@@ -309,6 +308,14 @@ class DecoderUpdate(Exported):
         """How many bytes the digits make."""
         return simple(z3.LShR(N - state.body + state.waiting, 1))
 
+    def waits(self, state):
+        """Whether a digit waits for the next chunk."""
+        return N - state.body + state.waiting - 2 * self.count(state) == 1
+
+    def is_alone(self, state, offset):
+        """The digit of this chunk that waits for the next one."""
+        return state.holds(z3.And(self.waits(state), offset == N - 1))
+
     def store(self, state, offset, lane):
         state.must(z3.ULE(decoder_of(state)[2], 1), "written after an error")
         state.must(z3.ULE(self.count(state), SIZE), "written though the bytes may not fit")
@@ -348,11 +355,11 @@ class DecoderUpdate(Exported):
         must_be_unchanged(state, "error")
         must_be_size(state, "written", 0, self.count(state))
         must_be_size(state, "decoder", 0, moved(state, position, N))
-        waits = z3.Extract(0, 0, N - state.body + state.waiting)
-        must_be(state, "decoder", state.WORD + 1, 1, z3.ZeroExt(7, waits))
-        if other := state.when(z3.And(waits == 1, N == 0), None):
+        waits = self.waits(state)
+        must_be(state, "decoder", state.WORD + 1, 1, z3.If(waits, byte(1), byte(0)))
+        if other := state.when(z3.And(waits, N == 0), None):
             must_be(other, "decoder", state.WORD, 1, character)
-        if other := state.when(z3.And(waits == 1, N != 0), None):
+        if other := state.when(z3.And(waits, N != 0), None):
             must_be(other, "decoder", state.WORD, 1, other.byte_of_input(N - 1))
 
 
@@ -363,7 +370,7 @@ class DecoderFail(Function):
     is_called = is_local = may_leak = True
     symbol, function, name = "const_hex_decoder_fail", "decoder_fail", "every decoder and chunk"
     before = z3.BitVec("p_before", 64)
-    regions = Region("found", word(16)), Region("decoder", word(16)), TEXT
+    regions = *[Object(name, DECODER.size, is_aligned=False) for name in ("found", "decoder")], TEXT
     arguments = base("found"), base("decoder"), before, base("input"), N
     requires = z3.ULT(N, 1 << 63),
 
@@ -372,10 +379,13 @@ class DecoderFail(Function):
 
     def returns(self, state):
         index, character = first_invalid(state)
-        index = moved(state, moved(state, decoder_of(state)[0], self.before), index)
+        index, size = moved(state, moved(state, decoder_of(state)[0], self.before), index), state.WORD
+        index = z3.Extract(8 * size - 1, 0, index)
+        # In the module an error has no kind of its own.
         for name, offset, count, wanted in (
-                ("found", 0, 4, FOUND), ("found", 4, 4, z3.ZeroExt(24, character)), ("found", 8, 8, index),
-                ("decoder", 0, 8, index), ("decoder", 8, 1, character), ("decoder", 9, 1, FAILED)):
+                *[("found", 0, 4, FOUND)][: size - 4], ("found", size - 4, 4, z3.ZeroExt(24, character)),
+                ("found", size, size, index), ("decoder", 0, size, index), ("decoder", size, 1, character),
+                ("decoder", size + 1, 1, FAILED)):
             must_be(state, name, offset, count, wanted)
 
 

@@ -8,29 +8,29 @@ proved than that which runs.
 import re
 
 from execution.state import Region, word
-from reading import module, objects
+from reading import library
 from solver.questions import require
 
 
-def is_module(content):
-    return content.startswith(b"\0asm")
+# No loader has to keep a greater alignment.
+PAGE = 4096
 
 
 class Code:
     def __init__(self, content, processors, imported=None, local=None):
         """With what functions do that are called by their contracts: those of other objects, and local ones."""
-        self.object = module.parse(content, "memory") if is_module(content) else objects.read(content)
+        self.object = library.read(content)
         self._imported, self._local = imported or {}, local or {}
         self.processor = processors[self.object.machine]
         self.constants, self.instructions, self._references = {}, {}, {}
         for at, section in enumerate(self.object.sections):
             if section.is_code:
                 for offset, kind, symbol, addend in section.references:
-                    self._references[section.address + offset] = kind, symbol + addend
+                    self._references[section.address + offset] = kind, self._named(symbol, addend)
             elif not section.is_writable:
                 # An access beyond the end of a section is one to what is not known.
-                region = Region(f"constants_{at}", word(len(section.content)), section.alignment, section.content,
-                                self._targets(section))
+                region = Region(f"constants_{at}", word(len(section.content)), min(section.alignment, PAGE),
+                                section.content, self._targets(section))
                 self.constants[section.address] = section, region
             else:
                 # It is kept between calls, and all threads have it.
@@ -38,11 +38,19 @@ class Code:
                 self.constants[section.address] = section, Region("kept", word(1))
         require(sum(region.name == "kept" for _, region in self.constants.values()) < 2, "two sections are kept")
 
+    def _named(self, symbol, addend):
+        """The place that a reference names. On x86-64 it counts from the field, of an instruction with up to 15 bytes.
+        Beyond the section of its symbol, the linker puts another one than `reading` does."""
+        own = next((it for it in self.object.sections if it.address <= symbol <= it.end), None)
+        first, end = (own.address, own.end) if own else (symbol, symbol + 1)
+        require(first - 15 <= symbol + addend < end, "a reference to a place beyond the section of its symbol")
+        return symbol + addend
+
     def _targets(self, section):
         """Where a table of jumps leads, if it is one: each entry is the distance of 32 bits from the table."""
         if not section.references:
             return None
-        targets = {offset: symbol + addend - offset for offset, kind, symbol, addend in section.references}
+        targets = {offset: self._named(symbol, addend - offset) for offset, kind, symbol, addend in section.references}
         is_table = sorted(targets) == list(range(0, len(section.content), 4))
         require(is_table and all(kind == 2 for _, kind, _, _ in section.references), "addresses among constants")
         return targets

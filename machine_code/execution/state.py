@@ -11,7 +11,7 @@ import itertools
 import z3
 
 from solver import tenths
-from solver.questions import Refused, conjuncts, facts_of, holds, names, require, values
+from solver.questions import Refused, conjuncts, facts_of, holds, is_impossible, names, relevant, require, values
 
 simple = z3.simplify
 _numbers = itertools.count()
@@ -40,16 +40,17 @@ _wholes = {}
 
 def joined(lane):
     """The number that bytes make, of which the first is the lowest."""
-    if len(lane) == 8 and (whole := _wholes.get(tuple(part.get_id() for part in lane))):
+    if whole := _wholes.get(tuple(part.get_id() for part in lane)):
         return whole[0]
     return simple(z3.Concat(*reversed(lane))) if len(lane) > 1 else lane[0]
 
 
 def split(term):
-    """The bytes of a number. One of 64 bits is kept for `joined`, which would not find the same sum again."""
+    """The bytes of a number. One of 64 bits, and its lower half, are kept for `joined`, which would not find the same
+    sums again."""
     lane = [simple(z3.Extract(at + 7, at, term)) for at in range(0, term.size(), 8)]
-    if len(lane) == 8:
-        _wholes[tuple(part.get_id() for part in lane)] = simple(term), lane
+    for size in (4, 8) if len(lane) == 8 else ():
+        _wholes[tuple(part.get_id() for part in lane[:size])] = simple(z3.Extract(8 * size - 1, 0, term)), lane
     return lane
 
 
@@ -160,9 +161,9 @@ class State:
     def either(self, condition, one, other):
         """The first of two terms where a condition holds, else the second: just that one, if it is known which."""
         if not is_secret(condition):
-            known = [term for term, way in ((one, condition), (other, z3.Not(condition))) if self.holds(way)]
-            if known:
-                return known[0]
+            for term, way in (one, condition), (other, z3.Not(condition)):
+                if self.holds(way):
+                    return term
         return simple(z3.If(condition, one, other))
 
     def choose(self, choice):
@@ -324,16 +325,25 @@ class State:
 
     def with_digits(self, offset, count):
         """This state where a part of the input has digits alone, or None if it can't."""
+        other = self.with_no_other(offset, count)
+        digits = [self.contract.is_digit(name) for at, name in self.input.values()
+                  if other and not self.is_known(name, True) and other.holds(z3.ULT(at - offset, count))]
+        return other and other.when(z3.And(*digits), other.at)
+
+    def with_no_other(self, offset, count):
+        """The same, but only what is known of each character by itself shows that it can't."""
         other, offset, count = self.copy(), simple(offset), simple(count)
         other.reads.append((offset, count))
         other.digits[offset.get_id(), str(count)] = True
         for at, name in self.input.values():
-            is_digit, is_in = self.contract.is_digit(name), z3.ULT(at - offset, count)
-            if other and other.holds(is_in):
-                other = other.when(is_digit, other.at)
-            elif other and other.holds(z3.Not(is_digit)):
-                other = other.when(z3.Not(is_in), other.at)
+            if other and self.is_known(name, False):
+                other = other.when(z3.Not(z3.ULT(at - offset, count)), other.at)
         return other
+
+    def is_known(self, name, is_digit):
+        """Whether a character is known, by itself, to be a digit, or to be none."""
+        wanted = self.contract.is_digit(name) == is_digit
+        return is_impossible([*relevant(self.facts, wanted, 0), z3.Not(wanted)])
 
     def without_digit(self, offset):
         """This state where a character of the input is no digit, or None if it can't be."""

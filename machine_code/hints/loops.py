@@ -9,7 +9,7 @@ import z3
 
 from execution import paths
 from execution.state import fresh, simple, word
-from solver.questions import Refused, names
+from solver.questions import Refused, is_public, names
 
 
 def heads(code, start):
@@ -59,6 +59,16 @@ class Hint:
         facts = [fact.term for fact in end.facts[len(entry.facts):] if fact.names & moving and not fact.names & unknown]
         # What the branches say of the registers where the round ends, and so held where it began.
         self.facts = [fact for fact in facts if entry.holds(self._at(fact, word(-1)))]
+        rest = {name: end.general[name] == value for name, value in entry.general.items() if name not in self.steps}
+        if rest := {name: same for name, same in rest.items() if is_public(same)}:
+            self._keep(rest, entry, end.facts[len(entry.facts):])
+
+    def _keep(self, rest, entry, facts):
+        """Finds registers that a round changes only if it is the last one."""
+        state, k = entry.copy(), fresh("p", 64)
+        for fact in [z3.ULE(k, self.bound(entry)), *self.guards(k), *[self._at(fact.term, k) for fact in facts]]:
+            state.assume(fact)
+        self.steps |= {name: 0 for name, same in rest.items() if state.holds(self._at(same, k))}
 
     def _at(self, term, k):
         """A term of the registers after so many rounds."""

@@ -17,6 +17,7 @@ from meanings.aarch64_vectors import (all_bits, by_units, constant, duplicate, e
 from meanings.lanes import ADD, AND, MAXIMUM, MINIMUM, MULTIPLY, OR, SUBTRACT, SUBTRACT_SATURATED, XOR
 from reading import disassembly
 from reading.assembled import checked, with_distance
+from reading.objects import AARCH64
 from solver.questions import require
 
 # By what a relocation is for, as ELF numbers them.
@@ -56,18 +57,13 @@ class Operand:
             self.kind, self.value = "number", int(text.removeprefix("#"), 0 if text.startswith("#") else 16)
 
 
-def _instruction(text):
-    mnemonic, _, rest = text.partition("\t")
-    rest = re.split("//|<", rest)[0].strip()
-    text = f"{mnemonic} {rest}".strip()
-    try:
-        operands = [Operand(part.strip()) for part in OPERAND.findall(rest)]
-    except Exception:
-        return "unknown", [], text
+def _operands(text):
+    """Those of an instruction. What stands after an address is added to its base afterwards."""
+    operands = [Operand(part.strip()) for part in OPERAND.findall(text)]
     if len(operands) > 1 and operands[-2].kind == "memory":
         *operands, after = operands
         operands[-1].after = after
-    return mnemonic, operands, text
+    return operands
 
 
 def _is_page(i, old, new):
@@ -82,7 +78,7 @@ def _is_target(i):
 
 def instructions(code, section, level):
     """Those of a section by their addresses. One with a relocation must be what the relocation is for."""
-    found = disassembly.read(section, ["aarch64-linux-gnu-objdump", "-m", "aarch64"], _instruction)
+    found = disassembly.read(section, AARCH64, _operands)
     found = checked(section, found, ["aarch64-linux-gnu-as", "-march=armv8-a"], with_distance, _is_page)
     for address, i in found.items():
         references = code.references_in(address, i.size)

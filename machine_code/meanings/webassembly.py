@@ -108,11 +108,6 @@ def follows(i):
     return ([] if i.mnemonic in ENDS else [i.address + 1]) + i.operands.targets + called
 
 
-def globals_of(module):
-    """The numbers that the globals have at first."""
-    return [int.from_bytes(bytes(part.value for part in value), "little") for value in module.globals]
-
-
 def _operand(i, at):
     """The name of the register for the operand above so many others."""
     return f"operand {i.address // SPACE}.{at}"
@@ -125,32 +120,37 @@ def _local(i, at):
 class State(state.State):
     """The arguments are put into the locals of the function. A function that is called has others."""
 
-    TOP, STACK, STACK_OF_CALLED, RETURN, VECTORS, WIDTH, WORD = "global 0", 4096, 4096, 0, 0, 16, 4
+    # What is called by its contract has no stack.
+    TOP, STACK, STACK_OF_CALLED, RETURN, VECTORS, WIDTH, WORD = "global 0", 4096, 0, 0, 0, 16, 4
     GENERAL, ARGUMENTS, RESULT = (), tuple(f"argument {at}" for at in range(7)), ("result", 32)
-    KEPT = "global 0",
 
     def enter(self):
         module, given = self.code.object, len(self.contract.arguments)
         arguments = [self.general[name] for name in self.ARGUMENTS[:given]]
         self._lay_out(module)
         function = module.function_at(self.at)
-        require((function.parameters, function.results) == ([4] * len(arguments), [4]), "a function of another type")
-        self.general = {f"global {at}": word(number) for at, number in enumerate(globals_of(module))}
+        results = [] if self.contract.is_local else [4]
+        require((function.parameters, function.results) == ([4] * given, results), "a function of another type")
+        self.general = {f"global {at}": word(number) for at, number in enumerate(module.globals)}
         self.general["global 0"] = simple(self.regions["stack"].base + self.STACK)
         self.begin(function, arguments, z3.BitVec("p_return", 64))
 
     def _lay_out(self, module):
         """The stack, the data, and what the caller may use follow each other."""
         data = sorted((section.address, section.end) for section in module.sections if not section.is_code)
-        places = [globals_of(module)[0], *sum(data, ())]
+        places = [module.globals[0], *sum(data, ())]
         places += [module.places.get(name, -1) for name in ("__data_end", "__heap_base")]
-        is_right = len(data) == 1 and places[0] == self.STACK and places == sorted(places) and places[-1] <= MEMORY
+        is_right = len(data) == 1 and places[0] == State.STACK and places == sorted(places) and places[-1] <= MEMORY
         require(is_right, f"the stack, the data and `__heap_base` lie at {places}")
+        require(module.mutable == {0}, "a global that is kept between calls")
+        is_called = self.contract.is_called
         for region in self.regions.values():
-            self.assume(z3.And(z3.ULE(region.size, MEMORY), z3.ULE(region.base, MEMORY - region.size)))
-            if region.data is None and region.name != "stack":
-                self.assume(z3.Or(region.size == 0, z3.UGE(region.base, places[-1])))
-        self.assume(self.regions["stack"].base == 0)
+            # What is called gets places in its caller's stack, too.
+            lowest = places[-1] if region.data is None and region.name != "stack" and not is_called else 0
+            is_inside = z3.And(z3.UGE(region.base, lowest), z3.ULE(region.base, MEMORY - region.size))
+            self.assume(z3.And(z3.ULE(region.size, MEMORY), z3.Or(region.size == 0, is_inside)))
+        if not is_called:
+            self.assume(self.regions["stack"].base == 0)
 
     def begin(self, function, arguments, back):
         """The locals are 0 at first."""
@@ -171,7 +171,18 @@ class State(state.State):
 
     def returned(self):
         self.must(self.general["global 0"] == self.first["global 0"], "global 0 is not as before")
-        self.must(z3.ULT(self.exact(self.general["result"]), 256), "a result with more bytes")
+        if "result" in self.general:
+            self.must(z3.ULT(self.exact(self.general["result"]), 256), "a result with more bytes")
+
+    # Calls by a contract
+    def arguments(self, count):
+        return [self.exact(self.general[f"local {self.at // SPACE}.{at}"]) for at in range(count)]
+
+    def return_address(self):
+        return self.leave_function(self.at // SPACE)
+
+    def forget(self):
+        """What is called changes no register of its caller."""
 
     def arrive(self, is_clean):
         """All that a loop head says is said of any processor."""
@@ -223,6 +234,7 @@ def computes(name, takes, function, gives=1):
         result = function(s, i.operands.numbers, *values)
         if gives:
             s.put(_operand(i, first), result)
+    handler.takes = takes
     HANDLERS[name], EFFECTS[name] = handler, (len(takes), gives)
 
 
@@ -287,17 +299,25 @@ def branch_by(s, i):
 
 
 def select(s, i):
-    """Counts as a branch: it is run again in the states where it is known which operand is taken."""
+    """Counts as a branch: it is run again in the states where it is known which operand is taken. A byte of the input
+    may decide that stands alone."""
     first = i.operands.height - 3
     one, other, choice = [_operand(i, first + at) for at in range(3)]
     condition = _is_true(s.exact(s.get(choice)))
     truth = next((truth for truth in (True, False) if s.holds(condition == truth)), None)
-    if truth is None:
+    if truth is None and not _is_alone(s, condition):
         s.next = i.address
         return Branch(condition, i.address)
     s.take(choice)
     values = s.take(one), s.take(other)
-    s.put(_operand(i, first), values[0 if truth else 1])
+    s.put(_operand(i, first), z3.If(condition, *values) if truth is None else values[0 if truth else 1])
+
+
+def _is_alone(s, condition):
+    """Whether of all that is secret only bytes of the input decide that stand alone."""
+    offsets = {name.decl().name(): offset for offset, name in s.input.values()}
+    secrets = [name for name in names(condition) if not name.startswith("p_")]
+    return secrets and all(name in offsets and s.contract.is_alone(s, offsets[name]) for name in secrets)
 
 
 def call(s, i):

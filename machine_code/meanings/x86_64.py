@@ -16,6 +16,7 @@ from meanings.lanes import ADD, AND, OR, SUBTRACT, XOR
 from meanings.x86_64_vectors import HANDLERS as VECTORS
 from reading import disassembly
 from reading.assembled import checked, with_distance
+from reading.objects import X86_64
 from solver.questions import require
 
 # What a CPU has, by the levels of the x86-64 psABI, as GNU as names it.
@@ -59,14 +60,6 @@ class Operand:
             self.kind, self.value = "number", int(text, 16)
 
 
-def _instruction(text):
-    text = text.split("#")[0].split("<")[0].strip()
-    mnemonic, _, rest = text.partition(" ")
-    if re.match(r"(data16 |cs )*nop", text):
-        return "nop", (), text
-    return mnemonic, [Operand(part.strip()) for part in rest.split(",") if part], text
-
-
 def _is_jump(instruction):
     return instruction.mnemonic.startswith("j") or instruction.mnemonic == "call"
 
@@ -74,7 +67,7 @@ def _is_jump(instruction):
 def instructions(code, section, level):
     """Those of a section by their addresses, for the least CPU of a level. One with a relocation has the place that
     the linker will make of it: at its end, it is so far from there."""
-    found = disassembly.read(section, ["objdump", "-m", "i386:x86-64", "-M", "intel", "-w"], _instruction)
+    found = disassembly.read(section, X86_64, lambda text: [Operand(part.strip()) for part in text.split(",") if part])
     command = ["as", "--64", "-msyntax=intel", "-mnaked-reg", f"-march={LEVELS.get(level, V2)}"]
     text_of = lambda i: with_distance(i) if _is_jump(i) else i.text
     found = checked(section, found, command, text_of, lambda i, old, new: i.mnemonic == "nop" and old.hex() in NOPS)

@@ -5,14 +5,19 @@ import subprocess
 import tempfile
 from collections import namedtuple
 
+from reading.objects import AARCH64, X86_64
+
 # `refused` says why it must not be run, or is None.
 Instruction = namedtuple("Instruction", "address size mnemonic operands text refused", defaults=[None])
+# By the processor: what prints its instructions, and what begins a comment there.
+COMMANDS = {X86_64: (["objdump", "-m", "i386:x86-64", "-M", "intel", "-w"], "[#<]"),
+            AARCH64: (["aarch64-linux-gnu-objdump", "-m", "aarch64"], "//|<")}
 LINE = re.compile(r"^\s*([0-9a-f]+):\t((?:(?:[0-9a-f]{2})+ )+)\s*\t(.*)$")
 
 
-def read(section, command, instruction):
-    """The instructions of a section, by address. `instruction` reads the text of one: it gives the mnemonic, the
-    operands, and the text without comments."""
+def read(section, processor, operands=lambda text: ()):
+    """The instructions of a section, by address. `operands` reads what stands after a mnemonic."""
+    command, comment = COMMANDS[processor]
     with tempfile.NamedTemporaryFile() as file:
         file.write(section.content)
         file.flush()
@@ -21,10 +26,12 @@ def read(section, command, instruction):
     found = {}
     for match in filter(None, map(LINE.match, listing.splitlines())):
         address, size = int(match[1], 16), len(bytes.fromhex(match[2]))
+        text = re.split(comment, match[3])[0].replace("\t", " ").strip()
+        # A nop may have prefixes and operands, which mean nothing.
+        mnemonic, _, rest = re.sub("^(data16 |cs )*nop.*", "nop", text).partition(" ")
         try:
-            mnemonic, operands, text = instruction(match[3])
-        except (ValueError, KeyError):
-            # An operand that is not known here. It is an error if it is run.
-            mnemonic, operands, text = "unknown", (), match[3].replace("\t", " ")
-        found[address] = Instruction(address, size, mnemonic, operands, text)
+            found[address] = Instruction(address, size, mnemonic, operands(rest), text)
+        except Exception:
+            # An operand that is not known here. It is refused if it is run.
+            found[address] = Instruction(address, size, "unknown", (), text)
     return found

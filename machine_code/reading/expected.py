@@ -1,5 +1,5 @@
-"""What an object of the library has: exactly this, and nothing beside it that a linker, a loader or a program could take
-in its place, or run.
+"""What an object of the library has: exactly this, and nothing beside it that a linker, a loader or a program could
+take in its place, or run.
 
 The code itself is proved. Here is what decides that a program runs it: each symbol that others see, by its kind, its
 binding, its visibility and its section; each name that the object leaves to others; and each section that is loaded.
@@ -8,20 +8,25 @@ binding, its visibility and its section; each name that the object leaves to oth
 import re
 import struct
 
-from proof.functions import FUNCTIONS, KERNELS, WITH_ERROR
-from reading.objects import ADDENDS, ALLOCATED, EMPTY, EXECUTABLE, SYMBOLS, WRITABLE, Symbol, whole
+from contracts.names import FUNCTIONS, KERNELS, WITH_ERROR
+from reading.objects import (AARCH64, ADDENDS, ALLOCATED, EMPTY, EXECUTABLE, SYMBOLS, WRITABLE, X86_64, Symbol,
+                             whole)
 
-X86_64, AARCH64 = 62, 183
 CONTENT, STRINGS = 1, 3
 DISPATCH, RUST = "dispatch", "rust_"
-# Of each processor: the builds of the archive for C, and those of the Rust crate.
-BUILDS = {X86_64: ({DISPATCH, "functions_x86_64", "kernel_v2", "kernel_v3"}, {"rust_v2", "rust_v3"}),
-          AARCH64: ({DISPATCH, "functions_aarch64", "kernel_aarch64"}, {"rust_aarch64"})}
+# Of each processor the builds of the archive for C and those of the Rust crate, with the files in c/asm and
+# rust/src/asm from which they are made.
+BUILDS = {
+    X86_64: {DISPATCH: DISPATCH, "functions_x86_64": "functions_x86_64", "kernel_v2": "kernel_x86_64_v2",
+             "kernel_v3": "kernel_x86_64_v3", "rust_v2": "x86_64_v2", "rust_v3": "x86_64_v3"},
+    AARCH64: {DISPATCH: DISPATCH, "functions_aarch64": "functions_aarch64", "kernel_aarch64": "kernel_aarch64",
+              "rust_aarch64": "aarch64"},
+}
 # A section that is loaded, by its type and its flags, is named after what it has.
 NAME = r"const_hex_\w+"
 LOADED = {
     (CONTENT, ALLOCATED | EXECUTABLE): rf"\.text\.({NAME}|ask)",
-    (CONTENT, ALLOCATED): rf"\.rodata\.const_hex_(\w+_)?constant_\d+\w*",
+    (CONTENT, ALLOCATED): r"\.rodata\.const_hex_(\w+_)?constant_\d+\w*",
     (EMPTY, ALLOCATED | WRITABLE): r"\.bss\.choice",
 }
 # Assemblers write these, without any content.
@@ -35,6 +40,11 @@ OTHERS = {
 INFORMATION, MERGED_STRINGS, COMPRESSED, EXCLUDED = 0x40, 0x30, 0x800, 0x80000000
 # Some assemblers note what the code uses of x86-64, which demands nothing of a linker or a loader.
 NOTE, NOTE_TYPE, USED = ".note.gnu.property", 7, {0xC0010001, 0xC0010002}
+
+
+def builds_of(machine, is_rust):
+    """The builds that belong together."""
+    return [build for build in BUILDS.get(machine, ()) if build.startswith(RUST) == is_rust]
 
 
 def _function(name, visibility="default"):
@@ -83,7 +93,8 @@ def _shown(symbol):
     if symbol is None:
         return "nothing"
     where = f"in {symbol.section}" if symbol.section else "that is not defined"
-    return f"{symbol.binding}, {symbol.visibility}, {symbol.kind} {where}{f' at {symbol.place:#x}' * (symbol.place > 0)}"
+    place = f" at {symbol.place:#x}" if symbol.place else ""
+    return f"{symbol.binding}, {symbol.visibility}, {symbol.kind} {where}{place}"
 
 
 def _check_sections(obj):

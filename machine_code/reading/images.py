@@ -9,28 +9,43 @@ import struct
 from collections import namedtuple
 
 from reading import objects
-from reading.objects import BRANCH, PAGE, RELATIVE, place_in_page, whole
+from reading.objects import AARCH64, BRANCH, PAGE, RELATIVE, X86_64, place_in_page, whole
 
-# Bytes at an address, and whether they can run, and be written.
-Piece = namedtuple("Piece", "name is_code is_writable address content")
-X86_64, AARCH64 = 62, 183
+# Bytes at an address, which the linker or the loader moves by a multiple of `alignment`; whether they can run, and be
+# written; and whether the linker may merge them with others, or take those of another object.
+Piece = namedtuple("Piece", "name is_code is_writable alignment address content is_shared", defaults=[False])
 PAGE_SIZE, FAR, APART = 4096, 1 << 26, 1 << 12
-FUNCTION, UNDEFINED = 2, 0
+UNDEFINED = 0
 # A local symbol that names a file of the source. Nothing is found by it, and rustc's begins with the crate's name.
 SOURCE_FILE = 4
 
 
 class Image:
     """The pieces that are loaded; by the name of a function the places that it has; and the names at the places of
-    those that an object leaves to others. A library has to have all functions."""
+    those that an object leaves to others. A library has to have all functions. Of an object there are the fields that
+    the linker writes, with whether they are read here as it does, and where parts of pieces begin that it may move."""
 
-    is_library = False
+    is_library = is_object = False
 
     def __init__(self, machine):
         self.machine, self.pieces, self.places, self.absent = machine, [], {}, {}
+        self.fields, self.starts = {}, ()
 
     def add_place(self, name, address):
         self.places.setdefault(name, set()).add(address)
+
+    def add_field(self, place, is_known):
+        """Notes a field. What two relocations make of one is not known."""
+        self.fields[place] = is_known and place not in self.fields
+
+    def are_together(self, place, target):
+        """Whether no linker puts two places at another distance from each other than they have here."""
+        first, last = sorted((place, target))
+        is_same = self.piece_at(first) and self.piece_at(first) == self.piece_at(last)
+        return first == last or is_same and not any(first < start <= last for start in self.starts)
+
+    def piece_at(self, place):
+        return next((it for it in self.pieces if it.address <= place < it.address + len(it.content)), None)
 
     def read(self, address, size):
         """The only piece that has these bytes, and the bytes."""
@@ -55,7 +70,9 @@ def read(data):
 def _of_object(data):
     obj = objects.read(data)
     image = Image(obj.machine)
-    image.pieces = [Piece(it.name, it.is_code, it.is_writable, it.address, it.content) for it in obj.sections]
+    image.is_object = True
+    image.fields = {it.address + offset: True for it in obj.sections for offset, *_ in it.references}
+    image.pieces = [Piece(*[getattr(it, name) for name in Piece._fields[:-1]]) for it in obj.sections]
     for name, address in obj.symbols.items():
         image.add_place(name, address)
     image.absent = obj.undefined
@@ -91,7 +108,8 @@ def _linked(data):
             raise ValueError("a segment that is not written, and larger than in the file")
         end = -(-(address + in_memory) // PAGE_SIZE) * PAGE_SIZE
         content = data[offset : offset + in_file] + bytes(in_memory - in_file)
-        image.pieces.append(Piece(f"segment at {address:#x}", bool(flags & 1), bool(flags & 2), address, content))
+        name = f"segment at {address:#x}"
+        image.pieces.append(Piece(name, bool(flags & 1), bool(flags & 2), PAGE_SIZE, address, content))
     dynamic = _dynamic(image, [(header[3], header[5]) for header in headers if header[0] == DYNAMIC])
     if WRITES_CODE in dynamic or dynamic.get(FLAGS, 0) & WRITES_CODE_FLAG:
         raise ValueError("the loader changes its code")
@@ -160,18 +178,22 @@ def _add_symbols(image, table, strings):
 
 MACH_O_MACHINES = {0x01000007: X86_64, 0x0100000C: AARCH64}
 SEGMENT, SYMBOL_TABLE, IN_SECTION, TYPE, WEAK = 0x19, 2, 0xE, 0xE, 0xC0
-INSTRUCTIONS, ZEROS, OBJECT = 0x80000400, 1, 1
-# Kinds of relocations: by the kind the field, and for what is relative on x86-64 how many bytes follow.
-MACH_O_X86_64 = {1: RELATIVE, 2: RELATIVE, 6: RELATIVE, 7: RELATIVE, 8: RELATIVE}
+INSTRUCTIONS, REGULAR, ZEROS, OBJECT = 0x80000400, 0, 1, 1
+# Flags of a file: the linker may move each symbol with what comes after it.
+BY_SYMBOLS = 0x2000
+# Kinds of relocations that are relative on x86-64, with how many bytes follow the field.
+MACH_O_X86_64 = {1: 0, 2: 0, 6: 1, 7: 2, 8: 4}
 ABSOLUTE, SUBTRACTED = 0, {X86_64: 5, AARCH64: 1}
 ADDEND = 10
 
 
 def _mach_o(data):
     [machine], [file_kind, count] = struct.unpack_from("<I", data, 4), struct.unpack_from("<II", data, 12)
+    [file_flags] = struct.unpack_from("<I", data, 24)
     if file_kind != OBJECT:
         raise ValueError("a file of Mach-O that is no object")
     image, at, sections, table = Image(MACH_O_MACHINES[machine]), 32, [], (0, 0, 0)
+    image.is_object = True
     for _ in range(count):
         command, size = struct.unpack_from("<II", data, at)
         if command == SEGMENT:
@@ -180,15 +202,18 @@ def _mach_o(data):
         elif command == SYMBOL_TABLE:
             table = struct.unpack_from("<IIII", data, at + 8)
         at += size
-    for name, segment, address, size, offset, _, _, _, flags in sections:
+    for name, segment, address, size, offset, alignment, _, _, flags in sections:
+        if address % (1 << alignment):
+            raise ValueError("a section that is not aligned")
         content = bytearray(size) if flags & 255 == ZEROS else bytearray(data[offset : offset + size])
-        name = name.rstrip(b"\0").decode()
-        is_writable = segment.startswith(b"__DATA")
-        image.pieces.append(Piece(name, bool(flags & INSTRUCTIONS), is_writable, address, content))
+        is_writable, is_shared = segment.rstrip(b"\0") != b"__TEXT", flags & 255 not in (REGULAR, ZEROS)
+        image.pieces.append(Piece(name.rstrip(b"\0").decode(), bool(flags & INSTRUCTIONS), is_writable, 1 << alignment,
+                                  address, content, is_shared))
     places = _placed(image, [(name.removeprefix("_"), address if kind & TYPE == IN_SECTION else None)
                              for name, kind, address in _mach_o_symbols(data, *table)])
+    image.starts = sorted({*places} - image.absent.keys()) if file_flags & BY_SYMBOLS else ()
     for piece, (*_, offset, count, _) in zip(image.pieces, sections):
-        _relocate_mach_o(image.machine, piece, data[offset : offset + 8 * count], places)
+        _relocate_mach_o(image, piece, data[offset : offset + 8 * count], places)
     return image
 
 
@@ -213,34 +238,51 @@ def _placed(image, symbols):
     return found
 
 
-def _relocate_mach_o(machine, piece, table, places):
-    base, addend = None, 0
+def _relocate_mach_o(image, piece, table, places):
+    machine, base, addend = image.machine, None, 0
     # The last one stands first.
     for offset, info in struct.iter_unpack("<II", table):
         number, length, is_extern, kind = info & 0xFFFFFF, info >> 25 & 3, info >> 27 & 1, info >> 28
         if kind == ADDEND and machine == AARCH64:
             addend = number - (number >> 23 << 24)
             continue
+        place = piece.address + offset
         if not is_extern or length != 2:
             if is_extern or kind in (SUBTRACTED[machine], ABSOLUTE):
-                raise ValueError(f"a relocation of kind {kind} that is not known here")
-            continue  # The field is right where the sections lie in the object.
+                _not_known(kind)
+            # The field is right where the sections lie in the object, if it points to the section with the number.
+            is_known = length == 2 and machine == X86_64 and kind in MACH_O_X86_64
+            target = _target(piece, offset, place + 4 + MACH_O_X86_64[kind]) if is_known else 0
+            image.add_field(place, is_known and image.piece_at(target) == image.pieces[number - 1])
+            continue
         if kind == SUBTRACTED[machine]:
             base = places[number]
             continue
-        [word], target = struct.unpack_from("<I", piece.content, offset), places[number] + addend
-        place = piece.address + offset
+        [word] = struct.unpack_from("<I", piece.content, offset)
+        target, is_near = places[number] + addend, base is None or image.are_together(base, place)
         if kind == ABSOLUTE and base is not None:
-            word = word + target - base
+            end, word = _target(piece, offset, target), word + target - base
         elif machine == X86_64 and kind in MACH_O_X86_64:
-            word = word + target - place - 4
+            end, word = _target(piece, offset, target + MACH_O_X86_64[kind]), word + target - place - 4
         elif machine == AARCH64:
             field = {2: BRANCH, 3: PAGE}.get(kind) or place_in_page(_access(word)) if kind in (2, 3, 4) else None
-            word = field.set(word, place, target) if field else _not_known(kind)
+            end, word = target, _set_in_instruction(field, word, place, target) if field else _not_known(kind)
         else:
             _not_known(kind)
+        image.add_field(place, is_near and image.are_together(places[number], end))
         struct.pack_into("<I", piece.content, offset, word & 0xFFFFFFFF)
         base, addend = None, 0
+
+
+def _target(piece, offset, start):
+    """What a field of an object names, which counts from a start."""
+    return start + struct.unpack_from("<i", piece.content, offset)[0]
+
+
+def _set_in_instruction(field, word, place, target):
+    if word & field.mask:
+        raise ValueError("an addend in an instruction")
+    return field.set(word, place, target)
 
 
 def _not_known(kind):
@@ -257,19 +299,24 @@ def _access(word):
 # COFF
 
 COFF_MACHINES = {b"\x64\x86": X86_64, b"\x64\xaa": AARCH64}
-RUNS, WRITES, EXTERNAL, STATIC = 0x20000000, 0x80000000, 2, 3
+RUNS, WRITES, MORE_RELOCATIONS, COMDAT, EXTERNAL, STATIC = 0x20000000, 0x80000000, 0x1000000, 0x1000, 2, 3
 COFF_X86_64 = {4 + after: 4 + after for after in range(6)}
 COFF_AARCH64 = {3: BRANCH, 4: PAGE, 6: place_in_page(1), 7: None, 0x11: RELATIVE}
 
 
 def _coff(data):
     image = Image(COFF_MACHINES[data[:2]])
+    image.is_object = True
     [count], [table, symbols] = struct.unpack_from("<H", data, 2), struct.unpack_from("<II", data, 8)
     headers, end = [struct.unpack_from("<8sIIIIIIHHI", data, 20 + 40 * at) for at in range(count)], APART
     for name, _, _, size, offset, *_, flags in headers:
+        if flags & MORE_RELOCATIONS:
+            raise ValueError("a section with more relocations than its header says")
         content = bytearray(data[offset : offset + size] if offset else size)
         end += -end % PAGE_SIZE
-        image.pieces.append(Piece(name.decode().rstrip("\0"), bool(flags & RUNS), bool(flags & WRITES), end, content))
+        alignment = 1 << max((flags >> 20 & 15) - 1, 0)
+        image.pieces.append(Piece(name.decode().rstrip("\0"), bool(flags & RUNS), bool(flags & WRITES), alignment, end,
+                                  content, bool(flags & COMDAT)))
         end += size + PAGE_SIZE
     found, at, strings = [], 0, table + 18 * symbols
     while at < symbols:
@@ -286,19 +333,18 @@ def _coff(data):
     places = _placed(image, found)
     for piece, (*_, offset, _, count, _, _) in zip(image.pieces, headers):
         for place, number, kind in struct.iter_unpack("<IIH", data[offset : offset + 10 * count]):
-            _relocate_coff(image.machine, piece, place, kind, places[number])
+            _relocate_coff(image, piece, place, kind, places[number])
     return image
 
 
-def _relocate_coff(machine, piece, offset, kind, target):
-    [word], place = struct.unpack_from("<I", piece.content, offset), piece.address + offset
-    if machine == X86_64 and kind in COFF_X86_64:
-        word = word + target - place - COFF_X86_64[kind]
-    elif machine == AARCH64 and kind in COFF_AARCH64:
-        field = COFF_AARCH64[kind] or place_in_page(_access(word))
-        if word & field.mask:
-            raise ValueError("an addend in an instruction")
-        word = field.set(word, place, target)
+def _relocate_coff(image, piece, offset, kind, target):
+    place = piece.address + offset
+    if kind not in (COFF_X86_64 if image.machine == X86_64 else COFF_AARCH64):
+        return image.add_field(place, False)
+    [word], end = struct.unpack_from("<I", piece.content, offset), target
+    if image.machine == X86_64:
+        end, word = _target(piece, offset, target), word + target - place - COFF_X86_64[kind]
     else:
-        return  # What has one is another section's, or differs from what was proved.
+        word = _set_in_instruction(COFF_AARCH64[kind] or place_in_page(_access(word)), word, place, target)
+    image.add_field(place, image.are_together(target, end))
     struct.pack_into("<I", piece.content, offset, word & 0xFFFFFFFF)

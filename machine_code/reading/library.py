@@ -1,26 +1,16 @@
-"""The builds of a library: the objects of its archive, each with the front end for its processor; or a module for
-WebAssembly."""
+"""The builds of a library: the objects of its archive, or a module for WebAssembly."""
 
-import functools
-import importlib
 import pathlib
 import re
 
-from isa.wasm import cases as of_module, front_end
-from proof import callees, kernels
-from proof.cases import CALLS
-from proof.exploration import Code
-from reading import archive as archives, expected, linked, module, objects
-from reading.expected import DISPATCH
+from reading import archive, expected, linked, module, objects
 
-PROCESSORS = {62: "x86_64", 183: "aarch64"}  # by their number in ELF
 WASM = "wasm"
-# The builds by the names of the files in c/asm. CMake keeps the end of a name, and compilers replace it. Kernels of the
-# Rust crate are in rust/src/asm.
-BUILDS = {DISPATCH: DISPATCH, "functions_x86_64": "functions_x86_64", "functions_aarch64": "functions_aarch64"}
-BUILDS |= {f"{kind}_{name}": f"{kind}_{build}" for kind in ("kernel", "rust")
-           for name, build in (("x86_64_v2", "v2"), ("x86_64_v3", "v3"), ("aarch64", "aarch64"))}
+# CMake keeps the end of a file's name, and compilers replace it.
 MEMBER = re.compile(r"(.*?)(\.S)?\.o")
+# The builds by the names of members. Those for Rust are named after files in rust/src/asm.
+NAMED = {(expected.RUST if build.startswith(expected.RUST) else "") + file: build
+         for builds in expected.BUILDS.values() for build, file in builds.items()}
 
 
 def _named(name, check, *given):
@@ -30,15 +20,15 @@ def _named(name, check, *given):
         raise ValueError(f"{name} has what does not belong there: {error}")
 
 
-@functools.lru_cache
-def _members(archive):
+def _members(data):
     """The bytes of the builds. A file for another processor has become an empty object."""
-    members, index = archives.read(pathlib.Path(archive).read_bytes())
-    names = [BUILDS.get(MEMBER.sub(r"\1", name), name) for name, _ in members]
+    members, index = archive.read(data)
+    names = [NAMED.get(MEMBER.sub(r"\1", name), name) for name, _ in members]
     read = [_named(name, objects.read, content) for name, content in members]
     machines = {obj.machine for obj in read}
-    needed = next((builds for builds in expected.BUILDS.get(max(machines, default=0), ()) if builds & {*names}), None)
-    if len(machines) != 1 or needed is None or len(names) > len({*names}) or not needed <= {*names} <= {*BUILDS.values()}:
+    kinds = [{*expected.builds_of(machine, is_rust)} for machine in machines for is_rust in (False, True)]
+    needed = next((builds for builds in kinds if builds & {*names}), None)
+    if len(machines) != 1 or not needed or len(names) > len({*names}) or not needed <= {*names} <= {*NAMED.values()}:
         raise ValueError(f"the members are {sorted(name for name, _ in members)}")
     for (name, _), build, obj in zip(members, names, read):
         _named(name, expected.check, obj, build, build not in needed)
@@ -48,44 +38,27 @@ def _members(archive):
     return {build: content for build, (_, content) in zip(names, members) if build in needed}
 
 
-def _is_module(file):
-    return pathlib.Path(file).read_bytes().startswith(b"\0asm")
+def is_module(data):
+    return data.startswith(b"\0asm")
 
 
 def is_built(file):
     """Whether a file is the module, or an archive that has the builds as objects, and not one of Rust."""
     data = pathlib.Path(file).read_bytes()
-    if not archives.is_archive(data):
-        return _is_module(file)
-    return linked.METADATA not in (name for name, _ in archives.read(data)[0])
+    if not archive.is_archive(data):
+        return is_module(data)
+    return linked.METADATA not in (name for name, _ in archive.read(data)[0])
 
 
-def builds_of(archive):
-    return [WASM] if _is_module(archive) else list(_members(archive))
+def read(data):
+    """The object or the module with these bytes."""
+    return module.parse(data, "memory") if is_module(data) else objects.read(data)
 
 
-def calls_of(build):
-    return of_module.CALLS if build == WASM else kernels.CALLS if build.startswith(("kernel_", "rust_")) else CALLS
-
-
-def processor_of(obj):
-    """The folder of its front end."""
-    return WASM if obj.content is not None else PROCESSORS[obj.machine]
-
-
-def code_from(content, build):
-    """The code of a build, or that of the dispatcher, from the bytes of an object; or that of a module."""
-    if build == WASM:
-        return Code(module.parse(content, "memory"), front_end)
-    obj, contracts = objects.read(content), callees.CONTRACTS if build.startswith("functions_") else {}
-    return Code(obj, importlib.import_module(f"isa.{PROCESSORS[obj.machine]}.front_end").front_end_of(build),
-                contracts)
-
-
-def code_of(archive, build):
-    """The code of a build in an archive, or that of a module."""
-    if build != WASM:
-        return code_from(_members(archive)[build], build)
-    code = code_from(pathlib.Path(archive).read_bytes(), build)
-    expected.check_module(code.object)
-    return code
+def builds_of(file):
+    """The bytes of each build in an archive, or of a module. Refuses what a file has beside them."""
+    data = pathlib.Path(file).read_bytes()
+    if not is_module(data):
+        return _members(data)
+    expected.check_module(read(data))
+    return {WASM: data}

@@ -13,20 +13,15 @@ import struct
 import subprocess
 import tempfile
 
-from proof.functions import FUNCTIONS
+from contracts.names import FUNCTIONS
 from reading import archive, images, objects
-from reading.objects import PAGE
+from reading.expected import BUILDS, RUST, builds_of
+from reading.objects import AARCH64, PAGE, X86_64
 
 TOP = pathlib.Path(__file__).resolve().parents[2]
-ASM, RUST = TOP / "c" / "asm", TOP / "rust" / "src" / "asm"
-X86_64, AARCH64 = 62, 183
-# Of each processor: its name for the preprocessor, its assembler, and the files of the library for C, which are one, or
-# of the kernels of the Rust crate, by their builds.
+ASM, FOR_RUST = TOP / "c" / "asm", TOP / "rust" / "src" / "asm"
+# Of each processor: its name for the preprocessor, and its assembler.
 ASSEMBLERS = {X86_64: ("__x86_64__", ["as", "--64"]), AARCH64: ("__aarch64__", ["aarch64-linux-gnu-as"])}
-FILES = {X86_64: {"dispatch": "dispatch", "functions_x86_64": "functions_x86_64", "kernel_v2": "kernel_x86_64_v2",
-                  "kernel_v3": "kernel_x86_64_v3", "rust_v2": "x86_64_v2", "rust_v3": "x86_64_v3"},
-         AARCH64: {"dispatch": "dispatch", "functions_aarch64": "functions_aarch64",
-                   "kernel_aarch64": "kernel_aarch64", "rust_aarch64": "aarch64"}}
 # A symbol of a kernel for Rust, and what others have beside the name of a call.
 OF_RUST, NAME = re.compile(r"const_hex_(\d+_)+"), re.compile(r"^const_hex_|(_nonnull)?(_v[23])?$")
 
@@ -35,9 +30,9 @@ OF_RUST, NAME = re.compile(r"const_hex_(\d+_)+"), re.compile(r"^const_hex_|(_non
 def assembled(machine, build):
     """The object of a build, from the files of this repository."""
     name, command = ASSEMBLERS[machine]
-    file = FILES[machine][build]
-    if build.startswith("rust_"):
-        text = b"".join((RUST / f"{part}.s").read_bytes() for part in ("elf", file, "end"))
+    file = BUILDS[machine][build]
+    if build.startswith(RUST):
+        text = b"".join((FOR_RUST / f"{part}.s").read_bytes() for part in ("elf", file, "end"))
     else:
         cpp = ["cc", "-E", "-P", "-undef", "-nostdinc", f"-D{name}", "-x", "assembler-with-cpp", ASM / f"{file}.S"]
         text = subprocess.run(cpp, check=True, capture_output=True).stdout
@@ -46,14 +41,15 @@ def assembled(machine, build):
         return objects.read(pathlib.Path(folder, "object.o").read_bytes())
 
 
-def builds_of(machine, is_rust):
-    return [build for build in FILES[machine] if build.startswith("rust_") == is_rust]
+def call_of(symbol):
+    """The call that a function is for, by its symbol."""
+    return NAME.sub("", OF_RUST.sub("const_hex_kernel_", symbol))
 
 
 def functions_in(image):
     """The functions of the library that a file has, by their names: pairs of a build and the symbol."""
     for is_rust in (False, True):
-        for build in builds_of(image.machine, is_rust) if image.machine in FILES else ():
+        for build in builds_of(image.machine, is_rust):
             for symbol in sorted(assembled(image.machine, build).exported & image.places.keys()):
                 yield build, symbol
 
@@ -100,13 +96,26 @@ class Comparison:
         what = f"{section.name} at {address:#x}"
         # Constants may lie beside code.
         is_right = piece.is_code if section.is_code else not (piece.is_code and piece.is_writable)
-        if piece.is_writable != section.is_writable or not is_right or address % section.alignment:
+        is_aligned = not any(it % section.alignment for it in (address, piece.alignment))
+        if piece.is_writable != section.is_writable or not is_right or not is_aligned:
             raise ValueError(f"{what} is not aligned, or cannot be run, or can be written")
+        if piece.is_shared:
+            raise ValueError(f"{what} is what the linker may merge, or take from another object")
         if not section.is_writable:
             fields = {offset: (objects.RELOCATIONS[obj.machine][kind], symbol, addend)
                       for offset, kind, symbol, addend in section.references}
+            self._compare_fields(address, section, fields, what)
             _compare_bytes(section, content, fields, what)
             self._compare_references(obj, address, content, fields, what)
+
+    def _compare_fields(self, address, section, fields, what):
+        """Of an object, the linker writes no other fields, and moves no part of the section alone."""
+        for at in range(-7, len(section.content)):
+            is_known = self.image.fields.get(address + at)
+            if is_known is False or is_known and at > -4 and at not in fields:
+                raise ValueError(f"{what}: a relocation at {at:#x} that is another, or not known here")
+        if any(address < start < address + len(section.content) for start in self.image.starts):
+            raise ValueError(f"{what}: a symbol within it, with which a part of it may be moved")
 
     def _compare_references(self, obj, address, content, fields, what):
         """What a section names lies where its references point to: all of those to one section agree."""
@@ -122,8 +131,11 @@ class Comparison:
                 place = field.target(words[offset], address + offset) if not field.is_in_page else 0
                 place += in_page[symbol + addend] if field is PAGE else 0
                 found[target] = place - distance
+            is_kept = not self.image.is_object or address + offset in self.image.fields
             if field.set(words[offset], address + offset, found[target] + distance) != words[offset]:
                 raise ValueError(f"{what}: the reference at {offset:#x} points to another place")
+            if not is_kept and not self.image.are_together(address, found[target]):
+                raise ValueError(f"{what}: the reference at {offset:#x} has no relocation")
         for target, place in found.items():
             self._expect(*target, place)
 
@@ -173,7 +185,7 @@ def compared(file):
         if image.is_library and any(f"const_hex_{name}" in image.places for name in FUNCTIONS):
             _require_names(image, FUNCTIONS)
         for build, symbol in functions_in(image):
-            comparison, fault = Comparison(image, build.startswith("rust_")), None
+            comparison, fault = Comparison(image, build.startswith(RUST)), None
             try:
                 comparison.compare(symbol)
             except ValueError as error:
@@ -183,5 +195,5 @@ def compared(file):
             result[at, image.machine, build, symbol] = fault
     if not result:
         raise ValueError("it has no function of the library, or not the name of one")
-    return [(NAME.sub("", OF_RUST.sub("const_hex_kernel_", symbol)), build, assembled(machine, build), symbol, fault)
+    return [(call_of(symbol), build, assembled(machine, build), symbol, fault)
             for (_, machine, build, symbol), fault in result.items()]

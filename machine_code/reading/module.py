@@ -7,11 +7,10 @@ memory. The data lie where the memory has them.
 import re
 import subprocess
 
-from proof.values import constants, number
 from reading.objects import ALLOCATED, Object, Section
 
 SIZES = {"i32": 4, "i64": 8, "v128": 16}
-SPACE = 1 << 32
+SPACE, FAIL = 1 << 32, "const_hex_decoder_fail"
 # What a module may have beside functions, data and globals.
 OTHERS = (")", "(module", "(type", '(export "memory" (memory 0))', "(memory (;0;) 1 1)")
 
@@ -53,6 +52,9 @@ def parse(content, exported=""):
     # Each part begins in a line with two spaces, and the instructions of a function follow.
     for part in re.split(r"\n  (?=\()", text.rstrip().removesuffix(")")):
         _add(module, part if part.startswith("(data") else re.sub(r" *;;.*", "", part))
+    # Local functions have no names. This one is known by its type.
+    module.symbols |= {FAIL: function.address for function in module.functions
+                       if (function.parameters, function.results) == ([4] * 5, [])}
     return module
 
 
@@ -63,14 +65,14 @@ def _add(module, part):
         _add_data(module, int(found[1]), found[2])
     elif found := re.search(r"^\(global .*\((i\d\d)\.const (-?\d+)\)\)$", part):
         module.mutable |= {len(module.globals)} if "(mut " in part else set()
-        module.globals.append(constants(int(found[2]), SIZES[found[1]]))
+        module.globals.append(int(found[2]) % (1 << 8 * SIZES[found[1]]))
     elif found := re.fullmatch(r'\(export "(\w+)" \(func (\d+)\)\)', part):
         module.symbols[found[1]] = module.functions[int(found[2])].address
         module.exported.add(found[1])
     elif found := re.fullmatch(r'\(export "(__\w+)" \(global (\d+)\)\)', part):
         if int(found[2]) in module.mutable:
             raise ValueError(f"{found[1]}, which the engine may change")
-        module.places[found[1]] = number(module.globals[int(found[2])])
+        module.places[found[1]] = module.globals[int(found[2])]
     elif not part.startswith(OTHERS):
         raise ValueError(f"a part of a module that is not known here: {part[:60]}")
 

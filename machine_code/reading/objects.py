@@ -1,10 +1,8 @@
 """An object file as it lies in memory: its sections at fixed places, with relocations applied.
 
-This stands for the linker. Sections lie apart, so an access beyond one is seen. Addresses count from an
-unknown base (see memory.py), so nothing that is proved depends on where the object is loaded. In which order
-sections lie, and how far apart, is drawn anew in each run, so code that depends on it is refused in almost every
-one. A symbol that the object does not define, or that the linker may take from another object, gets a place of its
-own where nothing lies.
+This stands for the linker. Sections lie apart, so an access beyond one is seen. In which order they lie, and how far
+apart, is drawn anew in each run, so code that depends on it is refused in almost every one. A symbol that the object
+does not define, or that the linker may take from another object, gets a place of its own where nothing lies.
 """
 
 import functools
@@ -13,6 +11,7 @@ import re
 import struct
 from collections import namedtuple
 
+X86_64, AARCH64 = 62, 183  # processors, by their numbers in ELF
 FIRST = 0x10000
 GAP, GREATEST_GAP, LEAST_GAP = 0x1000, 1 << 22, 64
 SEED = random.getrandbits(64)
@@ -37,8 +36,6 @@ GLOBAL, SECTION = 1, 3
 class Field(namedtuple("Field", "name mask bits target")):
     """What a linker writes into a word of 32 bits, whose bits a mask has: `bits` gives them for a place of the word and
     a target, and `target` what the word says of the target: all of it, its page, or where it lies in its page."""
-
-    __slots__ = ()
 
     def set(self, word, place, target):
         return word & ~self.mask | self.bits(place, target) & self.mask
@@ -80,10 +77,10 @@ def place_in_page(size):
     return Field(f"place in page by {size}", 0x3FFC00, bits, lambda word, place: (word >> 10 & 0xFFF) * size)
 
 
-# By the number of a processor in ELF and the kind. Two kinds may stand for one field.
+# By the processor and the kind. Two kinds may stand for one field.
 RELOCATIONS = {
-    62: {2: RELATIVE, 4: RELATIVE},  # R_X86_64_PC32, R_X86_64_PLT32
-    183: {
+    X86_64: {2: RELATIVE, 4: RELATIVE},  # R_X86_64_PC32, R_X86_64_PLT32
+    AARCH64: {
         275: PAGE,  # R_AARCH64_ADR_PREL_PG_HI21
         277: place_in_page(1),  # R_AARCH64_ADD_ABS_LO12_NC
         282: BRANCH,  # R_AARCH64_JUMP26
@@ -262,4 +259,6 @@ def _relocate(machine, section, offset, kind, symbol, addend):
         return
     section.references.append((offset, kind, symbol, addend))
     [old] = struct.unpack_from("<I", section.content, offset)
+    if old & field.mask:
+        section.unknown = "a relocation of a field that is not 0, which some linkers keep"
     struct.pack_into("<I", section.content, offset, field.set(old, section.address + offset, symbol + addend))

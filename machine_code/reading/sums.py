@@ -2,8 +2,8 @@
 not shown to be right, nor is the same code by another tool.
 
 The sum of a function is over the sections that it reaches by relocations: their bytes, whether they are code or
-can be written, and what they refer to, in one form for all assemblers. The sum of the tool is over its files, without those of other front ends,
-and the header that it proves.
+can be written, and what they refer to, in one form for all assemblers. The sum of the tool is over the files that have
+to be trusted, without the meanings for other processors, and the header that it proves.
 """
 
 import functools
@@ -11,15 +11,18 @@ import hashlib
 import pathlib
 import struct
 
-from proof.cases import HEADER
-from reading.objects import RELOCATIONS
+from contracts.names import HEADER
+from reading import linked
+from reading.expected import DISPATCH, RUST
+from reading.objects import AARCH64, RELOCATIONS, X86_64
 
 FOLDER = pathlib.Path(__file__).resolve().parent.parent
 FILE = FOLDER / "proved.txt"
 HEAD = """\
-# What `prove` has proved: the function, the build, and the sums of the code and of the tool (sums.py); and for each
-# build how many instructions no input reaches.
+# What `prove` has proved: the function, the build, and the sums of the code and of the tool (sums.py).
 """
+# By the machine of an object, which a module has not: how the names of its files in meanings begin.
+PROCESSORS = {X86_64: "x86_64", AARCH64: "aarch64", None: "webassembly"}
 
 
 def sum_of(obj, function):
@@ -47,19 +50,34 @@ def sum_of(obj, function):
     return total.hexdigest()
 
 
-def files_of_tool(front_end):
-    """The files by which something is proved with a front end, which is a folder in isa. Those that only guess are
-    among them: the same tool is one that finds the same proof again."""
-    rooms = "proof", "reading", "untrusted", "isa", f"isa/{front_end}"
-    return [HEADER, FOLDER / "prove", *(file for room in rooms for file in sorted((FOLDER / room).glob("*.py")))]
+def files_of_tool(processor):
+    """The files that could let wrong code be recorded. Those that only guess are not among them."""
+    rooms = [file for room in ("contracts", "execution", "meanings", "reading", "solver")
+             for file in sorted((FOLDER / room).glob("*.py"))]
+    others = tuple(name for name in PROCESSORS.values() if name != processor)
+    return [HEADER, FOLDER / "prove",
+            *(file for file in rooms if file.parent.name != "meanings" or not file.name.startswith(others))]
 
 
-@functools.lru_cache(None)
-def sum_of_tool(front_end):
+@functools.cache
+def sum_of_tool(processor):
     total = hashlib.sha256()
-    for file in files_of_tool(front_end):
+    for file in files_of_tool(processor):
         total.update(f"{file.relative_to(FOLDER.parent)} {hashlib.sha256(file.read_bytes()).hexdigest()}\n".encode())
     return total.hexdigest()
+
+
+def row_of(obj, build, symbol):
+    """A function of a build as proved.txt has it: its call and the build's name; and its sums. Each processor has a
+    dispatcher, and the kernels for C and for Rust have the same code."""
+    processor = PROCESSORS[obj.machine]
+    name = f"{build}-{processor}" if build == DISPATCH else build.replace(RUST, "kernel_")
+    return (linked.call_of(symbol), name), (sum_of(obj, symbol), sum_of_tool(processor))
+
+
+def rows_of(obj, build):
+    """Those of all functions that others see."""
+    return dict(row_of(obj, build, symbol) for symbol in sorted(obj.exported))
 
 
 def recorded():
@@ -70,15 +88,15 @@ def recorded():
     return found
 
 
-def is_recorded(call, build, sums_of_function):
-    return sums_of_function in recorded().get((call, build), ())
+def is_recorded(key, sums_of_function):
+    return sums_of_function in recorded().get(key, ())
 
 
 def write(proved):
-    """Adds functions of builds, with their sums, to what was proved before. What another tool has proved is taken out,
-    and so is another count of what is not reached."""
+    """Adds functions of builds, with their sums, to what was proved before. What another tool has proved is taken
+    out."""
     rows = recorded()
-    for key, (*code, tool) in proved.items():
-        rows[key] = sorted({(*code, tool), *(row for row in rows.get(key, ()) if code and row[-1] == tool)})
+    for key, (code, tool) in proved.items():
+        rows[key] = sorted({(code, tool), *(row for row in rows.get(key, ()) if row[-1] == tool)})
     lines = (" ".join((*key, *row)) for key, found in sorted(rows.items()) for row in found)
     FILE.write_text(HEAD + "".join(f"{line}\n" for line in lines))

@@ -9,16 +9,29 @@ import z3
 JOINS = {z3.Z3_OP_AND: z3.And, z3.Z3_OP_OR: z3.Or, z3.Z3_OP_NOT: z3.Not, z3.Z3_OP_IMPLIES: z3.Implies}
 COMPARES = {z3.Z3_OP_ULEQ: lambda a, b: a <= b, z3.Z3_OP_ULT: lambda a, b: a < b, z3.Z3_OP_UGT: lambda a, b: a > b,
             z3.Z3_OP_UGEQ: lambda a, b: a >= b, z3.Z3_OP_EQ: lambda a, b: a == b}
+# In so many bits it is not asked whether a number is that small.
+FEW = 16
 
 
 class Facts:
     """Facts in integers. `is_impossible` says whether integer conditions, all together, contradict each other: it
     decides, too, that a sum is so small that it need not be reduced."""
 
-    def __init__(self, facts, is_impossible):
+    def __init__(self, is_impossible):
         self.conditions, self.ranges, self.sums, self._is_impossible = [], {}, {}, is_impossible
-        for fact in facts:
-            self.conditions.append(self.condition(fact))
+        # Values for which all of them hold, as far as some are known.
+        self.models = []
+
+    def and_also(self, fact):
+        """These facts and another one, or None if that is not linear."""
+        other = Facts(self._is_impossible)
+        other.conditions, other.ranges, other.sums = self.conditions.copy(), self.ranges.copy(), self.sums.copy()
+        try:
+            other.conditions.append(other.condition(fact))
+        except ValueError:
+            return None
+        other.models = [model for model in self.models if z3.is_true(model.eval(other.conditions[-1], True))]
+        return other
 
     def imply(self, *conditions):
         return self._is_impossible([*self.ranges.values(), *self.conditions, z3.Not(z3.And(*conditions))])
@@ -44,22 +57,27 @@ class Facts:
             self.ranges[term.get_id()] = z3.And(0 <= number, number < 1 << size)
             return number
         if kind in (z3.Z3_OP_BADD, z3.Z3_OP_BMUL):
-            if term.get_id() not in self.sums:
-                total = self._sum(term)
-                self.sums[term.get_id()] = total if self.imply(0 <= total, total < 1 << size) else total % (1 << size)
-            return self.sums[term.get_id()]
+            return self._cut(term, self._sum(term))
         if kind == z3.Z3_OP_ITE:
             return z3.If(self.condition(children[0]), *map(self._number, children[1:]))
         if kind == z3.Z3_OP_EXTRACT:
             high, low = term.params()
-            part = self._number(children[0]) / (1 << low) if low else self._number(children[0])
-            return part if high == children[0].size() - 1 else part % (1 << high - low + 1)
+            part = _divided(self._number(children[0]), 1 << low) if low else self._number(children[0])
+            return part if high == children[0].size() - 1 else self._cut(term, part)
         if kind == z3.Z3_OP_CONCAT:
             found = z3.IntVal(0)
             for child in children:
                 found = found * (1 << child.size()) + self._number(child)
             return z3.simplify(found)
         raise ValueError(term)
+
+    def _cut(self, term, number):
+        """A number in the bits of a term, to which it is not reduced if it is that small."""
+        most = 1 << term.size()
+        if term.get_id() not in self.sums:
+            is_small = term.size() > FEW and self.imply(0 <= number, number < most)
+            self.sums[term.get_id()] = number if is_small else number % most
+        return self.sums[term.get_id()]
 
     def _sum(self, term):
         """An integer that is the same but for a multiple of the power of two."""
@@ -73,3 +91,21 @@ class Facts:
         if kind == z3.Z3_OP_BMUL:
             raise ValueError(term)
         return self._number(term)
+
+
+def _divided(number, by):
+    """A number divided by another one and rounded down. What is a multiple in a sum is divided by itself."""
+    whole, rest = [], []
+    for part in number.children() if z3.is_add(number) else [number]:
+        factor, *others = part.children() if z3.is_mul(part) else [part]
+        if z3.is_int_value(factor) and factor.as_long() % by == 0 and len(others) < 2:
+            quotient = factor.as_long() // by
+            whole.append(quotient * others[0] if others else z3.IntVal(quotient))
+        else:
+            rest.append(part)
+    return _total([*whole, _total(rest) / by] if rest else whole)
+
+
+def _total(parts):
+    """The sum of numbers, of which there is one at least."""
+    return z3.Sum(parts) if len(parts) > 1 else parts[0]

@@ -14,7 +14,7 @@ QUICK, LIMIT = 600_000, 40_000_000
 # Each question that was answered by "unsat", as the logic and conditions, for a second solver.
 proved = []
 counts = {"asked": 0, "repeated": 0, "given up": 0}
-_constants, _names, _answers, _kept = {}, {}, {}, []
+_constants, _names, _answers, _translated, _kept = {}, {}, {}, {}, []
 
 
 class Refused(Exception):
@@ -118,7 +118,7 @@ def _renamed(facts):
     return [z3.simplify(z3.substitute(fact, *new)) for fact in facts]
 
 
-def _answer(logic, conditions, limit):
+def _answer(logic, conditions, limit, models=None):
     solver = z3.SolverFor(logic)
     solver.set("rlimit", limit)
     solver.add(*conditions)
@@ -127,6 +127,8 @@ def _answer(logic, conditions, limit):
     counts["given up"] += answer == z3.unknown
     if answer == z3.unsat:
         proved.append((logic, conditions))
+    if answer == z3.sat and models is not None:
+        models.append(solver.model())
     return answer
 
 
@@ -134,14 +136,27 @@ def is_impossible_in_integers(conditions):
     return _answer("QF_LIA", conditions, QUICK) == z3.unsat
 
 
+def _in_integers(facts):
+    """Facts in integers, or None if not all are linear. Most questions are about facts that were translated before."""
+    if not facts:
+        return integers.Facts(is_impossible_in_integers)
+    key = tuple(fact.get_id() for fact in facts)
+    if key not in _translated:
+        known = _in_integers(facts[:-1])
+        _translated[key] = known and known.and_also(facts[-1])
+    return _translated[key]
+
+
 def _by_integers(facts):
     """The answer by integers, if all is linear. Sums of many bits are hard in bits and easy in integers, masks are
     the other way round."""
-    try:
-        known = integers.Facts(facts, is_impossible_in_integers)
-    except ValueError:
+    before = _in_integers(facts[:-1])
+    known = before and before.and_also(facts[-1])
+    if not known:
         return z3.unknown
-    return _answer("QF_LIA", [*known.ranges.values(), *known.conditions], QUICK)
+    # What holds for some values is possible.
+    return z3.sat if known.models else _answer(
+        "QF_LIA", [*known.ranges.values(), *known.conditions], QUICK, before.models)
 
 
 def is_impossible(facts):

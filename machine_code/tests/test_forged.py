@@ -9,8 +9,7 @@ import tempfile
 import unittest
 
 from reading import library
-from tests.library import ARCHIVE, MODULE, add_tests, needs_module
-from tests.mutations import ASM, COMPILERS
+from tests.library import ARCHIVE, ASM, COMPILERS, MODULE, add_tests, needs_module
 
 C, V2, V3, DISPATCH = "functions_x86_64", "kernel_x86_64_v2", "kernel_x86_64_v3", "dispatch"
 ARM = "functions_aarch64"
@@ -278,7 +277,8 @@ ARCHIVES = [
     ("an index that names another member", _damaged(lambda data: data[:72] + data[MOST : MOST + 4] + data[76:]),
      "the index of the archive"),
     ("a header of a member that is none", _damaged(lambda data: _change(data, b"`\n", b"`\r")), "cut or damaged"),
-    ("a member that is shorter than it says", _damaged(lambda data: _with_last_size(data, b"9999999")), "cut or damaged"),
+    ("a member that is shorter than it says", _damaged(lambda data: _with_last_size(data, b"9999999")),
+     "cut or damaged"),
     ("a second index", _damaged(_with_second(b"/")), "an index that is not the first entry"),
     ("a size with a mark in it", _damaged(lambda data: _with_last_size(data, b"1_000")), "no number"),
     ("two tables of relocations for a section", _damaged(_in_object(_second_relocations)), "two tables of relocations"),
@@ -318,13 +318,12 @@ class TestForged(unittest.TestCase):
     def test_right_archives(self):
         folder = self.folder()
         builds = ["dispatch", "functions_x86_64", "kernel_v2", "kernel_v3"]
-        self.assertEqual(library.builds_of(ARCHIVE), builds)
-        self.assertEqual(library.builds_of(_archive(folder)), builds)
+        self.assertEqual([*library.builds_of(ARCHIVE)], builds)
+        self.assertEqual([*library.builds_of(_archive(folder))], builds)
         for command in (["clang", "-g"], ["cc", "-g", "-gz"], ["cc", "-Wa,-mx86-used-note=yes"]):
             for member in MEMBERS:
                 subprocess.run([*command, "-c", ASM / f"{member}.S", "-o", folder / f"{member}.o"], check=True)
-            self.assertEqual(library.builds_of(_archive(folder)), builds)
-
+            self.assertEqual([*library.builds_of(_archive(folder))], builds)
 
     @needs_module
     def refuse_module(self, change, wanted):
@@ -336,7 +335,7 @@ class TestForged(unittest.TestCase):
         text = text[:at] + new + text[at + len(old) :]
         subprocess.run(["wat2wasm", "-", f"--output={file}"], input=text.encode(), check=True)
         with self.assertRaisesRegex(ValueError, re.escape(wanted)):
-            library.code_of(file, library.WASM)
+            library.builds_of(file)
 
 
 add_tests(TestForged, TestForged.refuse, FORGED)

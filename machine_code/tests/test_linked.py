@@ -3,21 +3,14 @@
 import pathlib
 import random
 import re
-import shutil
 import struct
 import subprocess
 import tempfile
 import unittest
 
 from reading import archive, images, linked
-from tests.library import AARCH64, ARCHIVE, TOP, add_tests, needs_aarch64
-from tests.mutations import ASM, COMPILERS, RUST, assembled_object
+from tests.library import AARCH64, ARCHIVE, ASM, COMPILERS, TOP, add_tests, assembled_object, needs_aarch64
 
-HAS_CLANG = shutil.which("clang") is not None
-# Other objects than those of ELF that `as` makes: how clang names the system, and the directives of the Rust crate.
-SYSTEMS = [("x86_64", system, directives) for system, directives in (
-    ("linux-gnu", "elf"), ("unknown-freebsd", "elf"), ("apple-macos", "mach_o"), ("pc-windows-msvc", "coff"))]
-SYSTEMS += [*(("aarch64", *row) for _, *row in SYSTEMS), ("aarch64", "apple-ios", "mach_o")]
 KERNELS = {"x86_64": ("x86_64_v2", "x86_64_v3"), "aarch64": ("aarch64",)}
 # How many functions there are for C, with those that others do not see.
 COUNTS, CHANGES = {"x86_64": 24, "aarch64": 18}, 200
@@ -48,56 +41,6 @@ class Linked(unittest.TestCase):
         folder = tempfile.TemporaryDirectory()
         self.addCleanup(folder.cleanup)
         self.folder = pathlib.Path(folder.name)
-
-
-class TestFormats(Linked):
-    def accept(self, is_rust, processor, system, directives):
-        """Each function of each file, by its call and its build."""
-        if not HAS_CLANG:
-            self.skipTest("clang is missing")
-        found = {}
-        of_c = "dispatch", f"functions_{processor}", *(f"kernel_{name}" for name in KERNELS[processor])
-        for name in KERNELS[processor] if is_rust else of_c:
-            parts = [RUST / f"{part}.s" for part in (directives, name, "end")] if is_rust else [ASM / f"{name}.S"]
-            command = ["clang", f"--target={processor}-{system}", "-Werror", "-c", "-I", ASM]
-            command += ["-o", self.folder / "object.o", "-x", "assembler" if is_rust else "assembler-with-cpp", "-"]
-            subprocess.run(command, input=b"".join(part.read_bytes() for part in parts), check=True, cwd=ASM)
-            found |= faults(self.folder / "object.o")
-        count = 3 * len(KERNELS[processor]) if is_rust else COUNTS[processor]
-        self.assertEqual((len(found), set(found.values())), (count, {None}))
-
-
-    def test_symbols_of_other_kinds(self):
-        if not HAS_CLANG:
-            self.skipTest("clang is missing")
-        name, text = "const_hex_decode", "{0}: ret\n.globl {0}\n"
-        for system, name, text in (
-            ("apple-macos", f"_{name}", text + ".weak_definition {0}"), ("apple-macos", f"_{name}", ".globl {0}\n{0} = 9"),
-            ("pc-windows-msvc", name, text + ".weak {0}"), ("pc-windows-msvc", name, ".globl {0}\n{0} = 9"),
-        ):
-            command = ["clang", f"--target=x86_64-{system}", "-c", "-o", self.folder / "object.o", "-x", "assembler", "-"]
-            subprocess.run(command, input=f"{text.format(name)}\n".encode(), check=True, capture_output=True)
-            with self.subTest(system, text=text):
-                self.assertRegex(fault(self.folder / "object.o"), "is a symbol of another kind")
-        data = bytearray((self.folder / "object.o").read_bytes())
-        with self.assertRaisesRegex(ValueError, "Mach-O that is no object"):
-            images.read(b"\xcf\xfa\xed\xfe" + struct.pack("<III", 0x01000007, 3, 2) + data)
-
-    def test_addend_in_an_instruction(self):
-        """COFF has it there, and the linker adds it."""
-        if not HAS_CLANG:
-            self.skipTest("clang is missing")
-        text = "".join((RUST / f"{part}.s").read_text() for part in ("coff", "aarch64", "end"))
-        old = re.search("\tadd_label .*", text)[0]
-        command = ["clang", "--target=aarch64-pc-windows-msvc", "-c", "-o", self.folder / "object.o", "-x", "assembler"]
-        subprocess.run([*command, "-"], input=text.replace(old, f"{old} + 4", 1).encode(), check=True)
-        self.assertEqual(fault(self.folder / "object.o"), "an addend in an instruction")
-
-
-# Rust has COFF, too.
-add_tests(TestFormats, TestFormats.accept, [
-    (f"{'Rust' if is_rust else 'C'} for {row[1]} on {row[0]}", is_rust, *row)
-    for is_rust in (False, True) for row in SYSTEMS if is_rust or row[2] != "coff"])
 
 
 class TestFiles(Linked):
@@ -142,7 +85,7 @@ class TestFiles(Linked):
 
     def test_parts_that_overlap(self):
         image = images.Image(62)
-        image.pieces = [images.Piece(name, True, False, at, bytes(16)) for name, at in (("one", 16), ("other", 24))]
+        image.pieces = [images.Piece(name, True, False, 1, at, bytes(16)) for name, at in (("one", 16), ("other", 24))]
         self.assertEqual(image.read(16, 8)[1], bytes(8))
         for address in (8, 20, 24, 30, 36, 40):
             with self.subTest(address), self.assertRaisesRegex(ValueError, "not in one part of the file"):

@@ -7,11 +7,11 @@ import tempfile
 import unittest
 from unittest import mock
 
-from proof.exploration import Refused
-from proof.kernels import CALLS
-from reading import archive, expected, library, objects
-from tests.library import AARCH64, ARCHIVE, add_tests, needs_aarch64
-from tests.mutations import assembled_object
+from contracts.kernels import Check
+from execution import proofs
+from reading import archive, expected, objects
+from solver.questions import Refused
+from tests.library import AARCH64, ARCHIVE, add_tests, assembled_object, needs_aarch64
 
 
 def linked(data, obj, tools):
@@ -94,11 +94,10 @@ class TestObjects(unittest.TestCase):
         with mock.patch.dict(objects.RELOCATIONS[183]):
             del objects.RELOCATIONS[183][299]
             data = archive.member(AARCH64, "kernel_aarch64.S.o")
-            code = library.code_from(data, "kernel_aarch64")
             with self.assertRaisesRegex(ValueError, "'.text.const_hex_.*', which has a relocation of the unknown kind"):
-                expected.check(code.object, "kernel_aarch64", False)
-        with self.assertRaisesRegex(Refused, r"check\S*, which has a relocation of the unknown kind 299"):
-            CALLS["kernel_check"].prove(code, "const_hex_kernel_check", ("length", 0, 20))
+                expected.check(objects.read(data), "kernel_aarch64", False)
+            with self.assertRaisesRegex(Refused, r"check\S*, which has a relocation of the unknown kind 299"):
+                proofs.prove(data, "kernel_aarch64", Check())
 
 
 add_tests(TestObjects, TestObjects.assert_linked, [

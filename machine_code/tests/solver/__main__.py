@@ -1,4 +1,4 @@
-"""Runs the tests of the second method: `/usr/bin/python3 machine_code/tests/solver [NAME..]`, where a name is a part of
+"""Runs the tests of proofs: `/usr/bin/python3 machine_code/tests/solver [NAME..]`, where a name is a part of
 a test's."""
 
 import pathlib

@@ -16,8 +16,8 @@ import z3
 
 from execution.code import Code
 from execution.paths import Branch
+from execution.proofs import PROCESSORS
 from execution.state import byte, simple, word
-from programs import PROCESSORS
 from solver.questions import require
 
 FOLDER = pathlib.Path(__file__).resolve().parents[1]
@@ -77,6 +77,9 @@ class Processor:
                 target = self._target(i)
                 if not target or not i.address - self.jump < target < i.address + i.size + self.jump:
                     operands = "" if target else re.sub(self.not_form, "", i.text.partition(" ")[2])
+                    # A constant's own address, or one after it.
+                    named = [self.code.constant_at(to) for _, _, to in self.code.references_in(i.address, i.size)]
+                    operands += "".join(f" {bool(found[1])}" for found in named if found)
                     forms.setdefault(f"{i.mnemonic} {operands}", []).append(i)
         return {form: found[:: max(1, len(found) // PLACES)][:PLACES] for form, found in forms.items()}
 
@@ -162,7 +165,8 @@ class Processor:
     def _compared(self, state, lanes, found, scratch, target, to):
         at = 0
         for name in self.names:
-            if struct.unpack_from("<Q", found, at)[0] != self._known(state.general[name]).as_long():
+            term = self._known(state.general[name])
+            if term.size() != 64 or struct.unpack_from("<Q", found, at)[0] != term.as_long():
                 yield name
             at += 8
         for name, lane in lanes.items():

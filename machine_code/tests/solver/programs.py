@@ -1,20 +1,20 @@
 """Small kernels, each a loop over single bytes, which are changed to be wrong; and the objects that they make."""
 
+import functools
 import pathlib
 import re
 import subprocess
 import tempfile
 
-from contracts import callees
+from contracts.dispatch import CHOICES, OR_NULL
 from contracts.kernels import KERNELS
-from execution.code import Code
-from execution.paths import run
-from hints.loops import guess, heads
-from meanings import aarch64, x86_64
+from contracts.library import FUNCTIONS
+from contracts.messages import MESSAGES
+from execution import proofs
 
 ROOT = pathlib.Path(__file__).resolve().parents[3]
 ASSEMBLY, FOR_C = ROOT / "rust" / "src" / "asm", ROOT / "c" / "asm"
-PROCESSORS = {62: x86_64, 183: aarch64}
+MODULE = ROOT / "js" / "src" / "const_hex.wasm"
 COMPILERS = {"v2": "cc", "v3": "cc", "aarch64": "aarch64-linux-gnu-gcc"}
 # Where it begins, a character in eax, whether it is a digit, what is done in a round, and where it returns.
 CHECK = """
@@ -81,6 +81,14 @@ ON_AARCH64 = """
     .section .text.helper, "ax"; helper: {helper} ret
 """
 PROGRAMS = {"check": CHECK, "fill": FILL, "read": READ}
+# What is committed: the files of each build, and the contracts of its functions.
+KERNEL_FILES = {level: [ASSEMBLY / f"{part}.s" for part in ("elf", name, "end")] for level, name in (
+    ("v2", "x86_64_v2"), ("v3", "x86_64_v3"), ("aarch64", "aarch64"))}
+COMMITTED = {level: (files, KERNELS) for level, files in KERNEL_FILES.items()} | {
+    build: ([FOR_C / f"{build.split()[0]}.S"], contracts) for build, contracts in (
+        ("functions_x86_64", (*FUNCTIONS, *MESSAGES)), ("functions_aarch64", (*FUNCTIONS, *MESSAGES)),
+        ("dispatch", (*OR_NULL, *CHOICES)), ("dispatch for AArch64", OR_NULL))}
+WASM = "wasm"
 
 
 def assembled(source, compiler, language="assembler", *options):
@@ -117,10 +125,51 @@ def library(function, changed=None, old="", new=""):
     return assembled("\n".join([begin, *blocks.values()]), "cc", "assembler-with-cpp", f"-I{FOR_C}")
 
 
+@functools.cache
+def text_of(build):
+    """The text of a build, each line without spaces around it."""
+    if build != WASM:
+        text = "\n".join(path.read_text() for path in COMMITTED[build][0])
+        return "\n".join(" ".join(line.split()) for line in text.splitlines()) + "\n\n"
+    command = ["wasm2wat", "--no-debug-names", MODULE]
+    text = subprocess.run(command, check=True, capture_output=True, text=True).stdout
+    return re.sub(r"^ +| +$", "", re.sub(r"\(;@?\d+;\)|;; .*$", "", text, flags=re.M), flags=re.M)
+
+
+def parts_of(build, function):
+    """Where functions, constants or macros of a build with such a name begin and end; in the module, where a function
+    does that is exported, or has such a text."""
+    text = text_of(build)
+    if build == WASM:
+        bodies = list(re.finditer(r"^\(func .*\n(?:\(local.*\n)?((?:(?!\().*\n)*)", text, re.M))
+        exported = re.search(rf'export "const_hex_{function}" \(func (\d+)\)', text)
+        found = [bodies[int(exported[1])]] if exported else [body for body in bodies if function in body[1]]
+        return [body.span(1) for body in found]
+    name = rf"(const_hex_([\d_]+_|body_|message_|kernel_)?)?{function}(_nonnull)?(_v\d)?"
+    starts = re.finditer(rf"^(function|constant|\.macro) (SYMBOL\()?{name}\b.*\n", text, re.M)
+    return [(start.end(), text.index("\n\n", start.end())) for start in starts]
+
+
+def edited(build, function, old, new):
+    """The committed object or module, where in a function, a constant or a macro `new` stands in the place of the first
+    `old`, or at the start if that is empty. Lines end in `; `. After ` | ` others follow in both, each after the one
+    before."""
+    text = text_of(build)
+    olds, news = [lines.replace("; ", "\n").split(" | ") for lines in (old, new)]
+    at = next(found for start, end in parts_of(build, function) if (found := text.find(olds[0], start, end)) >= 0)
+    for before, after in zip(olds, news):
+        at = text.index(before, at)
+        text = text[:at] + after + ("" if before else "\n") + text[at + len(before) :]
+        at += len(after)
+    if build == WASM:
+        return subprocess.run(["wat2wasm", "-", "--output=-"], input=text.encode(), check=True,
+                              capture_output=True).stdout
+    compiler = COMPILERS["aarch64" if build.lower().endswith("aarch64") else "v3"]
+    return assembled(text, compiler, "assembler-with-cpp", f"-I{FOR_C}")
+
+
 def prove(content, call, ran=None, contracts=KERNELS, name=None):
     """Proves the first contract of a call, or that of a name."""
     contract = next(contract for contract in contracts
                     if contract.function == call and contract.name == (name or contract.name))
-    code = Code(content, PROCESSORS, contract.imported or callees.IMPORTED, callees.LOCAL)
-    starts = contract.starts(code)
-    return run(code, starts, () if contract.is_unrolled else heads(code, starts[0].at), guess, ran)
+    return proofs.prove(content, "functions_" if contract in (*FUNCTIONS, *MESSAGES) else "", contract, ran)

@@ -47,22 +47,32 @@ class TestQuestions(unittest.TestCase):
     def setUp(self):
         self.some = random.Random(self.id())
 
+    @mock.patch.object(integers, "FEW", BITS - 1)
     def test_integers(self):
         linear = 0
         for _ in range(150):
             values = [self.some.randrange(1 << BITS) for _ in NAMES]
             facts = [fact for fact in (z3.simplify(condition(self.some)) for _ in range(5)) if at(fact, values)]
             goal = z3.simplify(condition(self.some))
-            try:
-                known = integers.Facts(facts, questions.is_impossible_in_integers)
-                made = known.condition(goal)
-            except ValueError:
+            known = integers.Facts(questions.is_impossible_in_integers)
+            for fact in [*facts, goal]:
+                before, known = known, known and known.and_also(fact)
+            if not known:
                 continue
             linear += 1
+            *_, made = known.conditions
             in_integers = dict(constant=lambda name: z3.Int(str(name)), number=z3.IntVal)
             self.assertEqual(at(made, values, **in_integers), at(goal, values), (facts, goal, values))
-            self.assertTrue(all(at(fact, values, **in_integers) for fact in known.conditions), facts)
+            self.assertTrue(all(at(fact, values, **in_integers) for fact in before.conditions), facts)
         self.assertGreater(linear, 60)
+
+    @mock.patch.object(integers, "FEW", BITS - 1)
+    def test_facts_stay_as_they_are_without_another_one(self):
+        known = integers.Facts(questions.is_impossible_in_integers).and_also(z3.ULT(NAMES[0], 3))
+        sizes = [1, 1, 0]
+        for _ in range(2):
+            self.assertEqual([len(part) for part in (known.conditions, known.ranges, known.sums)], sizes)
+            self.assertTrue(known.and_also(NAMES[0] + NAMES[1] == 1))
 
     def test_conjuncts(self):
         for _ in range(300):

@@ -1,66 +1,19 @@
 """The meanings of WebAssembly are compared with Node: each form that occurs in the module, and what branches. Wrong
 meanings are noticed."""
 
-import pathlib
 import shutil
-import types
 import unittest
 from unittest import mock
 
 import z3
 
-from execution.code import Code
-from execution.paths import step
-from execution.state import byte, joined, simple, split, word
+from execution.state import byte, joined, simple, split
 from meanings import webassembly
 from meanings.lanes import bytes_of, units
 from meanings.webassembly import EFFECTS, HANDLERS
-from reading.library import WASM, code_of
-from tests import node
+from tests.node import Node
 
-MODULE = pathlib.Path(__file__).resolve().parents[3] / "js" / "src" / "const_hex.wasm"
 STATES = 24
-BYTES = [byte(value) for value in range(256)]
-
-
-class Concrete(webassembly.State):
-    """A state whose memory is known."""
-
-    def load(self, address, count, aligned=False):
-        at = simple(address).as_long()
-        return [BYTES[value] for value in self.memory[at : at + count]]
-
-    def store(self, address, lane, aligned=False):
-        at = simple(address).as_long()
-        self.memory[at : at + len(lane)] = [simple(value).as_long() for value in lane]
-
-    def drop_below(self):
-        """The stack is of no interest."""
-
-    def returned(self):
-        """Nothing is claimed."""
-
-
-class Node(node.Node):
-    """The functions that run in Node, and by the meanings."""
-
-    def __init__(self):
-        super().__init__(code_of(MODULE, WASM))
-        self.meant = Code(self.code.object.content, {None: webassembly})
-        self.meant.function("call")
-
-    def _by_the_tool(self, name, before):
-        state = Concrete()
-        contract = types.SimpleNamespace(returns=lambda state: None)
-        state.code, state.contract, state.calls, state.steps = self.meant, contract, {}, 0
-        state.memory, state.vectors, state.facts, state.may_leak = [*before], {}, [], False
-        state.general = {"global 0": word(webassembly.globals_of(self.meant.object)[0])}
-        state.at = self.meant.object.symbols[name]
-        state.begin(self.meant.object.function_at(state.at), [], z3.BitVec("p_return", 64))
-        while after := step(self.meant, state):
-            state, = after
-            state.steps = 0
-        return bytes(state.memory)
 
 
 def _made(takes, function, gives=1):

@@ -8,11 +8,13 @@ import re
 import traceback
 import unittest
 
+import wrong_edits
 import wrong_for_c
+import wrong_forms
 import wrong_messages
 from contracts.library import FUNCTIONS
 from contracts.messages import MESSAGES
-from programs import assembled, library, program, prove
+from programs import COMMITTED, assembled, edited, library, program, prove
 from solver.questions import Refused
 
 ROOM = pathlib.Path(__file__).resolve().parents[2]
@@ -27,6 +29,8 @@ OUTSIDE, NOT_IN_STACK, AT_HEAD = "may lie outside", "the stack pointer is not in
 # Goes on if and only if ten times a tenth of a length is at most the length, and returns true otherwise.
 TENTH = ("mov rax, rsi; movabs r8, {}; mul r8; shr rdx, {}; lea rax, [rdx+rdx*4]; add rax, rax; cmp rax, rsi; jbe 5f; "
          "mov eax, 1; ret; 5: ")
+# Some lengths from 130 on, and one of them in rax.
+SOME = "cmp rsi, 130; jb 1f; mov eax, esi; and eax, 127; cmp eax, 22; jne 1f; mov rax, rsi"
 # What is wrong, the processor's level, the function, what is changed, and what is said of it.
 WRONG = [
     ("the OR of three characters compared by the carry", "v3", "check",
@@ -90,8 +94,13 @@ WRONG = [
     ("one character too much", "v3", "check", {"character": "mov cl, [rdi+1]"}, OUTSIDE),
     ("a character before the text", "v3", "check", {"start": "mov cl, [rdi-1]"}, OUTSIDE),
     ("a read beyond constants", "v3", "check", {"start": "mov al, [rip+table+32]"}, "an address without a constant"),
+    ("a place beyond a section", "v3", "check", {"start": "lea rax, [rip+table+0x1000]"}, "beyond the section of its"),
+    ("a place before a section", "v3", "check", {"start": "lea rax, [rip+table-0x1000]"}, "beyond the section of its"),
     ("a vector beyond constants", "v3", "check", {"start": "movdqu xmm0, [rip+table+17]"}, OUTSIDE),
     ("an address without a relocation", "v3", "check", {"start": "mov al, [rip+0x40]"}, "an address without its reloc"),
+    ("an alignment that no loader keeps", "v3", "check",
+     {"start": "lea rax, [rip+other]; test eax, 0x1000; je 1f; mov eax, 1; ret",
+      "helper": '.section .rodata.other, "a"; .balign 0x2000; .section .text.helper, "ax";'}, PASSES),
     ("a call of another library", "v3", "check", {"start": "call memcpy"}, "it leaves the code"),
     ("code that ends", "v3", "check", {"start": "call helper", "helper": "nop; .byte 0xf4;"}, "without a meaning"),
     ("a length of 32 bits", "v3", "check", {"start": "mov esi, esi"}, PASSES),
@@ -101,6 +110,24 @@ WRONG = [
     ("a length of one kind", "v3", "check",
      {"start": "mov rax, rsi; and rax, 128; je 1f; cmp rsi, 1000; jb 1f; dec rsi"}, PASSES),
     ("a sum that carries", "v3", "check", {"start": "mov rax, rsi; add rax, -1000; jb 1f; mov eax, 1; ret"}, PASSES),
+    *((what, "v3", "check", {"start": f"{start}; mov eax, 1; ret"}, PASSES) for what, start in (
+        ("one length", "movabs rax, 0x10000000000; cmp rsi, rax; jne 1f"),
+        ("all lengths from one on", "movabs rax, 0x200000000; cmp rsi, rax; jb 1f"),
+        ("a sum that is zero", f"{SOME}; not rax; inc rax; add rax, rsi; jne 1f"),
+        ("a sum that wraps", f"{SOME}; movabs rcx, 0x8000000000000000; add rax, rcx; add rax, rcx; cmp rax, rsi; "
+                             "jne 1f"),
+        ("a difference that wraps", "lea rax, [rsi-8]; cmp rax, rsi; jb 1f"),
+        ("equal pointers", "lea rax, [rdi+rsi]; cmp rax, rdi; je 1f"),
+        ("some bits of an address", "mov eax, edi; and eax, 7; jne 1f"),
+        ("a constant that a length chooses",
+         "mov ecx, esi; and ecx, 8; lea rax, [rip+table]; cmp byte ptr [rax+rcx], 1; jne 1f"),
+    )),
+    ("some bits of a length", "v3", "check", {"start": "mov eax, esi; and eax, 15; cmp eax, 7; jne 1f; dec rsi"},
+     PASSES),
+    ("a place beyond constants that a length chooses", "v3", "check",
+     {"start": "mov ecx, esi; and ecx, 32; lea rax, [rip+table]; mov al, [rax+rcx]"}, OUTSIDE),
+    ("a pointer that is cut", "v3", "check", {"start": "mov edi, edi"}, PASSES),
+    ("a pointer that is cut", "aarch64", "check", {"start": "mov w0, w0"}, PASSES),
     ("an address in the upper half", "v3", "check",
      {"start": "mov rax, rdi; shr rax, 63; test rax, rax; je 1f; mov eax, 1; ret"}, PASSES),
     ("the flag of a shift", "v3", "check", {"start": "mov rax, rdi; shr rax, 63; jb 1f"}, "a flag that is not known"),
@@ -152,6 +179,8 @@ WRONG = [
      {"start": "sub sp, sp, #8; str x0, [sp]; add sp, sp, #8"}, "is not aligned"),
     ("a value from below the stack pointer", "aarch64", "check",
      {"start": "str x1, [sp, #-16]!; add sp, sp, #16; sub sp, sp, #16; ldr x1, [sp], #16"}, UNWRITTEN),
+    ("a field that some linkers keep", "aarch64", "check",
+     {"start": "adrp x8, table; .reloc ., R_AARCH64_ADD_ABS_LO12_NC, table; add x8, x8, #1"}, "a field that is not 0"),
     ("the page of another constant", "aarch64", "check", {"start": "adrp x8, table; add x8, x8, :lo12:other"},
      "the page of another constant"),
     ("a page that is no address", "aarch64", "check", {"start": "adrp x8, table; ldrb w8, [x8]"}, "an address in"),
@@ -167,6 +196,7 @@ RIGHT = [("a loop over bytes", "v3", call, {}) for call in ("check", "fill", "re
     ("a loop over bytes", "v2", "check", {}), ("a loop over bytes", "aarch64", "check", {}),
     ("a quotient by ten", "v3", "check", {"start": TENTH.format("0xcccccccccccccccd", 3)}),
     ("a stack that is used", "v3", "check", {"start": "push rbx; mov rbx, rsi; mov rsi, rbx; pop rbx"}),
+    ("a pointer in a vector", "v3", "check", {"start": "vmovq xmm0, rdi; vmovq rdi, xmm0"}),
     ("a wide register that is cleared", "v3", "check", {"start": "vpxor ymm0, ymm0, ymm0; vzeroupper"}),
     ("a call", "v3", "check", {"start": "call helper"}),
     ("a call", "aarch64", "check", {"start": "mov x9, x30; bl helper; mov x30, x9"}),
@@ -176,14 +206,14 @@ RIGHT = [("a loop over bytes", "v3", call, {}) for call in ("check", "fill", "re
 
 
 class TestWrong(unittest.TestCase):
-    # Where programs were refused, and which rows were.
-    refused, rows = set(), set()
+    # Where programs were refused, how many were, and how many there are.
+    refused, count, most = set(), 0, 0
 
     def prove(self, content, call, wanted=None, **contract):
-        with self.assertRaisesRegex(Refused, wanted) if wanted else contextlib.nullcontext():
+        with self.assertRaisesRegex((Refused, ValueError), wanted) if wanted else contextlib.nullcontext():
             try:
                 prove(content, call, **contract)
-            except Refused as refused:
+            except (Refused, ValueError) as refused:
                 # `run` says where a program is refused, of what another function has found.
                 found = refused.__context__ or refused
                 places = [(frame.filename, frame.lineno) for frame in traceback.extract_tb(found.__traceback__)]
@@ -198,7 +228,7 @@ class TestWrong(unittest.TestCase):
 
     def test_zz_each_check_refuses_a_row(self):
         """After the rows: without a check, one that is refused by it would not be, or by another message."""
-        if len(self.rows) < len(WRONG) + len(wrong_for_c.WRONG) + wrong_messages.COUNT:
+        if self.count < self.most:
             self.skipTest("not all rows have run")
         checks = {(str(file), line) for folder in ("execution", "contracts") for file in (ROOM / folder).glob("*.py")
                   for line in _checks(file)}
@@ -218,14 +248,23 @@ def _add(row, call, make, wanted=None, **contract):
 
     def test(self):
         self.prove(make(), call, wanted, **contract)
-        self.rows.update([row] if wanted else [])
+        TestWrong.count += bool(wanted)
 
     assert not hasattr(TestWrong, row), row
     setattr(TestWrong, row, test)
+    TestWrong.most += bool(wanted)
 
 
 for what, level, call, changes, *said in [*WRONG, *RIGHT]:
     _add(f"{level} {call} {what}", call, functools.partial(program, level, call, **changes), *said)
+for what, level, text, *said in [*wrong_forms.WRONG, *wrong_forms.RIGHT]:
+    _add(f"form {level} {what}", "version", functools.partial(wrong_forms.form, level, text), *said,
+         contracts=[wrong_forms.version(level)])
+for what, build, function, old, new, said, *rest in wrong_edits.WRONG:
+    name, within = [*rest, None, None][:2]
+    make = functools.partial(edited, build, within or function, old, new)
+    _add(f"edit {build} {function} {what}", function, make, said, name=name,
+         contracts=FUNCTIONS if build == "wasm" else COMMITTED[build][1])
 for function, what, old, new, said, *name in wrong_for_c.WRONG:
     call = "decoder_update" if function == "decoder_decode_after" else function
     make = functools.partial(library, call, function, old, new)

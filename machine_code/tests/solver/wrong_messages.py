@@ -99,7 +99,6 @@ OF_DISPATCHERS = [
     ("kernel_fill", "two sections are kept", "\tvariable choice", "\tvariable choice\n\tvariable other",
      "two sections are kept"),
 ]
-COUNT = len(OF_MESSAGES) + len(OF_WRITE_ENDED) + len(OF_DISPATCHERS)
 CONTRACTS = [*OR_NULL, *CHOICES, *MESSAGES]
 
 

@@ -1,8 +1,10 @@
 """The functions of const_hex.h, without const_hex_ before their names. This is the one table of them: docs/check
 compares it with the header, c/asm/dispatch.S, rust/capi, the JavaScript, and the pages."""
 
+import pathlib
 from collections import namedtuple
 
+HEADER = pathlib.Path(__file__).resolve().parents[2] / "c" / "const_hex.h"
 Function = namedtuple("Function", "parameters error_may_be_null is_constant_time is_in_module")
 FUNCTIONS = {
     "encoded_size": Function("bytes_length flags", False, True, False),

@@ -1,1 +1,0 @@
-"""What decides. An error here could make the tool accept wrong code (README.md)."""

@@ -1,0 +1,35 @@
+"""The definition of digits is that of crates/const_hex_arch/specs, and texts are those that Python writes."""
+
+import itertools
+import re
+import unittest
+
+import z3
+
+from contracts.functions import digits_of, is_digit, value
+from execution.state import byte, simple
+from programs import ROOT
+
+SPECS = ROOT / "crates" / "const_hex_arch" / "specs" / "Texts.antt"
+RANGE = r"nat_le (\d+) b && nat_le b (\d+) then Some \(b - (\d+)\)"
+
+
+class TestDigits(unittest.TestCase):
+    def test_values(self):
+        """`hex_value`, as the file of definitions has it."""
+        found = re.search(r"\nhex_value b =\n(.*?)\n\n", SPECS.read_text(), re.DOTALL)[1]
+        self.assertEqual(re.sub(rf"(else )?if {RANGE}|else None|\s", "", found), "")
+        ranges = [tuple(map(int, numbers)) for numbers in re.findall(RANGE, found)]
+        values = {number: number - less for first, last, less in ranges for number in range(first, last + 1)}
+        self.assertEqual({number for number in range(256) if z3.is_true(simple(is_digit(byte(number))))}, {*values})
+        self.assertEqual({number: simple(value(byte(number))).as_long() for number in values}, values)
+
+    def test_texts(self):
+        for is_upper, text in (False, bytes(range(256)).hex()), (True, bytes(range(256)).hex().upper()):
+            digits = [simple(digit).as_long() for number in range(256) for digit in digits_of(byte(number), is_upper)]
+            self.assertEqual(bytes(digits).decode(), text)
+
+    def test_pairs(self):
+        for high, low in itertools.product(b"0123456789abcdefABCDEF", repeat=2):
+            pair = simple(value(byte(high)) * 16 + value(byte(low))).as_long()
+            self.assertEqual(pair, int(bytes([high, low]), 16))

@@ -1,0 +1,345 @@
+#!/usr/bin/env python3
+"""Changes the meanings of instructions, one place at a time, and says which changes no comparison notices.
+
+    /usr/bin/python3 machine_code/tests/solver/turned_meanings.py [COUNT] [--seed N] [--jobs N]
+
+A change is made in the syntax tree of a file in meanings/: another operation, another order, a number that is greater
+by one, a statement that is missing. The processor, QEMU and Node have to notice it by the states of test_meanings.py
+and test_webassembly.py, unless EQUAL says why it means the same. COUNT changes are drawn, or one for each meaning and
+each function and table that meanings share. The last line is "N passed, M failed".
+"""
+
+import argparse
+import ast
+import copy
+import functools
+import multiprocessing
+import pathlib
+import random
+import re
+import sys
+import types
+from collections import namedtuple
+from unittest import mock
+
+FOLDER = pathlib.Path(__file__).resolve().parent
+sys.path[:0] = [str(FOLDER), str(FOLDER.parents[1])]
+
+import test_meanings  # noqa: E402
+import test_webassembly  # noqa: E402
+
+MEANINGS = FOLDER.parents[1] / "meanings"
+# The files in the order in which they import each other, and what compares each.
+OF_X86_64, OF_AARCH64 = ("x86_64_v2", "x86_64_v3", "functions_x86_64"), ("aarch64", "functions_aarch64")
+FILES = {"lanes": (*OF_X86_64, *OF_AARCH64, "webassembly"), "x86_64_vectors": OF_X86_64, "aarch64_vectors": OF_AARCH64,
+         "x86_64": OF_X86_64, "aarch64": OF_AARCH64, "webassembly": ("webassembly",)}
+# What is no meaning of an instruction that runs alone: programs of test_wrong.py show it, and test_starts.py the calls.
+# What follows the first ALL does not belong to the module, where Node compares it.
+ELSEWHERE = ("instructions", "follows", "_is_jump", "_is_target", "_is_page", "enter", "return_address", "returned",
+             "arrive", "_lay_out", "_is_alone", "_place", "leave", "call", "ret", "jump", "cpuid", "xgetbv", "reported")
+ALL = 12
+# How functions are called, what is read of an object, and which instructions a CPU has.
+CONSTANTS = "State", "(PAGE, LOW, LOW8, LOW16, JUMP, CALL)", "MEMORY", "ENDS", "V2", "LEVELS", "NOPS"
+TURNED = {ast.Add: ast.Sub, ast.Sub: ast.Add, ast.Mult: ast.Add, ast.BitAnd: ast.BitOr, ast.BitOr: ast.BitAnd,
+          ast.BitXor: ast.BitOr, ast.LShift: ast.RShift, ast.RShift: ast.LShift, ast.FloorDiv: ast.Mult,
+          ast.Mod: ast.FloorDiv, ast.Eq: ast.NotEq, ast.NotEq: ast.Eq, ast.Lt: ast.LtE, ast.LtE: ast.Lt,
+          ast.Gt: ast.GtE, ast.GtE: ast.Gt, ast.In: ast.NotIn, ast.NotIn: ast.In, ast.Is: ast.IsNot,
+          ast.IsNot: ast.Is, ast.And: ast.Or, ast.Or: ast.And}
+PAIRS = [("ULT", "ULE"), ("UGT", "UGE"), ("SignExt", "ZeroExt"), ("And", "Or"), ("ADD", "SUBTRACT"), ("AND", "OR"),
+         ("MINIMUM", "MAXIMUM"), ("sum_flags", "difference_flags")]
+OTHERS = {one: other for pair in PAIRS for one, other in (pair, pair[::-1])} | {
+    "XOR": "OR", "AND_NOT": "AND", "MULTIPLY": "ADD", "SUBTRACT_SATURATED": "SUBTRACT", "ADD_SATURATED": "ADD",
+    "logic_flags": "difference_flags", "bytes_of": "list"}
+# Of these the last two operands are turned.
+LAST_TWO = ("If", "either", "Concat", "ULT", "ULE", "UGT", "UGE")
+# By the reason, the changes that no comparison can notice.
+REASONS = {
+    "it means the same": (
+        "aarch64 page: 4 -> 5",
+        "aarch64_vectors move: to.size < by.size -> to.size <= by.size",
+        "aarch64_vectors narrow: z3.LShR -> lambda a, by: a >> by",
+        "aarch64 _operands: 1 -> 2", "webassembly State.exact: cut.eq(term) or self.fits(term) -> "
+                                     "cut.eq(term) and self.fits(term)",
+        # whose result is not kept
+        "aarch64 HANDLERS.tst: AND -> OR", "aarch64 HANDLERS.cmn: ADD -> SUBTRACT",
+        *[f"{processor} HANDLERS.cmp: SUBTRACT -> ADD" for processor in ("aarch64", "x86_64")],
+        # bits, by one byte or by two
+        *[f"x86_64_vectors VECTORS.{name}: 1 -> 2" for name in ("pand", "pandn", "por", "pxor", "xorps")],
+        # what is never run is read, too
+        "webassembly Block.__init__: False -> True",
+        # the kind of all operands
+        "aarch64_vectors either: 0 -> 1",
+        "webassembly State.leave_function: (f'local {number}.', f'operand {number}.') -> "
+        "(f'operand {number}.', f'local {number}.')",
+        "webassembly State.leave_function: (self.general, self.vectors) -> (self.vectors, self.general)"),
+    "less is known of the flags, which refuses more": (
+        "x86_64 inc_dec.handler: s.flags or {} -> s.flags and {}",),
+    "test_wrong.py has programs with accesses that are not aligned": (
+        "x86_64_vectors VECTORS: 'movdqu' <-> 'movdqa'",
+        "x86_64 State.lane: self.is_legacy and (size or o.size) == 16 -> self.is_legacy or (size or o.size) == 16",
+        *[f"x86_64_vectors VECTORS.{name}: {change}" for names, change in (
+            (("movdqa", "movaps"), "True -> False"), (("movdqu", "movups"), "False -> True")) for name in names]),
+}
+EQUAL = {said for changes in REASONS.values() for said in changes}
+
+
+def alternatives(node):
+    """What a node is changed to, each with what is said of the change."""
+    for old, new in _changed(node):
+        text = ast.unparse(ast.fix_missing_locations(new.test if isinstance(node, ast.If) else new))
+        if text != old:
+            yield (old if isinstance(node, ast.Dict) else f"{old} -> {text}"), new
+
+
+def _changed(node):
+    if isinstance(node, (ast.BinOp, ast.BoolOp)) and type(node.op) in TURNED:
+        yield ast.unparse(node), _with(node, op=TURNED[type(node.op)]())
+    if isinstance(node, ast.BinOp) and (isinstance(node.op, ast.Sub) or any(map(_is_lane, (node.left, node.right)))):
+        yield ast.unparse(node), _with(node, left=node.right, right=node.left)
+    if isinstance(node, ast.Compare) and type(node.ops[0]) in TURNED:
+        yield ast.unparse(node), _with(node, ops=[TURNED[type(node.ops[0])](), *node.ops[1:]])
+    if isinstance(node, ast.UnaryOp):
+        yield ast.unparse(node), node.operand
+    if isinstance(node, ast.Constant) and isinstance(node.value, (int, bool)):
+        value = not node.value if isinstance(node.value, bool) else node.value + 1
+        yield ast.unparse(node), ast.Constant(value)
+    if isinstance(node, ast.Attribute) and getattr(node.value, "id", "") == "z3":
+        if other := {"LShR": "lambda a, by: a >> by", "Not": "lambda a: a"}.get(node.attr):
+            yield ast.unparse(node), ast.parse(f"({other})", mode="eval").body
+        if node.attr in OTHERS:
+            yield ast.unparse(node), _with(node, attr=OTHERS[node.attr])
+    if isinstance(node, ast.Name) and isinstance(node.ctx, ast.Load) and node.id in OTHERS:
+        yield node.id, _with(node, id=OTHERS[node.id])
+    if isinstance(node, ast.Call) and len(node.args) > 1 and not isinstance(node.args[-1], ast.Starred):
+        if getattr(node.func, "attr", "") in LAST_TWO:
+            yield ast.unparse(node), _with(node, args=[*node.args[:-2], node.args[-1], node.args[-2]])
+    if isinstance(node, ast.IfExp):
+        yield ast.unparse(node), _with(node, body=node.orelse, orelse=node.body)
+    if isinstance(node, ast.If):
+        yield ast.unparse(node.test), _with(node, test=ast.UnaryOp(ast.Not(), node.test))
+    if isinstance(node, (ast.List, ast.Tuple)) and isinstance(node.ctx, ast.Load) and len(node.elts) == 2:
+        yield ast.unparse(node), _with(node, elts=node.elts[::-1])
+    if isinstance(node, ast.Dict):
+        for at in range(len(node.values) - 1):
+            if all(node.keys[at : at + 2]) and ast.unparse(node.values[at]) != ast.unparse(node.values[at + 1]):
+                values = [*node.values[:at], node.values[at + 1], node.values[at], *node.values[at + 2 :]]
+                yield " <-> ".join(map(ast.unparse, node.keys[at : at + 2])), _with(node, values=values)
+    is_name = isinstance(node, ast.Assign) and isinstance(node.targets[0], (ast.Name, ast.Tuple))
+    is_statement = isinstance(node, (ast.Assign, ast.AugAssign, ast.Expr))
+    if is_statement and not is_name and not isinstance(node.value, ast.Constant):
+        yield ast.unparse(node), ast.Pass()
+
+
+def _with(node, **fields):
+    return type(node)(**{name: getattr(node, name) for name in node._fields} | fields)
+
+
+def _is_lane(node):
+    """Whether a term is a list, as far as can be seen."""
+    return isinstance(node, (ast.List, ast.ListComp)) or getattr(node, "id", "") == "lane" or (
+        isinstance(node, ast.Subscript) and isinstance(node.slice, ast.Slice))
+
+
+# A node that may be changed, in what it is, and the lines of its function, if it has one.
+Place = namedtuple("Place", "node name lines")
+
+
+class Places(ast.NodeVisitor):
+    """The places of a file, but those of checks and of what is shown elsewhere."""
+
+    def __init__(self, file):
+        self.file, self.found, self.names, self.lines = file, [], [], None
+        self.tree = ast.parse((MEANINGS / f"{file}.py").read_text())
+        self.visit(self.tree)
+
+    def visit(self, node):
+        if _is_check(node) or isinstance(node, ast.Expr) and _is_check(node.value):
+            return
+        is_function, name = isinstance(node, (ast.FunctionDef, ast.Lambda)), getattr(node, "name", None)
+        if isinstance(node, (ast.JoinedStr, ast.Import, ast.ImportFrom)) or is_function and self._is_elsewhere(name):
+            return
+        old = self.names, self.lines
+        is_set = isinstance(node, (ast.Assign, ast.AugAssign)) and not self.names
+        named = ast.unparse(getattr(node, "target", None) or node.targets[0]) if is_set else name
+        self.names = [*self.names, named] if named else self.names
+        self.lines = self.lines or ((node.lineno, node.end_lineno + 1) if is_function else None)
+        if hasattr(node, "lineno") and (self.lines or ".".join(self.names) not in CONSTANTS):
+            self.found.append(Place(node, ".".join(self.names), self.lines))
+        if isinstance(node, ast.Dict):
+            self._visit_entries(node)
+        else:
+            self.generic_visit(node)
+        self.names, self.lines = old
+
+    def _is_elsewhere(self, name):
+        return name in ELSEWHERE and (self.file != "webassembly" or name in ELSEWHERE[:ALL])
+
+    def _visit_entries(self, node):
+        for key, value in zip(node.keys, node.values):
+            name = getattr(key, "value", None)
+            self.names = [*self.names, name] if isinstance(name, str) else self.names
+            self.visit(value)
+            self.names = self.names[:-1] if isinstance(name, str) else self.names
+
+
+def _is_check(node):
+    return isinstance(node, ast.Call) and ast.unparse(node.func) in ("require", "s.must", "self.must")
+
+
+def changes():
+    """All changes, as the file, the number of the node among its places, that of the change, and what it is."""
+    for file in FILES:
+        for at, place in enumerate(Places(file).found):
+            for number, (said, _) in enumerate(alternatives(place.node)):
+                yield file, at, number, f"{file} {place.name}: {said}"
+
+
+def loaded(file, at, number):
+    """The modules of all files, of which one is changed, and the place of the change."""
+    class Change(ast.NodeTransformer):
+        def visit(self, node):
+            return new if node is place.node else self.generic_visit(node)
+
+    modules, old = {}, {name: module for name, module in sys.modules.items() if name.startswith("meanings.")}
+    try:
+        for name in FILES:
+            code = compiled(name)
+            if name == file:
+                places = Places(name)
+                place = places.found[at]
+                new = ast.copy_location(list(alternatives(place.node))[number][1], place.node)
+                Change().visit(places.tree)
+                code = compile(ast.fix_missing_locations(places.tree), str(MEANINGS / f"{name}.py"), "exec")
+            modules[name] = sys.modules[f"meanings.{name}"] = types.ModuleType(f"meanings.{name}")
+            exec(code, modules[name].__dict__)
+    finally:
+        sys.modules |= old
+    return modules, place
+
+
+@functools.cache
+def compiled(file):
+    path = MEANINGS / f"{file}.py"
+    return compile(path.read_text(), str(path), "exec")
+
+
+class Compared:
+    """What compares instructions with their meanings, and which lines of meanings each of them runs."""
+
+    def __init__(self, name):
+        self.name, self.kind = name, re.sub("^functions_|_v[23]$", "", name)
+        if name == "webassembly":
+            self.runner, self.states = test_webassembly.Node(), test_webassembly.STATES
+            self.parts = [(text, text, text.split()[0]) for text in self.runner.names]
+        else:
+            self.runner, self.states = test_meanings.processor(name), test_meanings.STATES
+            self.parts = [(form, i, form.split()[0]) for form, found in self.runner.forms.items() for i in found]
+        meanings = sys.modules[f"meanings.{self.kind}"]
+        # The lines that run when instructions are read, and those that run when one of each form does.
+        self.reading = traced(lambda: self._read(meanings))
+        of_forms = {form: traced(lambda form=form, i=i: self.runner.difference(i, f"{form} 0"))
+                    for form, i in {form: i for form, i, _ in self.parts}.items()}
+        self.lines = [of_forms[form] for form, _, _ in self.parts]
+
+    def _read(self, meanings):
+        """The code of the runner, read by other meanings."""
+        if self.name == "webassembly":
+            return self.runner.read(meanings)
+        code = copy.copy(self.runner.code)
+        code.processor, code.instructions = meanings, {}
+        code.function(test_meanings.FUNCTION)
+        return code
+
+    def notices(self, modules, file, place, said):
+        """Whether a change is noticed, which is looked for first where its line runs."""
+        meanings, around = modules[self.kind], {(file, at) for at in range(*place.lines or (0, 0))}
+        # In a table of instructions, one or two are concerned.
+        table, _, key = place.name.partition(".")
+        concerned = {key} if key else {*re.findall(r"'([\w.]+)'", said)}
+        concerned = concerned if table in ("HANDLERS", "VECTORS") and not around else set()
+        is_all = around & self.reading or not around and not concerned
+        # The functions that add instructions for WebAssembly run when the file is loaded, and say how they are read.
+        is_read = is_all or self.name == "webassembly"
+        parts = [at for at, (_, _, mnemonic) in enumerate(self.parts)
+                 if is_all or around & self.lines[at] or concerned & {mnemonic, mnemonic.removeprefix("v")}]
+        text = (MEANINGS / f"{file}.py").read_text().splitlines()[place.node.lineno - 1]
+        parts.sort(key=lambda at: ((file, place.node.lineno) not in self.lines[at],
+                                   f'{self.parts[at][2]}"' not in text))
+        try:
+            code = self._read(meanings) if is_read else copy.copy(self.runner.code)
+        except Exception:
+            return True
+        code.processor = meanings
+        with mock.patch.multiple(self.runner, code=code, meanings=meanings):
+            return any(self._differs(*self.parts[at][:2]) for at in parts)
+
+    def _differs(self, form, i):
+        i = i if self.name == "webassembly" else self.runner.code.instructions.get(i.address, i)
+        for seed in range(self.states):
+            try:
+                if self.runner.difference(i, f"{form} {seed}"):
+                    return True
+            except Exception:
+                return True
+        return False
+
+
+def traced(function):
+    """The lines of meanings that run in a function."""
+    found = set()
+
+    def trace(frame, event, _):
+        if not frame.f_code.co_filename.startswith(str(MEANINGS)):
+            return None
+        found.add((pathlib.Path(frame.f_code.co_filename).stem, frame.f_lineno))
+        return trace
+
+    sys.settrace(trace)
+    try:
+        function()
+    finally:
+        sys.settrace(None)
+    return found
+
+
+compared = functools.cache(Compared)
+
+
+def is_noticed(change):
+    """Whether a comparison notices a change."""
+    file, at, number, said = change
+    try:
+        modules, place = loaded(file, at, number)
+    except Exception:
+        return True
+    return any(compared(name).notices(modules, file, place, said) for name in FILES[file])
+
+
+def task(change):
+    """What a change is, whether it is noticed, and whether that is right."""
+    file, at, _, said = change
+    noticed = is_noticed(change)
+    what = f"{'' if noticed else 'not '}noticed: {said} (line {Places(file).found[at].node.lineno})"
+    return what, noticed != (said in EQUAL)
+
+
+def main():
+    parser = argparse.ArgumentParser(usage=__doc__)
+    parser.add_argument("count", type=int, nargs="?")
+    parser.add_argument("--seed", type=int, default=random.getrandbits(32))
+    parser.add_argument("--jobs", type=int, default=multiprocessing.cpu_count())
+    options, every = parser.parse_args(), list(changes())
+    random.Random(options.seed).shuffle(every)
+    of_each = {change[-1].partition(":")[0]: change for change in every}
+    some = every[: options.count] if options.count else [*of_each.values()]
+    failed = 0
+    with multiprocessing.Pool(options.jobs) as pool:
+        for what, is_right in pool.imap_unordered(task, some):
+            failed += not is_right
+            print(f"{'' if is_right else 'FAILED, '}{what}", flush=True)
+    print(f"{len(some) - failed} passed, {failed} failed")
+    return bool(failed)
+
+
+if __name__ == "__main__":
+    sys.exit(main())
