@@ -49,7 +49,9 @@ def contracts_of(build, content):
 
 def prove(content, build, contract, ran=None):
     """Proves a function of a build. Gives how many paths have ended."""
-    calls = (callees.IMPORTED, callees.LOCAL) if is_of_header(build) else (contract.imported,)
+    # What is called by its contract calls no other so, or two might be proved by each other's.
+    local = {} if contract.is_local else callees.LOCAL
+    calls = (callees.IMPORTED, local) if is_of_header(build) else (contract.imported,)
     code = Code(content, PROCESSORS, *calls)
     starts = contract.starts(code)
     return run(code, starts, () if contract.is_unrolled else heads(code, starts[0].at), guess, ran)

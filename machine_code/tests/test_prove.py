@@ -34,6 +34,11 @@ CALLS_A_LOCAL_ONE = """
     3: mov rdx, rsi; mov rsi, rdi; mov rdi, rsp; call {1}; xor eax, eax; add rsp, 24; ret
     .section .text.{1}, "ax"; {1}: jmp {1}
 """
+# A local function that calls another one, which never returns.
+LOCAL_ONES = """
+    .section .text.{0}, "ax"; {0}: sub rsp, 8; mov rsi, rcx; mov rdx, r8; call {1}; add rsp, 8; ret
+    .section .text.{1}, "ax"; {1}: jmp {1}
+"""
 
 
 def content_of(build, file=ARCHIVE):
@@ -205,6 +210,13 @@ class TestProve(unittest.TestCase):
             content = assembled_object(62, CALLS_A_LOCAL_ONE.format("const_hex_1_0_0_check_v3", name))
             with self.subTest(name), self.assertRaisesRegex(Refused, "nothing counts down"):
                 proofs.prove(content, "rust_v3", Check())
+
+    def test_local_functions_that_call_each_other(self):
+        """What is called by its contract calls no other so: each of two would be right if the other one were."""
+        contract = next(contract for contract in FUNCTIONS if contract.function == "decoder_fail")
+        content = assembled_object(62, LOCAL_ONES.format(contract.symbol, "const_hex_body_find_invalid_character"))
+        with self.assertRaisesRegex(Refused, "nothing counts down"):
+            proofs.prove(content, C, contract)
 
 
 def files_of_rooms():
