@@ -10,5 +10,5 @@ import turned_meanings
 @unittest.skipUnless(all(map(shutil.which, ("qemu-aarch64", "node", "wat2wasm"))), "QEMU, Node or wat2wasm is missing")
 class TestTurned(unittest.TestCase):
     def test_changes_are_noticed(self):
-        some = random.Random("some").sample(list(turned_meanings.changes()), 12)
+        some = random.Random("twelve").sample(list(turned_meanings.changes()), 12)
         self.assertEqual([what for what, is_right in map(turned_meanings.task, some) if not is_right], [])
