@@ -180,7 +180,7 @@ to_hex! {
 /// Collects the digits of bytes.
 #[inline]
 fn digits<const UPPER: bool, T: FromIterator<char>>(bytes: &[u8]) -> T {
-    Digits::<UPPER> {
+    Characters::<UPPER> {
         bytes,
         text: [0; 64],
         at: 0,
@@ -190,14 +190,14 @@ fn digits<const UPPER: bool, T: FromIterator<char>>(bytes: &[u8]) -> T {
 }
 
 /// The digits of bytes, of which 32 are encoded at a time: those of the text from `at` to `end`, and those of `bytes`.
-struct Digits<'a, const UPPER: bool> {
+struct Characters<'a, const UPPER: bool> {
     bytes: &'a [u8],
     text: [u8; 64],
     at: usize,
     end: usize,
 }
 
-impl<const UPPER: bool> Digits<'_, UPPER> {
+impl<const UPPER: bool> Characters<'_, UPPER> {
     /// Returns the digits of the next bytes, or none if there are no more.
     #[inline]
     fn encode(&mut self) -> &[u8] {
@@ -210,7 +210,7 @@ impl<const UPPER: bool> Digits<'_, UPPER> {
 }
 
 // A string that sees here that a digit is ASCII need not find out how many bytes it has.
-impl<const UPPER: bool> Iterator for Digits<'_, UPPER> {
+impl<const UPPER: bool> Iterator for Characters<'_, UPPER> {
     type Item = char;
 
     #[inline]
