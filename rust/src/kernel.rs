@@ -23,11 +23,20 @@ compiled! {
     ) {
         mod machine_code;
         mod native;
+        // Few processors run it, so it has less data.
+        use crate::proved::Compact as Portable;
         use machine_code as unchecked;
         pub use native::Native;
     } else {
+        compiled! {
+            if all(target_arch = "wasm32", target_feature = "simd128", not(feature = "force-generic")) {
+                pub use crate::proved::arch::lanes16::Lanes16 as Portable;
+            } else {
+                pub use crate::proved::Plain as Portable;
+            }
+        }
         use portable as unchecked;
-        pub use portable::Native;
+        pub use Portable as Native;
     }
 }
 #[cfg(feature = "alloc")]

@@ -246,8 +246,11 @@ impl<const UPPER: bool> Iterator for Characters<'_, UPPER> {
             return result;
         }
         while !self.bytes.is_empty() {
-            for digit in self.encode() {
-                result = f(result, (*digit & 0x7F) as char);
+            let mut text = self.encode();
+            while let [high, low, rest @ ..] = text {
+                result = f(result, (*high & 0x7F) as char);
+                result = f(result, (*low & 0x7F) as char);
+                text = rest;
             }
         }
         result

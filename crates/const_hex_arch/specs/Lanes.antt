@@ -1,8 +1,8 @@
 -- The parts of a step over lanes, and the values of digits in lanes.
-use Rattle.std.specs.Prelude.{◌≡◌, ℕ, ◌+◌, ◌*◌, ◌/◌, ◌%◌, ◌≤◌, Bool, List, [], ◌∷◌, map, replicate, ◌-◌, ◌↔◌, nat_le, nat_lt, if◌then◌else◌, Option, Some, None}
+use Rattle.std.specs.Prelude.{◌≡◌, ℕ, ◌+◌, ◌*◌, ◌/◌, ◌%◌, ◌≤◌, List, [], ◌∷◌, replicate, ◌-◌, ◌↔◌, nat_le, nat_lt, if◌then◌else◌, Option, Some, None}
 use Rattle.std.specs.Int.{bit_at}
-use Rattle.std.specs.List.{AllByRecursion, concat, range_with_len}
-use Rattle.const_hex_arch.specs.Texts.{hex_digit, hex_value, IsDigit}
+use Rattle.std.specs.List.{AllByRecursion, concat}
+use Rattle.const_hex_arch.specs.Texts.{hex_value, IsDigit}
 
 -- ---- what the parts of a step do with lanes
 
@@ -21,10 +21,6 @@ AllUnmarked = AllByRecursion IsUnmarked
 -- 4097 in each of 8 lanes of 16 bits
 abbrev pub bytes_of_4097 : List ℕ
 bytes_of_4097 = concat (replicate 8 (1 ∷ 16 ∷ []))
-
--- the digits of all values, and those bytes
-abbrev pub row_of : Bool → List (List ℕ)
-row_of up = map (hex_digit up) (range_with_len 0 16) ∷ bytes_of_4097 ∷ []
 
 -- the halves of all bytes, the upper one first
 abbrev pub halves_of : List ℕ → List ℕ

@@ -15,7 +15,7 @@ pub mod text;
 pub use crate::arch::check_first::CheckFirst;
 pub use crate::arch::lanes16::Lanes16;
 pub use crate::arch::lanes32::Lanes32;
-pub use crate::arch::plain::Plain;
+pub use crate::arch::plain::{Compact, Plain};
 pub use crate::arch::{FixedKernel, Kernel, lanes16, lanes32};
 pub use crate::output::Output;
 pub use crate::output::buffered::BufferedOutput;

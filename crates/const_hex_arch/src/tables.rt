@@ -127,3 +127,11 @@ pub(crate) fn pair_at(upper: bool, b: u8) -> [u8; 2]
         [PAIRS_LOWER[at], PAIRS_LOWER[at + 1]]
     }
 }
+
+/// Both digits of a byte, by two look-ups in a small table.
+#[inline]
+pub(crate) fn digits_at(upper: bool, b: u8) -> [u8; 2]
+    ensures { result ≡ hex_digit upper (b / 16) ∷ hex_digit upper (b % 16) ∷ [] }
+{
+    [digit_at(upper, b / 16), digit_at(upper, b % 16)]
+}

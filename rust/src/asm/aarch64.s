@@ -291,34 +291,36 @@
 	b.hi 2f
 	cmp x1, #0x20
 	b.cc 5f
-	ldp q0, q1, [x0]
+	ldp q1, q2, [x0]
 	cmp w3, #0x0
 	mov w8, #0x20
+	mov w9, #0x30
+	csel x8, x9, x8, ne
 	adrp_label x9, const_hex_1_0_0_constant_2
 	add_label x9, x9, const_hex_1_0_0_constant_2
-	csel x8, x8, xzr, ne
-	add x8, x9, x8
-	uxtl2 v2.8h, v0.16b
-	uxtl v3.8h, v0.8b
-	uxtl2 v4.8h, v1.16b
+	uxtl2 v3.8h, v1.16b
 	uxtl v1.8h, v1.8b
-	ldr q0, [x8, #16]
-	mul v2.8h, v0.8h, v2.8h
+	uxtl2 v4.8h, v2.16b
+	uxtl v2.8h, v2.8b
+	ldr q0, [x9, x8]
+	mov w8, #0x10
+	csel x8, x8, xzr, ne
 	mul v3.8h, v0.8h, v3.8h
-	mul v4.8h, v0.8h, v4.8h
 	mul v5.8h, v0.8h, v1.8h
-	ldr q1, [x8]
+	mul v4.8h, v0.8h, v4.8h
+	mul v2.8h, v0.8h, v2.8h
+	ldr q1, [x9, x8]
 	subs x8, x1, #0x20
-	ushr v2.8h, v2.8h, #4
 	ushr v3.8h, v3.8h, #4
-	ushr v4.8h, v4.8h, #4
 	ushr v5.8h, v5.8h, #4
-	tbl v2.16b, {v1.16b}, v2.16b
+	ushr v4.8h, v4.8h, #4
+	ushr v2.8h, v2.8h, #4
 	tbl v3.16b, {v1.16b}, v3.16b
-	tbl v4.16b, {v1.16b}, v4.16b
 	tbl v5.16b, {v1.16b}, v5.16b
-	stp q3, q2, [x2]
-	stp q5, q4, [x2, #32]
+	tbl v4.16b, {v1.16b}, v4.16b
+	tbl v2.16b, {v1.16b}, v2.16b
+	stp q5, q3, [x2]
+	stp q2, q4, [x2, #32]
 	b.eq 6f
 	add x9, x0, x8
 	add x8, x2, x8, lsl #1
@@ -343,18 +345,18 @@
 	stp q0, q4, [x8, #32]
 	ret
 2:
+	adrp_label x8, const_hex_1_0_0_constant_2
+	add_label x8, x8, const_hex_1_0_0_constant_2
+	and x9, x1, #0x10
 	cmp w3, #0x0
-	mov w8, #0x20
-	and x9, x1, #0x40
-	adrp_label x10, const_hex_1_0_0_constant_2
-	add_label x10, x10, const_hex_1_0_0_constant_2
-	csel x8, x8, xzr, ne
-	add x9, x10, x9
-	mov x10, x1
-	add x8, x9, x8
+	mov w10, #0x10
+	add x9, x8, x9
+	csel x10, x10, xzr, ne
+	ldr q1, [x9, #32]
 	mov x9, x0
-	ldp q0, q1, [x8]
+	ldr q0, [x8, x10]
 	mov x8, x2
+	mov x10, x1
 3:
 	ldp q2, q3, [x9]
 	sub x10, x10, #0x40
@@ -448,24 +450,26 @@
 5:
 	cmp x1, #0x10
 	b.cc 7f
-	ldr q0, [x0]
+	ldr q1, [x0]
 	cmp w3, #0x0
 	mov w8, #0x20
+	mov w9, #0x30
+	csel x8, x9, x8, ne
 	adrp_label x9, const_hex_1_0_0_constant_2
 	add_label x9, x9, const_hex_1_0_0_constant_2
+	uxtl v2.8h, v1.8b
+	uxtl2 v1.8h, v1.16b
+	ldr q0, [x9, x8]
+	mov w8, #0x10
 	csel x8, x8, xzr, ne
-	add x8, x9, x8
-	uxtl v2.8h, v0.8b
-	uxtl2 v0.8h, v0.16b
-	ldr q1, [x8, #16]
-	mul v2.8h, v1.8h, v2.8h
-	mul v3.8h, v1.8h, v0.8h
-	ldr q0, [x8]
+	mul v2.8h, v0.8h, v2.8h
+	mul v3.8h, v0.8h, v1.8h
+	ldr q1, [x9, x8]
 	subs x8, x1, #0x10
 	ushr v2.8h, v2.8h, #4
 	ushr v3.8h, v3.8h, #4
-	tbl v2.16b, {v0.16b}, v2.16b
-	tbl v3.16b, {v0.16b}, v3.16b
+	tbl v2.16b, {v1.16b}, v2.16b
+	tbl v3.16b, {v1.16b}, v3.16b
 	stp q2, q3, [x2]
 	b.ne 8f
 6:
@@ -476,17 +480,19 @@
 	movi v0.16b, #0x0
 	ldrb w8, [x0]
 	cmp w3, #0x0
-	adrp_label x9, const_hex_1_0_0_constant_2
-	add_label x9, x9, const_hex_1_0_0_constant_2
+	mov w9, #0x30
 	mov v0.b[0], w8
 	mov v0.b[1], w8
 	mov w8, #0x20
+	csel x8, x9, x8, ne
+	adrp_label x9, const_hex_1_0_0_constant_2
+	add_label x9, x9, const_hex_1_0_0_constant_2
+	ldr q1, [x9, x8]
+	mov w8, #0x10
 	csel x8, x8, xzr, ne
-	add x8, x9, x8
-	ldr q1, [x8, #16]
 	uxtl v0.8h, v0.8b
 	mul v0.8h, v1.8h, v0.8h
-	ldr q1, [x8]
+	ldr q1, [x9, x8]
 	ushr v0.8h, v0.8h, #4
 	tbl v0.16b, {v1.16b}, v0.16b
 	mov b1, v0.b[3]
@@ -498,32 +504,34 @@
 	add x8, x2, x8, lsl #1
 	uxtl v3.8h, v2.8b
 	uxtl2 v2.8h, v2.16b
-	mul v3.8h, v1.8h, v3.8h
-	mul v1.8h, v1.8h, v2.8h
+	mul v3.8h, v0.8h, v3.8h
+	mul v0.8h, v0.8h, v2.8h
 	ushr v2.8h, v3.8h, #4
-	ushr v1.8h, v1.8h, #4
-	tbl v2.16b, {v0.16b}, v2.16b
-	tbl v0.16b, {v0.16b}, v1.16b
+	ushr v0.8h, v0.8h, #4
+	tbl v2.16b, {v1.16b}, v2.16b
+	tbl v0.16b, {v1.16b}, v0.16b
 	stp q2, q0, [x8]
 	ret
 9:
 	cmp x1, #0x8
 	b.cc 12f
 	add x8, x0, x1
-	cmp w3, #0x0
-	mov w9, #0x20
 	ldr d0, [x0]
+	cmp w3, #0x0
 	ldur d1, [x8, #-8]
-	csel x8, x9, xzr, ne
+	mov w9, #0x20
+	mov w10, #0x30
+	csel x8, x10, x9, ne
 	adrp_label x9, const_hex_1_0_0_constant_2
 	add_label x9, x9, const_hex_1_0_0_constant_2
-	add x8, x9, x8
 	uxtl v0.8h, v0.8b
 	uxtl v1.8h, v1.8b
-	ldr q2, [x8, #16]
+	ldr q2, [x9, x8]
+	mov w8, #0x10
+	csel x8, x8, xzr, ne
 	mul v0.8h, v2.8h, v0.8h
 	mul v1.8h, v2.8h, v1.8h
-	ldr q2, [x8]
+	ldr q2, [x9, x8]
 	add x8, x2, x1, lsl #1
 	ushr v0.8h, v0.8h, #4
 	ushr v1.8h, v1.8h, #4
@@ -539,16 +547,18 @@
 	ldr s0, [x0]
 	cmp w3, #0x0
 	sub x8, x8, #0x4
-	adrp_label x9, const_hex_1_0_0_constant_2
-	add_label x9, x9, const_hex_1_0_0_constant_2
+	mov w9, #0x30
 	ld1 {v0.s}[1], [x8]
 	mov w8, #0x20
-	csel x8, x8, xzr, ne
-	add x8, x9, x8
+	csel x8, x9, x8, ne
+	adrp_label x9, const_hex_1_0_0_constant_2
+	add_label x9, x9, const_hex_1_0_0_constant_2
+	ldr q1, [x9, x8]
+	mov w8, #0x10
 	uxtl v0.8h, v0.8b
-	ldr q1, [x8, #16]
+	csel x8, x8, xzr, ne
 	mul v0.8h, v1.8h, v0.8h
-	ldr q1, [x8]
+	ldr q1, [x9, x8]
 	add x8, x2, x1, lsl #1
 	ushr v0.8h, v0.8h, #4
 	tbl v0.16b, {v1.16b}, v0.16b
@@ -562,16 +572,18 @@
 	ldr h0, [x0]
 	cmp w3, #0x0
 	sub x8, x8, #0x2
-	adrp_label x9, const_hex_1_0_0_constant_2
-	add_label x9, x9, const_hex_1_0_0_constant_2
+	mov w9, #0x30
 	ld1 {v0.h}[1], [x8]
 	mov w8, #0x20
-	csel x8, x8, xzr, ne
-	add x8, x9, x8
+	csel x8, x9, x8, ne
+	adrp_label x9, const_hex_1_0_0_constant_2
+	add_label x9, x9, const_hex_1_0_0_constant_2
+	ldr q1, [x9, x8]
+	mov w8, #0x10
 	uxtl v0.8h, v0.8b
-	ldr q1, [x8, #16]
+	csel x8, x8, xzr, ne
 	mul v0.8h, v1.8h, v0.8h
-	ldr q1, [x8]
+	ldr q1, [x9, x8]
 	ushr v0.8h, v0.8h, #4
 	tbl v0.16b, {v1.16b}, v0.16b
 	umov w8, v0.b[4]
@@ -606,7 +618,7 @@
 	adrp_label x9, const_hex_1_0_0_constant_1
 	mov x10, xzr
 	b.cc 4f
-	and x11, x3, #0x40
+	and x11, x3, #0x10
 	adrp_label x12, const_hex_1_0_0_constant_2
 	add_label x12, x12, const_hex_1_0_0_constant_2
 	add x11, x12, x11
@@ -678,7 +690,7 @@
 	orr w14, w14, w14, lsr #8
 	tst w14, #0xff
 	b.ne 4f
-	ldr q16, [x11, #16]
+	ldr q16, [x11, #32]
 	sub x13, x13, #0x40
 	add x14, x2, x10
 	cmp x13, #0x3f
@@ -1021,14 +1033,7 @@
 
 	constant const_hex_1_0_0_constant_2, 0
 	.byte 0x30, 0x31, 0x32, 0x33, 0x34, 0x35, 0x36, 0x37, 0x38, 0x39, 0x61, 0x62, 0x63, 0x64, 0x65, 0x66
-	.byte 0x01, 0x10, 0x01, 0x10, 0x01, 0x10, 0x01, 0x10, 0x01, 0x10, 0x01, 0x10, 0x01, 0x10, 0x01, 0x10
 	.byte 0x30, 0x31, 0x32, 0x33, 0x34, 0x35, 0x36, 0x37, 0x38, 0x39, 0x41, 0x42, 0x43, 0x44, 0x45, 0x46
 	.byte 0x01, 0x10, 0x01, 0x10, 0x01, 0x10, 0x01, 0x10, 0x01, 0x10, 0x01, 0x10, 0x01, 0x10, 0x01, 0x10
-	.byte 0x30, 0x31, 0x32, 0x33, 0x34, 0x35, 0x36, 0x37, 0x38, 0x39, 0x61, 0x62, 0x63, 0x64, 0x65, 0x66
 	.byte 0x01, 0x10, 0x01, 0x10, 0x01, 0x10, 0x01, 0x10, 0x01, 0x10, 0x01, 0x10, 0x01, 0x10, 0x01, 0x10
-	.byte 0x30, 0x31, 0x32, 0x33, 0x34, 0x35, 0x36, 0x37, 0x38, 0x39, 0x41, 0x42, 0x43, 0x44, 0x45, 0x46
-	.byte 0x01, 0x10, 0x01, 0x10, 0x01, 0x10, 0x01, 0x10, 0x01, 0x10, 0x01, 0x10, 0x01, 0x10, 0x01, 0x10
-	.byte 0x00, 0x00, 0x00, 0x00, 0x00, 0x00, 0x00, 0x00, 0x00, 0x00, 0x00, 0x00, 0x00, 0x00, 0x00, 0x00
-	.byte 0x00, 0x00, 0x00, 0x00, 0x00, 0x00, 0x00, 0x00, 0x00, 0x00, 0x00, 0x00, 0x00, 0x00, 0x00, 0x00
-	.byte 0x00, 0x00, 0x00, 0x00, 0x00, 0x00, 0x00, 0x00, 0x00, 0x00, 0x00, 0x00, 0x00, 0x00, 0x00, 0x00
 	.byte 0x00, 0x00, 0x00, 0x00, 0x00, 0x00, 0x00, 0x00, 0x00, 0x00, 0x00, 0x00, 0x00, 0x00, 0x00, 0x00

@@ -252,11 +252,11 @@
 	jb     6f
 	pmovzxbw xmm2,QWORD PTR [rdi+0x8]
 	pmovzxbw xmm3,QWORD PTR [rdi]
-	movzx  eax,cl
-	shl    eax,0x5
-	lea    rcx,[rip + const_hex_1_0_0_constant_4_v2]
-	movdqu xmm0,XMMWORD PTR [rax+rcx*1]
-	movdqu xmm1,XMMWORD PTR [rax+rcx*1+0x10]
+	lea    rax,[rip + const_hex_1_0_0_constant_4_v2]
+	movzx  ecx,cl
+	shl    ecx,0x4
+	movdqu xmm0,XMMWORD PTR [rcx+rax*1]
+	movdqu xmm1,XMMWORD PTR [rcx+rax*1+0x20]
 	pmullw xmm3,xmm1
 	pmullw xmm2,xmm1
 	psrlw  xmm2,0x4
@@ -285,15 +285,15 @@
 	ret
 3:
 	mov    eax,esi
-	and    eax,0x40
-	movzx  ecx,cl
-	shl    ecx,0x5
+	and    eax,0x10
 	lea    r8,[rip + const_hex_1_0_0_constant_4_v2]
-	add    r8,rax
-	movdqu xmm0,XMMWORD PTR [rcx+r8*1]
-	movdqu xmm1,XMMWORD PTR [rcx+r8*1+0x10]
+	movdqu xmm1,XMMWORD PTR [rax+r8*1+0x20]
+	movzx  eax,cl
+	shl    eax,0x4
+	movdqu xmm0,XMMWORD PTR [rax+r8*1]
 	xor    ecx,ecx
 	mov    rax,rsi
+	.byte 0xf, 0x1f, 0x0  /* nop    DWORD PTR [rax] */
 4:
 	pmovzxbw xmm2,QWORD PTR [rdi+rcx*1+0x8]
 	pmovzxbw xmm3,QWORD PTR [rdi+rcx*1]
@@ -405,11 +405,11 @@
 	jb     7f
 	pmovzxbw xmm2,QWORD PTR [rdi+0x8]
 	pmovzxbw xmm3,QWORD PTR [rdi]
-	movzx  eax,cl
-	shl    eax,0x5
-	lea    rcx,[rip + const_hex_1_0_0_constant_4_v2]
-	movdqu xmm0,XMMWORD PTR [rax+rcx*1]
-	movdqu xmm1,XMMWORD PTR [rax+rcx*1+0x10]
+	lea    rax,[rip + const_hex_1_0_0_constant_4_v2]
+	movzx  ecx,cl
+	shl    ecx,0x4
+	movdqu xmm0,XMMWORD PTR [rcx+rax*1]
+	movdqu xmm1,XMMWORD PTR [rcx+rax*1+0x20]
 	pmullw xmm3,xmm1
 	pmullw xmm2,xmm1
 	psrlw  xmm2,0x4
@@ -438,11 +438,11 @@
 	cmp    rsi,0x1
 	jne    8f
 	movzx  eax,BYTE PTR [rdi]
-	movzx  ecx,cl
-	shl    ecx,0x5
 	lea    rsi,[rip + const_hex_1_0_0_constant_4_v2]
+	movzx  ecx,cl
+	shl    ecx,0x4
 	movdqu xmm0,XMMWORD PTR [rcx+rsi*1]
-	movdqu xmm1,XMMWORD PTR [rcx+rsi*1+0x10]
+	movdqu xmm1,XMMWORD PTR [rcx+rsi*1+0x20]
 	movd   xmm2,eax
 	pinsrb xmm2,eax,0x2
 	pmullw xmm2,xmm1
@@ -453,12 +453,12 @@
 8:
 	cmp    rsi,0x8
 	jb     9f
-	movzx  eax,cl
-	shl    eax,0x5
-	lea    rcx,[rip + const_hex_1_0_0_constant_4_v2]
-	movdqu xmm0,XMMWORD PTR [rax+rcx*1]
+	lea    rax,[rip + const_hex_1_0_0_constant_4_v2]
+	movzx  ecx,cl
+	shl    ecx,0x4
+	movdqu xmm0,XMMWORD PTR [rcx+rax*1]
 	pmovzxbw xmm1,QWORD PTR [rdi+rsi*1-0x8]
-	movdqu xmm2,XMMWORD PTR [rax+rcx*1+0x10]
+	movdqu xmm2,XMMWORD PTR [rcx+rax*1+0x20]
 	pmovzxbw xmm3,QWORD PTR [rdi]
 	pmullw xmm1,xmm2
 	pmullw xmm3,xmm2
@@ -475,11 +475,11 @@
 	jb     12f
 	movd   xmm0,DWORD PTR [rdi]
 	pinsrd xmm0,DWORD PTR [rdi+rsi*1-0x4],0x1
-	movzx  eax,cl
-	shl    eax,0x5
-	lea    rcx,[rip + const_hex_1_0_0_constant_4_v2]
-	movdqu xmm1,XMMWORD PTR [rax+rcx*1]
-	movdqu xmm2,XMMWORD PTR [rax+rcx*1+0x10]
+	lea    rax,[rip + const_hex_1_0_0_constant_4_v2]
+	movzx  ecx,cl
+	shl    ecx,0x4
+	movdqu xmm1,XMMWORD PTR [rcx+rax*1]
+	movdqu xmm2,XMMWORD PTR [rcx+rax*1+0x20]
 	pmovzxbw xmm0,xmm0
 	pmullw xmm0,xmm2
 	psrlw  xmm0,0x4
@@ -493,11 +493,11 @@
 	movzx  eax,WORD PTR [rdi]
 	movd   xmm0,eax
 	pinsrw xmm0,WORD PTR [rdi+rsi*1-0x2],0x1
-	movzx  eax,cl
-	shl    eax,0x5
-	lea    rcx,[rip + const_hex_1_0_0_constant_4_v2]
-	movdqu xmm1,XMMWORD PTR [rax+rcx*1]
-	movdqu xmm2,XMMWORD PTR [rax+rcx*1+0x10]
+	lea    rax,[rip + const_hex_1_0_0_constant_4_v2]
+	movzx  ecx,cl
+	shl    ecx,0x4
+	movdqu xmm1,XMMWORD PTR [rcx+rax*1]
+	movdqu xmm2,XMMWORD PTR [rcx+rax*1+0x20]
 	pmovzxbw xmm0,xmm0
 	pmullw xmm0,xmm2
 	psrlw  xmm0,0x4
@@ -520,7 +520,7 @@
 	cmp    rcx,0x40
 	jb     6f
 	mov    eax,ecx
-	and    eax,0x40
+	and    eax,0x10
 	xor    esi,esi
 	mov    r8,rcx
 	.byte 0x66, 0x66, 0x2e, 0xf, 0x1f, 0x84, 0x0, 0x0, 0x0, 0x0, 0x0  /* data16 cs nop WORD PTR [rax+rax*1+0x0] */
@@ -584,7 +584,7 @@
 	ptest  xmm5,XMMWORD PTR [rip + const_hex_1_0_0_constant_3_v2]
 	jne    4f
 	lea    r9,[rip + const_hex_1_0_0_constant_4_v2]
-	movdqu xmm5,XMMWORD PTR [rax+r9*1+0x10]
+	movdqu xmm5,XMMWORD PTR [rax+r9*1+0x20]
 	pmullw xmm0,xmm5
 	pmullw xmm3,xmm5
 	pmullw xmm2,xmm5
@@ -887,14 +887,7 @@
 
 	constant const_hex_1_0_0_constant_4_v2, 0
 	.byte 0x30, 0x31, 0x32, 0x33, 0x34, 0x35, 0x36, 0x37, 0x38, 0x39, 0x61, 0x62, 0x63, 0x64, 0x65, 0x66
-	.byte 0x01, 0x10, 0x01, 0x10, 0x01, 0x10, 0x01, 0x10, 0x01, 0x10, 0x01, 0x10, 0x01, 0x10, 0x01, 0x10
 	.byte 0x30, 0x31, 0x32, 0x33, 0x34, 0x35, 0x36, 0x37, 0x38, 0x39, 0x41, 0x42, 0x43, 0x44, 0x45, 0x46
 	.byte 0x01, 0x10, 0x01, 0x10, 0x01, 0x10, 0x01, 0x10, 0x01, 0x10, 0x01, 0x10, 0x01, 0x10, 0x01, 0x10
-	.byte 0x30, 0x31, 0x32, 0x33, 0x34, 0x35, 0x36, 0x37, 0x38, 0x39, 0x61, 0x62, 0x63, 0x64, 0x65, 0x66
 	.byte 0x01, 0x10, 0x01, 0x10, 0x01, 0x10, 0x01, 0x10, 0x01, 0x10, 0x01, 0x10, 0x01, 0x10, 0x01, 0x10
-	.byte 0x30, 0x31, 0x32, 0x33, 0x34, 0x35, 0x36, 0x37, 0x38, 0x39, 0x41, 0x42, 0x43, 0x44, 0x45, 0x46
-	.byte 0x01, 0x10, 0x01, 0x10, 0x01, 0x10, 0x01, 0x10, 0x01, 0x10, 0x01, 0x10, 0x01, 0x10, 0x01, 0x10
-	.byte 0x00, 0x00, 0x00, 0x00, 0x00, 0x00, 0x00, 0x00, 0x00, 0x00, 0x00, 0x00, 0x00, 0x00, 0x00, 0x00
-	.byte 0x00, 0x00, 0x00, 0x00, 0x00, 0x00, 0x00, 0x00, 0x00, 0x00, 0x00, 0x00, 0x00, 0x00, 0x00, 0x00
-	.byte 0x00, 0x00, 0x00, 0x00, 0x00, 0x00, 0x00, 0x00, 0x00, 0x00, 0x00, 0x00, 0x00, 0x00, 0x00, 0x00
 	.byte 0x00, 0x00, 0x00, 0x00, 0x00, 0x00, 0x00, 0x00, 0x00, 0x00, 0x00, 0x00, 0x00, 0x00, 0x00, 0x00

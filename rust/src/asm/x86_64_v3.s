@@ -189,20 +189,20 @@
 	ja     3f
 	cmp    rsi,0x20
 	jb     6f
-	vpmovzxbw ymm2,XMMWORD PTR [rdi]
-	movzx  eax,cl
-	shl    eax,0x5
-	lea    rcx,[rip + const_hex_1_0_0_constant_7_v3]
-	vbroadcasti128 ymm0,XMMWORD PTR [rax+rcx*1]
-	vbroadcasti128 ymm1,XMMWORD PTR [rax+rcx*1+0x10]
-	vpmullw ymm2,ymm1,ymm2
-	vpsrlw ymm2,ymm2,0x4
-	vpshufb ymm2,ymm0,ymm2
+	vpmovzxbw ymm1,XMMWORD PTR [rdi]
+	lea    rax,[rip + const_hex_1_0_0_constant_7_v3]
+	movzx  ecx,cl
+	shl    ecx,0x4
+	vbroadcasti128 ymm0,XMMWORD PTR [rcx+rax*1+0x20]
+	vpmullw ymm1,ymm0,ymm1
+	vpsrlw ymm2,ymm1,0x4
+	vbroadcasti128 ymm1,XMMWORD PTR [rcx+rax*1]
+	vpshufb ymm2,ymm1,ymm2
 	vpmovzxbw ymm3,XMMWORD PTR [rdi+0x10]
-	vpmullw ymm3,ymm1,ymm3
+	vpmullw ymm3,ymm0,ymm3
 	vpsrlw ymm3,ymm3,0x4
 	vmovdqu YMMWORD PTR [rdx],ymm2
-	vpshufb ymm2,ymm0,ymm3
+	vpshufb ymm2,ymm1,ymm3
 	vmovdqu YMMWORD PTR [rdx+0x20],ymm2
 	cmp    rsi,0x20
 	jne    5f
@@ -211,35 +211,34 @@
 	ret
 3:
 	mov    eax,esi
-	and    eax,0x40
-	movzx  ecx,cl
-	shl    ecx,0x5
+	and    eax,0x10
 	lea    r8,[rip + const_hex_1_0_0_constant_7_v3]
-	add    r8,rax
-	vbroadcasti128 ymm0,XMMWORD PTR [rcx+r8*1]
-	vbroadcasti128 ymm1,XMMWORD PTR [rcx+r8*1+0x10]
+	vbroadcasti128 ymm0,XMMWORD PTR [rax+r8*1+0x20]
+	movzx  eax,cl
+	shl    eax,0x4
+	vbroadcasti128 ymm1,XMMWORD PTR [rax+r8*1]
 	xor    ecx,ecx
 	mov    rax,rsi
-	nop
+	.byte 0xf, 0x1f, 0x40, 0x0  /* nop    DWORD PTR [rax+0x0] */
 4:
 	vpmovzxbw ymm2,XMMWORD PTR [rdi+rcx*1]
-	vpmullw ymm2,ymm1,ymm2
+	vpmullw ymm2,ymm0,ymm2
 	vpsrlw ymm2,ymm2,0x4
-	vpshufb ymm2,ymm0,ymm2
+	vpshufb ymm2,ymm1,ymm2
 	vpmovzxbw ymm3,XMMWORD PTR [rdi+rcx*1+0x10]
-	vpmullw ymm3,ymm1,ymm3
+	vpmullw ymm3,ymm0,ymm3
 	vpsrlw ymm3,ymm3,0x4
-	vpshufb ymm3,ymm0,ymm3
+	vpshufb ymm3,ymm1,ymm3
 	vmovdqu YMMWORD PTR [rdx+rcx*2],ymm2
 	vmovdqu YMMWORD PTR [rdx+rcx*2+0x20],ymm3
 	vpmovzxbw ymm2,XMMWORD PTR [rdi+rcx*1+0x20]
-	vpmullw ymm2,ymm1,ymm2
+	vpmullw ymm2,ymm0,ymm2
 	vpsrlw ymm2,ymm2,0x4
 	vpmovzxbw ymm3,XMMWORD PTR [rdi+rcx*1+0x30]
-	vpshufb ymm2,ymm0,ymm2
-	vpmullw ymm3,ymm1,ymm3
+	vpshufb ymm2,ymm1,ymm2
+	vpmullw ymm3,ymm0,ymm3
 	vpsrlw ymm3,ymm3,0x4
-	vpshufb ymm3,ymm0,ymm3
+	vpshufb ymm3,ymm1,ymm3
 	vmovdqu YMMWORD PTR [rdx+rcx*2+0x40],ymm2
 	vmovdqu YMMWORD PTR [rdx+rcx*2+0x60],ymm3
 	add    rcx,0x40
@@ -251,24 +250,24 @@
 	cmp    rax,0x21
 	jb     5f
 	vpmovzxbw ymm2,XMMWORD PTR [rdi+rcx*1]
-	vpmullw ymm2,ymm1,ymm2
+	vpmullw ymm2,ymm0,ymm2
 	vpsrlw ymm2,ymm2,0x4
 	vpmovzxbw ymm3,XMMWORD PTR [rdi+rcx*1+0x10]
-	vpshufb ymm2,ymm0,ymm2
-	vpmullw ymm3,ymm1,ymm3
+	vpshufb ymm2,ymm1,ymm2
+	vpmullw ymm3,ymm0,ymm3
 	vpsrlw ymm3,ymm3,0x4
-	vpshufb ymm3,ymm0,ymm3
+	vpshufb ymm3,ymm1,ymm3
 	vmovdqu YMMWORD PTR [rdx+rcx*2],ymm2
 	vmovdqu YMMWORD PTR [rdx+rcx*2+0x20],ymm3
 5:
 	vpmovzxbw ymm2,XMMWORD PTR [rdi+rsi*1-0x20]
-	vpmullw ymm2,ymm1,ymm2
+	vpmullw ymm2,ymm0,ymm2
 	vpsrlw ymm2,ymm2,0x4
 	vpmovzxbw ymm3,XMMWORD PTR [rdi+rsi*1-0x10]
-	vpshufb ymm2,ymm0,ymm2
-	vpmullw ymm1,ymm1,ymm3
-	vpsrlw ymm1,ymm1,0x4
-	vpshufb ymm0,ymm0,ymm1
+	vpshufb ymm2,ymm1,ymm2
+	vpmullw ymm0,ymm0,ymm3
+	vpsrlw ymm0,ymm0,0x4
+	vpshufb ymm0,ymm1,ymm0
 	vmovdqu YMMWORD PTR [rdx+rsi*2-0x40],ymm2
 	vmovdqu YMMWORD PTR [rdx+rsi*2-0x20],ymm0
 	vzeroupper
@@ -276,22 +275,22 @@
 6:
 	cmp    rsi,0x10
 	jb     7f
-	vpmovzxbw ymm2,XMMWORD PTR [rdi]
-	movzx  eax,cl
-	shl    eax,0x5
-	lea    rcx,[rip + const_hex_1_0_0_constant_7_v3]
-	vbroadcasti128 ymm0,XMMWORD PTR [rax+rcx*1]
-	vbroadcasti128 ymm1,XMMWORD PTR [rax+rcx*1+0x10]
-	vpmullw ymm2,ymm1,ymm2
-	vpsrlw ymm2,ymm2,0x4
-	vpshufb ymm2,ymm0,ymm2
+	vpmovzxbw ymm1,XMMWORD PTR [rdi]
+	lea    rax,[rip + const_hex_1_0_0_constant_7_v3]
+	movzx  ecx,cl
+	shl    ecx,0x4
+	vbroadcasti128 ymm0,XMMWORD PTR [rcx+rax*1+0x20]
+	vpmullw ymm1,ymm0,ymm1
+	vpsrlw ymm2,ymm1,0x4
+	vbroadcasti128 ymm1,XMMWORD PTR [rcx+rax*1]
+	vpshufb ymm2,ymm1,ymm2
 	vmovdqu YMMWORD PTR [rdx],ymm2
 	cmp    rsi,0x10
 	je     2b
 	vpmovzxbw ymm2,XMMWORD PTR [rdi+rsi*1-0x10]
-	vpmullw ymm1,ymm1,ymm2
-	vpsrlw ymm1,ymm1,0x4
-	vpshufb ymm0,ymm0,ymm1
+	vpmullw ymm0,ymm0,ymm2
+	vpsrlw ymm0,ymm0,0x4
+	vpshufb ymm0,ymm1,ymm0
 	vmovdqu YMMWORD PTR [rdx+rsi*2-0x20],ymm0
 	vzeroupper
 	ret
@@ -301,13 +300,13 @@
 	movzx  eax,BYTE PTR [rdi]
 	vmovd  xmm0,eax
 	vpinsrb xmm0,xmm0,eax,0x1
-	movzx  eax,cl
-	shl    eax,0x5
-	lea    rcx,[rip + const_hex_1_0_0_constant_7_v3]
-	vmovdqu xmm1,XMMWORD PTR [rax+rcx*1]
+	lea    rax,[rip + const_hex_1_0_0_constant_7_v3]
 	vpmovzxbw xmm0,xmm0
-	vpmullw xmm0,xmm0,XMMWORD PTR [rax+rcx*1+0x10]
+	movzx  ecx,cl
+	shl    ecx,0x4
+	vpmullw xmm0,xmm0,XMMWORD PTR [rcx+rax*1+0x20]
 	vpsrlw xmm0,xmm0,0x4
+	vmovdqu xmm1,XMMWORD PTR [rcx+rax*1]
 	vpshufb xmm0,xmm1,xmm0
 	vpextrw WORD PTR [rdx],xmm0,0x1
 	ret
@@ -317,14 +316,14 @@
 	vmovq  xmm0,QWORD PTR [rdi+rsi*1-0x8]
 	vmovq  xmm1,QWORD PTR [rdi]
 	vpunpcklqdq xmm0,xmm1,xmm0
-	movzx  eax,cl
-	shl    eax,0x5
-	lea    rcx,[rip + const_hex_1_0_0_constant_7_v3]
-	vbroadcasti128 ymm1,XMMWORD PTR [rax+rcx*1]
+	lea    rax,[rip + const_hex_1_0_0_constant_7_v3]
 	vpmovzxbw ymm0,xmm0
-	vbroadcasti128 ymm2,XMMWORD PTR [rax+rcx*1+0x10]
-	vpmullw ymm0,ymm2,ymm0
+	movzx  ecx,cl
+	shl    ecx,0x4
+	vbroadcasti128 ymm1,XMMWORD PTR [rcx+rax*1+0x20]
+	vpmullw ymm0,ymm1,ymm0
 	vpsrlw ymm0,ymm0,0x4
+	vbroadcasti128 ymm1,XMMWORD PTR [rcx+rax*1]
 	vpshufb ymm0,ymm1,ymm0
 	vmovdqu XMMWORD PTR [rdx],xmm0
 	vextracti128 XMMWORD PTR [rdx+rsi*2-0x10],ymm0,0x1
@@ -336,13 +335,13 @@
 	vmovd  xmm0,DWORD PTR [rdi+rsi*1-0x4]
 	vmovd  xmm1,DWORD PTR [rdi]
 	vpunpckldq xmm0,xmm1,xmm0
-	movzx  eax,cl
-	shl    eax,0x5
-	lea    rcx,[rip + const_hex_1_0_0_constant_7_v3]
-	vmovdqu xmm1,XMMWORD PTR [rax+rcx*1]
+	lea    rax,[rip + const_hex_1_0_0_constant_7_v3]
 	vpmovzxbw xmm0,xmm0
-	vpmullw xmm0,xmm0,XMMWORD PTR [rax+rcx*1+0x10]
+	movzx  ecx,cl
+	shl    ecx,0x4
+	vpmullw xmm0,xmm0,XMMWORD PTR [rcx+rax*1+0x20]
 	vpsrlw xmm0,xmm0,0x4
+	vmovdqu xmm1,XMMWORD PTR [rcx+rax*1]
 	vpshufb xmm0,xmm1,xmm0
 	vmovq  QWORD PTR [rdx],xmm0
 	vpextrq QWORD PTR [rdx+rsi*2-0x8],xmm0,0x1
@@ -353,13 +352,13 @@
 	movzx  eax,WORD PTR [rdi]
 	vmovd  xmm0,eax
 	vpinsrw xmm0,xmm0,WORD PTR [rdi+rsi*1-0x2],0x1
-	movzx  eax,cl
-	shl    eax,0x5
-	lea    rcx,[rip + const_hex_1_0_0_constant_7_v3]
-	vmovdqu xmm1,XMMWORD PTR [rax+rcx*1]
+	lea    rax,[rip + const_hex_1_0_0_constant_7_v3]
 	vpmovzxbw xmm0,xmm0
-	vpmullw xmm0,xmm0,XMMWORD PTR [rax+rcx*1+0x10]
+	movzx  ecx,cl
+	shl    ecx,0x4
+	vpmullw xmm0,xmm0,XMMWORD PTR [rcx+rax*1+0x20]
 	vpsrlw xmm0,xmm0,0x4
+	vmovdqu xmm1,XMMWORD PTR [rcx+rax*1]
 	vpshufb xmm0,xmm1,xmm0
 	vmovd  DWORD PTR [rdx],xmm0
 	vpextrd DWORD PTR [rdx+rsi*2-0x4],xmm0,0x1
@@ -379,7 +378,7 @@
 	cmp    rcx,0x40
 	jb     6f
 	mov    eax,ecx
-	and    eax,0x40
+	and    eax,0x10
 	xor    esi,esi
 	mov    r8,rcx
 	.byte 0x66, 0x66, 0x2e, 0xf, 0x1f, 0x84, 0x0, 0x0, 0x0, 0x0, 0x0  /* data16 cs nop WORD PTR [rax+rax*1+0x0] */
@@ -413,7 +412,7 @@
 	vptest ymm4,ymm5
 	jne    4f
 	lea    r9,[rip + const_hex_1_0_0_constant_7_v3]
-	vbroadcasti128 ymm4,XMMWORD PTR [rax+r9*1+0x10]
+	vbroadcasti128 ymm4,XMMWORD PTR [rax+r9*1+0x20]
 	vpmullw ymm0,ymm4,ymm0
 	vpmullw ymm1,ymm4,ymm1
 	vpsrlw ymm1,ymm1,0x8
@@ -679,16 +678,9 @@
 
 	constant const_hex_1_0_0_constant_7_v3, 0
 	.byte 0x30, 0x31, 0x32, 0x33, 0x34, 0x35, 0x36, 0x37, 0x38, 0x39, 0x61, 0x62, 0x63, 0x64, 0x65, 0x66
-	.byte 0x01, 0x10, 0x01, 0x10, 0x01, 0x10, 0x01, 0x10, 0x01, 0x10, 0x01, 0x10, 0x01, 0x10, 0x01, 0x10
 	.byte 0x30, 0x31, 0x32, 0x33, 0x34, 0x35, 0x36, 0x37, 0x38, 0x39, 0x41, 0x42, 0x43, 0x44, 0x45, 0x46
 	.byte 0x01, 0x10, 0x01, 0x10, 0x01, 0x10, 0x01, 0x10, 0x01, 0x10, 0x01, 0x10, 0x01, 0x10, 0x01, 0x10
-	.byte 0x30, 0x31, 0x32, 0x33, 0x34, 0x35, 0x36, 0x37, 0x38, 0x39, 0x61, 0x62, 0x63, 0x64, 0x65, 0x66
 	.byte 0x01, 0x10, 0x01, 0x10, 0x01, 0x10, 0x01, 0x10, 0x01, 0x10, 0x01, 0x10, 0x01, 0x10, 0x01, 0x10
-	.byte 0x30, 0x31, 0x32, 0x33, 0x34, 0x35, 0x36, 0x37, 0x38, 0x39, 0x41, 0x42, 0x43, 0x44, 0x45, 0x46
-	.byte 0x01, 0x10, 0x01, 0x10, 0x01, 0x10, 0x01, 0x10, 0x01, 0x10, 0x01, 0x10, 0x01, 0x10, 0x01, 0x10
-	.byte 0x00, 0x00, 0x00, 0x00, 0x00, 0x00, 0x00, 0x00, 0x00, 0x00, 0x00, 0x00, 0x00, 0x00, 0x00, 0x00
-	.byte 0x00, 0x00, 0x00, 0x00, 0x00, 0x00, 0x00, 0x00, 0x00, 0x00, 0x00, 0x00, 0x00, 0x00, 0x00, 0x00
-	.byte 0x00, 0x00, 0x00, 0x00, 0x00, 0x00, 0x00, 0x00, 0x00, 0x00, 0x00, 0x00, 0x00, 0x00, 0x00, 0x00
 	.byte 0x00, 0x00, 0x00, 0x00, 0x00, 0x00, 0x00, 0x00, 0x00, 0x00, 0x00, 0x00, 0x00, 0x00, 0x00, 0x00
 
 	constant const_hex_1_0_0_constant_8_v3, 4

@@ -62,16 +62,16 @@ macro_rules! functions {
             #[cold]
             #[inline(never)]
             unsafe extern "C" fn others($($argument: $type),*) $(-> $result)? {
-                // SAFETY: the caller promises what the function requires, and this CPU has what it needs.
+                // SAFETY: the caller promises what the function requires.
                 unsafe {
-                    match choice::ask() {
-                        3 => $v3($($argument),*),
-                        2 => $v2($($argument),*),
-                        _ => super::portable::$name($($argument),*),
+                    if choice::known() == 0 {
+                        choice::ask();
+                        return $name($($argument),*);
                     }
+                    super::portable::$name($($argument),*)
                 }
             }
-            // SAFETY: the same.
+            // SAFETY: the same, and the CPU has what the function needs.
             unsafe {
                 #[cfg(target_arch = "aarch64")]
                 return $aarch64($($argument),*);
@@ -135,19 +135,18 @@ mod choice {
         }
     }
 
-    /// Returns the build, after the CPU was asked once. The operating system has to keep the registers of AVX, too.
+    /// Asks the CPU for the build. The operating system has to keep the registers of AVX, too.
     #[cold]
-    pub fn ask() -> u8 {
-        use core::arch::x86_64::{__cpuid, __cpuid_count, _xgetbv};
+    pub fn ask() {
+        use core::arch::x86_64::{__cpuid, __cpuid_count};
 
-        #[target_feature(enable = "xsave")]
-        unsafe fn kept_registers() -> u64 {
-            // SAFETY: the caller promises that the CPU has this instruction.
-            unsafe { _xgetbv(0) }
-        }
-        if known() != 0 {
-            return known();
-        }
+        // `_xgetbv` could be inlined only into a function that requires its feature.
+        let kept_registers = || {
+            let kept: u32;
+            // SAFETY: the CPU has the instruction if it has reported OSXSAVE, which is asked for first.
+            unsafe { core::arch::asm!("xgetbv", in("ecx") 0, out("eax") kept, out("edx") _, options(nomem, nostack)) };
+            kept
+        };
         // SSE3, SSSE3, CMPXCHG16B, SSE4.1, SSE4.2 and POPCNT; then FMA, MOVBE, OSXSAVE, AVX and F16C; then BMI1, AVX2
         // and BMI2; and LZCNT.
         const V2: u32 = 1 | 1 << 9 | 1 << 13 | 1 << 19 | 1 << 20 | 1 << 23;
@@ -155,8 +154,7 @@ mod choice {
         const V3_OF_7: u32 = 1 << 3 | 1 << 5 | 1 << 8;
         const LZCNT: u32 = 1 << 5;
         let has = |found: u32, wanted: u32| found & wanted == wanted;
-        // SAFETY: each x86-64 CPU has the instruction `cpuid`. The registers that are kept are asked for only if
-        // `cpuid` has reported OSXSAVE.
+        // SAFETY: each x86-64 CPU has the instruction `cpuid`.
         #[allow(unused_unsafe)]
         let build = unsafe {
             let features = __cpuid(1).ecx;
@@ -173,7 +171,6 @@ mod choice {
             }
         };
         BUILD.store(build, Relaxed);
-        build
     }
 
     #[cfg(test)]
@@ -185,7 +182,7 @@ mod choice {
         }
         let is_v2 = detected!("sse3" "ssse3" "sse4.1" "sse4.2" "popcnt" "cmpxchg16b");
         let is_v3 = is_v2 && detected!("avx" "avx2" "bmi1" "bmi2" "f16c" "fma" "lzcnt");
-        assert_eq!(ask(), 1 + u8::from(is_v2) + u8::from(is_v3));
-        assert_eq!(known(), ask());
+        ask();
+        assert_eq!(known(), 1 + u8::from(is_v2) + u8::from(is_v3));
     }
 }

@@ -1,18 +1,11 @@
 //! The kernel of the proved source, and the functions of `machine_code` by it.
 
+use super::Portable;
 use crate::proved::Kernel;
 use core::{ptr, slice};
 
-compiled! {
-    if all(target_arch = "wasm32", target_feature = "simd128", not(feature = "force-generic")) {
-        pub type Native = crate::proved::arch::lanes16::Lanes16;
-    } else {
-        pub type Native = crate::proved::Plain;
-    }
-}
-
 /// How many bytes the kernel takes at once where the output may not be initialized.
-const BLOCK: usize = Native::PIECE;
+const BLOCK: usize = Portable::PIECE;
 
 #[inline(always)]
 pub unsafe fn fill(bytes: *const u8, length: usize, text: *mut u8, upper: u32) {
@@ -23,7 +16,7 @@ pub unsafe fn fill(bytes: *const u8, length: usize, text: *mut u8, upper: u32) {
         let digits = &mut block[..2 * size];
         // SAFETY: the caller promises so many bytes, and space for two digits for each.
         unsafe {
-            Native::fill(slice::from_raw_parts(bytes.add(at), size), upper != 0, digits);
+            Portable::fill(slice::from_raw_parts(bytes.add(at), size), upper != 0, digits);
             ptr::copy_nonoverlapping(digits.as_ptr(), text.add(2 * at), 2 * size);
         }
         at += size;
@@ -33,7 +26,7 @@ pub unsafe fn fill(bytes: *const u8, length: usize, text: *mut u8, upper: u32) {
 #[inline(always)]
 pub unsafe fn check(text: *const u8, length: usize) -> bool {
     // SAFETY: the caller promises so many bytes.
-    Native::check(unsafe { slice::from_raw_parts(text, length) })
+    Portable::check(unsafe { slice::from_raw_parts(text, length) })
 }
 
 #[inline(always)]
@@ -45,7 +38,7 @@ pub unsafe fn read(text: *const u8, _: usize, bytes: *mut u8, count: usize) -> b
         let decoded = &mut block[..size];
         // SAFETY: the caller promises space for so many bytes, and two bytes of the text for each.
         unsafe {
-            if !Native::decode_checked(slice::from_raw_parts(text.add(2 * at), 2 * size), decoded) {
+            if !Portable::decode_checked(slice::from_raw_parts(text.add(2 * at), 2 * size), decoded) {
                 return false;
             }
             ptr::copy_nonoverlapping(decoded.as_ptr(), bytes.add(at), size);

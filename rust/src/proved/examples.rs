@@ -19,6 +19,13 @@ fn arch_plain_plain() {
 }
 
 #[test]
+fn arch_plain_compact() {
+    let mut text = [0; 4];
+    Compact::fill(b"ki", false, &mut text);
+    assert_eq!(text, *b"6b69");
+}
+
+#[test]
 fn arch_fixedkernel() {
     assert!(FixedKernel::check(b"6b697769"));
 }

@@ -43,7 +43,7 @@ pub use self::formatting::text::*;
 //   10  a function for C takes slices, which capi makes of pointers and lengths, and is compiled there alone
 //   89  all crates are one module
 //    5  an allocation never fails: without memory the program ends
-//  108  an assertion names no runtime
+//  109  an assertion names no runtime
 //    3  an example names a kernel that each target has
 //    4  an example of hexfilter uses no allocator
 //    1  and a constant converts by a cast
@@ -54,9 +54,9 @@ pub use self::formatting::text::*;
 //    1  and the crate's decoder is cloned
 //    1  and writes a text to memory that is not cleared
 //    1  before it reads a chunk
-//   43  deleted: attribute
-//  224  deleted: contract
-//  201  deleted: ghost item
+//   44  deleted: attribute
+//  226  deleted: contract
+//  202  deleted: ghost item
 //    4  deleted: model
 //    1  each value may be dropped
 //    5  kernels that no target uses are left out, and callers that nothing exports

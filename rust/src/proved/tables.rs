@@ -94,3 +94,9 @@ pub(crate) fn pair_at(upper: bool, b: u8) -> [u8; 2] {
         [PAIRS_LOWER[at], PAIRS_LOWER[at + 1]]
     }
 }
+
+/// Both digits of a byte, by two look-ups in a small table.
+#[inline]
+pub(crate) fn digits_at(upper: bool, b: u8) -> [u8; 2] {
+    [digit_at(upper, b / 16), digit_at(upper, b % 16)]
+}

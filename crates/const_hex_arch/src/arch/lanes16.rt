@@ -4,9 +4,9 @@
 //! [`decode_chunk`], [`nibbles`] and [`unhex`].
 
 ghost use Rattle.std.specs.Prelude.{◌≡◌, ◌↔◌, [], ◌∷◌, ◌++◌, length, map, IsTrue, false, IsNone, IfSome};
-ghost use Rattle.std.specs.List.{AllZip, concat};
-ghost use Rattle.const_hex_arch.specs.Texts.{hex_value, hex_text, AllDigits, Spells};
-ghost use Rattle.const_hex_arch.specs.Lanes.{AllNibbles, byte_pairs, bytes_of_4097, halves_of, row_of, as_value, IsValueOf, IsLimitOf};
+ghost use Rattle.std.specs.List.{AllZip, concat, range_with_len};
+ghost use Rattle.const_hex_arch.specs.Texts.{hex_digit, hex_value, hex_text, AllDigits, Spells};
+ghost use Rattle.const_hex_arch.specs.Lanes.{AllNibbles, byte_pairs, bytes_of_4097, halves_of, as_value, IsValueOf, IsLimitOf};
 
 use crate::arch::lanes::{self, LaneOps};
 use crate::arch::{Kernel, loops, small_input};
@@ -21,42 +21,47 @@ use std::simd::prelude::*;
 // the value itself, `P`, `W`, `X` and `Y` would leave the mark 32, and pass as digits.
 const LIMITS: [u8; 16] = [1, 10, 11, 12, 13, 14, 15, 8, 9, 10, 0, 0, 0, 0, 0, 0];
 
-/// A row for lowercase and one for uppercase, in two equal copies: the 16 digits, and the factor
-/// 4097 in each lane of 16 bits.
-// Why two copies: a compiler that knows a factor of 4097 multiplies by a shift and a sum (LLVM 22,
-// for x86-64), which costs more instructions. In Rattle's build these are 2361 in place of 1823 to
-// encode 2047 bytes, and 3645 in place of 3347 to decode to 2048; by rustc 1.95 with AVX2, 1919 in
-// place of 1827 to decode. So `fill_in_steps`, and the loops of the decoders that take most of a long
-// text, choose a copy by a bit that is known only at run time. All else takes the first one: the choice
-// would cost up to 4 instructions a call. The last pair of rows is never read. Without it all factors would be the
-// same, and the compiler would know them.
-const ROWS: &[[Row; 2]; 3] = &[CASES, CASES, [[[0; 16]; 2]; 2]];
-
-const CASES: [Row; 2] = [
-    [*b"0123456789abcdef", FACTORS],
-    [*b"0123456789ABCDEF", FACTORS],
+/// The 16 digits in lowercase and in uppercase, and two equal rows of the factor 4097 in each lane of 16
+/// bits.
+// Why two: a compiler that knows a factor of 4097 multiplies by a shift and a sum (LLVM 22, for x86-64),
+// which costs more instructions. In Rattle's build these are 2361 in place of 1823 to encode 2047 bytes,
+// and 3645 in place of 3347 to decode to 2048; by rustc 1.95 with AVX2, 1919 in place of 1827 to decode.
+// So `fill_in_steps`, and the loops of the decoders that take most of a long text, choose a row by a bit
+// that is known only at run time, and a short input takes the row of its case. All else takes the first
+// one: the choice would cost up to 4 instructions a call. The last row is never read. Without it all
+// factors would be the same, and the compiler would know them.
+const ROWS: &[[u8; 16]; 5] = &[
+    *b"0123456789abcdef",
+    *b"0123456789ABCDEF",
+    FACTORS,
+    FACTORS,
+    [0; 16],
 ];
 
 const FACTORS: [u8; 16] = [1, 16, 1, 16, 1, 16, 1, 16, 1, 16, 1, 16, 1, 16, 1, 16];
 
-/// The 16 digits, and the factors.
-type Row = [[u8; 16]; 2];
-
-/// The row of a case, from the first copy or the second. Both are equal, so no result depends on
-/// `row_copy`. The comment at [`ROWS`] says why there are two.
+/// The digits of a case.
 #[inline(always)]
-pub(crate) fn select_row(upper: bool, row_copy: bool) -> &'static Row
-    ensures { result.now ≡ row_of upper }
+fn digits_row(upper: bool) -> [u8; 16]
+    ensures { result ≡ map (hex_digit upper) (range_with_len 0 16) }
 {
-    let cases = &ROWS[if row_copy { 1 } else { 0 }];
-    &cases[if upper { 1 } else { 0 }]
+    ROWS[if upper { 1 } else { 0 }]
 }
 
-/// The copy for a loop over so many bytes. Any bit that is known only at run time would do.
-// Bit 6 is the offset of the second copy, since the rows of a copy have 64 bytes.
+/// The factors, from the first row of them or the second. Both are equal, so no result depends on
+/// `row_copy`. The comment at [`ROWS`] says why there are two.
+#[inline(always)]
+pub(crate) fn factors_row(row_copy: bool) -> [u8; 16]
+    ensures { result ≡ bytes_of_4097 }
+{
+    ROWS[if row_copy { 3 } else { 2 }]
+}
+
+/// The row of factors for a loop over so many bytes. Any bit that is known only at run time would do.
+// Bit 4 is the offset of the second row.
 #[inline(always)]
 pub(crate) fn row_copy_for(length: usize) -> bool {
-    length / 64 % 2 == 1
+    length / 16 % 2 == 1
 }
 
 /// Half of a row, in both halves of a vector.
@@ -231,8 +236,8 @@ pub(crate) fn in_two(v: u8x32) -> [u8x16; 2]
 pub(crate) fn encode_lanes(v: u8x16, upper: bool, row_copy: bool) -> u8x32
     ensures { result ≡ hex_text upper v }
 {
-    let [digits, factors] = *select_row(upper, row_copy);
-    in_both_halves(digits).swizzle_dyn_within::<16>(split_lanes(v, factors))
+    let halves = split_lanes(v, factors_row(row_copy));
+    in_both_halves(digits_row(upper)).swizzle_dyn_within::<16>(halves)
 }
 
 /// Both halves of each lane, the upper one first.
@@ -285,6 +290,6 @@ fn pack(nibbles: u8x32, row_copy: bool) -> u8x16
     ensures { AllNibbles nibbles → result ≡ byte_pairs nibbles }
 {
     let pairs = u16x16::from_le_bytes(nibbles);
-    let factors = u16x16::from_le_bytes(in_both_halves(select_row(false, row_copy)[1]));
+    let factors = u16x16::from_le_bytes(in_both_halves(factors_row(row_copy)));
     ((pairs * factors) >> u16x16::splat(8)).cast()
 }

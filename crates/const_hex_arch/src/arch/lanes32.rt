@@ -206,7 +206,7 @@ fn pack(nibbles: u8x64, row_copy: bool) -> u8x32
     ensures { AllNibbles nibbles → result ≡ byte_pairs nibbles }
 {
     let pairs = u16x32::from_le_bytes(nibbles);
-    let half = lanes16::in_both_halves(lanes16::select_row(false, row_copy)[1]);
+    let half = lanes16::in_both_halves(lanes16::factors_row(row_copy));
     let factors = u16x32::from_le_bytes(join(half, half));
     ((pairs * factors) >> u16x32::splat(8)).cast()
 }

@@ -40,10 +40,10 @@ fn fill_overlapping<const N: usize, V: LaneOps<N>>(bytes: &[u8], upper: bool, ou
     requires most { length bytes.now ≤ 2 * N }
     ensures { output.new ≡ hex_text upper bytes.now }
 {
-    steps::fill_step::<N, V>(&bytes[..N], upper, false, &mut output[..2 * N]);
+    steps::fill_step::<N, V>(&bytes[..N], upper, upper, &mut output[..2 * N]);
     if bytes.len() > N {
         let start = bytes.len() - N;
-        steps::fill_step::<N, V>(&bytes[start..], upper, false, &mut output[2 * start..]);
+        steps::fill_step::<N, V>(&bytes[start..], upper, upper, &mut output[2 * start..]);
     }
 }
 
@@ -59,7 +59,7 @@ fn fill_ends<const H: usize, const D: usize>(bytes: &[u8], upper: bool, output: 
 {
     let mut text = [0; 32];
     let ends = steps::load_ends::<H, 16>(bytes, 0);
-    steps::fill_step::<16, Lanes16>(&ends, upper, false, &mut text);
+    steps::fill_step::<16, Lanes16>(&ends, upper, upper, &mut text);
     // Not by the output's length: so a function that is not inlined needs no register for it.
     let start = 2 * bytes.len() - D;
     let last = Simd::from_slice(&text[D..]);

@@ -8,7 +8,7 @@ use crate::std_shim::simd::prelude::*;
 
 /// The operations that depend on the number of lanes `N`. Everything else in a kernel is written once,
 /// over this trait. The argument `row_copy` never changes a result: it selects one of two equal rows, as
-/// [`lanes16::select_row`](super::lanes16::select_row) explains.
+/// [`lanes16::factors_row`](super::lanes16::factors_row) explains.
 pub(crate) trait LaneOps<const N: usize> {
     /// Two digits for each lane, in order: the text of the first half, and the text of the second.
     fn digits_of(v: Simd<u8, N>, upper: bool, row_copy: bool) -> [Simd<u8, N>; 2];

@@ -30,10 +30,10 @@ pub(crate) fn fill<const N: usize, V: LaneOps<N>>(bytes: &[u8], upper: bool, out
 /// As `fill`, for one to two steps: the first one, and the last one.
 #[inline(always)]
 fn fill_overlapping<const N: usize, V: LaneOps<N>>(bytes: &[u8], upper: bool, output: &mut [u8]) {
-    steps::fill_step::<N, V>(&bytes[..N], upper, false, &mut output[..2 * N]);
+    steps::fill_step::<N, V>(&bytes[..N], upper, upper, &mut output[..2 * N]);
     if bytes.len() > N {
         let start = bytes.len() - N;
-        steps::fill_step::<N, V>(&bytes[start..], upper, false, &mut output[2 * start..]);
+        steps::fill_step::<N, V>(&bytes[start..], upper, upper, &mut output[2 * start..]);
     }
 }
 
@@ -42,7 +42,7 @@ fn fill_overlapping<const N: usize, V: LaneOps<N>>(bytes: &[u8], upper: bool, ou
 fn fill_ends<const H: usize, const D: usize>(bytes: &[u8], upper: bool, output: &mut [u8]) {
     let mut text = [0; 32];
     let ends = steps::load_ends::<H, 16>(bytes, 0);
-    steps::fill_step::<16, Lanes16>(&ends, upper, false, &mut text);
+    steps::fill_step::<16, Lanes16>(&ends, upper, upper, &mut text);
     // Not by the output's length: so a function that is not inlined needs no register for it.
     let start = 2 * bytes.len() - D;
     let last = Simd::from_slice(&text[D..]);
