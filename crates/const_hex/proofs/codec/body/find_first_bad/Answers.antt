@@ -36,3 +36,7 @@ returns-clause-bad c =
 pub returns-clause-all : goal.returns-clause-all
 returns-clause-all c =
     (λ _. none_left c.args.text.now c.args.start c.digits.index c.digits-test.false c.digits.invariant.0, λ _. refl)
+
+pub returns-then-value_at-clause-within : goal.returns-then-value_at-clause-within
+returns-then-value_at-clause-within c =
+    let (_, after, _) = c.digits.invariant in (omega (arith, after), omega (arith, c.digits-test.true))

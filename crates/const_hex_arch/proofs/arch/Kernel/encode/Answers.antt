@@ -14,6 +14,11 @@ cut : (up : Bool) (n : ℕ) (u front back : List ℕ) → front ≡ take n u →
     → hex_text up front ++ hex_text up back ≡ hex_text up u
 cut up n u front back f b = sym (hex_text-append up front back) ∙ ap (hex_text up) (parts n f b)
 
+pub write_in_pieces-requires-clause-most : goal.write_in_pieces-requires-clause-most
+write_in_pieces-requires-clause-most g c =
+    let part = ap length c.fill.ensures ∙ length-hex_text c.args.upper c.split_at.result.0.now in
+    omega (arith, part)
+
 pub write_in_pieces-requires-clause-ascii : goal.write_in_pieces-requires-clause-ascii
 write_in_pieces-requires-clause-ascii g c =
     let i = c.loop-rest.invariant in

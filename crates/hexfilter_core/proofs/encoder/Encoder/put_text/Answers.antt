@@ -6,3 +6,6 @@ returns-then-groups-eq0-clause-prefix c = search rules
 
 pub returns-clause-prefix : goal.returns-clause-prefix
 returns-clause-prefix c = search rules
+
+pub returns-clause-text : goal.returns-clause-text
+returns-clause-text c = search rules
