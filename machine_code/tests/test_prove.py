@@ -169,7 +169,7 @@ class TestProve(unittest.TestCase):
 
     def records(self, *argv, refused=None):
         """What `prove` records, where each proof succeeds but that of a function; and how many there are."""
-        def prove(content, build, contract):
+        def prove(content, build, contract, which):
             if contract.function == refused:
                 raise Refused("it is refused")
             return 1
