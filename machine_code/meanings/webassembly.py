@@ -14,7 +14,7 @@ from execution import state
 from execution.paths import Branch
 from execution.state import byte, chosen, is_secret, joined, simple, split, word
 from meanings.lanes import (ADD, AND, MAXIMUM, MINIMUM, MULTIPLY, OR, SUBTRACT, XOR, bytes_of, each, saturated, units)
-from reading.disassembly import Instruction
+from reading.assembled import Instruction
 from reading.module import SPACE
 from solver.questions import names, require
 
@@ -369,6 +369,7 @@ _loads("v128.load64_zero", 8, lambda lane: lane + [byte(0)] * 8)
 _loads("v128.load8x8_u", 8, lambda lane: [part for value in lane for part in (value, byte(0))])
 for _name, _size in {"i32.store": 4, "i32.store8": 1, "i32.store16": 2}.items():
     _stores(_name, "ni", lambda numbers, value, size=_size: split(value)[:size])
+# It has the results of others, where they are compared.
 _stores("i64.store", "nl", lambda numbers, value: split(value))
 _stores("v128.store", "nv", lambda numbers, lane: lane)
 for _size in (1, 2, 4, 8):

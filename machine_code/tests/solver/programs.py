@@ -168,8 +168,8 @@ def edited(build, function, old, new):
     return assembled(text, compiler, "assembler-with-cpp", f"-I{FOR_C}")
 
 
-def prove(content, call, ran=None, contracts=KERNELS, name=None):
-    """Proves the first contract of a call, or that of a name."""
+def prove(content, call, contracts=KERNELS, name=None, which=slice(None)):
+    """Proves the first contract of a call, or that of a name, from all starts or from some."""
     contract = next(contract for contract in contracts
                     if contract.function == call and contract.name == (name or contract.name))
-    return proofs.prove(content, "functions_" if contract in (*FUNCTIONS, *MESSAGES) else "", contract, ran)
+    return proofs.prove(content, "functions_" if contract in (*FUNCTIONS, *MESSAGES) else "", contract, which)

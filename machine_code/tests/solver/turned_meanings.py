@@ -39,7 +39,7 @@ ELSEWHERE = ("instructions", "follows", "_is_jump", "_is_target", "_is_page", "e
              "arrive", "_lay_out", "_is_alone", "_place", "leave", "call", "ret", "jump", "cpuid", "xgetbv", "reported")
 ALL = 12
 # How functions are called, what is read of an object, and which instructions a CPU has.
-CONSTANTS = "State", "(PAGE, LOW, LOW8, LOW16, JUMP, CALL)", "MEMORY", "ENDS", "V2", "LEVELS", "NOPS"
+CONSTANTS = "State", "(PAGE, LOW, LOW16, JUMP, CALL)", "MEMORY", "ENDS", "V2", "LEVELS", "NOPS"
 TURNED = {ast.Add: ast.Sub, ast.Sub: ast.Add, ast.Mult: ast.Add, ast.BitAnd: ast.BitOr, ast.BitOr: ast.BitAnd,
           ast.BitXor: ast.BitOr, ast.LShift: ast.RShift, ast.RShift: ast.LShift, ast.FloorDiv: ast.Mult,
           ast.Mod: ast.FloorDiv, ast.Eq: ast.NotEq, ast.NotEq: ast.Eq, ast.Lt: ast.LtE, ast.LtE: ast.Lt,
@@ -48,7 +48,7 @@ TURNED = {ast.Add: ast.Sub, ast.Sub: ast.Add, ast.Mult: ast.Add, ast.BitAnd: ast
 PAIRS = [("ULT", "ULE"), ("UGT", "UGE"), ("SignExt", "ZeroExt"), ("And", "Or"), ("ADD", "SUBTRACT"), ("AND", "OR"),
          ("MINIMUM", "MAXIMUM"), ("sum_flags", "difference_flags")]
 OTHERS = {one: other for pair in PAIRS for one, other in (pair, pair[::-1])} | {
-    "XOR": "OR", "AND_NOT": "AND", "MULTIPLY": "ADD", "SUBTRACT_SATURATED": "SUBTRACT", "ADD_SATURATED": "ADD",
+    "XOR": "OR", "AND_NOT": "AND", "MULTIPLY": "ADD", "SUBTRACT_SATURATED": "SUBTRACT",
     "logic_flags": "difference_flags", "bytes_of": "list"}
 # Of these the last two operands are turned.
 LAST_TWO = ("If", "either", "Concat", "ULT", "ULE", "UGT", "UGE")
@@ -56,7 +56,6 @@ LAST_TWO = ("If", "either", "Concat", "ULT", "ULE", "UGT", "UGE")
 REASONS = {
     "it means the same": (
         "aarch64 page: 4 -> 5",
-        "aarch64_vectors move: to.size < by.size -> to.size <= by.size",
         "aarch64_vectors narrow: z3.LShR -> lambda a, by: a >> by",
         "aarch64 _operands: 1 -> 2", "webassembly State.exact: cut.eq(term) or self.fits(term) -> "
                                      "cut.eq(term) and self.fits(term)",
@@ -64,7 +63,7 @@ REASONS = {
         "aarch64 HANDLERS.tst: AND -> OR", "aarch64 HANDLERS.cmn: ADD -> SUBTRACT",
         *[f"{processor} HANDLERS.cmp: SUBTRACT -> ADD" for processor in ("aarch64", "x86_64")],
         # bits, by one byte or by two
-        *[f"x86_64_vectors VECTORS.{name}: 1 -> 2" for name in ("pand", "pandn", "por", "pxor", "xorps")],
+        *[f"x86_64_vectors VECTORS.{name}: 1 -> 2" for name in ("por", "pxor", "xorps")],
         # what is never run is read, too
         "webassembly Block.__init__: False -> True",
         # the kind of all operands

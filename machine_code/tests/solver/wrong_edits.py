@@ -7,6 +7,8 @@ CALL_READ, STACK = "call SYMBOL(const_hex_kernel_read)", "the stack of a functio
 NOT_THIS_CPU, VERSION = "not the one for this CPU", "the version is not"
 # An instruction that no other function of the module has than what searches in a chunk.
 SEARCH = "i32.store8 offset=5"
+# After a chunk was decoded that has some digits; and the starts where no digit waits: with an output, and with none.
+DECODED, LATER, LATER_WITHOUT_SPACE = "local.get 12; i32.eqz; br_if 0", slice(4, 5), slice(11, 12)
 C, ARM_C, ARM = "functions_x86_64", "functions_aarch64", "dispatch for AArch64"
 FIND, FAIL = "find_invalid_character", "decoder_fail"
 # What `encode` does first, to have in r9 how many bytes the buffer has beyond 2n + 4 and to keep rdx in r10.
@@ -186,4 +188,29 @@ WRONG = [
      SEARCH),
     ("the stack is not restored", "wasm", "decoder_finish", "", "i32.const 4080; global.set 0",
      "the stack pointer is not in the stack"),
+    *((f"a decoder with {what}", "wasm", "decoder_fail", old, new, f"is wrong at {at}", None, SEARCH)
+      for what, old, new, at in (
+        ("an error of another character", "local.get 0; local.get 5; i32.store; return",
+         "local.get 0; local.get 6; i32.store; return", 0),
+        ("an error of a position that is not the greatest", "local.get 0; local.get 6; i32.store offset=4",
+         "local.get 0; local.get 4; i32.store offset=4", 4),
+        ("another position", "local.tee 6; i32.store; local.get 0",
+         "local.set 6; local.get 4; i32.store; local.get 0", 0),
+        ("another character", "local.get 5; i32.store8 offset=4", "local.get 6; i32.store8 offset=4", 4),
+        ("no error", "i32.const 2; i32.store8 offset=5", "i32.const 1; i32.store8 offset=5", 5))),
+    ("a stack", "wasm", "decoder_fail", "", "global.get 0; i32.const 16; i32.sub; i32.const 1; i32.store",
+     "may lie outside of stack", None, SEARCH),
+    *((what, "wasm", "decoder_fail", "", f"block; {test}; br_if 0; unreachable; end", "the module traps", None, SEARCH)
+      for what, test in (
+        ("a stack that ends at 0", "global.get 0; i32.eqz"),
+        ("an error that is not in the stack", "local.get 0; i32.const 4784; i32.ge_u"),
+        ("an empty text at no place", "local.get 3; i32.const 65537; i32.lt_u"))),
+    *((f"a selection by {what}", "wasm", "decoder_update", DECODED, f"{DECODED}; i32.const 7; i32.const 8; {place}; "
+       "i32.load8_u; i32.const 57; i32.gt_u; select; local.set 4", SECRET, None, None, LATER) for what, place in (
+        ("a digit that does not wait", "local.get 1; local.get 12; i32.add; i32.const 1; i32.sub"),
+        ("another digit", "local.get 1"))),
 ]
+# A length that is passed is a number of 32 bits.
+RIGHT = [("a length by a sum", "wasm", "decoder_update", "local.get 1; local.get 12; call 7",
+          "local.get 1; local.get 12; i32.const -1; i32.add; i32.const 1; i32.add; call 7", None, None, None,
+          LATER_WITHOUT_SPACE)]
