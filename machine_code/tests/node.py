@@ -18,7 +18,7 @@ from execution.paths import step
 from execution.state import byte, simple, word
 from meanings import webassembly
 from meanings.webassembly import HANDLERS
-from tests.library import MODULE, TOP
+from tests.library import MODULE, TOP, assembled_module
 
 SIZE = 1024
 RESULT, SCRATCH = 64, 256
@@ -54,12 +54,6 @@ FUNCTIONS = """
 (func (export "global") global.get 0 i32.const 0 i32.load i32.add global.set 0
   i32.const 64 global.get 0 i32.store i32.const 1024 global.set 0)
 """
-
-
-def assembled(text):
-    """The bytes of a module."""
-    command = ["wat2wasm", "-", "--output=-"]
-    return subprocess.run(command, input=text.encode(), check=True, capture_output=True).stdout
 
 
 def _function(name, text):
@@ -111,7 +105,7 @@ class Node:
         functions = " ".join(_function(name, text) for text, name in self.names.items())
         self.names |= {name: name for name in re.findall(r'export "(\w+)"', FUNCTIONS)}
         text = f'(module (memory 1 1) (global (mut i32) (i32.const {SIZE})) (export "memory" (memory 0))'
-        content = assembled(f"{text} {FUNCTIONS} {functions})")
+        content = assembled_module(f"{text} {FUNCTIONS} {functions})")
         self.content, self.meanings = content, webassembly
         self.code = self.read(webassembly)
         self.process = subprocess.Popen(["node", TOP / "machine_code" / "tests" / "run.mjs"], stdin=subprocess.PIPE,

@@ -4,7 +4,8 @@ kernels and in the functions for C, and each other instruction that has a meanin
 import unittest
 
 from processor import NOT_ALONE, STATES, Processor  # noqa: F401
-from programs import edited, kernel
+from programs import COMPILERS, edited, text_of
+from tests.library import assembled
 
 FUNCTION = r"const_hex_(.*_check(_v[23])?|version)"
 # Instructions with a meaning that are not in each kernel of today.
@@ -37,8 +38,9 @@ def processor(name):
     """What runs the instructions of a kernel and of MORE, or those of the functions for C."""
     if name.startswith("functions_"):
         return Processor(edited(name, "version", "", ""), FUNCTION)
-    more = f"\n.section .text.more, \"ax\"\n{MORE[name]}\n"
-    return Processor(kernel(name, lambda text: text + more), FUNCTION)
+    level = name.removeprefix("x86_64_")
+    text = f'{text_of(level)}\n.section .text.more, "ax"\n{MORE[name]}\n'
+    return Processor(assembled(text, COMPILERS[level]), FUNCTION)
 
 
 class TestMeanings(unittest.TestCase):

@@ -15,8 +15,9 @@ import wrong_messages
 import wrong_module
 from contracts.library import FUNCTIONS
 from contracts.messages import MESSAGES
-from programs import COMMITTED, assembled, edited, library, program, prove
+from programs import COMMITTED, edited, program, prove
 from solver.questions import Refused
+from tests.library import assembled
 
 ROOM = pathlib.Path(__file__).resolve().parents[2]
 # What refuses a program.
@@ -227,7 +228,7 @@ class TestWrong(unittest.TestCase):
         """A weak function may be replaced by the linker's, and a local one is not called."""
         local = "const_hex_1_0_0_check_v3: ret"
         for line in (f".weak const_hex_1_0_0_check_v3; {local}", local, "check: ret"):
-            self.prove(assembled(f"{line}\n", "cc"), "check", "0 functions const_hex_")
+            self.prove(assembled(f"{line}\n"), "check", "0 functions const_hex_")
 
     def test_zz_each_check_refuses_a_row(self):
         """After the rows: without a check, one that is refused by it would not be, or by another message."""
@@ -272,15 +273,16 @@ for what, changes, *said in [*wrong_module.WRONG, *wrong_module.RIGHT]:
     _add(f"module {what}", "check_raw", functools.partial(wrong_module.made, changes), *said, contracts=FUNCTIONS)
 for function, what, old, new, said, *name in wrong_for_c.WRONG:
     call = "decoder_update" if function == "decoder_decode_after" else function
-    make = functools.partial(library, call, function, old, new)
+    make = functools.partial(edited, "functions_x86_64", function, old, new)
     _add(f"for c {function} {what}", call, make, said, contracts=FUNCTIONS, name=next(iter(name), None))
 for function in wrong_for_c.RIGHT:
-    _add(f"for c {function} as it is", function, functools.partial(library, function), contracts=FUNCTIONS)
+    make = functools.partial(edited, "functions_x86_64", function, "", "")
+    _add(f"for c {function} as it is", function, make, contracts=FUNCTIONS)
 for what, body, said in wrong_messages.OF_MESSAGES:
     _add(f"of messages {what}", "error_message", functools.partial(wrong_messages.message, body), said,
          contracts=wrong_messages.CONTRACTS)
 for what, old, new, said in wrong_messages.OF_WRITE_ENDED:
-    make = functools.partial(library, "error_message", "write_ended", old, new)
+    make = functools.partial(edited, "functions_x86_64", "write_ended", old, new)
     _add(f"of messages {what}", "write_ended", make, said, contracts=wrong_messages.CONTRACTS)
 for function, what, old, new, said, *name in wrong_messages.OF_DISPATCHERS:
     _add(f"of dispatchers {function} {what}", function, functools.partial(wrong_messages.dispatcher, old, new), said,

@@ -1,6 +1,6 @@
 """Wrong modules, and right ones: a function that asks whether all characters are digits, one after the other."""
 
-from tests.node import assembled
+from tests.library import assembled_module
 
 MODULE = """(module (memory (export "memory") 1 1) (global (mut i32) (i32.const 4096))
   (global i32 (i32.const 4800)) (export "__data_end" (global 1)) (export "__heap_base" (global 1)) {part}
@@ -84,4 +84,4 @@ def made(changes):
     for old in changes.keys() - places.keys():
         assert old in text, old
         text = text.replace(old, changes[old])
-    return assembled(text.format_map(places | {name: text for name, text in changes.items() if name in places}))
+    return assembled_module(text.format_map(places | {name: text for name, text in changes.items() if name in places}))
