@@ -144,7 +144,8 @@ def _first_invalid(state, text, first, count):
         require(_is_in("input", text), "a search in what is no input")
         other.load(simple(text + at), 1)
     start, at = _offset(state, "input", text), fresh("p", 64)
-    require(not state.with_digits(start + first, count - first), "a search in a text that may be valid")
+    is_invalid = state.may_leak and not state.with_digits(start + first, count - first)
+    require(is_invalid, "a search in a text that may be valid")
     some = state.when(z3.And(z3.ULE(first, at), z3.ULT(at, count)), state.at)
     some = some and some.without_digit(start + at)
     if some := some and some.with_no_other(start + first, at - first):

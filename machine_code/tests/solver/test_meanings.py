@@ -1,6 +1,7 @@
 """The meanings of instructions are compared with the processor, or with QEMU for AArch64: each form that occurs in the
-kernels and in the functions for C, and each other instruction that has a meaning. turned_meanings.py changes them."""
+kernels and in the functions for C, and each other instruction that has a meaning. Changes of meanings are noticed."""
 
+import random
 import unittest
 
 from processor import NOT_ALONE, STATES, Processor  # noqa: F401
@@ -60,3 +61,10 @@ class TestMeanings(unittest.TestCase):
 
     def test_aarch64(self):
         self.compare("aarch64", "functions_aarch64")
+
+    def test_changes_are_noticed(self):
+        """Twelve of all."""
+        import turned_meanings  # which takes what is above
+
+        some = random.Random("twelve").sample(list(turned_meanings.changes()), 12)
+        self.assertEqual([what for what, is_right in map(turned_meanings.task, some) if not is_right], [])
