@@ -359,7 +359,7 @@ def _stores(name, types, function):
 
 
 def _number(lane):
-    return z3.ZeroExt(64 - 8 * len(lane), joined(lane)) if len(lane) < 8 else joined(lane)
+    return z3.ZeroExt(64 - 8 * len(lane), joined(lane))
 
 
 for _name, _size in {"i32.load": 4, "i32.load8_u": 1, "i32.load16_u": 2, "i64.load": 8}.items():

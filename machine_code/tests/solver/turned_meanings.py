@@ -11,6 +11,7 @@ each function and table that meanings share. The last line is "N passed, M faile
 
 import argparse
 import ast
+import collections
 import copy
 import functools
 import multiprocessing
@@ -19,7 +20,6 @@ import random
 import re
 import sys
 import types
-from collections import namedtuple
 from unittest import mock
 
 FOLDER = pathlib.Path(__file__).resolve().parent
@@ -62,6 +62,8 @@ REASONS = {
         # whose result is not kept
         "aarch64 HANDLERS.tst: AND -> OR", "aarch64 HANDLERS.cmn: ADD -> SUBTRACT",
         *[f"{processor} HANDLERS.cmp: SUBTRACT -> ADD" for processor in ("aarch64", "x86_64")],
+        *[f"lanes saturated: {change}" for change in (
+            "0 -> 1", "number < 0 -> number <= 0", "number > most -> number >= most")],
         # bits, by one byte or by two
         *[f"x86_64_vectors VECTORS.{name}: 1 -> 2" for name in ("por", "pxor", "xorps")],
         # what is never run is read, too
@@ -73,6 +75,9 @@ REASONS = {
         "webassembly State.leave_function: (self.general, self.vectors) -> (self.vectors, self.general)"),
     "less is known of the flags, which refuses more": (
         "x86_64 inc_dec.handler: s.flags or {} -> s.flags and {}",),
+    "test_wrong.py has programs with calls, returns and jumps": (
+        "x86_64 HANDLERS: 'nop' <-> 'jmp'", "x86_64 HANDLERS: 'jmp' <-> 'call'", "x86_64 HANDLERS: 'call' <-> 'ret'",
+        "x86_64 HANDLERS: 'cpuid' <-> 'xgetbv'", "aarch64 HANDLERS: 'bl' <-> 'ret'"),
     "test_wrong.py has programs with accesses that are not aligned": (
         "x86_64_vectors VECTORS: 'movdqu' <-> 'movdqa'",
         "x86_64 State.lane: self.is_legacy and (size or o.size) == 16 -> self.is_legacy or (size or o.size) == 16",
@@ -93,7 +98,9 @@ def alternatives(node):
 def _changed(node):
     if isinstance(node, (ast.BinOp, ast.BoolOp)) and type(node.op) in TURNED:
         yield ast.unparse(node), _with(node, op=TURNED[type(node.op)]())
-    if isinstance(node, ast.BinOp) and (isinstance(node.op, ast.Sub) or any(map(_is_lane, (node.left, node.right)))):
+    is_list = isinstance(node, ast.BinOp) and any(map(_is_lane, (node.left, node.right)))
+    # A list has as many copies as a number says in either order.
+    if isinstance(node, ast.BinOp) and (isinstance(node.op, ast.Sub) or is_list and isinstance(node.op, ast.Add)):
         yield ast.unparse(node), _with(node, left=node.right, right=node.left)
     if isinstance(node, ast.Compare) and type(node.ops[0]) in TURNED:
         yield ast.unparse(node), _with(node, ops=[TURNED[type(node.ops[0])](), *node.ops[1:]])
@@ -140,7 +147,7 @@ def _is_lane(node):
 
 
 # A node that may be changed, in what it is, and the lines of its function, if it has one.
-Place = namedtuple("Place", "node name lines")
+Place = collections.namedtuple("Place", "node name lines")
 
 
 class Places(ast.NodeVisitor):
@@ -186,11 +193,15 @@ def _is_check(node):
 
 
 def changes():
-    """All changes, as the file, the number of the node among its places, that of the change, and what it is."""
+    """All changes, as the file, the number of the node among its places, that of the change, and what it is; the second
+    one of the same name has a 2 after it."""
+    count = collections.Counter()
     for file in FILES:
         for at, place in enumerate(Places(file).found):
             for number, (said, _) in enumerate(alternatives(place.node)):
-                yield file, at, number, f"{file} {place.name}: {said}"
+                what = f"{file} {place.name}: {said}"
+                count[what] += 1
+                yield file, at, number, what if count[what] == 1 else f"{what} ({count[what]})"
 
 
 def loaded(file, at, number):
