@@ -12,7 +12,7 @@ C, ARM_C, ARM = "functions_x86_64", "functions_aarch64", "dispatch for AArch64"
 FIND, FAIL = "find_invalid_character", "decoder_fail"
 
 # What is wrong; the build; the function; the lines before and after; what is said of it; the contract's name, if it is
-# not the first; and the function, the constant or the macro, if it is not the function's own.
+# not the first; the function, the constant or the macro, if it is not the function's own; and the starts, if not all.
 WRONG = [
     # Kernels
     ("a digit of a table", "v3", "fill", "0x61, 0x62", "0x61, 0x64", "a wrong character at", "lowercase",
