@@ -135,18 +135,17 @@ def _invalid(state, character, index):
 
 
 def _first_invalid(state, text, first, count):
-    """The first character that is no digit, from one on: it may be anywhere, or there is none."""
+    """The first character that is no digit, from one on, which may be anywhere. There is one."""
     if not state:
         return
-    require(state.may_leak, "a search in a text that may be valid")
     state.must(z3.ULT(count, 1 << 63), "a length")
     other, at = _at_any(state, count)
     if other:
         require(_is_in("input", text), "a search in what is no input")
         other.load(simple(text + at), 1)
     start, at = _offset(state, "input", text), fresh("p", 64)
-    if none := state.with_digits(start + first, count - first):
-        yield none, count, byte(0)
+    is_invalid = state.may_leak and not state.with_digits(start + first, count - first)
+    require(is_invalid, "a search in a text that may be valid")
     some = state.when(z3.And(z3.ULE(first, at), z3.ULT(at, count)), state.at)
     some = some and some.without_digit(start + at)
     if some := some and some.with_no_other(start + first, at - first):

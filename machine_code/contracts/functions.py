@@ -97,6 +97,8 @@ class Function:
     # In how many steps facts may be from what is to be proved, if that has a limit; for which CPU the code is, if its
     # name does not say it; and what functions of other objects do, if not what callees.py says.
     near = level = imported = None
+    # In how many parts its starts are proved, which run beside each other.
+    parts = 1
 
     def starts(self, code):
         """The states at the call of the function, with any arguments."""

@@ -278,7 +278,7 @@ class DecoderUpdate(Exported):
     """decoder_update(decoder, text, length, bytes, bytes_size, written, error): the bytes of a chunk's digits, with the
     one before that waits for its second half."""
 
-    function, name = "decoder_update", "every decoder and chunk"
+    function, name, parts = "decoder_update", "every decoder and chunk", 6
     regions = DECODER, TEXT, Region("output", SIZE), WRITTEN, ERROR
     arguments = (base("decoder"), base("input"), N, base("output"), SIZE, base("written"), base("error"))
     empty, requires = (("input", N), ("output", SIZE)), (z3.ULT(N, 1 << 63),)

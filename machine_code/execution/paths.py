@@ -72,7 +72,7 @@ class Loop:
         state.reads = [(state.body, simple(self.read - state.body))]
         # What was written before the loop stays written.
         state.writes = [*state.writes, (word(0), self.written)]
-        state.digits = {(state.body.get_id(), str(state.reads[0][1])): True}
+        state.digits = dict.fromkeys(state.reads, True)
         state.flags, state.steps, state.loops = None, 0, state.loops | {state.at: self}
         state.leave(self.is_clean)
         return state
@@ -136,9 +136,9 @@ def called(state, effect):
     return after
 
 
-def run(code, starts, heads, guess, ran=None):
+def run(code, starts, heads, guess):
     """Runs a function from each of some states. Gives how many paths have ended."""
-    count, work, state = 0, list(starts), starts[0]
+    count, work = 0, list(starts)
     try:
         while work:
             state = work.pop()
@@ -153,8 +153,6 @@ def run(code, starts, heads, guess, ran=None):
                     loop = Loop(state, hint)
                     loop.arrive(state, word(0))
                     state = loop.head()
-            if ran is not None:
-                ran.add(state.at)
             after = step(code, state)
             count += not after
             work += after

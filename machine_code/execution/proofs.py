@@ -1,4 +1,4 @@
-"""Proves the functions of builds, each in a process of its own, so that no proof depends on another.
+"""Proves the functions of builds, each part of one in a process of its own, so that no proof depends on another.
 
 If a contract were left out here, or a function were called by a contract that is proved of another one, wrong code
 could be accepted.
@@ -23,7 +23,7 @@ from solver import questions, second
 from solver.questions import Refused
 
 PROCESSORS = {X86_64: x86_64, AARCH64: aarch64, None: webassembly}
-# So many questions of each proof go to the second solver, too.
+# So many questions of each part go to the second solver, too.
 SAMPLE = 100
 
 
@@ -47,23 +47,24 @@ def contracts_of(build, content):
     return found
 
 
-def prove(content, build, contract, ran=None):
-    """Proves a function of a build. Gives how many paths have ended."""
+def prove(content, build, contract, which=slice(None)):
+    """Proves a function of a build, from all starts or from some. Gives how many paths have ended."""
     # What is called by its contract calls no other so, or two might be proved by each other's.
     local = {} if contract.is_local else callees.LOCAL
     calls = (callees.IMPORTED, local) if is_of_header(build) else (contract.imported,)
     code = Code(content, PROCESSORS, *calls)
     starts = contract.starts(code)
-    return run(code, starts, () if contract.is_unrolled else heads(code, starts[0].at), guess, ran)
+    return run(code, starts[which], () if contract.is_unrolled else heads(code, starts[0].at), guess)
 
 
 def task(job):
-    """Proves a function of a build. Gives the bytes of the build, whether the function is refused, and what is to be
-    said of it."""
-    content, build, at, is_whole = job
+    """Proves a function of a build from one part of its starts. Gives which function it is, whether it is refused, and
+    what is to be said of it."""
+    *function, part, is_whole = job
+    content, build, at = function
     contract, fault = contracts_of(build, content)[at], None
     try:
-        count = prove(content, build, contract)
+        count = prove(content, build, contract, slice(part, None, contract.parts))
         outcome = f"proved at every length: {count} paths, {questions.counts['asked']} questions"
         if others := second.disagreements(questions.proved, None if is_whole else SAMPLE):
             fault = f"cvc5 says {others[0][1]}: {others[0][0]}"
@@ -72,4 +73,6 @@ def task(job):
     except Exception as error:
         fault = f"an error in this tool: {error!r}"
     outcome = f"REFUSED: {fault}" if fault else outcome
-    return content, bool(fault), f"{build} {contract.function}, {contract.name}: {outcome}, {sum(os.times()[:4]):.0f} s"
+    name = f"{contract.name}, {part + 1} of {contract.parts}" if contract.parts > 1 else contract.name
+    what = f"{build} {contract.function}, {name}: {outcome}, {sum(os.times()[:4]):.0f} s"
+    return tuple(function), bool(fault), what

@@ -118,7 +118,8 @@ class State:
         self.tenths = {}
         # What was read of what is kept between calls, and what was stored there.
         self.seen, self.kept = [], []
-        # Offset and count of what was read of the input and written to the output, and which reads are of digits.
+        # Offset and count of what was read of the input and written to the output, and whether reads are of digits, by
+        # these terms themselves: two keys are the same only if their terms are.
         self.reads, self.writes, self.digits = [], [], {}
         # The loops that were entered, and the instructions since the last head. Whether time may depend on the input,
         # which is surely invalid.
@@ -316,11 +317,10 @@ class State:
     def known_digits(self):
         """The parts of the input, by offset and count, that are digits."""
         for offset, count in self.reads:
-            key = offset.get_id(), str(count)
-            if key not in self.digits:
-                self.digits[key] = all(
+            if (offset, count) not in self.digits:
+                self.digits[offset, count] = all(
                     self.holds(self.contract.is_digit(self.byte_of_input(offset + at))) for at in range(count))
-            if self.digits[key]:
+            if self.digits[offset, count]:
                 yield offset, count
 
     def with_digits(self, offset, count):
@@ -334,7 +334,7 @@ class State:
         """The same, but only what is known of each character by itself shows that it can't."""
         other, offset, count = self.copy(), simple(offset), simple(count)
         other.reads.append((offset, count))
-        other.digits[offset.get_id(), str(count)] = True
+        other.digits[offset, count] = True
         for at, name in self.input.values():
             if other and self.is_known(name, False):
                 other = other.when(z3.Not(z3.ULT(at - offset, count)), other.at)

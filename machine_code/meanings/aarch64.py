@@ -12,20 +12,21 @@ import z3
 from execution import state
 from execution.paths import Branch
 from execution.state import byte, fresh, joined, simple, split, word
-from meanings.aarch64_vectors import (all_bits, by_units, constant, duplicate, either, extract, greatest, look_up,
-                                      mixed, move, narrow, shift_right, widen)
-from meanings.lanes import ADD, AND, MAXIMUM, MINIMUM, MULTIPLY, OR, SUBTRACT, SUBTRACT_SATURATED, XOR
-from reading import disassembly
-from reading.assembled import checked, with_distance
+from meanings.aarch64_vectors import (by_units, constant, duplicate, either, extract, look_up, mixed, move, narrow,
+                                      shift_right, widen)
+from meanings.lanes import ADD, AND, MINIMUM, MULTIPLY, OR, SUBTRACT, SUBTRACT_SATURATED, XOR
+from reading import assembled
 from reading.objects import AARCH64
 from solver.questions import require
 
 # By what a relocation is for, as ELF numbers them.
-PAGE, LOW, LOW8, LOW16, JUMP, CALL = 275, 277, 286, 299, 282, 283
+PAGE, LOW, LOW16, JUMP, CALL = 275, 277, 299, 282, 283
 # An address, registers in braces, or anything else without a comma.
 OPERAND = re.compile(r"\[[^]]*\]!?|\{[^}]*\}(?:\[\d+\])?|[^,\s][^,]*")
 NO_RELOCATION = "an address without its relocation, or a relocation without an address"
 SIZES = {"b": 1, "h": 2, "s": 4, "d": 8, "q": 16}
+# Of a general register: not x18, which belongs to the platform.
+NUMBER = r"(?!18\b)\d+"
 
 
 class Operand:
@@ -34,8 +35,7 @@ class Operand:
 
     def __init__(self, text):
         self.text, self.lane, self.size = text, None, None
-        if found := re.fullmatch(r"([xw])(\d+|zr)|(w?sp)", text):
-            require(found[2] != "18", "x18, which belongs to the platform")
+        if found := re.fullmatch(rf"([xw])({NUMBER}|zr)|(w?sp)", text):
             self.kind, self.name, self.size = "general", found[3] and "sp" or f"x{found[2]}", 4 if text[0] == "w" else 8
         elif found := re.fullmatch(r"([bhsdq])(\d+)", text):
             self.kind, self.name, self.size = "vector", int(found[2]), SIZES[found[1]]
@@ -45,10 +45,10 @@ class Operand:
         elif found := re.fullmatch(r"\{?v(\d+)\.([bhsd])\}?\[(\d+)\]", text):
             self.kind, self.name, self.size = "element", int(found[1]), SIZES[found[2]]
             self.first = int(found[3]) * self.size
-        elif found := re.fullmatch(r"\[(x\d+|sp)(?:, (?:#(-?\d+)|(x\d+)(?:, lsl #(\d+))?))?\](!?)", text):
+        elif found := re.fullmatch(
+                rf"\[(x{NUMBER}|sp)(?:, (?:#(-?\d+)|(x{NUMBER})(?:, lsl #(\d+))?))?\](!?)", text):
             self.kind, self.base, self.offset, self.index = "memory", found[1], int(found[2] or 0), found[3]
             self.count, self.is_moved, self.after = int(found[4] or 0), bool(found[5]), None
-            require("x18" not in found.groups(), "x18, which belongs to the platform")
         elif found := re.fullmatch(r"(lsl|lsr) #(\d+)|(uxtw)", text):
             self.kind, self.how, self.count = "shift", found[1] or found[3], int(found[2] or 0)
         elif text in CONDITIONS:
@@ -78,11 +78,11 @@ def _is_target(i):
 
 def instructions(code, section, level):
     """Those of a section by their addresses. One with a relocation must be what the relocation is for."""
-    found = disassembly.read(section, AARCH64, _operands)
-    found = checked(section, found, ["aarch64-linux-gnu-as", "-march=armv8-a"], with_distance, _is_page)
+    command = ["aarch64-linux-gnu-as", "-march=armv8-a"]
+    found = assembled.read(section, AARCH64, _operands, command, assembled.with_distance, _is_page)
     for address, i in found.items():
         references = code.references_in(address, i.size)
-        kinds = {"adrp": (PAGE,), "add": (None, LOW), "ldr": (None, LOW8, LOW16), "b": (None, JUMP), "bl": (CALL,)}
+        kinds = {"adrp": (PAGE,), "add": (None, LOW), "ldr": (None, LOW16), "b": (None, JUMP), "bl": (CALL,)}
         kind = references[0][1] if references else None
         is_right = len(references) <= 1 and kind in kinds.get(i.mnemonic, (None,))
         if references:
@@ -132,7 +132,7 @@ class State(state.State):
         """What a general register or a number has."""
         if o.kind == "number":
             return z3.BitVecVal(o.value, 8 * size)
-        require(o.kind == "general" and size in (None, o.size), "two sizes")
+        require(o.kind == "general", "a general register is needed")
         whole = word(0) if o.name == "xzr" else self.general[o.name]
         return whole if o.size == 8 else simple(z3.Extract(31, 0, whole))
 
@@ -143,28 +143,23 @@ class State(state.State):
         value = self.number(operands[0], size)
         if len(operands) == 1:
             return value
-        require(len(operands) == 2 and operands[1].kind == "shift", "a shift")
-        require(operands[1].how in SHIFTS and operands[1].count < 8 * size, "a shift")
+        require(operands[1].how in SHIFTS, "a shift")
         return simple(SHIFTS[operands[1].how](value, operands[1].count))
 
     def lane(self, o):
         """The bytes of any register."""
         if o.kind == "general":
             return split(self.number(o))
-        require(o.kind in ("vector", "element"), "a register is needed")
         return self.vectors[o.name][o.first :][: o.size] if o.kind == "element" else self.vectors[o.name][: o.size]
 
     def put(self, o, term):
-        require(o.kind == "general" and term.size() == 8 * o.size, "two sizes")
         if o.name != "xzr":
             self.general[o.name] = simple(z3.ZeroExt(32, term) if o.size == 4 else term)
 
     def put_lane(self, o, lane):
         """Writes any register. What lies above in it is cleared, but not what is beside an element."""
-        require(len(lane) == o.size, "two sizes")
         if o.kind == "general":
             return self.put(o, joined(lane))
-        require(o.kind in ("vector", "element"), "a register is needed")
         old = self.vectors[o.name]
         self.vectors[o.name] = (old[: o.first] + lane + old[o.first + o.size :] if o.kind == "element" else
                                 lane + [byte(0)] * (16 - o.size))
@@ -172,12 +167,11 @@ class State(state.State):
 
 SHIFTS = {"lsl": lambda a, by: a * (1 << by), "lsr": z3.LShR}
 CONDITIONS = {
-    "eq": lambda n, z, c, v: z, "cs": lambda n, z, c, v: c, "mi": lambda n, z, c, v: n, "vs": lambda n, z, c, v: v,
-    "hi": lambda n, z, c, v: z3.And(c, z3.Not(z)), "ge": lambda n, z, c, v: n == v,
+    "eq": lambda n, z, c, v: z, "cs": lambda n, z, c, v: c, "hi": lambda n, z, c, v: z3.And(c, z3.Not(z)),
     "gt": lambda n, z, c, v: z3.And(z3.Not(z), n == v),
 }
 CONDITIONS |= {new: lambda *flags, old=old: z3.Not(CONDITIONS[old](*flags)) for new, old in
-               {"ne": "eq", "cc": "cs", "pl": "mi", "vc": "vs", "ls": "hi", "lt": "ge", "le": "gt"}.items()}
+               {"ne": "eq", "cc": "cs", "ls": "hi", "le": "gt"}.items()}
 
 
 def condition(s, name):
@@ -231,17 +225,12 @@ def add(s, i):
     s.put(to, simple(region.base + offset))
 
 
-def negate(s, i):
-    s.put(i.operands[0], simple(-s.last(i.operands[1:], i.operands[0].size)))
-
-
 def invert(s, i):
     s.put(i.operands[0], simple(~s.last(i.operands[1:], i.operands[0].size)))
 
 
 def upper_product(s, i):
     to, one, other = i.operands
-    require(to.size == 8, "another size")
     s.put(to, simple(z3.Extract(127, 64, s.product(s.number(one, 8), s.number(other, 8)))))
 
 
@@ -255,8 +244,6 @@ def move_part(s, i):
     """Writes 16 bits, and keeps the others."""
     to, number, *by = i.operands
     at = by[0].count if by else 0
-    require(0 <= number.value < 1 << 16 and at in range(0, 8 * to.size, 16), "a part of a register")
-    require(not by or by[0].how == "lsl", "a shift")
     kept = s.number(to) & ~(0xFFFF << at)
     s.put(to, simple(kept | number.value << at))
 
@@ -264,14 +251,14 @@ def move_part(s, i):
 def insert_bits(s, i):
     """The lowest bits come from anywhere in another register, and the others are kept."""
     to, by, low, count = i.operands
-    require(0 < count.value < 8 * to.size and 0 <= low.value <= 8 * to.size - count.value, "bits")
+    require(count.value < 8 * to.size, "all bits")
     kept = z3.Extract(8 * to.size - 1, count.value, s.number(to))
     s.put(to, simple(z3.Concat(kept, z3.Extract(low.value + count.value - 1, low.value, s.number(by, to.size)))))
 
 
 def shift(s, i):
     to, by, count = i.operands
-    require(count.kind == "number" and 0 <= count.value < 8 * to.size, "a shift")
+    require(count.kind == "number", "a shift")
     s.put(to, simple(SHIFTS[i.mnemonic](s.number(by, to.size), count.value)))
 
 
@@ -286,15 +273,6 @@ def select(function):
 def set_if(s, i):
     to, name = i.operands
     s.put(to, s.either(condition(s, name.text), z3.BitVecVal(1, 8 * to.size), z3.BitVecVal(0, 8 * to.size)))
-
-
-def compare_if(s, i):
-    """Compares where a condition holds, and otherwise sets the flags to a number."""
-    one, other, number, name = i.operands
-    holds = condition(s, name.text)
-    flags = difference_flags(s.number(one), s.number(other, one.size))
-    bits = [z3.BoolVal(bool(number.value >> at & 1)) for at in (3, 2, 1, 0)]
-    s.flags = tuple(z3.If(holds, flag, bit) for flag, bit in zip(flags, bits))
 
 
 # Jumps
@@ -318,7 +296,6 @@ def jump_if(s, i):
 
 def jump_if_bit(s, i):
     by, at, to = i.operands
-    require(0 <= at.value < 8 * by.size, "a bit")
     return Branch(simple(z3.Extract(at.value, at.value, s.number(by)) == int(i.mnemonic == "tbnz")), to.value)
 
 
@@ -328,25 +305,21 @@ def jump_if_zero(s, i):
 
 
 # Loads and stores: how many bytes are of each register, if not all
-LOADS = {"ldr": None, "ldur": None, "ldp": None, "ld1": None, "ldrb": 1, "ldurb": 1, "ldrh": 2, "ldurh": 2}
-STORES = {"str": None, "stur": None, "stp": None, "st1": None, "strb": 1, "sturb": 1, "strh": 2, "sturh": 2}
+LOADS = {"ldr": None, "ldur": None, "ldp": None, "ld1": None, "ldrb": 1, "ldurb": 1, "ldrh": 2}
+STORES = {"str": None, "stur": None, "stp": None, "st1": None, "strb": 1, "sturb": 1, "strh": 2}
 
 
 def address(s, i, registers):
     """The address of an access, and what the base is afterwards, if it is moved."""
     o = i.operands[-1]
-    require(o.kind == "memory" and not (o.is_moved and o.after), "an address of another form")
-    require(not ((o.is_moved or o.after) and o.base in [r.name for r in registers]),
-            "a base that is moved and accessed, which is unpredictable")
+    require(o.kind == "memory", "an address of another form")
     base = s.general[o.base]
     if o.base == "sp":
         s.must(base & 15 == 0, "the stack pointer is not aligned")
     if s.code.references_in(i.address, 4):
-        size, (number, (region, offset)) = registers[0].size, page(s, i)
-        kind = s.code.references_in(i.address, 4)[0][1]
-        require(kind == {8: LOW8, 16: LOW16}.get(size), "a relocation for another size")
-        require(base.eq(number) and not (o.index or o.is_moved or o.after), "the page of another constant")
-        require(region.align >= size and offset % size == 0, "a constant that is not aligned")
+        number, (region, offset) = page(s, i)
+        require(registers[0].size == 16, "a relocation for another size")
+        require(base.eq(number), "the page of another constant")
         return region.base + offset, None
     at = simple(base + (s.general[o.index] * (1 << o.count) if o.index else o.offset))
     return at, simple(base + s.number(o.after, 8)) if o.after else at if o.is_moved else None
@@ -356,8 +329,6 @@ def accessed(s, i, table):
     """The registers of a load or store, how many bytes are of each, and its address and the base afterwards."""
     *registers, _ = i.operands
     size = table[i.mnemonic] or registers[0].size
-    require(all(r.size == registers[0].size for r in registers), "two sizes")
-    require(size == registers[0].size or registers[0].kind == "general", "two sizes")
     return registers, size, *address(s, i, registers)
 
 
@@ -367,9 +338,9 @@ def move_base(s, i, base):
 
 
 def load(s, i):
+    """One by a relocation is aligned, or the relocation can't be applied."""
     targets, size, at, base = accessed(s, i, LOADS)
-    require(len({(t.kind, t.name) for t in targets}) == len(targets), "two loads of one register")
-    lane = s.load(at, size * len(targets))
+    lane = s.load(at, size * len(targets), bool(s.code.references_in(i.address, 4)))
     move_base(s, i, base)
     for number, target in enumerate(targets):
         s.put_lane(target, lane[size * number :][:size] + [byte(0)] * (target.size - size))
@@ -378,7 +349,6 @@ def load(s, i):
 def store(s, i):
     """One that moves the stack pointer first makes space for what it stores."""
     sources, size, at, base = accessed(s, i, STORES)
-    require(not (i.operands[-1].base == "sp" and i.operands[-1].after), "a store below the stack")
     lane = [x for source in sources for x in s.lane(source)[:size]]
     move_base(s, i, base)
     s.store(at, lane)
@@ -388,22 +358,14 @@ HANDLERS = {
     "add": either(add, by_units(ADD)), "adds": general(ADD, sum_flags), "cmn": general(ADD, sum_flags, is_kept=False),
     "sub": either(general(SUBTRACT), by_units(SUBTRACT)), "subs": general(SUBTRACT, difference_flags),
     "cmp": general(SUBTRACT, difference_flags, is_kept=False), "and": either(general(AND), by_units(AND)),
-    "ands": general(AND, logic_flags), "tst": general(AND, logic_flags, is_kept=False),
-    "orr": either(general(OR), by_units(OR)), "eor": either(general(XOR), by_units(XOR)),
-    "bic": either(general(lambda a, b: a & ~b), by_units(lambda a, b: a & ~b)),
-    "orn": either(general(lambda a, b: a | ~b), by_units(lambda a, b: a | ~b)),
-    "umulh": upper_product, "msub": less_product, "movk": move_part,
-    "neg": negate, "mvn": invert, "lsl": shift, "lsr": shift, "adrp": adrp, "csel": select(lambda b: b),
-    "csinc": select(lambda b: b + 1), "csinv": select(lambda b: ~b), "cset": set_if, "ccmp": compare_if,
-    "nop": lambda s, i: None, "b": jump, "bl": jump, "ret": ret, "cbz": jump_if_zero, "cbnz": jump_if_zero,
-    "tbz": jump_if_bit, "tbnz": jump_if_bit, "bfxil": insert_bits,
-    "mul": by_units(MULTIPLY), "umin": by_units(MINIMUM), "umax": by_units(MAXIMUM),
-    "uqsub": by_units(SUBTRACT_SATURATED), "cmhi": by_units(lambda a, b: all_bits(z3.UGT(a, b), a)),
-    "cmhs": by_units(lambda a, b: all_bits(z3.UGE(a, b), a)), "ushr": shift_right, "movi": constant, "mov": move,
-    "fmov": move, "umov": move, "dup": duplicate, "uxtl": widen, "uxtl2": widen, "xtn": narrow, "shrn": narrow,
-    "ext": extract, "tbl": look_up, "umaxv": greatest, "uminv": greatest, "uzp1": mixed(lambda a, b: (a + b)[::2]),
-    "uzp2": mixed(lambda a, b: (a + b)[1::2]),
+    "tst": general(AND, logic_flags, is_kept=False), "orr": either(general(OR), by_units(OR)),
+    "eor": either(general(XOR), by_units(XOR)), "umulh": upper_product, "msub": less_product, "movk": move_part,
+    "mvn": invert, "lsl": shift, "lsr": shift, "adrp": adrp, "csel": select(lambda b: b),
+    "csinv": select(lambda b: ~b), "cset": set_if, "b": jump, "bl": jump, "ret": ret, "cbz": jump_if_zero,
+    "cbnz": jump_if_zero, "tbz": jump_if_bit, "tbnz": jump_if_bit, "bfxil": insert_bits, "mul": by_units(MULTIPLY),
+    "umin": by_units(MINIMUM), "uqsub": by_units(SUBTRACT_SATURATED), "ushr": shift_right, "movi": constant,
+    "mov": move, "fmov": move, "umov": move, "dup": duplicate, "uxtl": widen, "uxtl2": widen, "xtn": narrow,
+    "shrn": narrow, "ext": extract, "tbl": look_up, "uzp2": mixed(lambda a, b: (a + b)[1::2]),
     "zip1": mixed(lambda a, b: [x for pair in zip(a[: len(a) // 2], b) for x in pair]),
-    "zip2": mixed(lambda a, b: [x for pair in zip(a[len(a) // 2 :], b[len(b) // 2 :]) for x in pair]),
 }
 HANDLERS |= dict.fromkeys(LOADS, load) | dict.fromkeys(STORES, store) | {f"b.{name}": jump_if for name in CONDITIONS}

@@ -3,14 +3,13 @@
 import z3
 
 from execution.state import byte, chosen, simple, split
-from meanings.lanes import MAXIMUM, MINIMUM, bytes_of, each, units
+from meanings.lanes import bytes_of, each, units
 from solver.questions import require
 
 
 def same(*vectors):
     """The vectors have the same lanes."""
     require(all(o.kind == "vector" and o.lane for o in vectors), "vectors are needed")
-    require(len({(o.size, o.lane) for o in vectors}) == 1, "two sizes")
     return vectors
 
 
@@ -28,13 +27,12 @@ def either(of_general, of_vectors):
 def shift_right(s, i):
     *vectors, by = i.operands
     to, one = same(*vectors)
-    require(0 < by.value <= 8 * to.lane, "a shift")
     s.put_lane(to, each(lambda a: z3.LShR(a, by.value), to.lane, s.lane(one)))
 
 
 def constant(s, i):
     to, number = i.operands
-    require(to.lane and 0 <= number.value < 1 << 8 * to.lane, "a constant")
+    require(to.lane, "a vector is needed")
     s.put_lane(to, split(z3.BitVecVal(number.value, 8 * to.lane)) * (to.size // to.lane))
 
 
@@ -42,35 +40,27 @@ def move(s, i):
     """Between registers of any kind. What is above in a register is cleared."""
     to, by = i.operands
     if by.kind == "number":
-        require(to.kind == "general" and -(1 << 8 * to.size - 1) <= by.value < 1 << 8 * to.size, "a constant")
         return s.put(to, s.number(by, to.size))
     if by.kind == to.kind == "general":
         return s.put(to, s.number(by, to.size))
     # An element comes from the lower bytes of a register, and goes into a register that may be wider.
-    is_narrow = by.kind == "general" and to.kind == "element" and to.size < by.size
-    is_wide = by.kind == "element" and to.kind == "general" and by.size < to.size
-    require((to.size == by.size or is_narrow or is_wide) and to.lane == by.lane, "two sizes")
     s.put_lane(to, s.lane(by)[: to.size] + [byte(0)] * (to.size - by.size))
 
 
 def duplicate(s, i):
     to, by = i.operands
-    require(to.lane and by.kind in ("general", "element") and by.size >= to.lane, "two sizes")
     s.put_lane(to, s.lane(by)[: to.lane] * (to.size // to.lane))
 
 
 def widen(s, i):
     to, by = i.operands
     is_upper = i.mnemonic.endswith("2")
-    require(to.size == 16 and by.lane and to.lane == 2 * by.lane and by.size == (16 if is_upper else 8), "two sizes")
     half = s.lane(by)[8 * is_upper :][:8]
     s.put_lane(to, [x for a in units(half, by.lane) for x in split(a) + [byte(0)] * by.lane])
 
 
 def narrow(s, i):
     to, by, *count = i.operands
-    require(to.size == 8 and by.size == 16 and to.lane and by.lane == 2 * to.lane, "two sizes")
-    require(not count or 0 < count[0].value <= 8 * to.lane, "a shift")
     shifted = [z3.LShR(a, count[0].value if count else 0) for a in units(s.lane(by), by.lane)]
     s.put_lane(to, bytes_of(z3.Extract(8 * to.lane - 1, 0, a) for a in shifted))
 
@@ -86,26 +76,10 @@ def mixed(function):
 def extract(s, i):
     *vectors, at = i.operands
     to, one, other = same(*vectors)
-    require(to.lane == 1 and 0 <= at.value < to.size, "an index")
     s.put_lane(to, (s.lane(one) + s.lane(other))[at.value :][: to.size])
 
 
 def look_up(s, i):
     to, table, at = i.operands
-    require(table.size == 16 and table.text[0] == "{" and to.lane == at.lane == 1 and to.size == at.size, "two sizes")
     entries = s.lane(table)
     s.put_lane(to, [simple(z3.If(z3.ULT(index, 16), chosen(entries, index), byte(0))) for index in s.lane(at)])
-
-
-def greatest(s, i):
-    """The greatest or least number of a vector."""
-    to, by = i.operands
-    require(by.lane == to.size, "two sizes")
-    first, *others = units(s.lane(by), by.lane)
-    for number in others:
-        first = (MAXIMUM if i.mnemonic == "umaxv" else MINIMUM)(first, number)
-    s.put_lane(to, split(simple(first)))
-
-
-def all_bits(holds, like):
-    return z3.If(holds, z3.BitVecVal(-1, like.size()), z3.BitVecVal(0, like.size()))

@@ -31,4 +31,3 @@ ADD, SUBTRACT, MULTIPLY = lambda a, b: a + b, lambda a, b: a - b, lambda a, b: a
 AND, OR, XOR, AND_NOT = lambda a, b: a & b, lambda a, b: a | b, lambda a, b: a ^ b, lambda a, b: ~a & b
 MINIMUM, MAXIMUM = lambda a, b: z3.If(z3.ULT(a, b), a, b), lambda a, b: z3.If(z3.ULT(a, b), b, a)
 SUBTRACT_SATURATED = lambda a, b: z3.If(z3.ULT(a, b), z3.BitVecVal(0, a.size()), a - b)
-ADD_SATURATED = lambda a, b: z3.If(z3.ULT(a + b, a), z3.BitVecVal(-1, a.size()), a + b)

@@ -14,7 +14,7 @@ from execution import state
 from execution.paths import Branch
 from execution.state import byte, chosen, is_secret, joined, simple, split, word
 from meanings.lanes import (ADD, AND, MAXIMUM, MINIMUM, MULTIPLY, OR, SUBTRACT, XOR, bytes_of, each, saturated, units)
-from reading.disassembly import Instruction
+from reading.assembled import Instruction
 from reading.module import SPACE
 from solver.questions import names, require
 
@@ -359,7 +359,7 @@ def _stores(name, types, function):
 
 
 def _number(lane):
-    return z3.ZeroExt(64 - 8 * len(lane), joined(lane)) if len(lane) < 8 else joined(lane)
+    return z3.ZeroExt(64 - 8 * len(lane), joined(lane))
 
 
 for _name, _size in {"i32.load": 4, "i32.load8_u": 1, "i32.load16_u": 2, "i64.load": 8}.items():
@@ -369,6 +369,7 @@ _loads("v128.load64_zero", 8, lambda lane: lane + [byte(0)] * 8)
 _loads("v128.load8x8_u", 8, lambda lane: [part for value in lane for part in (value, byte(0))])
 for _name, _size in {"i32.store": 4, "i32.store8": 1, "i32.store16": 2}.items():
     _stores(_name, "ni", lambda numbers, value, size=_size: split(value)[:size])
+# It has the results of others, where they are compared.
 _stores("i64.store", "nl", lambda numbers, value: split(value))
 _stores("v128.store", "nv", lambda numbers, lane: lane)
 for _size in (1, 2, 4, 8):

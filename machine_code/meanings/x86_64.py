@@ -14,8 +14,7 @@ from execution.paths import Branch
 from execution.state import byte, joined, simple, split, word
 from meanings.lanes import ADD, AND, OR, SUBTRACT, XOR
 from meanings.x86_64_vectors import HANDLERS as VECTORS
-from reading import disassembly
-from reading.assembled import checked, with_distance
+from reading import assembled
 from reading.objects import X86_64
 from solver.questions import require
 
@@ -67,10 +66,11 @@ def _is_jump(instruction):
 def instructions(code, section, level):
     """Those of a section by their addresses, for the least CPU of a level. One with a relocation has the place that
     the linker will make of it: at its end, it is so far from there."""
-    found = disassembly.read(section, X86_64, lambda text: [Operand(part.strip()) for part in text.split(",") if part])
+    operands = lambda text: [Operand(part.strip()) for part in text.split(",") if part]
     command = ["as", "--64", "-msyntax=intel", "-mnaked-reg", f"-march={LEVELS.get(level, V2)}"]
-    text_of = lambda i: with_distance(i) if _is_jump(i) else i.text
-    found = checked(section, found, command, text_of, lambda i, old, new: i.mnemonic == "nop" and old.hex() in NOPS)
+    text_of = lambda i: assembled.with_distance(i) if _is_jump(i) else i.text
+    is_same = lambda i, old, new: i.mnemonic == "nop" and old.hex() in NOPS
+    found = assembled.read(section, X86_64, operands, command, text_of, is_same)
     for address, i in found.items():
         after, references = address + i.size, code.references_in(address, i.size)
         wanted = [o.offset + after for o in i.operands if o.kind == "memory" and ("rip", 1) in o.terms]
@@ -144,21 +144,17 @@ class State(state.State):
 
     def put(self, o, i, term):
         """Writes a general register, of which 4 bytes clear the others, or memory."""
-        require(term.size() == 8 * o.size, "another size")
         if o.kind == "memory":
             return self.store(self.address(o, i), split(term))
-        require(o.kind == "general", "a general register is needed")
-        old, low, high = self.general[o.name], 8 * o.first, 8 * (o.first + o.size)
+        require(o.first == 0, "a write of the second byte of a register")
         if o.size == 4:
             term = z3.ZeroExt(32, term)
         elif o.size < 4:
-            below = [z3.Extract(low - 1, 0, old)] if low else []
-            term = z3.Concat(z3.Extract(63, high, old), term, *below)
+            term = z3.Concat(z3.Extract(63, 8 * o.size, self.general[o.name]), term)
         self.general[o.name] = simple(term)
 
     def put_vector(self, o, lane):
         """Writes a vector: what lies above is kept by the old forms of instructions, and cleared by the new ones."""
-        require(o.kind == "vector" and len(lane) <= o.size, "another size")
         above = self.vectors[o.name][16:] if self.is_legacy else [byte(0)] * 16
         self.vectors[o.name] = (list(lane) + [byte(0)] * (o.size - len(lane)) + above)[:32]
         self.is_clean &= o.size == 16
@@ -166,26 +162,24 @@ class State(state.State):
 
 # Flags
 def logic_flags(s, result):
-    s.flags = {"c": z3.BoolVal(False), "o": z3.BoolVal(False), "z": result == 0, "s": result < 0}
+    s.flags = {"c": z3.BoolVal(False), "z": result == 0, "s": result < 0}
 
 
 def sum_flags(s, a, b):
     result = a + b
-    s.flags = {"c": z3.ULT(result, a), "z": result == 0, "s": result < 0, "o": (a ^ result) & (b ^ result) < 0}
+    s.flags = {"c": z3.ULT(result, a), "z": result == 0, "s": result < 0}
 
 
 def difference_flags(s, a, b):
-    result = a - b
-    s.flags = {"c": z3.ULT(a, b), "z": a == b, "s": result < 0, "o": (a ^ b) & (a ^ result) < 0}
+    s.flags = {"c": z3.ULT(a, b), "z": a == b, "s": a - b < 0}
 
 
 CONDITIONS = {
     "e": lambda flag: flag("z"), "b": lambda flag: flag("c"), "be": lambda flag: z3.Or(flag("c"), flag("z")),
-    "s": lambda flag: flag("s"), "o": lambda flag: flag("o"), "l": lambda flag: flag("s") != flag("o"),
-    "le": lambda flag: z3.Or(flag("z"), flag("s") != flag("o")),
+    "s": lambda flag: flag("s"),
 }
 CONDITIONS |= {new: lambda flag, old=old: z3.Not(CONDITIONS[old](flag)) for new, old in
-               {"ne": "e", "ae": "b", "a": "be", "ns": "s", "no": "o", "ge": "l", "g": "le"}.items()}
+               {"ne": "e", "ae": "b", "a": "be"}.items()}
 
 
 def condition(s, name):
@@ -200,7 +194,6 @@ def condition(s, name):
 def two(s, i):
     """The first operand and the second, of which a number is as long as the first."""
     to, by = i.operands
-    require(to.size and by.size in (None, to.size), "two sizes")
     return to, s.number(to, i), s.number(by, i, to.size)
 
 
@@ -252,14 +245,12 @@ def inc_dec(by):
 
 def mov(s, i):
     to, by = i.operands
-    require(to.size and by.size in (None, to.size), "two sizes")
     s.put(to, i, s.number(by, i, to.size))
 
 
 def extended(extension):
     def handler(s, i):
         to, by = i.operands
-        require(by.size < to.size, "two sizes")
         s.put(to, i, simple(extension(8 * (to.size - by.size), s.number(by, i))))
     return handler
 
@@ -354,8 +345,7 @@ HANDLERS = {
     "add": arithmetic(ADD, sum_flags), "sub": arithmetic(SUBTRACT, difference_flags),
     "cmp": arithmetic(SUBTRACT, difference_flags, is_kept=False), "and": logic(AND), "or": logic(OR), "xor": logic(XOR),
     "test": logic(AND, is_kept=False), "inc": inc_dec(1), "dec": inc_dec(-1), "mov": mov, "movabs": mov,
-    "lea": lea, "not": invert, "movzx": extended(z3.ZeroExt), "movsx": extended(z3.SignExt),
-    "movsxd": extended(z3.SignExt),
+    "lea": lea, "not": invert, "movzx": extended(z3.ZeroExt), "movsxd": extended(z3.SignExt),
     "shl": shift(lambda a, by: a * (1 << by)), "shr": shift(z3.LShR), "push": push, "pop": pop,
     "nop": lambda s, i: None, "jmp": jump, "call": call, "ret": ret, "mul": multiply,
     "cpuid": cpuid, "xgetbv": xgetbv,

@@ -3,17 +3,15 @@
 import z3
 
 from execution.state import byte, chosen, joined, simple
-from meanings.lanes import (ADD, ADD_SATURATED, AND, AND_NOT, MAXIMUM, MINIMUM, MULTIPLY, OR, SUBTRACT,
-                            SUBTRACT_SATURATED, XOR, bytes_of, each, saturated, units)
+from meanings.lanes import (ADD, AND, AND_NOT, MINIMUM, MULTIPLY, OR, SUBTRACT, SUBTRACT_SATURATED, XOR, bytes_of,
+                            each, saturated, units)
 from solver.questions import require
 
 
 # The old form of an instruction has its target for the first source.
 def three(s, i):
     to, *others = i.operands
-    one, other = [to, *others] if len(others) == 1 else others
-    require(to.kind == one.kind == "vector" and to.size == one.size and other.size in (None, to.size), "two sizes")
-    return to, one, other
+    return to, *([to, *others] if len(others) == 1 else others)
 
 
 def by_units(size, function):
@@ -35,7 +33,7 @@ def by_halves(function):
 def shift_units(size, function):
     def handler(s, i):
         to, one, by = three(s, i)
-        require(by.kind == "number" and 0 <= by.value < 8 * size, "a shift")
+        require(by.kind == "number" and by.value < 8 * size, "a shift")
         s.put_vector(to, each(lambda a: function(a, by.value), size, s.lane(one, i)))
     return handler
 
@@ -44,23 +42,13 @@ def looked_up(table, index):
     return simple(z3.If(z3.Extract(7, 7, index) == 1, byte(0), chosen(table, index)))
 
 
-def pairs_added(a, b):
-    """The sums of two products of unsigned bytes by signed ones, which are saturated."""
-    products = [z3.ZeroExt(24, x) * z3.SignExt(24, y) for x, y in zip(a, b)]
-    sums = [one + other for one, other in zip(products[::2], products[1::2])]
-    return bytes_of(z3.Extract(15, 0, z3.If(x < -(1 << 15), -(1 << 15), z3.If(x > (1 << 15) - 1, (1 << 15) - 1, x)))
-                    for x in sums)
-
-
-def interleaved(size, first):
-    return by_halves(lambda a, b: [x for at in range(first, first + 8, size)
-                                   for x in a[at : at + size] + b[at : at + size]])
+def interleaved(size):
+    return by_halves(lambda a, b: [x for at in range(0, 8, size) for x in a[at : at + size] + b[at : at + size]])
 
 
 def move_vector(is_aligned):
     def handler(s, i):
         to, by = i.operands
-        require(to.size == by.size and "vector" in (to.kind, by.kind), "two sizes")
         if to.kind == "memory":
             return s.store(s.address(to, i), s.lane(by, i), is_aligned)
         s.put_vector(to, s.load(s.address(by, i), by.size, is_aligned) if by.kind == "memory" else s.lane(by, i))
@@ -71,10 +59,8 @@ def move_low(size):
     """Between the lowest bytes of a vector and another place. In a vector, the others are cleared."""
     def handler(s, i):
         to, by = i.operands
-        vector, other = (to, by) if to.kind == "vector" else (by, to)
-        require(vector.size == 16 and other.size == (16 if other.kind == "vector" else size), "two sizes")
         lane = s.lane(by, i, size)
-        return s.put_vector(to, lane) if to is vector else s.put(to, i, joined(lane))
+        return s.put_vector(to, lane) if to.kind == "vector" else s.put(to, i, joined(lane))
     return handler
 
 
@@ -82,8 +68,7 @@ def insert(size):
     def handler(s, i):
         to, *one, by, at = i.operands
         one = one[0] if one else to
-        require(to.size == one.size == 16 and by.size == (size if by.kind == "memory" or size == 8 else 4), "two sizes")
-        require(0 <= at.value < 16 // size, "an index")
+        require(at.value < 16 // size, "an index")
         lane = list(s.lane(one, i))
         lane[at.value * size : (at.value + 1) * size] = s.lane(by, i, size)
         s.put_vector(to, lane)
@@ -93,8 +78,7 @@ def insert(size):
 def extract(size):
     def handler(s, i):
         to, one, at = i.operands
-        require(one.size == 16 and 0 <= at.value < 16 // size, "an index")
-        require(to.size == (size if to.kind == "memory" or size == 8 else 4), "two sizes")
+        require(at.value < 16 // size, "an index")
         lane = s.lane(one, i)[at.value * size : (at.value + 1) * size]
         s.put(to, i, joined(lane + [byte(0)] * (to.size - size)))
     return handler
@@ -103,35 +87,31 @@ def extract(size):
 def broadcast(size):
     def handler(s, i):
         to, by = i.operands
-        require(by.size == (size if by.kind == "memory" else 16) and (size < 16 or by.kind == "memory"), "two sizes")
         s.put_vector(to, s.lane(by, i, size) * (to.size // size))
     return handler
 
 
 def test_vector(s, i):
     one, other = i.operands
-    require(one.size == other.size, "two sizes")
     lanes = s.lane(one, i), s.lane(other, i)
     z, c = [z3.And(*[simple(function(a, b)) == 0 for a, b in zip(*lanes)]) for function in (AND, AND_NOT)]
-    s.flags = {"z": z, "c": c, "s": z3.BoolVal(False), "o": z3.BoolVal(False)}
+    s.flags = {"z": z, "c": c, "s": z3.BoolVal(False)}
 
 
 def widen(s, i):
     to, by = i.operands
-    require(by.size == (16 if by.kind == "vector" else to.size // 2), "two sizes")
     s.put_vector(to, [x for low in s.lane(by, i, to.size // 2) for x in (low, byte(0))])
 
 
 def permute(s, i):
     to, by, how = i.operands
-    require(to.size == by.size == 32, "two sizes")
     lane = s.lane(by, i)
     s.put_vector(to, [x for at in range(0, 8, 2) for x in lane[8 * (how.value >> at & 3) :][:8]])
 
 
 def insert_half(s, i):
     to, one, by, at = i.operands
-    require(to.size == one.size == 32 and by.size == 16 and at.value in (0, 1), "two sizes")
+    require(at.value < 2, "an index")
     lane = list(s.lane(one, i))
     lane[16 * at.value : 16 * at.value + 16] = s.lane(by, i)
     s.put_vector(to, lane)
@@ -139,7 +119,7 @@ def insert_half(s, i):
 
 def extract_half(s, i):
     to, one, at = i.operands
-    require(to.size == 16 and one.size == 32 and at.value in (0, 1), "two sizes")
+    require(at.value < 2, "an index")
     lane = s.lane(one, i)[16 * at.value :][:16]
     return s.store(s.address(to, i), lane) if to.kind == "memory" else s.put_vector(to, lane)
 
@@ -150,26 +130,23 @@ def vzeroupper(s, i):
 
 
 VECTORS = {
-    "paddb": by_units(1, ADD), "paddw": by_units(2, ADD), "paddd": by_units(4, ADD), "psubb": by_units(1, SUBTRACT),
-    "psubw": by_units(2, SUBTRACT), "psubusb": by_units(1, SUBTRACT_SATURATED), "paddusb": by_units(1, ADD_SATURATED),
-    "pminub": by_units(1, MINIMUM), "pmaxub": by_units(1, MAXIMUM), "por": by_units(1, OR), "pand": by_units(1, AND),
-    "pxor": by_units(1, XOR), "pandn": by_units(1, AND_NOT), "pmullw": by_units(2, MULTIPLY),
+    "paddb": by_units(1, ADD), "paddw": by_units(2, ADD), "psubb": by_units(1, SUBTRACT),
+    "psubusb": by_units(1, SUBTRACT_SATURATED), "pminub": by_units(1, MINIMUM), "por": by_units(1, OR),
+    "pxor": by_units(1, XOR), "pmullw": by_units(2, MULTIPLY),
     "psllw": shift_units(2, lambda a, by: a << by), "psrlw": shift_units(2, z3.LShR),
-    "pshufb": by_halves(lambda a, b: [looked_up(a, index) for index in b]), "pmaddubsw": by_halves(pairs_added),
+    "pshufb": by_halves(lambda a, b: [looked_up(a, index) for index in b]),
     "packuswb": by_halves(lambda a, b: bytes_of(saturated(w, 255, 8) for w in units(a + b, 2))),
-    "punpcklbw": interleaved(1, 0), "punpcklwd": interleaved(2, 0), "punpckldq": interleaved(4, 0),
-    "punpcklqdq": interleaved(8, 0), "punpckhbw": interleaved(1, 8),
+    "punpckldq": interleaved(4), "punpcklqdq": interleaved(8),
     "movdqu": move_vector(False), "movdqa": move_vector(True), "movups": move_vector(False),
     "movaps": move_vector(True), "xorps": by_units(1, XOR), "movd": move_low(4), "movq": move_low(8),
-    "pinsrb": insert(1), "pinsrw": insert(2), "pinsrd": insert(4), "pinsrq": insert(8), "pextrb": extract(1),
-    "pextrw": extract(2), "pextrd": extract(4), "pextrq": extract(8), "ptest": test_vector, "pmovzxbw": widen,
+    "pinsrb": insert(1), "pinsrw": insert(2), "pinsrd": insert(4), "pextrw": extract(2), "pextrd": extract(4),
+    "pextrq": extract(8), "ptest": test_vector, "pmovzxbw": widen,
 }
 
 
 def legacy(handler):
     """The form of SSE: an operand of 16 bytes in memory is aligned, and what lies above in a vector is kept."""
     def of_sse(s, i):
-        require(all(o.size != 32 for o in i.operands), "a vector of 32 bytes")
         s.is_legacy = True
         handler(s, i)
         s.is_legacy = False
@@ -178,7 +155,6 @@ def legacy(handler):
 
 HANDLERS = {name: legacy(handler) for name, handler in VECTORS.items()}
 HANDLERS |= {f"v{name}": handler for name, handler in VECTORS.items()} | {
-    "vpbroadcastb": broadcast(1), "vpbroadcastw": broadcast(2), "vpbroadcastd": broadcast(4),
-    "vpbroadcastq": broadcast(8), "vbroadcasti128": broadcast(16), "vpermq": permute, "vinserti128": insert_half,
-    "vextracti128": extract_half, "vzeroupper": vzeroupper,
+    "vpbroadcastd": broadcast(4), "vpbroadcastq": broadcast(8), "vbroadcasti128": broadcast(16), "vpermq": permute,
+    "vinserti128": insert_half, "vextracti128": extract_half, "vzeroupper": vzeroupper,
 }

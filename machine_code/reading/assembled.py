@@ -1,4 +1,4 @@
-"""The instructions of a section, assembled again from what `objdump` prints of them.
+"""The instructions of a section, as `objdump` prints them, assembled again.
 
 `objdump` prints one text for several encodings, also for some that a CPU refuses to run, and it knows instructions
 that not every CPU has. So each text goes to the assembler, which is told what the CPU has. An instruction is refused
@@ -13,7 +13,14 @@ import subprocess
 import tempfile
 
 from reading import objects
+from reading.objects import AARCH64, X86_64
 
+# `refused` says why it must not be run, or is None.
+Instruction = collections.namedtuple("Instruction", "address size mnemonic operands text refused", defaults=[None])
+# By the processor: what prints its instructions, and what begins a comment there.
+COMMANDS = {X86_64: (["objdump", "-m", "i386:x86-64", "-M", "intel", "-w"], "[#<]"),
+            AARCH64: (["aarch64-linux-gnu-objdump", "-m", "aarch64"], "//|<")}
+LINE = re.compile(r"^\s*([0-9a-f]+):\t((?:(?:[0-9a-f]{2})+ )+)\s*\t(.*)$")
 # Each text is assembled in a place of its own, which has more bytes than an instruction, and these where none is.
 PLACE, FILL = 16, b"\xcc"
 ADDRESS, SAID = re.compile(r"(?<!#)\b0x([0-9a-f]+)$"), re.compile(r"\{standard input\}:(\d+): \w+: (.*)")
@@ -24,20 +31,41 @@ def with_distance(instruction):
     return ADDRESS.sub(lambda found: f".{int(found[1], 16) - instruction.address:+d}", instruction.text)
 
 
-def checked(section, found, command, text_of, is_same):
-    """The instructions, by address, where those that the assembler makes otherwise have a reason why they are
-    refused. `text_of` gives what is assembled for one, and `is_same` says of one whose bytes differ that they are
-    right."""
+def read(section, processor, operands, command, text_of, is_same):
+    """The instructions of a section, by address. `operands` reads what stands after a mnemonic. Those that the
+    assembler makes otherwise have a reason why they are refused: `text_of` gives what is assembled for one, and
+    `is_same` says of one whose bytes differ that they are right."""
+    found = _printed(section, processor, operands)
     made, said = _assembled(command, [text_of(i) for i in found.values()])
-    result = {}
     for at, (address, i) in enumerate(found.items()):
         start = address - section.address
         old, new = bytes(section.content[start : start + i.size]), made[PLACE * at :][:PLACE]
         if (said[at] or new != old.ljust(PLACE, FILL)) and not is_same(i, old, new):
             what = "; ".join(said[at]) or new.rstrip(FILL).hex()
-            i = i._replace(refused=f"{old.hex()} is not what the assembler makes of it: {what}")
-        result[address] = i
-    return result
+            found[address] = i._replace(refused=f"{old.hex()} is not what the assembler makes of it: {what}")
+    return found
+
+
+def _printed(section, processor, operands):
+    """The instructions of a section, as `objdump` prints them."""
+    command, comment = COMMANDS[processor]
+    with tempfile.NamedTemporaryFile() as file:
+        file.write(section.content)
+        file.flush()
+        command = [*command, "-D", "-b", "binary", f"--adjust-vma={section.address:#x}", file.name]
+        listing = subprocess.run(command, check=True, capture_output=True, text=True).stdout
+    found = {}
+    for match in filter(None, map(LINE.match, listing.splitlines())):
+        address, size = int(match[1], 16), len(bytes.fromhex(match[2]))
+        text = re.split(comment, match[3])[0].replace("\t", " ").strip()
+        # A nop may have prefixes and operands, which mean nothing.
+        mnemonic, _, rest = re.sub("^(data16 |cs )*nop.*", "nop", text).partition(" ")
+        try:
+            found[address] = Instruction(address, size, mnemonic, operands(rest), text)
+        except Exception:
+            # An operand that is not known here. It is refused if it is run.
+            found[address] = Instruction(address, size, "unknown", (), text)
+    return found
 
 
 def _assembled(command, texts):

@@ -85,7 +85,6 @@ RELOCATIONS = {
         277: place_in_page(1),  # R_AARCH64_ADD_ABS_LO12_NC
         282: BRANCH,  # R_AARCH64_JUMP26
         283: BRANCH,  # R_AARCH64_CALL26
-        286: place_in_page(8),  # R_AARCH64_LDST64_ABS_LO12_NC
         299: place_in_page(16),  # R_AARCH64_LDST128_ABS_LO12_NC
     },
 }

@@ -4,6 +4,7 @@ import os
 import pathlib
 import re
 import shutil
+import struct
 import subprocess
 import tempfile
 import unittest
@@ -29,13 +30,43 @@ needs_aarch64 = unittest.skipUnless(_has(AARCH64, COMPILERS[183]), f"{AARCH64} o
 needs_module = unittest.skipUnless(_has(MODULE, "wat2wasm"), "wat2wasm is missing")
 
 
-def assembled_object(machine, text):
-    """The bytes of an object with instructions."""
+def assembled(text, compiler="cc"):
+    """The bytes of the object that a source makes."""
     with tempfile.NamedTemporaryFile() as file:
-        command = [COMPILERS[machine], "-c", "-x", "assembler-with-cpp", "-I", ASM, "-o", file.name, "-"]
-        source = f"{'.intel_syntax noprefix' if machine == 62 else ''}\n{text}\n"
-        subprocess.run(command, input=source.encode(), check=True, capture_output=True)
+        command = [compiler, "-c", "-x", "assembler-with-cpp", "-I", ASM, "-o", file.name, "-"]
+        subprocess.run(command, input=text, text=True, check=True, capture_output=True)
         return file.read()
+
+
+def assembled_object(text):
+    """That of a source for x86-64."""
+    return assembled(f".intel_syntax noprefix\n{text}\n")
+
+
+def assembled_module(text):
+    command = ["wat2wasm", "-", "--output=-"]
+    return subprocess.run(command, input=text.encode(), check=True, capture_output=True).stdout
+
+
+class InFolder(unittest.TestCase):
+    """A test that has a folder of its own."""
+
+    def setUp(self):
+        folder = tempfile.TemporaryDirectory()
+        self.addCleanup(folder.cleanup)
+        self.folder = pathlib.Path(folder.name)
+
+
+def headers_of(data):
+    """The headers of the sections of an ELF file, each after its place."""
+    [first], [size, count] = struct.unpack_from("<Q", data, 40), struct.unpack_from("<HH", data, 58)
+    return [(at, *struct.unpack_from("<IIQQQQIIQQ", data, at)) for at in range(first, first + size * count, size)]
+
+
+def segments_of(data):
+    """The headers of its segments, each after its place."""
+    [first], [count] = struct.unpack_from("<Q", data, 32), struct.unpack_from("<H", data, 56)
+    return [(at, *struct.unpack_from("<IIQQQQQQ", data, at)) for at in range(first, first + 56 * count, 56)]
 
 
 def add_tests(case, check, rows):

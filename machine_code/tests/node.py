@@ -18,7 +18,7 @@ from execution.paths import step
 from execution.state import byte, simple, word
 from meanings import webassembly
 from meanings.webassembly import HANDLERS
-from tests.library import MODULE, TOP
+from tests.library import MODULE, TOP, assembled_module
 
 SIZE = 1024
 RESULT, SCRATCH = 64, 256
@@ -51,15 +51,10 @@ FUNCTIONS = """
   i32.const 7 i32.store8)
 (func (export "select") i32.const 64
   i32.const 0 i32.load i32.const 16 i32.load i32.const 32 i32.load8_u i32.const 1 i32.and select i32.store)
-(func (export "global") global.get 0 i32.const 0 i32.load i32.add global.set 0
+(func (export "local") (local v128) i32.const 64 local.get 0 v128.store)
+(func (export "global") block global.get 0 i32.const 0 i32.load i32.add global.set 0 br 0 end
   i32.const 64 global.get 0 i32.store i32.const 1024 global.set 0)
 """
-
-
-def assembled(text):
-    """The bytes of a module."""
-    command = ["wat2wasm", "-", "--output=-"]
-    return subprocess.run(command, input=text.encode(), check=True, capture_output=True).stdout
 
 
 def _function(name, text):
@@ -111,7 +106,7 @@ class Node:
         functions = " ".join(_function(name, text) for text, name in self.names.items())
         self.names |= {name: name for name in re.findall(r'export "(\w+)"', FUNCTIONS)}
         text = f'(module (memory 1 1) (global (mut i32) (i32.const {SIZE})) (export "memory" (memory 0))'
-        content = assembled(f"{text} {FUNCTIONS} {functions})")
+        content = assembled_module(f"{text} {FUNCTIONS} {functions})")
         self.content, self.meanings = content, webassembly
         self.code = self.read(webassembly)
         self.process = subprocess.Popen(["node", TOP / "machine_code" / "tests" / "run.mjs"], stdin=subprocess.PIPE,

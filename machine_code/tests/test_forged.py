@@ -1,15 +1,13 @@
 """Archives, and modules, that are made to be believed: they have all functions that were proved, and something beside
 them that a program would take instead, or run. Each is refused by the name of what does not belong there."""
 
-import pathlib
 import re
 import struct
 import subprocess
-import tempfile
-import unittest
 
 from reading import library
-from tests.library import ARCHIVE, ASM, COMPILERS, MODULE, add_tests, needs_module
+from tests.library import (ARCHIVE, ASM, MODULE, InFolder, add_tests, assembled, assembled_module, headers_of,
+                           needs_module)
 
 C, V2, V3, DISPATCH = "functions_x86_64", "kernel_x86_64_v2", "kernel_x86_64_v3", "dispatch"
 ARM = "functions_aarch64"
@@ -126,8 +124,7 @@ def _assembled(folder, member, old="", new=""):
         text = re.sub(re.escape(old) + r"$", lambda found: new, text, flags=re.M)
     else:
         text += f"\n.intel_syntax noprefix\n.text\n{new}\n"
-    command = [COMPILERS[62], "-c", "-x", "assembler-with-cpp", "-I", ASM, "-o", folder / f"{member}.o", "-"]
-    subprocess.run(command, input=text.encode(), check=True, capture_output=True, cwd=ASM)
+    (folder / f"{member}.o").write_bytes(assembled(text))
 
 
 def _archive(folder, *rest, command="rcs", members=MEMBERS):
@@ -153,8 +150,7 @@ def _damaged(change):
 
 def _with(name, text):
     def make(folder):
-        (folder / "other.S").write_text(text)
-        subprocess.run([COMPILERS[62], "-c", folder / "other.S", "-o", folder / name], check=True)
+        (folder / name).write_bytes(assembled(text))
         return _archive(folder, folder / name)
 
     return make
@@ -185,19 +181,15 @@ MODULES = [
 ]
 
 
-def _two_of_one_name(folder):
-    _assembled(folder, DISPATCH, "", ".section .text.const_hex_decodf, \"ax\"; .globl const_hex_decodf; "
-               f".type const_hex_decodf, @function; const_hex_decodf: {FALSE}")
-    file = folder / f"{DISPATCH}.o"
-    file.write_bytes(_change(file.read_bytes(), b"\0const_hex_decodf\0", b"\0const_hex_decode\0"))
-    return _archive(folder)
+def _two_of_one_name(binding):
+    def make(folder):
+        _assembled(folder, DISPATCH, "", f".section .text.const_hex_decodf, \"ax\"; {binding} const_hex_decodf; "
+                   f".type const_hex_decodf, @function; const_hex_decodf: {FALSE}")
+        file = folder / f"{DISPATCH}.o"
+        file.write_bytes(_change(file.read_bytes(), b"\0const_hex_decodf\0", b"\0const_hex_decode\0"))
+        return _archive(folder)
 
-
-def _local_of_the_name(folder):
-    _assembled(folder, DISPATCH, "", ".section .text.const_hex_decodf, \"ax\"; const_hex_decodf: ret")
-    file = folder / f"{DISPATCH}.o"
-    file.write_bytes(_change(file.read_bytes(), b"\0const_hex_decodf\0", b"\0const_hex_decode\0"))
-    return _archive(folder)
+    return make
 
 
 def _with_last_size(data, size):
@@ -219,37 +211,36 @@ def _with_second(entry):
 def _in_object(change):
     """An archive in whose first object a header of a section, or an entry in a table, is another one."""
     def changed(data):
-        start, data = data.index(b"\x7fELF"), bytearray(data)
-        [first], [count] = struct.unpack_from("<Q", data, start + 40), struct.unpack_from("<H", data, start + 60)
-        places = [start + first + 64 * at for at in range(count)]
-        change(data, start, [(at, *struct.unpack_from("<IIQQQQIIQQ", data, at)) for at in places])
-        return bytes(data)
+        start = data.index(b"\x7fELF")
+        obj = bytearray(data[start:])
+        change(obj, headers_of(obj))
+        return data[:start] + obj
 
     return changed
 
 
-def _second_relocations(data, start, headers):
+def _second_relocations(data, headers):
     """A table has another section's number."""
     one, other = [header for header in headers if header[2] == 4][:2]
     struct.pack_into("<I", data, other[0] + 44, one[8])
 
 
-def _relocations_of_other_symbols(data, start, headers):
+def _relocations_of_other_symbols(data, headers):
     header = next(header for header in headers if header[2] == 4)
     struct.pack_into("<I", data, header[0] + 40, header[7] + 1)
 
 
-def _references_that_overlap(data, start, headers):
+def _references_that_overlap(data, headers):
     """The second one of a table lies two bytes after the first one."""
     header = next(header for header in headers if header[2] == 4 and header[6] > 24)
-    [place] = struct.unpack_from("<Q", data, start + header[5])
-    struct.pack_into("<Q", data, start + header[5] + 24, place + 2)
+    [place] = struct.unpack_from("<Q", data, header[5])
+    struct.pack_into("<Q", data, header[5] + 24, place + 2)
 
 
-def _local_symbol(data, start, headers):
+def _local_symbol(data, headers):
     """The last symbol is local."""
     header = next(header for header in headers if header[2] == 2)
-    data[start + header[5] + header[6] - 20] &= 15
+    data[header[5] + header[6] - 20] &= 15
 
 
 def _headers_outside(data):
@@ -267,7 +258,7 @@ ARCHIVES = [
     ("an empty member", _with("other.o", ""), r"the members are .*'other\.o'"),
     ("a member twice", lambda folder: _archive(folder, folder / f"{V3}.o", command="qcs"), "the members are"),
     ("a member that is missing", lambda folder: _archive(folder, members=(DISPATCH, V2)), "the members are"),
-    ("two symbols of one name", _two_of_one_name, "two symbols of one name"),
+    ("two symbols of one name", _two_of_one_name(".globl"), "two symbols of one name"),
     ("a member of another processor", _damaged(lambda data: b"\x01\0\xb7\0".join(data.rsplit(b"\x01\0\x3e\0", 1))),
      "the members are"),
     ("members that lie elsewhere", lambda folder: _archive(folder, command="rcsT"), "a thin archive"),
@@ -285,7 +276,7 @@ ARCHIVES = [
     ("relocations of other symbols", _damaged(_in_object(_relocations_of_other_symbols)), "one of other symbols"),
     ("references that overlap", _damaged(_in_object(_references_that_overlap)), "two references at one place"),
     ("a local symbol among the global ones", _damaged(_in_object(_local_symbol)), "among those of another binding"),
-    ("a local symbol of a global one's name", _local_of_the_name, "two symbols of one name: 'const_hex_decode'"),
+    ("a local symbol of a global one's name", _two_of_one_name(".local"), "two symbols of one name: 'const_hex_dec"),
     ("an archive that is cut", _damaged(lambda data: data[:-1000]), "cut or damaged"),
     ("an object that is cut", _damaged(lambda data: data.replace(b"\x7fELF", b"\x7fELf", 1)), "not an ELF object"),
     ("an object with a table outside", _damaged(lambda data: _headers_outside(data)), "cut or damaged"),
@@ -296,27 +287,23 @@ ARCHIVES = [
 ]
 
 
-class TestForged(unittest.TestCase):
-    def folder(self):
-        folder = tempfile.TemporaryDirectory()
-        self.addCleanup(folder.cleanup)
-        folder = pathlib.Path(folder.name)
+class TestForged(InFolder):
+    def setUp(self):
+        super().setUp()
         for member in MEMBERS:
-            _assembled(folder, member)
-        return folder
+            _assembled(self.folder, member)
 
     def refuse(self, member, old, new, wanted):
-        folder = self.folder()
-        _assembled(folder, member, old, new)
+        _assembled(self.folder, member, old, new)
         with self.assertRaisesRegex(ValueError, f"^{member}.o has what does not belong there: .*{wanted}"):
-            library.builds_of(_archive(folder))
+            library.builds_of(_archive(self.folder))
 
     def refuse_archive(self, make, wanted):
         with self.assertRaisesRegex(ValueError, wanted):
-            library.builds_of(make(self.folder()))
+            library.builds_of(make(self.folder))
 
     def test_right_archives(self):
-        folder = self.folder()
+        folder = self.folder
         builds = ["dispatch", "functions_x86_64", "kernel_v2", "kernel_v3"]
         self.assertEqual([*library.builds_of(ARCHIVE)], builds)
         self.assertEqual([*library.builds_of(_archive(folder))], builds)
@@ -331,9 +318,9 @@ class TestForged(unittest.TestCase):
         text = subprocess.run(command, check=True, capture_output=True, text=True).stdout
         old, new = change if type(change) is tuple else (")\n", f"{change})\n")
         at = text.rindex(old)
-        file = self.folder() / "module.wasm"
+        file = self.folder / "module.wasm"
         text = text[:at] + new + text[at + len(old) :]
-        subprocess.run(["wat2wasm", "-", f"--output={file}"], input=text.encode(), check=True)
+        file.write_bytes(assembled_module(text))
         with self.assertRaisesRegex(ValueError, re.escape(wanted)):
             library.builds_of(file)
 

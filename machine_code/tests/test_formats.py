@@ -7,8 +7,8 @@ import subprocess
 import unittest
 
 from reading import images
-from tests.library import ASM, RUST, add_tests
-from tests.test_linked import COUNTS, KERNELS, Linked, fault, faults
+from tests.library import ASM, RUST, InFolder, add_tests
+from tests.test_linked import COUNTS, KERNELS, fault, faults
 
 # Other objects than those of ELF that `as` makes: how clang names the system, and the directives of the Rust crate.
 SYSTEMS = [("x86_64", system, directives) for system, directives in (
@@ -17,17 +17,26 @@ SYSTEMS += [*(("aarch64", *row) for _, *row in SYSTEMS), ("aarch64", "apple-ios"
 
 
 @unittest.skipUnless(shutil.which("clang"), "clang is missing")
-class TestFormats(Linked):
+class TestFormats(InFolder):
+    def setUp(self):
+        super().setUp()
+        self.file = self.folder / "object.o"
+
+    def assemble(self, target, text, language="assembler"):
+        command = ["clang", f"--target={target}", "-Werror", "-c", "-I", ASM, "-o", self.file, "-x", language, "-"]
+        subprocess.run(command, input=text.encode(), check=True, capture_output=True)
+
+    def of_rust(self, *parts):
+        return "".join((RUST / f"{part}.s").read_text() for part in parts)
+
     def accept(self, is_rust, processor, system, directives):
         """Each function of each file, by its call and its build."""
         found = {}
         of_c = "dispatch", f"functions_{processor}", *(f"kernel_{name}" for name in KERNELS[processor])
         for name in KERNELS[processor] if is_rust else of_c:
-            parts = [RUST / f"{part}.s" for part in (directives, name, "end")] if is_rust else [ASM / f"{name}.S"]
-            command = ["clang", f"--target={processor}-{system}", "-Werror", "-c", "-I", ASM]
-            command += ["-o", self.folder / "object.o", "-x", "assembler" if is_rust else "assembler-with-cpp", "-"]
-            subprocess.run(command, input=b"".join(part.read_bytes() for part in parts), check=True, cwd=ASM)
-            found |= faults(self.folder / "object.o")
+            text = self.of_rust(directives, name, "end") if is_rust else (ASM / f"{name}.S").read_text()
+            self.assemble(f"{processor}-{system}", text, "assembler" if is_rust else "assembler-with-cpp")
+            found |= faults(self.file)
         count = 3 * len(KERNELS[processor]) if is_rust else COUNTS[processor]
         self.assertEqual((len(found), set(found.values())), (count, {None}))
 
@@ -38,37 +47,32 @@ class TestFormats(Linked):
             ("apple-macos", f"_{name}", ".globl {0}\n{0} = 9"),
             ("pc-windows-msvc", name, text + ".weak {0}"), ("pc-windows-msvc", name, ".globl {0}\n{0} = 9"),
         ):
-            command = ["clang", f"--target=x86_64-{system}", "-c", "-o", self.folder / "object.o", "-x", "assembler"]
-            subprocess.run([*command, "-"], input=f"{text.format(name)}\n".encode(), check=True, capture_output=True)
+            self.assemble(f"x86_64-{system}", f"{text.format(name)}\n")
             with self.subTest(system, text=text):
-                self.assertRegex(fault(self.folder / "object.o"), "is a symbol of another kind")
-        data = bytearray((self.folder / "object.o").read_bytes())
+                self.assertRegex(fault(self.file), "is a symbol of another kind")
+        data = bytearray(self.file.read_bytes())
         with self.assertRaisesRegex(ValueError, "Mach-O that is no object"):
             images.read(b"\xcf\xfa\xed\xfe" + struct.pack("<III", 0x01000007, 3, 2) + data)
 
     def test_addend_in_an_instruction(self):
         """COFF has it there, and the linker adds it. Some add what Mach-O has there."""
-        text = "".join((RUST / f"{part}.s").read_text() for part in ("coff", "aarch64", "end"))
-        old, file = re.search("\tadd_label .*", text)[0], self.folder / "object.o"
-        command = ["clang", "--target=aarch64-pc-windows-msvc", "-c", "-o", file, "-x", "assembler"]
-        subprocess.run([*command, "-"], input=text.replace(old, f"{old} + 4", 1).encode(), check=True)
-        self.assertEqual(fault(file), "an addend in an instruction")
-        text = "".join((RUST / f"{part}.s").read_text() for part in ("mach_o", "aarch64", "end"))
-        subprocess.run([command[0], "--target=aarch64-apple-macos", *command[2:], "-"], input=text.encode(), check=True)
-        data = bytearray(file.read_bytes())
+        text = self.of_rust("coff", "aarch64", "end")
+        old = re.search("\tadd_label .*", text)[0]
+        self.assemble("aarch64-pc-windows-msvc", text.replace(old, f"{old} + 4", 1))
+        self.assertEqual(fault(self.file), "an addend in an instruction")
+        self.assemble("aarch64-apple-macos", self.of_rust("mach_o", "aarch64", "end"))
+        data = bytearray(self.file.read_bytes())
         [start], [table] = struct.unpack_from("<I", data, 32 + 72 + 48), struct.unpack_from("<I", data, 32 + 72 + 56)
         # The last relocation of the code, which stands first.
         data[start + struct.unpack_from("<I", data, table)[0] + 1] |= 4
-        file.write_bytes(data)
-        self.assertEqual(fault(file), "an addend in an instruction")
+        self.file.write_bytes(data)
+        self.assertEqual(fault(self.file), "an addend in an instruction")
 
     def made(self, system, change=lambda text: text):
         """The object with the kernels for x86-64-v3 that another assembler makes."""
-        directives, file = {"apple-macos": "mach_o", "pc-windows-msvc": "coff"}[system], self.folder / "object.o"
-        text = "".join((RUST / f"{part}.s").read_text() for part in (directives, "x86_64_v3", "end"))
-        command = ["clang", f"--target=x86_64-{system}", "-c", "-o", file, "-x", "assembler", "-"]
-        subprocess.run(command, input=change(text).encode(), check=True)
-        return file
+        directives = {"apple-macos": "mach_o", "pc-windows-msvc": "coff"}[system]
+        self.assemble(f"x86_64-{system}", change(self.of_rust(directives, "x86_64_v3", "end")))
+        return self.file
 
     def places(self, system):
         """Where the functions and constants lie."""
@@ -94,21 +98,20 @@ class TestFormats(Linked):
         struct.pack_into("<I", twice, table + 10, *struct.unpack_from("<I", data, table))
         data[header + 39] |= 1
         for content, said in ((twice, "a relocation at 0x"), (data, "more relocations than its header says")):
-            (self.folder / "object.o").write_bytes(content)
-            self.assertRegex(fault(self.folder / "object.o"), said)
+            self.file.write_bytes(content)
+            self.assertRegex(fault(self.file), said)
 
     def test_table_of_jumps(self):
         """Mach-O has its distances by two symbols, of which one is the table's."""
-        text, file = (ASM / "functions_x86_64.S").read_text(), self.folder / "object.o"
-        command = ["clang", "--target=x86_64-apple-macos", "-c", "-I", ASM, "-o", file, "-x", "assembler-with-cpp", "-"]
+        text = (ASM / "functions_x86_64.S").read_text()
         table, version = "const_hex_constant_1", "SYMBOL(const_hex_version)"
         entry = re.search(rf"\.long\s+\d+b - {table}\n", text)[0]
         for new, said in ((entry, None), (entry.replace(table, f"{version} - {{}}"), "a relocation at 0x0")):
             if said:
-                places = images.read(file.read_bytes()).places
+                places = images.read(self.file.read_bytes()).places
                 new = new.format(min(places[table]) - min(places["const_hex_version"]))
-            subprocess.run(command, input=text.replace(entry, new, 1).encode(), check=True)
-            self.assertRegex(str(fault(file)), str(said))
+            self.assemble("x86_64-apple-macos", text.replace(entry, new, 1), "assembler-with-cpp")
+            self.assertRegex(str(fault(self.file)), str(said))
 
     def test_alignment(self):
         """The linker may place a section at any multiple of what its header says, wherever it lies in the object."""
@@ -121,12 +124,12 @@ class TestFormats(Linked):
         file.write_bytes(data)
         self.assertRegex(fault(file), "is not aligned, or")
         file = self.made("apple-macos")
+        data = bytearray(file.read_bytes())
         # Of the second section, which has the constants.
         for alignment, said in ((0, "is not aligned, or"), (12, "a section that is not aligned")):
-            data = bytearray(file.read_bytes())
             struct.pack_into("<I", data, 32 + 72 + 80 + 52, alignment)
-            (self.folder / "other.o").write_bytes(data)
-            self.assertRegex(fault(self.folder / "other.o"), said)
+            file.write_bytes(data)
+            self.assertRegex(fault(file), said)
 
     def test_sections_of_other_kinds(self):
         constants = "__TEXT,__const"
@@ -158,8 +161,8 @@ class TestFormats(Linked):
         struct.pack_into("<i", data, start + offset, places["constant_1"] - offset - 4)
         for number, said in ((2, None), (1, f"a relocation at {offset:#x}")):
             struct.pack_into("<I", data, at + 4, number | 1 << 24 | 2 << 25 | 1 << 28)
-            (self.folder / "object.o").write_bytes(data)
-            self.assertRegex(str(fault(self.folder / "object.o")), said or "None")
+            self.file.write_bytes(data)
+            self.assertRegex(str(fault(self.file)), said or "None")
 
 
 COFF, MACH_O, CONSTANT, NUMBER = "pc-windows-msvc", "apple-macos", "[rip + constant_1]", "cmp    rsi,0x81"

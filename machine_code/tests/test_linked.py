@@ -5,11 +5,10 @@ import random
 import re
 import struct
 import subprocess
-import tempfile
-import unittest
 
 from reading import archive, images, linked
-from tests.library import AARCH64, ARCHIVE, ASM, COMPILERS, TOP, add_tests, assembled_object, needs_aarch64
+from tests.library import (AARCH64, ARCHIVE, ASM, COMPILERS, TOP, InFolder, add_tests, assembled_object, headers_of,
+                           needs_aarch64, segments_of)
 
 KERNELS = {"x86_64": ("x86_64_v2", "x86_64_v3"), "aarch64": ("aarch64",)}
 # How many functions there are for C, with those that others do not see.
@@ -36,14 +35,7 @@ def fault(file):
         return str(error)
 
 
-class Linked(unittest.TestCase):
-    def setUp(self):
-        folder = tempfile.TemporaryDirectory()
-        self.addCleanup(folder.cleanup)
-        self.folder = pathlib.Path(folder.name)
-
-
-class TestFiles(Linked):
+class TestFiles(InFolder):
     def test_shared_libraries(self):
         for file, machine, count in ((ARCHIVE, 62, COUNTS["x86_64"]), (AARCH64, 183, COUNTS["aarch64"])):
             if pathlib.Path(file).exists():
@@ -78,9 +70,9 @@ class TestFiles(Linked):
 
     def test_object_that_calls_another(self):
         """The name of what it calls counts, where an object leaves that to others."""
-        for old, wanted in (("", None), ("je\t\\name\\()_v3", r"_v2 is called, where \.text\.const_hex_\w+_v3 should be")):
+        for old, wanted in (("", None), ("je\t\\name\\()_v3", r"_v2 is called, where \.text\.\w+_v3 should be")):
             text = (ASM / "dispatch.S").read_text().replace(old, old.replace("v3", "v2"))
-            (self.folder / "object.o").write_bytes(assembled_object(62, text))
+            (self.folder / "object.o").write_bytes(assembled_object(text))
             self.assertRegex(str(fault(self.folder / "object.o")), str(wanted))
 
     def test_parts_that_overlap(self):
@@ -117,7 +109,7 @@ class TestFiles(Linked):
             (f".globl {name}; {name}: ret", metadata, "which are not in one part of the file"),
         ):
             rlib.unlink(missing_ok=True)
-            file.write_bytes(assembled_object(62, f"{text}; {end}\n"))
+            file.write_bytes(assembled_object(f"{text}; {end}\n"))
             subprocess.run(["ar", "rcs", rlib, *objects, *{metadata, file}], check=True)
             self.assertRegex(str(fault(rlib)), wanted)
         metadata.write_bytes(b"")
@@ -128,7 +120,7 @@ class TestFiles(Linked):
         self.assertRegex(str(fault(rlib)), "the index of the archive")
 
 
-class TestChanges(Linked):
+class TestChanges(InFolder):
     def changes(self, image, found, count):
         """Places in a file, each with what it is: of constants, tables of jumps, references, and other code."""
         some, kinds = random.Random(0), {}
@@ -167,12 +159,8 @@ class TestChanges(Linked):
 
 def in_file(data, piece, address):
     """Where a byte of a piece stands in the file."""
-    return next(it[2] for it in segments(data) if it[0] == 1 and it[3] == piece.address) + address - piece.address
-
-
-def segments(data):
-    [first], [count] = struct.unpack_from("<Q", data, 32), struct.unpack_from("<H", data, 56)
-    return [struct.unpack_from("<IIQQQQQQ", data, first + 56 * at) for at in range(count)]
+    start = next(it[3] for it in segments_of(data) if it[1] == 1 and it[4] == piece.address)
+    return start + address - piece.address
 
 
 def _in_headers(change):
@@ -180,9 +168,7 @@ def _in_headers(change):
 
     def changed(data):
         data = bytearray(data)
-        [first], [count] = struct.unpack_from("<Q", data, 32), struct.unpack_from("<H", data, 56)
-        for at in range(first, first + 56 * count, 56):
-            header = list(struct.unpack_from("<IIQQQQQQ", data, at))
+        for at, *header in segments_of(data):
             change(header)
             struct.pack_into("<IIQQQQQQ", data, at, *header)
         return bytes(data)
@@ -190,16 +176,11 @@ def _in_headers(change):
     return changed
 
 
-def _constants_that_can_be_written(header):
-    header[1] |= 2 if header[:2] == [1, 4] else 0
+def _with_flags(old, new):
+    def change(header):
+        header[1] = new if header[:2] == [1, old] else header[1]
 
-
-def _code_that_can_be_written(header):
-    header[1] |= 2 if header[:2] == [1, 5] else 0
-
-
-def _code_that_cannot_run(header):
-    header[1] = 4 if header[:2] == [1, 5] else header[1]
+    return _in_headers(change)
 
 
 def _segments_that_meet(header):
@@ -208,8 +189,8 @@ def _segments_that_meet(header):
         header[6] += 1 << 12
 
 
-def _with_symbol(change):
-    """The entry of a name in the tables is another one."""
+def _with_symbol(offset, change):
+    """A byte of the entry of a name in the tables is another one."""
 
     def changed(data):
         data, name = bytearray(data), b"\0const_hex_decode\0"
@@ -217,28 +198,15 @@ def _with_symbol(change):
             for start, size, names in _tables(bytes(data)):
                 for entry in range(start, start + size, 24):
                     if names + struct.unpack_from("<I", data, entry)[0] == at + 1:
-                        change(data, entry)
+                        data[entry + offset] = change(data[entry + offset])
         return bytes(data)
 
     return changed
 
 
 def _tables(data):
-    [first], [size, count] = struct.unpack_from("<Q", data, 40), struct.unpack_from("<HH", data, 58)
-    headers = [struct.unpack_from("<IIQQQQIIQQ", data, first + at * size) for at in range(count)]
-    return [(it[4], it[5], headers[it[6]][4]) for it in headers if it[1] in (2, 11)]
-
-
-def _is_indirect(data, entry):
-    data[entry + 4] = data[entry + 4] & 0xF0 | 10
-
-
-def _lies_later(data, entry):
-    data[entry + 8] += 32
-
-
-def _is_elsewhere(data, entry):
-    data[entry + 6 : entry + 8] = b"\0\0"
+    headers = headers_of(data)
+    return [(it[5], it[6], headers[it[7]][5]) for it in headers if it[2] in (2, 11)]
 
 
 def _for_the_loader_alone(change):
@@ -246,14 +214,12 @@ def _for_the_loader_alone(change):
 
     def changed(data):
         data = bytearray(data)
-        [first], [size, count] = struct.unpack_from("<Q", data, 40), struct.unpack_from("<HH", data, 58)
-        places = range(first, first + size * count, size)
-        headers = [(at, *struct.unpack_from("<IIQQQQIIQQ", data, at)) for at in places]
+        headers = headers_of(data)
         table = next(header for header in headers if header[2] == 11)
         for entry in range(table[5], table[5] + table[6], 24):
             name = headers[table[7]][5] + struct.unpack_from("<I", data, entry)[0]
             data[entry + 8] += 32 * data[name:].startswith(b"const_hex_decode\0")
-        [offset] = [header[2] for header in segments(data) if header[0] == 2]
+        [offset] = [header[3] for header in segments_of(data) if header[1] == 2]
         change(data, table[0], offset)
         return bytes(data)
 
@@ -271,10 +237,8 @@ def _tag_after_the_end(data, header, dynamic):
 
 
 def _other_place_in_the_file(data, header, dynamic):
-    [first], [count] = struct.unpack_from("<Q", data, 32), struct.unpack_from("<H", data, 56)
-    for at in range(first, first + 56 * count, 56):
-        if struct.unpack_from("<I", data, at)[0] == 2:
-            struct.pack_into("<Q", data, at + 8, len(data))
+    [segment] = [header[0] for header in segments_of(data) if header[1] == 2]
+    struct.pack_into("<Q", data, segment + 8, len(data))
     data += bytes(1 << 12)
 
 
@@ -305,15 +269,15 @@ LATER = r"\.text\.const_hex_decode at 0x\w+: another byte at 0x"
 WRITTEN = "is not aligned, or cannot be run, or can be written"
 # What is changed in a shared library, how, and what the tool says.
 ROWS = [
-    ("constants that can be written", _in_headers(_constants_that_can_be_written), WRITTEN),
-    ("code that can be written", _in_headers(_code_that_can_be_written), WRITTEN),
-    ("code that cannot run", _in_headers(_code_that_cannot_run), WRITTEN),
+    ("constants that can be written", _with_flags(4, 6), WRITTEN),
+    ("code that can be written", _with_flags(5, 7), WRITTEN),
+    ("code that cannot run", _with_flags(5, 4), WRITTEN),
     ("segments that meet", _in_headers(_segments_that_meet), "two segments that share a page"),
-    ("a function that the loader picks", _with_symbol(_is_indirect),
+    ("a function that the loader picks", _with_symbol(4, lambda old: old & 0xF0 | 10),
      "const_hex_decode is a symbol of another kind: indirect"),
-    ("a function that begins later", _with_symbol(_lies_later),
+    ("a function that begins later", _with_symbol(8, lambda old: old + 32),
      r"\.text\.const_hex_decode at 0x\w+: another byte at 0x"),
-    ("a function that is missing", _with_symbol(_is_elsewhere), "of the functions for C it has only"),
+    ("a function that is missing", _with_symbol(6, lambda old: 0), "of the functions for C it has only"),
     ("a call of another function", _other_call,
      r"kernel_\w+ at 0x\w+: (the reference at 0x\w+ points to another|another byte)"),
     ("a table of names that no section has", _for_the_loader_alone(_no_section), LATER),
@@ -325,7 +289,7 @@ ROWS = [
 ]
 
 
-class TestLibraries(Linked):
+class TestLibraries(InFolder):
     def refuse(self, change, wanted):
         file = shared_library(self.folder, ARCHIVE, 62)
         self.assertIsNone(fault(file))

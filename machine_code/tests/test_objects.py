@@ -11,7 +11,7 @@ from contracts.kernels import Check
 from execution import proofs
 from reading import archive, expected, objects
 from solver.questions import Refused
-from tests.library import AARCH64, ARCHIVE, add_tests, assembled_object, needs_aarch64
+from tests.library import AARCH64, ARCHIVE, add_tests, assembled_object, headers_of, needs_aarch64
 
 
 def linked(data, obj, tools):
@@ -31,10 +31,9 @@ def linked(data, obj, tools):
 
 def with_headers(text, offset, kind, change):
     """The bytes of an object, in which a field of each section's header is another one."""
-    data = bytearray(assembled_object(62, text))
-    [start], [size, count] = struct.unpack_from("<Q", data, 40), struct.unpack_from("<HH", data, 58)
-    for at in range(start + offset, start + size * count, size):
-        struct.pack_into(kind, data, at, change(*struct.unpack_from(kind, data, at)))
+    data = bytearray(assembled_object(text))
+    for at, *_ in headers_of(data):
+        struct.pack_into(kind, data, at + offset, change(*struct.unpack_from(kind, data, at + offset)))
     return bytes(data)
 
 
@@ -67,7 +66,7 @@ class TestObjects(unittest.TestCase):
     def test_sections_that_are_not_known(self):
         # Relocations without an addend of their own have another type.
         rel = with_headers("call memcpy@PLT", 4, "<I", lambda kind: 9 if kind == objects.ADDENDS else kind)
-        for name, data in ((r"\.rela\.text", rel), *((name, assembled_object(62, f'.section {name}, "aw"; .quad 0'))
+        for name, data in ((r"\.rela\.text", rel), *((name, assembled_object(f'.section {name}, "aw"; .quad 0'))
                                                      for name in (".init_array", ".ctors"))):
             with self.subTest(name), self.assertRaisesRegex(ValueError, f"a section that is not known here: {name}"):
                 objects.read(data)
@@ -77,7 +76,7 @@ class TestObjects(unittest.TestCase):
                      '.section .gnu.linkonce.t.one, "ax", @progbits; one: ret',
                      '.section .rodata.cst16, "aM", @progbits, 16; one: .skip 16'):
             with self.subTest(text):
-                obj = objects.read(assembled_object(62, text))
+                obj = objects.read(assembled_object(text))
                 self.assertEqual(obj.sections, [])
                 self.assertIn("may take from another object", obj.name_at(obj.symbols["one"]))
 
@@ -85,7 +84,7 @@ class TestObjects(unittest.TestCase):
         """What the linker may take from another object, or finds when the program is loaded, lies nowhere here."""
         text = (".weak first; .globl first, second, third; .comm third, 8; .type second, @gnu_indirect_function;"
                 "first: ret; second: ret; fourth: ret")
-        obj = objects.read(assembled_object(62, text))
+        obj = objects.read(assembled_object(text))
         self.assertEqual((set(obj.symbols), obj.exported, obj.undefined), ({"fourth"}, set(), {}))
 
     @needs_aarch64

@@ -7,9 +7,7 @@ import re
 import shutil
 import subprocess
 import sys
-import tempfile
 import types
-import unittest
 from importlib.machinery import SourceFileLoader
 from unittest import mock
 
@@ -20,7 +18,7 @@ from contracts.messages import MESSAGES
 from execution import proofs
 from reading import library, objects, sums
 from solver.questions import Refused
-from tests.library import AARCH64, ARCHIVE, ASM, RUST, assembled_object
+from tests.library import AARCH64, ARCHIVE, ASM, RUST, InFolder, assembled_object
 from tests.library import KERNELS as OF_RUST
 
 FUNCTION, KERNEL, C = "const_hex_check_raw", "const_hex_kernel_check_v3", "functions_x86_64"
@@ -51,12 +49,11 @@ def row_of(content, build, call):
     return row
 
 
-class TestProve(unittest.TestCase):
+class TestProve(InFolder):
     def setUp(self):
         """`prove` as a module, which writes the sums to a file of the test."""
-        folder = tempfile.TemporaryDirectory()
-        self.addCleanup(folder.cleanup)
-        self.folder, self.script = pathlib.Path(folder.name), types.ModuleType("prove")
+        super().setUp()
+        self.script = types.ModuleType("prove")
         SourceFileLoader("prove", str(sums.FOLDER / "prove")).exec_module(self.script)
         patch = mock.patch.object(sums, "FILE", self.folder / "proved.txt")
         patch.start()
@@ -79,7 +76,7 @@ class TestProve(unittest.TestCase):
     def test_one_byte_of_what_rust_includes(self):
         """The sum of `fill` is recorded of the files that the Rust crate includes. That for C has the same."""
         text = "".join((RUST / f"{part}.s").read_text() for part in ("elf", "x86_64_v3", "end"))
-        same, other = (assembled_object(62, text.replace("0x64, 0x65, 0x66", new, 1))
+        same, other = (assembled_object(text.replace("0x64, 0x65, 0x66", new, 1))
                        for new in ("0x64, 0x65, 0x66", "0x64, 0x65, 0x67"))
         sums.write(dict([row_of(content_of("kernel_v3"), "kernel_v3", "kernel_fill")]))
         self.assertTrue(self.accepts(same, "rust_v3", "kernel_fill"))
@@ -146,7 +143,7 @@ class TestProve(unittest.TestCase):
         self.assertTrue(self.accepts(content, C, "check_raw"))
         start = f"function SYMBOL({FUNCTION})\n"
         changed = (ASM / f"{C}.S").read_text().replace(start, f"{start}\tnop\n")
-        self.assertFalse(self.accepts(assembled_object(62, changed), C, "check_raw"))
+        self.assertFalse(self.accepts(assembled_object(changed), C, "check_raw"))
         sums.write({key: (of_code, of_tool[::-1])})
         self.assertFalse(self.accepts(content, C, "check_raw"))
 
@@ -169,7 +166,7 @@ class TestProve(unittest.TestCase):
 
     def records(self, *argv, refused=None):
         """What `prove` records, where each proof succeeds but that of a function; and how many there are."""
-        def prove(content, build, contract):
+        def prove(content, build, contract, which):
             if contract.function == refused:
                 raise Refused("it is refused")
             return 1
@@ -207,14 +204,14 @@ class TestProve(unittest.TestCase):
     def test_local_function_by_the_name_of_another_build(self):
         """Where it is not proved, it is not called by its contract."""
         for name in proofs.callees.LOCAL:
-            content = assembled_object(62, CALLS_A_LOCAL_ONE.format("const_hex_1_0_0_check_v3", name))
+            content = assembled_object(CALLS_A_LOCAL_ONE.format("const_hex_1_0_0_check_v3", name))
             with self.subTest(name), self.assertRaisesRegex(Refused, "nothing counts down"):
                 proofs.prove(content, "rust_v3", Check())
 
     def test_local_functions_that_call_each_other(self):
         """What is called by its contract calls no other so: each of two would be right if the other one were."""
         contract = next(contract for contract in FUNCTIONS if contract.function == "decoder_fail")
-        content = assembled_object(62, LOCAL_ONES.format(contract.symbol, "const_hex_body_find_invalid_character"))
+        content = assembled_object(LOCAL_ONES.format(contract.symbol, "const_hex_body_find_invalid_character"))
         with self.assertRaisesRegex(Refused, "nothing counts down"):
             proofs.prove(content, C, contract)
 

@@ -1,20 +1,16 @@
 """Small kernels, each a loop over single bytes, which are changed to be wrong; and the objects that they make."""
 
 import functools
-import pathlib
 import re
 import subprocess
-import tempfile
 
 from contracts.dispatch import CHOICES, OR_NULL
 from contracts.kernels import KERNELS
 from contracts.library import FUNCTIONS
 from contracts.messages import MESSAGES
 from execution import proofs
+from tests.library import ASM, MODULE, RUST, assembled, assembled_module
 
-ROOT = pathlib.Path(__file__).resolve().parents[3]
-ASSEMBLY, FOR_C = ROOT / "rust" / "src" / "asm", ROOT / "c" / "asm"
-MODULE = ROOT / "js" / "src" / "const_hex.wasm"
 COMPILERS = {"v2": "cc", "v3": "cc", "aarch64": "aarch64-linux-gnu-gcc"}
 # Where it begins, a character in eax, whether it is a digit, what is done in a round, and where it returns.
 CHECK = """
@@ -29,9 +25,6 @@ CHECK = """
     2: mov eax, 1; {end}
     ret
     3: xor eax, eax; ret
-    .section .rodata.table, "a"; .balign 16; table: .skip 32, 1
-    .section .rodata.other, "a"; .balign 16; other: .skip 32
-    .section .text.helper, "ax"; helper: {helper} ret
 """
 FILL = """
     {start}
@@ -44,8 +37,6 @@ FILL = """
     jmp 1b
     2: {end}
     ret
-    .section .rodata.table, "a"; .balign 16; table: .skip 32, 1
-    .section .text.helper, "ax"; helper: {helper} ret
 """
 READ = """
     {start}
@@ -61,8 +52,6 @@ READ = """
     2: mov eax, 1; {end}
     ret
     3: xor eax, eax; ret
-    .section .rodata.table, "a"; .balign 16; table: .skip 32, 1
-    .section .text.helper, "ax"; helper: {helper} ret
 """
 ON_AARCH64 = """
     {start}
@@ -76,53 +65,29 @@ ON_AARCH64 = """
     2: mov w0, #1; {end}
     ret
     3: mov w0, #0; ret
+"""
+AFTER = """
     .section .rodata.table, "a"; .balign 16; table: .skip 32, 1
     .section .rodata.other, "a"; .balign 16; other: .skip 32
     .section .text.helper, "ax"; helper: {helper} ret
 """
 PROGRAMS = {"check": CHECK, "fill": FILL, "read": READ}
 # What is committed: the files of each build, and the contracts of its functions.
-KERNEL_FILES = {level: [ASSEMBLY / f"{part}.s" for part in ("elf", name, "end")] for level, name in (
-    ("v2", "x86_64_v2"), ("v3", "x86_64_v3"), ("aarch64", "aarch64"))}
-COMMITTED = {level: (files, KERNELS) for level, files in KERNEL_FILES.items()} | {
-    build: ([FOR_C / f"{build.split()[0]}.S"], contracts) for build, contracts in (
+COMMITTED = {level: ([RUST / f"{part}.s" for part in ("elf", name, "end")], KERNELS) for level, name in (
+    ("v2", "x86_64_v2"), ("v3", "x86_64_v3"), ("aarch64", "aarch64"))} | {
+    build: ([ASM / f"{build.split()[0]}.S"], contracts) for build, contracts in (
         ("functions_x86_64", (*FUNCTIONS, *MESSAGES)), ("functions_aarch64", (*FUNCTIONS, *MESSAGES)),
         ("dispatch", (*OR_NULL, *CHOICES)), ("dispatch for AArch64", OR_NULL))}
 WASM = "wasm"
 
 
-def assembled(source, compiler, language="assembler", *options):
-    """The bytes of the object that a source makes."""
-    with tempfile.NamedTemporaryFile(suffix=".o") as file:
-        command = [compiler, "-x", language, *options, "-c", "-o", file.name, "-"]
-        subprocess.run(command, input=source, text=True, check=True)
-        return pathlib.Path(file.name).read_bytes()
-
-
 def program(level, call, **changes):
     """The object of a small kernel with what stands at its places."""
-    body = (ON_AARCH64 if level == "aarch64" else PROGRAMS[call]).format_map(
+    body = ((ON_AARCH64 if level == "aarch64" else PROGRAMS[call]) + AFTER).format_map(
         dict.fromkeys(("start", "character", "round", "end", "helper"), "") | {"store": "mov [rdx], al"} | changes)
     syntax = "" if level == "aarch64" else ".intel_syntax noprefix\n"
     name = f"const_hex_1_0_0_{call}" + (f"_{level}" if level != "aarch64" else "")
     return assembled(f'{syntax}.section .text.{name}, "ax"\n.globl {name}\n{name}:\n{body}', COMPILERS[level])
-
-
-def kernel(name, change=lambda text: text):
-    """The object of the committed kernels of a file, whose text may be changed."""
-    text = "".join((ASSEMBLY / f"{part}.s").read_text() for part in ("elf", name, "end"))
-    return assembled(change(text), COMPILERS["aarch64" if name == "aarch64" else "v3"])
-
-
-def library(function, changed=None, old="", new=""):
-    """The object of a committed function of the C library, beside the local ones, with another text in one of them."""
-    begin, *blocks = re.split(r"\n(?=/\* const_hex)", (FOR_C / "functions_x86_64.S").read_text())
-    named = re.compile(r"\tfunction (SYMBOL\()?const_hex_(body_|message_)?(\w+?)(_nonnull)?\)?\n")
-    found = [(named.search(block), block) for block in blocks]
-    blocks = {match[3]: block for match, block in found if not match[1] or match[3] == function}
-    assert old in blocks[changed or function], old
-    blocks[changed or function] = blocks[changed or function].replace(old, new, 1)
-    return assembled("\n".join([begin, *blocks.values()]), "cc", "assembler-with-cpp", f"-I{FOR_C}")
 
 
 @functools.cache
@@ -162,14 +127,12 @@ def edited(build, function, old, new):
         text = text[:at] + after + ("" if before else "\n") + text[at + len(before) :]
         at += len(after)
     if build == WASM:
-        return subprocess.run(["wat2wasm", "-", "--output=-"], input=text.encode(), check=True,
-                              capture_output=True).stdout
-    compiler = COMPILERS["aarch64" if build.lower().endswith("aarch64") else "v3"]
-    return assembled(text, compiler, "assembler-with-cpp", f"-I{FOR_C}")
+        return assembled_module(text)
+    return assembled(text, COMPILERS["aarch64" if build.lower().endswith("aarch64") else "v3"])
 
 
-def prove(content, call, ran=None, contracts=KERNELS, name=None):
-    """Proves the first contract of a call, or that of a name."""
+def prove(content, call, contracts=KERNELS, name=None, which=slice(None)):
+    """Proves the first contract of a call, or that of a name, from all starts or from some."""
     contract = next(contract for contract in contracts
                     if contract.function == call and contract.name == (name or contract.name))
-    return proofs.prove(content, "functions_" if contract in (*FUNCTIONS, *MESSAGES) else "", contract, ran)
+    return proofs.prove(content, "functions_" if contract in (*FUNCTIONS, *MESSAGES) else "", contract, which)

@@ -8,9 +8,9 @@ import z3
 
 from contracts.functions import digits_of, is_digit, value
 from execution.state import byte, simple
-from programs import ROOT
+from tests.library import TOP
 
-SPECS = ROOT / "crates" / "const_hex_arch" / "specs" / "Texts.antt"
+SPECS = TOP / "crates" / "const_hex_arch" / "specs" / "Texts.antt"
 RANGE = r"nat_le (\d+) b && nat_le b (\d+) then Some \(b - (\d+)\)"
 
 

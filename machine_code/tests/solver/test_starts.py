@@ -14,7 +14,8 @@ from contracts.library import FUNCTIONS
 from execution.code import Code
 from execution.proofs import PROCESSORS
 from execution.state import byte
-from programs import FOR_C, edited
+from programs import edited
+from tests.library import ASM
 
 CALLS = {contract.function: contract for contract in FUNCTIONS}
 
@@ -27,7 +28,7 @@ def starts(call):
 
 def library():
     with tempfile.TemporaryDirectory() as folder:
-        command = ["cc", "-shared", f"-I{FOR_C}", "-o", f"{folder}/const_hex.so", *FOR_C.glob("*.S")]
+        command = ["cc", "-shared", f"-I{ASM}", "-o", f"{folder}/const_hex.so", *ASM.glob("*.S")]
         subprocess.run(command, check=True)
         return ctypes.CDLL(f"{folder}/const_hex.so")
 

@@ -12,16 +12,18 @@ import wrong_edits
 import wrong_for_c
 import wrong_forms
 import wrong_messages
+import wrong_module
 from contracts.library import FUNCTIONS
 from contracts.messages import MESSAGES
-from programs import COMMITTED, assembled, edited, library, program, prove
+from programs import COMMITTED, edited, program, prove
 from solver.questions import Refused
+from tests.library import assembled
 
 ROOM = pathlib.Path(__file__).resolve().parents[2]
 # What refuses a program.
 CHECKS = ("require", "must", "must_cover", "must_equal", "must_be", "must_be_unchanged", "must_fail", "must_repeat",
           "must_be_digits", "must_be_digits_of", "must_be_decoded", "must_be_nul", "must_find_first_invalid",
-          "must_call", "_must_be_public")
+          "must_call", "_must_be_public", "Refused")
 
 PASSES, SECRET = "a character is passed that may be no digit", "a branch depends on bytes"
 BELOW, UNWRITTEN = "an access below the stack pointer", "a byte of the stack that was not written"
@@ -72,7 +74,7 @@ WRONG = [
     ("vzeroupper after a loop", "v3", "check", {"round": "vpxor ymm0, ymm0, ymm0"}, "vzeroupper is missing"),
     ("the direction flag", "v3", "check", {"start": "std"}, "without a meaning"),
     ("AVX without a check", "v2", "check", {"start": "vzeroupper"}, "is not what the assembler makes"),
-    ("an access that is not aligned", "v2", "check", {"start": "cmp rsi, 16; jb 1f; pand xmm0, [rdi]"},
+    ("an access that is not aligned", "v2", "check", {"start": "cmp rsi, 16; jb 1f; por xmm0, [rdi]"},
      "may not be aligned"),
     ("a move that is not aligned", "v3", "check", {"start": "cmp rsi, 16; jb 1f; vmovdqa xmm0, [rdi]"},
      "may not be aligned"),
@@ -85,6 +87,8 @@ WRONG = [
      {"start": "xor r10d, r10d", "round": "test sil, 1; je 5f; add r10, 1; 5:"}, "at the head of a loop: r10"),
     ("a vector that some rounds change", "v3", "check",
      {"round": "test sil, 1; jne 5f; jmp 6f; 5: vmovdqa xmm1, xmm2; 6:"}, "at the head of a loop: vector 1"),
+    ("a wide register in some rounds", "v3", "check",
+     {"round": "test sil, 1; jne 5f; jmp 6f; 5: vmovdqa ymm1, ymm1; 6:"}, f"{AT_HEAD}vzeroupper is missing"),
     ("a call in each round that does not return", "v3", "check", {"round": "call 5f; 5: add rsp, 8"},
      "at the head of a loop: where calls return to"),
     ("too many instructions", "v3", "check", {"start": ".rept 2001; nop; .endr"}, "a loop without a hint"),
@@ -215,23 +219,23 @@ class TestWrong(unittest.TestCase):
                 prove(content, call, **contract)
             except (Refused, ValueError) as refused:
                 # `run` says where a program is refused, of what another function has found.
-                found = refused.__context__ or refused
-                places = [(frame.filename, frame.lineno) for frame in traceback.extract_tb(found.__traceback__)]
-                self.refused.update(places)
+                for found in filter(None, (refused, refused.__context__)):
+                    frames = traceback.extract_tb(found.__traceback__)
+                    self.refused.update((frame.filename, frame.lineno) for frame in frames)
                 raise
 
     def test_a_function_that_is_weak_local_or_missing(self):
         """A weak function may be replaced by the linker's, and a local one is not called."""
         local = "const_hex_1_0_0_check_v3: ret"
         for line in (f".weak const_hex_1_0_0_check_v3; {local}", local, "check: ret"):
-            self.prove(assembled(f"{line}\n", "cc"), "check", "0 functions const_hex_")
+            self.prove(assembled(f"{line}\n"), "check", "0 functions const_hex_")
 
     def test_zz_each_check_refuses_a_row(self):
         """After the rows: without a check, one that is refused by it would not be, or by another message."""
         if self.count < self.most:
             self.skipTest("not all rows have run")
-        checks = {(str(file), line) for folder in ("execution", "contracts") for file in (ROOM / folder).glob("*.py")
-                  for line in _checks(file)}
+        checks = {(str(file), line) for folder in ("contracts", "execution", "meanings")
+                  for file in (ROOM / folder).glob("*.py") for line in _checks(file)}
         unused = checks - self.refused
         self.assertEqual(sorted(unused), [])
 
@@ -260,22 +264,25 @@ for what, level, call, changes, *said in [*WRONG, *RIGHT]:
 for what, level, text, *said in [*wrong_forms.WRONG, *wrong_forms.RIGHT]:
     _add(f"form {level} {what}", "version", functools.partial(wrong_forms.form, level, text), *said,
          contracts=[wrong_forms.version(level)])
-for what, build, function, old, new, said, *rest in wrong_edits.WRONG:
-    name, within = [*rest, None, None][:2]
+for what, build, function, old, new, said, *rest in [*wrong_edits.WRONG, *wrong_edits.RIGHT]:
+    name, within, which = [*rest, *(None, None, slice(None))[len(rest) :]]
     make = functools.partial(edited, build, within or function, old, new)
-    _add(f"edit {build} {function} {what}", function, make, said, name=name,
+    _add(f"edit {build} {function} {what}", function, make, said, name=name, which=which,
          contracts=FUNCTIONS if build == "wasm" else COMMITTED[build][1])
+for what, changes, *said in [*wrong_module.WRONG, *wrong_module.RIGHT]:
+    _add(f"module {what}", "check_raw", functools.partial(wrong_module.made, changes), *said, contracts=FUNCTIONS)
 for function, what, old, new, said, *name in wrong_for_c.WRONG:
     call = "decoder_update" if function == "decoder_decode_after" else function
-    make = functools.partial(library, call, function, old, new)
+    make = functools.partial(edited, "functions_x86_64", function, old, new)
     _add(f"for c {function} {what}", call, make, said, contracts=FUNCTIONS, name=next(iter(name), None))
 for function in wrong_for_c.RIGHT:
-    _add(f"for c {function} as it is", function, functools.partial(library, function), contracts=FUNCTIONS)
+    make = functools.partial(edited, "functions_x86_64", function, "", "")
+    _add(f"for c {function} as it is", function, make, contracts=FUNCTIONS)
 for what, body, said in wrong_messages.OF_MESSAGES:
     _add(f"of messages {what}", "error_message", functools.partial(wrong_messages.message, body), said,
          contracts=wrong_messages.CONTRACTS)
 for what, old, new, said in wrong_messages.OF_WRITE_ENDED:
-    make = functools.partial(library, "error_message", "write_ended", old, new)
+    make = functools.partial(edited, "functions_x86_64", "write_ended", old, new)
     _add(f"of messages {what}", "write_ended", make, said, contracts=wrong_messages.CONTRACTS)
 for function, what, old, new, said, *name in wrong_messages.OF_DISPATCHERS:
     _add(f"of dispatchers {function} {what}", function, functools.partial(wrong_messages.dispatcher, old, new), said,

@@ -5,7 +5,8 @@ import re
 
 from contracts.library import HEADER, Version
 from meanings.x86_64 import NOPS
-from programs import COMPILERS, assembled
+from programs import COMPILERS
+from tests.library import assembled
 
 VERSION = re.search(r"#define CONST_HEX_VERSION (\d+)", HEADER.read_text())[1]
 X86_64 = """
@@ -22,7 +23,7 @@ AARCH64 = """
     .section .text.other, "ax"; other: ret
 """
 BELOW, NOT_IN_STACK = "an access below the stack pointer", "the stack pointer is not in the stack"
-UNWRITTEN, NOT_FIXED = "a byte of the stack that was not written", "a jump to a place that is not fixed"
+NOT_FIXED = "a jump to a place that is not fixed"
 NO_MEANING, NO_RELOCATION = "an instruction without a meaning here", "an address without its relocation"
 OTHER_BYTES, WIDE = "is not what the assembler makes of it", "vzeroupper is missing"
 # Which of the two refuses a form may depend on where its sections lie.
@@ -34,11 +35,16 @@ LOWER_BITS = ".reloc ., R_AARCH64_ADD_ABS_LO12_NC, table"
 WRONG = [
     ("a return that takes arguments", "v2", f"mov eax, {VERSION}; ret 8", "a return that takes arguments"),
     ("a return of 2 bytes", "v2", f"mov eax, {VERSION}; .byte 0x66; ret", NO_MEANING),
-    ("a return to another place", "v2", "add qword ptr [rsp], 2", "a return to another place"),
     ("a jump to another place", "v2", f"mov eax, {VERSION}; pop rcx; inc rcx; jmp rcx", NOT_FIXED),
     ("a push of 2 bytes", "v2", "push ax; add rsp, 8", "another size"),
     ("a pop of 2 bytes", "v2", "push rax; pop word ptr [rsp-8]", "another size"),
-    ("a call of another library", "v2", "call memcpy@PLT", "it leaves the code"),
+    ("a call by a register", "v2", "call rax", NOT_FIXED),
+    ("a write of the second byte of a register", "v2", "mov ah, 5", "a write of the second byte"),
+    ("a product of 32 bits", "v2", "mul ecx", "another size"),
+    ("a shift by a vector", "v2", "psrlw xmm0, xmm1", "a shift"),
+    *((f"a place beyond a vector in {form}", level, form, "an index") for level, form in (
+        ("v2", "pinsrb xmm0, eax, 16"), ("v2", "pextrw eax, xmm0, 8"), ("v3", "vinserti128 ymm0, ymm0, xmm0, 2"),
+        ("v3", "vextracti128 xmm0, ymm0, 2"))),
     ("CRC32", "v2", "crc32 eax, ecx", NO_MEANING),
     ("an access by a segment", "v2", "mov rax, fs:[0]", OTHER_BYTES),
     ("a byte that is kept", "v2", "mov byte ptr [rip + kept], 7", r"an address in \[\]"),
@@ -50,13 +56,7 @@ WRONG = [
     ("xgetbv on a CPU that may not have it", "v2", "xor ecx, ecx; xgetbv", OTHER_BYTES),
     ("AVX-512", "v3", "vpbroadcastd ymm0, esi", OTHER_BYTES),
     ("AVX-512 by its encoding", "v3", "{evex} vpaddb ymm0, ymm0, ymm0", OTHER),
-    ("a byte of the stack that a signal may change", "v2",
-     f"sub rsp, 264; mov dword ptr [rsp], {VERSION}; add rsp, 264; sub rsp, 264; mov eax, [rsp]; add rsp, 264; ret",
-     UNWRITTEN),
     ("a byte of what the ABI reserves below the stack", "v2", "mov byte ptr [rsp-1], 0", BELOW),
-    ("a read below the stack", "v2", "mov al, [rsp-0x40]", BELOW),
-    ("a stack that is too long for a moment", "v2", "sub rsp, 0x40000000; add rsp, 0x40000000", NOT_IN_STACK),
-    ("a stack in a buffer", "v2", "mov rax, rsp; mov rsp, rdi; mov rsp, rax", NOT_IN_STACK),
     ("a pointer that may be null", "v2", "lea rax, [rsp-0x10008]; test rax, rax; je helper", "it leaves the code"),
     ("a pointer that may be 0", "v2", "lea rax, [rsp-0x10008]; cmp rax, 0; je helper", "it leaves the code"),
     ("a shift by 32 of 32 bits", "v2", ".byte 0xc1, 0xe0, 0x20", "a shift"),
@@ -93,11 +93,17 @@ WRONG = [
     ("RBIT", "aarch64", "rbit x9, x9", NO_MEANING),
     ("two vectors of LD1", "aarch64", "ld1 {v0.8b, v1.8b}, [x0]", NO_MEANING),
     ("a shift by a register", "aarch64", "lsl x9, x9, x1", "a shift"),
+    ("a sum with a register that is extended", "aarch64", "add w9, w9, w9, uxtw", "a shift"),
+    ("all bits of a register", "aarch64", "bfxil w9, w9, #0, #32", "all bits"),
+    ("a return by another register", "aarch64", "ret x9", "a return by another register"),
+    ("a load from a distance", "aarch64", "ldr w9, 1f; 1:", "an address of another form"),
+    ("the page of code", "aarch64", "adrp x8, other", "an address without a constant"),
+    ("the lower bits of another page", "aarch64", "adrp x8, table; ldr q0, [x9, :lo12:table]",
+     "the page of another constant"),
+    ("a constant that is not aligned", "aarch64", '.section .rodata.less, "a"; .balign 8; less: .skip 16; .text; '
+     "adrp x8, less; ldr q0, [x8, :lo12:less]", "may not be aligned|is no multiple of 16"),
+    ("a constant of 64 bits", "aarch64", "movi d0, #0xff", "a vector is needed"),
     ("a shift of an immediate", "aarch64", "movi v0.4s, #1, lsl #8", "too many values to unpack"),
-    ("flags that are not known", "aarch64", "b.eq 1f; nop; 1:", "a flag that is not known"),
-    ("a return to another place", "aarch64", "add x30, x30, #4", "a return to another place"),
-    ("a byte of the stack that a signal may change", "aarch64",
-     f"mov w9, #{VERSION}; str x9, [sp, #-16]!; add sp, sp, #16; sub sp, sp, #16; ldr x0, [sp], #16; ret", UNWRITTEN),
     ("a byte below the stack", "aarch64", "strb wzr, [sp, #-1]", BELOW),
     ("a load below a stack that was moved", "aarch64", "ldr x9, [sp], #16; ldr x9, [sp, #-8]", f"{BELOW}|outside"),
     ("a stack that is too long", "aarch64", "sub sp, sp, #1024, lsl #12; add sp, sp, #1024, lsl #12", NOT_IN_STACK),
@@ -106,15 +112,12 @@ WRONG = [
      f"sub x8, x8, x9; mov w9, #{VERSION}; add w0, w8, w9; ret", WRONG_VERSION),
     ("a base that is loaded and moved", "aarch64", "sub sp, sp, #16; mov x8, sp; ldr x8, [x8], #8", "unpredictable"),
     ("a base that is stored and moved", "aarch64", "sub sp, sp, #16; mov x8, sp; str x8, [x8], #8", "unpredictable"),
-    ("two loads of one register", "aarch64", "sub sp, sp, #16; ldp x9, x9, [sp]", "unpredictable|two loads"),
+    ("two loads of one register", "aarch64", "sub sp, sp, #16; ldp x9, x9, [sp]", "unpredictable"),
     ("the distance of two pages", "aarch64", "adrp x8, table; adrp x9, table + 8; sub x8, x8, x9; cbz x8, 1f; "
      "mov w0, #1; ret; 1:", WRONG_VERSION),
     ("a page that is moved", "aarch64", "adrp x8, table; add x8, x8, #8; ldrb w9, [x8]", r"an address in \[\]"),
-    ("a register that code of the linker may change", "aarch64",
-     f"mov x9, x30; mov w16, #{VERSION}; bl other; mov x30, x9; mov w0, w16; ret", WRONG_VERSION),
     ("a part of a pointer", "aarch64", "mov x0, sp; ret", WRONG_VERSION),
-    *((f"vectors in {form}", "aarch64", f"movi v0.16b, #1; {form}", "two sizes")
-      for form in ("neg v0.16b, v0.16b", "mvn v0.16b, v0.16b")),
+    ("a vector for a register", "aarch64", "movi v0.16b, #1; mvn v0.16b, v0.16b", "a general register is needed"),
     ("a product by one element", "aarch64", "movi v0.8h, #1; mul v0.8h, v0.8h, v0.h[0]", "vectors are needed"),
     *((f"lower bits in {form}", "aarch64",
        f"adrp x8, table; .reloc {at}, R_AARCH64_{kind}_ABS_LO12_NC, table; {form}", said)
@@ -152,7 +155,7 @@ RIGHT = [
      "vpxor ymm0, ymm0, ymm0; vzeroupper; vpxor xmm0, xmm0, xmm0; xor edx, edx; xor ecx, ecx"),
     ("nops of each length", "v2", f".byte {', '.join(f'{byte:#x}' for byte in bytes.fromhex(''.join(NOPS)))}"),
     ("SSE2 in what chooses a kernel", "dispatch", "pxor xmm0, xmm0"),
-    ("the lower bits of a page", "aarch64", f"adrp x8, table; {LOWER_BITS}; add x8, x8, #0; mov x9, #1; neg x8, x9"),
+    ("the lower bits of a page", "aarch64", f"adrp x8, table; {LOWER_BITS}; add x8, x8, #0; mov x9, #1; mvn x8, x9"),
     ("a page that is only moved", "aarch64", "adrp x8, table; add x8, x8, #8"),
     ("a pointer that is no multiple of 16", "v2", "lea rax, [rsp-0x10000]; test rax, rax; je helper"),
     ("an exclusive or of vectors", "aarch64", "movi v0.16b, #1; eor v0.16b, v0.16b, v0.16b"),
@@ -161,8 +164,7 @@ RIGHT = [
 
 def form(level, text):
     """The object of a function that has a form."""
-    return assembled((AARCH64 if level == "aarch64" else X86_64).format(text, VERSION), COMPILERS.get(level, "cc"),
-                     "assembler-with-cpp")
+    return assembled((AARCH64 if level == "aarch64" else X86_64).format(text, VERSION), COMPILERS.get(level, "cc"))
 
 
 def version(level):

@@ -2,7 +2,7 @@
 
 from contracts.dispatch import CHOICES, OR_NULL
 from contracts.messages import MESSAGES
-from programs import FOR_C, assembled
+from tests.library import ASM, assembled
 
 MESSAGE = """
     .intel_syntax noprefix
@@ -48,7 +48,7 @@ OF_MESSAGES = [
 ]
 # What is changed in what writes a text, and what is said of it.
 OF_WRITE_ENDED = [
-    ("a character too much", "dec    rax", "nop", "may lie outside"),
+    ("a character too much", "dec rax", "nop", "may lie outside"),
     ("the next character", "[rdi+rcx*1]", "[rdi+rcx*1+1]", "may lie outside|another byte"),
     ("no NUL at the end", "[rdx+rcx*1+0x1],0x0", "[rdx+rcx*1+0x1],0x1", "another byte"),
 ]
@@ -103,10 +103,10 @@ CONTRACTS = [*OR_NULL, *CHOICES, *MESSAGES]
 
 
 def message(body):
-    return assembled(MESSAGE.format(body), "cc")
+    return assembled(MESSAGE.format(body))
 
 
 def dispatcher(old="", new=""):
-    text = (FOR_C / "dispatch.S").read_text()
+    text = (ASM / "dispatch.S").read_text()
     assert old in text, old
-    return assembled(text.replace(old, new), "cc", "assembler-with-cpp", f"-I{FOR_C}")
+    return assembled(text.replace(old, new))

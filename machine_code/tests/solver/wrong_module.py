@@ -1,22 +1,6 @@
-"""Wrong modules, each refused by the check that is meant, and right ones: a function that asks whether all characters
-are digits, one after the other; and the committed module with another text in it."""
+"""Wrong modules, and right ones: a function that asks whether all characters are digits, one after the other."""
 
-import contextlib
-import pathlib
-import re
-import shutil
-import subprocess
-import unittest
-
-from contracts import callees
-from contracts.library import CheckRaw, DecoderFail, DecoderUpdate
-from execution.code import Code
-from execution.paths import run
-from hints.loops import guess, heads
-from meanings import webassembly
-from programs import WASM, text_of
-from solver.questions import Refused
-from tests.node import assembled
+from tests.library import assembled_module
 
 MODULE = """(module (memory (export "memory") 1 1) (global (mut i32) (i32.const 4096))
   (global i32 (i32.const 4800)) (export "__data_end" (global 1)) (export "__heap_base" (global 1)) {part}
@@ -30,9 +14,6 @@ MODULE = """(module (memory (export "memory") 1 1) (global (mut i32) (i32.const 
     end end {end} i32.const 1 return end {invalid} i32.const 0)
   (func (param i32) (result i32) local.get 0 i32.const 1 i32.add)
   (data (i32.const 4096) "{data}"))"""
-MODULE_FILE = pathlib.Path(__file__).resolve().parents[3] / "js" / "src" / "const_hex.wasm"
-# The starts of decoder_update where no digit waits: with an output, and with none.
-LATER, LATER_WITHOUT_SPACE = slice(4, 5), slice(11, 12)
 DATA, SECRET, LAYOUT = "\\00" * 600, "a branch depends on bytes that are secret", "the data and `__heap_base` lie at"
 # What is wrong, what stands at which place, and what is said of it.
 WRONG = [
@@ -91,47 +72,10 @@ WRONG = [
 ]
 RIGHT = [("as it is", {}), ("a call", {"start": "local.get 1 call 1 local.set 2"}),
          ("a number of 32 bits", {"start": "block i32.const -1 i32.const 1 i32.add i32.eqz br_if 0 unreachable end"}),
-         ("a table", {"invalid": "local.get 3 i32.load8_u offset=4200 local.set 2"}),
+         ("a look-up", {"invalid": "local.get 3 i32.load8_u offset=4200 local.set 2"}),
          ("data", {"start": "i32.const 4692 i32.load local.set 2"}),
          ("a stack", {"start": "global.get 0 i32.const 16 i32.sub global.set 0 global.get 0 local.get 1 i32.store "
                                "global.get 0 i32.load local.set 1 global.get 0 i32.const 16 i32.add global.set 0"})]
-# The start of decoder_fail, where its error is, and where its text is.
-BEGIN = "(local i32 i32 i32 i32) i32.const 0 local.set 5 i32.const 0 local.set 6"
-UNLESS = BEGIN + " block {} br_if 0 unreachable end"
-# After a chunk was decoded that has some digits.
-DECODED = "local.get 12 i32.eqz br_if 0 (;@7;)"
-SELECTED = DECODED + " i32.const 7 i32.const 8 {} i32.load8_u i32.const 57 i32.gt_u select local.set 4"
-# Of the committed module: what is wrong, a text in it, what stands there instead, and what is said of it.
-OF_FAIL = [
-    ("another character", "local.get 0 local.get 5 i32.store return", "local.get 0 local.get 6 i32.store return",
-     "found is wrong at 0"),
-    ("a position that is not the greatest", "local.get 0 local.get 6 i32.store offset=4",
-     "local.get 0 local.get 4 i32.store offset=4", "found is wrong at 4"),
-    ("a decoder with another position", "local.tee 6 i32.store local.get 0",
-     "local.set 6 local.get 4 i32.store local.get 0", "decoder is wrong at 0"),
-    ("a decoder with another character", "local.get 5 i32.store8 offset=4", "local.get 6 i32.store8 offset=4",
-     "decoder is wrong at 4"),
-    ("a decoder without its error", "i32.const 2 i32.store8 offset=5", "i32.const 1 i32.store8 offset=5",
-     "decoder is wrong at 5"),
-    ("a stack", BEGIN, BEGIN + " global.get 0 i32.const 16 i32.sub i32.const 1 i32.store", "may lie outside of stack"),
-    ("a stack that ends at 0", BEGIN, UNLESS.format("global.get 0 i32.eqz"), "the module traps"),
-    ("an error that is not in the stack", BEGIN, UNLESS.format("local.get 0 i32.const 4784 i32.ge_u"), "the module tr"),
-    ("an empty text at no place", BEGIN, UNLESS.format("local.get 3 i32.const 65537 i32.lt_u"), "the module traps"),
-]
-OF_UPDATE = [
-    ("a selection by a digit that does not wait", DECODED, SELECTED.format(
-        "local.get 1 local.get 12 i32.add i32.const 1 i32.sub"), SECRET),
-    ("a selection by another digit", DECODED, SELECTED.format("local.get 1"), SECRET),
-]
-
-
-def changed(old, new):
-    """The committed module with another text in its code."""
-    text = subprocess.run(["wasm2wat", MODULE_FILE], check=True, capture_output=True, text=True).stdout
-    code, *data = text.partition("(data")
-    code = " ".join(re.sub(";;.*", "", code).split())
-    assert code.count(old) == 1, old
-    return assembled(code.replace(old, new) + "".join(data))
 
 
 def made(changes):
@@ -140,52 +84,4 @@ def made(changes):
     for old in changes.keys() - places.keys():
         assert old in text, old
         text = text.replace(old, changes[old])
-    return assembled(text.format_map(places | {name: text for name, text in changes.items() if name in places}))
-
-
-@unittest.skipUnless(shutil.which("wat2wasm"), "wat2wasm is missing")
-class TestWrongModule(unittest.TestCase):
-    def prove(self, content, said=None, contract=CheckRaw, case=slice(None)):
-        with self.assertRaisesRegex((Refused, ValueError), said) if said else contextlib.nullcontext():
-            code = Code(content, {None: webassembly}, callees.IMPORTED, callees.LOCAL)
-            starts = contract().starts(code)
-            run(code, starts[case], heads(code, starts[0].at), guess)
-
-    def test_wrong_modules_are_refused(self):
-        for what, changes, said in WRONG:
-            with self.subTest(what):
-                self.prove(made(changes), said)
-
-    def test_right_modules_are_proved(self):
-        for what, changes in RIGHT:
-            with self.subTest(what):
-                self.prove(made(changes))
-
-    def test_a_wrong_search_is_refused(self):
-        for what, old, new, said in OF_FAIL:
-            with self.subTest(what):
-                self.prove(changed(old, new), said, DecoderFail)
-
-    def test_a_wrong_decoder_is_refused(self):
-        for what, old, new, said in OF_UPDATE:
-            with self.subTest(what):
-                self.prove(changed(old, new), said, DecoderUpdate, LATER)
-
-    def test_a_right_decoder_is_proved(self):
-        """A length that is passed is a number of 32 bits."""
-        new = "local.get 1 local.get 12 i32.const -1 i32.add i32.const 1 i32.add call 7"
-        self.prove(changed("local.get 1 local.get 12 call 7", new), None, DecoderUpdate, LATER_WITHOUT_SPACE)
-
-    def test_vectors_are_used(self):
-        """Each loop of the module takes 16 bytes or more at once, but for those that search, which are three."""
-        blocks, loops = [], []
-        for line in text_of(WASM).splitlines():
-            if line in ("block", "loop"):
-                blocks.append((line, []))
-            elif line == "end":
-                kind, lines = blocks.pop()
-                (loops if kind == "loop" else blocks[-1][1] if blocks else []).append(lines)
-            elif blocks:
-                blocks[-1][1].append(line)
-        has_vectors = ["v128.load" in str(lines) for lines in loops]
-        self.assertEqual((has_vectors.count(True), has_vectors.count(False)), (5, 3))
+    return assembled_module(text.format_map(places | {name: text for name, text in changes.items() if name in places}))
