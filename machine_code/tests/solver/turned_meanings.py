@@ -86,6 +86,7 @@ REASONS = {
         "x86_64_vectors VECTORS: 'movdqu' <-> 'movdqa'",
         "x86_64 State.lane: self.is_legacy and (size or o.size) == 16 -> self.is_legacy or (size or o.size) == 16",
         "x86_64 State.lane: (size or o.size) == 16 -> (size or o.size) != 16",
+        "x86_64 State.lane: size or o.size -> size and o.size (3)",
         *[f"x86_64_vectors VECTORS.{name}: {change}" for names, change in (
             (("movdqa", "movaps"), "True -> False"), (("movdqu", "movups"), "False -> True")) for name in names]),
 }
