@@ -162,13 +162,6 @@ class Object:
                 return section
         return None
 
-    @functools.lru_cache(None)
-    def place_named_at(self, address):
-        """The place that the instruction at an address refers to by a relocation, or None."""
-        section = self.section_at(address)
-        places = {section.address + at: symbol + addend for at, _, symbol, addend in section.references}
-        return places.get(address)
-
     def name_at(self, address):
         """Where an address is, for messages."""
         if type(address) is not int:

@@ -56,6 +56,8 @@ LAST_TWO = ("If", "either", "Concat", "ULT", "ULE", "UGT", "UGE")
 REASONS = {
     "it means the same": (
         *[f"aarch64 {name}: 4 -> 5" for name in ("page", "load")],
+        # a register as a whole, or as its bytes; and a number of 64 bits that is below 2^32
+        "x86_64 State.number: 8 -> 9 (2)", "webassembly : z3.LShR -> lambda a, by: a >> by",
         # which node.py alone reads
         "webassembly computes: handler.takes = takes -> pass",
         "aarch64_vectors narrow: z3.LShR -> lambda a, by: a >> by",
@@ -83,6 +85,8 @@ REASONS = {
     "test_wrong.py has programs with accesses that are not aligned": (
         "x86_64_vectors VECTORS: 'movdqu' <-> 'movdqa'",
         "x86_64 State.lane: self.is_legacy and (size or o.size) == 16 -> self.is_legacy or (size or o.size) == 16",
+        "x86_64 State.lane: (size or o.size) == 16 -> (size or o.size) != 16",
+        "x86_64 State.lane: size or o.size -> size and o.size (3)",
         *[f"x86_64_vectors VECTORS.{name}: {change}" for names, change in (
             (("movdqa", "movaps"), "True -> False"), (("movdqu", "movups"), "False -> True")) for name in names]),
 }
