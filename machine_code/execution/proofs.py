@@ -23,7 +23,7 @@ from solver import questions, second
 from solver.questions import Refused
 
 PROCESSORS = {X86_64: x86_64, AARCH64: aarch64, None: webassembly}
-# So many questions of each part go to the second solver, too.
+# So many questions of each function go to the second solver, too.
 SAMPLE = 100
 
 
@@ -66,7 +66,7 @@ def task(job):
     try:
         count = prove(content, build, contract, slice(part, None, contract.parts))
         outcome = f"proved at every length: {count} paths, {questions.counts['asked']} questions"
-        if others := second.disagreements(questions.proved, None if is_whole else SAMPLE):
+        if others := second.disagreements(questions.proved, None if is_whole else SAMPLE // contract.parts):
             fault = f"cvc5 says {others[0][1]}: {others[0][0]}"
     except (Refused, ValueError) as refused:
         fault = refused

@@ -28,7 +28,7 @@ MORE = {
         msub w0, w1, w2, wzr; movk x0, #0xcccd; movk x0, #0x1234, lsl #48; movk w0, #0x7374, lsl #16
         bfxil w0, w1, #2, #1; bfxil x0, x1, #0, #9; adds x0, x1, w2, uxtw; cmp x0, x1, lsr #1
         tbz x0, #63, 1f; nop; nop; 1: nop; tbnz w0, #3, 1f; nop; nop; 1: nop
-        b.ls 1f; nop; nop; 1: nop; b.gt 1f; nop; nop; 1: nop
+        b.ls 1f; nop; nop; 1: nop; b.gt 1f; nop; nop; 1: nop; ldr x0, [x1, x2, lsl #3]
         cset w0, eq; cset w0, ne; cset w0, cs; cset w0, cc; cset w0, hi; cset w0, ls; cset w0, gt; cset w0, le
         adrp x0, more + 16; add x0, x0, :lo12:more + 16; ldr q0, [x0, :lo12:more + 16]
         .section .rodata.more, "a"; .balign 16; more: .skip 16; .ascii "0123456789abcdef" """,
