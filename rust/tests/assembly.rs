@@ -16,13 +16,13 @@ macro_rules! sums {
 #[test]
 fn the_assembly_is_unchanged() {
     for (file, found, wanted) in sums! {
-        "aarch64.s" 0x761f_51fc_0192_5961
+        "aarch64.s" 0xc1c8_2fa8_7871_8e1b
         "coff.s" 0x5b84_25b7_b0d1_360b
         "elf.s" 0xd057_d416_4c97_a972
         "end.s" 0x98e7_fc1e_20c1_9e86
         "mach_o.s" 0x8d5a_52d3_2515_a02d
-        "x86_64_v2.s" 0x2fd0_0f9f_f8f4_41a3
-        "x86_64_v3.s" 0x4715_d79d_1db6_a19f
+        "x86_64_v2.s" 0x366a_f953_2591_8d3c
+        "x86_64_v3.s" 0x982d_bae8_351f_b84c
     } {
         assert_eq!(found, wanted, "{file}: {found:#x}");
     }

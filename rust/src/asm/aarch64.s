@@ -293,18 +293,18 @@
 	b.cc 5f
 	ldp q1, q2, [x0]
 	cmp w3, #0x0
-	mov w8, #0x20
-	mov w9, #0x30
-	csel x8, x9, x8, ne
+	mov w8, #0x10
 	adrp_label x9, const_hex_1_0_0_constant_2
 	add_label x9, x9, const_hex_1_0_0_constant_2
+	csel x8, x8, xzr, ne
+	mov w10, #0x30
 	uxtl2 v3.8h, v1.16b
 	uxtl v1.8h, v1.8b
 	uxtl2 v4.8h, v2.16b
 	uxtl v2.8h, v2.8b
 	ldr q0, [x9, x8]
-	mov w8, #0x10
-	csel x8, x8, xzr, ne
+	mov w8, #0x20
+	csel x8, x10, x8, ne
 	mul v3.8h, v0.8h, v3.8h
 	mul v5.8h, v0.8h, v1.8h
 	mul v4.8h, v0.8h, v4.8h
@@ -345,17 +345,17 @@
 	stp q0, q4, [x8, #32]
 	ret
 2:
-	adrp_label x8, const_hex_1_0_0_constant_2
-	add_label x8, x8, const_hex_1_0_0_constant_2
-	and x9, x1, #0x10
 	cmp w3, #0x0
-	mov w10, #0x10
-	add x9, x8, x9
-	csel x10, x10, xzr, ne
-	ldr q1, [x9, #32]
-	mov x9, x0
-	ldr q0, [x8, x10]
+	mov w9, #0x20
+	mov w10, #0x30
+	and x8, x1, #0x10
+	adrp_label x11, const_hex_1_0_0_constant_2
+	add_label x11, x11, const_hex_1_0_0_constant_2
+	csel x9, x10, x9, ne
+	ldr q1, [x11, x8]
 	mov x8, x2
+	ldr q0, [x11, x9]
+	mov x9, x0
 	mov x10, x1
 3:
 	ldp q2, q3, [x9]
@@ -452,16 +452,16 @@
 	b.cc 7f
 	ldr q1, [x0]
 	cmp w3, #0x0
-	mov w8, #0x20
-	mov w9, #0x30
-	csel x8, x9, x8, ne
+	mov w8, #0x10
 	adrp_label x9, const_hex_1_0_0_constant_2
 	add_label x9, x9, const_hex_1_0_0_constant_2
+	csel x8, x8, xzr, ne
 	uxtl v2.8h, v1.8b
 	uxtl2 v1.8h, v1.16b
 	ldr q0, [x9, x8]
-	mov w8, #0x10
-	csel x8, x8, xzr, ne
+	mov w8, #0x20
+	mov w10, #0x30
+	csel x8, x10, x8, ne
 	mul v2.8h, v0.8h, v2.8h
 	mul v3.8h, v0.8h, v1.8h
 	ldr q1, [x9, x8]
@@ -480,16 +480,16 @@
 	movi v0.16b, #0x0
 	ldrb w8, [x0]
 	cmp w3, #0x0
-	mov w9, #0x30
-	mov v0.b[0], w8
-	mov v0.b[1], w8
-	mov w8, #0x20
-	csel x8, x9, x8, ne
 	adrp_label x9, const_hex_1_0_0_constant_2
 	add_label x9, x9, const_hex_1_0_0_constant_2
-	ldr q1, [x9, x8]
+	mov w10, #0x30
+	mov v0.b[0], w8
+	mov v0.b[1], w8
 	mov w8, #0x10
 	csel x8, x8, xzr, ne
+	ldr q1, [x9, x8]
+	mov w8, #0x20
+	csel x8, x10, x8, ne
 	uxtl v0.8h, v0.8b
 	mul v0.8h, v1.8h, v0.8h
 	ldr q1, [x9, x8]
@@ -519,16 +519,16 @@
 	ldr d0, [x0]
 	cmp w3, #0x0
 	ldur d1, [x8, #-8]
-	mov w9, #0x20
+	mov w9, #0x10
 	mov w10, #0x30
-	csel x8, x10, x9, ne
+	csel x8, x9, xzr, ne
 	adrp_label x9, const_hex_1_0_0_constant_2
 	add_label x9, x9, const_hex_1_0_0_constant_2
 	uxtl v0.8h, v0.8b
 	uxtl v1.8h, v1.8b
 	ldr q2, [x9, x8]
-	mov w8, #0x10
-	csel x8, x8, xzr, ne
+	mov w8, #0x20
+	csel x8, x10, x8, ne
 	mul v0.8h, v2.8h, v0.8h
 	mul v1.8h, v2.8h, v1.8h
 	ldr q2, [x9, x8]
@@ -547,16 +547,16 @@
 	ldr s0, [x0]
 	cmp w3, #0x0
 	sub x8, x8, #0x4
-	mov w9, #0x30
-	ld1 {v0.s}[1], [x8]
-	mov w8, #0x20
-	csel x8, x9, x8, ne
 	adrp_label x9, const_hex_1_0_0_constant_2
 	add_label x9, x9, const_hex_1_0_0_constant_2
-	ldr q1, [x9, x8]
+	ld1 {v0.s}[1], [x8]
 	mov w8, #0x10
-	uxtl v0.8h, v0.8b
+	mov w10, #0x30
 	csel x8, x8, xzr, ne
+	ldr q1, [x9, x8]
+	mov w8, #0x20
+	uxtl v0.8h, v0.8b
+	csel x8, x10, x8, ne
 	mul v0.8h, v1.8h, v0.8h
 	ldr q1, [x9, x8]
 	add x8, x2, x1, lsl #1
@@ -572,16 +572,16 @@
 	ldr h0, [x0]
 	cmp w3, #0x0
 	sub x8, x8, #0x2
-	mov w9, #0x30
-	ld1 {v0.h}[1], [x8]
-	mov w8, #0x20
-	csel x8, x9, x8, ne
 	adrp_label x9, const_hex_1_0_0_constant_2
 	add_label x9, x9, const_hex_1_0_0_constant_2
-	ldr q1, [x9, x8]
+	ld1 {v0.h}[1], [x8]
 	mov w8, #0x10
-	uxtl v0.8h, v0.8b
+	mov w10, #0x30
 	csel x8, x8, xzr, ne
+	ldr q1, [x9, x8]
+	mov w8, #0x20
+	uxtl v0.8h, v0.8b
+	csel x8, x10, x8, ne
 	mul v0.8h, v1.8h, v0.8h
 	ldr q1, [x9, x8]
 	ushr v0.8h, v0.8h, #4
@@ -619,9 +619,6 @@
 	mov x10, xzr
 	b.cc 4f
 	and x11, x3, #0x10
-	adrp_label x12, const_hex_1_0_0_constant_2
-	add_label x12, x12, const_hex_1_0_0_constant_2
-	add x11, x12, x11
 	add x12, x0, #0x40
 	mov x13, x3
 3:
@@ -690,8 +687,10 @@
 	orr w14, w14, w14, lsr #8
 	tst w14, #0xff
 	b.ne 4f
-	ldr q16, [x11, #32]
+	adrp_label x14, const_hex_1_0_0_constant_2
+	add_label x14, x14, const_hex_1_0_0_constant_2
 	sub x13, x13, #0x40
+	ldr q16, [x14, x11]
 	add x14, x2, x10
 	cmp x13, #0x3f
 	add x10, x10, #0x40
@@ -1032,8 +1031,7 @@
 	.byte 0x01, 0x0a, 0x0b, 0x0c, 0x0d, 0x0e, 0x0f, 0x08, 0x09, 0x0a, 0x00, 0x00, 0x00, 0x00, 0x00, 0x00
 
 	constant const_hex_1_0_0_constant_2, 0
+	.byte 0x01, 0x10, 0x01, 0x10, 0x01, 0x10, 0x01, 0x10, 0x01, 0x10, 0x01, 0x10, 0x01, 0x10, 0x01, 0x10
+	.byte 0x01, 0x10, 0x01, 0x10, 0x01, 0x10, 0x01, 0x10, 0x01, 0x10, 0x01, 0x10, 0x01, 0x10, 0x01, 0x10
 	.byte 0x30, 0x31, 0x32, 0x33, 0x34, 0x35, 0x36, 0x37, 0x38, 0x39, 0x61, 0x62, 0x63, 0x64, 0x65, 0x66
 	.byte 0x30, 0x31, 0x32, 0x33, 0x34, 0x35, 0x36, 0x37, 0x38, 0x39, 0x41, 0x42, 0x43, 0x44, 0x45, 0x46
-	.byte 0x01, 0x10, 0x01, 0x10, 0x01, 0x10, 0x01, 0x10, 0x01, 0x10, 0x01, 0x10, 0x01, 0x10, 0x01, 0x10
-	.byte 0x01, 0x10, 0x01, 0x10, 0x01, 0x10, 0x01, 0x10, 0x01, 0x10, 0x01, 0x10, 0x01, 0x10, 0x01, 0x10
-	.byte 0x00, 0x00, 0x00, 0x00, 0x00, 0x00, 0x00, 0x00, 0x00, 0x00, 0x00, 0x00, 0x00, 0x00, 0x00, 0x00

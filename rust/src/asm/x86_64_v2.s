@@ -255,8 +255,8 @@
 	lea    rax,[rip + const_hex_1_0_0_constant_4_v2]
 	movzx  ecx,cl
 	shl    ecx,0x4
-	movdqu xmm0,XMMWORD PTR [rcx+rax*1]
-	movdqu xmm1,XMMWORD PTR [rcx+rax*1+0x20]
+	movdqu xmm1,XMMWORD PTR [rcx+rax*1]
+	movdqu xmm0,XMMWORD PTR [rcx+rax*1+0x20]
 	pmullw xmm3,xmm1
 	pmullw xmm2,xmm1
 	psrlw  xmm2,0x4
@@ -287,10 +287,10 @@
 	mov    eax,esi
 	and    eax,0x10
 	lea    r8,[rip + const_hex_1_0_0_constant_4_v2]
-	movdqu xmm1,XMMWORD PTR [rax+r8*1+0x20]
+	movdqu xmm1,XMMWORD PTR [rax+r8*1]
 	movzx  eax,cl
 	shl    eax,0x4
-	movdqu xmm0,XMMWORD PTR [rax+r8*1]
+	movdqu xmm0,XMMWORD PTR [rax+r8*1+0x20]
 	xor    ecx,ecx
 	mov    rax,rsi
 	.byte 0xf, 0x1f, 0x0  /* nop    DWORD PTR [rax] */
@@ -408,8 +408,8 @@
 	lea    rax,[rip + const_hex_1_0_0_constant_4_v2]
 	movzx  ecx,cl
 	shl    ecx,0x4
-	movdqu xmm0,XMMWORD PTR [rcx+rax*1]
-	movdqu xmm1,XMMWORD PTR [rcx+rax*1+0x20]
+	movdqu xmm1,XMMWORD PTR [rcx+rax*1]
+	movdqu xmm0,XMMWORD PTR [rcx+rax*1+0x20]
 	pmullw xmm3,xmm1
 	pmullw xmm2,xmm1
 	psrlw  xmm2,0x4
@@ -439,36 +439,36 @@
 	jne    8f
 	movzx  eax,BYTE PTR [rdi]
 	lea    rsi,[rip + const_hex_1_0_0_constant_4_v2]
-	movzx  ecx,cl
-	shl    ecx,0x4
-	movdqu xmm0,XMMWORD PTR [rcx+rsi*1]
-	movdqu xmm1,XMMWORD PTR [rcx+rsi*1+0x20]
-	movd   xmm2,eax
-	pinsrb xmm2,eax,0x2
-	pmullw xmm2,xmm1
-	psrlw  xmm2,0x4
-	pshufb xmm0,xmm2
+	movd   xmm0,eax
+	pinsrb xmm0,eax,0x2
+	movzx  eax,cl
+	shl    eax,0x4
+	movdqu xmm1,XMMWORD PTR [rax+rsi*1]
+	pmullw xmm1,xmm0
+	movdqu xmm0,XMMWORD PTR [rax+rsi*1+0x20]
+	psrlw  xmm1,0x4
+	pshufb xmm0,xmm1
 	pextrw WORD PTR [rdx],xmm0,0x1
 	ret
 8:
 	cmp    rsi,0x8
 	jb     9f
+	pmovzxbw xmm0,QWORD PTR [rdi+rsi*1-0x8]
 	lea    rax,[rip + const_hex_1_0_0_constant_4_v2]
+	pmovzxbw xmm1,QWORD PTR [rdi]
 	movzx  ecx,cl
 	shl    ecx,0x4
-	movdqu xmm0,XMMWORD PTR [rcx+rax*1]
-	pmovzxbw xmm1,QWORD PTR [rdi+rsi*1-0x8]
-	movdqu xmm2,XMMWORD PTR [rcx+rax*1+0x20]
-	pmovzxbw xmm3,QWORD PTR [rdi]
+	movdqu xmm2,XMMWORD PTR [rcx+rax*1]
+	movdqu xmm3,XMMWORD PTR [rcx+rax*1+0x20]
+	pmullw xmm0,xmm2
 	pmullw xmm1,xmm2
-	pmullw xmm3,xmm2
+	psrlw  xmm0,0x4
 	psrlw  xmm1,0x4
-	psrlw  xmm3,0x4
-	movdqa xmm2,xmm0
-	pshufb xmm2,xmm3
-	pshufb xmm0,xmm1
+	movdqa xmm2,xmm3
+	pshufb xmm2,xmm1
+	pshufb xmm3,xmm0
 	movdqu XMMWORD PTR [rdx],xmm2
-	movdqu XMMWORD PTR [rdx+rsi*2-0x10],xmm0
+	movdqu XMMWORD PTR [rdx+rsi*2-0x10],xmm3
 	ret
 9:
 	cmp    rsi,0x4
@@ -476,16 +476,16 @@
 	movd   xmm0,DWORD PTR [rdi]
 	pinsrd xmm0,DWORD PTR [rdi+rsi*1-0x4],0x1
 	lea    rax,[rip + const_hex_1_0_0_constant_4_v2]
+	pmovzxbw xmm0,xmm0
 	movzx  ecx,cl
 	shl    ecx,0x4
 	movdqu xmm1,XMMWORD PTR [rcx+rax*1]
-	movdqu xmm2,XMMWORD PTR [rcx+rax*1+0x20]
-	pmovzxbw xmm0,xmm0
-	pmullw xmm0,xmm2
-	psrlw  xmm0,0x4
-	pshufb xmm1,xmm0
-	movq   QWORD PTR [rdx],xmm1
-	pextrq QWORD PTR [rdx+rsi*2-0x8],xmm1,0x1
+	pmullw xmm1,xmm0
+	movdqu xmm0,XMMWORD PTR [rcx+rax*1+0x20]
+	psrlw  xmm1,0x4
+	pshufb xmm0,xmm1
+	movq   QWORD PTR [rdx],xmm0
+	pextrq QWORD PTR [rdx+rsi*2-0x8],xmm0,0x1
 	ret
 12:
 	test   rsi,rsi
@@ -494,16 +494,16 @@
 	movd   xmm0,eax
 	pinsrw xmm0,WORD PTR [rdi+rsi*1-0x2],0x1
 	lea    rax,[rip + const_hex_1_0_0_constant_4_v2]
+	pmovzxbw xmm0,xmm0
 	movzx  ecx,cl
 	shl    ecx,0x4
 	movdqu xmm1,XMMWORD PTR [rcx+rax*1]
-	movdqu xmm2,XMMWORD PTR [rcx+rax*1+0x20]
-	pmovzxbw xmm0,xmm0
-	pmullw xmm0,xmm2
-	psrlw  xmm0,0x4
-	pshufb xmm1,xmm0
-	movd   DWORD PTR [rdx],xmm1
-	pextrd DWORD PTR [rdx+rsi*2-0x4],xmm1,0x1
+	pmullw xmm1,xmm0
+	movdqu xmm0,XMMWORD PTR [rcx+rax*1+0x20]
+	psrlw  xmm1,0x4
+	pshufb xmm0,xmm1
+	movd   DWORD PTR [rdx],xmm0
+	pextrd DWORD PTR [rdx+rsi*2-0x4],xmm0,0x1
 	ret
 	end const_hex_1_0_0_fill_v2
 
@@ -584,7 +584,7 @@
 	ptest  xmm5,XMMWORD PTR [rip + const_hex_1_0_0_constant_3_v2]
 	jne    4f
 	lea    r9,[rip + const_hex_1_0_0_constant_4_v2]
-	movdqu xmm5,XMMWORD PTR [rax+r9*1+0x20]
+	movdqu xmm5,XMMWORD PTR [rax+r9*1]
 	pmullw xmm0,xmm5
 	pmullw xmm3,xmm5
 	pmullw xmm2,xmm5
@@ -618,7 +618,7 @@
 	sub    rax,rsi
 	cmp    rax,0x20
 	jb     7f
-	.byte 0x66, 0x66, 0x2e, 0xf, 0x1f, 0x84, 0x0, 0x0, 0x0, 0x0, 0x0  /* data16 cs nop WORD PTR [rax+rax*1+0x0] */
+	.byte 0x66, 0x66, 0x66, 0x2e, 0xf, 0x1f, 0x84, 0x0, 0x0, 0x0, 0x0, 0x0  /* data16 data16 cs nop WORD PTR [rax+rax*1+0x0] */
 5:
 	movdqa xmm2,XMMWORD PTR [rip + const_hex_1_0_0_constant_1_v2]
 	movdqu xmm7,XMMWORD PTR [rdi+rsi*2]
@@ -886,8 +886,7 @@
 	.byte 0xd8, 0xd8, 0xd8, 0xd8, 0xd8, 0xd8, 0xd8, 0xd8, 0xd8, 0xd8, 0xd8, 0xd8, 0xd8, 0xd8, 0xd8, 0xd8
 
 	constant const_hex_1_0_0_constant_4_v2, 0
+	.byte 0x01, 0x10, 0x01, 0x10, 0x01, 0x10, 0x01, 0x10, 0x01, 0x10, 0x01, 0x10, 0x01, 0x10, 0x01, 0x10
+	.byte 0x01, 0x10, 0x01, 0x10, 0x01, 0x10, 0x01, 0x10, 0x01, 0x10, 0x01, 0x10, 0x01, 0x10, 0x01, 0x10
 	.byte 0x30, 0x31, 0x32, 0x33, 0x34, 0x35, 0x36, 0x37, 0x38, 0x39, 0x61, 0x62, 0x63, 0x64, 0x65, 0x66
 	.byte 0x30, 0x31, 0x32, 0x33, 0x34, 0x35, 0x36, 0x37, 0x38, 0x39, 0x41, 0x42, 0x43, 0x44, 0x45, 0x46
-	.byte 0x01, 0x10, 0x01, 0x10, 0x01, 0x10, 0x01, 0x10, 0x01, 0x10, 0x01, 0x10, 0x01, 0x10, 0x01, 0x10
-	.byte 0x01, 0x10, 0x01, 0x10, 0x01, 0x10, 0x01, 0x10, 0x01, 0x10, 0x01, 0x10, 0x01, 0x10, 0x01, 0x10
-	.byte 0x00, 0x00, 0x00, 0x00, 0x00, 0x00, 0x00, 0x00, 0x00, 0x00, 0x00, 0x00, 0x00, 0x00, 0x00, 0x00

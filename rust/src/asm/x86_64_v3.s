@@ -193,10 +193,10 @@
 	lea    rax,[rip + const_hex_1_0_0_constant_7_v3]
 	movzx  ecx,cl
 	shl    ecx,0x4
-	vbroadcasti128 ymm0,XMMWORD PTR [rcx+rax*1+0x20]
+	vbroadcasti128 ymm0,XMMWORD PTR [rcx+rax*1]
 	vpmullw ymm1,ymm0,ymm1
 	vpsrlw ymm2,ymm1,0x4
-	vbroadcasti128 ymm1,XMMWORD PTR [rcx+rax*1]
+	vbroadcasti128 ymm1,XMMWORD PTR [rcx+rax*1+0x20]
 	vpshufb ymm2,ymm1,ymm2
 	vpmovzxbw ymm3,XMMWORD PTR [rdi+0x10]
 	vpmullw ymm3,ymm0,ymm3
@@ -213,10 +213,10 @@
 	mov    eax,esi
 	and    eax,0x10
 	lea    r8,[rip + const_hex_1_0_0_constant_7_v3]
-	vbroadcasti128 ymm0,XMMWORD PTR [rax+r8*1+0x20]
+	vbroadcasti128 ymm0,XMMWORD PTR [rax+r8*1]
 	movzx  eax,cl
 	shl    eax,0x4
-	vbroadcasti128 ymm1,XMMWORD PTR [rax+r8*1]
+	vbroadcasti128 ymm1,XMMWORD PTR [rax+r8*1+0x20]
 	xor    ecx,ecx
 	mov    rax,rsi
 	.byte 0xf, 0x1f, 0x40, 0x0  /* nop    DWORD PTR [rax+0x0] */
@@ -279,10 +279,10 @@
 	lea    rax,[rip + const_hex_1_0_0_constant_7_v3]
 	movzx  ecx,cl
 	shl    ecx,0x4
-	vbroadcasti128 ymm0,XMMWORD PTR [rcx+rax*1+0x20]
+	vbroadcasti128 ymm0,XMMWORD PTR [rcx+rax*1]
 	vpmullw ymm1,ymm0,ymm1
 	vpsrlw ymm2,ymm1,0x4
-	vbroadcasti128 ymm1,XMMWORD PTR [rcx+rax*1]
+	vbroadcasti128 ymm1,XMMWORD PTR [rcx+rax*1+0x20]
 	vpshufb ymm2,ymm1,ymm2
 	vmovdqu YMMWORD PTR [rdx],ymm2
 	cmp    rsi,0x10
@@ -304,9 +304,9 @@
 	vpmovzxbw xmm0,xmm0
 	movzx  ecx,cl
 	shl    ecx,0x4
-	vpmullw xmm0,xmm0,XMMWORD PTR [rcx+rax*1+0x20]
+	vpmullw xmm0,xmm0,XMMWORD PTR [rcx+rax*1]
 	vpsrlw xmm0,xmm0,0x4
-	vmovdqu xmm1,XMMWORD PTR [rcx+rax*1]
+	vmovdqu xmm1,XMMWORD PTR [rcx+rax*1+0x20]
 	vpshufb xmm0,xmm1,xmm0
 	vpextrw WORD PTR [rdx],xmm0,0x1
 	ret
@@ -320,10 +320,10 @@
 	vpmovzxbw ymm0,xmm0
 	movzx  ecx,cl
 	shl    ecx,0x4
-	vbroadcasti128 ymm1,XMMWORD PTR [rcx+rax*1+0x20]
+	vbroadcasti128 ymm1,XMMWORD PTR [rcx+rax*1]
 	vpmullw ymm0,ymm1,ymm0
 	vpsrlw ymm0,ymm0,0x4
-	vbroadcasti128 ymm1,XMMWORD PTR [rcx+rax*1]
+	vbroadcasti128 ymm1,XMMWORD PTR [rcx+rax*1+0x20]
 	vpshufb ymm0,ymm1,ymm0
 	vmovdqu XMMWORD PTR [rdx],xmm0
 	vextracti128 XMMWORD PTR [rdx+rsi*2-0x10],ymm0,0x1
@@ -339,9 +339,9 @@
 	vpmovzxbw xmm0,xmm0
 	movzx  ecx,cl
 	shl    ecx,0x4
-	vpmullw xmm0,xmm0,XMMWORD PTR [rcx+rax*1+0x20]
+	vpmullw xmm0,xmm0,XMMWORD PTR [rcx+rax*1]
 	vpsrlw xmm0,xmm0,0x4
-	vmovdqu xmm1,XMMWORD PTR [rcx+rax*1]
+	vmovdqu xmm1,XMMWORD PTR [rcx+rax*1+0x20]
 	vpshufb xmm0,xmm1,xmm0
 	vmovq  QWORD PTR [rdx],xmm0
 	vpextrq QWORD PTR [rdx+rsi*2-0x8],xmm0,0x1
@@ -356,9 +356,9 @@
 	vpmovzxbw xmm0,xmm0
 	movzx  ecx,cl
 	shl    ecx,0x4
-	vpmullw xmm0,xmm0,XMMWORD PTR [rcx+rax*1+0x20]
+	vpmullw xmm0,xmm0,XMMWORD PTR [rcx+rax*1]
 	vpsrlw xmm0,xmm0,0x4
-	vmovdqu xmm1,XMMWORD PTR [rcx+rax*1]
+	vmovdqu xmm1,XMMWORD PTR [rcx+rax*1+0x20]
 	vpshufb xmm0,xmm1,xmm0
 	vmovd  DWORD PTR [rdx],xmm0
 	vpextrd DWORD PTR [rdx+rsi*2-0x4],xmm0,0x1
@@ -412,7 +412,7 @@
 	vptest ymm4,ymm5
 	jne    4f
 	lea    r9,[rip + const_hex_1_0_0_constant_7_v3]
-	vbroadcasti128 ymm4,XMMWORD PTR [rax+r9*1+0x20]
+	vbroadcasti128 ymm4,XMMWORD PTR [rax+r9*1]
 	vpmullw ymm0,ymm4,ymm0
 	vpmullw ymm1,ymm4,ymm1
 	vpsrlw ymm1,ymm1,0x8
@@ -436,7 +436,7 @@
 	sub    rax,rsi
 	cmp    rax,0x20
 	jb     7f
-	.byte 0xf, 0x1f, 0x40, 0x0  /* nop    DWORD PTR [rax+0x0] */
+	.byte 0xf, 0x1f, 0x44, 0x0, 0x0  /* nop    DWORD PTR [rax+rax*1+0x0] */
 5:
 	vmovdqu ymm0,YMMWORD PTR [rdi+rsi*2]
 	vmovdqu ymm1,YMMWORD PTR [rdi+rsi*2+0x20]
@@ -677,11 +677,10 @@
 	.byte 0xd0, 0xd0, 0xd0, 0xd0, 0xd0, 0xd0, 0xd0, 0xd0, 0xd0, 0xd0, 0xd0, 0xd0, 0xd0, 0xd0, 0xd0, 0xd0
 
 	constant const_hex_1_0_0_constant_7_v3, 0
+	.byte 0x01, 0x10, 0x01, 0x10, 0x01, 0x10, 0x01, 0x10, 0x01, 0x10, 0x01, 0x10, 0x01, 0x10, 0x01, 0x10
+	.byte 0x01, 0x10, 0x01, 0x10, 0x01, 0x10, 0x01, 0x10, 0x01, 0x10, 0x01, 0x10, 0x01, 0x10, 0x01, 0x10
 	.byte 0x30, 0x31, 0x32, 0x33, 0x34, 0x35, 0x36, 0x37, 0x38, 0x39, 0x61, 0x62, 0x63, 0x64, 0x65, 0x66
 	.byte 0x30, 0x31, 0x32, 0x33, 0x34, 0x35, 0x36, 0x37, 0x38, 0x39, 0x41, 0x42, 0x43, 0x44, 0x45, 0x46
-	.byte 0x01, 0x10, 0x01, 0x10, 0x01, 0x10, 0x01, 0x10, 0x01, 0x10, 0x01, 0x10, 0x01, 0x10, 0x01, 0x10
-	.byte 0x01, 0x10, 0x01, 0x10, 0x01, 0x10, 0x01, 0x10, 0x01, 0x10, 0x01, 0x10, 0x01, 0x10, 0x01, 0x10
-	.byte 0x00, 0x00, 0x00, 0x00, 0x00, 0x00, 0x00, 0x00, 0x00, 0x00, 0x00, 0x00, 0x00, 0x00, 0x00, 0x00
 
 	constant const_hex_1_0_0_constant_8_v3, 4
 	.byte 0x01, 0x03, 0x05, 0x07, 0x09, 0x0b, 0x0d, 0x0f, 0x00, 0x00, 0x00, 0x00, 0x00, 0x00, 0x00, 0x00

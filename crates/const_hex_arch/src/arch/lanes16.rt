@@ -21,22 +21,16 @@ use std::simd::prelude::*;
 // the value itself, `P`, `W`, `X` and `Y` would leave the mark 32, and pass as digits.
 const LIMITS: [u8; 16] = [1, 10, 11, 12, 13, 14, 15, 8, 9, 10, 0, 0, 0, 0, 0, 0];
 
-/// The 16 digits in lowercase and in uppercase, and two equal rows of the factor 4097 in each lane of 16
-/// bits.
+/// Two equal rows of the factor 4097 in each lane of 16 bits, and the 16 digits in lowercase and in
+/// uppercase.
 // Why two: a compiler that knows a factor of 4097 multiplies by a shift and a sum (LLVM 22, for x86-64),
 // which costs more instructions. In Rattle's build these are 2361 in place of 1823 to encode 2047 bytes,
 // and 3645 in place of 3347 to decode to 2048; by rustc 1.95 with AVX2, 1919 in place of 1827 to decode.
 // So `fill_in_steps`, and the loops of the decoders that take most of a long text, choose a row by a bit
 // that is known only at run time, and a short input takes the row of its case. All else takes the first
-// one: the choice would cost up to 4 instructions a call. The last row is never read. Without it all
-// factors would be the same, and the compiler would know them.
-const ROWS: &[[u8; 16]; 5] = &[
-    *b"0123456789abcdef",
-    *b"0123456789ABCDEF",
-    FACTORS,
-    FACTORS,
-    [0; 16],
-];
+// one: the choice would cost up to 4 instructions a call. They stand first, so that the offset of the chosen
+// row is one bit of the length: in WebAssembly, other places made a `select` of it.
+const ROWS: &[[u8; 16]; 4] = &[FACTORS, FACTORS, *b"0123456789abcdef", *b"0123456789ABCDEF"];
 
 const FACTORS: [u8; 16] = [1, 16, 1, 16, 1, 16, 1, 16, 1, 16, 1, 16, 1, 16, 1, 16];
 
@@ -45,7 +39,7 @@ const FACTORS: [u8; 16] = [1, 16, 1, 16, 1, 16, 1, 16, 1, 16, 1, 16, 1, 16, 1, 1
 fn digits_row(upper: bool) -> [u8; 16]
     ensures { result ≡ map (hex_digit upper) (range_with_len 0 16) }
 {
-    ROWS[if upper { 1 } else { 0 }]
+    ROWS[if upper { 3 } else { 2 }]
 }
 
 /// The factors, from the first row of them or the second. Both are equal, so no result depends on
@@ -54,7 +48,7 @@ fn digits_row(upper: bool) -> [u8; 16]
 pub(crate) fn factors_row(row_copy: bool) -> [u8; 16]
     ensures { result ≡ bytes_of_4097 }
 {
-    ROWS[if row_copy { 3 } else { 2 }]
+    ROWS[if row_copy { 1 } else { 0 }]
 }
 
 /// The row of factors for a loop over so many bytes. Any bit that is known only at run time would do.
