@@ -35,7 +35,7 @@ def read(section, processor, operands, command, text_of, is_same):
     """The instructions of a section, by address. `operands` reads what stands after a mnemonic. Those that the
     assembler makes otherwise have a reason why they are refused: `text_of` gives what is assembled for one, and
     `is_same` says of one whose bytes differ that they are right."""
-    found = _printed(section, processor, operands)
+    found = printed(section, processor, operands)
     made, said = _assembled(command, [text_of(i) for i in found.values()])
     for at, (address, i) in enumerate(found.items()):
         start = address - section.address
@@ -46,8 +46,8 @@ def read(section, processor, operands, command, text_of, is_same):
     return found
 
 
-def _printed(section, processor, operands):
-    """The instructions of a section, as `objdump` prints them."""
+def printed(section, processor, operands=lambda text: ()):
+    """The instructions of a section, by address, as `objdump` prints them."""
     command, comment = COMMANDS[processor]
     with tempfile.NamedTemporaryFile() as file:
         file.write(section.content)
