@@ -51,6 +51,8 @@ FUNCTIONS = """
   i32.const 7 i32.store8)
 (func (export "select") i32.const 64
   i32.const 0 i32.load i32.const 16 i32.load i32.const 32 i32.load8_u i32.const 1 i32.and select i32.store)
+(func (export "set") (local i32) i32.const 64 i32.const 0 i32.load local.set 0 local.get 0 i32.store)
+(func (export "wrap") i32.const 64 i32.const 0 i64.load i32.wrap_i64 i32.const 1 i32.shr_u i32.store)
 (func (export "local") (local v128) i32.const 64 local.get 0 v128.store)
 (func (export "global") block global.get 0 i32.const 0 i32.load i32.add global.set 0 br 0 end
   i32.const 64 global.get 0 i32.store i32.const 1024 global.set 0)

@@ -72,13 +72,27 @@ REASONS = {
         *[f"x86_64_vectors VECTORS.{name}: 1 -> 2" for name in ("por", "pxor", "xorps")],
         # what is never run is read, too
         "webassembly Block.__init__: False -> True",
+        "webassembly Reader.read: block.is_used and (not block.is_loop) -> block.is_used or not block.is_loop",
         # the kind of all operands
         "aarch64_vectors either: 0 -> 1",
         "webassembly State.leave_function: (f'local {number}.', f'operand {number}.') -> "
         "(f'operand {number}.', f'local {number}.')",
-        "webassembly State.leave_function: (self.general, self.vectors) -> (self.vectors, self.general)"),
-    "less is known of the flags, which refuses more": (
-        "x86_64 inc_dec.handler: s.flags or {} -> s.flags and {}",),
+        "webassembly State.leave_function: (self.general, self.vectors) -> (self.vectors, self.general)",
+        # sizes of 1, 2 or 8 bytes; one byte for each number; whether a number fits is asked of a cut one, too
+        "x86_64 State.put: 4 -> 5 (2)", "aarch64_vectors narrow: bytes_of -> list",
+        "webassembly State.fits: 1 << 32 -> 1 >> 32",
+        # an operand was taken before there is another one
+        "webassembly State.put: other.pop(name, None) -> pass"),
+    "less is known, which refuses more": (
+        "x86_64 inc_dec.handler: s.flags or {} -> s.flags and {}",
+        "x86_64_vectors vzeroupper: True -> False", "x86_64 State.put_vector: 16 -> 17 (2)",
+        *[f"webassembly State.put: (self.{one}, self.{other}) -> (self.{other}, self.{one})"
+          for one, other in (("general", "vectors"), ("vectors", "general"))]),
+    "wrong_forms.py has a flag that an instruction leaves as it was": (
+        "x86_64 inc_dec.handler: s.flags.pop('c') -> pass",),
+    "the proof of the module fails, which selects by what is not known": (
+        "webassembly select: z3.If(condition, *values) if truth is None else values[0 if truth else 1] -> "
+        "values[0 if truth else 1] if truth is None else z3.If(condition, *values)",),
     "test_wrong.py has programs with calls, returns and jumps": (
         "x86_64 HANDLERS: 'nop' <-> 'jmp'", "x86_64 HANDLERS: 'jmp' <-> 'call'", "x86_64 HANDLERS: 'call' <-> 'ret'",
         "x86_64 HANDLERS: 'cpuid' <-> 'xgetbv'", "aarch64 HANDLERS: 'bl' <-> 'ret'"),
@@ -246,10 +260,12 @@ class Compared:
         self.name, self.kind = name, re.sub("^functions_|_v[23]$", "", name)
         if name == "webassembly":
             self.runner, self.states = test_webassembly.Node(), test_webassembly.STATES
-            self.parts = [(text, text, text.split()[0]) for text in self.runner.names]
+            # A function of several instructions has the name that it is called by.
+            self.parts = [(text, text, {text.split()[0]} if text != name else {*test_webassembly.HANDLERS})
+                          for text, name in self.runner.names.items()]
         else:
             self.runner, self.states = test_meanings.processor(name), test_meanings.STATES
-            self.parts = [(form, i, form.split()[0]) for form, found in self.runner.forms.items() for i in found]
+            self.parts = [(form, i, {form.split()[0]}) for form, found in self.runner.forms.items() for i in found]
         meanings = sys.modules[f"meanings.{self.kind}"]
         # The lines that run when instructions are read, and those that run when one of each form does.
         self.reading = traced(lambda: self._read(meanings))
@@ -276,11 +292,11 @@ class Compared:
         is_all = around & self.reading or not around and not concerned
         # The functions that add instructions for WebAssembly run when the file is loaded, and say how they are read.
         is_read = is_all or self.name == "webassembly"
-        parts = [at for at, (_, _, mnemonic) in enumerate(self.parts)
-                 if is_all or around & self.lines[at] or concerned & {mnemonic, mnemonic.removeprefix("v")}]
+        parts = [at for at, (_, _, mnemonics) in enumerate(self.parts) if is_all or around & self.lines[at]
+                 or concerned & (mnemonics | {mnemonic.removeprefix("v") for mnemonic in mnemonics})]
         text = (MEANINGS / f"{file}.py").read_text().splitlines()[place.node.lineno - 1]
         parts.sort(key=lambda at: ((file, place.node.lineno) not in self.lines[at],
-                                   f'{self.parts[at][2]}"' not in text))
+                                   not any(f'{mnemonic}"' in text for mnemonic in self.parts[at][2])))
         try:
             code = self._read(meanings) if is_read else copy.copy(self.runner.code)
         except Exception:

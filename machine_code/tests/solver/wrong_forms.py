@@ -42,6 +42,7 @@ WRONG = [
     ("a write of the second byte of a register", "v2", "mov ah, 5", "a write of the second byte"),
     ("a product of 32 bits", "v2", "mul ecx", "another size"),
     ("a shift by a vector", "v2", "psrlw xmm0, xmm1", "a shift"),
+    ("the carry after an increment", "v2", "shr eax, 1; inc eax; setb al", "a flag that is not known"),
     *((f"a place beyond a vector in {form}", level, form, "an index") for level, form in (
         ("v2", "pinsrb xmm0, eax, 16"), ("v2", "pextrw eax, xmm0, 8"), ("v3", "vinserti128 ymm0, ymm0, xmm0, 2"),
         ("v3", "vextracti128 xmm0, ymm0, 2"))),
