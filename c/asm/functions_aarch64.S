@@ -802,61 +802,127 @@
 	subs x10, x2, #0x4
 	adrp_label x8, const_hex_constant_8
 	add_label x8, x8, const_hex_constant_8
-	b.cs 5f
+	b.cs 4f
 	mov x9, xzr
 2:
 	cmp x9, x2
-	b.cs 4f
+	b.cs 6f
 3:
 	ldrb w10, [x1, x9]
 	ldrb w11, [x8, x10]
 	cmp w11, #0xff
-	b.eq 8f
+	b.eq 12f
 	add x9, x9, #0x1
 	cmp x2, x9
 	b.ne 3b
+	b 15f
 4:
+	ldrb w9, [x1]
+	ldrb w11, [x1, #1]
+	ldrb w12, [x8, x9]
+	ldrb w13, [x8, x11]
+	orr w12, w13, w12
+	tbz w12, #7, 5f
+	orr w9, w9, w11, lsl #8
+	mov w11, #0x7830
+	orr w9, w9, #0x2000
+	cmp w9, w11
+	b.ne 18f
+5:
+	cmp x10, #0x2
+	b.cs 8f
+	mov w9, #0x2
+	cmp x9, x2
+	b.cc 14f
+	b 17f
+6:
+	mov w10, wzr
+7:
+	mov w8, #0x2
+	str x9, [x0, #8]
+	stp w8, w10, [x0]
+	ret
+8:
+	mov x9, xzr
+9:
+	add x11, x1, x9
+	ldrb w12, [x11, #2]
+	ldrb w13, [x11, #3]
+	ldrb w12, [x8, x12]
+	ldrb w13, [x8, x13]
+	orr w12, w13, w12
+	tbnz w12, #7, 13f
+	ldrb w12, [x11, #4]
+	ldrb w11, [x11, #5]
+	ldrb w12, [x8, x12]
+	ldrb w11, [x8, x11]
+	orr w11, w11, w12
+	tbnz w11, #7, 16f
+	add x12, x9, #0x6
+	add x11, x9, #0x4
+	cmp x12, x10
+	mov x9, x11
+	b.ls 9b
+	add x9, x11, #0x2
+	cmp x9, x2
+	b.cc 14f
+	b 17f
+12:
+	mov w8, #0x2
+	str x9, [x0, #8]
+	stp w8, w10, [x0]
+	ret
+13:
+	add x9, x9, #0x2
+	cmp x9, x2
+	b.cs 17f
+14:
+	ldrb w10, [x1, x9]
+	ldrb w11, [x8, x10]
+	cmp w11, #0xff
+	b.eq 7b
+	add x9, x9, #0x1
+	cmp x2, x9
+	b.ne 14b
+15:
 	mov w10, wzr
 	mov w8, #0x2
 	str x2, [x0, #8]
 	stp w8, w10, [x0]
 	ret
-5:
-	ldrh w9, [x1]
-	mov w11, #0x7830
-	orr w9, w9, #0x2000
-	cmp w9, w11
-	mov x9, x2
-	b.ne 6f
-	sub x9, x2, #0x2
-6:
-	sub x9, x2, x9
-	cmp x9, x10
-	b.hi 2b
-7:
-	add x11, x1, x9
-	ldrb w12, [x11]
-	ldrb w13, [x11, #1]
-	ldrb w14, [x11, #2]
-	ldrb w11, [x11, #3]
-	ldrb w12, [x8, x12]
-	ldrb w13, [x8, x13]
-	ldrb w14, [x8, x14]
-	ldrb w11, [x8, x11]
-	orr w12, w13, w12
-	orr w11, w14, w11
-	orr w11, w12, w11
-	cmp w11, #0xf
-	b.hi 2b
+16:
 	add x9, x9, #0x4
-	cmp x9, x10
-	b.ls 7b
-	b 2b
-8:
+	cmp x9, x2
+	b.cc 14b
+17:
+	mov w10, wzr
 	mov w8, #0x2
 	str x9, [x0, #8]
 	stp w8, w10, [x0]
 	ret
+18:
+	mov x9, xzr
+19:
+	add x11, x1, x9
+	ldrb w12, [x11]
+	ldrb w13, [x11, #1]
+	ldrb w12, [x8, x12]
+	ldrb w13, [x8, x13]
+	orr w12, w13, w12
+	tbnz w12, #7, 2b
+	ldrb w12, [x11, #2]
+	ldrb w11, [x11, #3]
+	ldrb w12, [x8, x12]
+	ldrb w11, [x8, x11]
+	orr w11, w11, w12
+	tbnz w11, #7, 20f
+	add x9, x9, #0x4
+	cmp x9, x10
+	b.ls 19b
+	b 2b
+20:
+	add x9, x9, #0x2
+	b 2b
 	end const_hex_body_find_invalid_character
 
 /* const_hex::codec::decoder::decode_after */
@@ -937,49 +1003,52 @@
 	add x11, x3, x8
 	ldrb w12, [x11]
 	ldrb w13, [x11, #1]
-	ldrb w14, [x11, #2]
-	ldrb w11, [x11, #3]
 	ldrb w12, [x9, x12]
 	ldrb w13, [x9, x13]
-	ldrb w14, [x9, x14]
-	ldrb w11, [x9, x11]
 	orr w12, w13, w12
-	orr w11, w14, w11
-	orr w11, w12, w11
-	cmp w11, #0xf
-	b.hi 3f
+	tbnz w12, #7, 3f
+	ldrb w12, [x11, #2]
+	ldrb w11, [x11, #3]
+	ldrb w12, [x9, x12]
+	ldrb w11, [x9, x11]
+	orr w11, w11, w12
+	tbnz w11, #7, 5f
 	add x8, x8, #0x4
 	cmp x8, x10
 	b.ls 2b
 3:
 	cmp x8, x4
-	b.cs 5f
+	b.cs 6f
 4:
 	ldrb w10, [x3, x8]
 	ldrb w11, [x9, x10]
 	cmp w11, #0xff
-	b.eq 6f
+	b.eq 7f
 	add x8, x8, #0x1
 	cmp x4, x8
 	b.ne 4b
-5:
 	mov w10, wzr
+	mov x8, x4
 	b 7f
+5:
+	add x8, x8, #0x2
+	cmp x8, x4
+	b.cc 4b
 6:
-	mov x4, x8
+	mov w10, wzr
 7:
-	ldr x8, [x1]
-	mov w9, #0x2
+	ldr x9, [x1]
+	mov w11, #0x2
 	strb w10, [x1, #8]
 	stur wzr, [x1, #10]
-	adds x8, x2, x8
+	adds x9, x2, x9
 	strh wzr, [x1, #14]
-	csinv x8, x8, xzr, cc
-	strb w9, [x1, #9]
-	adds x8, x4, x8
+	csinv x9, x9, xzr, cc
+	strb w11, [x1, #9]
+	adds x8, x8, x9
 	csinv x8, x8, xzr, cc
 	str x8, [x1]
-	stp w9, w10, [x0]
+	stp w11, w10, [x0]
 	str x8, [x0, #8]
 	ret
 	end const_hex_decoder_fail

@@ -901,65 +901,105 @@
 
 /* const_hex::codec::body::find_invalid_character */
 	function const_hex_body_find_invalid_character
-	push   rbx
-	xor    eax,eax
 	cmp    rdx,0x4
 	jae    4f
-	xor    ecx,ecx
-2:
-	cmp    rcx,rdx
-	jae    9f
-	.byte 0x66, 0x66, 0x66, 0x2e, 0xf, 0x1f, 0x84, 0x0, 0x0, 0x0, 0x0, 0x0  /* data16 data16 cs nop WORD PTR [rax+rax*1+0x0] */
-3:
-	movzx  eax,BYTE PTR [rsi+rcx*1]
-	lea    r8,[rip + const_hex_constant_12]
-	cmp    BYTE PTR [rax+r8*1],0xff
-	je     7f
-	inc    rcx
-	cmp    rdx,rcx
-	jne    3b
 	xor    eax,eax
-	jmp    8f
+2:
+	cmp    rax,rdx
+	jae    13f
+	.byte 0x66, 0x66, 0x66, 0x66, 0x66, 0x66, 0x2e, 0xf, 0x1f, 0x84, 0x0, 0x0, 0x0, 0x0, 0x0  /* data16 data16 data16 data16 data16 cs nop WORD PTR [rax+rax*1+0x0] */
+3:
+	movzx  r8d,BYTE PTR [rsi+rax*1]
+	lea    rcx,[rip + const_hex_constant_12]
+	cmp    BYTE PTR [r8+rcx*1],0xff
+	je     14f
+	inc    rax
+	cmp    rdx,rax
+	jne    3b
+	jmp    9f
 4:
-	movzx  ecx,WORD PTR [rsi]
-	or     ecx,0x2000
-	mov    r8,rdx
-	cmp    ecx,0x7830
-	jne    5f
-	lea    r8,[rdx-0x2]
+	movzx  eax,BYTE PTR [rsi]
+	movzx  r8d,BYTE PTR [rsi+0x1]
+	lea    rcx,[rip + const_hex_constant_12]
+	movzx  r8d,BYTE PTR [r8+rcx*1]
+	or     r8b,BYTE PTR [rax+rcx*1]
+	jns    5f
+	movzx  eax,WORD PTR [rsi]
+	or     eax,0x2000
+	cmp    eax,0x7830
+	jne    15f
 5:
-	mov    rcx,rdx
-	sub    rcx,r8
 	lea    r8,[rdx-0x4]
-	cmp    rcx,r8
-	ja     2b
-	.byte 0xf, 0x1f, 0x80, 0x0, 0x0, 0x0, 0x0  /* nop    DWORD PTR [rax+0x0] */
+	mov    eax,0x2
+	cmp    r8,0x2
+	jb     7f
 6:
-	movzx  r9d,BYTE PTR [rsi+rcx*1]
-	lea    r10,[rip + const_hex_constant_12]
-	movzx  r11d,BYTE PTR [rsi+rcx*1+0x1]
-	movzx  r11d,BYTE PTR [r11+r10*1]
-	movzx  ebx,BYTE PTR [rsi+rcx*1+0x2]
-	or     r11b,BYTE PTR [r9+r10*1]
-	or     r11b,BYTE PTR [rbx+r10*1]
-	movzx  r9d,BYTE PTR [rsi+rcx*1+0x3]
-	or     r11b,BYTE PTR [r9+r10*1]
-	cmp    r11b,0xf
-	ja     2b
-	add    rcx,0x4
-	cmp    rcx,r8
+	movzx  r9d,BYTE PTR [rsi+rax*1]
+	movzx  r10d,BYTE PTR [rsi+rax*1+0x1]
+	movzx  r10d,BYTE PTR [r10+rcx*1]
+	or     r10b,BYTE PTR [r9+rcx*1]
+	js     7f
+	movzx  r9d,BYTE PTR [rsi+rax*1+0x2]
+	movzx  r10d,BYTE PTR [rsi+rax*1+0x3]
+	movzx  r10d,BYTE PTR [r10+rcx*1]
+	or     r10b,BYTE PTR [r9+rcx*1]
+	js     12f
+	add    rax,0x4
+	cmp    rax,r8
 	jbe    6b
-	jmp    2b
 7:
-	mov    rdx,rcx
+	cmp    rax,rdx
+	jae    13f
+	.byte 0xf, 0x1f, 0x44, 0x0, 0x0  /* nop    DWORD PTR [rax+rax*1+0x0] */
 8:
-	movzx  eax,al
+	movzx  r8d,BYTE PTR [rsi+rax*1]
+	cmp    BYTE PTR [r8+rcx*1],0xff
+	je     14f
+	inc    rax
+	cmp    rdx,rax
+	jne    8b
 9:
+	xor    r8d,r8d
+	mov    rax,rdx
+	jmp    14f
+12:
+	add    rax,0x2
+	cmp    rax,rdx
+	jb     8b
+13:
+	xor    r8d,r8d
+14:
+	movzx  ecx,r8b
 	mov    DWORD PTR [rdi],0x2
-	mov    DWORD PTR [rdi+0x4],eax
-	mov    QWORD PTR [rdi+0x8],rdx
-	pop    rbx
+	mov    DWORD PTR [rdi+0x4],ecx
+	mov    QWORD PTR [rdi+0x8],rax
 	ret
+15:
+	lea    r8,[rdx-0x4]
+	mov    eax,0x2
+	.byte 0x66, 0x66, 0x66, 0x66, 0x2e, 0xf, 0x1f, 0x84, 0x0, 0x0, 0x0, 0x0, 0x0  /* data16 data16 data16 cs nop WORD PTR [rax+rax*1+0x0] */
+16:
+	movzx  r9d,BYTE PTR [rsi+rax*1-0x2]
+	movzx  r10d,BYTE PTR [rsi+rax*1-0x1]
+	movzx  r10d,BYTE PTR [r10+rcx*1]
+	or     r10b,BYTE PTR [r9+rcx*1]
+	js     17f
+	movzx  r9d,BYTE PTR [rsi+rax*1]
+	movzx  r10d,BYTE PTR [rsi+rax*1+0x1]
+	movzx  r10d,BYTE PTR [r10+rcx*1]
+	or     r10b,BYTE PTR [r9+rcx*1]
+	js     2b
+	lea    r9,[rax+0x4]
+	add    rax,0x2
+	cmp    rax,r8
+	mov    rax,r9
+	jbe    16b
+	add    r9,0xfffffffffffffffe
+	mov    rax,r9
+	jmp    2b
+17:
+	add    rax,0xfffffffffffffffe
+	jmp    2b
 	end const_hex_body_find_invalid_character
 
 /* const_hex::codec::decoder::decode_after */
@@ -1038,53 +1078,60 @@
 
 /* const_hex::codec::decoder::Decoder::fail */
 	function const_hex_decoder_fail
-	push   r14
 	push   rbx
 	xor    eax,eax
 	mov    r9,r8
 	sub    r9,0x4
 	cmovb  r9,rax
 	jb     3f
-	xor    eax,eax
-	.byte 0x66, 0x66, 0x66, 0x2e, 0xf, 0x1f, 0x84, 0x0, 0x0, 0x0, 0x0, 0x0  /* data16 data16 cs nop WORD PTR [rax+rax*1+0x0] */
+	mov    eax,0x2
+	.byte 0x66, 0x66, 0x2e, 0xf, 0x1f, 0x84, 0x0, 0x0, 0x0, 0x0, 0x0  /* data16 cs nop WORD PTR [rax+rax*1+0x0] */
 2:
-	movzx  r10d,BYTE PTR [rcx+rax*1]
-	lea    r11,[rip + const_hex_constant_12]
+	movzx  r11d,BYTE PTR [rcx+rax*1-0x2]
+	movzx  ebx,BYTE PTR [rcx+rax*1-0x1]
+	lea    r10,[rip + const_hex_constant_12]
+	movzx  ebx,BYTE PTR [rbx+r10*1]
+	or     bl,BYTE PTR [r11+r10*1]
+	js     5f
+	movzx  r11d,BYTE PTR [rcx+rax*1]
 	movzx  ebx,BYTE PTR [rcx+rax*1+0x1]
-	movzx  ebx,BYTE PTR [rbx+r11*1]
-	movzx  r14d,BYTE PTR [rcx+rax*1+0x2]
-	or     bl,BYTE PTR [r10+r11*1]
-	or     bl,BYTE PTR [r14+r11*1]
-	movzx  r10d,BYTE PTR [rcx+rax*1+0x3]
-	or     bl,BYTE PTR [r10+r11*1]
-	cmp    bl,0xf
-	ja     3f
-	add    rax,0x4
+	movzx  ebx,BYTE PTR [rbx+r10*1]
+	or     bl,BYTE PTR [r11+r10*1]
+	js     3f
+	lea    r10,[rax+0x4]
+	add    rax,0x2
 	cmp    rax,r9
+	mov    rax,r10
 	jbe    2b
+	add    r10,0xfffffffffffffffe
+	mov    rax,r10
 3:
 	cmp    rax,r8
-	jae    5f
-	.byte 0x66, 0x66, 0x66, 0x66, 0x66, 0x66, 0x2e, 0xf, 0x1f, 0x84, 0x0, 0x0, 0x0, 0x0, 0x0  /* data16 data16 data16 data16 data16 cs nop WORD PTR [rax+rax*1+0x0] */
+	jae    6f
+	.byte 0x66, 0x90  /* xchg   ax,ax */
 4:
 	movzx  r9d,BYTE PTR [rcx+rax*1]
 	lea    r10,[rip + const_hex_constant_12]
 	cmp    BYTE PTR [r9+r10*1],0xff
-	je     6f
+	je     7f
 	inc    rax
 	cmp    r8,rax
 	jne    4b
-5:
 	xor    r9d,r9d
+	mov    rax,r8
 	jmp    7f
+5:
+	add    rax,0xfffffffffffffffe
+	cmp    rax,r8
+	jb     4b
 6:
-	mov    r8,rax
+	xor    r9d,r9d
 7:
 	add    rdx,QWORD PTR [rsi]
-	mov    rax,0xffffffffffffffff
-	cmovb  rdx,rax
-	add    rdx,r8
-	cmovb  rdx,rax
+	mov    rcx,0xffffffffffffffff
+	cmovb  rdx,rcx
+	add    rdx,rax
+	cmovb  rdx,rcx
 	mov    QWORD PTR [rsi],rdx
 	mov    BYTE PTR [rsi+0x8],r9b
 	mov    BYTE PTR [rsi+0x9],0x2
@@ -1095,7 +1142,6 @@
 	mov    DWORD PTR [rdi+0x4],eax
 	mov    QWORD PTR [rdi+0x8],rdx
 	pop    rbx
-	pop    r14
 	ret
 	end const_hex_decoder_fail
 

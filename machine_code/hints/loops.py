@@ -162,7 +162,8 @@ def guess(code, entry):
         else:
             try:
                 work += [(after, (*way, after.at)) for after in paths.step(code, state)]
-            except Refused:
+            # Nothing is checked here, so an access outside of a table is tried. The proof itself rejects it.
+            except (Refused, IndexError):
                 pass
     if end is None:
         return None

@@ -50,7 +50,7 @@ class Operand:
             self.kind, self.base, self.offset, self.index = "memory", found[1], int(found[2] or 0), found[3]
             self.count, self.is_moved, self.after = int(found[4] or 0), bool(found[5]), None
         elif found := re.fullmatch(r"(lsl|lsr) #(\d+)|(uxtw)", text):
-            self.kind, self.how, self.count = "shift", found[1] or found[3], int(found[2] or 0)
+            self.kind, self.how, self.count = "shift", found[1] or found[3], found[2] and int(found[2])
         elif text in CONDITIONS:
             self.kind = "condition"
         else:
@@ -207,7 +207,7 @@ def general(function, flags=None, is_kept=True):
 
 def page(s, i):
     """The page of a constant is any number, to which only the lower bits of the same constant may be added."""
-    _, _, place = s.code.references_in(i.address, 4)[0]
+    _, _, place = s.code.references_in(i.address, i.size)[0]
     require(s.code.constant_at(place), "an address without a constant")
     return z3.BitVec(f"p_page_of_{place:x}", 64), s.code.constant_at(place)
 
@@ -217,7 +217,7 @@ def adrp(s, i):
 
 
 def add(s, i):
-    if not s.code.references_in(i.address, 4):
+    if not s.code.references_in(i.address, i.size):
         return general(ADD)(s, i)
     to, base, more = i.operands
     number, (region, offset) = page(s, i)
@@ -226,12 +226,13 @@ def add(s, i):
 
 
 def invert(s, i):
-    s.put(i.operands[0], simple(~s.last(i.operands[1:], i.operands[0].size)))
+    to, *others = i.operands
+    s.put(to, simple(~s.last(others, to.size)))
 
 
 def upper_product(s, i):
     to, one, other = i.operands
-    s.put(to, simple(z3.Extract(127, 64, s.product(s.number(one, 8), s.number(other, 8)))))
+    s.put(to, simple(z3.Extract(127, 64, s.product(s.number(one), s.number(other)))))
 
 
 def less_product(s, i):
@@ -279,7 +280,7 @@ def set_if(s, i):
 def jump(s, i):
     if i.mnemonic == "bl":
         s.general["x30"] = s.return_to(s.next)
-    if s.code.references_in(i.address, 4):
+    if s.code.references_in(i.address, i.size):
         # The linker may put code of its own between, which changes these.
         s.general |= {name: fresh("g", 64) for name in ("x16", "x17")}
     return i.operands[0].value
@@ -316,7 +317,7 @@ def address(s, i, registers):
     base = s.general[o.base]
     if o.base == "sp":
         s.must(base & 15 == 0, "the stack pointer is not aligned")
-    if s.code.references_in(i.address, 4):
+    if s.code.references_in(i.address, i.size):
         number, (region, offset) = page(s, i)
         require(registers[0].size == 16, "a relocation for another size")
         require(base.eq(number), "the page of another constant")
@@ -340,7 +341,7 @@ def move_base(s, i, base):
 def load(s, i):
     """One by a relocation is aligned, or the relocation can't be applied."""
     targets, size, at, base = accessed(s, i, LOADS)
-    lane = s.load(at, size * len(targets), bool(s.code.references_in(i.address, 4)))
+    lane = s.load(at, size * len(targets), bool(s.code.references_in(i.address, i.size)))
     move_base(s, i, base)
     for number, target in enumerate(targets):
         s.put_lane(target, lane[size * number :][:size] + [byte(0)] * (target.size - size))

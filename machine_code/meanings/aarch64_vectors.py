@@ -55,7 +55,7 @@ def duplicate(s, i):
 def widen(s, i):
     to, by = i.operands
     is_upper = i.mnemonic.endswith("2")
-    half = s.lane(by)[8 * is_upper :][:8]
+    half = s.lane(by)[8 * is_upper :]
     s.put_lane(to, [x for a in units(half, by.lane) for x in split(a) + [byte(0)] * by.lane])
 
 

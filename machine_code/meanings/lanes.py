@@ -20,10 +20,9 @@ def each(function, size, *lanes):
     return bytes_of(map(function, *[units(lane, size) for lane in lanes]))
 
 
-def saturated(number, most, size):
-    """A signed number, or the nearest one from 0 to a greatest one, in so many bits."""
-    kept = z3.If(number < 0, 0, z3.If(number > most, most, number))
-    return z3.Extract(size - 1, 0, kept)
+def saturated(numbers):
+    """Signed numbers as bytes: each one, or the nearest one that is a byte."""
+    return [simple(z3.Extract(7, 0, z3.If(number < 0, 0, z3.If(number > 255, 255, number)))) for number in numbers]
 
 
 # By two numbers of any size.

@@ -13,7 +13,7 @@ import z3
 from execution import state
 from execution.paths import Branch
 from execution.state import byte, chosen, is_secret, joined, simple, split, word
-from meanings.lanes import (ADD, AND, MAXIMUM, MINIMUM, MULTIPLY, OR, SUBTRACT, XOR, bytes_of, each, saturated, units)
+from meanings.lanes import (ADD, AND, MAXIMUM, MINIMUM, MULTIPLY, OR, SUBTRACT, XOR, each, saturated, units)
 from reading.assembled import Instruction
 from reading.module import SPACE
 from solver.questions import names, require
@@ -65,7 +65,9 @@ class Reader:
         if mnemonic.startswith("br"):
             targets = [self.blocks[-1 - depth] for depth in numbers]
         for block in targets:
-            require(self.height - takes == block.height, "operands that a branch drops")
+            # The end of the function takes its result from the lowest place, and that of a block takes nothing.
+            is_lowest = self.height - takes == block.height or block is not self.blocks[0]
+            require(is_lowest, "operands that a branch drops")
             block.is_used = True
         self.found.append((mnemonic, Operands(self.height, numbers, targets), text))
         self.height += gives - takes
@@ -78,8 +80,6 @@ class Reader:
         if mnemonic == "call":
             called = self.code.object.functions[numbers[0]]
             return len(called.parameters), len(called.results)
-        if mnemonic == "return":
-            return len(self.function.results), 0
         return EFFECTS.get(mnemonic, (0, 0))
 
     def instructions(self):
@@ -249,6 +249,10 @@ def _is_true(term):
     return simple(term != 0)
 
 
+def _signed(term):
+    return z3.Extract(31, 0, term)
+
+
 def _count(term, bits):
     require(z3.is_bv_value(term), "a shift by what is unknown")
     return term.as_long() % bits
@@ -257,11 +261,13 @@ def _count(term, bits):
 for _name, _function in {"add": ADD, "sub": SUBTRACT, "and": AND, "or": OR, "xor": XOR}.items():
     computes(f"i32.{_name}", "ii", lambda s, numbers, a, b, function=_function: function(a, b))
 for _name, _function in {"eq": lambda a, b: a == b, "ne": lambda a, b: a != b, "lt_u": z3.ULT, "le_u": z3.ULE,
-                         "gt_u": z3.UGT, "ge_u": z3.UGE}.items():
+                         "gt_u": z3.UGT, "ge_u": z3.UGE, "lt_s": lambda a, b: _signed(a) < _signed(b),
+                         "le_s": lambda a, b: _signed(a) <= _signed(b)}.items():
     computes(f"i32.{_name}", "nn", lambda s, numbers, a, b, function=_function: _if(s, function(a, b)))
 computes("i32.eqz", "n", lambda s, numbers, a: _if(s, simple(z3.Not(_is_true(a)))))
 computes("i32.shl", "in", lambda s, numbers, a, b: a * (1 << _count(b, 32)))
 computes("i32.shr_u", "nn", lambda s, numbers, a, b: z3.LShR(a, _count(b, 32)))
+computes("i32.shr_s", "nn", lambda s, numbers, a, b: z3.ZeroExt(32, _signed(a) >> _count(b, 32)))
 computes("i64.shr_u", "ll", lambda s, numbers, a, b: z3.LShR(a, _count(b, 64)))
 computes("i32.wrap_i64", "l", lambda s, numbers, a: a)
 for _name in ("i32.const", "i64.const"):
@@ -301,16 +307,14 @@ def branch_by(s, i):
 def select(s, i):
     """Counts as a branch: it is run again in the states where it is known which operand is taken. A byte of the input
     may decide that stands alone."""
-    first = i.operands.height - 3
-    one, other, choice = [_operand(i, first + at) for at in range(3)]
-    condition = _is_true(s.exact(s.get(choice)))
+    operands = [_operand(i, i.operands.height - 3 + at) for at in range(3)]
+    condition = _is_true(s.exact(s.get(operands[-1])))
     truth = next((truth for truth in (True, False) if s.holds(condition == truth)), None)
     if truth is None and not _is_alone(s, condition):
         s.next = i.address
         return Branch(condition, i.address)
-    s.take(choice)
-    values = s.take(one), s.take(other)
-    s.put(_operand(i, first), z3.If(condition, *values) if truth is None else values[0 if truth else 1])
+    one, other, _ = map(s.take, operands)
+    s.put(operands[0], z3.If(condition, one, other) if truth is None else one if truth else other)
 
 
 def _is_alone(s, condition):
@@ -394,8 +398,7 @@ computes("i8x16.swizzle", "vv", lambda s, numbers, a, b: [
     simple(z3.If(z3.ULT(at, 16), chosen(a, at), byte(0))) for at in b])
 computes("i8x16.replace_lane", "vi", lambda s, numbers, a, b: [
     *a[: numbers[0]], simple(z3.Extract(7, 0, b)), *a[numbers[0] + 1 :]])
-computes("i8x16.narrow_i16x8_u", "vv", lambda s, numbers, a, b: bytes_of(
-    saturated(number, 255, 8) for number in units(a + b, 2)))
+computes("i8x16.narrow_i16x8_u", "vv", lambda s, numbers, a, b: saturated(units(a + b, 2)))
 for _name, _first in (("low", 0), ("high", 8)):
     computes(f"i16x8.extend_{_name}_i8x16_u", "v", lambda s, numbers, a, first=_first: [
         part for value in a[first:][:8] for part in (value, byte(0))])

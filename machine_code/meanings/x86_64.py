@@ -45,12 +45,12 @@ class Operand:
         if text in GENERAL:
             self.kind, (self.name, self.first, self.size) = "general", GENERAL[text]
         elif found := re.fullmatch(r"([xy])mm(\d+)", text):
-            self.kind, self.name, self.size = "vector", int(found[2]), 16 if found[1] == "x" else 32
+            self.kind, self.name, self.size = "vector", int(found[2]), SIZES[f"{found[1].upper()}MMWORD"]
         elif found := re.fullmatch(r"(?:(\w+) PTR )?\[(.*)\]", text):
             self.kind, self.size, self.terms, self.offset = "memory", SIZES.get(found[1]), [], 0
             for sign, part in re.findall(r"([+-]?)([^+-]+)", found[2]):
                 name, _, scale = part.partition("*")
-                if name == "rip" or GENERAL.get(name, ("", 0, 0))[2] == 8:
+                if name == "rip" or name in GENERAL and GENERAL[name][2] == 8:
                     self.terms.append((name, int(scale or 1)))
                 else:
                     self.offset += int(sign + part, 16)
@@ -129,8 +129,6 @@ class State(state.State):
 
     def lane(self, o, i, size=None):
         """The lowest bytes of an operand, or all."""
-        if o.kind == "number":
-            return split(z3.BitVecVal(o.value, 8 * size))
         if o.kind == "general":
             return split(z3.Extract(8 * (o.first + o.size) - 1, 8 * o.first, self.general[o.name]))[:size]
         if o.kind == "vector":
@@ -149,14 +147,14 @@ class State(state.State):
         require(o.first == 0, "a write of the second byte of a register")
         if o.size == 4:
             term = z3.ZeroExt(32, term)
-        elif o.size < 4:
+        elif o.size < 8:
             term = z3.Concat(z3.Extract(63, 8 * o.size, self.general[o.name]), term)
         self.general[o.name] = simple(term)
 
     def put_vector(self, o, lane):
         """Writes a vector: what lies above is kept by the old forms of instructions, and cleared by the new ones."""
-        above = self.vectors[o.name][16:] if self.is_legacy else [byte(0)] * 16
-        self.vectors[o.name] = (list(lane) + [byte(0)] * (o.size - len(lane)) + above)[:32]
+        above = self.vectors[o.name][o.size :] if self.is_legacy else [byte(0)] * (32 - o.size)
+        self.vectors[o.name] = [*lane, *[byte(0)] * (o.size - len(lane)), *above]
         self.is_clean &= o.size == 16
 
 
@@ -179,7 +177,7 @@ CONDITIONS = {
     "s": lambda flag: flag("s"),
 }
 CONDITIONS |= {new: lambda flag, old=old: z3.Not(CONDITIONS[old](flag)) for new, old in
-               {"ne": "e", "ae": "b", "a": "be"}.items()}
+               {"ne": "e", "ae": "b", "a": "be", "ns": "s"}.items()}
 
 
 def condition(s, name):
@@ -232,14 +230,16 @@ def multiply(s, i):
     s.flags = None
 
 
-def inc_dec(by):
+def by_one(function, flags):
+    """The carry is as before."""
     def handler(s, i):
         to, = i.operands
-        a, carry = s.number(to, i), {name: flag for name, flag in (s.flags or {}).items() if name == "c"}
-        (sum_flags if by > 0 else difference_flags)(s, a, z3.BitVecVal(1, a.size()))
+        a, one = s.number(to, i), z3.BitVecVal(1, 8 * to.size)
+        carry = {name: flag for name, flag in (s.flags or {}).items() if name == "c"}
+        flags(s, a, one)
         s.flags.pop("c")
         s.flags |= carry
-        s.put(to, i, a + by)
+        s.put(to, i, function(a, one))
     return handler
 
 
@@ -261,8 +261,7 @@ def invert(s, i):
 
 def lea(s, i):
     to, by = i.operands
-    address = s.address(by, i)
-    s.put(to, i, simple(z3.Extract(8 * to.size - 1, 0, address)) if to.size < 8 else address)
+    s.put(to, i, simple(z3.Extract(8 * to.size - 1, 0, s.address(by, i))))
 
 
 def set_if(s, i):
@@ -344,8 +343,8 @@ def xgetbv(s, i):
 HANDLERS = {
     "add": arithmetic(ADD, sum_flags), "sub": arithmetic(SUBTRACT, difference_flags),
     "cmp": arithmetic(SUBTRACT, difference_flags, is_kept=False), "and": logic(AND), "or": logic(OR), "xor": logic(XOR),
-    "test": logic(AND, is_kept=False), "inc": inc_dec(1), "dec": inc_dec(-1), "mov": mov, "movabs": mov,
-    "lea": lea, "not": invert, "movzx": extended(z3.ZeroExt), "movsxd": extended(z3.SignExt),
+    "test": logic(AND, is_kept=False), "inc": by_one(ADD, sum_flags), "dec": by_one(SUBTRACT, difference_flags),
+    "mov": mov, "movabs": mov, "lea": lea, "not": invert, "movzx": extended(z3.ZeroExt), "movsxd": extended(z3.SignExt),
     "shl": shift(lambda a, by: a * (1 << by)), "shr": shift(z3.LShR), "push": push, "pop": pop,
     "nop": lambda s, i: None, "jmp": jump, "call": call, "ret": ret, "mul": multiply,
     "cpuid": cpuid, "xgetbv": xgetbv,

@@ -3,8 +3,8 @@
 import z3
 
 from execution.state import byte, chosen, joined, simple
-from meanings.lanes import (ADD, AND, AND_NOT, MINIMUM, MULTIPLY, OR, SUBTRACT, SUBTRACT_SATURATED, XOR, bytes_of,
-                            each, saturated, units)
+from meanings.lanes import (ADD, AND, AND_NOT, MINIMUM, MULTIPLY, OR, SUBTRACT, SUBTRACT_SATURATED, XOR, each,
+                            saturated, units)
 from solver.questions import require
 
 
@@ -68,7 +68,7 @@ def insert(size):
     def handler(s, i):
         to, *one, by, at = i.operands
         one = one[0] if one else to
-        require(at.value < 16 // size, "an index")
+        require(at.value < to.size // size, "an index")
         lane = list(s.lane(one, i))
         lane[at.value * size : (at.value + 1) * size] = s.lane(by, i, size)
         s.put_vector(to, lane)
@@ -109,14 +109,6 @@ def permute(s, i):
     s.put_vector(to, [x for at in range(0, 8, 2) for x in lane[8 * (how.value >> at & 3) :][:8]])
 
 
-def insert_half(s, i):
-    to, one, by, at = i.operands
-    require(at.value < 2, "an index")
-    lane = list(s.lane(one, i))
-    lane[16 * at.value : 16 * at.value + 16] = s.lane(by, i)
-    s.put_vector(to, lane)
-
-
 def extract_half(s, i):
     to, one, at = i.operands
     require(at.value < 2, "an index")
@@ -135,7 +127,7 @@ VECTORS = {
     "pxor": by_units(1, XOR), "pmullw": by_units(2, MULTIPLY),
     "psllw": shift_units(2, lambda a, by: a << by), "psrlw": shift_units(2, z3.LShR),
     "pshufb": by_halves(lambda a, b: [looked_up(a, index) for index in b]),
-    "packuswb": by_halves(lambda a, b: bytes_of(saturated(w, 255, 8) for w in units(a + b, 2))),
+    "packuswb": by_halves(lambda a, b: saturated(units(a + b, 2))),
     "punpckldq": interleaved(4), "punpcklqdq": interleaved(8),
     "movdqu": move_vector(False), "movdqa": move_vector(True), "movups": move_vector(False),
     "movaps": move_vector(True), "xorps": by_units(1, XOR), "movd": move_low(4), "movq": move_low(8),
@@ -156,5 +148,5 @@ def legacy(handler):
 HANDLERS = {name: legacy(handler) for name, handler in VECTORS.items()}
 HANDLERS |= {f"v{name}": handler for name, handler in VECTORS.items()} | {
     "vpbroadcastd": broadcast(4), "vpbroadcastq": broadcast(8), "vbroadcasti128": broadcast(16), "vpermq": permute,
-    "vinserti128": insert_half, "vextracti128": extract_half, "vzeroupper": vzeroupper,
+    "vinserti128": insert(16), "vextracti128": extract_half, "vzeroupper": vzeroupper,
 }

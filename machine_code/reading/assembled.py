@@ -58,8 +58,8 @@ def printed(section, processor, operands=lambda text: ()):
     for match in filter(None, map(LINE.match, listing.splitlines())):
         address, size = int(match[1], 16), len(bytes.fromhex(match[2]))
         text = re.split(comment, match[3])[0].replace("\t", " ").strip()
-        # A nop may have prefixes and operands, which mean nothing.
-        mnemonic, _, rest = re.sub("^(data16 |cs )*nop.*", "nop", text).partition(" ")
+        # A nop may have prefixes and operands, which mean nothing. That of two bytes has another name.
+        mnemonic, _, rest = re.sub("^(data16 |cs )*nop.*|^xchg +ax,ax$", "nop", text).partition(" ")
         try:
             found[address] = Instruction(address, size, mnemonic, operands(rest), text)
         except Exception:

@@ -18,19 +18,22 @@ from execution.paths import step
 from execution.state import byte, simple, word
 from meanings import webassembly
 from meanings.webassembly import HANDLERS
+from solver.questions import require
 from tests.library import MODULE, TOP, assembled_module
 
 SIZE = 1024
 RESULT, SCRATCH = 64, 256
 EDGES = bytes([0, 1, 0x7F, 0x80, 0xFF, 0x30, 0x39, 0x41, 0x66, 0x0F, 0x10])
 BYTES = [byte(value) for value in range(256)]
+# Bytes that a selection does not know: it becomes a branch, or an unknown number if a byte of the input stands alone.
+UNKNOWN = {200: z3.BitVec("p_choice", 8), 201: z3.BitVec("i_choice", 8)}
 TYPES = {"i": "i32", "n": "i32", "l": "i64", "v": "v128"}
 # These branch, call, or stop. FUNCTIONS has what they do.
 CONTROL = """br br_if br_table call result return unreachable select
     local.get local.set local.tee global.get global.set""".split()
 FUNCTIONS = """
 (func $sum (param i32 i32) (result i32) (local i32)
-  local.get 2 local.get 0 i32.add local.get 1 i32.sub return)
+  i32.const 7 local.get 2 local.get 0 i32.add local.get 1 i32.sub return)
 (func (export "call") i32.const 64
   i32.const 0 i32.load i32.const 16 i32.load call $sum i32.store)
 (func (export "return") (local i32)
@@ -38,24 +41,34 @@ FUNCTIONS = """
   block i32.const 16 i32.load8_u i32.const 128 i32.lt_u br_if 1 end
   i32.const 64 i32.const 5 i32.store8)
 (func (export "loop") (local i32)
-  i32.const 0 i32.load8_u local.set 0
-  block loop local.get 0 i32.eqz br_if 1
+  i32.const 0 i32.load8_u i32.const 63 i32.and local.set 0
+  i32.const 401 block loop local.get 0 i32.eqz br_if 1
     i32.const 64 local.get 0 i32.add local.get 0 i32.store8
     local.get 0 i32.const 1 i32.sub local.tee 0 i32.const 16 i32.load8_u i32.ne br_if 0 end
-    i32.const 400 i32.const 7 i32.store8 end)
+    i32.const 400 i32.const 7 i32.store8 end local.get 0 i32.store8)
 (func (export "br_table") i32.const 72
   block block block i32.const 0 i32.load8_u i32.const 3 i32.and
-    br_table 2 0 1 0 end
+    br_table 2 0 1 2 end
     i32.const 64 i32.const 1 i32.store8 br 1 end
     i32.const 64 i32.const 2 i32.store8 end
   i32.const 7 i32.store8)
+(func (export "dropped") (local i32) i32.const 64
+  block i32.const 1 i32.const 0 i32.load8_u i32.const 128 i32.lt_u br_if 0 local.set 0 end
+  local.get 0 i32.store8)
 (func (export "select") i32.const 64
   i32.const 0 i32.load i32.const 16 i32.load i32.const 32 i32.load8_u i32.const 1 i32.and select i32.store)
+(func (export "select_by_branch") i32.const 64
+  i32.const 0 i32.load i32.const 16 i32.load i32.const 200 i32.load8_u i32.const 1 i32.and select i32.store)
+(func (export "select_by_number") i32.const 64
+  i32.const 0 i32.load i32.const 16 i32.load i32.const 201 i32.load8_u i32.const 1 i32.and select i32.store)
 (func (export "set") (local i32) i32.const 64 i32.const 0 i32.load local.set 0 local.get 0 i32.store)
 (func (export "wrap") i32.const 64 i32.const 0 i64.load i32.wrap_i64 i32.const 1 i32.shr_u i32.store)
+(func (export "carry") i32.const 64
+  i32.const 0 i32.load i32.const 16 i32.load i32.add i32.const 1 i32.shr_u i32.store)
 (func (export "local") (local v128) i32.const 64 local.get 0 v128.store)
-(func (export "global") block global.get 0 i32.const 0 i32.load i32.add global.set 0 br 0 end
-  i32.const 64 global.get 0 i32.store i32.const 1024 global.set 0)
+(func (export "global")
+  block block global.get 0 i32.const 0 i32.load i32.add global.set 0 br 1 i32.const 1 br 1 end i32.const 1 br 0 end
+  i32.const 64 global.get 0 i32.const 1024 global.set 0 i32.store)
 """
 
 
@@ -70,24 +83,37 @@ def _function(name, text):
 
 
 def _memory(some, is_access):
-    """Random bytes, often at the edges, mostly zeros, or equal operands. An access has its address in the scratch
-    area."""
-    kinds = [some.randbytes(SIZE), some.randbytes(16) * (SIZE // 16)]
-    kinds += [bytes(some.choices(EDGES, k=SIZE)), bytes(some.choices(EDGES, [2000, *range(1, 11)], k=SIZE))]
-    content = some.choice(kinds)
+    """Random bytes, often at the edges, mostly zeros, equal operands, or near the middle of 32 bits. An access has its
+    address in the scratch area."""
+    content = some.choice((
+        lambda: some.randbytes(SIZE), lambda: some.randbytes(16) * (SIZE // 16),
+        lambda: bytes(some.choices(EDGES, k=SIZE)), lambda: bytes(some.choices(EDGES, [2000, *range(1, 11)], k=SIZE)),
+        lambda: b"".join(struct.pack("<Q", (1 << 31) + some.randrange(-1, 2)) for _ in range(SIZE // 8))))()
     return struct.pack("<I", SCRATCH + some.randrange(256)) + content[4:] if is_access else content
 
 
 class Concrete:
-    """What a state does whose memory is known."""
+    """What a state does whose memory is known, except for UNKNOWN."""
 
     def load(self, address, count, aligned=False):
         at = simple(address).as_long()
+        require(count & count - 1 == 0, "an access of another size")
+        if count == 1 and at in UNKNOWN:
+            return [UNKNOWN[at]]
         return [BYTES[value] for value in self.memory[at : at + count]]
 
     def store(self, address, lane, aligned=False):
         at = simple(address).as_long()
-        self.memory[at : at + len(lane)] = [simple(value).as_long() for value in lane]
+        require(len(lane) & len(lane) - 1 == 0, "an access of another size")
+        self.memory[at : at + len(lane)] = [self.known(value).as_long() for value in lane]
+
+    def known(self, term):
+        term = simple(term)
+        return term if z3.is_bv_value(term) else simple(z3.substitute(
+            term, *[(name, BYTES[self.before[at]]) for at, name in UNKNOWN.items()]))
+
+    def is_right(self):
+        return all(z3.is_true(self.known(fact.term)) for fact in self.facts)
 
     def drop_below(self):
         """The stack is of no interest."""
@@ -134,13 +160,14 @@ class Node:
 
     def _by_the_meanings(self, name, before):
         state = type("State", (Concrete, self.meanings.State), {})()
-        contract = types.SimpleNamespace(returns=lambda state: None)
+        contract = types.SimpleNamespace(returns=lambda state: None, is_alone=lambda state, at: at == 201)
         state.code, state.contract, state.calls, state.steps = self.code, contract, {}, 0
+        state.before, state.input = before, {at: (at, name) for at, name in UNKNOWN.items()}
         state.memory, state.vectors, state.facts, state.may_leak = [*before], {}, [], False
         state.general = {"global 0": word(self.code.object.globals[0])}
         state.at = self.code.object.symbols[name]
         state.begin(self.code.object.function_at(state.at), [], z3.BitVec("p_return", 64))
-        while after := step(self.code, state):
+        while after := [way for way in step(self.code, state) if way.is_right()]:
             state, = after
-            state.steps = 0
+        require(state.general["global 0"].as_long() == SIZE, "another global")
         return bytes(state.memory)

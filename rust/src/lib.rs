@@ -217,7 +217,7 @@ pub fn decode<T: AsRef<[u8]>>(data: T) -> Result<Vec<u8>, FromHexError> {
     let mut bytes = Vec::with_capacity(digits.len() / 2);
     match kernel::decode_append(digits, &mut bytes) {
         true => Ok(bytes),
-        false => invalid(text, bytes),
+        false => Err(invalid(text, bytes)),
     }
 }
 
@@ -225,8 +225,8 @@ pub fn decode<T: AsRef<[u8]>>(data: T) -> Result<Vec<u8>, FromHexError> {
 // A function of its own, so that the code for a valid text need not keep the text in registers.
 #[cfg(feature = "alloc")]
 #[cold]
-fn invalid(text: &[u8], _: Vec<u8>) -> Result<Vec<u8>, FromHexError> {
-    Err(find_invalid_character(text))
+fn invalid(text: &[u8], _: Vec<u8>) -> FromHexError {
+    find_invalid_character(text)
 }
 
 /// Appends the bytes that a text decodes to to a vector, and returns their number, or the errors of [`check`].

@@ -1,4 +1,5 @@
-//! Every kernel: the one list of them.
+//! The kernels by which calls are tested. `Compact` is not among them: it differs from `Plain` only in
+//! how it fills a text, which its contract says.
 
 use std::alloc::AllocError;
 
@@ -22,7 +23,7 @@ impl KernelCase {
     }
 }
 
-/// Calls a function with each kernel, by itself and inside `CheckFirst`, and has what the calls return. The
+/// Calls a function with each of these kernels, by itself and inside `CheckFirst`, and has what the calls return. The
 /// last argument is the kernel's case. Brackets have what the function takes after the kernel's type. With
 /// a `?` after it, an error of a call is returned once all are made.
 #[macro_export]

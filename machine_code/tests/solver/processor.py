@@ -28,15 +28,17 @@ NOT_ALONE = ("ret", "call", "jmp", "nop", "bl", "b", "cpuid", "xgetbv")
 EDGES = bytes([0, 1, 0x7F, 0x80, 0xFF, 0x30, 0x39, 0x41, 0x66, 0x0F, 0x10] * 24)[:256]
 # So many instructions of each form, and states.
 PLACES, STATES = 2, 8
+# In some states all numbers are near one of these, so that some are equal, and some sums and differences are 0.
+NEAR = [None] * 4 + [0, 0, 1 << 31, 1 << 63]
 BYTES = [byte(value) for value in range(256)]
 # By processor: its registers as run.c has them, its compiler and emulator, where flags are, how long a jump is, and
-# what does not count as a form.
+# what does not count as a form: which registers, numbers of several digits, and addresses.
 KINDS = {
     "x86_64": ("rax rcx rdx rbx rsp rbp rsi rdi r8 r9 r10 r11 r12 r13 r14 r15".split(), ["cc"], [],
                {"c": 0, "z": 6, "s": 7, "o": 11}, 5,
-               r"\b([abcd]|[sd]i|[sb]p)l\b|(?<=\b[re])([abcd]x|[sd]i|[sb]p)\b|(?<=[a-z])\d+|0x[0-9a-f]+|\[.*\]"),
+               r"\b([abcd]|[sd]i|[sb]p)l\b|(?<=\b[re])([abcd]x|[sd]i|[sb]p)\b|(?<=[a-z])(?<!0x)\d+|0x\w{2,}|\[.*\]"),
     "aarch64": ([f"x{at}" for at in range(31)] + ["sp"], ["aarch64-linux-gnu-gcc", "-static"], ["qemu-aarch64"],
-                {0: 31, 1: 30, 2: 29, 3: 28}, 4, r"(?<=\b[xwvqdsbh])\d+|(?<=#)-?\w+|0x[0-9a-f]+"),
+                {0: 31, 1: 30, 2: 29, 3: 28}, 4, r"(?<=\b[xwvqdsbh])\d+|(?<=#)-?\d\d+|0x\w{2,}"),
 }
 
 
@@ -77,8 +79,9 @@ class Processor:
                 target = self._target(i)
                 if not target or not i.address - self.jump < target < i.address + i.size + self.jump:
                     operands = "" if target else re.sub(self.not_form, "", i.text.partition(" ")[2])
-                    # A constant's own address, or one after it.
-                    named = [self.code.constant_at(to) for _, _, to in self.code.references_in(i.address, i.size)]
+                    # A constant's own address, or one after it. On x86-64 it counts from the field.
+                    named = [self.code.constant_at(to + (i.address + i.size - at if self.jump == 5 else 0))
+                             for at, _, to in self.code.references_in(i.address, i.size)]
                     operands += "".join(f" {bool(found[1])}" for found in named if found)
                     forms.setdefault(f"{i.mnemonic} {operands}", []).append(i)
         return {form: found[:: max(1, len(found) // PLACES)][:PLACES] for form, found in forms.items()}
@@ -93,17 +96,21 @@ class Processor:
         class Concrete(self.meanings.State):
             def load(self, address, count, aligned=False):
                 at = simple(address).as_long()
+                require(count & count - 1 == 0, "an access of another size")
                 require(not aligned or at % count == 0, "not aligned")
                 data, start = (memory[0], SCRATCH) if at >= SCRATCH else (memory[1], TEXT)
                 return [BYTES[value] for value in data[at - start :][:count]]
 
             def store(self, address, lane, aligned=False):
                 at = simple(address).as_long() - SCRATCH
+                require(len(lane) & len(lane) - 1 == 0, "an access of another size")
                 memory[0][at : at + len(lane)] = bytes(simple(value).as_long() for value in lane)
 
         state = Concrete()
         state.code, state.calls, state.facts, state.is_clean, state.is_legacy = self.code, {}, [], True, False
-        state.general = {name: int.from_bytes(_random_bytes(some, 8), "little") for name in self.names}
+        near = some.choice(NEAR)
+        state.general = {name: int.from_bytes(_random_bytes(some, 8), "little") if near is None else
+                         (near + some.randrange(-1, 2)) % (1 << 64) for name in self.names}
         state.general[state.TOP] = SCRATCH + MIDDLE
         raw = {at: _random_bytes(some, state.WIDTH) for at in range(state.VECTORS)}
         state.vectors = {at: [BYTES[value] for value in lane] for at, lane in raw.items()}
@@ -111,6 +118,8 @@ class Processor:
 
     def _known(self, term):
         """The number of a term of bases and pages."""
+        if z3.is_bv_value(term):
+            return term
         bases = [(region.base, word(TEXT + section.address)) for section, region in self.code.constants.values()]
         pages = [(z3.BitVec(name, 64), word(TEXT + int(name[10:], 16) & -4096)) for name in
                  {part.decl().name() for part in _constants(term)} if name.startswith("p_page_of_")]
@@ -128,8 +137,9 @@ class Processor:
                 if terms[0][0] != state.TOP:
                     state.general[terms[0][0]] = SCRATCH + MIDDLE + 64 * some.randrange(16) - rest
 
-    def difference(self, i, seed):
-        """What differs between the processor and the meaning for one random state."""
+    def difference(self, i, seed, meant=None):
+        """What differs between the processor and the meaning for one random state; or that of the instruction as others
+        read it."""
         some, scratch = random.Random(seed), bytearray(SIZE)
         scratch[:] = _random_bytes(some, SIZE)
         before = bytes(scratch)
@@ -157,12 +167,12 @@ class Processor:
         load = state.load
         state.load = lambda address, count, aligned=False: load(self._known(simple(address)), count, aligned)
         state.next = i.address + i.size
-        to = self.meanings.HANDLERS[i.mnemonic](state, i)
-        lanes = {at: raw[at] if lane is old[at] else bytes(simple(value).as_long() for value in lane)
+        to = self.meanings.HANDLERS[i.mnemonic](state, meant or i)
+        lanes = {at: raw[at] if lane is old[at] else bytes(simple(part).as_long() for part in lane if part.size() == 8)
                  for at, lane in state.vectors.items()}
-        return ", ".join(self._compared(state, lanes, found, scratch, target, to))
+        return ", ".join(self._compared(state, raw, lanes, found, scratch, target, to))
 
-    def _compared(self, state, lanes, found, scratch, target, to):
+    def _compared(self, state, raw, lanes, found, scratch, target, to):
         at = 0
         for name in self.names:
             term = self._known(state.general[name])
@@ -172,7 +182,11 @@ class Processor:
         for name, lane in lanes.items():
             if found[at : at + state.WIDTH] != lane:
                 yield f"vector {name}"
+            if state.is_clean and found[at + 16 : at + state.WIDTH] not in (raw[name][16:], bytes(state.WIDTH - 16)):
+                yield f"what lies above in vector {name}"
             at += state.WIDTH
+        if state.is_legacy:
+            yield "what the next instruction is"
         flags, is_taken = struct.unpack_from("<QQ", found, at)
         if found[at + 16 :] != scratch:
             yield "memory"

@@ -55,14 +55,14 @@ pub use self::formatting::text::*;
 //    1  and writes a text to memory that is not cleared
 //    1  before it reads a chunk
 //   44  deleted: attribute
-//  226  deleted: contract
+//  227  deleted: contract
 //  202  deleted: ghost item
 //    4  deleted: model
 //    1  each value may be dropped
 //    5  kernels that no target uses are left out, and callers that nothing exports
 //   15  the allocator is a value
 //    1  the kernel is chosen for the processor
-//   12  what a constant calls is constant
+//   13  what a constant calls is constant
 //    2  what allocates is there with the feature alloc
 //    3  what hexfilter uses of const_hex is a module of std_shim
 //    7  what is for C calls the kernel for the processor

@@ -29,7 +29,17 @@ use const_hex_arch::{FixedKernel, Kernel, NIL, value_at};
 pub fn decode_to_slice(input: &[u8], output: &mut [u8]) -> Result<(), FromHexError>
     ensures { DecodesToSlice false input.now output.old output.new result }
 {
-    decode_to_slice_with::<FixedKernel>(input, output)
+    let body = strip_even(input)?;
+    // As `decode_to_slice_with`, but for this test: `Plain` slices the input at the same product, so
+    // LLVM needs no other test of a length in Rust. The other function is called from C, too, where
+    // a caller may pass a length whose double overflows.
+    if body.len() != 2 * output.len() {
+        return Err(FromHexError::InvalidStringLength);
+    }
+    if !decode_body::<FixedKernel>(body, output) {
+        return Err(find_invalid_character(input));
+    }
+    Ok(())
 }
 
 /// As [`decode_to_slice`], by a kernel of the caller's choice. If the kernel checks a text before

@@ -1,6 +1,7 @@
 -- Digits and their values.
-use Rattle.std.proofs.Common.{◌≡◌, ℕ, ◌<◌, ◌≢◌, eqb, eqb→eq, get_or, ◌⊎◌, Option, Some, None, IsSome, IsNone, inl, inr, refl, arith}
+use Rattle.std.proofs.Common.{◌≡◌, ℕ, ◌<◌, ◌≢◌, eqb, eqb→eq, get_or, bit_or, ◌⊎◌, Option, Some, None, IsSome, IsNone, inl, inr, refl, arith}
 use Rattle.std.proofs.lemmas.Bool.Decides.{nat_tests}
+use Rattle.std.proofs.lemmas.Nat.{le_or_l, le_or_r}
 use Rattle.const_hex_arch.specs.declared.tables.TheConstants.{HEX_DECODE_LUT}
 use Rattle.const_hex_arch.specs.Texts.{hex_value, value_or_nil, IsDigit}
 use Rattle.const_hex_arch.proofs.lemmas.Tables.{every_below}
@@ -27,6 +28,17 @@ in_table b h =
 
 pub digit_found : (b r : ℕ) → r ≡ value_or_nil (hex_value b) → IsDigit b → hex_value b ≡ Some r
 digit_found b r e n = grind (arith, nat_tests)
+
+pub digit_small : (b r : ℕ) → r ≡ value_or_nil (hex_value b) → IsDigit b → r < 16
+digit_small b r e digit = hex_value-small b r (digit_found b r e digit)
+
+-- two look-ups without a bit that only NIL has
+pub two_digits : (b c v w : ℕ) → v ≡ value_or_nil (hex_value b) → w ≡ value_or_nil (hex_value c) → bit_or v w < 128
+    → IsDigit b × IsDigit c
+two_digits b c v w e f below = (
+  IsDigit-from_value b v (value_found b v e (λ n. omega (arith, n, below, le_or_l v w))),
+  IsDigit-from_value c w (value_found c w f (λ n. omega (arith, n, below, le_or_r v w))),
+)
 
 -- a byte has a value or none
 pub value_cases : (o : Option ℕ) → ((v : ℕ) × (o ≡ Some v)) ⊎ IsNone o

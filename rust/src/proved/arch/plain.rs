@@ -37,8 +37,8 @@ impl Kernel for Plain {
         for i in 0..output.len() {
             let high = value_at(text[2 * i]);
             let low = value_at(text[2 * i + 1]);
-            // NIL has bits that no value has.
-            if high | low >= 16 {
+            // NIL alone has the highest bit.
+            if high | low >= 128 {
                 return false;
             }
             output[i] = high * 16 + low;

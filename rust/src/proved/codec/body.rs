@@ -34,15 +34,24 @@ pub(crate) const fn is_prefix(first: u8, second: u8) -> bool {
     pair == u16::from_le_bytes(*b"0x") || pair == u16::from_le_bytes(*b"0X")
 }
 
+/// Whether both bytes are digits.
+// NIL alone has the highest bit, so one test serves for both.
+#[inline(always)]
+const fn are_digits(first: u8, second: u8) -> bool {
+    value_at(first) | value_at(second) < 128
+}
+
 /// The error that names the first byte after the prefix that is not a digit, and its position in the
 /// whole text. The text must have such a byte, and an even length.
-// A text of two characters, of which one is invalid, has no prefix: none is looked for.
+// If the text begins with two digits, as most do, the search begins after them, and no prefix is
+// looked for. A text of two characters, of which one is invalid, begins with neither.
 #[cold]
 pub(crate) const fn find_invalid_character(text: &[u8]) -> FromHexError {
-    let start = if text.len() < 4 {
-        0
-    } else {
-        text.len() - strip_prefix(text).len()
+    let start = match text {
+        [first, second, _, _, ..] if are_digits(*first, *second) || is_prefix(*first, *second) => {
+            2
+        }
+        _ => 0,
     };
     let (byte, index) = find_first_bad(text, start);
     FromHexError::InvalidHexCharacter {
@@ -65,21 +74,22 @@ pub(crate) const fn find_first_bad(text: &[u8], start: usize) -> (u8, usize) {
         }
         index += 1;
     }
-    (0, text.len())
+    (0, index)
 }
 
-/// Goes on from the start by four bytes as long as all four are digits, and returns the index there.
-// One test of four bytes takes half the instructions of four tests. NIL has bits that no value has.
+/// Skips digits from the start on, two pairs per iteration while four bytes are left, and stops
+/// before the first pair that has another byte. Returns the index there.
 // With the last index at which four bytes are left, LLVM needs no test of an index in Rust either.
 #[inline(always)]
 const fn skip_digits(text: &[u8], start: usize) -> usize {
     let mut index = start;
     if let Some(last) = text.len().checked_sub(4) {
         'fours: while index <= last {
-            let first_two = value_at(text[index]) | value_at(text[index + 1]);
-            let last_two = value_at(text[index + 2]) | value_at(text[index + 3]);
-            if first_two | last_two >= 16 {
+            if !are_digits(text[index], text[index + 1]) {
                 break;
+            }
+            if !are_digits(text[index + 2], text[index + 3]) {
+                return index + 2;
             }
             index += 4;
         }

@@ -35,7 +35,10 @@ returns-clause-bad c =
 
 pub returns-clause-all : goal.returns-clause-all
 returns-clause-all c =
-    (λ _. none_left c.args.text.now c.args.start c.digits.index c.digits-test.false c.digits.invariant.0, λ _. refl)
+    let (done, _, end) = c.digits.invariant in (
+      λ _. none_left c.args.text.now c.args.start c.digits.index c.digits-test.false done,
+      λ _. omega (arith, end, c.digits-test.false),
+    )
 
 pub returns-then-value_at-clause-within : goal.returns-then-value_at-clause-within
 returns-then-value_at-clause-within c =

@@ -1,13 +1,24 @@
-use Rattle.std.proofs.Common.{◌≡◌, ◌-◌, ◌<◌, ◌∙◌, ℕ, List, [], ◌∷◌, length, drop, refl, sym, ap, arith}
-use Rattle.std.proofs.lemmas.List.Elements.{All-nil}
+use Rattle.std.proofs.Common.{◌≡◌, ◌-◌, ◌+◌, ◌<◌, ◌≤◌, ◌==◌, ◌&&◌, ◌||◌, ◌∙◌, ℕ, Bool, if◌then◌else◌, List, [], ◌∷◌, length, take, drop, get_or, true, false, refl, sym, arith}
+use Rattle.std.proofs.lemmas.Bool.Decides.{nat_tests}
+use Rattle.std.proofs.lemmas.List.{get_or-drop, take-append-drop}
+use Rattle.std.proofs.lemmas.List.Elements.{All-nil, All-cons}
 use Rattle.const_hex_arch.specs.Texts.{AllDigits, IsDigit}
+use Rattle.const_hex_arch.proofs.lemmas.DigitTexts.{digits_append}
+use Rattle.const_hex_arch.proofs.lemmas.FirstInvalid.{FirstBad-after}
 use Rattle.const_hex.specs.Results.{body_of, IsEven}
 use Rattle.const_hex.proofs.lemmas.Searching.{from_start}
 use Rattle.const_hex.proofs.codec.body.find_invalid_character.Goals as goal
-use Rattle.const_hex.proofs.codec.body.find_invalid_character.Goals.{then-text-lt4, else-text-lt4}
+use Rattle.const_hex.proofs.codec.body.find_invalid_character.Goals.{then-are_digits, in-len4-up, in_default, in_default-2, else-are_digits}
 
-body_at : (t : List ℕ) → body_of t ≡ drop (length t - length (body_of t)) t
-body_at t = grind arith
+-- the search begins after k digits of the body
+abbrev Begins : List ℕ → ℕ → Type 0
+Begins t start =
+    (k : ℕ) × (drop start t ≡ drop k (body_of t)) × AllDigits (take k (body_of t)) × (k ≤ length (body_of t))
+    × (start ≡ k + (length t - length (body_of t)))
+
+-- without a prefix
+whole : (t : List ℕ) (k : ℕ) → body_of t ≡ t → AllDigits (take k t) → k ≤ length t → Begins t k
+whole t k e digits within = rw e (k, refl, digits, within, omega arith)
 
 -- a text of less than four characters, of which one is invalid, has no prefix
 no_prefix : (t : List ℕ) → length t < 4 → IsEven (length t) → (AllDigits (body_of t) → ⊥) → body_of t ≡ t
@@ -17,11 +28,41 @@ no_prefix (c ∷ d ∷ []) short even bad = grind (arith, All-nil IsDigit)
 no_prefix (c ∷ d ∷ e ∷ []) short even bad = absurd (omega (arith, even))
 no_prefix (c ∷ d ∷ e ∷ f ∷ t) short even bad = absurd (omega (arith, short))
 
-start-is : (c : goal.After-from) → c.if-text-lt4.start ≡ length c.args.text.now - length (body_of c.args.text.now)
-start-is c = elim c.if-text-lt4.branch [
-  | then-text-lt4 w ↦ omega
-      (arith, w.start-is, ap length (no_prefix c.args.text.now w.if-text-lt4.true c.requires.even c.requires.bad))
-  | else-text-lt4 w ↦ omega (arith, w.start-is, ap length w.strip_prefix.ensures.body)
+after_digits : (t : List ℕ) → 4 ≤ length t → IsDigit (get_or t 0 0) → IsDigit (get_or t 1 0) → Begins t 2
+after_digits [] long first second = absurd (omega (arith, long))
+after_digits (c ∷ []) long first second = absurd (omega (arith, long))
+after_digits (c ∷ d ∷ t) long first second =
+    whole (c ∷ d ∷ t) 2 (grind (arith, nat_tests))
+    (All-cons IsDigit c (d ∷ []) first (All-cons IsDigit d [] second (All-nil IsDigit))) (omega (arith, long))
+
+by_prefix : (t : List ℕ) (is : Bool) → 4 ≤ length t
+    → ((get_or t 0 0 == 48) && (get_or t 1 0 == 120 || get_or t 1 0 == 88)) ≡ is → Begins t (if is then 2 else 0)
+by_prefix [] is long e = absurd (omega (arith, long))
+by_prefix (c ∷ []) is long e = absurd (omega (arith, long))
+by_prefix (c ∷ d ∷ t) false long e = whole (c ∷ d ∷ t) 0 (grind (arith, nat_tests)) (All-nil IsDigit) (omega arith)
+by_prefix (c ∷ d ∷ t) true long e =
+    let without : body_of (c ∷ d ∷ t) ≡ t = grind (arith, nat_tests) in
+    rw without (0, refl, All-nil IsDigit, omega arith, omega arith)
+
+begins : (c : goal.After-from) → Begins c.args.text.now c.if-text-lt4.start
+begins c = elim c.if-text-lt4.branch [
+  | in-len4-up w ↦ rw w.start-is (elim w.if-are_digits.branch [
+    | then-are_digits v ↦
+        let (first, second) = w.are_digits.ensures.0 v.if-are_digits.true in
+        after_digits c.args.text.now w.in-len4-up.len_at_least first second
+    | else-are_digits v ↦
+        by_prefix c.args.text.now true w.in-len4-up.len_at_least
+        (sym v.is_prefix.ensures ∙ sym v.value-is ∙ w.if-is_prefix.true)
+  ])
+  | in_default w ↦
+      let e = no_prefix c.args.text.now (omega (arith, w.in_default.len_below)) c.requires.even c.requires.bad in
+      rw w.start-is (whole c.args.text.now 0 e (All-nil IsDigit) (omega arith))
+  | in_default-2 w ↦ rw w.start-is (elim w.if-are_digits.branch [
+    | then-are_digits v ↦ absurd (cc (w.if-is_prefix.false, v.value-is, v.if-are_digits.true))
+    | else-are_digits v ↦
+        by_prefix c.args.text.now false w.in-len4-up.len_at_least
+        (sym v.is_prefix.ensures ∙ sym v.value-is ∙ w.if-is_prefix.false)
+  ])
 ]
 
 pub returns : goal.returns
@@ -29,8 +70,12 @@ returns c =
     let t = c.args.text.now in
     let start = c.if-text-lt4.start in
     let found = c.find_first_bad-byte in
-    let body : body_of t ≡ drop start t = rw (start-is c) (body_at t) in
-    let bad = found.ensures.bad (λ a. c.requires.bad (rw body a)) in
+    let (k, rest, digits, within, is) = begins c in
+    let more : AllDigits (drop start t) → AllDigits (body_of t) =
+    λ a. rw (take-append-drop k (body_of t)) at ((digits_append _ _).1 (digits, rw rest at a)) in
+    let bad = FirstBad-after k (body_of t) (found.result.1 - start) digits within
+    (rw rest at (found.ensures.bad (λ a. c.requires.bad (more a)))) in
     let after = found.ensures.within.0 in
-    let byte = c.from.ensures ∙ found.ensures.byte ∙ sym (from_start t start found.result.1 after) in
-    (c.requires.even, (found.result.1 - start, rw body bad, rw body byte, omega (arith, start-is c, after)))
+    let here = sym (from_start t start found.result.1 after) in
+    let byte = c.from.ensures ∙ found.ensures.byte ∙ rw rest at here ∙ get_or-drop k (body_of t) (found.result.1 - start) 0 in
+    (c.requires.even, (k + (found.result.1 - start), bad, byte, omega (arith, is, after)))

@@ -1,5 +1,5 @@
 use native.Mathlib.Numerals.{unary_clauses}
-use Rattle.std.proofs.Common.{◌≡◌, ◌+◌, arith, rules}
+use Rattle.std.proofs.Common.{◌≡◌, ◌+◌, arith}
 use Rattle.const_hex.specs.Decoding.{counted, position_of}
 use Rattle.const_hex.proofs.codec.decoder.Decoder.fail.Goals as goal
 
@@ -10,6 +10,3 @@ returns-clause-names c = λ n.
     let index : c.saturating_add-index.result ≡ counted (position_of c.args.self.now + c.args.skipped + p) =
     omega (arith, c.saturating_add-index.ensures, c.saturating_add.ensures) in
     (p, simp unary_clauses at (h.bad n), cc (h.byte, index, c.from.ensures))
-
-pub returns-clause-ended : goal.returns-clause-ended
-returns-clause-ended c = search rules

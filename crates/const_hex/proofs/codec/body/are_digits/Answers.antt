@@ -1,0 +1,5 @@
+use Rattle.const_hex.proofs.lemmas.Searching.{both_digits}
+use Rattle.const_hex.proofs.codec.body.are_digits.Goals as goal
+
+pub returns : goal.returns
+returns c = both_digits c.args.first c.args.second _ _ c.value_at.ensures c.value_at-2.ensures
