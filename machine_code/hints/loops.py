@@ -149,15 +149,15 @@ def guess(code, entry):
         state = entry.copy()
         state.__class__, state.reads, state.writes = kind, [], []
         state.general = {name: simple(value + added[name]) for name, value in entry.general.items()}
-        return paths.step(code, state)
+        return state
 
-    work, end = [(state, (state.at,)) for state in begin(Quiet, {name: word(0) for name in entry.general})], None
+    work, end = [(begin(Quiet, {name: word(0) for name in entry.general}), ())], None
     near = leading_to(code, entry.at)
     while work and end is None:
         # Those that lead back come first.
         work.sort(key=lambda part: part[0].at in near)
         state, way = work.pop()
-        if state.at == entry.at:
+        if way and state.at == entry.at:
             end = state
         else:
             try:
@@ -169,8 +169,7 @@ def guess(code, entry):
         return None
     added = {name: word(0) if end.general[name].eq(value) else fresh("p_added", 64)
              for name, value in entry.general.items()}
-    states = begin(Follower, added)
+    state = begin(Follower, added)
     for at in way:
-        state = next(state for state in states if state.at == at)
-        states = paths.step(code, state) if at != entry.at else []
+        state = next(after for after in paths.step(code, state) if after.at == at)
     return Hint(entry, state, added)

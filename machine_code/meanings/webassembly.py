@@ -65,9 +65,7 @@ class Reader:
         if mnemonic.startswith("br"):
             targets = [self.blocks[-1 - depth] for depth in numbers]
         for block in targets:
-            # The end of the function takes its result from the lowest place, and that of a block takes nothing.
-            is_lowest = self.height - takes == block.height or block is not self.blocks[0]
-            require(is_lowest, "operands that a branch drops")
+            require(self.height - takes == block.height, "operands that a branch drops")
             block.is_used = True
         self.found.append((mnemonic, Operands(self.height, numbers, targets), text))
         self.height += gives - takes

@@ -52,9 +52,6 @@ FUNCTIONS = """
     i32.const 64 i32.const 1 i32.store8 br 1 end
     i32.const 64 i32.const 2 i32.store8 end
   i32.const 7 i32.store8)
-(func (export "dropped") (local i32) i32.const 64
-  block i32.const 1 i32.const 0 i32.load8_u i32.const 128 i32.lt_u br_if 0 local.set 0 end
-  local.get 0 i32.store8)
 (func (export "select") i32.const 64
   i32.const 0 i32.load i32.const 16 i32.load i32.const 32 i32.load8_u i32.const 1 i32.and select i32.store)
 (func (export "select_by_branch") i32.const 64

@@ -19,7 +19,7 @@ DATA, SECRET, LAYOUT = "\\00" * 600, "a branch depends on bytes that are secret"
 WRONG = [
     ("a block with a result", {"start": "block (result i32) i32.const 1 end local.set 2"}, "a block with a result"),
     ("a block that is not known", {"start": "local.get 1 if end"}, "a block of a kind that is not known"),
-    ("a result above another operand", {"start": "i32.const 1 i32.const 2 br 0"}, "operands that a branch drops"),
+    ("operands that are dropped", {"start": "block i32.const 1 br 0 end"}, "operands that a branch drops"),
     ("an instruction", {"start": "local.get 1 i32.popcnt local.set 2"}, "without a meaning"),
     ("a call of itself", {"start": "local.get 0 local.get 1 call 0 local.set 2"}, "a function that calls itself"),
     ("the stack pointer", {"end": "global.get 0 i32.const 16 i32.sub global.set 0"}, "global 0 is not as before"),
