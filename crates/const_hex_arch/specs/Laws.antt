@@ -1,5 +1,5 @@
 -- Lemmas for the laws of impls.
-use Rattle.std.specs.Prelude.{◌≡◌, ℕ, ◌+◌, Bool, true, false, if◌then◌else◌, List, [], ◌∷◌, ◌++◌, length, Option, Some, None, refl}
+use Rattle.std.specs.Prelude.{◌≡◌, ℕ, ◌+◌, if◌then◌else◌, List, [], ◌∷◌, ◌++◌, length, Option, Some}
 use Rattle.std.specs.List.{FoldsTo, concat}
 use Rattle.std.proofs.Common.{sym, ap, ◌∙◌, arith, length-append}
 use Rattle.std.proofs.lemmas.List.{append-nil}
@@ -8,13 +8,11 @@ use Rattle.const_hex_arch.specs.Sinks.{PieceState, PieceStep}
 
 -- no bytes take no space
 less_space-zero : (space : Option ℕ) → less_space space 0 ≡ space
-less_space-zero (Some r) = ap Some (omega arith)
-less_space-zero None = refl
+less_space-zero space = grind arith
 
 -- the space that is left after some bytes and then more
 pub less_space-add : (space : Option ℕ) (m n : ℕ) → less_space (less_space space m) n ≡ less_space space (m + n)
-less_space-add (Some r) m n = ap Some (omega arith)
-less_space-add None m n = refl
+less_space-add space m n = grind arith
 
 module _ {S : Type 0} (step : S → List ℕ → S → Type 0) (space : S → Option ℕ)
     (shrinks : (s : S) (piece : List ℕ) (t : S) → step s piece t → space t ≡ less_space (space s) (length piece)) where
@@ -23,29 +21,20 @@ module _ {S : Type 0} (step : S → List ℕ → S → Type 0) (space : S → Op
       → space t ≡ less_space (space s) (length (concat ps))
   run_shrinks s [] t h = ap space (sym h) ∙ sym (less_space-zero (space s))
   run_shrinks s (p ∷ ps) t (j, h, k) =
-      run_shrinks j ps t k ∙ ap (λ r. less_space r (length (concat ps))) (shrinks s p j h)
-      ∙ less_space-add (space s) (length p) (length (concat ps))
-      ∙ ap (less_space (space s)) (sym (length-append p (concat ps)))
+      rw (run_shrinks j ps t k, shrinks s p j h, length-append p (concat ps))
+      (less_space-add (space s) (length p) (length (concat ps)))
 
   -- gathering takes as much space as the piece is long
   pub Gathers_space : (n : ℕ) (old : S) (pending piece : List ℕ) (new : S) (rest : List ℕ)
       → Gathers step space n old pending piece new rest
       → less_space (space new) (length rest) ≡ less_space (less_space (space old) (length pending)) (length piece)
   Gathers_space n old pending piece new rest h =
-      ap (λ r. less_space r (length rest)) (run_shrinks old h.passed new h.run)
-      ∙ less_space-add (space old) (length (concat h.passed)) (length rest)
-      ∙ ap (less_space (space old))
-      (sym (length-append (concat h.passed) rest) ∙ ap length h.whole ∙ length-append pending piece)
-      ∙ sym (less_space-add (space old) (length pending) (length piece))
+      rw (run_shrinks old h.passed new h.run, less_space-add (space old) (length (concat h.passed)) (length rest))
+      (rw (less_space-add (space old) (length pending), ← length-append (concat h.passed), h.whole, length-append))
 
 -- ---- a sink that keeps its pieces
-
-step_tells : (s : PieceState) (piece : List ℕ) (t : PieceState) → PieceStep s piece t → (b : Bool) → t.refused ≡ b
-    → t.pieces ≡ s.pieces ++ (if b then [] else piece ∷ [])
-step_tells s piece t h true e = h.kept e ∙ sym (append-nil s.pieces)
-step_tells s piece t h false e = h.accepted e
 
 -- it reports its pieces
 pub PieceStep-reports : (s : PieceState) (piece : List ℕ) (t : PieceState) → PieceStep s piece t
     → Some t.pieces ≡ Some (s.pieces ++ (if t.refused then [] else piece ∷ []))
-PieceStep-reports s piece t h = ap Some (step_tells s piece t h t.refused refl)
+PieceStep-reports s piece t h = grind (arith, append-nil, h)

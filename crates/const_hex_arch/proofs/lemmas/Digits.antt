@@ -1,10 +1,10 @@
 -- Digits and their values.
-use Rattle.std.proofs.Common.{◌≡◌, ℕ, ◌<◌, ◌≢◌, eqb, eqb→eq, get_or, bit_or, ◌⊎◌, Option, Some, None, IsSome, IsNone, inl, inr, refl, arith}
+use Rattle.std.proofs.Common.{◌≡◌, ℕ, ◌<◌, ◌≢◌, get_or, bit_or, Option, Some, IsSome, IsNone, refl, arith}
 use Rattle.std.proofs.lemmas.Bool.Decides.{nat_tests}
 use Rattle.std.proofs.lemmas.Nat.{le_or_l, le_or_r}
 use Rattle.const_hex_arch.specs.declared.tables.TheConstants.{HEX_DECODE_LUT}
 use Rattle.const_hex_arch.specs.Texts.{hex_value, value_or_nil, IsDigit}
-use Rattle.const_hex_arch.proofs.lemmas.Tables.{every_below}
+use Rattle.const_hex_arch.proofs.lemmas.Tables.{same_below}
 
 -- a byte that has a value is a digit
 pub IsDigit-from_value : (b v : ℕ) → hex_value b ≡ Some v → IsDigit b
@@ -23,8 +23,7 @@ value_not_found b r e n = grind (arith, nat_tests)
 
 -- the table of the look-up
 pub in_table : (b : ℕ) → b < 256 → get_or HEX_DECODE_LUT.now b 0 ≡ value_or_nil (hex_value b)
-in_table b h =
-    eqb→eq _ _ (every_below (λ b. eqb (get_or HEX_DECODE_LUT.now b 0) (value_or_nil (hex_value b))) 256 tt b h)
+in_table = same_below (λ b. get_or HEX_DECODE_LUT.now b 0) (λ b. value_or_nil (hex_value b)) 256 tt
 
 pub digit_found : (b r : ℕ) → r ≡ value_or_nil (hex_value b) → IsDigit b → hex_value b ≡ Some r
 digit_found b r e n = grind (arith, nat_tests)
@@ -40,11 +39,5 @@ two_digits b c v w e f below = (
   IsDigit-from_value c w (value_found c w f (λ n. omega (arith, n, below, le_or_r v w))),
 )
 
--- a byte has a value or none
-pub value_cases : (o : Option ℕ) → ((v : ℕ) × (o ≡ Some v)) ⊎ IsNone o
-value_cases (Some v) = inl (v, refl)
-value_cases None = inr refl
-
 pub no_value : (o : Option ℕ) → IsNone o → IsSome o → ⊥
-no_value (Some v) n s = cc
-no_value None n s = cc
+no_value o n s = cc

@@ -1,11 +1,13 @@
 -- The first invalid character of a text.
-use Rattle.std.proofs.Common.{◌≡◌, ℕ, zero, suc, ◌+◌, ◌%◌, ◌<◌, ◌≤◌, List, [], ◌∷◌, length, take, drop, get_or, slice_index, ◌⊎◌, inl, inr, refl, arith, take-add, length-take}
+use Rattle.std.proofs.Common.{◌≡◌, ℕ, zero, suc, ◌+◌, ◌%◌, ◌<◌, ◌≤◌, List, [], ◌∷◌, length, take, drop, slice_index, ◌⊎◌, inl, inr, refl, arith, take-add, length-take}
 use Rattle.std.proofs.lemmas.Grind.{common_steps}
-use Rattle.std.proofs.lemmas.List.{get_or-take}
+use Rattle.std.proofs.lemmas.List.{get_or-take, get_or-drop}
 use Rattle.std.proofs.lemmas.List.Elements.{All-nil, All-cons, All-head, All-tail, All-get_or}
 use Rattle.const_hex_arch.specs.Texts.{hex_value, IsDigit, Spells, AllDigits, FirstBad}
 use Rattle.const_hex_arch.proofs.lemmas.DigitTexts.{digits_append}
-use Rattle.const_hex_arch.proofs.lemmas.Digits.{IsDigit-from_value, digit_found, no_value, value_cases}
+use Rattle.std.specs.Option.{is_some}
+use Rattle.std.proofs.lemmas.Bool.{cases_Bool}
+use Rattle.const_hex_arch.proofs.lemmas.Digits.{digit_found, no_value}
 use Rattle.const_hex_arch.proofs.lemmas.Spelling.{IsPair-of}
 
 -- no text of digits has an invalid character
@@ -31,26 +33,20 @@ FirstBad-after k u p a h f =
     record {
       within = grind (arith, common_steps);
       before = rw (take-add k p u) ((digits_append _ _).1 (a, f.before));
-      here = let e : get_or (drop k u) p 0 ≡ get_or u (k + p) 0 = grind (arith, common_steps) in rw e at f.here;
+      here = rw get_or-drop at f.here;
     }
 
 -- a text has only digits, or it has a first invalid character
 pub digits_or_bad : (u : List ℕ) → AllDigits u ⊎ ((p : ℕ) × FirstBad u p)
 digits_or_bad [] = inl (All-nil IsDigit)
 digits_or_bad (b ∷ u) =
-    elim (value_cases (hex_value b)) [
-      | inl v ↦
-          let here = IsDigit-from_value b v.0 v.1 in
+    elim (cases_Bool (is_some (hex_value b))) [
+      | inl here ↦
           elim (digits_or_bad u) [
             | inl a ↦ inl (All-cons IsDigit b u here a)
-            | inr f ↦ inr (
-              suc f.0,
-              record {
-                within = omega arith;
-                before = All-cons IsDigit b (take f.0 u) here f.1.before;
-                here = f.1.here;
-              },
-            )
+            | inr (p, f) ↦
+                let before = All-cons IsDigit b (take p u) here f.before in
+                inr (suc p, record { within = omega arith; before = before; here = f.here })
           ]
       | inr n ↦ inr (zero, record { within = omega arith; before = All-nil IsDigit; here = n })
     ]

@@ -1,5 +1,5 @@
 -- From the values in two vectors of text to the bytes that the text decodes to.
-use Rattle.std.proofs.Common.{◌≡◌, ℕ, zero, suc, ◌+◌, ◌*◌, ◌%◌, ◌/◌, ◌≤◌, eqb, List, [], ◌∷◌, ◌++◌, map, length, take, drop, get_or, refl, sym, ap, subst, ◌∙◌, arith, Some, None, eqb→eq, le-leb, length-append}
+use Rattle.std.proofs.Common.{◌≡◌, ℕ, zero, suc, ◌+◌, ◌*◌, ◌%◌, ◌/◌, ◌≤◌, eqb, List, [], ◌∷◌, ◌++◌, map, length, take, drop, refl, sym, ap, ◌∙◌, arith, Some, eqb→eq, le-leb, length-append}
 use Rattle.std.specs.List.{AllZip}
 use Rattle.std.proofs.lemmas.Grind.{common_steps}
 use Rattle.std.proofs.lemmas.List.{map-append}
@@ -23,38 +23,25 @@ merge_at h l p q =
 pub merge_all : (k : ℕ) (ns : List ℕ) → length ns ≡ 2 * k → AllNibbles ns
     → map merge (digits_l 65536 k (number_l 256 ns)) ≡ byte_pairs ns
 merge_all zero [] e a = refl
-merge_all zero (h ∷ ns) e a = absurd (omega arith)
-merge_all (suc k) [] e a = absurd (omega arith)
-merge_all (suc k) (h ∷ []) e a = absurd (omega arith)
 merge_all (suc k) (h ∷ l ∷ ns) e a =
     let x = number_l 256 ns in
-    let low : (h + 256 * (l + 256 * x)) % 65536 ≡ h + 256 * l = omega (arith, a.0, a.1.0) in
-    let high : (h + 256 * (l + 256 * x)) / 65536 ≡ x = omega (arith, a.0, a.1.0) in
-    let here = merge_at h l a.0 a.1.0 in
-    let rest = merge_all k ns (omega arith) a.1.1 in
-    rw (low, high, here, rest) refl
+    let low : (h + 256 * (l + 256 * x)) % 65536 ≡ h + 256 * l = omega arith in
+    let high : (h + 256 * (l + 256 * x)) / 65536 ≡ x = omega arith in
+    rw (low, high, merge_at h l a.0 a.1.0, merge_all k ns (omega arith) a.1.1)
+merge_all _ _ e a = absurd (omega arith)
 
 -- ---- the bytes that values make
 
 value_is : (n b : ℕ) → as_value n ≡ hex_value b → n ≤ 15 → hex_value b ≡ Some n
-value_is n b e h = sym e ∙ rw (le-leb n 15 h) refl
+value_is n b e h = sym e ∙ rw (le-leb n 15 h)
 
 Spells-byte_pairs : (k : ℕ) (ns u : List ℕ) → length ns ≡ 2 * k → map as_value ns ≡ map hex_value u → AllNibbles ns
     → Spells u (byte_pairs ns)
 Spells-byte_pairs zero [] [] l e a = tt
-Spells-byte_pairs zero [] (x ∷ u) l e a =
-    absurd (let q : zero ≡ suc (length (map hex_value u)) = ap length e in omega arith)
-Spells-byte_pairs zero (h ∷ ns) u l e a = absurd (omega arith)
-Spells-byte_pairs (suc k) [] u l e a = absurd (omega arith)
-Spells-byte_pairs (suc k) (h ∷ []) u l e a = absurd (omega arith)
-Spells-byte_pairs (suc k) (h ∷ m ∷ ns) [] l e a =
-    absurd (let q : suc (suc (length (map as_value ns))) ≡ zero = ap length e in omega arith)
-Spells-byte_pairs (suc k) (h ∷ m ∷ ns) (x ∷ []) l e a =
-    absurd (let q : suc (suc (length (map as_value ns))) ≡ 1 = ap length e in omega arith)
 Spells-byte_pairs (suc k) (h ∷ m ∷ ns) (x ∷ y ∷ u) l e a =
-    let high = value_is h x (ap (λ l. get_or l 0 None) e) a.0 in
-    let low = value_is m y (ap (λ l. get_or l 1 None) e) a.1.0 in
-    (IsPair-of x y h m (16 * h + m) high low refl, Spells-byte_pairs k ns u (omega arith) (ap (drop 2) e) a.1.1)
+    let pair = IsPair-of x y h m (16 * h + m) (value_is h x (cc) a.0) (value_is m y (cc) a.1.0) refl in
+    (pair, Spells-byte_pairs k ns u (omega arith) (cc) a.1.1)
+Spells-byte_pairs _ _ _ l e a = absurd (omega (arith, ap length e))
 
 -- the values a and b of the digits of two vectors t and u of n lanes, merged into r
 pub merge_spells : (n : ℕ) (t u a b : List ℕ) → length a ≡ n → length b ≡ n → AllZip IsValueOf t a
@@ -65,9 +52,9 @@ merge_spells n t u a b p q first second r is d =
     let high = values_of_digits t a first parts.0 in
     let low = values_of_digits u b second parts.1 in
     let values : map as_value (a ++ b) ≡ map hex_value (t ++ u) =
-    map-append as_value a b ∙ rw (high, low) (sym (map-append hex_value t u)) in
+    rw (map-append as_value a b, map-append hex_value t u, high, low) in
     let small = small_values (a ++ b) (t ++ u) values d in
-    subst (Spells (t ++ u)) (sym (is small))
+    rw (is small)
     (Spells-byte_pairs n (a ++ b) (t ++ u) (omega (arith, length-append a b)) values small)
 
 -- ---- the vectors of a slice

@@ -1,12 +1,11 @@
 -- Look-ups of lanes in a table of 16 bytes, and of 32 lanes by halves.
-use Rattle.std.proofs.Common.{◌≡◌, ℕ, ◌*◌, Bool, ltb, T, ◌||◌, List, [], ◌∷◌, ◌++◌, length, replicate, take, drop, bit_and, sym, subst, ◌∙◌, arith, w8, Fits, length-append}
+use Rattle.std.proofs.Common.{◌≡◌, ℕ, ◌*◌, Bool, ltb, T, ◌||◌, List, [], ◌∷◌, ◌++◌, length, replicate, bit_and, sym, subst, ◌∙◌, arith, w8, Fits, length-append}
 use Rattle.std.specs.List.{AllZip, range_with_len}
 use Rattle.std.proofs.lemmas.Grind.{common_steps}
 use Rattle.std.proofs.lemmas.Simd.{SwzOk, SwzOk-from_Each1, length-zip2, length-replicate, pick_l-range_with_len}
 use lib.Lanes.{zip2, Each1, pick_l}
 use mir.Val.{zeroes}
 use Rattle.const_hex_arch.proofs.lemmas.Tables.{holds_below, every_below}
-use Rattle.const_hex_arch.proofs.lemmas.LaneBytes.{in_two}
 
 -- ---- the positions that lanes read
 
@@ -35,21 +34,14 @@ pub halves : (n : ℕ) (v : List ℕ) → length v ≡ 2 * n
     → pick_l 0 (v ++ v) (range_with_len 0 n) ++ pick_l 0 (v ++ v) (range_with_len n n) ≡ v
 halves n v e =
     let long = length-append v v in
-    let front : take n (v ++ v) ≡ take n v = grind (arith, common_steps) in
-    let back : take n (drop n (v ++ v)) ≡ take n (drop n v) = grind (arith, common_steps) in
-    rw (
-      pick_l-range_with_len 0 (v ++ v) 0 n (omega arith),
-      pick_l-range_with_len 0 (v ++ v) n n (omega arith),
-      front,
-      back,
-    ) (in_two n v e)
+    rw (pick_l-range_with_len 0 (v ++ v) 0 n (omega arith), pick_l-range_with_len 0 (v ++ v) n n (omega arith))
+    (grind (arith, common_steps))
 
 -- a relation of lanes, by halves
 both_zip : (R : ℕ → ℕ → Type 0) (v w a b : List ℕ) → AllZip R v a → AllZip R w b → AllZip R (v ++ w) (a ++ b)
 both_zip R [] w [] b p q = q
-both_zip R [] w (y ∷ a) b p q = absurd p
-both_zip R (x ∷ v) w [] b p q = absurd p
 both_zip R (x ∷ v) w (y ∷ a) b p q = (p.0, both_zip R v w a b p.1 q)
+both_zip R _ w _ b p q = absurd p
 
 pub by_halves : (R : ℕ → ℕ → Type 0) (n : ℕ) (v a b : List ℕ) → length v ≡ 2 * n
     → AllZip R (pick_l 0 (v ++ v) (range_with_len 0 n)) a

@@ -1,7 +1,7 @@
 -- Digits in a vector: their values and the test of each lane by one look-up, and the test of all lanes. The numbers
 -- are those of lanes16.rt and lanes.rt, which docs/DESIGN.md explains under "Checking and decoding one vector": adding
 -- 208 subtracts `0`, 143 (0x8F) is the part of a byte that looks up its limit, and 216 (0xD8) are the bits of a mark.
-use Rattle.std.proofs.Common.{◌≡◌, ℕ, zero, suc, ◌+◌, ◌-◌, ◌*◌, ◌/◌, ◌%◌, ◌<◌, ◌≤◌, ◌↔◌, Bool, true, eqb, cond, ltb, ◌||◌, T, List, [], ◌∷◌, ◌++◌, length, replicate, get_or, bit_and, bit_or, refl, sym, subst, ◌∙◌, arith, w8, Fits, eqb-true, eq-eqb, IsTrue, Some}
+use Rattle.std.proofs.Common.{◌≡◌, ℕ, zero, suc, ◌+◌, ◌-◌, ◌*◌, ◌/◌, ◌%◌, ◌<◌, ◌≤◌, ◌↔◌, Bool, true, eqb, cond, ltb, ◌||◌, T, List, [], ◌∷◌, ◌++◌, length, replicate, get_or, bit_and, bit_or, refl, subst, arith, w8, Fits, IsTrue, Some}
 use Rattle.std.specs.List.{AllZip}
 use Rattle.std.specs.Int.{bit_at}
 use Rattle.std.specs.Option.{is_some}
@@ -29,6 +29,9 @@ mark_bits z = bit_at z 7 + bit_at z 6 + bit_at z 4 + bit_at z 3
 abbrev minus_48 : ℕ → ℕ
 minus_48 b = (b + 208) % 256
 
+same_test : (a : ℕ) (b : Bool) → eqb a 0 ≡ b → (a ≡ 0) ↔ IsTrue b
+same_test a b e = grind (arith, nat_tests)
+
 module _ (table : List ℕ) where
   -- entry j of block q of the table, or 0 if j is 128 or more
   abbrev read : ℕ → ℕ → ℕ
@@ -54,23 +57,18 @@ module _ (table : List ℕ) where
   module _ (t : marks_are_right) (u : T values_are_right) where
     limit_at : (b : ℕ) → b < 256 → IsLimitOf b (limit b)
     limit_at b h =
-        let same = agree_below_at (λ b. eqb (mark_bits (mark_of b)) 0) (λ b. is_some (hex_value b)) 256 b t h in
         let right = every_below (λ b. is_none (hex_value b) || same_value (hex_value b) (Some (value_of b))) 256 u b
-        h in (
-          λ d. same_if_some (hex_value b) (Some (value_of b)) right d,
-          (λ p. sym same ∙ eq-eqb (mark_bits (mark_of b)) 0 p, λ d. eqb-true (mark_bits (mark_of b)) 0 (same ∙ d)),
-        )
+        h in
+        let same = agree_below_at (λ b. eqb (mark_bits (mark_of b)) 0) (λ b. is_some (hex_value b)) 256 b t h in
+        (same_if_some _ _ right, same_test _ _ same)
 
     -- from lane i on
     limits_all : (i : ℕ) (v : List ℕ) → i + length v ≤ 16 → Each1 (Fits w8) v
         → AllZip IsLimitOf v (swz_l w8 16 table i (zip2 bit_and v (replicate (length v) 143)))
     limits_all i [] h f = tt
     limits_all i (x ∷ xs) h f =
-        let first : zero ≡ i / 16 = omega arith in (
-          subst (λ q. IsLimitOf x (read q (bit_and x 143))) first (limit_at x f.0.fits),
-          limits_all (suc i) xs
-              (omega arith) f.1,
-        )
+        let first : i / 16 ≡ 0 = omega arith in
+        (rw first (limit_at x f.0.fits), limits_all (suc i) xs (omega arith) f.1)
 
     -- what the shuffle reads is the limit of each lane
     pub limits_are : (v : List ℕ) → (length v ≡ 16) × Each1 (Fits w8) v
@@ -81,10 +79,7 @@ module _ (table : List ℕ) where
 
 -- ---- values at most the limit, and what they leave of a lane
 
-abbrev within : ℕ → ℕ → ℕ
-within x y = get_or (min_l (x ∷ []) (y ∷ [])) 0 0
-
-within_is : (x y : ℕ) → cond (ltb x y) x y ≡ within x y
+within_is : (x y : ℕ) → cond (ltb x y) x y ≡ get_or (min_l (x ∷ []) (y ∷ [])) 0 0
 within_is x y = grind (arith, nat_tests)
 
 abbrev minus_48_l : ℕ → List ℕ → List ℕ
@@ -93,61 +88,37 @@ minus_48_l n v = zip2 sub8 v (replicate n 48)
 -- the lesser of a lane minus 48 and its limit is such a part
 pub parts_are : (v t : List ℕ) → AllZip IsLimitOf v t → AllZip IsPartOf v (min_l (minus_48_l (length v) v) t)
 parts_are [] [] z = tt
-parts_are [] (y ∷ t) z = absurd z
-parts_are (x ∷ v) [] z = absurd z
 parts_are (x ∷ v) (y ∷ t) z = (subst (IsPartOf x) (within_is (minus_48 x) y) z.0, parts_are v t z.1)
+parts_are _ _ z = absurd z
 
 pub values_of_parts : (v ns : List ℕ) → AllZip IsPartOf v ns → AllZip IsValueOf v ns
 values_of_parts [] [] z = tt
-values_of_parts [] (n ∷ ns) z = absurd z
-values_of_parts (x ∷ v) [] z = absurd z
 values_of_parts (x ∷ v) (n ∷ ns) z = (z.0.0, values_of_parts v ns z.1)
+values_of_parts _ _ z = absurd z
 
 -- the marks of lanes: there are none if and only if all lanes are digits
 pub unmarked_are_digits : (v ns : List ℕ) → AllZip IsPartOf v ns
     → AllUnmarked (zip2 sub8 (minus_48_l (length v) v) ns) ↔ AllDigits v
 unmarked_are_digits [] [] z = (λ _. All-nil IsDigit, λ _. tt)
-unmarked_are_digits [] (n ∷ ns) z = absurd z
-unmarked_are_digits (b ∷ v) [] z = absurd z
 unmarked_are_digits (b ∷ v) (n ∷ ns) z =
-    let more = unmarked_are_digits v ns z.1 in (
-      λ a. All-cons IsDigit b v (z.0.1.0 a.0) (more.0 a.1),
-      λ a.
-          (z.0.1.1 (All-head IsDigit b v a), more.1 (All-tail IsDigit b v a)),
-    )
+    grind (arith, All-head IsDigit b v, All-tail IsDigit b v, All-cons IsDigit b v, unmarked_are_digits v ns z.1)
+unmarked_are_digits _ _ z = absurd z
 
 -- a lane of two together
 both_unmarked : (y z : ℕ) → IsUnmarked (bit_or y z) ↔ (IsUnmarked y × IsUnmarked z)
-both_unmarked y z =
-    let bits = bit_at_or y z in (
-      λ h. (omega (arith, bits 7, bits 6, bits 4, bits 3), omega (arith, bits 7, bits 6, bits 4, bits 3)),
-      λ h. omega (arith, bits 7, bits 6, bits 4, bits 3),
-    )
+both_unmarked y z = let bits = bit_at_or y z in omega (arith, bits 7, bits 6, bits 4, bits 3)
 
 all_unmarked : (ys zs : List ℕ) → length ys ≡ length zs
     → AllUnmarked (zip2 bit_or ys zs) ↔ (AllUnmarked ys × AllUnmarked zs)
 all_unmarked [] [] e = (λ h. (tt, tt), λ h. tt)
-all_unmarked [] (z ∷ zs) e = absurd (omega arith)
-all_unmarked (y ∷ ys) [] e = absurd (omega arith)
-all_unmarked (y ∷ ys) (z ∷ zs) e =
-    let here = both_unmarked y z in
-    let more = all_unmarked ys zs (omega arith) in (
-      λ h. (((here.0 h.0).0, (more.0 h.1).0), ((here.0 h.0).1, (more.0 h.1).1)),
-      λ h.
-          (here.1 (h.0.0, h.1.0), more.1 (h.0.1, h.1.1)),
-    )
+all_unmarked (y ∷ ys) (z ∷ zs) e = grind (arith, both_unmarked y z, all_unmarked ys zs (omega arith))
+all_unmarked _ _ e = absurd (omega arith)
 
 -- the marks of two texts joined, for the text of both
 pub joint_test : (ys zs t u : List ℕ) → length ys ≡ length zs → AllUnmarked ys ↔ AllDigits t
     → AllUnmarked zs ↔ AllDigits u
     → AllUnmarked (zip2 bit_or ys zs) ↔ AllDigits (t ++ u)
-joint_test ys zs t u e first second =
-    let both = all_unmarked ys zs e in
-    let parts = digits_append t u in (
-      λ h. parts.1 (first.0 (both.0 h).0, second.0 (both.0 h).1),
-      λ d.
-          both.1 (first.1 (parts.0 d).0, second.1 (parts.0 d).1),
-    )
+joint_test ys zs t u e first second = grind (arith, all_unmarked ys zs e, digits_append t u)
 
 -- ---- one test of all lanes
 
@@ -156,30 +127,16 @@ marked x = bit_and x 216
 
 unmarked_at : (x : ℕ) → x < 256 → (marked x ≡ 0) ↔ IsUnmarked x
 unmarked_at x h =
-    let same = agree_below_at (λ x. eqb (marked x) 0) (λ x. eqb (mark_bits x) 0) 256 x refl h in (
-      λ e. eqb-true (mark_bits x) 0 (sym same ∙ eq-eqb (marked x) 0 e),
-      λ p.
-          eqb-true (marked x) 0 (same ∙ eq-eqb (mark_bits x) 0 p),
-    )
+    grind (arith, nat_tests, agree_below_at (λ x. eqb (marked x) 0) (λ x. eqb (mark_bits x) 0) 256 x refl h)
 
 unmarked_fold : (a : ℕ) (xs : List ℕ) → Each1 (Fits w8) xs
     → (fold_l bit_or a (zip2 bit_and xs (replicate (length xs) 216)) ≡ 0) ↔ ((a ≡ 0) × AllUnmarked xs)
 unmarked_fold a [] f = (λ e. (e, tt), λ h. h.0)
 unmarked_fold a (x ∷ xs) f =
-    let one = unmarked_at x f.0.fits in
-    let more = unmarked_fold (bit_or a (marked x)) xs f.1 in (
-      λ e.
-          let none = (more.0 e).0 in (
-            omega (arith, none, le_or_l a (marked x)),
-            (one.0 (omega (arith, none, le_or_r a (marked x))), (more.0 e).1),
-          ),
-      λ h. let none : marked x ≡ 0 = one.1 h.1.0 in more.1 (rw (none, h.0) refl, h.1.1),
-    )
+    grind (arith, unmarked_at x f.0.fits, unmarked_fold (bit_or a (marked x)) xs f.1, le_or_l, le_or_r)
 
 -- no lane has a mark if and only if all lanes AND 216, joined by OR, are 0
 pub are_unmarked : (n : ℕ) (xs : List ℕ) → (length xs ≡ n) × Each1 (Fits w8) xs
     → IsTrue (eqb (fold_l bit_or 0 (zip2 bit_and xs (replicate n 216))) 0) ↔ AllUnmarked xs
 are_unmarked n xs f =
-    let all = unmarked_fold 0 xs f.1 in
-    let none : zero ≡ 0 = refl in
-    rw (← f.0) (λ t. (all.0 (eqb-true _ 0 t)).1, λ a. eq-eqb _ 0 (all.1 (none, a)))
+    rw (← f.0) (grind (arith, nat_tests, unmarked_fold 0 xs f.1))

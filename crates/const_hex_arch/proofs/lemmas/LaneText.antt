@@ -1,7 +1,7 @@
 -- The text of lanes, from tables of 16 digits in each block of 16 lanes.
-use Rattle.std.proofs.Common.{◌≡◌, ℕ, zero, suc, ◌+◌, ◌*◌, ◌/◌, ◌%◌, ◌^◌, ◌<◌, ◌≤◌, Bool, true, false, eqb, T, List, [], ◌∷◌, ◌++◌, map, length, replicate, take, get_or, refl, sym, ap, subst, ◌∙◌, arith, w8, Fits, eqb→eq}
+use Rattle.std.proofs.Common.{◌≡◌, ℕ, zero, suc, ◌+◌, ◌*◌, ◌/◌, ◌%◌, ◌^◌, ◌<◌, Bool, true, false, eqb, T, List, [], ◌∷◌, ◌++◌, map, length, replicate, get_or, refl, ap, subst, ◌∙◌, arith, w8, Fits, eqb→eq}
 use Rattle.std.specs.List.{range_with_len, concat}
-use Rattle.std.proofs.lemmas.List.{append-nil, ext_get_or, get_or-map, length-map}
+use Rattle.std.proofs.lemmas.List.{append-nil, take_all, ext_get_or, get_or-map, length-map}
 use Rattle.std.proofs.lemmas.Simd.{Each1-get_or, SwzOk, SwzOk-from_below, length-put_chunk, take_more_put_chunk, swz_l, length-swz_l, get_or-swz_l_below}
 use lib.Lanes.{zip2, Each1, pick_l, put_chunk, number_l, digits_l}
 use Rattle.const_hex_arch.specs.Texts.{hex_digit, hex_text}
@@ -16,15 +16,11 @@ abbrev doubled : ℕ → ℕ
 doubled zero = zero
 doubled (suc n) = suc (suc (doubled n))
 
-abbrev times : ℕ → ℕ → ℕ
-times a b = a * b % 65536
-
-abbrev shift_down : ℕ → ℕ → ℕ
-shift_down a b = a / 2 ^ b
-
 -- what the lanes hold
 abbrev spread : ℕ → List ℕ → ℕ
-spread n v = number_l 65536 (zip2 shift_down (zip2 times (map (λ x. x) v) (replicate n 4097)) (replicate n 4))
+spread n v =
+    let times = zip2 (λ a b. a * b % 65536) (map (λ x. x) v) (replicate n 4097) in
+    number_l 65536 (zip2 (λ a b. a / 2 ^ b) times (replicate n 4))
 
 spread_at : (x : ℕ) → x < 256 → x * 4097 % 65536 / 16 ≡ x / 16 + 256 * (x % 16)
 spread_at x h = eqb→eq _ _ (every_below (λ x. eqb (x * 4097 % 65536 / 16) (x / 16 + 256 * (x % 16))) 256 tt x h)
@@ -34,12 +30,10 @@ spread_halves [] f = refl
 spread_halves (x ∷ v) f =
     let n = spread (length v) v in
     let here = spread_at x f.0.fits in
-    let high : x / 16 < 16 = omega (arith, f.0.fits) in
     let first : (x * 4097 % 65536 / 16 + 65536 * n) % 256 ≡ x / 16 = rw here (omega arith) in
     let second : (x * 4097 % 65536 / 16 + 65536 * n) / 256 % 256 ≡ x % 16 = rw here (omega arith) in
     let behind : (x * 4097 % 65536 / 16 + 65536 * n) / 256 / 256 ≡ n = rw here (omega arith) in
-    let rest = spread_halves v f.1 in
-    rw (first, second, behind, rest) refl
+    rw (first, second, behind, spread_halves v f.1)
 
 pub of_16 : (v : List ℕ) → (length v ≡ 16) × Each1 (Fits w8) v → digits_l 256 32 (spread 16 v) ≡ halves_of v
 of_16 v f = subst (λ n. digits_l 256 (doubled n) (spread n v) ≡ halves_of v) f.0 (spread_halves v f.1)
@@ -65,19 +59,17 @@ is_table up t n = holds_below (λ i. holds_below (λ j. eqb (get_or t (16 * ((0 
 looked_up : (up : Bool) (t js : List ℕ) (n : ℕ) → length js ≡ n → Each1 (λ j. j < 16) js → T (is_table up t n)
     → swz_l w8 16 t 0 js ≡ map (hex_digit up) js
 looked_up up t js n long below table =
-    ext_get_or 0 _ _ (length-swz_l w8 16 t 0 js ∙ sym (length-map js (hex_digit up))) (λ i h.
+    ext_get_or 0 _ _ (rw (length-swz_l, length-map)) (λ i h.
     let lt : i < length js = omega (arith, length-swz_l w8 16 t 0 js) in
     let small : get_or js i 0 < 16 = Each1-get_or (λ j. j < 16) js i 0 lt below in
-    get_or-swz_l_below w8 16 t 0 js i lt small
-    ∙ eqb→eq _ _
-    (every_pair (λ i j. eqb (get_or t (16 * ((0 + i) / 16) + j) 0) (hex_digit up j)) n 16 table i (get_or js i 0)
-    (omega (arith, long)) small)
-    ∙ sym (get_or-map (hex_digit up) js i 0 0 lt))
+    let digit = every_pair (λ i j. eqb (get_or t (16 * ((0 + i) / 16) + j) 0) (hex_digit up j)) n 16 table i
+    (get_or js i 0) (omega arith) small in
+    rw (get_or-swz_l_below w8 16 t 0 js i lt small, get_or-map (hex_digit up) js i 0 0 lt) (eqb→eq _ _ digit))
 
 pub digits_of_halves : (up : Bool) (v : List ℕ) → map (hex_digit up) (halves_of v) ≡ hex_text up v
 unfolding hex_text
 digits_of_halves up [] = refl
-digits_of_halves up (x ∷ v) = let rest = digits_of_halves up v in rw rest refl
+digits_of_halves up (x ∷ v) = cc (digits_of_halves up v)
 
 pub halves_text : (up : Bool) (t v : List ℕ) → (length v ≡ 16) × Each1 (Fits w8) v → T (is_table up t 32)
     → swz_l w8 16 t 0 (halves_of v) ≡ hex_text up v
@@ -95,36 +87,29 @@ row_is_table false = tt
 
 -- two lists as one
 pub concat_pair : (vs : List (List ℕ)) → length vs ≡ 2 → concat vs ≡ get_or vs 0 [] ++ get_or vs 1 []
-concat_pair [] e = absurd (omega arith)
-concat_pair (a ∷ []) e = absurd (omega arith)
 concat_pair (a ∷ b ∷ []) e = ap (λ x. a ++ x) (append-nil b)
-concat_pair (a ∷ b ∷ c ∷ vs) e = absurd (omega arith)
+concat_pair _ e = absurd (omega arith)
 
 -- 2 * n lanes, in their halves
 pub in_halves : (n : ℕ) (t : List ℕ) → length t ≡ 2 * n
     → concat (pick_l 0 (t ++ t) (range_with_len 0 n) ∷ pick_l 0 (t ++ t) (range_with_len n n) ∷ []) ≡ t
-in_halves n t long =
-    concat_pair (pick_l 0 (t ++ t) (range_with_len 0 n) ∷ pick_l 0 (t ++ t) (range_with_len n n) ∷ []) refl
-    ∙ halves n t long
+in_halves n t long = rw append-nil (halves n t long)
 
 -- the texts of both halves of a vector of 2 * n lanes
 pub text_of_halves : (n : ℕ) (up : Bool) (v a b : List ℕ) → length v ≡ 2 * n
     → a ≡ hex_text up (pick_l 0 (v ++ v) (range_with_len 0 n))
     → b ≡ hex_text up (pick_l 0 (v ++ v) (range_with_len n n)) → concat (a ∷ b ∷ []) ≡ hex_text up v
-text_of_halves n up v a b long p q =
-    concat_pair (a ∷ b ∷ []) refl ∙ rw (p, q) (sym (hex_text-append up _ _) ∙ ap (hex_text up) (halves n v long))
+text_of_halves n up v a b long p q = rw (append-nil, p, q, ← hex_text-append, halves n v long)
 
 -- stored one after the other
-pub stored_pair : (n : ℕ) (vs : List (List ℕ)) (old : List ℕ) → map (λ x. length x) vs ≡ n ∷ n ∷ [] → 2 * n ≤ length old
-    → take (2 * n) (put_chunk n (put_chunk 0 old (get_or vs 0 [])) (get_or vs 1 [])) ≡ concat vs
-stored_pair n [] old e h = absurd (let q : zero ≡ 2 = ap length e in omega arith)
-stored_pair n (a ∷ []) old e h = absurd (let q : 1 ≡ 2 = ap length e in omega arith)
+pub stored_pair : (n : ℕ) (vs : List (List ℕ)) (old : List ℕ) → map (λ x. length x) vs ≡ n ∷ n ∷ [] → length old ≡ 2 * n
+    → put_chunk n (put_chunk 0 old (get_or vs 0 [])) (get_or vs 1 []) ≡ concat vs
 stored_pair n (a ∷ b ∷ []) old e h =
-    let first : length a ≡ n = ap (λ l. get_or l 0 0) e in
-    let second : length b ≡ n = ap (λ l. get_or l 1 0) e in
+    let first : length a ≡ n = cc in
+    let second : length b ≡ n = cc in
+    let mid = put_chunk 0 old a in
     let long = length-put_chunk 0 old a in
-    let front : take n (put_chunk 0 old a) ≡ a = take_more_put_chunk 0 old a n (omega (arith, first)) (omega arith) in
-    take_more_put_chunk n (put_chunk 0 old a) b (2 * n) (omega (arith, second)) (omega (arith, long))
-    ∙ rw front (ap (λ x. a ++ x) (sym (append-nil b)))
-stored_pair n (a ∷ b ∷ c ∷ vs) old e h =
-    absurd (let q : suc (suc (suc (length (map (λ x. length x) vs)))) ≡ 2 = ap length e in omega arith)
+    let all = take_all (2 * n) (put_chunk n mid b) (omega (arith, length-put_chunk n mid b)) in
+    let front = take_more_put_chunk 0 old a n (omega arith) (omega arith) in
+    rw (append-nil, ← all) (rw front at (take_more_put_chunk n mid b (2 * n) (omega arith) (omega arith)))
+stored_pair n _ old e h = absurd (cc)

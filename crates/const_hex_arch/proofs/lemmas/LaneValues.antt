@@ -1,5 +1,5 @@
 -- The values of digits, in vectors of any number of lanes.
-use Rattle.std.proofs.Common.{◌≡◌, ℕ, zero, suc, ◌+◌, ◌-◌, ◌%◌, ◌^◌, ◌<◌, ◌≤◌, Bool, true, false, cond, eqb, ltb, T, ◌||◌, List, [], ◌∷◌, map, length, replicate, drop, get_or, bit_and, refl, ap, arith, w8, Fits, Option, Some, None, IsSome, eqb→eq}
+use Rattle.std.proofs.Common.{◌≡◌, ℕ, ◌+◌, ◌-◌, ◌%◌, ◌^◌, ◌<◌, ◌≤◌, Bool, true, false, cond, eqb, ltb, T, ◌||◌, List, [], ◌∷◌, map, length, replicate, get_or, bit_and, refl, ap, arith, w8, Fits, Option, Some, None, IsSome, eqb→eq}
 use Rattle.std.specs.List.{AllZip}
 use Rattle.std.proofs.lemmas.Bool.Decides.{nat_tests}
 use Rattle.std.proofs.lemmas.List.Elements.{All-head, All-tail}
@@ -7,30 +7,27 @@ use lib.Lanes.{zip2, sel_l, top, Each1}
 use Rattle.const_hex_arch.specs.Texts.{hex_value, IsDigit, AllDigits}
 use Rattle.const_hex_arch.specs.Lanes.{AllNibbles, as_value, IsValueOf}
 use Rattle.const_hex_arch.proofs.lemmas.Tables.{every_below}
-use Rattle.const_hex_arch.proofs.lemmas.Digits.{hex_value-small}
 use Rattle.const_hex_arch.proofs.lemmas.Standard.{false_is_true}
 
 -- ---- values that are compared by computing
 
 abbrev pub same_value : Option ℕ → Option ℕ → Bool
 same_value None None = true
-same_value None (Some b) = false
-same_value (Some a) None = false
 same_value (Some a) (Some b) = eqb a b
+same_value _ _ = false
 
 pub same_value-true : (o p : Option ℕ) → T (same_value o p) → o ≡ p
 same_value-true None None t = refl
-same_value-true None (Some b) t = absurd t
-same_value-true (Some a) None t = absurd t
 same_value-true (Some a) (Some b) t = ap Some (eqb→eq a b t)
+same_value-true _ _ t = absurd t
 
 abbrev pub is_none : Option ℕ → Bool
 is_none None = true
 is_none (Some v) = false
 
 pub same_if_some : (o p : Option ℕ) → T (is_none o || same_value o p) → IsSome o → o ≡ p
-same_if_some None p t s = absurd (false_is_true s)
 same_if_some (Some v) p t s = same_value-true (Some v) p t
+same_if_some _ p t s = absurd (false_is_true s)
 
 -- ---- the operations on a vector
 
@@ -86,23 +83,19 @@ unhex_are [] f = tt
 unhex_are (x ∷ xs) f = (unhex_at x f.0.fits, unhex_are xs f.1)
 
 one_value : (b n : ℕ) → hex_value b ≡ Some n → as_value n ≡ hex_value b
-one_value b n e = let small = hex_value-small b n e in grind (arith, nat_tests)
+one_value b n e = grind (arith, nat_tests)
 
 pub values_of_digits : (v ns : List ℕ) → AllZip IsValueOf v ns → AllDigits v → map as_value ns ≡ map hex_value v
 values_of_digits [] [] z d = refl
-values_of_digits [] (n ∷ ns) z d = absurd z
-values_of_digits (b ∷ v) [] z d = absurd z
 values_of_digits (b ∷ v) (n ∷ ns) z d =
     cc (one_value b n (z.0 (All-head IsDigit b v d)), values_of_digits v ns z.1 (All-tail IsDigit b v d))
+values_of_digits _ _ z d = absurd z
 
 one_small : (n x : ℕ) → as_value n ≡ hex_value x → IsDigit x → n ≤ 15
 one_small n x e = rw (← e) (λ s. grind (arith, nat_tests))
 
 pub small_values : (ns v : List ℕ) → map as_value ns ≡ map hex_value v → AllDigits v → AllNibbles ns
 small_values [] v e d = tt
-small_values (n ∷ ns) [] e d = absurd (let q : suc (length (map as_value ns)) ≡ zero = ap length e in omega arith)
-small_values (n ∷ ns) (x ∷ v) e d = (
-  one_small n x (ap (λ l. get_or l 0 None) e) (All-head IsDigit x v d),
-  small_values ns v (ap (drop 1) e)
-      (All-tail IsDigit x v d),
-)
+small_values (n ∷ ns) [] e d = absurd (cc)
+small_values (n ∷ ns) (x ∷ v) e d =
+    (one_small n x (cc) (All-head IsDigit x v d), small_values ns v (cc) (All-tail IsDigit x v d))

@@ -6,13 +6,6 @@ use Rattle.const_hex_arch.specs.Texts.{hex_value, value_or_nil, Spells}
 use Rattle.const_hex_arch.proofs.lemmas.Digits.{value_found}
 use Rattle.const_hex_arch.proofs.lemmas.Spelling.{IsPair-of, Spells-append}
 
-take-pair : (u : List ℕ) (m n : ℕ) → n ≡ m + 2 → m + 1 < length u
-    → take n u ≡ take m u ++ get_or u m 0 ∷ get_or u (m + 1) 0 ∷ []
-take-pair u m n e h =
-    let q : n ≡ m + 1 + 1 = omega arith in
-    rw (q, take_more u (m + 1) 0 h, take_more u m 0 (omega arith))
-    (append_assoc (take m u) (get_or u m 0 ∷ []) (get_or u (m + 1) 0 ∷ []))
-
 -- one pair more is decoded
 pub pair_more : (u new : List ℕ) (i high low : ℕ) → Spells (take (2 * i) u) (take i new) → 2 * i + 1 < length u
     → i < length new
@@ -20,9 +13,10 @@ pub pair_more : (u new : List ℕ) (i high low : ℕ) → Spells (take (2 * i) u
     → high ≢ 255 → low ≢ 255
     → Spells (take (2 * (i + 1)) u) (take (i + 1) (set new i (high * 16 + low)))
 pair_more u new i high low s h k e f p q =
-    let pair = take-pair u (2 * i) (2 * (i + 1)) (omega arith) h in
+    let end : 2 * (i + 1) ≡ 2 * i + 1 + 1 = omega arith in
     let front : take (i + 1) (set new i (high * 16 + low)) ≡ take i new ++ (high * 16 + low) ∷ [] =
     grind (arith, common_steps) in
     let first = value_found (get_or u (2 * i) 0) high e p in
     let second = value_found (get_or u (2 * i + 1) 0) low f q in
-    rw (pair, front) (Spells-append _ _ _ _ s (IsPair-of _ _ high low _ first second (omega arith), tt))
+    rw (front, end, take_more u (2 * i + 1) 0 h, take_more u (2 * i) 0 (omega arith), append_assoc)
+    (Spells-append _ _ _ _ s (IsPair-of _ _ high low _ first second (omega arith), tt))

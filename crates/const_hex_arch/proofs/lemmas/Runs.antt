@@ -1,6 +1,6 @@
 -- Runs of steps over pieces, and the space that they leave.
-use Rattle.std.proofs.Common.{◌≡◌, ℕ, ◌+◌, ◌≤◌, List, [], ◌∷◌, ◌++◌, length, refl, sym, ap, subst, ◌∙◌, arith, inl}
-use Rattle.std.specs.Prelude.{Option, Some, None}
+use Rattle.std.proofs.Common.{◌≡◌, ℕ, ◌+◌, ◌≤◌, List, [], ◌∷◌, ◌++◌, length, refl, sym, subst, arith, inl}
+use Rattle.std.specs.Prelude.{Option}
 use Rattle.std.specs.List.{FoldsTo, concat}
 use Rattle.std.proofs.lemmas.List.{append-nil}
 use Rattle.std.proofs.lemmas.List.Elements.{All-nil, All-cons, All-append}
@@ -10,13 +10,11 @@ pub use Rattle.const_hex_arch.specs.Laws.{less_space-add, run_shrinks}
 
 -- what is left of the space after m bytes
 pub HasSpace-less : (space : Option ℕ) (m n : ℕ) → HasSpace space (m + n) → HasSpace (less_space space m) n
-HasSpace-less (Some r) m n h = omega arith
-HasSpace-less None m n h = omega arith
+HasSpace-less space m n h = grind arith
 
 -- space for n bytes is space for fewer
 pub HasSpace-fewer : (space : Option ℕ) (m n : ℕ) → m ≤ n → HasSpace space n → HasSpace space m
-HasSpace-fewer (Some r) m n h k = omega arith
-HasSpace-fewer None m n h k = omega arith
+HasSpace-fewer space m n h k = grind arith
 
 module _ {S : Type 0} (step : S → List ℕ → S → Type 0) (space : S → Option ℕ)
     (shrinks : (s : S) (piece : List ℕ) (t : S) → step s piece t → space t ≡ less_space (space s) (length piece)) where
@@ -35,20 +33,13 @@ module _ {S : Type 0} (step : S → List ℕ → S → Type 0) where
   pub Writes-none : (s : S) → Writes step s [] s
   Writes-none s = record { pieces = []; run = refl; whole = refl; sizes = All-nil IsKernelPiece }
 
-  pub Writes-more : (s : S) (text : List ℕ) (m : S) (piece : List ℕ) (t : S) → Writes step s text m → step m piece t
-      → IsKernelPiece piece
-      → Writes step s (text ++ piece) t
-  Writes-more s text m piece t h k i = record {
-    pieces = h.pieces ++ piece ∷ [];
-    run = run_append s h.pieces m (piece ∷ []) t h.run (t, k, refl);
-    whole = concat-append h.pieces (piece ∷ []) ∙ ap (λ x. x ++ (piece ++ [])) h.whole
-        ∙ ap (λ x. text ++ x) (append-nil piece);
-    sizes = All-append IsKernelPiece h.pieces (piece ∷ []) h.sizes
-        (All-cons IsKernelPiece piece [] i (All-nil IsKernelPiece));
-  }
-
   pub one_written : (s : S) (piece : List ℕ) (t : S) → step s piece t → IsKernelPiece piece → Writes step s piece t
-  one_written s piece t h i = Writes-more s [] s piece t (Writes-none s) h i
+  one_written s piece t h i = record {
+    pieces = piece ∷ [];
+    run = (t, h, refl);
+    whole = append-nil piece;
+    sizes = All-cons IsKernelPiece piece [] i (All-nil IsKernelPiece);
+  }
 
   pub Writes-append : (s : S) (first : List ℕ) (m : S) (second : List ℕ) (t : S) → Writes step s first m
       → Writes step m second t
@@ -56,7 +47,7 @@ module _ {S : Type 0} (step : S → List ℕ → S → Type 0) where
   Writes-append s first m second t h k = record {
     pieces = h.pieces ++ k.pieces;
     run = run_append s h.pieces m k.pieces t h.run k.run;
-    whole = concat-append h.pieces k.pieces ∙ ap (λ x. x ++ concat k.pieces) h.whole ∙ ap (λ x. first ++ x) k.whole;
+    whole = rw (concat-append, h.whole, k.whole);
     sizes = All-append IsKernelPiece h.pieces k.pieces h.sizes k.sizes;
   }
 
@@ -74,9 +65,7 @@ module _ {O : Type 0} (step : O → List ℕ → O → Type 0) (space : O → Op
   Gathers-long n old pending piece mid new h k w = record {
     passed = piece_of pending ++ piece ∷ [];
     run = run_append step old (piece_of pending) mid (piece ∷ []) new h (new, k, refl);
-    whole = append-nil _ ∙ concat-append (piece_of pending) (piece ∷ [])
-        ∙ ap (λ x. x ++ (piece ++ [])) (concat-piece_of pending)
-        ∙ ap (λ x. pending ++ x) (append-nil piece);
+    whole = simp (append-nil, concat-append, concat-piece_of);
     bound = omega arith;
     fits = omega arith;
     short = λ l. absurd (omega arith);

@@ -1,5 +1,5 @@
 -- Texts that are worked through in steps, and the remainder by another call.
-use Rattle.std.proofs.Common.{◌≡◌, ℕ, ◌+◌, ◌-◌, ◌*◌, ◌<◌, ◌≤◌, ◌↔◌, List, [], ◌++◌, length, take, drop, slice_index, refl, sym, ap, subst, ◌∙◌, arith, take-add, take-append-drop, drop-drop, length-take, length-append, Option}
+use Rattle.std.proofs.Common.{◌≡◌, ℕ, ◌+◌, ◌-◌, ◌*◌, ◌<◌, ◌≤◌, ◌↔◌, List, [], ◌++◌, length, take, drop, slice_index, refl, ap, ◌∙◌, arith, take-add, take-append-drop, drop-drop, length-take, length-append, Option}
 use Rattle.std.specs.Str.{IsAscii}
 use Rattle.std.proofs.lemmas.Grind.{common_steps}
 use Rattle.std.proofs.lemmas.List.{append-nil, append_assoc, take_at, drop_at, take_rest}
@@ -9,7 +9,7 @@ use borrow.Rule.Slice.PartMut.{put_mid}
 use Rattle.const_hex_arch.specs.Texts.{IsDigit, AllDigits, Spells, Partial}
 use Rattle.const_hex_arch.specs.Outputs.{HasSpace, less_space, Writes}
 use Rattle.const_hex_arch.proofs.lemmas.Runs.{Writes_space, Writes-none, Writes-append}
-use Rattle.const_hex_arch.proofs.lemmas.DigitTexts.{digits_append}
+use Rattle.const_hex_arch.proofs.lemmas.DigitTexts.{digits_append, digits_parts}
 use Rattle.const_hex_arch.proofs.lemmas.LeftOutputs.{none_decoded, Partial-after}
 use Rattle.const_hex_arch.proofs.lemmas.Spelling.{Spells-append, Spells-parts, Spells-digits}
 
@@ -28,10 +28,8 @@ pub digits_last : (u : List ℕ) (i e : ℕ) → e ≤ i → AllDigits (take i u
     → AllDigits (take (length u - e) (drop e u)) ↔ AllDigits u
 digits_last u i e h d = (
   λ last.
-      let past : drop (i - e) (drop e u) ≡ drop i u = let q : e + (i - e) ≡ i =
-      omega arith in drop-drop (i - e) e u ∙ ap (λ k. drop k u) q in
-      let rest : AllDigits (drop i u) = rw past at (All-drop IsDigit (i - e) (drop e u) (rw take_rest at last)) in
-      rw (take-append-drop i u) at ((digits_append (take i u) (drop i u)).1 (d, rest)),
+      let past : drop (i - e) (drop e u) ≡ drop i u = grind (arith, common_steps) in
+      (digits_parts i u).1 (d, rw past at (All-drop IsDigit (i - e) (drop e u) (rw take_rest at last))),
   λ whole. rw take_rest (All-drop IsDigit e u whole),
 )
 
@@ -47,8 +45,7 @@ pub record IsWritten {S : Type 0} (step : S → List ℕ → S → Type 0) (spac
 pub part_ascii : (u front rest part after : List ℕ) → front ++ rest ≡ u → part ++ after ≡ rest → IsAscii u
     → IsAscii part
 part_ascii u front rest part after e p h k =
-    let same : front ++ (part ++ after) ≡ u = ap (λ x. front ++ x) p ∙ e in
-    let at : slice_index (front ++ (part ++ after)) (length front + k) < 128 = rw same (h (length front + k)) in
+    let at : slice_index (front ++ (part ++ after)) (length front + k) < 128 = rw (p, e) (h (length front + k)) in
     grind (arith, common_steps, at)
 
 module _ {S : Type 0} {step : S → List ℕ → S → Type 0} {space : S → Option ℕ}
@@ -64,13 +61,13 @@ module _ {S : Type 0} {step : S → List ℕ → S → Type 0} {space : S → Op
   written_part {mid} {new} {all} part rest d e w =
       let needed : length all ≡ length part + length rest = rw (← e) (length-append part rest) in record {
         front = d.front ++ part;
-        whole = append_assoc d.front part rest ∙ ap (λ x. d.front ++ x) e ∙ d.whole;
+        whole = rw (append_assoc, e) d.whole;
         written = Writes-append step _ _ _ _ _ d.written w;
         has_space = Writes_space step space shrinks mid part new (length rest) w (rw needed at d.has_space);
       }
 
   pub all_written : {new : S} → IsWritten step space text old new [] → Writes step old text new
-  all_written d = let whole : d.front ≡ text = sym (append-nil d.front) ∙ d.whole in rw whole at d.written
+  all_written d = rw (← d.whole, append-nil) d.written
 
 -- ---- the first bytes of an output hold what the first pairs of a text decode to, and the rest of the
 -- output is unchanged
@@ -85,15 +82,14 @@ pub decoded_step : {u old new : List ℕ} {i end : ℕ} (r : List ℕ) (n m : �
     → end ≤ length new → m ≡ 2 * n → length r ≡ n
     → Spells (take m (drop (2 * i) u)) r → IsDecoded u old (put_mid i n new r) end
 decoded_step {u} {old} {new} {i} {end} r n m d e h f l s =
-    let text : take (2 * end) u ≡ take (2 * i) u ++ take m (drop (2 * i) u) = let q : 2 * end ≡ 2 * i + m =
-    omega arith in rw q (take-add (2 * i) m u) in
+    let q : 2 * end ≡ 2 * i + m = omega arith in
     let bytes : take end (put_mid i n new r) ≡ take i new ++ r = take-put_mid i n new r end (omega arith) d.within in
     let past : drop end (put_mid i n new r) ≡ drop end new = drop-put_mid i n new r end (omega arith) d.within l in
     let length_kept : length (put_mid i n new r) ≡ length new = grind (arith, common_steps) in record {
       within = omega arith;
       same_length = length_kept ∙ d.same_length;
-      front = rw (text, bytes) (Spells-append _ _ _ _ d.front s);
-      rest = past ∙ rw e (sym (drop-drop n i new) ∙ ap (drop n) d.rest ∙ drop-drop n i old);
+      front = rw (q, take-add (2 * i) m u, bytes) (Spells-append _ _ _ _ d.front s);
+      rest = rw (past, e, ← drop-drop n i new, d.rest, drop-drop n i old);
     }
 
 -- fewer bytes are decoded than there are
@@ -117,13 +113,9 @@ pub refused_step : {u old new r : List ℕ} {i : ℕ} (j n m k : ℕ) → IsDeco
     → r ≡ take n (drop j new)
     → (AllDigits (take m (drop k u)) → ⊥) → Partial old u (put_mid j n new r)
 refused_step {u} {old} {new} {r} {i} j n m k d size e none =
-    let part : AllDigits u
-    → AllDigits (take m (drop k u)) = λ a. All-take IsDigit m (drop k u) (All-drop IsDigit k u a) in
-    let whole : AllDigits (drop (2 * i) u)
-    → AllDigits u =
-    λ a. rw (take-append-drop (2 * i) u) at ((digits_append (take (2 * i) u) (drop (2 * i) u)).1
-    (Spells-digits _ _ d.front, a)) in
-    let rest = none_decoded (drop i new) (drop (2 * i) u) (λ a. none (part (whole a))) in
+    let rest = none_decoded (drop i new) (drop (2 * i) u) (λ a.
+    let all = (digits_parts (2 * i) u).1 (Spells-digits _ _ d.front, a) in
+    none (All-take IsDigit m (drop k u) (All-drop IsDigit k u all))) in
     rw (kept_step new r j n e)
     (Partial-after old u new i (2 * i) (omega arith) (omega arith) d.same_length d.within d.front (rw (← d.rest) rest))
 
@@ -131,14 +123,10 @@ refused_step {u} {old} {new} {r} {i} j n m k d size e none =
 module _ {u old new : List ℕ} {i : ℕ} (r : List ℕ) (d : IsDecoded u old new i) (size : length u ≡ 2 * length old)
     (long : length r ≡ length new - i) where
   whole : put_mid i (length new - i) new r ≡ take i new ++ r
-  whole =
-      let over : drop (length new - i) (drop i new) ≡ [] = grind (arith, common_steps) in
-      ap (λ x. take i new ++ x) (ap (λ x. r ++ x) over ∙ append-nil r)
+  whole = grind (arith, common_steps, append-nil)
 
   pub spells_rest : Spells (take (length u - 2 * i) (drop (2 * i) u)) r → Spells u (put_mid i (length new - i) new r)
-  spells_rest s =
-      rw whole (subst (λ x. Spells x (take i new ++ r)) (take-append-drop (2 * i) u)
-      (Spells-append _ _ _ _ d.front (rw take_rest at s)))
+  spells_rest s = rw whole (rw take-append-drop at (Spells-append _ _ _ _ d.front (rw take_rest at s)))
 
   pub refused_rest : Partial (take (length new - i) (drop i new)) (take (length u - 2 * i) (drop (2 * i) u)) r
       → Partial old u (put_mid i (length new - i) new r)

@@ -1,14 +1,14 @@
 -- From writes in small pieces to the calls of a sink.
-use Rattle.std.proofs.Common.{◌≡◌, ℕ, suc, ◌+◌, ◌*◌, ◌/◌, ◌<◌, ◌≤◌, Bool, true, false, not, List, [], ◌∷◌, ◌++◌, length, take, refl, sym, ap, subst, ◌∙◌, arith, inl, inr, length-append}
-use Rattle.std.specs.Prelude.{Option, Some, None, ◌-◌, if◌then◌else◌}
+use Rattle.std.proofs.Common.{◌≡◌, ℕ, suc, ◌+◌, ◌*◌, ◌/◌, ◌<◌, ◌≤◌, Bool, true, false, not, List, [], ◌∷◌, ◌++◌, length, take, refl, sym, ap, ◌∙◌, arith, inl, inr, length-append}
+use Rattle.std.specs.Prelude.{Option, ◌-◌, if◌then◌else◌}
 use Rattle.std.specs.List.{FoldsTo, concat, All}
-use Rattle.std.proofs.lemmas.Bool.{true≢false}
+use Rattle.std.proofs.lemmas.Bool.{cases_Bool}
 use Rattle.std.proofs.Math.Nat.{le-div_iff_mul-le}
-use Rattle.std.proofs.lemmas.List.{append-nil, append_assoc, take_all, take_at}
-use Rattle.std.proofs.lemmas.List.Elements.{All-nil, All-cons, All-head, All-tail, All-append, All-take, All-weaker, All-same}
+use Rattle.std.proofs.lemmas.List.{append-nil, append_assoc, take_all, take-append-le}
+use Rattle.std.proofs.lemmas.List.Elements.{All-nil, All-cons, All-head, All-tail, All-append, All-take, All-weaker}
 use Rattle.std.proofs.lemmas.List.Folds.{concat-append}
 use Rattle.const_hex_arch.specs.Outputs.{Writes, IsKernelPiece, Gathers, piece_of, FlushesPending}
-use Rattle.const_hex_arch.specs.Sinks.{SinkStep, output_sink, sink_name, reported_after, IsCallPiece, IsLargePiece, all_but_last, Cut, Offers, Streams, StreamsWhole}
+use Rattle.const_hex_arch.specs.Sinks.{SinkStep, output_sink, sink_name, reported_after, IsCallPiece, IsLargePiece, Cut, Offers, Streams, StreamsWhole}
 use Rattle.const_hex_arch.specs.declared.sink.output.SinkOutput.{SinkOutput}
 use Rattle.const_hex_arch.proofs.lemmas.Runs.{run_append, concat-piece_of}
 
@@ -28,23 +28,11 @@ record Gathered {O : Type 0} (step : O → List ℕ → O → Type 0) (old : O) 
 passed_sizes : (pending piece : List ℕ) (passed : List (List ℕ)) → length pending ≤ 4096 → IsKernelPiece piece
     → FlushesPending 4096 pending piece passed
     → All IsPassedOn passed
-passed_sizes pending piece passed f k (inl e) = All-same IsPassedOn passed [] e (All-nil IsPassedOn)
+passed_sizes pending piece passed f k (inl e) = rw e (All-nil IsPassedOn)
 passed_sizes pending piece passed f k (inr (e, m)) =
-    All-same IsPassedOn passed (pending ∷ []) e
-    (All-cons IsPassedOn pending [] (omega arith, omega arith) (All-nil IsPassedOn))
+    rw e (All-cons IsPassedOn pending [] (omega arith) (All-nil IsPassedOn))
 
 module _ {O : Type 0} (step : O → List ℕ → O → Type 0) (space : O → Option ℕ) where
-  gathered_none : (o : O) (pending : List ℕ) → length pending ≤ 4096 → Gathered step o pending [] o pending
-  gathered_none o pending f =
-      record {
-        passed = [];
-        run = refl;
-        whole = sym (append-nil pending);
-        sizes = All-nil IsPassedOn;
-        bound =
-            omega arith;
-      }
-
   gathered_more : (old : O) (pending piece : List ℕ) (mid : O) (kept text : List ℕ) (new : O) (rest : List ℕ)
       → length pending ≤ 4096 → IsKernelPiece piece
       → Gathers step space 4096 old pending piece mid kept → Gathered step mid kept text new rest
@@ -52,11 +40,8 @@ module _ {O : Type 0} (step : O → List ℕ → O → Type 0) (space : O → Op
   gathered_more old pending piece mid kept text new rest f k g r = record {
     passed = g.passed ++ r.passed;
     run = run_append step old g.passed mid r.passed new g.run r.run;
-    whole = ap (λ x. x ++ rest) (concat-append g.passed r.passed)
-        ∙ append_assoc (concat g.passed) (concat r.passed) rest
-        ∙ ap (λ x. concat g.passed ++ x) r.whole
-        ∙ sym (append_assoc (concat g.passed) kept text) ∙ ap (λ x. x ++ text) g.whole
-        ∙ append_assoc pending piece text;
+    whole = rw (concat-append, append_assoc, r.whole, ← append_assoc (concat g.passed) kept text, g.whole)
+        (append_assoc pending piece text);
     sizes = All-append IsPassedOn g.passed r.passed (passed_sizes pending piece g.passed f k (g.short (omega arith)))
         r.sizes;
     bound = r.bound;
@@ -67,8 +52,8 @@ module _ {O : Type 0} (step : O → List ℕ → O → Type 0) (space : O → Op
         → FoldsTo (λ s p t. Gathers step space 4096 (inner s) (pending s) p (inner t) (pending t)) s ps t
         → Gathered step (inner s) (pending s) (concat ps) (inner t) (pending t)
     gathered_run s [] t f a h =
-        subst (λ x. Gathered step (inner s) (pending s) [] (inner x) (pending x)) h
-        (gathered_none (inner s) (pending s) f)
+        let whole = sym (append-nil (pending s)) in
+        rw (← h) (record { passed = []; run = refl; whole = whole; sizes = All-nil IsPassedOn; bound = f })
     gathered_run s (p ∷ ps) t f a (m, h, k) =
         gathered_more (inner s) (pending s) p (inner m) (pending m) (concat ps) (inner t) (pending t) f
         (All-head IsKernelPiece p ps a) h
@@ -76,26 +61,24 @@ module _ {O : Type 0} (step : O → List ℕ → O → Type 0) (space : O → Op
 
 -- ---- what was passed on, and then the pending text, is a cut
 
-all_but_last-append : (ps : List (List ℕ)) (rest : List ℕ) → All IsPassedOn ps
-    → All IsLargePiece (all_but_last (ps ++ piece_of rest))
-all_but_last-append ps [] a =
-    rw (append-nil ps) (All-take IsLargePiece _ ps (All-weaker IsPassedOn IsLargePiece (λ p h. h.0) ps a))
-all_but_last-append ps (b ∷ bs) a =
-    let n : length (ps ++ (b ∷ bs) ∷ []) - 1 ≡ length ps = simp length-append (omega arith) in
-    rw (n, take_at ps ((b ∷ bs) ∷ []) (length ps) refl) (All-weaker IsPassedOn IsLargePiece (λ p h. h.0) ps a)
+small_piece : (rest : List ℕ) → length (piece_of rest) ≤ 1 × length (piece_of rest) ≤ length rest
+small_piece [] = omega arith
+small_piece (x ∷ rest) = omega arith
 
 piece_of-sizes : (rest : List ℕ) → length rest ≤ 4096 → All IsCallPiece (piece_of rest)
 piece_of-sizes [] f = All-nil IsCallPiece
-piece_of-sizes (b ∷ bs) f = All-cons IsCallPiece (b ∷ bs) [] (omega arith, f) (All-nil IsCallPiece)
+piece_of-sizes (b ∷ bs) f = All-cons IsCallPiece (b ∷ bs) [] (omega arith) (All-nil IsCallPiece)
 
 Cut-of : (text : List ℕ) (ps : List (List ℕ)) (rest : List ℕ) → concat ps ++ rest ≡ text → All IsPassedOn ps
     → length rest ≤ 4096
     → Cut text (ps ++ piece_of rest)
 Cut-of text ps rest w a f = record {
-  whole = concat-append ps (piece_of rest) ∙ ap (λ x. concat ps ++ x) (concat-piece_of rest) ∙ w;
+  whole = rw (concat-append, concat-piece_of) w;
   sizes = All-append IsCallPiece ps (piece_of rest) (All-weaker IsPassedOn IsCallPiece (λ p h. (omega arith, h.1)) ps a)
       (piece_of-sizes rest f);
-  large = all_but_last-append ps rest a;
+  large =
+      let few : length (ps ++ piece_of rest) - 1 ≤ length ps = simp length-append (omega (arith, small_piece rest)) in
+      rw take-append-le (All-take IsLargePiece _ ps (All-weaker IsPassedOn IsLargePiece (λ p h. h.0) ps a));
 }
 
 -- so many pieces have so many bytes
@@ -104,10 +87,6 @@ many_bytes [] a = omega arith
 many_bytes (p ∷ ps) a =
     let h = (All-head IsPassedOn p ps a).0 in
     omega (arith, h, many_bytes ps (All-tail IsPassedOn p ps a), length-append p (concat ps))
-
-small_piece : (rest : List ℕ) → length (piece_of rest) ≤ 1 × length (piece_of rest) ≤ length rest
-small_piece [] = (omega arith, omega arith)
-small_piece (x ∷ rest) = (omega arith, omega arith)
 
 few_pieces : (text : List ℕ) (ps : List (List ℕ)) (rest : List ℕ) → concat ps ++ rest ≡ text → All IsPassedOn ps
     → length (ps ++ piece_of rest) ≤ (length text + 4032) / 4033
@@ -136,30 +115,27 @@ module _ {S : Type 0} (step : S → List ℕ → S → Type 0) (is_refused : S �
     run : Offers step is_refused old (take count pieces) new
     complete : is_refused new ≡ false → count ≡ length pieces
 
-  offered_one : (s : SinkOutput S) (p : List ℕ) (m : SinkOutput S) (ps : List (List ℕ)) (t : SinkOutput S)
-      → is_refused (output_sink s) ≡ false
-      → SinkStep step is_refused s p m → FoldsTo (SinkStep step is_refused) m ps t
-      → (is_refused (output_sink m) ≡ false → Offered (output_sink m) ps (output_sink t))
-      → (b : Bool) → is_refused (output_sink m) ≡ b → Offered (output_sink s) (p ∷ ps) (output_sink t)
-  offered_one s p m ps t e h k more false u = let o = more u in record {
-    count = suc o.count;
-    within = omega arith;
-    run = (e, (output_sink m, h.accepting e, o.run));
-    complete = λ v. ap suc (o.complete v);
-  }
-  offered_one s p m ps t e h k more true u = let c = refused_run m ps t u k in record {
-    count = 1;
-    within = omega arith;
-    run = (e, (output_sink m, h.accepting e, sym c));
-    complete = λ v. absurd (true≢false (sym u ∙ ap is_refused (sym c) ∙ v));
-  }
-
   offered_run : (s : SinkOutput S) (ps : List (List ℕ)) (t : SinkOutput S) → is_refused (output_sink s) ≡ false
       → FoldsTo (SinkStep step is_refused) s ps t → Offered (output_sink s) ps (output_sink t)
   offered_run s [] t e h =
       record { count = 0; within = omega arith; run = ap (λ (x : SinkOutput S). output_sink x) h; complete = λ _. refl }
   offered_run s (p ∷ ps) t e (m, h, k) =
-      offered_one s p m ps t e h k (λ u. offered_run m ps t u k) (is_refused (output_sink m)) refl
+      elim (cases_Bool (is_refused (output_sink m))) [
+        | inl u ↦
+            let c = refused_run m ps t u k in record {
+              count = 1;
+              within = omega arith;
+              run = (e, (output_sink m, h.accepting e, sym c));
+              complete = λ v. absurd (cc);
+            }
+        | inr u ↦
+            let o = offered_run m ps t u k in record {
+              count = suc o.count;
+              within = omega arith;
+              run = (e, (output_sink m, h.accepting e, o.run));
+              complete = λ v. ap suc (o.complete v);
+            }
+      ]
 
   -- a run of small writes through a gathering output, and then the pending text
   pub Streams-from_writes : {B : Type 0} (space : SinkOutput S → Option ℕ) (inner : B → SinkOutput S)
@@ -220,9 +196,8 @@ module _ {S : Type 0} (step : S → List ℕ → S → Type 0) (is_refused : S �
     calls = omega arith;
   })
 
--- ---- what is offered to a sink that accepts all
+  -- ---- what is offered to a sink that accepts all
 
-module _ {S : Type 0} (step : S → List ℕ → S → Type 0) (is_refused : S → Bool) where
   pub Offers-accepting : (s : S) (ps : List (List ℕ)) (t : S) → is_refused t ≡ false → Offers step is_refused s ps t
       → is_refused s ≡ false
   Offers-accepting s [] t e h = ap is_refused h ∙ e
@@ -231,21 +206,16 @@ module _ {S : Type 0} (step : S → List ℕ → S → Type 0) (is_refused : S �
   -- all pieces of a stream are offered
   pub Streams-all : (s : S) (text : List ℕ) (t : S) → is_refused t ≡ false → (h : Streams step is_refused s text t)
       → Offers step is_refused s h.pieces t
-  Streams-all s text t e h =
-      let all : take h.offered h.pieces ≡ h.pieces =
-      rw (h.complete e) (take_all (length h.pieces) h.pieces (omega arith)) in
-      rw all at h.run
+  Streams-all s text t e h = rw (h.complete e, take_all (length h.pieces) h.pieces (omega arith)) at h.run
 
 -- ---- what a sink reports
 
 reported_after-none : (o : Option (List (List ℕ))) → reported_after o [] ≡ o
-reported_after-none (Some reported) = ap Some (append-nil reported)
-reported_after-none None = refl
+reported_after-none o = grind (arith, append-nil)
 
 reported_after-more : (o : Option (List (List ℕ))) (xs ys : List (List ℕ))
     → reported_after (reported_after o xs) ys ≡ reported_after o (xs ++ ys)
-reported_after-more (Some reported) xs ys = ap Some (append_assoc reported xs ys)
-reported_after-more None xs ys = refl
+reported_after-more o xs ys = grind (arith, append_assoc)
 
 module _ {S : Type 0} (step : S → List ℕ → S → Type 0) (is_refused : S → Bool) (reported : S → Option (List (List ℕ)))
     (reports : (s : S) (piece : List ℕ) (t : S) → step s piece t
@@ -255,11 +225,8 @@ module _ {S : Type 0} (step : S → List ℕ → S → Type 0) (is_refused : S �
       → reported t ≡ reported_after (reported s) ps
   reported-Offers s [] t e h = ap reported (sym h) ∙ sym (reported_after-none (reported s))
   reported-Offers s (p ∷ ps) t e (o, (m, h, k)) =
-      let accepted = Offers-accepting step is_refused m ps t e k in
-      reported-Offers m ps t e k
-      ∙ ap (λ x. reported_after x ps)
-      (reports s p m h ∙ ap (λ b. reported_after (reported s) (if b then [] else p ∷ [])) accepted)
-      ∙ reported_after-more (reported s) (p ∷ []) ps
+      rw (reported-Offers m ps t e k, reports s p m h, Offers-accepting step is_refused m ps t e k)
+      (reported_after-more (reported s) (p ∷ []) ps)
 
   pub StreamsWhole-of : (s : S) (text : List ℕ) (ok : Bool) (t : S) → Streams step is_refused s text t
       → ok ≡ not (is_refused t)
@@ -267,13 +234,8 @@ module _ {S : Type 0} (step : S → List ℕ → S → Type 0) (is_refused : S �
   StreamsWhole-of s text ok t h flag = record {
     streams = h;
     flag = flag;
-    reported = λ e.
-        record {
-          pieces = h.pieces;
-          cut = h.cut;
-          reported =
-              reported-Offers s h.pieces t e (Streams-all step is_refused s text t e h);
-        };
+    reported = λ e. let r = reported-Offers s h.pieces t e (Streams-all step is_refused s text t e h) in
+        record { pieces = h.pieces; cut = h.cut; reported = r };
   }
 
 -- the same for the value that the sink ends as

@@ -36,7 +36,7 @@ pub use types.Match.{live}
 pub use types.Part.{agg, whole, sub}
 pub use types.Run.{enter, of_opd, lit, fld, stop, no_more, and_then, first, branches, exec, returns, addr, un, hop, from, skips, returns_within}
 use Rattle.const_hex_arch.specs.Texts.{AllDigits, Spells}
-use Rattle.std.proofs.Common.{◌++◌, ◌&&◌, subst}
+use Rattle.std.proofs.Common.{◌++◌, ◌&&◌, subst, arith}
 use Rattle.std.proofs.option.Option.TheLaws.{the_loose}
 use Rattle.std.specs.Prelude.{IsNone, IfSome}
 use denote.Array.{array_vals}
@@ -59,14 +59,6 @@ pub and_true : (b : Bool) → T b → T (b && true)
 and_true true t = tt
 and_true false t = absurd t
 
-is_true : (b : Bool) → T b → IsTrue b
-is_true true t = refl
-is_true false t = absurd t
-
-is_false : (b : Bool) → T (not b) → IsTrue b → ⊥
-is_false true t e = t
-is_false false t e = cc
-
 -- ---- the clauses of `decode_chunk`, from the clauses of the vector beside a flag
 
 abbrev pub NoneClause : List ℕ → Option (List ℕ) → Type 0
@@ -75,18 +67,13 @@ NoneClause text result = IsNone result ↔ ¬ AllDigits text
 abbrev pub SpellsClause : List ℕ → Option (List ℕ) → Type 0
 SpellsClause text result = IfSome result (Spells text)
 
-is_some : (bytes : List ℕ) → IsNone (Some bytes) → ⊥
-is_some bytes e = cc
-
 module _ (text bytes : List ℕ) (are_digits : Bool) (digits : IsTrue are_digits ↔ AllDigits text)
     (spells : IsTrue are_digits → Spells text bytes) where
   pub some_is : T are_digits → NoneClause text (Some bytes) × SpellsClause text (Some bytes)
-  some_is t =
-      let e = is_true are_digits t in
-      ((λ n. absurd (is_some bytes n), λ n. absurd (n (digits.0 e))), spells e)
+  some_is t = grind (arith, digits, spells, t)
 
   pub none_is : T (not are_digits) → NoneClause text None × SpellsClause text None
-  none_is t = ((λ _ d. is_false are_digits t (digits.1 d), λ _. refl), tt)
+  none_is t = grind (arith, digits, t)
 
 -- ---- vectors of n lanes
 

@@ -2,6 +2,7 @@ use Rattle.std.proofs.Common.{◌+◌, ◌-◌, ◌*◌, ◌≤◌, length, take
 use Rattle.std.proofs.lemmas.List.Elements.{All-take, All-drop}
 use Rattle.const_hex_arch.specs.Texts.{IsDigit, AllDigits}
 use Rattle.const_hex_arch.proofs.lemmas.DigitTexts.{digits_append}
+use Rattle.const_hex_arch.proofs.lemmas.Standard.{through}
 use Rattle.const_hex_arch.proofs.lemmas.Steps.{digits_step, digits_last}
 use Rattle.const_hex_arch.proofs.arch.loops.check_in_steps.Given.{Over}
 use Rattle.const_hex_arch.proofs.arch.loops.check_in_steps.Goals as goal
@@ -36,8 +37,8 @@ returns-then-input-at-2 g c =
     let pair = digits_append (take (end - at) (drop at u)) (take (length u - start) (drop start u)) in (
       λ t.
           let both = pair.0 (c.check_pair.ensures.0 t) in
-          (digits_last u end start (omega arith) (digits_step u at (end - at) end (omega arith) front.1 both.0)).0
-          both.1,
+          let all = digits_step u at (end - at) end (omega arith) front.1 both.0 in
+          (digits_last u end start (omega arith) all).0 both.1,
       λ d. c.check_pair.ensures.1 (pair.1 (
         All-take IsDigit (end - at) (drop at u) (All-drop IsDigit at u d),
         All-take IsDigit (length u - start) (drop start u) (All-drop IsDigit start u d),
@@ -48,5 +49,4 @@ pub returns-else-input-at-2 : goal.returns-else-input-at-2
 returns-else-input-at-2 g c =
     let u = c.args.input.now in
     let front = digits g (goal.at.returns-else-input-at-2 g c).Joined-input-at in
-    let last = digits_last u c.if-input-at.at (length u - g.row.N) (omega arith) front.1 in
-    (λ t. last.0 (c.check_step.ensures.0 t), λ d. c.check_step.ensures.1 (last.1 d))
+    through c.check_step.ensures (digits_last u c.if-input-at.at (length u - g.row.N) (omega arith) front.1)

@@ -1,4 +1,4 @@
-use Rattle.std.proofs.Common.{◌≡◌, ◌-◌, ◌++◌, length, take, drop, ap, ◌∙◌, arith}
+use Rattle.std.proofs.Common.{◌≡◌, ◌-◌, length, take, drop, arith}
 use Rattle.std.proofs.lemmas.List.{take-take}
 use Rattle.const_hex_arch.proofs.lemmas.Ends.{spells_ends}
 use Rattle.const_hex_arch.proofs.arch.small_input.decode_ends.Goals as goal
@@ -10,8 +10,6 @@ returns-then-are_digits-clause-spells g c = λ t.
     let bytes = c.decode_step-are_digits.new.output in
     let last : take h (take (16 - h) (drop h bytes)) ≡ take h (drop h bytes) =
     take-take h (16 - h) (drop h bytes) (omega arith) in
-    let new : c.put.new.output ≡ take (n - h) (take h bytes) ++ take h (drop h bytes) =
-    c.put.ensures ∙ ap (λ x. take (n - h) (take h bytes) ++ x) last in
-    rw new (spells_ends h g.row.D n c.args.text.now c.load_ends-step.result bytes c.requires.digits c.requires.size
-    c.requires.least c.requires.most
-    c.load_ends-step.ensures.ends (c.decode_step-are_digits.ensures.spells t))
+    rw (c.put.ensures, last) (spells_ends h g.row.D n c.args.text.now c.load_ends-step.result bytes c.requires.digits
+    c.requires.size c.requires.least c.requires.most c.load_ends-step.ensures.ends
+    (c.decode_step-are_digits.ensures.spells t))

@@ -5,10 +5,8 @@ use Rattle.const_hex_arch.proofs.arch.small_input.fill_overlapping.Goals as goal
 pub returns-else-bytes : goal.returns-else-bytes
 returns-else-bytes g c =
     let n = g.row.N in
-    let first : IsFilled c.args.upper c.args.bytes.now _ n =
-    filled_step _ n (2 * n) (none_filled c.requires.size) (omega arith) (omega arith) (omega arith)
-    c.fill_step.ensures in
-    filled_whole first (omega arith)
+    filled_whole (filled_step {end = n} _ n (2 * n) (none_filled c.requires.size) (omega arith) (omega arith)
+    (omega arith) c.fill_step.ensures) (omega arith)
 
 pub returns-then-bytes : goal.returns-then-bytes
 returns-then-bytes g c =

@@ -12,8 +12,8 @@ pub returns-then-high-low-ge128-clause-refused : goal.returns-then-high-low-ge12
 returns-then-high-low-ge128-clause-refused c = λ _.
     let whole = take_all c.saturating_mul.result c.args.input.now (omega arith) in
     refused_joint c.args.output.now c.args.input.now c.loop-i.output c.loop-i.i _ _ c.loop-i.invariant.front
-    c.loop-i.invariant.rest (omega arith)
-    (omega arith) (rw whole at c.value_at-high.ensures) (rw whole at c.value_at-low.ensures) (omega (arith, c.if-high-low-ge128.true))
+    c.loop-i.invariant.rest (omega arith) (omega arith) (rw whole at c.value_at-high.ensures)
+    (rw whole at c.value_at-low.ensures) (omega (arith, c.if-high-low-ge128.true))
 
 small : (c : Else-high-low-ge128) → (c.value_at-high.result < 16) × (c.value_at-low.result < 16)
 small c =

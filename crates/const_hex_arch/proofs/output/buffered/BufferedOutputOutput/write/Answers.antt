@@ -6,23 +6,19 @@ use Rattle.const_hex_arch.proofs.output.buffered.BufferedOutputOutput.write.Goal
 
 pub returns-then-bytes : goal.returns-then-bytes
 returns-then-bytes g c =
-    let step = g.O.Output.step in
-    let space = g.O.Output.space in
     let s = c.args.self.now in
     let v = c.self-then-bytes.view_is in
     let m = ap (λ p. p.0) v in
+    let passed = Gathers-long g.O.Output.step g.O.Output.space g.row.N s.0 s.1 c.args.bytes.now
+    c.self-then-bytes.inside.output c.write.new.self in
     elim c.if-bytes-pending.branch [
       | then-bytes-pending w ↦
           let e : take c.self-then-bytes.inside.count c.self-then-bytes.inside.buffer ≡ [] =
           ap (λ p. p.1) v ∙ rw w.self-is w.flush.ensures.empty in
-          rw e (Gathers-long step space g.row.N s.0 s.1 c.args.bytes.now c.self-then-bytes.inside.output
-          c.write.new.self
-          (rw (m, w.self-is) w.flush.ensures.run) c.write.ensures c.if-bytes.true)
+          rw e (passed (rw (m, w.self-is) w.flush.ensures.run) c.write.ensures c.if-bytes.true)
       | else-bytes-pending w ↦
           let d : s.1 ≡ [] = nil_from_length s.1 (omega arith) in
           let e : take c.self-then-bytes.inside.count c.self-then-bytes.inside.buffer ≡ [] =
           ap (λ p. p.1) v ∙ rw w.self-is d in
-          rw (d, e) (Gathers-long step space g.row.N s.0 [] c.args.bytes.now c.self-then-bytes.inside.output
-          c.write.new.self
-          (rw (m, w.self-is) refl) c.write.ensures c.if-bytes.true)
+          rw e (passed (rw (m, w.self-is, d) refl) c.write.ensures c.if-bytes.true)
     ]
