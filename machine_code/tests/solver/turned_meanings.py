@@ -74,12 +74,7 @@ REASONS = {
         *[f"x86_64_vectors VECTORS.{name}: 1 -> 2" for name in ("por", "pxor", "xorps")],
         *[f"webassembly : 1 -> 2 ({at})" for at in (4, 5)],
         # what follows a branch is not reached
-        *[f"webassembly EFFECTS.br_table: {change}" for change in ("0 -> 1", "1 -> 2", "(1, 0) -> (0, 1)")],
-        "webassembly Reader.effect: 0 -> 1 (2)", "webassembly Reader.effect: 0 -> 1 (3)",
-        # what is never run is read, too
-        "webassembly Block.__init__: False -> True",
-        "webassembly Reader.add: self.is_reached = mnemonic not in ENDS -> pass",
-        "webassembly Reader.read: block.is_used and (not block.is_loop) -> block.is_used or not block.is_loop",
+        "webassembly EFFECTS.br_table: 0 -> 1", "webassembly Reader.effect: 0 -> 1 (3)",
         # what lies above an i32 does not count
         "webassembly : z3.ZeroExt -> z3.SignExt",
         # one after the other, in any order
