@@ -1,10 +1,7 @@
 use Rattle.std.proofs.Common.{length, ap, arith, length-append}
 use Rattle.const_hex_arch.proofs.lemmas.Runs.{one_written}
-use Rattle.const_hex_arch.proofs.lemmas.Steps.{part_ascii, none_written, written_part, parts}
+use Rattle.const_hex_arch.proofs.lemmas.Steps.{part_ascii, written_part, parts}
 use Rattle.const_hex_arch.proofs.arch.write_in_pieces.Goals as goal
-
-pub loop-rest-init : goal.loop-rest-init
-loop-rest-init g c = none_written g.met.O.Output.shrinks c.requires.space
 
 pub write-requires-clause-ascii : goal.write-requires-clause-ascii
 write-requires-clause-ascii g c =

@@ -1,5 +1,5 @@
 use Rattle.std.proofs.Common.{sym, ◌∙◌, arith}
-use Rattle.const_hex_arch.proofs.lemmas.Ends.{none_filled, filled_step, filled_whole}
+use Rattle.const_hex_arch.proofs.lemmas.Ends.{none_filled, filled_step}
 use Rattle.const_hex_arch.proofs.lemmas.Texts.{hex_text-one}
 use Rattle.const_hex_arch.proofs.arch.plain.CompactKernel.fill.Goals as goal
 
@@ -11,6 +11,3 @@ loop-i-preserved c =
     let text = c.copy_from_slice.ensures.after ∙ c.digits_at.ensures
     ∙ sym (hex_text-one c.args.upper c.args.input.now c.loop-i.i c.loop-i-test.true) in
     filled_step _ 1 _ c.loop-i.invariant (omega arith) (omega arith) (omega arith) text
-
-pub returns : goal.returns
-returns c = filled_whole c.loop-i.invariant (omega arith)
